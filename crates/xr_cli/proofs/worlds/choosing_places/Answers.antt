@@ -1,0 +1,33 @@
+-- A place is listed where it chooses.
+use Rattle.std.proofs.Common.{◌≡◌, ◌∙◌, ap, sym, refl, arith, filter, ◌++◌, ◌∷◌, [], true, false, append-nil}
+use Rattle.std.specs.List.{range_with_len}
+use Rattle.xr_design.specs.Job.{places_of}
+use Rattle.xr_design.specs.Fits.{chooses}
+use Rattle.xr_cli.specs.Circuit.{job_in}
+use Rattle.xr_cli.specs.Worlds.{choosing}
+use Rattle.xr_cli.proofs.Choices.{filter_range_more}
+use Rattle.xr_cli.proofs.worlds.choosing_places.Goals as goal
+use Rattle.xr_cli.proofs.worlds.choosing_places.Goals.{then-is_choosing+in_ok-push, else-is_choosing}
+
+pub places-preserved : goal.places-preserved
+places-preserved c =
+    let j = job_in c.args.circuit.now in
+    let n = c.places.place in
+    let more = filter_range_more (chooses j) n in
+    let before = c.places.invariant in
+    elim c.if-is_choosing.branch [
+      | then-is_choosing+in_ok-push w ↦
+          let yes : chooses j n ≡ true = sym c.is_choosing.ensures ∙ w.if-is_choosing.true in
+          let items : w.push.new.self.items ≡ c.places.choices.items ++ n ∷ [] = w.in_ok-push.ensures.items in
+          rw (w.choices-is, more, yes, ← before) items
+      | else-is_choosing w ↦
+          let no : chooses j n ≡ false = sym c.is_choosing.ensures ∙ w.if-is_choosing.false in
+          rw (w.choices-is, more, no, ← before, append-nil) refl
+    ]
+
+pub returns : goal.returns
+unfolding choosing
+returns c =
+    let j = job_in c.args.circuit.now in
+    let all : c.places.place ≡ places_of j = (let count : c.count_places-place-end.result ≡ places_of j = c.count_places-place-end.ensures in omega arith) in
+    c.places.invariant ∙ ap (λ n. filter (chooses j) (range_with_len 0 n)) all

@@ -1,0 +1,13 @@
+pub mod Circuit
+pub mod Ends
+pub mod Next
+pub mod Ordering
+pub mod Phases
+pub mod Refusal
+pub mod Repair
+pub mod Rows
+pub mod Seen
+pub mod Sublists
+pub mod Texts
+pub mod Words
+pub mod Worlds

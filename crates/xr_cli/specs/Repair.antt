@@ -1,0 +1,70 @@
+-- What is decided of a recording's bits.
+use Rattle.std.specs.Prelude.{◌≡◌, ◌≢◌, ℕ, ◌*◌, ◌-◌, ◌<◌, List, length, map, slice_get, Some}
+use Rattle.std.specs.List.{AllByRecursion}
+use Rattle.xr_cell.specs.declared.value.Value.{Value}
+use Rattle.xr_cell.specs.Value.{IsKnown}
+use Rattle.xr_design.specs.Job.{Job, job_of, at, places_of}
+use Rattle.xr_design.specs.Replay.{shown_at}
+use Rattle.xr_design.specs.Waveform.{written_at, IsExact, ShowsReplay}
+use Rattle.xr_design.specs.declared.waveform.Written.{Written}
+use Rattle.xr_design.specs.declared.design.Design.{Design}
+use Rattle.xr_design.specs.declared.stim.Stim.{Stim}
+use Rattle.xr_cli.specs.Circuit.{FitsCircuit}
+use Rattle.xr_cli.specs.declared.bit.Bit.{Bit}
+use Rattle.xr_cli.specs.declared.recording.Variable.{Variable}
+
+-- The place of a net at the last round of the last moment.
+abbrev pub last_place : Job → ℕ → ℕ
+last_place j net = at j (j.moments * j.rounds - 1) net
+
+-- The recording agrees with the replay at a variable, all four values told apart.
+abbrev pub Agrees : Job → Variable → Type 0
+Agrees j v = shown_at j (last_place j v.net) ≡ v.value
+
+-- It agrees at each of the first n variables.
+abbrev pub AgreeBelow : Job → List Variable → ℕ → Type 0
+AgreeBelow j variables n = (k : ℕ) (v : Variable) → k < n → slice_get variables k ≡ Some v → Agrees j v
+
+-- The bit of a variable, as the waveform has it.
+abbrev pub bit_of_variable : Job → List Written → Variable → Bit
+bit_of_variable j waveform v = record {
+  name = v.name;
+  recorded = v.value;
+  shown = (written_at waveform (last_place j v.net)).value;
+  mark = (written_at waveform (last_place j v.net)).mark;
+}
+
+-- What the recording knows stands.
+abbrev pub Stands : Bit → Type 0
+Stands bit = IsKnown bit.recorded → bit.shown ≡ bit.recorded
+
+-- The bits of the variables are those of a waveform that is exact at every place of the design and shows what the replay
+-- knows; the recording agrees with the replay, and what it knows stands.
+pub record Decided (design : Design) (variables : List Variable) (bits : List Bit) : Type 0 where
+  pub order : List ℕ
+  pub stim : Stim
+  pub fits : FitsCircuit design order stim
+  pub waveform : List Written
+  pub whole : length waveform ≡ places_of (job_of design order stim)
+  pub exact : IsExact (job_of design order stim) waveform
+  pub shows : ShowsReplay (job_of design order stim) waveform
+  pub agrees : AgreeBelow (job_of design order stim) variables (length variables)
+  pub bits_are : bits ≡ map (bit_of_variable (job_of design order stim) waveform) variables
+  pub stand : AllByRecursion Stands bits
+
+-- A variable is the first at which the recording and the replay differ.
+pub record DiffersAt (j : Job) (variables : List Variable) (first : ℕ) (name : List ℕ) (recorded replayed : Value) : Type 0 where
+  pub variable : Variable
+  pub is : slice_get variables first ≡ Some variable
+  pub earlier : AgreeBelow j variables first
+  pub name_is : name ≡ variable.name
+  pub recorded_is : recorded ≡ variable.value
+  pub replayed_is : replayed ≡ shown_at j (last_place j variable.net)
+  pub differ : recorded ≢ replayed
+
+pub record Disagrees (design : Design) (variables : List Variable) (name : List ℕ) (recorded replayed : Value) : Type 0 where
+  pub order : List ℕ
+  pub stim : Stim
+  pub fits : FitsCircuit design order stim
+  pub first : ℕ
+  pub at_first : DiffersAt (job_of design order stim) variables first name recorded replayed

@@ -1,0 +1,106 @@
+-- What a run comes to, a row for each answer. Each row says that the phases before passed, and its own cause.
+use Rattle.std.specs.Prelude.{◌≡◌, ◌⊎◌, ℕ, List, ◌++◌, Some, Result, Ok, Err, IsTrue, Bool}
+use Rattle.xr_shelf.specs.Shelf.{View, Rose, OthersKept}
+use Rattle.xr_shelf.specs.Sink.{SinkView}
+use Rattle.xr_shelf.specs.Calls.{HoldsPart, Gained}
+use Rattle.xr_cell.specs.declared.value.Value.{Value}
+use Rattle.xr_cli.specs.Words.{Words, IsRepair, NotInSet}
+use Rattle.xr_cli.specs.Phases.{IsInput, Repaired, Differing, report_name}
+use Rattle.xr_cli.specs.Refusal.{Cause, UsageCause, ReadCause, WriteCause, DisagreesCause, NotBuiltCause, MemoryCause, cause_of, text_of, usage_text, read_text, write_text, disagrees_text, not_built_text, memory_text}
+use Rattle.xr_cli.specs.declared.refusal.Refusal.{Refusal}
+
+-- What a run is given: its words, the shelf and the sink, and whether these tell their bytes.
+pub record Start : Type 0 where
+  pub line : List (List ℕ)
+  pub shelf_told : Bool
+  pub sink_told : Bool
+  pub shelf : View
+  pub sink : SinkView
+
+abbrev pub start_of : List (List ℕ) → Bool → Bool → View → SinkView → Start
+start_of line shelf_told sink_told shelf sink = record { line = line; shelf_told = shelf_told; sink_told = sink_told; shelf = shelf; sink = sink }
+
+-- No file was created and nothing printed.
+pub record Untouched (s : Start) (shelf : View) (sink : SinkView) : Type 0 where
+  pub files : shelf.files ≡ s.shelf.files
+  pub printed : sink ≡ s.sink
+
+-- The output holds what it held or a prefix of its text, and the sink gained a prefix of the report.
+pub record Part (s : Start) (w : Words) (vcd report : List ℕ) (shelf : View) (sink : SinkView) : Type 0 where
+  pub others : OthersKept w.vcd s.shelf.files shelf.files
+  pub part : IsTrue s.shelf_told → HoldsPart w.vcd vcd s.shelf.files shelf.files
+  pub gained : IsTrue s.sink_told → Gained report s.sink sink
+
+pub record UsageRow (s : Start) (shelf : View) (sink : SinkView) (text : List ℕ) : Type 0 where
+  pub cause : NotInSet s.line
+  pub untouched : Untouched s shelf sink
+  pub text_is : text ≡ usage_text
+
+-- The shelf's reading count of an input file rose.
+pub record ReadRow (s : Start) (shelf : View) (sink : SinkView) (text : List ℕ) : Type 0 where
+  pub words : Words
+  pub is : IsRepair s.line words
+  pub name : List ℕ
+  pub input : IsInput words name
+  pub cause : Rose (s.shelf.reads name) (shelf.reads name)
+  pub untouched : Untouched s shelf sink
+  pub text_is : text ≡ read_text name
+
+-- The shelf's writing count of the output file rose, or the sink's count, and the texts stood before.
+pub record WriteRow (s : Start) (shelf : View) (sink : SinkView) (text : List ℕ) : Type 0 where
+  pub words : Words
+  pub is : IsRepair s.line words
+  pub vcd : List ℕ
+  pub report : List ℕ
+  pub texts : IsTrue s.shelf_told → Repaired words vcd report
+  pub cause : ((text ≡ write_text words.vcd) × Rose (s.shelf.writes words.vcd) (shelf.writes words.vcd)) ⊎ ((text ≡ write_text report_name) × Rose s.sink.faults sink.faults)
+  pub part : Part s words vcd report shelf sink
+
+-- The recording and the replay differ at the first variable at which they do.
+pub record DisagreesRow (s : Start) (shelf : View) (sink : SinkView) (text : List ℕ) : Type 0 where
+  pub words : Words
+  pub is : IsRepair s.line words
+  pub name : List ℕ
+  pub recorded : Value
+  pub replayed : Value
+  pub differing : Differing words name recorded replayed
+  pub untouched : Untouched s shelf sink
+  pub text_is : text ≡ disagrees_text name recorded replayed
+
+pub record NotBuiltRow (s : Start) (shelf : View) (sink : SinkView) (text : List ℕ) : Type 0 where
+  pub words : Words
+  pub is : IsRepair s.line words
+  pub untouched : Untouched s shelf sink
+  pub text_is : text ≡ not_built_text
+
+-- Want of memory, before the first output or in it.
+pub record MemoryRow (s : Start) (shelf : View) (sink : SinkView) (text : List ℕ) : Type 0 where
+  pub words : Words
+  pub is : IsRepair s.line words
+  pub vcd : List ℕ
+  pub report : List ℕ
+  pub state : Untouched s shelf sink ⊎ ((IsTrue s.shelf_told → Repaired words vcd report) × Part s words vcd report shelf sink)
+  pub text_is : text ≡ memory_text
+
+-- The output holds the text of the repaired recording, no other file changed, and the sink gained the report.
+pub record DoneRow (s : Start) (shelf : View) (sink : SinkView) : Type 0 where
+  pub words : Words
+  pub is : IsRepair s.line words
+  pub vcd : List ℕ
+  pub report : List ℕ
+  pub texts : IsTrue s.shelf_told → Repaired words vcd report
+  pub others : OthersKept words.vcd s.shelf.files shelf.files
+  pub written : IsTrue s.shelf_told → shelf.files words.vcd ≡ Some vcd
+  pub printed : IsTrue s.sink_told → sink.bytes ≡ s.sink.bytes ++ report
+
+abbrev pub RefusedRow : Start → View → SinkView → Cause → List ℕ → Type 0
+RefusedRow s shelf sink UsageCause text = UsageRow s shelf sink text
+RefusedRow s shelf sink ReadCause text = ReadRow s shelf sink text
+RefusedRow s shelf sink WriteCause text = WriteRow s shelf sink text
+RefusedRow s shelf sink DisagreesCause text = DisagreesRow s shelf sink text
+RefusedRow s shelf sink NotBuiltCause text = NotBuiltRow s shelf sink text
+RefusedRow s shelf sink MemoryCause text = MemoryRow s shelf sink text
+
+abbrev pub Row : Start → View → SinkView → Result Unit Refusal → Type 0
+Row s shelf sink (Ok _) = DoneRow s shelf sink
+Row s shelf sink (Err refusal) = RefusedRow s shelf sink (cause_of refusal) (text_of refusal)

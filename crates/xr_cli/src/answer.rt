@@ -1,0 +1,104 @@
+//! The phases of `repair` in their order, up to the refusal of one of them.
+
+ghost use Rattle.std.specs.Prelude.{◌≡◌, ◌++◌, IfErr, IfOk, OnOk, IsTrue, Some, map, string_bytes};
+ghost use Rattle.xr_shelf.specs.Shelf.{Later};
+ghost use Rattle.xr_cli.specs.Words.{Words as WordsOf};
+ghost use Rattle.xr_cli.specs.Phases.{Repaired, MadeTexts, DecideRefused, PrepareRefused, Delivery, DeliveryRefused};
+ghost use Rattle.xr_cli.specs.Rows.{Row, start_of};
+
+use crate::netlist::{Netlist, read_netlist};
+use crate::phases::{print_report, read_input, write_output};
+use crate::recording::{Recording, read_recording};
+use crate::refusal::Refusal;
+use crate::repair::decide;
+use crate::scope::names_of;
+use crate::texts::{write_report, write_vcd};
+use crate::words::{Words, read_words};
+use std::alloc::Global;
+use xr_design::Bytes;
+use xr_shelf::{Shelf, Sink};
+
+/// The most bytes of a netlist.
+const NETLIST_BYTES: usize = 67_108_864;
+
+/// The most bytes of a recording.
+const RECORDING_BYTES: usize = 268_435_456;
+
+/// The texts of a repair.
+#[derive(Debug, Drop)]
+pub struct Texts {
+    pub vcd: Vec<u8>,
+    pub report: Vec<u8>,
+}
+
+/// One phase after the other.
+pub fn answer<S: Shelf, O: Sink>(
+    alloc: Global,
+    words: &[String],
+    shelf: &mut S,
+    out: &mut O,
+) -> Result<(), Refusal>
+    ensures { Row (start_of (map string_bytes words.now) S.told O.told (S.view shelf.old) (O.view out.old)) (S.view shelf.new) (O.view out.new) result }
+{
+    let Some(words) = read_words(words) else {
+        return Err(Refusal::Usage);
+    };
+    let texts = prepare(alloc, shelf, words)?;
+    let vcd = texts.vcd.as_slice();
+    let report = texts.report.as_slice();
+    deliver(alloc, shelf, words.vcd, vcd, out, report)?;
+    Ok(())
+}
+
+/// All that comes before the first output.
+fn prepare<S: Shelf>(alloc: Global, shelf: &mut S, words: Words<'_>) -> Result<Texts, Refusal>
+    ensures later { Later (S.view shelf.old) (S.view shelf.new) }
+    ensures files { (S.view shelf.new).files ≡ (S.view shelf.old).files }
+    ensures made { IfOk result (λ t. Repaired record { recording = words.entry.recording.now; scope = words.entry.scope.now; top = words.entry.top.now; vcd = words.entry.vcd.now; netlist = words.entry.netlist.now } t.vcd.items t.report.items) }
+    ensures refused { IfErr result (PrepareRefused record { recording = words.entry.recording.now; scope = words.entry.scope.now; top = words.entry.top.now; vcd = words.entry.vcd.now; netlist = words.entry.netlist.now } (S.view shelf.old) (S.view shelf.new)) }
+{
+    let scope = names_of(alloc, words.scope)?;
+    let scope = scope.as_slice();
+    let text = read_input(alloc, shelf, words.netlist, NETLIST_BYTES)?;
+    let netlist = read_netlist(alloc, text.as_slice(), words.top.as_bytes())?;
+    let text = read_input(alloc, shelf, words.recording, RECORDING_BYTES)?;
+    let recording = read_recording(alloc, text.as_slice(), scope, &netlist.design)?;
+    let texts = write_texts(alloc, scope, netlist, &recording)?;
+    Ok(texts)
+}
+
+/// Compares, decides, and writes the texts in memory.
+fn write_texts(
+    alloc: Global,
+    scope: &[Bytes],
+    netlist: Netlist,
+    recording: &Recording,
+) -> Result<Texts, Refusal>
+    ensures made { IfOk result (λ t. MadeTexts scope.now recording.now.timescale netlist.design recording.now.variables.items t.vcd.items t.report.items) }
+    ensures refused { IfErr result (DecideRefused netlist.design recording.now.variables.items) }
+{
+    let bits = decide(alloc, netlist, recording.variables.as_slice())?;
+    let bits = bits.as_slice();
+    let vcd = write_vcd(alloc, &recording.timescale, scope, bits)?;
+    let report = write_report(alloc, bits)?;
+    Ok(Texts { vcd, report })
+}
+
+/// Writes the repaired recording, then prints the report.
+fn deliver<S: Shelf, O: Sink>(
+    alloc: Global,
+    shelf: &mut S,
+    name: &str,
+    bytes: &[u8],
+    out: &mut O,
+    report: &[u8],
+) -> Result<(), Refusal>
+    ensures delivery { Delivery S.told O.told name.now bytes.now report.now (S.view shelf.old) (S.view shelf.new) (O.view out.old) (O.view out.new) }
+    ensures whole { OnOk result (IsTrue S.told → (S.view shelf.new).files name.now ≡ Some bytes.now) }
+    ensures printed { OnOk result (IsTrue O.told → (O.view out.new).bytes ≡ (O.view out.old).bytes ++ report.now) }
+    ensures refused { IfErr result (DeliveryRefused name.now (S.view shelf.old) (S.view shelf.new) (O.view out.old) (O.view out.new)) }
+{
+    write_output(alloc, shelf, name, bytes)?;
+    print_report(alloc, out, report)?;
+    Ok(())
+}

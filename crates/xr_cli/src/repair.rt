@@ -1,0 +1,136 @@
+//! The decision of every bit of a recording.
+
+ghost use Rattle.std.specs.Prelude.{◌≡◌, ◌*◌, ◌<◌, ◌↔◌, IfOk, IfErr, IsErr, IsTrue, length, map};
+ghost use Rattle.std.specs.List.{AllByRecursion};
+ghost use Rattle.xr_design.specs.Job.{places_of};
+ghost use Rattle.xr_cli.specs.Circuit.{job_in, CircuitFits};
+ghost use Rattle.xr_cli.specs.Repair.{Decided, Disagrees, bit_of_variable};
+ghost use Rattle.xr_cli.specs.Phases.{DecideRefused, SaysDisagreement};
+
+use crate::bit::Bit;
+use crate::circuit::Circuit;
+use crate::compare::{first_difference, last_shown, place_at_end};
+use crate::exact::{MOST_CHOICES, waveform};
+use crate::netlist::Netlist;
+use crate::ordering::order_of;
+use crate::recording::Variable;
+use crate::refusal::Refusal;
+use crate::replay::replay_values;
+use crate::stimulus::stimulus_of;
+use crate::worlds::count_choices;
+use std::alloc::{AllocError, Global};
+use xr_cell::Value;
+use xr_design::{Bytes, Design, Written};
+
+/// The bits of the bound variables, where the recording agrees with the replay.
+pub fn decide(alloc: Global, netlist: Netlist, variables: &[Variable]) -> Result<Vec<Bit>, Refusal>
+    ensures decided { IfOk result (λ bits. Decided netlist.design variables.now bits.items) }
+    ensures refused { IfErr result (DecideRefused netlist.design variables.now) }
+{
+    let Netlist { design, order } = netlist;
+    let order = order_of(alloc, &design, order)?;
+    let stim = stimulus_of(alloc, &design, variables)?;
+    let circuit = Circuit {
+        design: &design,
+        order: &order,
+        stim: &stim,
+    };
+    decide_circuit(alloc, &circuit, variables)
+}
+
+/// The bits of the bound variables in a circuit.
+fn decide_circuit(
+    alloc: Global,
+    circuit: &Circuit<'_>,
+    variables: &[Variable],
+) -> Result<Vec<Bit>, Refusal>
+    requires fits { CircuitFits circuit.now }
+    requires some { 0 < (job_in circuit.now).moments * (job_in circuit.now).rounds }
+    ensures decided { IfOk result (λ bits. Decided circuit.now.design.now variables.now bits.items) }
+    ensures refused { IfErr result (DecideRefused circuit.now.design.now variables.now) }
+{
+    if !are_nets(circuit.design, variables) {
+        return Err(Refusal::NotBuilt);
+    }
+    if count_choices(circuit) > MOST_CHOICES {
+        return Err(Refusal::NotBuilt);
+    }
+    let shown = replay_values(alloc, circuit)?;
+    let shown = shown.as_slice();
+    if let Some(first) = first_difference(circuit, shown, variables) {
+        let variable = &variables[first];
+        return disagreement(alloc, variable, last_shown(circuit, shown, variable.net));
+    }
+    let Some(written) = waveform(alloc, circuit, shown)? else {
+        return Err(Refusal::NotBuilt);
+    };
+    let bits = bits_of(alloc, circuit, written.as_slice(), variables)?;
+    Ok(bits)
+}
+
+/// Whether each variable's net is one of the design's.
+fn are_nets(design: &Design, variables: &[Variable]) -> bool
+    ensures { IsTrue result ↔ AllByRecursion (λ v. v.net < length design.now.nets) variables.now }
+{
+    let nets = design.nets.as_slice().len();
+    variables
+        .iter()
+        .all(|variable| (variable.net as usize) < nets)
+}
+
+/// The refusal of a variable at which the recording and the replay differ.
+fn disagreement(alloc: Global, variable: &Variable, replayed: Value) -> Result<Vec<Bit>, Refusal>
+    ensures err { IsErr result }
+    ensures says { IfErr result (SaysDisagreement variable.now.name variable.now.value replayed) }
+{
+    let Ok(name) = std::str::from_utf8(variable.name.as_slice()) else {
+        return Err(Refusal::NotBuilt);
+    };
+    Err(Refusal::Disagrees {
+        name: String::from_str(alloc, name)?,
+        recorded: variable.value,
+        replayed,
+    })
+}
+
+/// The bits of the variables in a waveform.
+fn bits_of(
+    alloc: Global,
+    circuit: &Circuit<'_>,
+    written: &[Written],
+    variables: &[Variable],
+) -> Result<Vec<Bit>, AllocError>
+    requires fits { CircuitFits circuit.now }
+    requires some { 0 < (job_in circuit.now).moments * (job_in circuit.now).rounds }
+    requires nets { AllByRecursion (λ v. v.net < (job_in circuit.now).width) variables.now }
+    requires whole { length written.now ≡ places_of (job_in circuit.now) }
+    ensures { IfOk result (λ bits. bits.items ≡ map (bit_of_variable (job_in circuit.now) written.now) variables.now) }
+{
+    let mut bits = Vec::new(alloc);
+    'variables: for variable in variables {
+        bits.push(bit_of(alloc, circuit, written, variable)?)?;
+    }
+    Ok(bits)
+}
+
+fn bit_of(
+    alloc: Global,
+    circuit: &Circuit<'_>,
+    written: &[Written],
+    variable: &Variable,
+) -> Result<Bit, AllocError>
+    requires fits { CircuitFits circuit.now }
+    requires some { 0 < (job_in circuit.now).moments * (job_in circuit.now).rounds }
+    requires net { variable.now.net < (job_in circuit.now).width }
+    requires whole { length written.now ≡ places_of (job_in circuit.now) }
+    ensures { IfOk result (λ bit. bit ≡ bit_of_variable (job_in circuit.now) written.now variable.now) }
+{
+    let written = written[place_at_end(circuit, variable.net)];
+    let name = Bytes::from_vec(variable.name.as_slice().to_vec(alloc)?);
+    Ok(Bit {
+        name,
+        recorded: variable.value,
+        shown: written.value,
+        mark: written.mark,
+    })
+}

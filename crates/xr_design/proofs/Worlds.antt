@@ -1,0 +1,146 @@
+-- Laws of the worlds of fillings.
+use Rattle.std.proofs.Common.{◌≡◌, ℕ, zero, suc, ◌+◌, ◌-◌, ◌*◌, ◌/◌, ◌%◌, ◌<◌, ◌≤◌, ◌==◌, ◌&&◌, Bool, true, false, List, [], ◌∷◌, ◌++◌, length, map, refl, ap, arith, add-one, length-append, if◌then◌else◌, subst}
+use Rattle.std.proofs.Math.ListN.{get_or-append}
+use Rattle.std.proofs.Math.Seq.{get_or-append_seam}
+use Rattle.std.proofs.Math.Nat.{mod-lt}
+use Rattle.std.proofs.Math.Bool.{and-true}
+use Rattle.std.proofs.lemmas.List.{length-map}
+use Rattle.std.specs.List.{AllByRecursion, list_any}
+use Rattle.xr_cell.specs.declared.value.Value.{Value}
+use Rattle.xr_cell.specs.declared.value.Value.TheVariants.{Zero, One, X, Z}
+use Rattle.xr_cell.specs.Value.{IsKnown, bit_value, is_unknown}
+use Rattle.xr_design.specs.declared.design.Pin.{Pin}
+use Rattle.xr_design.specs.declared.design.Pin.TheVariants.{Net, Bit, Dead}
+use Rattle.xr_design.specs.declared.design.Table.TheVariants.{Gate}
+use Rattle.xr_design.specs.declared.design.Driver.{Driver}
+use Rattle.xr_design.specs.declared.design.Driver.TheVariants.{Input, Undriven, Constant, Copy, Cell}
+use Rattle.xr_design.specs.Job.{Job, at, step_of, net_of, places_of}
+use Rattle.xr_design.specs.Fits.{Fits, FitsDriver, is_dead, chooses, chooses_of}
+use Rattle.xr_design.specs.Replay.{pin_of}
+use Rattle.xr_design.specs.Rule.{rule, rule_of, known_or}
+use Rattle.xr_design.specs.World.{decided, bit_at, world, world_bit}
+use Rattle.xr_design.proofs.Gates.{gate_known}
+use Rattle.xr_design.proofs.Prefix.{prefix}
+
+-- The world up to n has n bits.
+pub world_length : (j : Job) (c : ℕ → Value) (f : ℕ → Bool) (n : ℕ) → length (world j c f n) ≡ n
+unfolding world
+world_length j c f zero = refl
+world_length j c f (suc n) = let ih = world_length j c f n in simp length-append (omega arith)
+
+kept : (j : Job) (c : ℕ → Value) (f : ℕ → Bool) (n i : ℕ) → i < n → bit_at (world j c f (suc n)) i ≡ bit_at (world j c f n) i
+unfolding world
+kept j c f n i within = let len = world_length j c f n in get_or-append (world j c f n) _ false i (omega (arith, len))
+
+-- The world up to n has at i the bit of the place i.
+pub world_prefix : (j : Job) (c : ℕ → Value) (f : ℕ → Bool) (n i : ℕ) → i < n → bit_at (world j c f n) i ≡ world_bit j c f i
+world_prefix j c f n i within = prefix (world j c f) false (kept j c f) n i within
+
+-- The bit of a place is its rule's where that is known, else the filling's.
+pub world_rule : (j : Job) (c : ℕ → Value) (f : ℕ → Bool) (place : ℕ) → world_bit j c f place ≡ decided (rule j c (bit_at (world j c f place)) place) (f place)
+unfolding world
+world_rule j c f place =
+    let bits = world j c f place in
+    let bit = decided (rule j c (bit_at bits) place) (f place) in
+    let here : length bits ≡ place = world_length j c f place in
+    let seam : bit_at (bits ++ bit ∷ []) place ≡ bit = subst (λ n. bit_at (bits ++ bit ∷ []) n ≡ bit) here (get_or-append_seam bits bit [] false) in
+    rw add-one seam
+
+certain_idle_of : (j : Job) (c d : ℕ → Value) (b : ℕ → Bool) (step net : ℕ) (driver : Driver) → rule_of j c b step net driver ≡ rule_of j d b step net driver
+certain_idle_of j c d b step net Input = refl
+certain_idle_of j c d b step net Undriven = refl
+certain_idle_of j c d b step net (Constant bit) = refl
+certain_idle_of j c d b step net (Copy argument) = refl
+certain_idle_of j c d b step net (Cell table pins) = refl
+
+-- No rule reads the certain values.
+pub certain_idle : (j : Job) (c d : ℕ → Value) (f : ℕ → Bool) (place : ℕ) → rule j c f place ≡ rule j d f place
+unfolding rule
+certain_idle j c d f place = certain_idle_of j c d f (step_of j place) (net_of j place) (j.driver (net_of j place))
+
+-- Worlds are the same for all certain values.
+pub world_idle : (j : Job) (c d : ℕ → Value) (f : ℕ → Bool) (n : ℕ) → world j c f n ≡ world j d f n
+unfolding world
+world_idle j c d f zero = refl
+world_idle j c d f (suc n) =
+    let ih = world_idle j c d f n in
+    let same = certain_idle j c d (bit_at (world j d f n)) n in
+    rw (ih, same) refl
+
+-- The bit of a place is the same for all certain values.
+pub world_bit_idle : (j : Job) (c d : ℕ → Value) (f : ℕ → Bool) (place : ℕ) → world_bit j c f place ≡ world_bit j d f place
+world_bit_idle j c d f place = ap (λ bits. bit_at bits place) (world_idle j c d f (place + 1))
+
+born_known : (recorded : Value) (first : Bool) (bit : Bool) → first && is_unknown recorded ≡ false → IsKnown (known_or recorded (if first then X else bit_value bit))
+born_known Zero first bit idle = tt
+born_known One first bit idle = tt
+born_known X true bit idle = cc
+born_known X false false idle = tt
+born_known X false true idle = tt
+born_known Z true bit idle = cc
+born_known Z false false idle = tt
+born_known Z false true idle = tt
+
+bit_known : (bit : Bool) → IsKnown (bit_value bit)
+bit_known false = tt
+bit_known true = tt
+
+pins_known : (pins : List Pin) (b : ℕ → Bool) → list_any is_dead pins ≡ false → AllByRecursion IsKnown (map (pin_of (λ a. bit_value (b a))) pins)
+pins_known [] b alive = tt
+pins_known (Net net ∷ pins) b alive = (bit_known (b net), pins_known pins b alive)
+pins_known (Bit bit ∷ pins) b alive = (bit_known bit, pins_known pins b alive)
+pins_known (Dead ∷ pins) b alive = cc
+
+rule_of_known : (j : Job) (c : ℕ → Value) (b : ℕ → Bool) (step net : ℕ) (driver : Driver) → FitsDriver driver → chooses_of j step net driver ≡ false → IsKnown (rule_of j c b step net driver)
+rule_of_known j c b step net Input fits idle = born_known (j.recorded (step / j.rounds) net) (step % j.rounds == 0) (b (at j (step - 1) net)) idle
+rule_of_known j c b step net Undriven fits idle = let first : (step % j.rounds == 0) && true ≡ false = rw (and-true (step % j.rounds == 0)) idle in born_known X (step % j.rounds == 0) (b (at j (step - 1) net)) first
+rule_of_known j c b step net (Constant bit) fits idle = bit_known bit
+rule_of_known j c b step net (Copy argument) fits idle = bit_known (b (at j step argument))
+rule_of_known j c b step net (Cell (Gate gate) pins) fits idle =
+    let values = map (pin_of (λ a. bit_value (b (at j step a)))) pins in
+    let many : length values ≡ length pins = length-map pins _ in
+    gate_known gate values (rw many fits) (pins_known pins (λ a. b (at j step a)) idle)
+
+-- Where there is a place, there is a net.
+pub some_width : (w k place : ℕ) → place < w * k → 0 < w
+some_width zero k place within = omega arith
+some_width (suc w) k place within = omega arith
+
+-- The net of a place is one of the job's.
+pub net_within : (j : Job) → Fits j → (place : ℕ) → place < places_of j → net_of j place < j.width
+net_within j fits place within =
+    let some : 0 < j.width = some_width j.width (j.moments * j.rounds) place within in
+    let index : place % j.width < j.width = mod-lt place some in
+    let all = fits.all in
+    let below = fits.ordering.below (place % j.width) (omega arith) in
+    omega (arith, all, below)
+
+-- Where a world may not read its filling, the rule is known.
+pub rule_known : (j : Job) (c : ℕ → Value) (f : ℕ → Bool) (place : ℕ) → Fits j → place < places_of j → chooses j place ≡ false → IsKnown (rule j c f place)
+unfolding rule
+rule_known j c f place fits within idle =
+    rule_of_known j c f (step_of j place) (net_of j place) (j.driver (net_of j place)) (fits.pins (net_of j place) (net_within j fits place within)) idle
+
+decided_known : (v : Value) (x y : Bool) → IsKnown v → decided v x ≡ decided v y
+decided_known Zero x y known = refl
+decided_known One x y known = refl
+decided_known X x y known = absurd known
+decided_known Z x y known = absurd known
+
+decided_agree : (v : Value) (x y choice : Bool) → (choice ≡ false → IsKnown v) → (choice ≡ true → x ≡ y) → decided v x ≡ decided v y
+decided_agree v x y false known agree = decided_known v x y (known refl)
+decided_agree v x y true known agree = ap (decided v) (agree refl)
+
+-- Fillings that agree where a world may read them have the same world.
+pub worlds_agree : (j : Job) (c : ℕ → Value) (f g : ℕ → Bool) (n : ℕ) → Fits j → n ≤ places_of j → ((i : ℕ) → i < n → chooses j i ≡ true → f i ≡ g i) → world j c f n ≡ world j c g n
+unfolding world
+worlds_agree j c f g zero fits within agree = refl
+worlds_agree j c f g (suc n) fits within agree =
+    let earlier = worlds_agree j c f g n fits (omega arith) (λ i less. agree i (omega arith)) in
+    let bits = world j c g n in
+    let here : decided (rule j c (bit_at bits) n) (f n) ≡ decided (rule j c (bit_at bits) n) (g n) = decided_agree (rule j c (bit_at bits) n) (f n) (g n) (chooses j n) (rule_known j c (bit_at bits) n fits (omega arith)) (agree n (omega arith)) in
+    rw (earlier, here) refl
+
+-- They have the same bit of each place.
+pub world_bits_agree : (j : Job) (c : ℕ → Value) (f g : ℕ → Bool) (place : ℕ) → Fits j → place < places_of j → ((i : ℕ) → i ≤ place → chooses j i ≡ true → f i ≡ g i) → world_bit j c f place ≡ world_bit j c g place
+world_bits_agree j c f g place fits within agree = ap (λ bits. bit_at bits place) (worlds_agree j c f g (place + 1) fits (omega arith) (λ i less. agree i (omega arith)))

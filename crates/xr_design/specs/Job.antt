@@ -1,0 +1,48 @@
+-- A design with its order and its stimulus, and its places by number.
+use Rattle.std.specs.Prelude.{ℕ, ◌+◌, ◌*◌, ◌/◌, ◌%◌, List, [], length, map, slice_index, slice_index_or}
+use Rattle.xr_cell.specs.declared.value.Value.{Value}
+use Rattle.xr_cell.specs.declared.value.Value.TheVariants.{X}
+use Rattle.xr_design.specs.Order.{position_of}
+use Rattle.xr_design.specs.declared.design.Driver.{Driver}
+use Rattle.xr_design.specs.declared.design.Driver.TheVariants.{Undriven}
+use Rattle.xr_design.specs.declared.design.Design.{Design}
+use Rattle.xr_design.specs.declared.design.Net.{Net}
+use Rattle.xr_design.specs.declared.place.Place.{Place}
+use Rattle.xr_design.specs.declared.stim.Stim.{Stim}
+
+-- How many nets there are, the driver of each, their order within a step, the rounds of a moment, the number of
+-- moments, and the recorded value of an input in a moment.
+pub record Job : Type 0 where
+  pub width : ℕ
+  pub driver : ℕ → Driver
+  pub order : List ℕ
+  pub rounds : ℕ
+  pub moments : ℕ
+  pub recorded : ℕ → ℕ → Value
+
+abbrev pub job_of : Design → List ℕ → Stim → Job
+job_of design order stim = record {
+  width = length design.nets;
+  driver = λ net. slice_index_or (map (λ (n : Net). n.driver) design.nets) net Undriven;
+  order = order;
+  rounds = stim.rounds;
+  moments = length stim.times;
+  recorded = λ moment net. slice_index_or (slice_index_or stim.inputs moment []) net X;
+}
+
+-- Places are numbered in place order: by step, and within a step by the order of the nets.
+abbrev pub number_of : Job → Place → ℕ
+number_of j place = place.step * j.width + position_of j.order place.net
+
+abbrev pub step_of : Job → ℕ → ℕ
+step_of j place = place / j.width
+
+abbrev pub net_of : Job → ℕ → ℕ
+net_of j place = slice_index j.order (place % j.width)
+
+-- The number of a net's place at a step.
+abbrev pub at : Job → ℕ → ℕ → ℕ
+at j step net = step * j.width + position_of j.order net
+
+abbrev pub places_of : Job → ℕ
+places_of j = j.width * (j.moments * j.rounds)

@@ -1,0 +1,9 @@
+pub mod Filling
+pub mod Fits
+pub mod History
+pub mod Job
+pub mod Order
+pub mod Replay
+pub mod Rule
+pub mod Waveform
+pub mod World

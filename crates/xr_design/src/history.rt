@@ -1,0 +1,169 @@
+//! What each place shows and keeps.
+
+ghost use Rattle.std.specs.Prelude.{◌≡◌, ◌*◌, ◌≤◌, ◌^◌, IfOk, length, replicate, slice_set};
+ghost use Rattle.xr_design.specs.Replay.{blank};
+ghost use Rattle.xr_design.specs.History.{HasPlace, held_in, index_in, two_bits, value_of_bits};
+
+use crate::design::Design;
+use crate::place::Place;
+use crate::stim::Stim;
+use std::alloc::Global;
+use std::marker::Model;
+use xr_base::Memory;
+use xr_cell::Value;
+
+/// A value shown and a value kept for each place of a design under a stimulus: one byte a place.
+#[derive(Debug, Drop)]
+pub struct History {
+    nets: usize,
+    bytes: Vec<u8>,
+}
+
+impl Model for History {
+    ghost use Rattle.std.specs.Prelude.{map, ◌≤◌, ◌^◌};
+    ghost use Rattle.xr_design.specs.History.{HistoryView, held_of_byte};
+
+    ghost Value = { HistoryView };
+
+    ghost view = { λ history. record { nets = history.nets; places = map held_of_byte history.bytes.items } };
+
+    ghost invariant = { λ history. history.nets ≤ 2 ^ 20 };
+}
+
+/// The byte of a place that shows and keeps x.
+const BLANK: u8 = 10;
+
+impl History {
+    /// A history in which every shown and kept value is x. Takes a byte for each place.
+    pub fn blank(alloc: Global, design: &Design, stim: &Stim) -> Result<History, Memory>
+        requires nets { length design.now.nets ≤ 2 ^ 20 }
+        requires places { length design.now.nets * (length stim.now.times * stim.now.rounds) ≤ 2 ^ 27 }
+        requires steps { length stim.now.times * stim.now.rounds ≤ 2 ^ 32 }
+        ensures { IfOk result (λ h. h ≡ record { nets = length design.now.nets; places = replicate (length design.now.nets * (length stim.now.times * stim.now.rounds)) blank }) }
+    {
+        let nets = design.nets.as_slice().len();
+        let steps = stim.times.as_slice().len() * stim.rounds as usize;
+        let bytes = vec![in alloc; BLANK; nets * steps]?;
+        Ok(History { nets, bytes })
+    }
+
+    /// What the place shows. Takes no memory.
+    pub fn shown(&self, place: Place) -> Value
+        requires { HasPlace self.now place }
+        ensures { result ≡ (held_in self.now place).shown }
+    {
+        value_of_two_bits(self.bytes[self.index(place)] % 4)
+    }
+
+    /// What the place keeps. Takes no memory.
+    pub fn kept(&self, place: Place) -> Value
+        requires { HasPlace self.now place }
+        ensures { result ≡ (held_in self.now place).kept }
+    {
+        value_of_two_bits(self.bytes[self.index(place)] / 4 % 4)
+    }
+
+    /// Writes what the place shows and keeps, and leaves all other places. Takes no memory.
+    pub fn set(&mut self, place: Place, shown: Value, kept: Value)
+        requires { HasPlace self.old place }
+        ensures { self.new ≡ record self.old { places = slice_set self.old.places (index_in self.old place) record { shown = shown; kept = kept } } }
+    {
+        let index = self.index(place);
+        self.bytes[index] = two_bits_of(shown) + 4 * two_bits_of(kept);
+    }
+
+    fn index(&self, place: Place) -> usize
+        requires { HasPlace self.now place }
+        ensures { result ≡ index_in self.now place }
+    {
+        place.step as usize * self.nets + place.net as usize
+    }
+}
+
+fn two_bits_of(value: Value) -> u8
+    ensures bits { result ≡ two_bits value }
+    ensures few { result ≤ 3 }
+{
+    match value {
+        Value::Zero => 0,
+        Value::One => 1,
+        Value::X => 2,
+        Value::Z => 3,
+    }
+}
+
+fn value_of_two_bits(bits: u8) -> Value
+    ensures { result ≡ value_of_bits bits }
+{
+    match bits {
+        0 => Value::Zero,
+        1 => Value::One,
+        2 => Value::X,
+        _ => Value::Z,
+    }
+}
+
+#[cfg(test)]
+mod tests {
+    use super::*;
+    use crate::design::{Driver, Net};
+    use crate::name::Name;
+    use std::alloc::AllocError;
+    use std::test::Fail;
+    use xr_base::Items;
+
+    /// A net without a driver.
+    fn floating(alloc: Global) -> Net {
+        Net {
+            path: Name {
+                parts: Items::from_vec(Vec::new(alloc)),
+                bit: None,
+            },
+            driver: Driver::Undriven,
+        }
+    }
+
+    /// Two nets, two moments of two rounds.
+    fn small(alloc: Global) -> Result<(Design, Stim), AllocError>
+        ensures nets { IfOk result (λ job. length job.0.nets ≡ 2) }
+        ensures times { IfOk result (λ job. length job.1.times ≡ 2) }
+        ensures rounds { IfOk result (λ job. job.1.rounds ≡ 2) }
+    {
+        let mut nets = Vec::new(alloc);
+        nets.push(floating(alloc))?;
+        nets.push(floating(alloc))?;
+        let mut times = Vec::new(alloc);
+        times.push(0)?;
+        times.push(10)?;
+        let design = Design {
+            nets: Items::from_vec(nets),
+        };
+        let stim = Stim {
+            times: Items::from_vec(times),
+            rounds: 2,
+            inputs: Items::from_vec(Vec::new(alloc)),
+        };
+        Ok((design, stim))
+    }
+
+    #[test]
+    fn a_place_has_what_was_set(rt: HostRuntime) -> Result<(), Fail> {
+        let (design, stim) = small(rt.alloc())?;
+        let mut history = History::blank(rt.alloc(), &design, &stim)?;
+        let set = Place { step: 1, net: 0 };
+        let other = Place { step: 3, net: 1 };
+        assert_eq!(rt; history.shown(set), Value::X, "blank");
+        assert_eq!(rt; history.kept(other), Value::X, "blank");
+        for (shown, kept) in [
+            (Value::Zero, Value::One),
+            (Value::Z, Value::X),
+            (Value::One, Value::Z),
+        ] {
+            history.set(set, shown, kept);
+            assert_eq!(rt; history.shown(set), shown, "{shown:?} and {kept:?}");
+            assert_eq!(rt; history.kept(set), kept, "{shown:?} and {kept:?}");
+            assert_eq!(rt; history.shown(other), Value::X, "another place");
+        }
+        Ok(())
+    }
+}

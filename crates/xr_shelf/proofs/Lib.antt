@@ -1,0 +1,7 @@
+-- Lemmas of xr_shelf.
+mod Fronts
+mod Turns
+mod Failed
+mod WriteSteps
+mod ReadSteps
+mod Lookups

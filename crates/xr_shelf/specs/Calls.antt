@@ -1,0 +1,44 @@
+-- What it means to read a whole file, to write a whole file and to print a whole text.
+use Rattle.std.specs.Prelude.{◌≡◌, ◌⊎◌, ℕ, ◌<◌, ◌≤◌, List, ◌++◌, length, Some, Result, IsErrOf, OnOk, IfOk, IsTrue, Bool, Vec}
+use Rattle.std.specs.declared.alloc.Global.{Global}
+use Rattle.xr_shelf.specs.Shelf.{View, Files, Nothing, Later, Rose, OthersKept, Prefix, held}
+use Rattle.xr_shelf.specs.Sink.{SinkView}
+use Rattle.xr_shelf.specs.declared.fault.ReadErr.{ReadErr}
+use Rattle.xr_shelf.specs.declared.fault.ReadErr.TheVariants.{Fault as ReadFault, TooLong}
+use Rattle.xr_shelf.specs.declared.fault.WriteErr.{WriteErr}
+use Rattle.xr_shelf.specs.declared.fault.WriteErr.TheVariants.{Fault as WriteFault}
+
+-- A whole file read: its text, or a fault with a risen count of that very name.
+pub record ReadAll (told : Bool) (name : List ℕ) (limit : ℕ) (old new : View) (result : Result (Vec ℕ Global) ReadErr) : Type 0 where
+  pub later : Later old new
+  pub files : new.files ≡ old.files
+  pub text : IfOk result (λ v. IsTrue told → v.items ≡ held old name)
+  pub fits : IfOk result (λ v. length v.items ≤ limit)
+  pub closed : OnOk result (new.hand ≡ Nothing)
+  pub long : IsErrOf result TooLong → IsTrue told → limit < length (held old name)
+  pub fault : IsErrOf result ReadFault → Rose (old.reads name) (new.reads name)
+
+-- The name holds what it held, or a prefix of the bytes.
+abbrev pub HoldsPart : List ℕ → List ℕ → Files → Files → Type 0
+HoldsPart name bytes old new = (new name ≡ old name) ⊎ ((part : List ℕ) × (new name ≡ Some part) × Prefix part bytes)
+
+-- A whole file written. A file that was created holds a prefix of the bytes, and one that wasn't holds what it
+-- held, or nothing.
+pub record WriteAll (told : Bool) (name bytes : List ℕ) (old new : View) (result : Result Unit WriteErr) : Type 0 where
+  pub later : Later old new
+  pub others : OthersKept name old.files new.files
+  pub whole : OnOk result (IsTrue told → new.files name ≡ Some bytes)
+  pub part : IsTrue told → HoldsPart name bytes old.files new.files
+  pub closed : OnOk result (new.hand ≡ Nothing)
+  pub fault : IsErrOf result WriteFault → Rose (old.writes name) (new.writes name)
+
+-- The sink gained a prefix of the text.
+abbrev pub Gained : List ℕ → SinkView → SinkView → Type 0
+Gained text old new = (gained : List ℕ) × (new.bytes ≡ old.bytes ++ gained) × Prefix gained text
+
+-- A whole text printed: the sink gained all of it, or a prefix.
+pub record PrintAll (told : Bool) (text : List ℕ) (old new : SinkView) (result : Result Unit WriteErr) : Type 0 where
+  pub later : old.faults ≤ new.faults
+  pub whole : OnOk result (IsTrue told → new.bytes ≡ old.bytes ++ text)
+  pub part : IsTrue told → Gained text old new
+  pub fault : IsErrOf result WriteFault → Rose old.faults new.faults

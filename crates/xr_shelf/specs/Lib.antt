@@ -1,0 +1,10 @@
+-- Definitions of xr_shelf.
+pub mod Calls
+pub mod Errors
+pub mod InHand
+pub mod MemShelf
+pub mod MemSink
+pub mod NamedFiles
+pub mod Plan
+pub mod Shelf
+pub mod Sink

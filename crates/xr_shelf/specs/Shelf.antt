@@ -1,0 +1,98 @@
+-- What is seen of a shelf of named files, and what each of its calls does to that.
+use Rattle.std.specs.Prelude.{◌≡◌, ◌⊎◌, ℕ, ◌+◌, ◌^◌, ◌-◌, ◌<◌, ◌≤◌, min, List, [], ◌++◌, length, take, Option, Some, None, Result, IsErrOf, OnErr, OnOk, IfOk, IsTrue, Bool}
+use Rattle.xr_shelf.specs.declared.fault.IoErr.{IoErr}
+use Rattle.xr_shelf.specs.declared.fault.IoErr.TheVariants.{Failed}
+
+-- A count of faults rose, or stands at the end of its type.
+abbrev pub Rose : ℕ → ℕ → Type 0
+Rose before now = min (before + 1) (2 ^ 64 - 1) ≤ now
+
+-- The file in hand: none, an opened one or a created one, by its name.
+pub data Hand : Type 0 where
+  Nothing : Hand
+  Opened : List ℕ → Hand
+  Created : List ℕ → Hand
+
+-- The map from names to bytes.
+abbrev pub Files : Type 0
+Files = List ℕ → Option (List ℕ)
+
+-- What is seen of a shelf: a count of faults of reading and one of writing for each name, the file in hand,
+-- the map, and the bytes of the opened file that aren't read yet.
+pub record View : Type 0 where
+  pub reads : List ℕ → ℕ
+  pub writes : List ℕ → ℕ
+  pub hand : Hand
+  pub files : Files
+  pub unread : List ℕ
+
+abbrev pub bytes_of : Option (List ℕ) → List ℕ
+bytes_of None = []
+bytes_of (Some bytes) = bytes
+
+-- The bytes under a name: none where there is no such file.
+abbrev pub held : View → List ℕ → List ℕ
+held v name = bytes_of (v.files name)
+
+-- No count fell.
+pub record Later (old new : View) : Type 0 where
+  pub reads : (name : List ℕ) → old.reads name ≤ new.reads name
+  pub writes : (name : List ℕ) → old.writes name ≤ new.writes name
+
+-- No file but this one changed.
+abbrev pub OthersKept : List ℕ → Files → Files → Type 0
+OthersKept name old new = (other : List ℕ) → (other ≡ name → ⊥) → new other ≡ old other
+
+-- The first text stands at the front of the second.
+pub record Prefix (part whole : List ℕ) : Type 0 where
+  pub rest : List ℕ
+  pub is : part ++ rest ≡ whole
+
+-- `open_file`: the named file is in hand and all its bytes are unread, or none is in hand.
+pub record OpenStep (told : Bool) (name : List ℕ) (old new : View) (result : Result Unit IoErr) : Type 0 where
+  pub later : Later old new
+  pub files : new.files ≡ old.files
+  pub ok : OnOk result (new.hand ≡ Opened name)
+  pub unread : OnOk result (IsTrue told → new.unread ≡ held old name)
+  pub err : OnErr result (new.hand ≡ Nothing)
+  pub fault : IsErrOf result Failed → Rose (old.reads name) (new.reads name)
+
+-- `read`: the next unread bytes stand at the front of the buffer; it gives none only at the end of the file,
+-- and with no opened file in hand.
+pub record ReadStep (told : Bool) (old new : View) (buffer : List ℕ) (result : Result ℕ IoErr) : Type 0 where
+  pub later : Later old new
+  pub files : new.files ≡ old.files
+  pub hand : new.hand ≡ old.hand
+  pub bound : IfOk result (λ n. n ≤ length buffer)
+  pub bytes : (name : List ℕ) → old.hand ≡ Opened name → IfOk result (λ n. IsTrue told → old.unread ≡ take n buffer ++ new.unread)
+  pub end : (name : List ℕ) → old.hand ≡ Opened name → IfOk result (λ n. n ≡ 0 → 0 < length buffer → IsTrue told → old.unread ≡ [])
+  pub idle : ((name : List ℕ) → old.hand ≡ Opened name → ⊥) → IfOk result (λ n. n ≡ 0)
+  pub fault : IsErrOf result Failed → (name : List ℕ) × (old.hand ≡ Opened name) × Rose (old.reads name) (new.reads name)
+
+-- `create_file`: the name is empty and in hand, or none is in hand and the name may have been emptied.
+pub record CreateStep (told : Bool) (name : List ℕ) (old new : View) (result : Result Unit IoErr) : Type 0 where
+  pub later : Later old new
+  pub others : OthersKept name old.files new.files
+  pub ok : OnOk result (new.hand ≡ Created name)
+  pub empty : OnOk result (IsTrue told → new.files name ≡ Some [])
+  pub err : OnErr result (new.hand ≡ Nothing)
+  pub kept : OnErr result (IsTrue told → (new.files name ≡ old.files name) ⊎ (new.files name ≡ Some []))
+  pub fault : IsErrOf result Failed → Rose (old.writes name) (new.writes name)
+
+-- `write`: the file in hand gains the first of the bytes, at least one where there are any.
+pub record WriteStep (told : Bool) (name : List ℕ) (old new : View) (bytes : List ℕ) (result : Result ℕ IoErr) : Type 0 where
+  pub later : Later old new
+  pub hand : new.hand ≡ old.hand
+  pub others : OthersKept name old.files new.files
+  pub bound : IfOk result (λ n. n ≤ length bytes)
+  pub some : IfOk result (λ n. 0 < length bytes → 0 < n)
+  pub wrote : IfOk result (λ n. IsTrue told → new.files name ≡ Some (held old name ++ take n bytes))
+  pub err : OnErr result (IsTrue told → new.files name ≡ old.files name)
+  pub fault : IsErrOf result Failed → Rose (old.writes name) (new.writes name)
+
+-- `close_file`: no file is in hand afterwards, whatever it answers.
+pub record CloseStep (old new : View) (result : Result Unit IoErr) : Type 0 where
+  pub later : Later old new
+  pub files : new.files ≡ old.files
+  pub hand : new.hand ≡ Nothing
+  pub fault : IsErrOf result Failed → ((name : List ℕ) × (old.hand ≡ Opened name) × Rose (old.reads name) (new.reads name)) ⊎ ((name : List ℕ) × (old.hand ≡ Created name) × Rose (old.writes name) (new.writes name))

@@ -1,0 +1,19 @@
+-- What is seen of a sink, and what a write does to that.
+use Rattle.std.specs.Prelude.{◌≡◌, ℕ, ◌<◌, ◌≤◌, List, ◌++◌, length, take, Result, IsErrOf, OnErr, IfOk, IsTrue, Bool}
+use Rattle.xr_shelf.specs.Shelf.{Rose}
+use Rattle.xr_shelf.specs.declared.fault.IoErr.{IoErr}
+use Rattle.xr_shelf.specs.declared.fault.IoErr.TheVariants.{Failed}
+
+-- What is seen of a sink: its count of faults, and its bytes so far.
+pub record SinkView : Type 0 where
+  pub faults : ℕ
+  pub bytes : List ℕ
+
+-- `write`: the sink gains the first of the bytes, at least one where there are any.
+pub record SinkStep (told : Bool) (old new : SinkView) (bytes : List ℕ) (result : Result ℕ IoErr) : Type 0 where
+  pub later : old.faults ≤ new.faults
+  pub bound : IfOk result (λ n. n ≤ length bytes)
+  pub some : IfOk result (λ n. 0 < length bytes → 0 < n)
+  pub wrote : IfOk result (λ n. IsTrue told → new.bytes ≡ old.bytes ++ take n bytes)
+  pub err : OnErr result (IsTrue told → new.bytes ≡ old.bytes)
+  pub fault : IsErrOf result Failed → Rose old.faults new.faults

@@ -1,0 +1,19 @@
+//! Named files and a sink as values: what a program reads, writes and prints, with a count of the faults on the way.
+//! Start at `Shelf`, `Sink` and `read_all`; `MemShelf` and `MemSink` keep all in memory.
+#![tactic(auto)]
+
+mod fault;
+mod in_hand;
+mod mem_shelf;
+mod mem_sink;
+mod named_files;
+mod plan;
+mod reader;
+mod shelf;
+mod sink;
+
+pub use fault::{IoErr, ReadErr, WriteErr};
+pub use mem_shelf::MemShelf;
+pub use mem_sink::MemSink;
+pub use shelf::{Shelf, read_all, write_all};
+pub use sink::{Sink, print_all};

@@ -1,0 +1,35 @@
+//! A sink of bytes, and whole texts printed to it.
+
+ghost use Rattle.std.specs.Prelude.{Bool};
+ghost use Rattle.xr_shelf.specs.Sink.{SinkView, SinkStep};
+ghost use Rattle.xr_shelf.specs.Calls.{PrintAll};
+
+use crate::fault::{IoErr, WriteErr};
+
+/// Where a program prints.
+pub trait Sink {
+    /// Whether the bytes are told. No call changes it.
+    ghost told: { Bool };
+
+    /// What is seen of it.
+    ghost view: { Self → SinkView };
+
+    /// Takes the first of the bytes, and says how many.
+    fn write(&mut self, bytes: &[u8]) -> Result<usize, IoErr>
+        ensures { SinkStep told (view self.old) (view self.new) bytes.now result };
+}
+
+/// Prints all the bytes. Takes no memory.
+pub fn print_all<O: Sink>(out: &mut O, bytes: &[u8]) -> Result<(), WriteErr>
+    ensures { PrintAll O.told bytes.now (O.view out.old) (O.view out.new) result }
+{
+    let mut done = 0;
+    'turns: while done < bytes.len() {
+        let count = out.write(&bytes[done..])?;
+        done += count;
+    }
+    Ok(())
+}
+
+#[cfg(test)]
+mod tests;
