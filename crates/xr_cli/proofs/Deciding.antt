@@ -1,16 +1,26 @@
 -- What is decided of a recording's bits.
-use Rattle.std.proofs.Common.{◌≡◌, ◌∙◌, sym, subst, refl, ℕ, zero, suc, ◌+◌, ◌*◌, ◌-◌, ◌<◌, ◌≤◌, ◌^◌, List, [], ◌∷◌, length, map, arith}
+use Rattle.std.proofs.Common.{get_or, ap, true, false, ◌≡◌, ◌∙◌, sym, subst, refl, ℕ, zero, suc, ◌+◌, ◌*◌, ◌-◌, ◌<◌, ◌≤◌, ◌^◌, List, [], ◌∷◌, length, map, arith}
 use Rattle.std.specs.List.{AllByRecursion}
-use Rattle.xr_cell.specs.Value.{IsKnown}
+use Rattle.xr_cell.specs.Value.{IsKnown, bit_value}
 use Rattle.xr_design.specs.Job.{Job, job_of, places_of}
 use Rattle.xr_design.specs.Order.{position_of}
 use Rattle.xr_design.specs.Fits.{Fits}
-use Rattle.xr_design.specs.Waveform.{IsExact, ShowsReplay}
+use Rattle.xr_design.specs.Waveform.{written_at, certain, ExactBy, HasPair, IsExact, ShowsReplay}
+use Rattle.xr_design.specs.Filling.{bit_of}
+use Rattle.xr_design.specs.Replay.{shown_at}
+use Rattle.xr_design.specs.declared.waveform.Mark.{Mark}
+use Rattle.xr_design.specs.declared.waveform.Mark.TheVariants.{Certain, Unknown, Undecided}
+use Rattle.xr_design.proofs.Follows.{world_follows}
 use Rattle.xr_design.specs.declared.waveform.Written.{Written}
 use Rattle.xr_design.proofs.OrderLemmas.{position_within}
+use Rattle.xr_design.proofs.Exact.{one_exact}
 use Rattle.xr_design.specs.declared.design.Design.{Design}
 use Rattle.xr_design.specs.declared.stim.Stim.{Stim}
-use Rattle.xr_cli.specs.Circuit.{FitsCircuit}
+use Rattle.xr_cell.specs.declared.value.Value.{Value}
+use Rattle.xr_cell.specs.declared.value.Value.TheVariants.{Zero, One}
+use Rattle.xr_cli.specs.Circuit.{FitsStim, FitsCircuit}
+use Rattle.xr_cli.specs.RecordingText.{IsBound, IsStimOf}
+use Rattle.xr_cli.specs.declared.recording.Recording.{Recording}
 use Rattle.xr_cli.specs.declared.bit.Bit.{Bit}
 use Rattle.xr_cli.specs.declared.recording.Variable.{Variable}
 use Rattle.xr_cli.specs.Repair.{last_place, Agrees, AgreeBelow, bit_of_variable, Stands, Decided}
@@ -37,19 +47,58 @@ module _ (j : Job) (waveform : List Written) (fits : Fits j) (some : 0 < j.momen
   stand (v ∷ variables) within agree =
       (stands_one v within.0 (agree 0 v (omega arith) refl), stand variables within.1 (λ k w less at. agree (suc k) w (omega arith) at))
 
+-- bound variables name nets of the design
+pub nets_bound : (design : Design) (variables : List Variable) → AllByRecursion (IsBound design) variables → AllByRecursion (λ (v : Variable). v.net < length design.nets) variables
+nets_bound design [] bound = tt
+nets_bound design (v ∷ variables) bound = (bound.0.net, nets_bound design variables bound.1)
+
+-- the stimulus of a recording fits the design
+pub stim_fits : (design : Design) (r : Recording) (stim : Stim) → IsStimOf design r stim → FitsStim design stim
+stim_fits design r stim is = record {
+  rows = rw (is.inputs, is.times) refl;
+  values = λ moment within. (let P : List (List Value) → Type 0 = λ inputs. (moment : ℕ) → moment < length inputs → length (get_or inputs moment []) ≡ length design.nets in subst P (sym is.inputs) one moment within);
+}
+  where
+    one : (moment : ℕ) → moment < length (is.row ∷ []) → length (get_or (is.row ∷ []) moment []) ≡ length design.nets
+    one zero within = is.wide
+    one (suc moment) within = absurd (omega arith)
+
+-- what an exact waveform that shows the replay shows known is certain: no filling gives another value
+pub known_certain : (j : Job) (waveform : List Written) → Fits j → length waveform ≡ places_of j → IsExact j waveform → ShowsReplay j waveform → (place : ℕ) → place < length waveform → IsKnown (written_at waveform place).value → (written_at waveform place).mark ≡ Certain
+known_certain j waveform fits whole exact shows place within known = by (written_at waveform place).mark refl (exact place within)
+  where
+    inside : place < places_of j
+    inside = let P : ℕ → Type 0 = λ n. place < n in subst P whole within
+
+    open_place : (written_at waveform place).mark ≡ Unknown → HasPair j waveform place → ⊥
+    open_place is pair =
+        let shown : (written_at waveform place).value ≡ shown_at j place = shows.uncertain place within (λ certain. (let two : Unknown ≡ Certain = sym is ∙ certain in cc)) in
+        let replayed : IsKnown (shown_at j place) = subst IsKnown shown known in
+        let zero_at : bit_value false ≡ shown_at j place = ap bit_value (sym pair.gives_zero) ∙ world_follows j (certain waveform) (bit_of j pair.zero) place fits inside replayed in
+        let one_at : bit_value true ≡ shown_at j place = ap bit_value (sym pair.gives_one) ∙ world_follows j (certain waveform) (bit_of j pair.one) place fits inside replayed in
+        let two : Zero ≡ One = zero_at ∙ sym one_at in cc
+
+    by : (mark : Mark) → (written_at waveform place).mark ≡ mark → ExactBy j waveform place mark (written_at waveform place).value → (written_at waveform place).mark ≡ Certain
+    by Certain is holds = is
+    by Unknown is holds = absurd (open_place is holds)
+    by Undecided is holds = absurd holds
+
 -- A waveform that is exact and shows the replay decides the bits of the variables at which the recording agrees.
-pub decided : (design : Design) (order : List ℕ) (stim : Stim) (waveform : List Written) (variables : List Variable) (bits : List Bit) → FitsCircuit design order stim → 0 < (job_of design order stim).moments * (job_of design order stim).rounds → length waveform ≡ places_of (job_of design order stim) → IsExact (job_of design order stim) waveform → ShowsReplay (job_of design order stim) waveform → AllByRecursion (λ (v : Variable). v.net < (job_of design order stim).width) variables → AgreeBelow (job_of design order stim) variables (length variables) → bits ≡ map (bit_of_variable (job_of design order stim) waveform) variables → Decided design variables bits
-decided design order stim waveform variables bits fits some whole exact shows nets agree is = record {
+pub decided : (design : Design) (order : List ℕ) (stim : Stim) (waveform : List Written) (r : Recording) (bits : List Bit) → IsStimOf design r stim → FitsCircuit design order stim → 0 < (job_of design order stim).moments * (job_of design order stim).rounds → length waveform ≡ places_of (job_of design order stim) → IsExact (job_of design order stim) waveform → ShowsReplay (job_of design order stim) waveform → AllByRecursion (IsBound design) r.variables → AgreeBelow (job_of design order stim) r.variables (length r.variables) → bits ≡ map (bit_of_variable (job_of design order stim) waveform) r.variables → Decided design r bits
+decided design order stim waveform r bits stim_is fits some whole exact shows bound agree is = record {
   order = order;
   stim = stim;
+  stim_is = stim_is;
   fits = fits;
   waveform = waveform;
   whole = whole;
   exact = exact;
   shows = shows;
+  known = known_certain (job_of design order stim) waveform fits.fits_job whole exact shows;
+  only = λ other same other_exact other_shows. one_exact (job_of design order stim) other waveform fits.fits_job (same ∙ sym whole) (let few = same in omega (arith, few)) other_exact exact other_shows shows;
   agrees = agree;
   bits_are = is;
-  stand = subst (AllByRecursion Stands) (sym is) (stand (job_of design order stim) waveform fits.fits_job some whole shows variables nets agree);
+  stand = subst (AllByRecursion Stands) (sym is) (stand (job_of design order stim) waveform fits.fits_job some whole shows r.variables (nets_bound design r.variables bound) agree);
 }
 
 -- one moment of four rounds

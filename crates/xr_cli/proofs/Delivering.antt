@@ -1,6 +1,6 @@
 -- What the delivery refuses, as a row of the run.
 use Rattle.std.proofs.Common.{refl, ◌≡◌, inl, inr, ⊎_elim, ℕ, List, ◌∙◌, ap, arith, IsTrue}
-use Rattle.xr_shelf.specs.Shelf.{View, Files, Later}
+use Rattle.xr_shelf.specs.Shelf.{View, Files, Later, held}
 use Rattle.xr_shelf.specs.Sink.{SinkView}
 use Rattle.xr_shelf.specs.Calls.{HoldsPart}
 use Rattle.xr_cli.specs.Words.{Words, IsRepair}
@@ -10,7 +10,7 @@ use Rattle.xr_cli.specs.Rows.{Start, Part, RefusedRow}
 use Rattle.xr_cli.specs.declared.refusal.Refusal.{Refusal}
 use Rattle.xr_cli.specs.declared.refusal.Refusal.TheVariants.{Usage, Read, Write, NotBuilt, Memory, Disagrees}
 
-module _ (s : Start) (w : Words) (vcd report : List ℕ) (mid new : View) (sink : SinkView) (is : IsRepair s.line w) (later : Later s.shelf mid) (same : mid.files ≡ s.shelf.files) (texts : IsTrue s.shelf_told → Repaired w vcd report) where
+module _ (s : Start) (w : Words) (vcd report : List ℕ) (mid new : View) (sink : SinkView) (is : IsRepair s.line w) (later : Later s.shelf mid) (same : mid.files ≡ s.shelf.files) (texts : IsTrue s.shelf_told → Repaired w (held s.shelf w.netlist) (held s.shelf w.recording) vcd report) where
   part_of : Delivery s.shelf_told s.sink_told w.vcd vcd report mid new s.sink sink → Part s w vcd report new sink
   part_of given = record {
     others = λ other not. given.others other not ∙ ap (λ (files : Files). files other) same;

@@ -1,12 +1,20 @@
 mod Agreeing
-pub mod Choices
+mod Changes
+mod Choices
 mod Deciding
 mod Delivering
-pub mod Exactness
+mod Drivers
+mod Exactness
 mod Lines
-pub mod Orderings
-pub mod Pins
+mod Modules
+mod Netlists
+mod Orderings
+mod Pins
+mod RecordingWords
+mod Recordings
 mod Scopes
-pub mod Seeing
-pub mod Shows
-pub mod Sublists
+mod Seeing
+mod Shows
+mod Stimuli
+mod Sublists
+mod Tokens

@@ -1,5 +1,5 @@
 -- What each phase of a run does. A phase names its own refusals and no other.
-use Rattle.std.specs.Prelude.{◌≡◌, ◌⊎◌, ℕ, ◌≤◌, List, ◌++◌, length, Some, Option, Result, IfOk, IfErr, OnOk, IsTrue, Bool, Vec, codes, string_bytes}
+use Rattle.std.specs.Prelude.{◌≡◌, ◌⊎◌, ℕ, ◌≤◌, List, ◌++◌, length, Some, Result, IfOk, IfErr, OnOk, IsTrue, Bool, Vec, codes, string_bytes}
 use Rattle.std.specs.declared.alloc.Global.{Global}
 use Rattle.xr_shelf.specs.Shelf.{View, Later, Rose, OthersKept, held}
 use Rattle.xr_shelf.specs.Sink.{SinkView}
@@ -10,7 +10,9 @@ use Rattle.xr_cell.specs.declared.value.Value.{Value}
 use Rattle.xr_design.specs.declared.design.Design.{Design}
 use Rattle.xr_cli.specs.Repair.{Decided, Disagrees}
 use Rattle.xr_cli.specs.declared.bit.Bit.{Bit}
-use Rattle.xr_cli.specs.declared.recording.Variable.{Variable}
+use Rattle.xr_cli.specs.declared.recording.Recording.{Recording}
+use Rattle.xr_cli.specs.NetlistText.{IsNetlist}
+use Rattle.xr_cli.specs.RecordingText.{IsRecording}
 use Rattle.xr_cli.specs.declared.refusal.Refusal.{Refusal}
 use Rattle.xr_cli.specs.declared.refusal.Refusal.TheVariants.{Read, Write, NotBuilt, Memory, Disagrees as Differs}
 
@@ -39,24 +41,30 @@ OnlyMemory Memory = Unit {0}
 OnlyMemory _ = ⊥
 
 -- The texts of a repair: both are made of the decided bits of the variables.
-pub record MadeTexts (scope : List (List ℕ)) (timescale : Option (List ℕ)) (design : Design) (variables : List Variable) (vcd report : List ℕ) : Type 0 where
+pub record MadeTexts (scope : List (List ℕ)) (design : Design) (r : Recording) (vcd report : List ℕ) : Type 0 where
   pub bits : List Bit
-  pub decided : Decided design variables bits
-  pub vcd_is : vcd ≡ vcd_text timescale scope bits
+  pub decided : Decided design r bits
+  pub vcd_is : vcd ≡ vcd_text r.timescale scope bits
   pub report_is : report ≡ report_text bits
 
--- The words' files hold a design and the variables of a recording of it, and these are the texts of their repair.
-pub record Repaired (w : Words) (vcd report : List ℕ) : Type 0 where
-  pub design : Design
-  pub timescale : Option (List ℕ)
-  pub variables : List Variable
-  pub texts : MadeTexts (pieces_of w.scope) timescale design variables vcd report
+-- The design and the recording that the texts of the input files stand for.
+pub record AreRead (w : Words) (netlist recording : List ℕ) (design : Design) (r : Recording) : Type 0 where
+  pub netlist_is : IsNetlist netlist w.top design
+  pub recording_is : IsRecording recording (pieces_of w.scope) design r
 
--- The design and the variables that the words' files hold differ at a variable.
-pub record Differing (w : Words) (name : List ℕ) (recorded replayed : Value) : Type 0 where
+-- The texts of the input files stand for a design and a recording of it, and these are the texts of their repair.
+pub record Repaired (w : Words) (netlist recording vcd report : List ℕ) : Type 0 where
   pub design : Design
-  pub variables : List Variable
-  pub disagrees : Disagrees design variables name recorded replayed
+  pub r : Recording
+  pub read : AreRead w netlist recording design r
+  pub texts : MadeTexts (pieces_of w.scope) design r vcd report
+
+-- The texts of the input files stand for a design and a recording of it that differ at a variable.
+pub record Differing (w : Words) (netlist recording name : List ℕ) (recorded replayed : Value) : Type 0 where
+  pub design : Design
+  pub r : Recording
+  pub read : AreRead w netlist recording design r
+  pub disagrees : Disagrees design r name recorded replayed
 
 -- The refusal names a variable with both values, or text or memory is wanting.
 abbrev pub SaysDisagreement : List ℕ → Value → Value → Refusal → Type 0
@@ -66,23 +74,23 @@ SaysDisagreement name recorded replayed Memory = Unit {0}
 SaysDisagreement name recorded replayed _ = ⊥
 
 -- The bits of a recording decided: refused where it disagrees with the replay, at the first variable.
-abbrev pub DecideRefused : Design → List Variable → Refusal → Type 0
-DecideRefused design variables (Differs name recorded replayed) = Disagrees design variables (string_bytes name) recorded replayed
-DecideRefused design variables NotBuilt = Unit {0}
-DecideRefused design variables Memory = Unit {0}
-DecideRefused design variables _ = ⊥
+abbrev pub DecideRefused : Design → Recording → Refusal → Type 0
+DecideRefused design r (Differs name recorded replayed) = Disagrees design r (string_bytes name) recorded replayed
+DecideRefused design r NotBuilt = Unit {0}
+DecideRefused design r Memory = Unit {0}
+DecideRefused design r _ = ⊥
 
 -- The name is that of an input file.
 abbrev pub IsInput : Words → List ℕ → Type 0
 IsInput w name = (name ≡ w.netlist) ⊎ (name ≡ w.recording)
 
 -- All that comes before the first output: reading, comparing and deciding.
-abbrev pub PrepareRefused : Words → View → View → Refusal → Type 0
-PrepareRefused w old new (Read file) = IsInput w (string_bytes file) × Rose (old.reads (string_bytes file)) (new.reads (string_bytes file))
-PrepareRefused w old new (Differs name recorded replayed) = Differing w (string_bytes name) recorded replayed
-PrepareRefused w old new NotBuilt = Unit {0}
-PrepareRefused w old new Memory = Unit {0}
-PrepareRefused w old new _ = ⊥
+abbrev pub PrepareRefused : Bool → Words → View → View → Refusal → Type 0
+PrepareRefused told w old new (Read file) = IsInput w (string_bytes file) × Rose (old.reads (string_bytes file)) (new.reads (string_bytes file))
+PrepareRefused told w old new (Differs name recorded replayed) = IsTrue told → Differing w (held old w.netlist) (held old w.recording) (string_bytes name) recorded replayed
+PrepareRefused told w old new NotBuilt = Unit {0}
+PrepareRefused told w old new Memory = Unit {0}
+PrepareRefused told w old new _ = ⊥
 
 -- An output file written.
 abbrev pub OutputRefused : List ℕ → View → View → Refusal → Type 0

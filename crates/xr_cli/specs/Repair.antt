@@ -7,11 +7,14 @@ use Rattle.xr_design.specs.Job.{Job, job_of, at, places_of}
 use Rattle.xr_design.specs.Replay.{shown_at}
 use Rattle.xr_design.specs.Waveform.{written_at, IsExact, ShowsReplay}
 use Rattle.xr_design.specs.declared.waveform.Written.{Written}
+use Rattle.xr_design.specs.declared.waveform.Mark.TheVariants.{Certain}
 use Rattle.xr_design.specs.declared.design.Design.{Design}
 use Rattle.xr_design.specs.declared.stim.Stim.{Stim}
 use Rattle.xr_cli.specs.Circuit.{FitsCircuit}
 use Rattle.xr_cli.specs.declared.bit.Bit.{Bit}
+use Rattle.xr_cli.specs.declared.recording.Recording.{Recording}
 use Rattle.xr_cli.specs.declared.recording.Variable.{Variable}
+use Rattle.xr_cli.specs.RecordingText.{IsStimOf}
 
 -- The place of a net at the last round of the last moment.
 abbrev pub last_place : Job → ℕ → ℕ
@@ -38,18 +41,22 @@ bit_of_variable j waveform v = record {
 abbrev pub Stands : Bit → Type 0
 Stands bit = IsKnown bit.recorded → bit.shown ≡ bit.recorded
 
--- The bits of the variables are those of a waveform that is exact at every place of the design and shows what the replay
--- knows; the recording agrees with the replay, and what it knows stands.
-pub record Decided (design : Design) (variables : List Variable) (bits : List Bit) : Type 0 where
+-- The bits of the variables are those of a waveform that is exact at every place of the design under the recording's
+-- stimulus, and shows what the replay knows. What it shows known is certain, and there is no other such waveform. The
+-- recording agrees with the replay, and what it knows stands.
+pub record Decided (design : Design) (r : Recording) (bits : List Bit) : Type 0 where
   pub order : List ℕ
   pub stim : Stim
+  pub stim_is : IsStimOf design r stim
   pub fits : FitsCircuit design order stim
   pub waveform : List Written
   pub whole : length waveform ≡ places_of (job_of design order stim)
   pub exact : IsExact (job_of design order stim) waveform
   pub shows : ShowsReplay (job_of design order stim) waveform
-  pub agrees : AgreeBelow (job_of design order stim) variables (length variables)
-  pub bits_are : bits ≡ map (bit_of_variable (job_of design order stim) waveform) variables
+  pub known : (place : ℕ) → place < length waveform → IsKnown (written_at waveform place).value → (written_at waveform place).mark ≡ Certain
+  pub only : (other : List Written) → length other ≡ places_of (job_of design order stim) → IsExact (job_of design order stim) other → ShowsReplay (job_of design order stim) other → other ≡ waveform
+  pub agrees : AgreeBelow (job_of design order stim) r.variables (length r.variables)
+  pub bits_are : bits ≡ map (bit_of_variable (job_of design order stim) waveform) r.variables
   pub stand : AllByRecursion Stands bits
 
 -- A variable is the first at which the recording and the replay differ.
@@ -62,9 +69,11 @@ pub record DiffersAt (j : Job) (variables : List Variable) (first : ℕ) (name :
   pub replayed_is : replayed ≡ shown_at j (last_place j variable.net)
   pub differ : recorded ≢ replayed
 
-pub record Disagrees (design : Design) (variables : List Variable) (name : List ℕ) (recorded replayed : Value) : Type 0 where
+-- The recording and the replay of the design under its stimulus differ.
+pub record Disagrees (design : Design) (r : Recording) (name : List ℕ) (recorded replayed : Value) : Type 0 where
   pub order : List ℕ
   pub stim : Stim
+  pub stim_is : IsStimOf design r stim
   pub fits : FitsCircuit design order stim
   pub first : ℕ
-  pub at_first : DiffersAt (job_of design order stim) variables first name recorded replayed
+  pub at_first : DiffersAt (job_of design order stim) r.variables first name recorded replayed

@@ -1,6 +1,6 @@
 -- What a run comes to, a row for each answer. Each row says that the phases before passed, and its own cause.
 use Rattle.std.specs.Prelude.{◌≡◌, ◌⊎◌, ℕ, List, ◌++◌, Some, Result, Ok, Err, IsTrue, Bool}
-use Rattle.xr_shelf.specs.Shelf.{View, Rose, OthersKept}
+use Rattle.xr_shelf.specs.Shelf.{View, Rose, OthersKept, held}
 use Rattle.xr_shelf.specs.Sink.{SinkView}
 use Rattle.xr_shelf.specs.Calls.{HoldsPart, Gained}
 use Rattle.xr_cell.specs.declared.value.Value.{Value}
@@ -52,7 +52,7 @@ pub record WriteRow (s : Start) (shelf : View) (sink : SinkView) (text : List �
   pub is : IsRepair s.line words
   pub vcd : List ℕ
   pub report : List ℕ
-  pub texts : IsTrue s.shelf_told → Repaired words vcd report
+  pub texts : IsTrue s.shelf_told → Repaired words (held s.shelf words.netlist) (held s.shelf words.recording) vcd report
   pub cause : ((text ≡ write_text words.vcd) × Rose (s.shelf.writes words.vcd) (shelf.writes words.vcd)) ⊎ ((text ≡ write_text report_name) × Rose s.sink.faults sink.faults)
   pub part : Part s words vcd report shelf sink
 
@@ -63,7 +63,7 @@ pub record DisagreesRow (s : Start) (shelf : View) (sink : SinkView) (text : Lis
   pub name : List ℕ
   pub recorded : Value
   pub replayed : Value
-  pub differing : Differing words name recorded replayed
+  pub differing : IsTrue s.shelf_told → Differing words (held s.shelf words.netlist) (held s.shelf words.recording) name recorded replayed
   pub untouched : Untouched s shelf sink
   pub text_is : text ≡ disagrees_text name recorded replayed
 
@@ -79,7 +79,7 @@ pub record MemoryRow (s : Start) (shelf : View) (sink : SinkView) (text : List �
   pub is : IsRepair s.line words
   pub vcd : List ℕ
   pub report : List ℕ
-  pub state : Untouched s shelf sink ⊎ ((IsTrue s.shelf_told → Repaired words vcd report) × Part s words vcd report shelf sink)
+  pub state : Untouched s shelf sink ⊎ ((IsTrue s.shelf_told → Repaired words (held s.shelf words.netlist) (held s.shelf words.recording) vcd report) × Part s words vcd report shelf sink)
   pub text_is : text ≡ memory_text
 
 -- The output holds the text of the repaired recording, no other file changed, and the sink gained the report.
@@ -88,7 +88,7 @@ pub record DoneRow (s : Start) (shelf : View) (sink : SinkView) : Type 0 where
   pub is : IsRepair s.line words
   pub vcd : List ℕ
   pub report : List ℕ
-  pub texts : IsTrue s.shelf_told → Repaired words vcd report
+  pub texts : IsTrue s.shelf_told → Repaired words (held s.shelf words.netlist) (held s.shelf words.recording) vcd report
   pub others : OthersKept words.vcd s.shelf.files shelf.files
   pub written : IsTrue s.shelf_told → shelf.files words.vcd ≡ Some vcd
   pub printed : IsTrue s.sink_told → sink.bytes ≡ s.sink.bytes ++ report

@@ -1,7 +1,9 @@
 //! The phases of `repair` in their order, up to the refusal of one of them.
 
 ghost use Rattle.std.specs.Prelude.{◌≡◌, ◌++◌, IfErr, IfOk, OnOk, IsTrue, Some, map, string_bytes};
-ghost use Rattle.xr_shelf.specs.Shelf.{Later};
+ghost use Rattle.xr_shelf.specs.Shelf.{Later, held};
+ghost use Rattle.std.specs.List.{AllByRecursion};
+ghost use Rattle.xr_cli.specs.RecordingText.{IsBound, NetsOnce};
 ghost use Rattle.xr_cli.specs.Words.{Words as WordsOf};
 ghost use Rattle.xr_cli.specs.Phases.{Repaired, MadeTexts, DecideRefused, PrepareRefused, Delivery, DeliveryRefused};
 ghost use Rattle.xr_cli.specs.Rows.{Row, start_of};
@@ -54,8 +56,8 @@ pub fn answer<S: Shelf, O: Sink>(
 fn prepare<S: Shelf>(alloc: Global, shelf: &mut S, words: Words<'_>) -> Result<Texts, Refusal>
     ensures later { Later (S.view shelf.old) (S.view shelf.new) }
     ensures files { (S.view shelf.new).files ≡ (S.view shelf.old).files }
-    ensures made { IfOk result (λ t. Repaired record { recording = words.entry.recording.now; scope = words.entry.scope.now; top = words.entry.top.now; vcd = words.entry.vcd.now; netlist = words.entry.netlist.now } t.vcd.items t.report.items) }
-    ensures refused { IfErr result (PrepareRefused record { recording = words.entry.recording.now; scope = words.entry.scope.now; top = words.entry.top.now; vcd = words.entry.vcd.now; netlist = words.entry.netlist.now } (S.view shelf.old) (S.view shelf.new)) }
+    ensures made { IfOk result (λ t. IsTrue S.told → Repaired record { recording = words.entry.recording.now; scope = words.entry.scope.now; top = words.entry.top.now; vcd = words.entry.vcd.now; netlist = words.entry.netlist.now } (held (S.view shelf.old) words.entry.netlist.now) (held (S.view shelf.old) words.entry.recording.now) t.vcd.items t.report.items) }
+    ensures refused { IfErr result (PrepareRefused S.told record { recording = words.entry.recording.now; scope = words.entry.scope.now; top = words.entry.top.now; vcd = words.entry.vcd.now; netlist = words.entry.netlist.now } (S.view shelf.old) (S.view shelf.new)) }
 {
     let scope = names_of(alloc, words.scope)?;
     let scope = scope.as_slice();
@@ -74,10 +76,12 @@ fn write_texts(
     netlist: Netlist,
     recording: &Recording,
 ) -> Result<Texts, Refusal>
-    ensures made { IfOk result (λ t. MadeTexts scope.now recording.now.timescale netlist.design recording.now.variables.items t.vcd.items t.report.items) }
-    ensures refused { IfErr result (DecideRefused netlist.design recording.now.variables.items) }
+    requires bound { AllByRecursion (IsBound netlist.design) recording.now.variables }
+    requires once { NetsOnce recording.now.variables }
+    ensures made { IfOk result (λ t. MadeTexts scope.now netlist.design recording.now t.vcd.items t.report.items) }
+    ensures refused { IfErr result (DecideRefused netlist.design recording.now) }
 {
-    let bits = decide(alloc, netlist, recording.variables.as_slice())?;
+    let bits = decide(alloc, netlist, recording)?;
     let bits = bits.as_slice();
     let vcd = write_vcd(alloc, &recording.timescale, scope, bits)?;
     let report = write_report(alloc, bits)?;

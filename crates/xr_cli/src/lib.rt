@@ -14,6 +14,7 @@ mod phases;
 mod program;
 mod reads;
 mod recording;
+mod recording_words;
 mod refusal;
 mod repair;
 mod replay;

@@ -5,13 +5,11 @@ ghost use Rattle.std.specs.List.{list_all};
 ghost use Rattle.xr_design.specs.Fits.{FitsTable};
 ghost use Rattle.xr_cli.specs.Ordering.{FitsOrder, ArePositions, ComesNext, IsReadyDriver, is_listed, is_listed_pin};
 
+use crate::netlist::MOST_NETS;
 use crate::unread::Unread;
 use std::alloc::Global;
 use xr_cell::Gate;
 use xr_design::{Design, Driver, Net, Order, Pin, Table};
-
-/// The most nets of a design.
-const MOST_NETS: usize = 1 << 20;
 
 /// The order that lists these nets, where it lists each net of the design once, behind its arguments, and each cell has
 /// the pins of its table. Any other list isn't built. Takes at most eight bytes for each net at a time, and keeps four.
@@ -120,71 +118,4 @@ fn all_listed(positions: &[Option<u32>]) -> bool
     ensures { result ≡ list_all is_some positions.now }
 {
     positions.iter().all(|position| position.is_some())
-}
-
-#[cfg(test)]
-mod tests {
-    use super::*;
-    use std::alloc::AllocError;
-    use std::test::Fail;
-    use xr_base::Items;
-    use xr_design::Name;
-
-    fn net(alloc: Global, driver: Driver) -> Net {
-        let path = Name {
-            parts: Items::from_vec(Vec::new(alloc)),
-            bit: None,
-        };
-        Net { path, driver }
-    }
-
-    /// The gate of net 0 has the net 1 at so many pins, the net 1 is a copy of the net 2, and the net 2 is an input.
-    fn chain(alloc: Global, gate: Gate, count: usize) -> Result<Design, AllocError> {
-        let pins = Items::from_vec(vec![in alloc; Pin::Net(1); count]?);
-        let mut nets = Vec::new(alloc);
-        nets.push(net(alloc, Driver::Cell(Table::Gate(gate), pins)))?;
-        nets.push(net(alloc, Driver::Copy(2)))?;
-        nets.push(net(alloc, Driver::Input))?;
-        Ok(Design {
-            nets: Items::from_vec(nets),
-        })
-    }
-
-    #[test]
-    fn a_net_stands_once_behind_its_arguments(rt: HostRuntime) -> Result<(), Fail> {
-        let design = chain(rt.alloc(), Gate::And, 2)?;
-        let rows = [
-            ([2, 1, 0].as_slice(), true, "each behind its arguments"),
-            ([1, 2, 0].as_slice(), false, "a copy before its net"),
-            ([2, 0, 1].as_slice(), false, "a cell before its pins"),
-            ([2, 2, 1].as_slice(), false, "a net twice"),
-            ([2, 1, 3].as_slice(), false, "a net out of range"),
-            ([2, 1].as_slice(), false, "a net too few"),
-            ([2, 1, 0, 0].as_slice(), false, "a net too many"),
-        ];
-        for (list, fits, row) in rows {
-            let order = order_of(rt.alloc(), &design, list.to_vec(rt.alloc())?);
-            assert_eq!(rt; order.is_ok(), fits, "{row}");
-        }
-        Ok(())
-    }
-
-    #[test]
-    fn a_cell_has_the_pins_of_its_table(rt: HostRuntime) -> Result<(), Fail> {
-        let rows = [
-            (Gate::Buf, 1, true),
-            (Gate::Buf, 2, false),
-            (Gate::Not, 0, false),
-            (Gate::And, 0, false),
-            (Gate::Xor, 1, true),
-            (Gate::Nor, 10, true),
-            (Gate::Nor, 11, false),
-        ];
-        for (gate, pins, fits) in rows {
-            let design = chain(rt.alloc(), gate, pins)?;
-            let order = order_of(rt.alloc(), &design, [2, 1, 0].to_vec(rt.alloc())?);
-            assert_eq!(rt; order.is_ok(), fits, "{gate:?} with {pins} pins");
-        }
-        Ok(())
-    }
 }

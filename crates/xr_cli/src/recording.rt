@@ -1,17 +1,23 @@
 //! A recording of the first form: one moment at time 0, its variables of one bit in the top's scope (IEEE 1364-2005, clause 18).
 
-ghost use Rattle.std.specs.Prelude.{◌<◌, length, IfSome};
+ghost use Rattle.std.specs.Prelude.{◌≡◌, ◌≢◌, ◌↔◌, ◌<◌, ◌∷◌, [], ◌++◌, ℕ, List, IsTrue, nat_eq, length, map, slice_get, slice_index_or, Contains, IfSome, IfOk, OnOk, IsPermutation, Some};
+ghost use Rattle.std.specs.List.{AllByRecursion, IsDistinct, flat_map};
+ghost use Rattle.xr_cell.specs.Value.{letter_of};
+ghost use Rattle.xr_cli.specs.RecordingParts.{IsNamed, bytes_of, declared_words, declared_of, set_changes};
+ghost use Rattle.xr_cli.specs.RecordingText.{IsRecording, own_name as own_name_of, change_word};
 
-use crate::token::is_blank;
+use crate::recording_words::{changes_of, enter, leave, read_timescale, variable_words, words_of};
 use crate::unread::Unread;
-use indexmap::{IndexMap, IndexSet};
+use indexmap::IndexSet;
 use std::alloc::{AllocError, Global};
+use xr_base::Items;
 use xr_cell::Value;
-use xr_design::{Bytes, Design, Driver, Name};
+use xr_design::{Bytes, Design, Driver, Name, Net};
 
 /// A variable that is bound to a net, and its value at time 0.
 #[derive(Debug, Drop)]
 pub struct Variable {
+    pub code: Bytes,
     pub name: Bytes,
     pub net: u32,
     pub value: Value,
@@ -21,12 +27,13 @@ pub struct Variable {
 #[derive(Debug, Drop)]
 pub struct Recording {
     pub timescale: Option<Bytes>,
-    pub variables: Vec<Variable>,
+    pub variables: Items<Variable>,
 }
 
 /// A variable as it is declared.
 #[derive(Debug, Drop)]
 struct Declared {
+    code: Bytes,
     name: Bytes,
     net: u32,
 }
@@ -37,256 +44,232 @@ pub fn read_recording(
     text: &[u8],
     scope: &[Bytes],
     design: &Design,
-) -> Result<Recording, Unread> {
+) -> Result<Recording, Unread>
+    ensures { IfOk result (λ recording. IsRecording text.now scope.now design.now recording) }
+{
     let words = words_of(alloc, text)?;
     let (timescale, words) = read_timescale(alloc, words.as_slice())?;
-    let words = enter(words, scope)?;
-    let numbers = net_numbers(alloc, design)?;
-    let mut codes = IndexSet::new(alloc);
-    let (declared, words) = read_variables(alloc, words, &numbers, &mut codes)?;
+    let words = enter(words, scope).ok_or(Unread::NotBuilt)?;
+    let (declared, words) = read_variables(alloc, words, design)?;
     check_inputs(alloc, design, &declared)?;
-    let words = leave(words, scope)?;
-    let changes = changes_of(words)?;
-    let values = read_changes(alloc, changes, &codes)?;
-    let variables = with_values(alloc, declared, values)?;
+    let words = leave(words, scope).ok_or(Unread::NotBuilt)?;
+    let changes = changes_of(words).ok_or(Unread::NotBuilt)?;
+    let variables = read_values(alloc, changes, declared)?;
     Ok(Recording {
         timescale,
-        variables,
+        variables: Items::from_vec(variables),
     })
 }
 
-/// The words between blanks.
-fn words_of(alloc: Global, text: &[u8]) -> Result<Vec<Bytes>, AllocError> {
-    let mut words = Vec::new(alloc);
-    let mut text = text;
-    'words: while let Some((word, rest)) = next_word(text) {
-        words.push(Bytes::from_vec(word.to_vec(alloc)?))?;
-        text = rest;
-    }
-    Ok(words)
-}
-
-/// The first word, and what stands behind it.
-fn next_word(text: &[u8]) -> Option<(&[u8], &[u8])>
-    ensures { IfSome result (λ r. length r.1.now < length text.now) }
+/// `{ "$var" "wire" "1" code name "$end" }`, with names of nets
+fn read_variables<'t>(
+    alloc: Global,
+    words: &'t [Bytes],
+    design: &Design,
+) -> Result<(Vec<Declared>, &'t [Bytes]), Unread>
+    ensures words { IfOk result (λ r. words.now ≡ flat_map declared_words r.0.items ++ r.1.now) }
+    ensures named { IfOk result (λ r. AllByRecursion (IsNamed (map (λ net. own_name_of net.path) design.now.nets)) r.0.items) }
 {
-    let start = text.iter().position(|byte| !is_blank(*byte))?;
-    let (first, rest) = text[start..].split_first()?;
-    let more = rest
-        .iter()
-        .position(|byte| is_blank(*byte))
-        .unwrap_or(rest.len());
-    let _ = first;
-    Some(text[start..].split_at(1 + more))
-}
-
-fn is(word: &Bytes, text: &[u8]) -> bool {
-    word.as_slice() == text
-}
-
-/// `[ "$timescale" scale "$end" ]`
-fn read_timescale(alloc: Global, words: &[Bytes]) -> Result<(Option<Bytes>, &[Bytes]), Unread> {
-    match words {
-        [keyword, scale, end, rest @ ..]
-            if is(keyword, b"$timescale") && is_scale(scale.as_slice()) && is(end, b"$end") => {
-            let scale = Bytes::from_vec(scale.as_slice().to_vec(alloc)?);
-            Ok((Some(scale), rest))
-        }
-        _ => Ok((None, words)),
+    let names = net_names(alloc, design)?;
+    let mut declared = Vec::new(alloc);
+    let mut left = words;
+    'variables: while let Some((code, name, rest)) = variable_words(left) {
+        declared.push(declare(alloc, code, name, &names)?)?;
+        left = rest;
     }
+    Ok((declared, left))
 }
 
-/// `1`, `10` or `100`, and a unit of seconds.
-fn is_scale(scale: &[u8]) -> bool {
-    let digits = scale
-        .iter()
-        .position(|byte| !byte.is_ascii_digit())
-        .unwrap_or(scale.len());
-    is_one_of(&scale[..digits], &[b"1", b"10", b"100"])
-        && is_one_of(&scale[digits..], &[b"s", b"ms", b"us", b"ns", b"ps", b"fs"])
-}
-
-fn is_one_of(text: &[u8], texts: &[&[u8]]) -> bool {
-    texts.iter().any(|other| text == *other)
-}
-
-/// `{ "$scope" "module" name "$end" }`, with the names of the scope
-fn enter<'t>(words: &'t [Bytes], scope: &[Bytes]) -> Result<&'t [Bytes], Unread> {
-    let mut words = words;
-    'names: for name in scope {
-        words = match words {
-            [keyword, kind, first, end, rest @ ..]
-                if is(keyword, b"$scope")
-                    && is(kind, b"module")
-                    && is(first, name.as_slice())
-                    && is(end, b"$end") => { rest }
-            _ => return Err(Unread::NotBuilt),
-        };
-    }
-    Ok(words)
-}
-
-/// `{ "$upscope" "$end" }`, one for each name of the scope
-fn leave<'t>(words: &'t [Bytes], scope: &[Bytes]) -> Result<&'t [Bytes], Unread> {
-    let mut words = words;
-    'names: for _ in scope {
-        words = match words {
-            [keyword, end, rest @ ..] if is(keyword, b"$upscope") && is(end, b"$end") => rest,
-            _ => return Err(Unread::NotBuilt),
-        };
-    }
-    Ok(words)
-}
-
-/// The numbers of the nets by name.
-fn net_numbers(alloc: Global, design: &Design) -> Result<IndexMap<Vec<u8>, u32>, Unread> {
-    let mut numbers = IndexMap::new(alloc);
+/// The own names of the nets, each of which is another.
+fn net_names(alloc: Global, design: &Design) -> Result<IndexSet<Vec<u8>>, Unread>
+    ensures { IfOk result (λ names. map bytes_of names.keys ≡ map (λ net. own_name_of net.path) design.now.nets) }
+{
+    let mut names: IndexSet<Vec<u8>> = IndexSet::new(alloc);
     'nets: for net in design.nets.as_slice() {
-        let Ok(number) = u32::try_from(numbers.len()) else {
-            return Err(Unread::NotBuilt);
-        };
-        if numbers
-            .insert(own_name(&net.path).to_vec(alloc)?, number)?
-            .is_some()
-        {
+        if !names.insert(own_name(&net.path).to_vec(alloc)?)? {
             return Err(Unread::NotBuilt);
         }
     }
-    Ok(numbers)
+    Ok(names)
 }
 
 /// The net's own name, without instance names and index.
-fn own_name(name: &Name) -> &[u8] {
+fn own_name(name: &Name) -> &[u8]
+    ensures { result.now ≡ own_name_of name.now }
+{
     match name.parts.as_slice().last() {
         Some(part) => part.text.as_slice(),
         None => &[],
     }
 }
 
-/// `{ "$var" "wire" "1" code name "$end" }`, with distinct codes and names of nets
-fn read_variables<'t>(
-    alloc: Global,
-    words: &'t [Bytes],
-    numbers: &IndexMap<Vec<u8>, u32>,
-    codes: &mut IndexSet<Vec<u8>>,
-) -> Result<(Vec<Declared>, &'t [Bytes]), Unread> {
-    let mut declared = Vec::new(alloc);
-    let mut nets: IndexSet<u32> = IndexSet::new(alloc);
-    let mut words = words;
-    'variables: while let Some((code, name, rest)) = variable_words(words) {
-        let variable = declare(alloc, name, numbers)?;
-        if !nets.insert(variable.net)? || !codes.insert(code.as_slice().to_vec(alloc)?)? {
-            return Err(Unread::NotBuilt);
-        }
-        declared.push(variable)?;
-        words = rest;
-    }
-    Ok((declared, words))
-}
-
-/// The code and the name of a variable, and what stands behind it.
-fn variable_words(words: &[Bytes]) -> Option<(&Bytes, &Bytes, &[Bytes])>
-    ensures { IfSome result (λ r. length r.2.now < length words.now) }
-{
-    match words {
-        [keyword, kind, width, code, name, end, rest @ ..]
-            if is(keyword, b"$var") && is(kind, b"wire") && is(width, b"1") && is(end, b"$end") => {
-            Some((code, name, rest))
-        }
-        _ => None,
-    }
-}
-
 fn declare(
     alloc: Global,
+    code: &Bytes,
     name: &Bytes,
-    numbers: &IndexMap<Vec<u8>, u32>,
-) -> Result<Declared, Unread> {
-    let Some(net) = numbers.get(name.as_slice()) else {
+    names: &IndexSet<Vec<u8>>,
+) -> Result<Declared, Unread>
+    ensures words { IfOk result (λ d. (d.code ≡ code.now) × (d.name ≡ name.now)) }
+    ensures named { IfOk result (IsNamed (map bytes_of names.now.keys)) }
+{
+    let Some(net) = names.get_index_of(name.as_slice()) else {
         return Err(Unread::NotBuilt);
     };
+    let Ok(net) = u32::try_from(net) else {
+        return Err(Unread::NotBuilt);
+    };
+    let code = Bytes::from_vec(code.as_slice().to_vec(alloc)?);
     let name = Bytes::from_vec(name.as_slice().to_vec(alloc)?);
-    Ok(Declared { name, net: *net })
+    Ok(Declared { code, name, net })
 }
 
-/// Refuses variables among which an input isn't.
-fn check_inputs(alloc: Global, design: &Design, declared: &[Declared]) -> Result<(), Unread> {
-    let mut bound: IndexSet<u32> = IndexSet::new(alloc);
+/// Refuses variables of which two have one net, or among which an input isn't.
+fn check_inputs(alloc: Global, design: &Design, declared: &[Declared]) -> Result<(), Unread>
+    ensures once { OnOk result (IsDistinct nat_eq (map (λ d. d.net) declared.now)) }
+    ensures inputs { OnOk result ((net : ℕ) → net < length design.now.nets → slice_index_or (map (λ n. n.driver) design.now.nets) net Driver.Undriven ≡ Driver.Input → Contains (map (λ d. d.net) declared.now) net) }
+{
+    let bound = nets_of(alloc, declared)?;
+    'nets: for (number, net) in design.nets.as_slice().iter().enumerate() {
+        if is_input(net) && !contains_number(&bound, number) {
+            return Err(Unread::NotBuilt);
+        }
+    }
+    Ok(())
+}
+
+/// The nets of the variables, each of which is another.
+fn nets_of(alloc: Global, declared: &[Declared]) -> Result<IndexSet<u32>, Unread>
+    ensures nets { IfOk result (λ nets. nets.keys ≡ map (λ d. d.net) declared.now) }
+    ensures once { IfOk result (λ nets. IsDistinct nat_eq nets.keys) }
+{
+    let mut nets: IndexSet<u32> = IndexSet::new(alloc);
     'variables: for variable in declared {
-        bound.insert(variable.net)?;
+        if !nets.insert(variable.net)? {
+            return Err(Unread::NotBuilt);
+        }
     }
-    if design.nets.as_slice().iter().enumerate().all(|(number, net)| {
-        !matches!(net.driver, Driver::Input) || contains_number(&bound, number)
-    }) {
-        Ok(())
-    } else {
-        Err(Unread::NotBuilt)
-    }
+    Ok(nets)
 }
 
-fn contains_number(bound: &IndexSet<u32>, number: usize) -> bool {
+/// Whether the stimulus drives a net.
+pub fn is_input(net: &Net) -> bool
+    ensures { IsTrue result ↔ (net.now.driver ≡ Driver.Input) }
+{
+    matches!(net.driver, Driver::Input)
+}
+
+fn contains_number(numbers: &IndexSet<u32>, number: usize) -> bool
+    ensures { IsTrue result → Contains numbers.now.keys number }
+{
     match u32::try_from(number) {
-        Ok(number) => bound.contains(&number),
+        Ok(number) => numbers.contains(&number),
         Err(_) => false,
     }
 }
 
-/// `"$enddefinitions" "$end" "#0" "$dumpvars" changes "$end"`
-fn changes_of(words: &[Bytes]) -> Result<&[Bytes], Unread> {
-    match words {
-        [keyword, end, time, dump, changes @ .., last]
-            if is(keyword, b"$enddefinitions")
-                && is(end, b"$end")
-                && is(time, b"#0")
-                && is(dump, b"$dumpvars")
-                && is(last, b"$end") => { Ok(changes) }
-        _ => Err(Unread::NotBuilt),
-    }
+/// The variables with their values, each of which is set exactly once.
+fn read_values(
+    alloc: Global,
+    changes: &[Bytes],
+    declared: Vec<Declared>,
+) -> Result<Vec<Variable>, Unread>
+    ensures same { IfOk result (λ variables. map declared_of variables.items ≡ declared.items) }
+    ensures once { IfOk result (λ variables. (i k : ℕ) → i < length declared.items → k < length declared.items → slice_index_or (map (λ d. d.code) declared.items) i [] ≡ slice_index_or (map (λ d. d.code) declared.items) k [] → i ≡ k) }
+    ensures each { IfOk result (λ variables. IsPermutation changes.now (map change_word variables.items)) }
+    ensures known { IfOk result (λ variables. AllByRecursion (λ v. v.value ≢ Value.Z) variables.items) }
+{
+    let codes = codes_of(alloc, &declared)?;
+    let values = read_changes(alloc, changes, &codes)?;
+    with_values(alloc, declared, &values)
 }
 
-/// The value of each variable, which is set exactly once.
+/// The codes of the variables, each of which is another.
+fn codes_of(alloc: Global, declared: &[Declared]) -> Result<IndexSet<Vec<u8>>, Unread>
+    ensures codes { IfOk result (λ codes. map bytes_of codes.keys ≡ map (λ d. d.code) declared.now) }
+    ensures once { IfOk result (λ codes. (i k : ℕ) → i < length declared.now → k < length declared.now → slice_index_or (map (λ d. d.code) declared.now) i [] ≡ slice_index_or (map (λ d. d.code) declared.now) k [] → i ≡ k) }
+{
+    let mut codes: IndexSet<Vec<u8>> = IndexSet::new(alloc);
+    'variables: for variable in declared {
+        if !codes.insert(variable.code.as_slice().to_vec(alloc)?)? {
+            return Err(Unread::NotBuilt);
+        }
+    }
+    Ok(codes)
+}
+
+/// The value of each variable that a change sets, none twice.
 fn read_changes(
     alloc: Global,
     changes: &[Bytes],
     codes: &IndexSet<Vec<u8>>,
-) -> Result<Vec<Option<Value>>, Unread> {
+) -> Result<Vec<Option<Value>>, Unread>
+    ensures as_many { IfOk result (λ values. length values.items ≡ length codes.now.keys) }
+    ensures each { IfOk result (λ values. IsPermutation changes.now (set_changes (map bytes_of codes.now.keys) values.items)) }
+    ensures known { IfOk result (λ values. AllByRecursion (λ v. v ≢ Some Value.Z) values.items) }
+{
     let mut values: Vec<Option<Value>> = vec![in alloc; None; codes.len()]?;
     'changes: for change in changes {
-        let (value, code) = read_change(change.as_slice())?;
+        let (value, code) = read_change(change.as_slice()).ok_or(Unread::NotBuilt)?;
         let Some(variable) = codes.get_index_of(code) else {
             return Err(Unread::NotBuilt);
         };
-        match values.get_mut(variable) {
-            Some(slot) if slot.is_none() => *slot = Some(value),
-            _ => return Err(Unread::NotBuilt),
+        if values[variable].is_some() {
+            return Err(Unread::NotBuilt);
         }
+        values[variable] = Some(value);
     }
     Ok(values)
 }
 
 /// `value code`, with no blank between
-fn read_change(change: &[u8]) -> Result<(Value, &[u8]), Unread> {
-    match change {
-        [b'0', code @ ..] => Ok((Value::Zero, code)),
-        [b'1', code @ ..] => Ok((Value::One, code)),
-        [b'x', code @ ..] => Ok((Value::X, code)),
-        _ => Err(Unread::NotBuilt),
-    }
+fn read_change(change: &[u8]) -> Option<(Value, &[u8])>
+    ensures word { IfSome result (λ r. change.now ≡ letter_of r.0 ∷ r.1.now) }
+    ensures known { IfSome result (λ r. r.0 ≢ Value.Z) }
+{
+    let (letter, code) = change.split_first()?;
+    let value = match letter {
+        b'0' => Value::Zero,
+        b'1' => Value::One,
+        b'x' => Value::X,
+        _ => return None,
+    };
+    Some((value, code))
 }
 
 /// The variables with their values, each of which has one.
 fn with_values(
     alloc: Global,
     declared: Vec<Declared>,
-    values: Vec<Option<Value>>,
-) -> Result<Vec<Variable>, Unread> {
+    values: &[Option<Value>],
+) -> Result<Vec<Variable>, Unread>
+    requires as_many { length values.now ≡ length declared.items }
+    requires known { AllByRecursion (λ v. v ≢ Some Value.Z) values.now }
+    ensures same { IfOk result (λ variables. map declared_of variables.items ≡ declared.items) }
+    ensures each { IfOk result (λ variables. map change_word variables.items ≡ set_changes (map (λ d. d.code) declared.items) values.now) }
+    ensures known { IfOk result (λ variables. AllByRecursion (λ v. v.value ≢ Value.Z) variables.items) }
+{
     let mut variables = Vec::new(alloc);
-    'variables: for (variable, value) in declared.into_iter().zip(values) {
-        let Some(value) = value else {
+    'variables: for variable in declared {
+        let Some(value) = value_at(values, variables.len()) else {
             return Err(Unread::NotBuilt);
         };
-        let Declared { name, net } = variable;
-        variables.push(Variable { name, net, value })?;
+        let Declared { code, name, net } = variable;
+        variables.push(Variable {
+            code,
+            name,
+            net,
+            value,
+        })?;
     }
     Ok(variables)
+}
+
+fn value_at(values: &[Option<Value>], index: usize) -> Option<Value>
+    ensures { IfSome result (λ value. slice_get values.now index ≡ Some (Some value)) }
+{
+    if index < values.len() {
+        values[index]
+    } else {
+        None
+    }
 }

@@ -1,9 +1,10 @@
 //! The decision of every bit of a recording.
 
-ghost use Rattle.std.specs.Prelude.{◌≡◌, ◌*◌, ◌<◌, ◌↔◌, IfOk, IfErr, IsErr, IsTrue, length, map};
+ghost use Rattle.std.specs.Prelude.{◌≡◌, ◌*◌, ◌<◌, IfOk, IfErr, IsErr, length, map};
 ghost use Rattle.std.specs.List.{AllByRecursion};
 ghost use Rattle.xr_design.specs.Job.{places_of};
 ghost use Rattle.xr_cli.specs.Circuit.{job_in, CircuitFits};
+ghost use Rattle.xr_cli.specs.RecordingText.{IsBound, IsStimOf, NetsOnce};
 ghost use Rattle.xr_cli.specs.Repair.{Decided, Disagrees, bit_of_variable};
 ghost use Rattle.xr_cli.specs.Phases.{DecideRefused, SaysDisagreement};
 
@@ -13,45 +14,47 @@ use crate::compare::{first_difference, last_shown, place_at_end};
 use crate::exact::{MOST_CHOICES, waveform};
 use crate::netlist::Netlist;
 use crate::ordering::order_of;
-use crate::recording::Variable;
+use crate::recording::{Recording, Variable};
 use crate::refusal::Refusal;
 use crate::replay::replay_values;
 use crate::stimulus::stimulus_of;
 use crate::worlds::count_choices;
 use std::alloc::{AllocError, Global};
 use xr_cell::Value;
-use xr_design::{Bytes, Design, Written};
+use xr_design::{Bytes, Written};
 
 /// The bits of the bound variables, where the recording agrees with the replay.
-pub fn decide(alloc: Global, netlist: Netlist, variables: &[Variable]) -> Result<Vec<Bit>, Refusal>
-    ensures decided { IfOk result (λ bits. Decided netlist.design variables.now bits.items) }
-    ensures refused { IfErr result (DecideRefused netlist.design variables.now) }
+pub fn decide(alloc: Global, netlist: Netlist, recording: &Recording) -> Result<Vec<Bit>, Refusal>
+    requires bound { AllByRecursion (IsBound netlist.design) recording.now.variables }
+    requires once { NetsOnce recording.now.variables }
+    ensures decided { IfOk result (λ bits. Decided netlist.design recording.now bits.items) }
+    ensures refused { IfErr result (DecideRefused netlist.design recording.now) }
 {
     let Netlist { design, order } = netlist;
     let order = order_of(alloc, &design, order)?;
-    let stim = stimulus_of(alloc, &design, variables)?;
+    let stim = stimulus_of(alloc, &design, recording)?;
     let circuit = Circuit {
         design: &design,
         order: &order,
         stim: &stim,
     };
-    decide_circuit(alloc, &circuit, variables)
+    decide_circuit(alloc, &circuit, recording)
 }
 
 /// The bits of the bound variables in a circuit.
 fn decide_circuit(
     alloc: Global,
     circuit: &Circuit<'_>,
-    variables: &[Variable],
+    recording: &Recording,
 ) -> Result<Vec<Bit>, Refusal>
     requires fits { CircuitFits circuit.now }
     requires some { 0 < (job_in circuit.now).moments * (job_in circuit.now).rounds }
-    ensures decided { IfOk result (λ bits. Decided circuit.now.design.now variables.now bits.items) }
-    ensures refused { IfErr result (DecideRefused circuit.now.design.now variables.now) }
+    requires bound { AllByRecursion (IsBound circuit.now.design.now) recording.now.variables }
+    requires stim { IsStimOf circuit.now.design.now recording.now circuit.now.stim.now }
+    ensures decided { IfOk result (λ bits. Decided circuit.now.design.now recording.now bits.items) }
+    ensures refused { IfErr result (DecideRefused circuit.now.design.now recording.now) }
 {
-    if !are_nets(circuit.design, variables) {
-        return Err(Refusal::NotBuilt);
-    }
+    let variables = recording.variables.as_slice();
     if count_choices(circuit) > MOST_CHOICES {
         return Err(Refusal::NotBuilt);
     }
@@ -66,16 +69,6 @@ fn decide_circuit(
     };
     let bits = bits_of(alloc, circuit, written.as_slice(), variables)?;
     Ok(bits)
-}
-
-/// Whether each variable's net is one of the design's.
-fn are_nets(design: &Design, variables: &[Variable]) -> bool
-    ensures { IsTrue result ↔ AllByRecursion (λ v. v.net < length design.now.nets) variables.now }
-{
-    let nets = design.nets.as_slice().len();
-    variables
-        .iter()
-        .all(|variable| (variable.net as usize) < nets)
 }
 
 /// The refusal of a variable at which the recording and the replay differ.

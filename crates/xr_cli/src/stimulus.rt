@@ -1,41 +1,53 @@
 //! The stimulus of a recording.
 
-ghost use Rattle.std.specs.Prelude.{◌≡◌, ◌∷◌, [], IfOk, length};
-ghost use Rattle.xr_cli.specs.Circuit.{FitsStim};
+ghost use Rattle.std.specs.Prelude.{◌≡◌, IfOk, length};
+ghost use Rattle.std.specs.List.{AllByRecursion};
+ghost use Rattle.xr_cli.specs.RecordingParts.{IsRowOf};
+ghost use Rattle.xr_cli.specs.RecordingText.{IsBound, IsStimOf, NetsOnce};
 
-use crate::recording::Variable;
+use crate::recording::{Recording, Variable, is_input};
 use crate::unread::Unread;
-use std::alloc::Global;
+use std::alloc::{AllocError, Global};
 use xr_base::Items;
 use xr_cell::Value;
-use xr_design::{Design, Driver, Stim};
+use xr_design::{Design, Stim};
 
-/// How many rounds a moment has.
+/// The rounds of the moment.
 const ROUNDS: u32 = 4;
 
-/// One moment at time 0, in which each input has the value of its variable.
-pub fn stimulus_of(alloc: Global, design: &Design, variables: &[Variable]) -> Result<Stim, Unread>
-    ensures times { IfOk result (λ stim. stim.times ≡ 0 ∷ []) }
-    ensures rounds { IfOk result (λ stim. stim.rounds ≡ ROUNDS) }
-    ensures fits { IfOk result (λ stim. FitsStim design.now stim) }
+/// The stimulus of a recording: one moment at time 0, with the recorded values of the inputs.
+pub fn stimulus_of(alloc: Global, design: &Design, recording: &Recording) -> Result<Stim, Unread>
+    requires bound { AllByRecursion (IsBound design.now) recording.now.variables }
+    requires once { NetsOnce recording.now.variables }
+    ensures stim { IfOk result (λ stim. IsStimOf design.now recording.now stim) }
+    ensures moments { IfOk result (λ stim. length stim.inputs ≡ length stim.times) }
+    ensures rows { IfOk result (λ stim. AllByRecursion (λ row. length row ≡ length design.now.nets) stim.inputs) }
 {
-    let nets = design.nets.as_slice();
-    let mut row = vec![in alloc; Value::X; nets.len()]?;
-    'variables: for variable in variables {
-        let net = variable.net as usize;
-        match nets.get(net) {
-            Some(driven) if matches!(driven.driver, Driver::Input) => row[net] = variable.value,
-            Some(_) => {}
-            None => return Err(Unread::NotBuilt),
-        }
-    }
-    let mut times = Vec::new(alloc);
-    times.push(0)?;
+    let row = row_of(alloc, design, recording.variables.as_slice())?;
     let mut inputs = Vec::new(alloc);
     inputs.push(Items::from_vec(row))?;
+    let mut times = Vec::new(alloc);
+    times.push(0)?;
     Ok(Stim {
         times: Items::from_vec(times),
         rounds: ROUNDS,
         inputs: Items::from_vec(inputs),
     })
+}
+
+/// The value of each net: of an input its variable's, else x.
+fn row_of(alloc: Global, design: &Design, variables: &[Variable]) -> Result<Vec<Value>, AllocError>
+    requires bound { AllByRecursion (IsBound design.now) variables.now }
+    requires once { NetsOnce variables.now }
+    ensures { IfOk result (λ row. IsRowOf design.now variables.now row.items) }
+{
+    let nets = design.nets.as_slice();
+    let mut row = vec![in alloc; Value::X; nets.len()]?;
+    'variables: for variable in variables {
+        let net = variable.net as usize;
+        if is_input(&nets[net]) {
+            row[net] = variable.value;
+        }
+    }
+    Ok(row)
 }

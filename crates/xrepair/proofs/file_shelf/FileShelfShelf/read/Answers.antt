@@ -1,6 +1,6 @@
 -- Where a file is open, it is the file in hand.
-use Rattle.std.proofs.Common.{rules, ◌≡◌, ap, refl, string_bytes}
-use Rattle.xr_shelf.specs.Shelf.{Hand, Opened}
+use Rattle.std.proofs.Common.{rules, ◌≡◌, ap, string_bytes}
+use Rattle.xr_shelf.specs.Shelf.{Opened}
 use Rattle.xrepair.specs.Hand.{hand_of}
 use Rattle.xrepair.proofs.file_shelf.FileShelfShelf.read.Goals as goal
 

@@ -1,0 +1,14 @@
+-- The moment, field by field.
+use Rattle.std.proofs.Common.{rules, refl}
+use Rattle.xr_cli.proofs.stimulus.stimulus_of.Goals as goal
+
+pub returns-clause-stim : goal.returns-clause-stim
+returns-clause-stim c = record {
+  times = search rules;
+  rounds = refl;
+  row = c.in_ok-row.row.items;
+  inputs = search rules;
+  wide = c.in_ok-row.ensures.wide;
+  recorded = rw c.as_slice.ensures at c.in_ok-row.ensures.recorded;
+  others = c.in_ok-row.ensures.others;
+}
