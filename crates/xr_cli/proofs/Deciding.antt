@@ -60,7 +60,7 @@ stim_fits design r stim is = record {
 }
   where
     one : (moment : ℕ) → moment < length (is.row ∷ []) → length (get_or (is.row ∷ []) moment []) ≡ length design.nets
-    one zero within = is.wide
+    one zero within = is.values.wide
     one (suc moment) within = absurd (omega arith)
 
 -- what an exact waveform that shows the replay shows known is certain: no filling gives another value

@@ -10,8 +10,7 @@ use Rattle.xr_design.specs.declared.design.Design.{Design}
 use Rattle.xr_design.specs.declared.design.Net.{Net}
 use Rattle.xr_design.specs.declared.design.Driver.TheVariants.{Input, Undriven}
 use Rattle.xr_cli.specs.declared.recording.Variable.{Variable}
-use Rattle.xr_cli.specs.RecordingParts.{IsRowOf}
-use Rattle.xr_cli.specs.RecordingText.{IsBound, NetsOnce}
+use Rattle.xr_cli.specs.RecordingText.{IsBound, IsRowOf, NetsOnce}
 
 pub bound_at : (design : Design) (vs : List Variable) (i : ℕ) (v : Variable) → AllByRecursion (IsBound design) vs → i < length vs → v ≡ get_or vs i v → IsBound design v
 bound_at design vs i v bound within is = rw is (All-from_recursion (IsBound design) vs bound i v within)

@@ -46,9 +46,3 @@ bytes_of bytes = bytes.items
 pub record IsNamed (names : List (List ℕ)) (d : Declared) : Type 0 where
   pub within : d.net < length names
   pub is : slice_index_or names d.net [] ≡ d.name
-
--- The values of a moment: of an input that of its variable, of any other net x.
-pub record IsRowOf (design : Design) (variables : List Variable) (row : List Value) : Type 0 where
-  pub wide : length row ≡ length design.nets
-  pub recorded : (net : ℕ) → net < length design.nets → slice_index_or (map (λ (n : Net). n.driver) design.nets) net Undriven ≡ Input → (v : Variable) → Contains variables v → v.net ≡ net → slice_index_or row net X ≡ v.value
-  pub others : (net : ℕ) → net < length design.nets → (slice_index_or (map (λ (n : Net). n.driver) design.nets) net Undriven ≡ Input → ⊥) → slice_index_or row net X ≡ X

@@ -75,16 +75,19 @@ pub record IsRecording (text : List ℕ) (scope : List (List ℕ)) (design : Des
   pub each : IsPermutation changes (map change_word r.variables)
   pub bound : AllByRecursion (IsBound design) r.variables
   pub codes_once : (i k : ℕ) → i < length r.variables → k < length r.variables → slice_index_or (map (λ (v : Variable). v.code) r.variables) i [] ≡ slice_index_or (map (λ (v : Variable). v.code) r.variables) k [] → i ≡ k
-  pub nets_once : (i k : ℕ) → i < length r.variables → k < length r.variables → slice_index_or (map (λ (v : Variable). v.net) r.variables) i 0 ≡ slice_index_or (map (λ (v : Variable). v.net) r.variables) k 0 → i ≡ k
+  pub nets_once : NetsOnce r.variables
   pub inputs : (net : ℕ) → net < length design.nets → slice_index_or (map (λ (n : Net). n.driver) design.nets) net Undriven ≡ Input → Contains (map (λ (v : Variable). v.net) r.variables) net
 
--- The stimulus of a recording: one moment at time 0 of four rounds, in which an input has the value of its variable, and
--- any other net x.
+-- The values of a moment: of an input that of its variable, of any other net x.
+pub record IsRowOf (design : Design) (variables : List Variable) (row : List Value) : Type 0 where
+  pub wide : length row ≡ length design.nets
+  pub recorded : (net : ℕ) → net < length design.nets → slice_index_or (map (λ (n : Net). n.driver) design.nets) net Undriven ≡ Input → (v : Variable) → Contains variables v → v.net ≡ net → slice_index_or row net X ≡ v.value
+  pub others : (net : ℕ) → net < length design.nets → (slice_index_or (map (λ (n : Net). n.driver) design.nets) net Undriven ≡ Input → ⊥) → slice_index_or row net X ≡ X
+
+-- The stimulus of a recording: one moment at time 0 of four rounds, with the values of its variables.
 pub record IsStimOf (design : Design) (r : Recording) (stim : Stim) : Type 0 where
   pub times : stim.times ≡ 0 ∷ []
   pub rounds : stim.rounds ≡ 4
   pub row : List Value
   pub inputs : stim.inputs ≡ row ∷ []
-  pub wide : length row ≡ length design.nets
-  pub recorded : (net : ℕ) → net < length design.nets → slice_index_or (map (λ (n : Net). n.driver) design.nets) net Undriven ≡ Input → (v : Variable) → Contains r.variables v → v.net ≡ net → slice_index_or row net X ≡ v.value
-  pub others : (net : ℕ) → net < length design.nets → (slice_index_or (map (λ (n : Net). n.driver) design.nets) net Undriven ≡ Input → ⊥) → slice_index_or row net X ≡ X
+  pub values : IsRowOf design r.variables row

@@ -2,8 +2,7 @@
 
 ghost use Rattle.std.specs.Prelude.{◌≡◌, IfOk, length};
 ghost use Rattle.std.specs.List.{AllByRecursion};
-ghost use Rattle.xr_cli.specs.RecordingParts.{IsRowOf};
-ghost use Rattle.xr_cli.specs.RecordingText.{IsBound, IsStimOf, NetsOnce};
+ghost use Rattle.xr_cli.specs.RecordingText.{IsBound, IsRowOf, IsStimOf, NetsOnce};
 
 use crate::recording::{Recording, Variable, is_input};
 use crate::unread::Unread;

@@ -1,6 +1,6 @@
 -- The row is that of the variables so far.
 use Rattle.std.proofs.Common.{take}
-use Rattle.xr_cli.specs.RecordingParts.{IsRowOf}
+use Rattle.xr_cli.specs.RecordingText.{IsRowOf}
 use Rattle.xr_cli.proofs.stimulus.row_of.Given as goal
 
 abbrev pub invariant-variables : goal.invariant-variables

@@ -8,7 +8,5 @@ returns-clause-stim c = record {
   rounds = refl;
   row = c.in_ok-row.row.items;
   inputs = search rules;
-  wide = c.in_ok-row.ensures.wide;
-  recorded = rw c.as_slice.ensures at c.in_ok-row.ensures.recorded;
-  others = c.in_ok-row.ensures.others;
+  values = rw c.as_slice.ensures at c.in_ok-row.ensures;
 }
