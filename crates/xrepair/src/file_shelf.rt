@@ -1,5 +1,7 @@
 //! Real files as a shelf.
 
+ghost use Rattle.std.specs.Prelude.{◌≡◌};
+
 use std::alloc::Global;
 use std::fs;
 use std::fs::File;
@@ -26,8 +28,12 @@ pub struct FileShelf<'a, R: Files<File = File>> {
 }
 
 impl<'a, R: Files<File = File>> FileShelf<'a, R> {
-    /// The files that `files` reaches.
-    pub fn new(files: &'a R, alloc: Global) -> FileShelf<'a, R> {
+    /// The files that `files` reaches, none in hand, and no fault counted.
+    pub fn new(files: &'a R, alloc: Global) -> FileShelf<'a, R>
+        ensures hand { result.hand ≡ InHand.None }
+        ensures reads { result.read_faults ≡ 0 }
+        ensures writes { result.write_faults ≡ 0 }
+    {
         FileShelf {
             files,
             alloc,

@@ -1,5 +1,7 @@
 //! Standard output as a sink.
 
+ghost use Rattle.std.specs.Prelude.{◌≡◌};
+
 use std::io::Write;
 use xr_shelf::{IoErr, Sink};
 
@@ -11,8 +13,10 @@ pub struct OutSink<W: Write + Drop> {
 }
 
 impl<W: Write + Drop> OutSink<W> {
-    /// A sink that prints by this writer.
-    pub fn new(writer: W) -> OutSink<W> {
+    /// A sink that prints by this writer, and no fault counted.
+    pub fn new(writer: W) -> OutSink<W>
+        ensures { result.faults ≡ 0 }
+    {
         OutSink { writer, faults: 0 }
     }
 }

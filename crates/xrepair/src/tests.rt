@@ -250,3 +250,86 @@ fn missing_file(rt: HostRuntime) -> Result<(), Fail> {
     assert_eq!(rt; out.bytes(), b"refused: cannot read m.v\n".as_slice());
     Ok(())
 }
+
+#[test]
+fn every_gate(rt: HostRuntime) -> Result<(), Fail> {
+    let netlist =
+        "module gates(a, b, c, d, e, f, g, h, i, j); input a, b; output c, d, e, f, g, h, i, j;\nand (c, a, b); nand (d, a, b); or (e, a, b); nor (f, a, b); xor (g, a, b); xnor (h, a, b); buf (i, a); not (j, a); endmodule";
+    let head =
+        "$scope module tb $end\n$scope module dut $end\n$var wire 1 ! a $end\n$var wire 1 \" b $end\n$var wire 1 # c $end\n$var wire 1 $ d $end\n$var wire 1 % e $end\n$var wire 1 & f $end\n$var wire 1 ' g $end\n$var wire 1 ( h $end\n$var wire 1 ) i $end\n$var wire 1 * j $end\n$upscope $end\n$upscope $end\n$enddefinitions $end\n#0\n$dumpvars\n";
+    let changes = "0!\n1\"\n0#\n1$\n1%\n0&\n1'\n0(\n0)\n1*\n";
+    let (recording, repaired) = texts(rt.alloc(), head, changes, changes)?;
+    let want = (0, "", repaired.as_str());
+    expect_repair(&rt, rt.alloc(), "gates", netlist, recording.as_str(), want)
+}
+
+#[test]
+fn timescales(rt: HostRuntime) -> Result<(), Fail> {
+    for (scale, status) in [
+        ("1s", 0),
+        ("10ms", 0),
+        ("100us", 0),
+        ("10ns", 0),
+        ("1ps", 0),
+        ("1fs", 0),
+        ("2ns", 14),
+        ("1000ns", 14),
+        ("ns", 14),
+        ("1", 14),
+        ("1xs", 14),
+    ] {
+        let head = format!(in rt.alloc(); "$timescale {scale} $end\n{SAME_HEAD}")?;
+        let (recording, repaired) = texts(rt.alloc(), head.as_str(), "1!\n0\"\n", "1!\n0\"\n")?;
+        let want = if status == 0 {
+            (0, "", repaired.as_str())
+        } else {
+            (14, "refused: not built\n", "")
+        };
+        expect_repair(&rt, rt.alloc(), "same", SAME, recording.as_str(), want)?;
+    }
+    Ok(())
+}
+
+/// The status of a module with so many inputs, each recorded x.
+fn status_of_unknowns(alloc: Global, inputs: usize) -> Result<u8, Fail> {
+    let mut names = String::from_str(alloc, "i0")?;
+    let mut variables = String::from_str(alloc, "$var wire 1 c0 i0 $end\n")?;
+    let mut changes = String::from_str(alloc, "xc0\n")?;
+    for input in 1..inputs {
+        names = format!(in alloc; "{names}, i{input}")?;
+        variables = format!(in alloc; "{variables}$var wire 1 c{input} i{input} $end\n")?;
+        changes = format!(in alloc; "{changes}xc{input}\n")?;
+    }
+    let netlist = format!(in alloc; "module wide({names}); input {names}; endmodule")?;
+    let recording = format!(in alloc;
+        "$scope module tb $end $scope module dut $end\n{variables}$upscope $end $upscope $end $enddefinitions $end #0 $dumpvars\n{changes}$end\n"
+    )?;
+    let words = repair_words(alloc, "wide")?;
+    let mut shelf = MemShelf::new(alloc, 4096);
+    shelf.put("m.v", netlist.as_bytes())?;
+    shelf.put("r.vcd", recording.as_bytes())?;
+    let mut out = MemSink::new(alloc, 4096);
+    Ok(run(alloc, &words, &mut shelf, &mut out))
+}
+
+#[test]
+fn at_most_twelve_unknown_inputs(rt: HostRuntime) -> Result<(), Fail> {
+    assert_eq!(rt; status_of_unknowns(rt.alloc(), 12)?, 0);
+    assert_eq!(rt; status_of_unknowns(rt.alloc(), 13)?, 14);
+    Ok(())
+}
+
+#[test]
+fn fault_of_the_report(rt: HostRuntime) -> Result<(), Fail> {
+    let (recording, repaired) = texts(rt.alloc(), SAME_HEAD, "x!\nx\"\n", "x!\n0\"\n")?;
+    let words = repair_words(rt.alloc(), "same")?;
+    let mut shelf = MemShelf::new(rt.alloc(), 4096);
+    shelf.put("m.v", SAME.as_bytes())?;
+    shelf.put("r.vcd", recording.as_bytes())?;
+    let mut out = MemSink::new(rt.alloc(), 4096);
+    out.fail_at(1)?;
+    assert_eq!(rt; run(rt.alloc(), &words, &mut shelf, &mut out), 4);
+    assert_eq!(rt; out.bytes(), b"refused: cannot write report\n".as_slice());
+    assert_eq!(rt; shelf.get("o.vcd"), Some(repaired.as_bytes()));
+    Ok(())
+}
