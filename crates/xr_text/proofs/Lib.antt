@@ -1,0 +1,7 @@
+-- Lemmas of xr_text.
+pub mod Follows
+pub mod Sizes
+pub mod Sound
+pub mod Steps
+pub mod Told
+pub mod Wires
