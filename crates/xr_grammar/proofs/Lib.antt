@@ -1,0 +1,5 @@
+pub mod Found
+pub mod Follows
+pub mod Accepts
+pub mod Viable
+pub mod Theorem

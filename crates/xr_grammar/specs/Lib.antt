@@ -1,0 +1,11 @@
+pub mod Bytes
+pub mod Numbers
+pub mod Lexemes
+pub mod Trees
+pub mod Machine
+pub mod Rules
+pub mod Expressions
+pub mod Items
+pub mod Primitives
+pub mod Text
+pub mod Refusal

@@ -1,0 +1,15 @@
+//! The grammar of netlist texts (IEEE 1364-2005, annex A): what a text stands for (`Source`), and the words and marks that its rules quote (`Fixed`).
+//! Start at `Source` and at specs/Text.antt, which has the rule of a whole text. specs/Machine.antt reads the same texts word by word; that both
+//! say the same is proved in proofs/.
+#![tactic(auto)]
+
+mod fixed;
+mod refusal;
+mod tree;
+
+pub use fixed::Fixed;
+pub use refusal::ParseErr;
+pub use tree::{
+    Connection, Connections, Declare, Expr, GateItem, GateKind, InstanceItem, Item, Module,
+    NamedConnection, NetKind, Part, PartKind, PrimDeclare, PrimKind, Primitive, Source, Word,
+};
