@@ -1,0 +1,5 @@
+pub mod Numbers
+pub mod Fronts
+pub mod Codes
+pub mod Runs
+pub mod Groups

@@ -1,0 +1,15 @@
+use Rattle.std.proofs.Common.{◌≡◌, ◌≤◌, List, length}
+use Rattle.xr_grammar.specs.Machine.{goes, assign, expr_start, left}
+use Rattle.xr_grammar.specs.Trees.{under}
+use Rattle.xr_grammar.specs.declared.tree.Source.{Source}
+use Rattle.xr_grammar.specs.declared.tree.Word.{Word}
+use Rattle.xr_netlist.proofs.cell.assigns.Given as goal
+
+abbrev pub invariant-assigns : goal.invariant-assigns
+invariant-assigns l = record {
+  reads : (b : Source) (n : Word) (ps : List Word) → goes (assign (under b n ps l.fn.items.items)) l.fn.words ≡ goes (expr_start (left (under b n ps l.items.items))) l.words;
+  shortens : length l.words.words ≤ length l.fn.words.words;
+}
+
+abbrev pub decreases-assigns : goal.decreases-assigns
+decreases-assigns l = length l.words.words

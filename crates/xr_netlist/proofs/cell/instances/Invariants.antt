@@ -1,0 +1,16 @@
+use Rattle.std.proofs.Common.{◌≡◌, ◌≤◌, List, length}
+use Rattle.xr_grammar.specs.Machine.{goes, definition, instance_name}
+use Rattle.xr_grammar.specs.Trees.{under}
+use Rattle.xr_grammar.specs.declared.tree.Source.{Source}
+use Rattle.xr_grammar.specs.declared.tree.Word.{Word}
+use Rattle.xr_netlist.specs.Shown.{word_of_name}
+use Rattle.xr_netlist.proofs.cell.instances.Given as goal
+
+abbrev pub invariant-instances : goal.invariant-instances
+invariant-instances l = record {
+  reads : (b : Source) (n : Word) (ps : List Word) → goes (definition (under b n ps l.fn.items.items) (word_of_name l.definition)) l.fn.words ≡ goes (instance_name (under b n ps l.items.items) (word_of_name l.definition)) l.words;
+  shortens : length l.words.words ≤ length l.fn.words.words;
+}
+
+abbrev pub decreases-instances : goal.decreases-instances
+decreases-instances l = length l.words.words

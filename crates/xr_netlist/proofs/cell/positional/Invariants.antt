@@ -1,0 +1,14 @@
+use Rattle.std.proofs.Common.{◌≡◌, ◌≤◌, [], Option, length}
+use Rattle.xr_grammar.specs.Machine.{goes, connection}
+use Rattle.xr_grammar.specs.Trees.{Under}
+use Rattle.xr_grammar.specs.declared.tree.Word.{Word}
+use Rattle.xr_netlist.proofs.cell.positional.Given as goal
+
+abbrev pub invariant-list : goal.invariant-list
+invariant-list l = record {
+  reads : (u : Under) (d : Word) (n : Option Word) → goes (connection u d n []) l.fn.words ≡ goes (connection u d n l.list.items) l.words;
+  shortens : length l.words.words ≤ length l.fn.words.words;
+}
+
+abbrev pub decreases-list : goal.decreases-list
+decreases-list l = length l.words.words

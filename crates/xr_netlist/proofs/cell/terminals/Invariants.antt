@@ -1,0 +1,14 @@
+use Rattle.std.proofs.Common.{◌≡◌, ◌≤◌, [], ℕ, length}
+use Rattle.xr_grammar.specs.Machine.{goes, expr_start, terminal}
+use Rattle.xr_grammar.specs.Trees.{Under}
+use Rattle.xr_grammar.specs.declared.tree.GateKind.{GateKind}
+use Rattle.xr_netlist.proofs.cell.terminals.Given as goal
+
+abbrev pub invariant-list : goal.invariant-list
+invariant-list l = record {
+  reads : (u : Under) (kind : GateKind) (at : ℕ) → goes (expr_start (terminal u kind at [])) l.fn.words ≡ goes (expr_start (terminal u kind at l.list.items)) l.words;
+  shortens : length l.words.words ≤ length l.fn.words.words;
+}
+
+abbrev pub decreases-list : goal.decreases-list
+decreases-list l = length l.words.words

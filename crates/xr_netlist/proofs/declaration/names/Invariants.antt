@@ -1,0 +1,15 @@
+use Rattle.std.proofs.Common.{◌≡◌, ◌≤◌, List, length}
+use Rattle.xr_grammar.specs.Machine.{goes, declared_name}
+use Rattle.xr_grammar.specs.Trees.{under}
+use Rattle.xr_grammar.specs.declared.tree.Source.{Source}
+use Rattle.xr_grammar.specs.declared.tree.Word.{Word}
+use Rattle.xr_netlist.proofs.declaration.names.Given as goal
+
+abbrev pub invariant-names : goal.invariant-names
+invariant-names l = record {
+  reads : (b : Source) (n : Word) (ps : List Word) → goes (declared_name (under b n ps l.fn.items.items) l.what l.range) l.fn.words ≡ goes (declared_name (under b n ps l.items.items) l.what l.range) l.words;
+  shortens : length l.words.words ≤ length l.fn.words.words;
+}
+
+abbrev pub decreases-names : goal.decreases-names
+decreases-names l = length l.words.words

@@ -1,0 +1,15 @@
+use Rattle.std.proofs.Common.{◌≡◌, ◌≤◌, List, length}
+use Rattle.xr_grammar.specs.Machine.{goes, net_kind, net_name}
+use Rattle.xr_grammar.specs.Trees.{under}
+use Rattle.xr_grammar.specs.declared.tree.Source.{Source}
+use Rattle.xr_grammar.specs.declared.tree.Word.{Word}
+use Rattle.xr_netlist.proofs.declaration.nets.Given as goal
+
+abbrev pub invariant-nets : goal.invariant-nets
+invariant-nets l = record {
+  reads : (b : Source) (n : Word) (ps : List Word) → goes (net_kind (under b n ps l.fn.items.items) l.what) l.fn.words ≡ goes (net_name (under b n ps l.items.items) l.what l.range) l.words;
+  shortens : length l.words.words ≤ length l.fn.words.words;
+}
+
+abbrev pub decreases-nets : goal.decreases-nets
+decreases-nets l = length l.words.words

@@ -1,0 +1,9 @@
+use Rattle.std.proofs.Common.{sym}
+use Rattle.xr_grammar.specs.Numbers.{are_spaced_digits, spaced_number}
+use Rattle.xr_netlist.proofs.Numbers.{narrower}
+use Rattle.xr_netlist.proofs.number.value_in.Goals as goal
+
+pub returns-in_err-value : goal.returns-in_err-value
+returns-in_err-value c =
+    let none = narrower (are_spaced_digits c.args.base c.args.digits.now) (spaced_number c.args.base c.args.digits.now) c.args.size c.requires.size.1 (sym (c.in_err-value.ensures)) in
+    rw c.from_residual.ensures (sym none)

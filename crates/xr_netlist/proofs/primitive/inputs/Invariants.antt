@@ -1,0 +1,15 @@
+use Rattle.std.proofs.Common.{◌≡◌, ◌≤◌, [], List, length}
+use Rattle.xr_grammar.specs.Machine.{goes, input_declared}
+use Rattle.xr_grammar.specs.Trees.{within}
+use Rattle.xr_grammar.specs.declared.tree.Source.{Source}
+use Rattle.xr_grammar.specs.declared.tree.Word.{Word}
+use Rattle.xr_netlist.proofs.primitive.inputs.Given as goal
+
+abbrev pub invariant-inputs : goal.invariant-inputs
+invariant-inputs l = record {
+  reads : (b : Source) (n : Word) (ps : List Word) → goes (input_declared (within b n ps l.fn.declarations.items [])) l.fn.words ≡ goes (input_declared (within b n ps l.declarations.items [])) l.words;
+  shortens : length l.words.words ≤ length l.fn.words.words;
+}
+
+abbrev pub decreases-inputs : goal.decreases-inputs
+decreases-inputs l = length l.words.words

@@ -1,0 +1,9 @@
+use Rattle.std.proofs.Common.{◌≡◌, ◌++◌, ◌∷◌, length}
+use Rattle.xr_grammar.specs.Trees.{singles}
+use Rattle.xr_netlist.proofs.table.push_singles.Given as goal
+
+abbrev pub invariant-symbols : goal.invariant-symbols
+invariant-symbols l = l.fn.entries.items ++ singles (l.first ∷ l.more) ≡ l.entries.items ++ singles l.rest
+
+abbrev pub decreases-symbols : goal.decreases-symbols
+decreases-symbols l = length l.rest

@@ -1,0 +1,17 @@
+use Rattle.std.proofs.Common.{◌≡◌, ◌≤◌, [], List, length}
+use Rattle.xr_grammar.specs.Machine.{goes, first_row}
+use Rattle.xr_grammar.specs.Trees.{within}
+use Rattle.xr_grammar.specs.declared.tree.Source.{Source}
+use Rattle.xr_grammar.specs.declared.tree.Word.{Word}
+use Rattle.xr_grammar.specs.Trees.{is_sequential}
+use Rattle.xr_grammar.specs.declared.tree.PrimDeclare.{PrimDeclare}
+use Rattle.xr_netlist.proofs.table.rows.Given as goal
+
+abbrev pub invariant-rows : goal.invariant-rows
+invariant-rows l = record {
+  reads : (b : Source) (n : Word) (ps : List Word) (ds : List PrimDeclare) → is_sequential ds ≡ l.sequential → goes (first_row (within b n ps ds [])) l.fn.words ≡ goes (first_row (within b n ps ds l.rows.items)) l.words;
+  shortens : length l.words.words ≤ length l.fn.words.words;
+}
+
+abbrev pub decreases-rows : goal.decreases-rows
+decreases-rows l = length l.words.words

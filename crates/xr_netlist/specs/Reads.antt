@@ -1,0 +1,93 @@
+-- What the reader's methods do to the tokens that are left, and what the functions above them do as runs of the machine.
+use Rattle.std.specs.Prelude.{◌≡◌, ◌≢◌, ℕ, ◌<◌, length, List, [], ◌∷◌, Bool, true, false, Option, Some, None, option_to_list, Result, Ok, Err}
+use Rattle.std.specs.Borrow.{Bor}
+use Rattle.xr_grammar.specs.Lexemes.{Lexeme, quoted, named, ending, Tok, tok, Words, is_fixed, name_of, symbols_of, head, before, fault_of}
+use Rattle.xr_grammar.specs.Machine.{State, Next, on_one_byte, on_few_bytes, goes, Refuses}
+use Rattle.xr_grammar.specs.declared.fixed.Fixed.{Fixed}
+use Rattle.xr_grammar.specs.declared.fixed.Fixed.TheVariants as fixed
+use Rattle.xr_grammar.specs.declared.refusal.ParseErr.{ParseErr}
+use Rattle.xr_netlist.specs.declared.lexeme.Name.{Name}
+
+-- ---- one token
+
+-- the word or mark f is taken, or nothing
+abbrev pub TakesFixed : Fixed → Words → Bool → Words → Type 0
+TakesFixed f old true new = old ≡ before (tok (head old).at (quoted f)) new
+TakesFixed f old false new = (new ≡ old) × (is_fixed f (head old).what ≡ false)
+
+abbrev pub ExpectsFixed : {X : Type 0} → Fixed → Words → Result X ParseErr → Words → Type 0
+ExpectsFixed f old (Ok x) new = old ≡ before (tok (head old).at (quoted f)) new
+ExpectsFixed f old (Err e) new = (is_fixed f (head old).what ≡ false) × (e ≡ fault_of (head old))
+
+abbrev pub TakesName : Words → Option Name → Words → Type 0
+TakesName old (Some n) new = old ≡ before (tok n.at (named n.text.now n.escaped)) new
+TakesName old None new = (new ≡ old) × (name_of (head old) ≡ None)
+
+abbrev pub ExpectsName : Words → Result Name ParseErr → Words → Type 0
+ExpectsName old (Ok n) new = old ≡ before (tok n.at (named n.text.now n.escaped)) new
+ExpectsName old (Err e) new = (name_of (head old) ≡ None) × (e ≡ fault_of (head old))
+
+-- a token that may be read as a value is taken, or nothing
+abbrev pub TakesAs : {X : Type 0} → (Tok → Option X) → Words → Option X → Words → Type 0
+TakesAs of old (Some x) new = (old ≡ before (head old) new) × (of (head old) ≡ Some x)
+TakesAs of old None new = (new ≡ old) × (of (head old) ≡ None)
+
+abbrev pub ExpectsAs : {X : Type 0} → (Tok → Option X) → Words → Result X ParseErr → Words → Type 0
+ExpectsAs of old (Ok x) new = (old ≡ before (head old) new) × (of (head old) ≡ Some x)
+ExpectsAs of old (Err e) new = (of (head old) ≡ None) × (e ≡ fault_of (head old))
+
+-- a list goes on behind a comma, or is closed
+abbrev pub GoesOn : Fixed → Words → Result Bool ParseErr → Words → Type 0
+GoesOn close old (Ok true) new = old ≡ before (tok (head old).at (quoted fixed.Comma)) new
+GoesOn close old (Ok false) new = old ≡ before (tok (head old).at (quoted close)) new
+GoesOn close old (Err e) new = (is_fixed fixed.Comma (head old).what ≡ false) × (is_fixed close (head old).what ≡ false) × (e ≡ fault_of (head old))
+
+-- the symbols of a token, the first one and those behind it
+abbrev pub TakesSymbols : Words → Option (ℕ × Bor (List ℕ)) → Words → Type 0
+TakesSymbols old (Some p) new = (old ≡ before (head old) new) × (symbols_of (head old).what ≡ p.0 ∷ p.1.now)
+TakesSymbols old None new = (new ≡ old) × (symbols_of (head old).what ≡ [])
+
+-- the symbol of a token that has one
+abbrev pub TakesSymbol : Words → Option ℕ → Words → Type 0
+TakesSymbol old (Some b) new = (old ≡ before (head old) new) × (symbols_of (head old).what ≡ b ∷ [])
+TakesSymbol old None new = (new ≡ old) × ((f : ℕ → State) (o : Next) → on_one_byte (symbols_of (head old).what) f o ≡ o)
+
+-- the symbols of a token that has one or two
+abbrev pub ExpectsFew : Words → Result (ℕ × Option ℕ) ParseErr → Words → Type 0
+ExpectsFew old (Ok p) new = (old ≡ before (head old) new) × (symbols_of (head old).what ≡ p.0 ∷ option_to_list p.1)
+ExpectsFew old (Err e) new = ((f : ℕ → State) (g : ℕ → ℕ → State) (o : Next) → on_few_bytes (symbols_of (head old).what) f g o ≡ o) × (e ≡ fault_of (head old))
+
+-- any token is taken
+abbrev pub Skips : {X : Type 0} → Words → Result X ParseErr → Words → Type 0
+Skips old (Ok x) new = old ≡ before (head old) new
+Skips old (Err e) new = (old.words ≡ []) × (e ≡ fault_of old.stop)
+
+-- nothing is left
+abbrev pub Ends : {X : Type 0} → Words → Result X ParseErr → Type 0
+Ends w (Ok x) = (w.words ≡ []) × (w.stop.what ≡ ending)
+Ends w (Err e) = (w.words ≡ [] → w.stop.what ≢ ending) × (e ≡ fault_of (head w))
+
+-- ---- runs
+
+-- From a state, what was read leads to the next state.
+abbrev pub Reads : {X : Type 0} → State → Words → Result X ParseErr → (X → State) → Words → Type 0
+Reads s old (Ok x) next new = goes s old ≡ goes (next x) new
+Reads s old (Err e) next new = Refuses (goes s old) e
+
+abbrev pub Shortens : {X : Type 0} → Words → Result X ParseErr → Words → Type 0
+Shortens old (Ok x) new = length new.words < length old.words
+Shortens old (Err e) new = Unit {0}
+
+-- no word or mark that begins an item
+pub record BeginsNone (what : Lexeme) : Type 0 where
+  pub endmodule : is_fixed fixed.Endmodule what ≡ false
+  pub paren : is_fixed fixed.Open what ≡ false
+  pub input : is_fixed fixed.Input what ≡ false
+  pub output : is_fixed fixed.Output what ≡ false
+  pub wire : is_fixed fixed.Wire what ≡ false
+  pub tri : is_fixed fixed.Tri what ≡ false
+  pub supply0 : is_fixed fixed.Supply0 what ≡ false
+  pub supply1 : is_fixed fixed.Supply1 what ≡ false
+  pub reg : is_fixed fixed.Reg what ≡ false
+  pub assign : is_fixed fixed.Assign what ≡ false
+  pub specify : is_fixed fixed.Specify what ≡ false

@@ -1,0 +1,233 @@
+//! Gates, instances and assignments (IEEE 1364-2005, annexes A.3, A.4 and A.6.1).
+
+ghost use Rattle.std.specs.Prelude.{◌≡◌, ℕ, ◌++◌, ◌∷◌, [], List, Option, Some, None, option_map, IfOk, cond};
+ghost use Rattle.xr_grammar.specs.Machine.State.{gate_kind, gate_name, after_gate, expr_start, assign, definition as definition_of, instance_name, after_instance, connections as connections_of, connection as connection_of, connection_port, after_connection, in_items};
+ghost use Rattle.xr_grammar.specs.Machine.Context.{terminal, left as left_of};
+ghost use Rattle.xr_grammar.specs.Trees.{Under, under, with_item, gate_of, instance_of};
+ghost use Rattle.xr_grammar.specs.declared.tree.Connections.TheVariants.{Positional};
+ghost use Rattle.xr_grammar.specs.declared.tree.GateKind.{GateKind as gate_kinds};
+ghost use Rattle.xr_grammar.specs.declared.tree.NamedConnection.{NamedConnection as named_kind};
+ghost use Rattle.xr_grammar.specs.declared.tree.Source.{Source as source};
+ghost use Rattle.xr_grammar.specs.declared.tree.Word.{Word as word};
+ghost use Rattle.xr_netlist.specs.Reads.{Reads, Shortens};
+ghost use Rattle.xr_netlist.specs.Shown.{word_of_name};
+
+use crate::expression::expr;
+use crate::lexeme::Name;
+use crate::reader::Reader;
+use crate::skip::may_delay;
+use std::alloc::{AllocError, Global};
+use xr_base::Items;
+use xr_grammar::{
+    Connection, Connections, Expr, Fixed, GateItem, GateKind, InstanceItem, Item, NamedConnection,
+    ParseErr, Word,
+};
+
+// gates = kind [ delay ] gate { "," gate } ";", behind its kind
+pub fn gates(
+    alloc: Global,
+    kind: GateKind,
+    at: usize,
+    words: &mut Reader<'_>,
+    items: &mut Vec<Item>,
+) -> Result<(), ParseErr>
+    ensures reads { (b : source) (n : word) (ps : List word) → Reads (gate_kind (under b n ps items.old.items) kind at) words.old result (λ _. in_items (under b n ps items.new.items)) words.new }
+    ensures shortens { Shortens words.old result words.new }
+{
+    may_delay(words)?;
+    'gates: loop {
+        gate(alloc, kind, at, words, items)?;
+        if !words.more(Fixed::Semi)? {
+            return Ok(());
+        }
+    }
+}
+
+// gate = [ name ] "(" expr { "," expr } ")"
+fn gate(
+    alloc: Global,
+    kind: GateKind,
+    at: usize,
+    words: &mut Reader<'_>,
+    items: &mut Vec<Item>,
+) -> Result<(), ParseErr>
+    ensures reads { (b : source) (n : word) (ps : List word) → Reads (gate_name (under b n ps items.old.items) kind at) words.old result (λ _. after_gate (under b n ps items.new.items) kind at) words.new }
+    ensures shortens { Shortens words.old result words.new }
+{
+    let _ = words.take_name();
+    words.expect(Fixed::Open)?;
+    let terminals = terminals(alloc, words)?;
+    items.push(Item::Gate(GateItem {
+        kind,
+        at,
+        terminals: Items::from_vec(terminals),
+    }))?;
+    Ok(())
+}
+
+// expr { "," expr } ")"
+fn terminals(alloc: Global, words: &mut Reader<'_>) -> Result<Vec<Expr>, ParseErr>
+    ensures reads { (u : Under) (kind : gate_kinds) (at : ℕ) → Reads (expr_start (terminal u kind at [])) words.old result (λ es. after_gate (with_item u (gate_of kind at es.items)) kind at) words.new }
+    ensures shortens { Shortens words.old result words.new }
+{
+    let mut list = Vec::new(alloc);
+    'list: loop {
+        list.push(expr(alloc, words)?)?;
+        if !words.more(Fixed::Close)? {
+            return Ok(list);
+        }
+    }
+}
+
+// assigns = "assign" [ delay ] assign { "," assign } ";", behind its first word; assign = expr "=" expr
+pub fn assigns(alloc: Global, words: &mut Reader<'_>, items: &mut Vec<Item>) -> Result<(), ParseErr>
+    ensures reads { (b : source) (n : word) (ps : List word) → Reads (assign (under b n ps items.old.items)) words.old result (λ _. in_items (under b n ps items.new.items)) words.new }
+    ensures shortens { Shortens words.old result words.new }
+{
+    may_delay(words)?;
+    'assigns: loop {
+        let left = expr(alloc, words)?;
+        words.expect(Fixed::Equals)?;
+        let right = expr(alloc, words)?;
+        items.push(Item::Assign(left, right))?;
+        if !words.more(Fixed::Semi)? {
+            return Ok(());
+        }
+    }
+}
+
+// instances = name [ delay ] instance { "," instance } ";", behind its name
+pub fn instances(
+    alloc: Global,
+    definition: Name<'_>,
+    words: &mut Reader<'_>,
+    items: &mut Vec<Item>,
+) -> Result<(), ParseErr>
+    ensures reads { (b : source) (n : word) (ps : List word) → Reads (definition_of (under b n ps items.old.items) (word_of_name definition.entry)) words.old result (λ _. in_items (under b n ps items.new.items)) words.new }
+    ensures shortens { Shortens words.old result words.new }
+{
+    may_delay(words)?;
+    'instances: loop {
+        instance(alloc, definition, words, items)?;
+        if !words.more(Fixed::Semi)? {
+            return Ok(());
+        }
+    }
+}
+
+// instance = [ name ] "(" [ connections ] ")"
+fn instance(
+    alloc: Global,
+    definition: Name<'_>,
+    words: &mut Reader<'_>,
+    items: &mut Vec<Item>,
+) -> Result<(), ParseErr>
+    ensures reads { (b : source) (n : word) (ps : List word) → Reads (instance_name (under b n ps items.old.items) (word_of_name definition.entry)) words.old result (λ _. after_instance (under b n ps items.new.items) (word_of_name definition.entry)) words.new }
+    ensures shortens { Shortens words.old result words.new }
+{
+    let name = words.take_name();
+    words.expect(Fixed::Open)?;
+    let connections = connections(alloc, words)?;
+    items.push(Item::Instance(InstanceItem {
+        definition: definition.word(alloc)?,
+        name: may_word(alloc, name)?,
+        connections,
+    }))?;
+    Ok(())
+}
+
+fn may_word(alloc: Global, name: Option<Name<'_>>) -> Result<Option<Word>, AllocError>
+    ensures { IfOk result (λ w. w ≡ option_map word_of_name name.entry) }
+{
+    match name {
+        Some(name) => Ok(Some(name.word(alloc)?)),
+        None => Ok(None),
+    }
+}
+
+// [ positional | named ] ")"
+#[tactic(auto, using(crate::proofs::Runs::positional_starts, crate::proofs::Runs::reads_on))]
+fn connections(alloc: Global, words: &mut Reader<'_>) -> Result<Connections, ParseErr>
+    ensures reads { (u : Under) (d : word) (n : Option word) → Reads (connections_of u d n) words.old result (λ cs. after_instance (with_item u (instance_of d n cs)) d) words.new }
+    ensures shortens { Shortens words.old result words.new }
+{
+    if words.take(Fixed::Close) {
+        Ok(Connections::Positional(Items::from_vec(Vec::new(alloc))))
+    } else if words.take(Fixed::Dot) {
+        named(alloc, words)
+    } else {
+        positional(alloc, words)
+    }
+}
+
+// positional = [ expr ] { "," [ expr ] }, up to its ")"
+fn positional(alloc: Global, words: &mut Reader<'_>) -> Result<Connections, ParseErr>
+    ensures reads { (u : Under) (d : word) (n : Option word) → Reads (connection_of u d n []) words.old result (λ cs. after_instance (with_item u (instance_of d n cs)) d) words.new }
+    ensures shortens { Shortens words.old result words.new }
+{
+    let mut list = Vec::new(alloc);
+    'list: while connection(alloc, words, &mut list)? {}
+    Ok(Connections::Positional(Items::from_vec(list)))
+}
+
+// [ expr ]
+/// Whether one more follows.
+#[tactic(auto, using(crate::proofs::Runs::connection_starts, crate::proofs::Runs::reads_on))]
+fn connection(
+    alloc: Global,
+    words: &mut Reader<'_>,
+    list: &mut Vec<Connection>,
+) -> Result<bool, ParseErr>
+    ensures reads { (u : Under) (d : word) (n : Option word) → Reads (connection_of u d n list.old.items) words.old result (λ more. cond more (connection_of u d n list.new.items) (after_instance (with_item u (instance_of d n (Positional list.new.items))) d)) words.new }
+    ensures shortens { Shortens words.old result words.new }
+{
+    let at = words.at();
+    if words.take(Fixed::Close) {
+        list.push(Connection { at, value: None })?;
+        return Ok(false);
+    }
+    if words.take(Fixed::Comma) {
+        list.push(Connection { at, value: None })?;
+        return Ok(true);
+    }
+    let value = expr(alloc, words)?;
+    list.push(Connection {
+        at: value.at,
+        value: Some(value),
+    })?;
+    words.more(Fixed::Close)
+}
+
+// named = connection { "," connection }, behind its first "." and up to its ")"
+fn named(alloc: Global, words: &mut Reader<'_>) -> Result<Connections, ParseErr>
+    ensures reads { (u : Under) (d : word) (n : Option word) → Reads (connection_port u d n []) words.old result (λ cs. after_instance (with_item u (instance_of d n cs)) d) words.new }
+    ensures shortens { Shortens words.old result words.new }
+{
+    let mut list = Vec::new(alloc);
+    'list: loop {
+        list.push(named_connection(alloc, words)?)?;
+        if !words.more(Fixed::Close)? {
+            return Ok(Connections::Named(Items::from_vec(list)));
+        }
+        words.expect(Fixed::Dot)?;
+    }
+}
+
+// connection = "." name "(" [ expr ] ")", behind its "."
+#[tactic(auto, using(crate::proofs::Runs::named_starts))]
+fn named_connection(alloc: Global, words: &mut Reader<'_>) -> Result<NamedConnection, ParseErr>
+    ensures reads { (u : Under) (d : word) (n : Option word) (cs : List named_kind) → Reads (connection_port u d n cs) words.old result (λ c. after_connection u d n (cs ++ c ∷ [])) words.new }
+    ensures shortens { Shortens words.old result words.new }
+{
+    let port = words.name()?.word(alloc)?;
+    words.expect(Fixed::Open)?;
+    if words.take(Fixed::Close) {
+        return Ok(NamedConnection { port, value: None });
+    }
+    let value = expr(alloc, words)?;
+    words.expect(Fixed::Close)?;
+    Ok(NamedConnection {
+        port,
+        value: Some(value),
+    })
+}

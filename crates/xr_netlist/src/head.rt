@@ -1,0 +1,131 @@
+//! The head of a module (IEEE 1364-2005, annex A.1.3).
+
+ghost use Rattle.std.specs.Prelude.{◌≡◌, ◌≤◌, [], length, OnOk, None, false};
+ghost use Rattle.xr_grammar.specs.Lexemes.{head as head_of, is_fixed};
+ghost use Rattle.xr_grammar.specs.Machine.{goes};
+ghost use Rattle.xr_grammar.specs.Machine.State.{after_name, head_end, first_port, port_direction, port_word, after_declared_port, declared_port};
+ghost use Rattle.xr_grammar.specs.declared.fixed.Fixed.TheVariants as fixed;
+ghost use Rattle.xr_grammar.specs.Trees.{Under, under};
+ghost use Rattle.xr_grammar.specs.declared.tree.Source.{Source as source};
+ghost use Rattle.xr_grammar.specs.declared.tree.Word.{Word as word};
+ghost use Rattle.xr_netlist.specs.Reads.{Reads, Shortens};
+
+use crate::declaration::wire_range;
+use crate::reader::Reader;
+use std::alloc::Global;
+use xr_grammar::{Declare, Fixed, Item, NetKind, ParseErr, Word};
+
+/// The ports of a module, and what its head declares of them.
+#[derive(Drop)]
+pub struct Head {
+    pub ports: Vec<Word>,
+    pub items: Vec<Item>,
+}
+
+/// What a port takes from the one before.
+#[derive(Clone, Copy)]
+pub struct Direction {
+    pub what: NetKind,
+    pub range: Option<(u32, u32)>,
+}
+
+// head = [ "(" [ ports ] ")" ]
+#[tactic(auto, using(crate::proofs::Runs::no_ports))]
+pub fn module_head(alloc: Global, words: &mut Reader<'_>) -> Result<Head, ParseErr>
+    ensures reads { (b : source) (n : word) → Reads (after_name b n) words.old result (λ h. head_end (under b n h.ports.items h.items.items)) words.new }
+    ensures shortens { OnOk result (length words.new.words ≤ length words.old.words) }
+{
+    if !words.take(Fixed::Open) || words.take(Fixed::Close) {
+        return Ok(Head {
+            ports: Vec::new(alloc),
+            items: Vec::new(alloc),
+        });
+    }
+    if words.take(Fixed::Input) {
+        Ok(declared_ports(alloc, NetKind::Input, words)?)
+    } else if words.take(Fixed::Output) {
+        Ok(declared_ports(alloc, NetKind::Output, words)?)
+    } else {
+        Ok(plain_ports(alloc, words)?)
+    }
+}
+
+// name { "," name } ")"
+fn plain_ports(alloc: Global, words: &mut Reader<'_>) -> Result<Head, ParseErr>
+    requires { (is_fixed fixed.Close (head_of words.old).what ≡ false) × (is_fixed fixed.Input (head_of words.old).what ≡ false) × (is_fixed fixed.Output (head_of words.old).what ≡ false) }
+    ensures reads { (b : source) (n : word) → Reads (first_port b n) words.old result (λ h. head_end (under b n h.ports.items h.items.items)) words.new }
+    ensures shortens { Shortens words.old result words.new }
+{
+    let mut ports = Vec::new(alloc);
+    ports.push(words.name()?.word(alloc)?)?;
+    'ports: while words.more(Fixed::Close)? {
+        ports.push(words.name()?.word(alloc)?)?;
+    }
+    Ok(Head {
+        ports,
+        items: Vec::new(alloc),
+    })
+}
+
+// port { "," port } ")", behind its first direction
+fn declared_ports(alloc: Global, what: NetKind, words: &mut Reader<'_>) -> Result<Head, ParseErr>
+    ensures reads { (b : source) (n : word) → Reads (port_direction (under b n [] []) what None) words.old result (λ h. head_end (under b n h.ports.items h.items.items)) words.new }
+    ensures shortens { Shortens words.old result words.new }
+{
+    let mut head = Head {
+        ports: Vec::new(alloc),
+        items: Vec::new(alloc),
+    };
+    let mut direction = Direction { what, range: None };
+    'ports: loop {
+        direction.range = wire_range(words, direction.range)?;
+        port(alloc, direction, words, &mut head.ports, &mut head.items)?;
+        if !words.more(Fixed::Close)? {
+            return Ok(head);
+        }
+        direction = next_direction(words, direction);
+    }
+}
+
+/// The name of a port.
+fn port(
+    alloc: Global,
+    direction: Direction,
+    words: &mut Reader<'_>,
+    ports: &mut Vec<Word>,
+    items: &mut Vec<Item>,
+) -> Result<(), ParseErr>
+    ensures reads { (b : source) (n : word) → Reads (port_word (under b n ports.old.items items.old.items) direction.what direction.range) words.old result (λ _. after_declared_port (under b n ports.new.items items.new.items) direction.what direction.range) words.new }
+    ensures shortens { Shortens words.old result words.new }
+{
+    let name = words.name()?;
+    ports.push(name.word(alloc)?)?;
+    items.push(Item::Declare(Declare {
+        what: direction.what,
+        range: direction.range,
+        name: name.word(alloc)?,
+        value: None,
+    }))?;
+    Ok(())
+}
+
+/// The direction of a port, which is that of the port before where none stands here.
+#[tactic(auto, using(crate::proofs::Runs::undirected))]
+fn next_direction(words: &mut Reader<'_>, had: Direction) -> Direction
+    ensures reads { (u : Under) → goes (declared_port u had.what had.range) words.old ≡ goes (port_direction u result.what result.range) words.new }
+    ensures shortens { length words.new.words ≤ length words.old.words }
+{
+    if words.take(Fixed::Input) {
+        Direction {
+            what: NetKind::Input,
+            range: None,
+        }
+    } else if words.take(Fixed::Output) {
+        Direction {
+            what: NetKind::Output,
+            range: None,
+        }
+    } else {
+        had
+    }
+}

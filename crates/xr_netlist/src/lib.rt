@@ -1,0 +1,22 @@
+//! Netlist texts, read (structural Verilog, IEEE 1364-2005). Start at `parse`.
+#![tactic(auto)]
+
+mod cell;
+mod declaration;
+mod expression;
+mod head;
+mod lexeme;
+mod module;
+mod number;
+mod primitive;
+mod reader;
+mod skip;
+mod table;
+mod text;
+
+pub use text::parse;
+pub use xr_grammar::{
+    Connection, Connections, Declare, Expr, GateItem, GateKind, InstanceItem, Item, Module,
+    NamedConnection, NetKind, ParseErr, Part, PartKind, PrimDeclare, PrimKind, Primitive, Source,
+    Word,
+};

@@ -1,0 +1,89 @@
+//! Modules and their items (IEEE 1364-2005, annex A.1).
+
+ghost use Rattle.std.specs.Prelude.{◌≡◌, List, false};
+ghost use Rattle.xr_grammar.specs.Lexemes.{head, is_fixed};
+ghost use Rattle.xr_grammar.specs.Machine.State.{module_name, in_items, top};
+ghost use Rattle.xr_grammar.specs.Trees.{under, closed, joined, one_module};
+ghost use Rattle.xr_grammar.specs.declared.fixed.Fixed.TheVariants as fixed;
+ghost use Rattle.xr_grammar.specs.declared.tree.Source.{Source as source};
+ghost use Rattle.xr_grammar.specs.declared.tree.Word.{Word as word};
+ghost use Rattle.xr_netlist.specs.Reads.{Reads, Shortens, BeginsNone};
+
+use crate::cell::{assigns, gates, instances};
+use crate::declaration::{directed, names, nets};
+use crate::head::{Head, module_head};
+use crate::reader::Reader;
+use crate::skip::{attribute, specify};
+use std::alloc::Global;
+use xr_base::Items;
+use xr_grammar::{Fixed, Item, Module, NetKind, ParseErr};
+
+// module = "module" name head ";" { item } "endmodule", behind its first word
+pub fn module(alloc: Global, words: &mut Reader<'_>) -> Result<Module, ParseErr>
+    ensures reads { (b : source) → Reads (module_name b) words.old result (λ m. top (joined b (one_module m))) words.new }
+    ensures shortens { Shortens words.old result words.new }
+{
+    let name = words.name()?.word(alloc)?;
+    let Head { ports, mut items } = module_head(alloc, words)?;
+    words.expect(Fixed::Semi)?;
+    'items: while !words.take(Fixed::Endmodule) {
+        item(alloc, words, &mut items)?;
+    }
+    Ok(Module {
+        name,
+        ports: Items::from_vec(ports),
+        items: Items::from_vec(items),
+    })
+}
+
+// item = attribute | directed | nets | "reg" names | gates | instances | assigns | specify
+fn item(alloc: Global, words: &mut Reader<'_>, items: &mut Vec<Item>) -> Result<(), ParseErr>
+    requires { is_fixed fixed.Endmodule (head words.old).what ≡ false }
+    ensures reads { (b : source) (n : word) (ps : List word) → Reads (in_items (under b n ps items.old.items)) words.old result (λ _. in_items (under b n ps items.new.items)) words.new }
+    ensures shortens { Shortens words.old result words.new }
+{
+    if words.take(Fixed::Open) {
+        attribute(words)?;
+    } else if words.take(Fixed::Input) {
+        directed(alloc, NetKind::Input, words, items)?;
+    } else if words.take(Fixed::Output) {
+        directed(alloc, NetKind::Output, words, items)?;
+    } else if words.take(Fixed::Wire) {
+        nets(alloc, NetKind::Wire, words, items)?;
+    } else if words.take(Fixed::Tri) {
+        nets(alloc, NetKind::Wire, words, items)?;
+    } else if words.take(Fixed::Supply0) {
+        nets(alloc, NetKind::Supply0, words, items)?;
+    } else if words.take(Fixed::Supply1) {
+        nets(alloc, NetKind::Supply1, words, items)?;
+    } else if words.take(Fixed::Reg) {
+        names(alloc, NetKind::Reg, None, words, items)?;
+    } else if words.take(Fixed::Assign) {
+        assigns(alloc, words, items)?;
+    } else if words.take(Fixed::Specify) {
+        specify(words)?;
+    } else {
+        cell(alloc, words, items)?;
+    }
+    Ok(())
+}
+
+// gates | instances
+#[tactic(auto, using(crate::proofs::Runs::left_out))]
+fn cell(alloc: Global, words: &mut Reader<'_>, items: &mut Vec<Item>) -> Result<(), ParseErr>
+    requires { BeginsNone (head words.old).what }
+    ensures reads { (b : source) (n : word) (ps : List word) → Reads (in_items (under b n ps items.old.items)) words.old result (λ _. in_items (under b n ps items.new.items)) words.new }
+    ensures shortens { Shortens words.old result words.new }
+{
+    let at = words.at();
+    if let Some(kind) = words.take_gate() {
+        gates(alloc, kind, at, words, items)?;
+        return Ok(());
+    }
+    if words.is_left_out() {
+        return Err(ParseErr::OutOfProfile { at });
+    }
+    let definition = words.name()?;
+    instances(alloc, definition, words, items)?;
+    Ok(())
+}

@@ -1,0 +1,192 @@
+//! Numbers of the grammar (IEEE 1364-2005, clause 3.5).
+
+ghost use Rattle.std.specs.Prelude.{◌≡◌, ◌≤◌, ◌<◌, ◌^◌, ◌*◌, ◌+◌, ◌&&◌, ◌==◌, IfSome, nat_lt, nat_le, length, take_while, Option, Some, None, if◌then◌else◌};
+ghost use Rattle.std.specs.Option.{SomeIff};
+ghost use Rattle.xr_grammar.specs.Bytes.{is_digit as spec_is_digit, worth as spec_worth, are_digits, number_from};
+ghost use Rattle.xr_grammar.specs.Numbers.{int_of, bit_of, literal_of, literal_behind, literal_in, base_of, are_spaced_digits, spaced_number};
+
+use xr_cell::Value;
+
+/// An int: digits, at most 2^31 - 1.
+#[tactic(auto, unfolding(xr_grammar::specs::Numbers::int_of))]
+pub fn int_of(text: &[u8]) -> Option<u32>
+    ensures { result ≡ int_of text.now }
+{
+    if text.is_empty() {
+        return None;
+    }
+    let mut rest = text;
+    let mut value: u32 = 0;
+    'digits: while let [digit, after @ ..] = rest {
+        if !is_digit(*digit) {
+            return None;
+        }
+        if value > 214748364 {
+            return None;
+        }
+        value = value * 10 + worth(*digit) as u32;
+        rest = after;
+    }
+    if value < 2147483648 {
+        Some(value)
+    } else {
+        None
+    }
+}
+
+/// A bit, by one of five spellings.
+#[tactic(auto, unfolding(xr_grammar::specs::Numbers::bit_of))]
+pub fn bit_of(text: &[u8]) -> Option<Value>
+    ensures { result ≡ bit_of text.now }
+{
+    if text == b"1'b0".as_slice() || text == b"0".as_slice() {
+        Some(Value::Zero)
+    } else if text == b"1'b1".as_slice() || text == b"1".as_slice() {
+        Some(Value::One)
+    } else if text == b"1'bx".as_slice() {
+        Some(Value::X)
+    } else {
+        None
+    }
+}
+
+/// A literal, by its size in bits and its value.
+#[tactic(auto, unfolding(xr_grammar::specs::Numbers::literal_of))]
+pub fn literal_of(text: &[u8]) -> Option<(u32, u128)>
+    ensures { result ≡ literal_of text.now }
+{
+    let size = leading_digits(text);
+    literal_behind(size, &text[size.len()..])
+}
+
+/// A literal, by its size and what stands behind the size.
+fn literal_behind(size: &[u8], rest: &[u8]) -> Option<(u32, u128)>
+    ensures { result ≡ literal_behind size.now rest.now }
+{
+    let [quote, letter, digits @ ..] = rest else {
+        return None;
+    };
+    let size = size_of(size, *quote)?;
+    let base = base_of(*letter)?;
+    value_in(size, base, digits)
+}
+
+fn leading_digits(text: &[u8]) -> &[u8]
+    ensures digits { result.now ≡ take_while spec_is_digit text.now }
+    ensures fits { length result.now ≤ length text.now }
+{
+    let mut rest = text;
+    'digits: while let [byte, after @ ..] = rest {
+        if !is_digit(*byte) {
+            break;
+        }
+        rest = after;
+    }
+    &text[..text.len() - rest.len()]
+}
+
+/// The size of a literal, 1 to 128, where a quotation mark stands behind it.
+#[tactic(auto, unfolding(xr_grammar::specs::Numbers::int_of))]
+fn size_of(text: &[u8], quote: u8) -> Option<u32>
+    ensures size { result ≡ (if are_digits text.now && (quote == 39) && nat_le 1 (number_from 10 0 text.now) && nat_le (number_from 10 0 text.now) 128 then Some (number_from 10 0 text.now) else None) }
+    ensures bounds { IfSome result (λ n. (1 ≤ n) × (n ≤ 128)) }
+{
+    if quote != b'\'' {
+        return None;
+    }
+    let size = int_of(text)?;
+    if 1 <= size && size <= 128 {
+        Some(size)
+    } else {
+        None
+    }
+}
+
+/// The base that a letter stands for.
+fn base_of(letter: u8) -> Option<u8>
+    ensures { result ≡ base_of letter }
+{
+    match letter {
+        b'b' | b'B' => Some(2),
+        b'o' | b'O' => Some(8),
+        b'd' | b'D' => Some(10),
+        b'h' | b'H' => Some(16),
+        _ => None,
+    }
+}
+
+/// The size and the value of a literal, where the value fits.
+fn value_in(size: u32, base: u8, digits: &[u8]) -> Option<(u32, u128)>
+    requires size { (1 ≤ size) × (size ≤ 128) }
+    requires base { (2 ≤ base) × (base ≤ 16) }
+    ensures { result ≡ literal_in size digits.now (Some base) }
+{
+    let value = spaced_value(base, digits)?;
+    if fits(value, size) {
+        Some((size, value))
+    } else {
+        None
+    }
+}
+
+/// Whether a number is below two to the power of a size.
+fn fits(number: u128, size: u32) -> bool
+    requires { (1 ≤ size) × (size ≤ 128) }
+    ensures { result ≡ nat_lt number (2 ^ size) }
+{
+    size == 128 || number >> size == 0
+}
+
+/// The number that digits of a base give, with `_` between, where it is below 2^128.
+fn spaced_value(base: u8, text: &[u8]) -> Option<u128>
+    requires { (2 ≤ base) × (base ≤ 16) }
+    ensures { result ≡ (if are_spaced_digits base text.now && nat_lt (spaced_number base text.now) (2 ^ 128) then Some (spaced_number base text.now) else None) }
+{
+    if let [b'_', ..] = text {
+        return None;
+    }
+    let mut rest = text;
+    let mut value: u128 = 0;
+    let mut is_end = false;
+    'digits: while let [byte, after @ ..] = rest {
+        if *byte == b'_' {
+            is_end = false;
+        } else {
+            if worth(*byte) >= base {
+                return None;
+            }
+            value = with_digit(value, base, worth(*byte))?;
+            is_end = true;
+        }
+        rest = after;
+    }
+    if is_end { Some(value) } else { None }
+}
+
+/// A number with one more digit of a base.
+fn with_digit(number: u128, base: u8, digit: u8) -> Option<u128>
+    ensures { SomeIff result (number * base + digit < 2 ^ 128) (number * base + digit) }
+{
+    number.checked_mul(base as u128)?.checked_add(digit as u128)
+}
+
+fn is_digit(b: u8) -> bool
+    ensures { result ≡ spec_is_digit b }
+{
+    b'0' <= b && b <= b'9'
+}
+
+/// What a byte is worth as a digit, 16 where it is none.
+fn worth(b: u8) -> u8
+    ensures { result ≡ spec_worth b }
+{
+    if is_digit(b) {
+        b - b'0'
+    } else if b'a' <= b && b <= b'f' {
+        b - 87
+    } else if b'A' <= b && b <= b'F' {
+        b - 55
+    } else {
+        16
+    }
+}

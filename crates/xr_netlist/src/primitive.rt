@@ -1,0 +1,233 @@
+//! User-defined primitives (IEEE 1364-2005, clause 8 and annex A.5).
+
+ghost use Rattle.std.specs.Prelude.{◌≡◌, ◌≤◌, [], ◌∷◌, ◌++◌, List, false, length, OnOk};
+ghost use Rattle.xr_grammar.specs.Lexemes.{head, is_fixed};
+ghost use Rattle.xr_grammar.specs.Machine.{goes};
+ghost use Rattle.xr_grammar.specs.Machine.State.{primitive_name, first_pin, output_pin, output_declared, after_output, first_input, input_name, input_pin, after_input, primitive_head_end, in_primitive, reg_declared, input_declared, initial_declared, declared_semi, top};
+ghost use Rattle.xr_grammar.specs.Trees.{Within, within, prim_declare, is_sequential as has_reg, joined, one_primitive};
+ghost use Rattle.xr_grammar.specs.declared.fixed.Fixed.TheVariants as fixed;
+ghost use Rattle.xr_grammar.specs.declared.tree.Source.{Source as source};
+ghost use Rattle.xr_grammar.specs.declared.tree.Word.{Word as word};
+ghost use Rattle.xr_netlist.specs.Reads.{Reads, Shortens};
+ghost use Rattle.xr_netlist.specs.Shown.{word_of_name};
+
+use crate::lexeme::Name;
+use crate::reader::Reader;
+use crate::table::rows;
+use std::alloc::{AllocError, Global};
+use xr_base::Items;
+use xr_grammar::{Fixed, ParseErr, PrimDeclare, PrimKind, Primitive, Word};
+
+/// The ports of a primitive, and what its port list declares of them.
+#[derive(Drop)]
+struct Pins {
+    ports: Vec<Word>,
+    declarations: Vec<PrimDeclare>,
+}
+
+// primitive = "primitive" name "(" pins ")" ";" { declaration } "table" rows "endprimitive", behind its first word
+pub fn primitive(alloc: Global, words: &mut Reader<'_>) -> Result<Primitive, ParseErr>
+    ensures reads { (b : source) → Reads (primitive_name b) words.old result (λ p. top (joined b (one_primitive p))) words.new }
+    ensures shortens { Shortens words.old result words.new }
+{
+    let name = words.name()?.word(alloc)?;
+    words.expect(Fixed::Open)?;
+    let Pins {
+        ports,
+        mut declarations,
+    } = port_list(alloc, words)?;
+    words.expect(Fixed::Semi)?;
+    'declarations: while !words.take(Fixed::Table) {
+        declaration(alloc, words, &mut declarations)?;
+    }
+    let rows = rows(alloc, is_sequential(&declarations), words)?;
+    words.expect(Fixed::Endprimitive)?;
+    Ok(Primitive {
+        name,
+        ports: Items::from_vec(ports),
+        declarations: Items::from_vec(declarations),
+        rows: Items::from_vec(rows),
+    })
+}
+
+fn is_sequential(declarations: &[PrimDeclare]) -> bool
+    ensures { result ≡ has_reg declarations.now }
+{
+    declarations
+        .iter()
+        .any(|declaration| matches!(declaration.what, PrimKind::Reg))
+}
+
+// pins = name { "," name } | declared_pins, up to their ")"
+fn port_list(alloc: Global, words: &mut Reader<'_>) -> Result<Pins, ParseErr>
+    ensures reads { (b : source) (n : word) → Reads (first_pin b n) words.old result (λ p. primitive_head_end (within b n p.ports.items p.declarations.items [])) words.new }
+    ensures shortens { Shortens words.old result words.new }
+{
+    if words.take(Fixed::Output) {
+        Ok(declared_pins(alloc, words)?)
+    } else {
+        Ok(plain_pins(alloc, words)?)
+    }
+}
+
+fn plain_pins(alloc: Global, words: &mut Reader<'_>) -> Result<Pins, ParseErr>
+    requires { is_fixed fixed.Output (head words.old).what ≡ false }
+    ensures reads { (b : source) (n : word) → Reads (first_pin b n) words.old result (λ p. primitive_head_end (within b n p.ports.items p.declarations.items [])) words.new }
+    ensures shortens { Shortens words.old result words.new }
+{
+    let mut ports = Vec::new(alloc);
+    ports.push(words.name()?.word(alloc)?)?;
+    'pins: while words.more(Fixed::Close)? {
+        ports.push(words.name()?.word(alloc)?)?;
+    }
+    Ok(Pins {
+        ports,
+        declarations: Vec::new(alloc),
+    })
+}
+
+// declared_pins = "output" output "," "input" name { "," [ "input" ] name }, behind its first word
+fn declared_pins(alloc: Global, words: &mut Reader<'_>) -> Result<Pins, ParseErr>
+    ensures reads { (b : source) (n : word) → Reads (output_pin b n) words.old result (λ p. primitive_head_end (within b n p.ports.items p.declarations.items [])) words.new }
+    ensures shortens { Shortens words.old result words.new }
+{
+    let mut ports = Vec::new(alloc);
+    let mut declarations = Vec::new(alloc);
+    let output = output(alloc, words, &mut declarations)?;
+    ports.push(output.word(alloc)?)?;
+    start_value(alloc, output, words, &mut declarations)?;
+    words.expect(Fixed::Input)?;
+    'inputs: loop {
+        let name = words.name()?;
+        ports.push(name.word(alloc)?)?;
+        declare(alloc, PrimKind::Input, name, &mut declarations)?;
+        if !words.more(Fixed::Close)? {
+            return Ok(Pins {
+                ports,
+                declarations,
+            });
+        }
+        may_input(words);
+    }
+}
+
+// [ "input" ]
+#[tactic(auto, using(crate::proofs::Runs::undirected_input))]
+fn may_input(words: &mut Reader<'_>)
+    ensures reads { (p : Within) → goes (input_pin p) words.old ≡ goes (input_name p) words.new }
+    ensures shortens { length words.new.words ≤ length words.old.words }
+{
+    let _ = words.take(Fixed::Input);
+}
+
+// output = [ "reg" ] name
+fn output<'a>(
+    alloc: Global,
+    words: &mut Reader<'a>,
+    declarations: &mut Vec<PrimDeclare>,
+) -> Result<Name<'a>, ParseErr>
+    ensures pin { declarations.old.items ≡ [] → (b : source) (n : word) → Reads (output_pin b n) words.old result (λ w. after_output (within b n (word_of_name w ∷ []) declarations.new.items []) (word_of_name w)) words.new }
+    ensures declared { (b : source) (n : word) (ps : List word) → Reads (output_declared (within b n ps declarations.old.items [])) words.old result (λ _. declared_semi (within b n ps declarations.new.items [])) words.new }
+    ensures shortens { Shortens words.old result words.new }
+{
+    if words.take(Fixed::Reg) {
+        let name = words.name()?;
+        declare(alloc, PrimKind::Output, name, declarations)?;
+        declare(alloc, PrimKind::Reg, name, declarations)?;
+        return Ok(name);
+    }
+    let name = words.name()?;
+    declare(alloc, PrimKind::Output, name, declarations)?;
+    Ok(name)
+}
+
+// [ "=" bit ] ","
+fn start_value(
+    alloc: Global,
+    name: Name<'_>,
+    words: &mut Reader<'_>,
+    declarations: &mut Vec<PrimDeclare>,
+) -> Result<(), ParseErr>
+    ensures reads { (b : source) (n : word) (ps : List word) → Reads (after_output (within b n ps declarations.old.items []) (word_of_name name.entry)) words.old result (λ _. first_input (within b n ps declarations.new.items [])) words.new }
+    ensures shortens { Shortens words.old result words.new }
+{
+    if !words.take(Fixed::Equals) {
+        return words.expect(Fixed::Comma);
+    }
+    let value = words.bit()?;
+    declare(alloc, PrimKind::Initial(value), name, declarations)?;
+    words.expect(Fixed::Comma)
+}
+
+fn declare(
+    alloc: Global,
+    what: PrimKind,
+    name: Name<'_>,
+    declarations: &mut Vec<PrimDeclare>,
+) -> Result<(), AllocError>
+    ensures { OnOk result (declarations.new.items ≡ declarations.old.items ++ prim_declare what (word_of_name name.entry) ∷ []) }
+{
+    let name = name.word(alloc)?;
+    declarations.push(PrimDeclare { what, name })?;
+    Ok(())
+}
+
+// declaration = "output" output ";" | "reg" name ";" | "input" name { "," name } ";" | "initial" name "=" bit ";"
+fn declaration(
+    alloc: Global,
+    words: &mut Reader<'_>,
+    declarations: &mut Vec<PrimDeclare>,
+) -> Result<(), ParseErr>
+    requires { is_fixed fixed.Table (head words.old).what ≡ false }
+    ensures reads { (b : source) (n : word) (ps : List word) → Reads (in_primitive (within b n ps declarations.old.items [])) words.old result (λ _. in_primitive (within b n ps declarations.new.items [])) words.new }
+    ensures shortens { Shortens words.old result words.new }
+{
+    if words.take(Fixed::Output) {
+        output(alloc, words, declarations)?;
+        words.expect(Fixed::Semi)
+    } else if words.take(Fixed::Reg) {
+        declare(alloc, PrimKind::Reg, words.name()?, declarations)?;
+        words.expect(Fixed::Semi)
+    } else if words.take(Fixed::Input) {
+        inputs(alloc, words, declarations)?;
+        Ok(())
+    } else if words.take(Fixed::Initial) {
+        initial(alloc, words, declarations)?;
+        words.expect(Fixed::Semi)
+    } else {
+        Err(words.peek().fault())
+    }
+}
+
+// name { "," name } ";"
+fn inputs(
+    alloc: Global,
+    words: &mut Reader<'_>,
+    declarations: &mut Vec<PrimDeclare>,
+) -> Result<(), ParseErr>
+    ensures reads { (b : source) (n : word) (ps : List word) → Reads (input_declared (within b n ps declarations.old.items [])) words.old result (λ _. in_primitive (within b n ps declarations.new.items [])) words.new }
+    ensures shortens { Shortens words.old result words.new }
+{
+    'inputs: loop {
+        declare(alloc, PrimKind::Input, words.name()?, declarations)?;
+        if !words.more(Fixed::Semi)? {
+            return Ok(());
+        }
+    }
+}
+
+// name "=" bit
+fn initial(
+    alloc: Global,
+    words: &mut Reader<'_>,
+    declarations: &mut Vec<PrimDeclare>,
+) -> Result<(), ParseErr>
+    ensures reads { (b : source) (n : word) (ps : List word) → Reads (initial_declared (within b n ps declarations.old.items [])) words.old result (λ _. declared_semi (within b n ps declarations.new.items [])) words.new }
+    ensures shortens { Shortens words.old result words.new }
+{
+    let name = words.name()?;
+    words.expect(Fixed::Equals)?;
+    let value = words.bit()?;
+    declare(alloc, PrimKind::Initial(value), name, declarations)?;
+    Ok(())
+}
