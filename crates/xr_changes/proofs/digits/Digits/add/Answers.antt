@@ -1,0 +1,1 @@
+-- Digits of one byte are there already.

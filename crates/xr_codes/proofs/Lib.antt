@@ -1,0 +1,4 @@
+-- Lemmas of xr_codes: lists of codes, places in the table, and what is known after a new code.
+pub mod Numbers
+pub mod Places
+pub mod Tables

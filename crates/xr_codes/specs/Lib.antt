@@ -1,0 +1,3 @@
+-- Definitions of xr_codes: codes in the order of their declaration, and how they are stored.
+pub mod Code
+pub mod Slots

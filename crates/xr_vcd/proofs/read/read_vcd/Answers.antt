@@ -1,0 +1,9 @@
+-- What the text says, or its first fault.
+use Rattle.xr_vcd.proofs.Firsts.{first, only}
+use Rattle.xr_vcd.proofs.read.read_vcd.Goals as goal
+
+pub returns-clause-first : goal.returns-clause-first
+returns-clause-first c = first c.args.bytes.now _ 0 c.read_text.ensures
+
+pub returns-clause-only : goal.returns-clause-only
+returns-clause-only c = λ said h. only c.args.bytes.now _ said h c.read_text.ensures

@@ -1,0 +1,75 @@
+-- What the changes say.
+use Rattle.std.specs.Prelude.{◌≡◌, ℕ, ◌-◌, List, [], ◌∷◌, ◌++◌, length, map, cond, ◌==◌, ◌<◌, ◌≤◌, ◌^◌, nat_le, nat_lt, Option, Some, None, Result, Ok, Err, slice_index, replicate}
+use Rattle.xr_changes.specs.Held.{Change, History, change, track_of, with_change}
+use Rattle.xr_vcd.specs.Bytes.{is_code, rest_of, front_of}
+use Rattle.xr_vcd.specs.Declarations.{Head}
+use Rattle.xr_vcd.specs.Recording.{Recording}
+use Rattle.xr_vcd.specs.Words.{Word}
+use Rattle.xr_codes.specs.declared.codes.Found.{Found}
+use Rattle.xr_vcd.specs.declared.refusal.VcdErr.{VcdErr}
+use Rattle.xr_vcd.specs.declared.refusal.VcdErr.TheVariants.{Syntax, UnknownCode, TimeBack, Width}
+
+-- The declarations, the times of the moments so far, and the changes of each code.
+pub record Body : Type 0 where
+  pub head : Head
+  pub times : List ℕ
+  pub tracks : List (List Change)
+
+-- Behind the declarations there is no moment and no change.
+abbrev pub start : Head → Body
+start h = record { head = h; times = []; tracks = replicate (length h.codes) [] }
+
+-- Changes before the first time belong to time 0, and with no time at all there is one moment, at time 0.
+abbrev pub times_or : List ℕ → List ℕ
+times_or [] = 0 ∷ []
+times_or (t ∷ ts) = t ∷ ts
+
+-- A change is in the last moment, or in the first where there is none yet.
+abbrev pub changed : Body → ℕ → List ℕ → Body
+changed b number digits = record { head = b.head; times = times_or b.times; tracks = with_change b.tracks number (change (length b.times - 1) digits) }
+
+abbrev pub last_time : Body → ℕ
+last_time b = slice_index b.times (length b.times - 1)
+
+abbrev pub with_time : Body → ℕ → Body
+with_time b time = record b { times = b.times ++ time ∷ [] }
+
+-- A time: the first one, one that isn't before the last, or the same, which is the same moment.
+abbrev pub time_on : Option ℕ → Body → ℕ → Result Body VcdErr
+time_on None b at = Err (Syntax at)
+time_on (Some time) b at =
+    cond (length b.times == 0) (Ok (with_time b time))
+    (cond (nat_lt time (last_time b)) (Err (TimeBack at))
+    (cond (time == last_time b) (Ok b) (Ok (with_time b time))))
+
+-- the fault of a code that isn't declared, at this place
+abbrev pub undeclared : List ℕ → ℕ → VcdErr
+undeclared t at = cond (is_code t) (UnknownCode at) (Syntax at)
+
+-- A digit and a code in one word.
+abbrev pub scalar_on : Option Found → Body → Word → Result Body VcdErr
+scalar_on None b t = Err (undeclared (rest_of t.text) t.at)
+scalar_on (Some found) b t = cond found.passed (Ok b) (Ok (changed b found.number (front_of t.text)))
+
+-- Digits, whose word stands at this place, and a code.
+abbrev pub vector_on : Option Found → Body → ℕ → List ℕ → Word → Result Body VcdErr
+vector_on None b at digits t = Err (undeclared t.text t.at)
+vector_on (Some found) b at digits t =
+    cond found.passed (Err (Syntax at))
+    (cond (nat_le (length digits) found.width) (Ok (changed b found.number digits)) (Err (Width at)))
+
+-- A real number, whose word stands at this place, and a code.
+abbrev pub real_on : Option Found → Body → ℕ → Word → Result Body VcdErr
+real_on None b at t = Err (undeclared t.text t.at)
+real_on (Some found) b at t = cond found.passed (Ok b) (Err (Syntax at))
+
+-- What the whole text says, where it ends here.
+abbrev pub recording_of : Body → Recording
+recording_of b = record { timescale = b.head.timescale; scopes = b.head.scopes; variables = b.head.variables; times = times_or b.times; changes = map (track_of b.tracks) b.head.numbers }
+
+-- How a body is stored: each code has its changes, its last change is in no moment after the last, and there are fewer than 2^28
+-- moments.
+pub record IsBody (head : Head) (times : List ℕ) (stored : History) : Type 0 where
+  pub known : length stored.tracks ≡ length head.codes
+  pub moments : stored.moment ≤ length times - 1
+  pub few : length times < 2 ^ 28

@@ -1,0 +1,39 @@
+-- What a text says, and its first fault.
+use Rattle.std.specs.Prelude.{◌≡◌, ℕ, List, [], ◌∷◌, ◌++◌, length, Ok, Err}
+use Rattle.xr_vcd.specs.Declarations.{nothing}
+use Rattle.xr_vcd.specs.Machine.{State, Next, step, finish, run}
+use Rattle.xr_vcd.specs.Machine.State.{head as before_declarations}
+use Rattle.xr_vcd.specs.Recording.{Recording}
+use Rattle.xr_vcd.specs.Words.{Word, words_of}
+use Rattle.xr_vcd.specs.declared.refusal.VcdErr.{VcdErr}
+
+-- At the beginning nothing is declared.
+abbrev pub beginning : State
+beginning = before_declarations nothing
+
+-- The whole text says this recording.
+abbrev pub Says : List ℕ → Recording → Type 0
+Says text r = run beginning (words_of text) (length text) ≡ Ok r
+
+abbrev pub reach_on : Next → (State → Next) → Next
+reach_on (Ok s) next = next s
+reach_on (Err e) next = Err e
+
+-- The state that words lead to, where none of them is refused.
+abbrev pub reach : State → List Word → Next
+reach s [] = Ok s
+reach s (t ∷ ts) = reach_on (step s t) (λ next. reach next ts)
+
+-- A state refuses the word that stands there, or the end of the text, with this fault.
+abbrev pub stops : State → List Word → ℕ → VcdErr → Type 0
+stops s [] stop e = finish s stop ≡ Err e
+stops s (t ∷ ts) stop e = step s t ≡ Err e
+
+-- The words before are read without a fault, and what stands there then is refused with this one.
+pub record FirstFault (text : List ℕ) (e : VcdErr) : Type 0 where
+  pub front : List Word
+  pub rest : List Word
+  pub split : words_of text ≡ front ++ rest
+  pub state : State
+  pub reached : reach beginning front ≡ Ok state
+  pub stopped : stops state rest (length text) e

@@ -1,0 +1,64 @@
+-- What the functions that read do with the words that are left.
+use Rattle.std.specs.Prelude.{◌≡◌, ◌≢◌, ◌<◌, ℕ, List, [], ◌∷◌, length, Option, Some, None, Result, Ok, Err}
+use Rattle.xr_vcd.specs.Changes.{Body}
+use Rattle.xr_vcd.specs.Machine.{State, Next, run, then_run}
+use Rattle.xr_vcd.specs.Recording.{Recording}
+use Rattle.xr_vcd.specs.Words.{Left, word}
+use Rattle.xr_vcd.specs.declared.refusal.VcdErr.{VcdErr}
+use Rattle.xr_vcd.specs.declared.refusal.VcdErr.TheVariants.{Memory, Truncated}
+use denote.Ref.{Bor}
+
+-- these words, with one in front
+abbrev pub before : ℕ → List ℕ → Left → Left
+before at text left = record { words = word at text ∷ left.words; stop = left.stop }
+
+-- The next word is taken, or there is none.
+abbrev pub Takes : Left → Option (ℕ × Bor (List ℕ)) → Left → Type 0
+Takes old (Some r) new = old ≡ before r.0 r.1.now new
+Takes old None new = (old.words ≡ []) × (new ≡ old)
+
+-- The next word is taken, or the text is cut short.
+abbrev pub Needs : Left → Result (ℕ × Bor (List ℕ)) VcdErr → Left → Type 0
+Needs old (Ok r) new = old ≡ before r.0 r.1.now new
+Needs old (Err e) new = (old.words ≡ []) × (e ≡ Truncated old.stop)
+
+-- what the words that are left say, from this state on
+abbrev pub goes : State → Left → Result Recording VcdErr
+goes s left = run s left.words left.stop
+
+abbrev pub goes_on : Next → Left → Result Recording VcdErr
+goes_on next left = then_run next (λ s. goes s left)
+
+-- A fault other than want of memory is that of the words.
+abbrev pub Refuses : Result Recording VcdErr → VcdErr → Type 0
+Refuses r e = e ≢ Memory → r ≡ Err e
+
+-- From this state the words were read up to the next one, or refused.
+abbrev pub Reads : {X : Type 0} → State → Left → Result X VcdErr → (X → State) → Left → Type 0
+Reads s old (Ok x) next new = goes s old ≡ goes (next x) new
+Reads s old (Err e) next new = Refuses (goes s old) e
+
+-- the same from where a word led
+abbrev pub ReadsOn : {X : Type 0} → Next → Left → Result X VcdErr → (X → State) → Left → Type 0
+ReadsOn s old (Ok x) next new = goes_on s old ≡ goes (next x) new
+ReadsOn s old (Err e) next new = Refuses (goes_on s old) e
+
+-- On Ok fewer words are left.
+abbrev pub Shortens : {X : Type 0} → Left → Result X VcdErr → Left → Type 0
+Shortens old (Ok x) new = length new.words < length old.words
+Shortens old (Err e) new = Unit {0}
+
+-- Done, or there was no memory.
+abbrev pub Does : {X : Type 0} → Result X VcdErr → Type 0 → Type 0
+Does (Ok x) p = p
+Does (Err e) p = e ≡ Memory
+
+-- The answer is what the words say, or want of memory.
+abbrev pub Answers : Result Recording VcdErr → Result Recording VcdErr → Type 0
+Answers (Ok r) said = said ≡ Ok r
+Answers (Err e) said = Refuses said e
+
+-- A change of the body gave this one, or its fault.
+abbrev pub Gives : {X : Type 0} → Result X VcdErr → Body → Result Body VcdErr → Type 0
+Gives (Ok x) new said = said ≡ Ok new
+Gives (Err e) new said = e ≢ Memory → said ≡ Err e

@@ -1,0 +1,47 @@
+-- A recording: what a text says.
+use Rattle.std.specs.Prelude.{ℕ, ◌-◌, List, [], ◌∷◌, ◌++◌, length, Option, Some, None, slice_get, slice_index_or}
+use Rattle.xr_cell.specs.declared.value.Value.{Value}
+use Rattle.xr_changes.specs.Held.{Change, bit_value}
+use Rattle.xr_vcd.specs.declared.variable.Variable.{Variable}
+use Rattle.xr_vcd.specs.declared.variable.Scope.{Scope}
+
+-- The names of scopes, from the top.
+abbrev pub Path : Type 0
+Path = List (List ℕ)
+
+-- The path of a scope; number 0 is the place outside every scope.
+abbrev pub path_at : List Path → ℕ → Path
+path_at paths scope = slice_index_or paths scope []
+
+-- What a text says: its timescale, the path of each scope, the variables that aren't passed over, the time of each moment, and
+-- for each variable the changes of its code, all in the order of the text.
+pub record Recording : Type 0 where
+  pub timescale : Option (List ℕ)
+  pub scopes : List Path
+  pub variables : List Variable
+  pub times : List ℕ
+  pub changes : List (List Change)
+
+abbrev pub width_of : Option Variable → ℕ
+width_of None = 0
+width_of (Some variable) = variable.width
+
+-- the width of the variable with this number
+abbrev pub width_at : Recording → ℕ → ℕ
+width_at r variable = width_of (slice_get r.variables variable)
+
+-- The value of a bit of a variable, counted from the left, in a moment.
+abbrev pub value_at : Recording → ℕ → ℕ → ℕ → Value
+value_at r variable bit moment = bit_value (slice_index_or r.changes variable []) (width_at r variable) bit moment
+
+-- The paths of scopes, each with its parent and its name, behind those of the scopes before them.
+abbrev pub paths_from : List Path → List Scope → List Path
+paths_from paths [] = paths
+paths_from paths (s ∷ ss) = paths_from (paths ++ (path_at paths s.parent ++ s.name ∷ []) ∷ []) ss
+
+abbrev pub paths_of : List Scope → List Path
+paths_of ss = paths_from ([] ∷ []) ss
+
+-- The name of a scope: the last of its path.
+abbrev pub last_name : Path → List ℕ
+last_name path = slice_index_or path (length path - 1) []

@@ -1,0 +1,26 @@
+-- How scopes are stored, and how many scopes, variables and moments there are.
+use Rattle.std.specs.Prelude.{ℕ, ◌+◌, ◌^◌, ◌<◌, ◌≤◌, List, length, slice_index_or, All}
+use Rattle.xr_vcd.specs.declared.variable.Scope.{Scope}
+use Rattle.xr_vcd.specs.declared.variable.Variable.{Variable}
+
+-- Scope number k + 1 is stored at k, and its parent has a lower number.
+abbrev pub IsTree : List Scope → Type 0
+IsTree ss = (k : ℕ) → (d : Scope) → k < length ss → (slice_index_or ss k d).parent ≤ k
+
+-- The scopes that are entered are there.
+abbrev pub IsEntered : List Scope → List ℕ → Type 0
+IsEntered ss entered = All (λ scope. scope ≤ length ss) entered
+
+-- Declarations: fewer than 2^28 scopes, with the place outside every scope, and fewer than 2^28 variables.
+pub record IsHead (scopes : List Scope) (entered : List ℕ) (variables : List Variable) : Type 0 where
+  pub tree : IsTree scopes
+  pub entered_ : IsEntered scopes entered
+  pub scopes_ : length scopes + 1 < 2 ^ 28
+  pub variables_ : length variables < 2 ^ 28
+
+-- A recording: fewer than 2^28 scopes, variables and moments.
+pub record IsFew (scopes : List Scope) (variables : List Variable) (times : List ℕ) : Type 0 where
+  pub tree : IsTree scopes
+  pub scopes_ : length scopes + 1 < 2 ^ 28
+  pub variables_ : length variables < 2 ^ 28
+  pub times_ : length times < 2 ^ 28

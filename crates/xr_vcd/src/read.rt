@@ -1,0 +1,53 @@
+//! Reading a whole text.
+
+ghost use Rattle.std.specs.Prelude.{◌≡◌, ◌≢◌, false, ◌≤◌, ◌^◌, length, IfOk, IfErr, MatchResult};
+ghost use Rattle.xr_vcd.specs.Changes.{start};
+ghost use Rattle.xr_vcd.specs.Faults.{Says, FirstFault, beginning};
+ghost use Rattle.xr_vcd.specs.Machine.State.{body as in_body};
+ghost use Rattle.xr_vcd.specs.Reading.{Answers, goes};
+ghost use Rattle.xr_vcd.specs.Recording.{Recording as Said};
+ghost use Rattle.xr_vcd.specs.Words.{left_of};
+ghost use Rattle.xr_vcd.specs.declared.refusal.VcdErr.TheVariants.{Memory as OutOfMemory};
+
+use crate::body::{Body, read_changes};
+use crate::head::Head;
+use crate::recording::Recording;
+use crate::refusal::VcdErr;
+use crate::sections::read_declarations;
+use crate::words::Words;
+use std::alloc::Global;
+
+/// The recording that a text says, or the text's first fault. Time is linear in the text. Memory is of the order of the text: 8
+/// bytes for each change and each moment, 4 more and a byte for each digit of a change of several digits, and what the
+/// declarations take.
+pub fn read_vcd(alloc: Global, bytes: &[u8]) -> Result<Recording, VcdErr>
+    requires { length bytes.now ≤ 2 ^ 28 }
+
+    ensures says { IfOk result (λ recording. Says bytes.now recording) }
+    ensures first { IfErr result (λ refusal. refusal ≢ OutOfMemory → FirstFault bytes.now refusal) }
+
+    // A text that says a recording is refused for want of memory alone.
+    ensures only { (said : Said) → Says bytes.now said → MatchResult result (λ recording. recording ≡ said) (λ refusal. refusal ≡ OutOfMemory) }
+{
+    read_text(alloc, bytes)
+}
+
+fn read_text(alloc: Global, bytes: &[u8]) -> Result<Recording, VcdErr>
+    requires { length bytes.now ≤ 2 ^ 28 }
+    ensures { Answers result (goes beginning (left_of 0 bytes.now)) }
+{
+    let mut words = Words::new(bytes);
+    let mut head = Head::new(alloc);
+    read_declarations(&mut words, &mut head)?;
+    read_body(&mut words, head)
+}
+
+/// Reads what stands behind the declarations.
+fn read_body<'a>(words: &mut Words<'a>, head: Head<'a>) -> Result<Recording, VcdErr>
+    ensures { Answers result (goes (in_body (start head.entry) false) words.old) }
+{
+    let mut body = Body::new(head)?;
+    read_changes(words, &mut body)?;
+    let recording = body.into_recording()?;
+    Ok(recording)
+}

@@ -1,0 +1,172 @@
+//! Recordings.
+
+ghost use Rattle.std.specs.Prelude.{◌≡◌, ◌<◌, length};
+
+use crate::head::Head;
+use crate::variable::{Scope, Variable};
+use std::marker::Model;
+use xr_base::Items;
+use xr_cell::Value;
+use xr_changes::Changes;
+
+/// A recording. Scopes are numbered in the order of the text, from 1; 0 is the place outside every scope. Variables and moments
+/// are numbered from 0.
+#[derive(Drop)]
+pub struct Recording {
+    timescale: Option<Items<u8>>,
+    scopes: Vec<Scope>,
+    variables: Vec<Variable>,
+    numbers: Vec<u32>,
+    times: Vec<u64>,
+    changes: Changes,
+}
+
+impl Model for Recording {
+    ghost use Rattle.std.specs.Prelude.{map};
+    ghost use Rattle.xr_changes.specs.Held.{track_of};
+    ghost use Rattle.xr_vcd.specs.Recording.{Recording, paths_of};
+    ghost use Rattle.xr_vcd.specs.Trees.{IsFew};
+
+    ghost Value = { Recording };
+
+    ghost view = { λ r. record { timescale = r.timescale; scopes = paths_of r.scopes.items; variables = r.variables.items; times = r.times.items; changes = map (track_of r.changes.tracks) r.numbers.items } };
+
+    ghost invariant = { λ r. IsFew r.scopes.items r.variables.items r.times.items };
+}
+
+impl Recording {
+    ghost use Rattle.std.specs.Prelude.{◌≡◌, ◌+◌, ◌<◌, ◌^◌, [], ◌∷◌, ◌++◌, length, map, option_map, slice_index_or};
+    ghost use Rattle.xr_changes.specs.Held.{track_of};
+    ghost use Rattle.xr_vcd.specs.Recording.{path_at, last_name, value_at, width_at};
+
+    /// What the declarations, the times and the changes say. Takes no memory.
+    pub(crate) fn new(head: Head<'_>, times: Vec<u64>, changes: Changes) -> Recording
+        requires { length times.items < 2 ^ 28 }
+        ensures { result ≡ record { timescale = head.entry.timescale; scopes = head.entry.scopes; variables = head.entry.variables; times = times.items; changes = map (track_of changes.tracks) head.entry.numbers } }
+    {
+        let Head {
+            alloc: _,
+            timescale,
+            scopes,
+            entered: _,
+            codes: _,
+            variables,
+            numbers,
+        } = head;
+        Recording {
+            timescale,
+            scopes,
+            variables,
+            numbers,
+            times,
+            changes,
+        }
+    }
+
+    /// The number and the unit of the timescale, joined. Takes no memory.
+    pub fn timescale(&self) -> Option<&[u8]>
+        ensures { option_map (λ scale. scale.now) result ≡ self.now.timescale }
+    {
+        match &self.timescale {
+            Some(scale) => Some(scale.as_slice()),
+            None => None,
+        }
+    }
+
+    /// How many scopes there are, with the place outside every scope. Takes no memory.
+    pub fn scope_count(&self) -> usize
+        ensures count { result ≡ length self.now.scopes }
+        ensures some { 0 < result }
+        ensures few { result < 2 ^ 28 }
+        ensures outside { path_at self.now.scopes 0 ≡ [] }
+    {
+        self.scopes.len() + 1
+    }
+
+    /// The scope that a scope is in. Takes no memory.
+    pub fn scope_parent(&self, scope: u32) -> u32
+        requires some { 0 < scope }
+        requires known { scope < length self.now.scopes }
+        ensures before { result < scope }
+        ensures path { path_at self.now.scopes scope ≡ path_at self.now.scopes result ++ last_name (path_at self.now.scopes scope) ∷ [] }
+    {
+        self.scopes[scope as usize - 1].parent
+    }
+
+    /// The name of a scope. Takes no memory.
+    pub fn scope_name(&self, scope: u32) -> &[u8]
+        requires some { 0 < scope }
+        requires known { scope < length self.now.scopes }
+        ensures { result.now ≡ last_name (path_at self.now.scopes scope) }
+    {
+        self.scopes[scope as usize - 1].name.as_slice()
+    }
+
+    /// The variables, in the order of the text. Takes no memory.
+    pub fn variables(&self) -> &[Variable]
+        ensures list { result.now ≡ self.now.variables }
+        ensures few { length self.now.variables < 2 ^ 28 }
+    {
+        self.variables.as_slice()
+    }
+
+    /// The width of a variable. Takes no memory.
+    pub fn width(&self, variable: u32) -> u32
+        requires { variable < length self.now.variables }
+        ensures { result ≡ width_at self.now variable }
+    {
+        self.variables[variable as usize].width
+    }
+
+    /// How many changes the text has of the variable's code. Takes no memory.
+    pub fn change_count(&self, variable: u32) -> usize
+        requires { variable < length self.now.variables }
+        ensures { result ≡ length (slice_index_or self.now.changes variable []) }
+    {
+        match self.numbers.get(variable as usize) {
+            Some(number) => self.changes.count(*number as usize),
+            None => 0,
+        }
+    }
+
+    /// The time of each moment, ascending. Takes no memory.
+    pub fn times(&self) -> &[u64]
+        ensures list { result.now ≡ self.now.times }
+        ensures few { length self.now.times < 2 ^ 28 }
+    {
+        self.times.as_slice()
+    }
+
+    /// The value of a bit of a variable, counted from the left, in a moment. Takes no memory, and time by the logarithm of the
+    /// number of the variable's changes.
+    pub fn value(&self, variable: u32, bit: u32, moment: u32) -> Value
+        requires variable { variable < length self.now.variables }
+        requires bit { bit < width_at self.now variable }
+        requires moment { moment < length self.now.times }
+        ensures { result ≡ value_at self.now variable bit moment }
+    {
+        let (value, _) = self.value_near(variable, bit, moment, usize::MAX);
+        value
+    }
+
+    /// The same from a hint on: how many changes of the variable come up to some moment. The answer has that number for this one.
+    pub(crate) fn value_near(
+        &self,
+        variable: u32,
+        bit: u32,
+        moment: u32,
+        hint: usize,
+    ) -> (Value, usize)
+        requires variable { variable < length self.now.variables }
+        requires bit { bit < width_at self.now variable }
+        ensures { result.0 ≡ value_at self.now variable bit moment }
+    {
+        let width = self.variables[variable as usize].width;
+        match self.numbers.get(variable as usize) {
+            Some(number) => self
+                .changes
+                .value_near(*number as usize, width, bit, moment, hint),
+            None => (Value::X, 0),
+        }
+    }
+}

@@ -1,0 +1,300 @@
+mod simulators;
+
+use crate::{Cursor, Recording, VcdErr, read_vcd};
+use std::fmt::Write;
+use std::process::Abort;
+use std::test::Fail;
+
+/// A recording of one variable `v` of 4 bits with the code `!`, and these changes.
+const FOUR: &str = "$var wire 4 ! v $end $enddefinitions $end ";
+
+fn read(rt: &(impl Abort + AllocGlobal), text: &str) -> Result<Recording, VcdErr> {
+    assert!(rt; text.len() <= 268_435_456);
+    read_vcd(rt.alloc(), text.as_bytes())
+}
+
+/// The refusal by its number in the list of refusals, 0 for none, and its byte.
+fn fault(rt: &(impl Abort + AllocGlobal), text: &str) -> (u8, usize) {
+    match read(rt, text) {
+        Ok(_) => (0, 0),
+        Err(VcdErr::Syntax { at }) => (1, at),
+        Err(VcdErr::UnknownCode { at }) => (2, at),
+        Err(VcdErr::TimeBack { at }) => (3, at),
+        Err(VcdErr::Width { at }) => (4, at),
+        Err(VcdErr::DumpOff { at }) => (5, at),
+        Err(VcdErr::Truncated { at }) => (6, at),
+        Err(VcdErr::Memory) => (7, 0),
+    }
+}
+
+/// The bits of a variable in a moment, by their letters.
+fn letters(
+    rt: &(impl Abort + AllocGlobal),
+    recording: &Recording,
+    variable: u32,
+    moment: u32,
+) -> Result<String, Fail> {
+    let mut letters = String::new(rt.alloc());
+    assert!(rt; (variable as usize) < recording.variables().len());
+    assert!(rt; (moment as usize) < recording.times().len());
+    for bit in 0..recording.width(variable) {
+        write!(letters, "{}", recording.value(variable, bit, moment))?;
+    }
+    Ok(letters)
+}
+
+#[test]
+fn malicious_texts(rt: HostRuntime) {
+    let rows = [
+        ("$var wire 0 ! a $end", (4, 10)),
+        ("$enddefinitions $end $dumpoff", (5, 21)),
+        ("$enddefinitions $end 1!", (2, 21)),
+        ("$enddefinitions $end #5 #4", (3, 24)),
+        ("$enddefinitions", (6, 15)),
+    ];
+    for (text, want) in rows {
+        assert_eq!(rt; fault(&rt, text), want, "{text}");
+    }
+}
+
+/// Texts, each with its refusal.
+const DECLARATIONS: [(&str, (u8, usize)); 31] = [
+    ("$enddefinitions $end", (0, 0)),
+    (
+        "$date 1 $var $end $version a $end $comment $end $enddefinitions $end",
+        (0, 0),
+    ),
+    ("$date 1", (6, 7)),
+    (
+        "$timescale 1ns $end $timescale 100 fs $end $enddefinitions $end",
+        (0, 0),
+    ),
+    ("$timescale 2ns $end", (1, 11)),
+    ("$timescale 10 ks $end", (1, 14)),
+    ("$timescale 10 s s", (1, 16)),
+    (
+        "$scope module a $end $upscope $end $enddefinitions $end",
+        (0, 0),
+    ),
+    ("$scope $end a $end $enddefinitions $end", (0, 0)),
+    ("$scope module $end", (1, 14)),
+    ("$scope module a b", (1, 16)),
+    ("$scope module a $end $upscope $end $upscope $end", (1, 35)),
+    ("$upscope", (1, 0)),
+    ("$var $end 1 $end a $end $enddefinitions $end", (0, 0)),
+    ("$var wire 001 ! a $end $enddefinitions $end", (0, 0)),
+    ("$var wire 1048576 ! a $end $enddefinitions $end", (0, 0)),
+    ("$var wire 1048577 ! a $end", (4, 10)),
+    ("$var wire 99999999999999999999999999 ! a $end", (4, 10)),
+    ("$var wire 1x ! a $end", (1, 10)),
+    ("$var wire 1 \x7f a $end", (1, 12)),
+    (
+        "$var wire 1 ! a $end $var reg 1 ! b $end $enddefinitions $end",
+        (0, 0),
+    ),
+    ("$var wire 1 ! a $end $var reg 2 ! b $end", (4, 21)),
+    ("$var real 64 ! a $end $var event 1 ! b $end", (4, 22)),
+    ("$var wire 1 ! $end", (1, 14)),
+    ("$var wire 1 ! a b $end", (1, 16)),
+    ("$var wire 1 ! a [2147483648] $end", (1, 16)),
+    ("$var wire 1 ! a [1:] $end", (1, 16)),
+    ("$var wire 1 ! a [1] $date", (1, 20)),
+    ("$enddefini", (1, 0)),
+    ("$enddefinitions $en", (1, 16)),
+    ("$dumpvars", (1, 0)),
+];
+
+#[test]
+fn declarations_are_read_or_refused(rt: HostRuntime) {
+    for (text, want) in DECLARATIONS {
+        assert_eq!(rt; fault(&rt, text), want, "{text}");
+    }
+}
+
+/// What stands behind the declarations, each with its refusal.
+const CHANGES: [(&str, (u8, usize)); 34] = [
+    ("#007 #7 #18446744073709551615", (0, 0)),
+    ("#18446744073709551616", (1, 0)),
+    ("#", (1, 0)),
+    ("#1a", (1, 0)),
+    ("0! 1! x! X! z! Z!", (0, 0)),
+    ("1", (1, 0)),
+    ("1\"", (2, 0)),
+    ("1\u{e9}", (1, 0)),
+    ("b0 ! B1xXzZ !", (4, 5)),
+    ("b0 ! B1xXz !", (0, 0)),
+    ("b10101 !", (4, 0)),
+    ("b10101 \"", (2, 7)),
+    ("b", (1, 0)),
+    ("b2 !", (1, 0)),
+    ("b1", (6, 2)),
+    ("r1.5 R R-1e3 R r R", (0, 0)),
+    ("r1.5 !", (1, 0)),
+    ("r1.5 \"", (2, 5)),
+    ("r1.5", (6, 4)),
+    ("b1 R", (1, 0)),
+    ("1R", (0, 0)),
+    ("$comment #1 $end", (0, 0)),
+    ("$comment", (6, 8)),
+    ("$dumpvars 1! b0 ! r0 R $end $dumpall $end", (0, 0)),
+    ("$dumpvars 1!", (6, 12)),
+    ("$dumpvars #1", (1, 10)),
+    ("$dumpvars $comment", (1, 10)),
+    ("$dumpall $dumpvars", (1, 9)),
+    ("$dumpvars $dumpoff", (5, 10)),
+    ("$dumpon", (5, 0)),
+    ("$end", (1, 0)),
+    ("$date $end", (1, 0)),
+    ("$enddefinitions $end", (1, 0)),
+    ("#5 #5 #6 #5", (3, 9)),
+];
+
+#[test]
+fn changes_are_read_or_refused(rt: HostRuntime) -> Result<(), Fail> {
+    let head = "$var wire 4 ! v $end $var real 64 R r $end $enddefinitions $end ";
+    for (changes, (number, place)) in CHANGES {
+        let text = format!(in rt.alloc(); "{head}{changes}")?;
+        let at = if number == 0 {
+            0
+        } else {
+            head.len().saturating_add(place)
+        };
+        assert_eq!(rt; fault(&rt, text.as_str()), (number, at), "{changes}");
+    }
+    Ok(())
+}
+
+#[test]
+fn vector_extension(rt: HostRuntime) -> Result<(), Fail> {
+    let rows = [
+        ("bx1 !", "xxx1"),
+        ("b10 !", "0010"),
+        ("bz !", "zzzz"),
+        ("b0x !", "000x"),
+        ("1!", "0001"),
+        ("B1Xz0 !", "1xz0"),
+        ("bZ !", "zzzz"),
+        ("", "xxxx"),
+    ];
+    for (change, want) in rows {
+        let text = format!(in rt.alloc(); "{FOUR}#0 {change}")?;
+        let recording = read(&rt, text.as_str())?;
+        assert_eq!(rt; letters(&rt, &recording, 0, 0)?.as_str(), want, "{change}");
+    }
+    Ok(())
+}
+
+#[test]
+fn recording_cut_short(rt: HostRuntime) -> Result<(), Fail> {
+    let recording = read(
+        &rt,
+        "$var wire 1 ! d0 $end\n$var wire 3 \" d1 $end\n$enddefinitions $end\n",
+    )?;
+    assert_eq!(rt; recording.times(), [0].as_slice());
+    assert_eq!(rt; letters(&rt, &recording, 0, 0)?.as_str(), "x");
+    assert_eq!(rt; letters(&rt, &recording, 1, 0)?.as_str(), "xxx");
+    let cut = "$scope module tb $end\n$scope module dut $end\n$var wire 1 ! d0";
+    assert_eq!(rt; fault(&rt, cut), (6, 61));
+    Ok(())
+}
+
+#[test]
+fn moments(rt: HostRuntime) -> Result<(), Fail> {
+    let rows = [
+        ("", "0:xxxx "),
+        ("#5", "5:xxxx "),
+        ("b1 !", "0:0001 "),
+        (
+            "b1 ! #0 b10 ! #0 b11 ! #7 #9 b100 !",
+            "0:0011 7:0011 9:0100 ",
+        ),
+        ("b1 ! #3", "0:0001 3:0001 "),
+        ("r1 R #3", "3:xxxx "),
+        ("#3 b1 ! b10 ! #4 #4 #4", "3:0010 4:0010 "),
+    ];
+    for (changes, want) in rows {
+        let text = format!(in rt.alloc(); "$var event 1 R r $end {FOUR}{changes}")?;
+        let recording = read(&rt, text.as_str())?;
+        let mut found = String::new(rt.alloc());
+        for (moment, time) in recording.times().iter().enumerate() {
+            let bits = letters(&rt, &recording, 0, moment as u32)?;
+            write!(found, "{time}:{bits} ")?;
+        }
+        assert_eq!(rt; found.as_str(), want, "{changes}");
+    }
+    Ok(())
+}
+
+#[test]
+fn names_of_variables(rt: HostRuntime) -> Result<(), Fail> {
+    let rows = [
+        ("a", "a None false"),
+        ("a [3]", "a Some((3, 3)) false"),
+        ("a [007:0]", "a Some((7, 0)) false"),
+        ("a[2147483647:1]", "a Some((2147483647, 1)) true"),
+        ("a[2147483648]", "a[2147483648] None false"),
+        ("a[1] [2]", "a[1] Some((2, 2)) false"),
+        ("a[1][2]", "a[1] Some((2, 2)) true"),
+        ("a[x]", "a[x] None false"),
+        ("a[]", "a[] None false"),
+        ("[1]", "[1] None false"),
+    ];
+    for (name, want) in rows {
+        let text = format!(in rt.alloc(); "$var wire 1 ! {name} $end $enddefinitions $end")?;
+        let recording = read(&rt, text.as_str())?;
+        let mut found = String::new(rt.alloc());
+        for variable in recording.variables() {
+            let reference = std::str::from_utf8(variable.reference.as_slice())?;
+            let range = variable.range;
+            let direct = variable.direct;
+            write!(found, "{reference} {range:?} {direct}")?;
+        }
+        assert_eq!(rt; found.as_str(), want, "{name}");
+    }
+    Ok(())
+}
+
+/// The bits of a variable in a moment, by a cursor.
+fn letters_by(
+    rt: &(impl Abort + AllocGlobal),
+    cursor: &mut Cursor<'_>,
+    variable: u32,
+    moment: u32,
+) -> Result<String, Fail> {
+    let mut letters = String::new(rt.alloc());
+    let recording = cursor.recording();
+    assert!(rt; (variable as usize) < recording.variables().len());
+    assert!(rt; (moment as usize) < recording.times().len());
+    for bit in 0..recording.width(variable) {
+        write!(letters, "{}", cursor.value(variable, bit, moment))?;
+    }
+    Ok(letters)
+}
+
+#[test]
+fn cursor_goes_forth_and_back(rt: HostRuntime) -> Result<(), Fail> {
+    let text = format!(in rt.alloc(); "{FOUR}#1 #2 b1 ! #3 #4 b10 ! b11 ! #5 bz !")?;
+    let recording = read(&rt, text.as_str())?;
+    let mut cursor = Cursor::new(rt.alloc(), &recording)?;
+    let rows = [
+        (0, "xxxx"),
+        (1, "0001"),
+        (2, "0001"),
+        (3, "0011"),
+        (4, "zzzz"),
+        (1, "0001"),
+        (0, "xxxx"),
+        (3, "0011"),
+    ];
+    for (moment, want) in rows {
+        assert_eq!(rt;
+            letters_by(&rt, &mut cursor, 0, moment)?.as_str(),
+            want,
+            "{moment}"
+        );
+    }
+    let variables = recording.variables().len();
+    assert!(rt; variables == 1);
+    assert_eq!(rt; recording.change_count(0), 4);
+    Ok(())
+}
