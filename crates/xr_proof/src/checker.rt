@@ -1,0 +1,133 @@
+//! The checker: the memory for checking logs.
+
+ghost use Rattle.std.specs.Prelude.{◌≡◌, ◌↔◌, ◌≤◌, length, IfOk, IfErr, IsOk};
+ghost use Rattle.xr_proof.specs.Assignment.{HasNoModel};
+ghost use Rattle.xr_proof.specs.Log.{Refutes, AreFresh, IsBadLine, IsStaleLine, Fit};
+
+use crate::clause::{Cnf, Log};
+use crate::index::Index;
+use crate::lines::{bad_line, stale_line};
+use crate::token::{Bad, Exhausted, Refuted};
+use crate::trail::Trail;
+use std::alloc::Global;
+use std::marker::Model;
+use xr_base::Memory;
+
+/// The memory for checking logs over so many variables. Contracts see that number.
+#[derive(Drop)]
+pub struct Checker {
+    vars: u32,
+    trail: Trail,
+    seen: Trail,
+    index: Index,
+}
+
+impl Model for Checker {
+    ghost use Rattle.std.specs.Prelude.{◌≤◌, ◌+◌, ◌*◌, ℕ};
+    ghost use Rattle.xr_proof.specs.Index.{IsSized};
+    ghost use Rattle.xr_proof.specs.Lines.{HasVars};
+
+    ghost Value = { ℕ };
+
+    ghost view = { λ checker. checker.vars };
+
+    ghost invariant = { λ checker. (checker.vars ≤ 2147483647) × HasVars checker.trail checker.vars × HasVars checker.seen checker.vars × IsSized checker.index (2 * checker.vars + 2) };
+}
+
+impl Checker {
+    /// A checker for variables 1 to `vars`, with no index: it looks through all clauses again at each step. Takes 68 bytes for
+    /// each variable.
+    pub fn new(alloc: Global, vars: u32) -> Result<Checker, Memory>
+        requires { vars ≤ 2147483647 }
+        ensures { IfOk result (λ checker. checker ≡ vars) }
+    {
+        Checker::with_room(alloc, vars, 0, 0)
+    }
+
+    /// A checker for variables 1 to `vars`, with room for an index of so many clauses and literals, those of a formula and a log
+    /// together. Where they have more literals it goes on without the index. Takes 68 bytes for each variable, 16 for each
+    /// literal, and nothing for each clause.
+    pub fn with_room(
+        alloc: Global,
+        vars: u32,
+        _clauses: usize,
+        literals: usize,
+    ) -> Result<Checker, Memory>
+        requires { vars ≤ 2147483647 }
+        ensures { IfOk result (λ checker. checker ≡ vars) }
+    {
+        let codes = 2 * (vars as usize) + 2;
+        let trail = Trail::new(alloc, codes)?;
+        let seen = Trail::new(alloc, codes)?;
+        let index = Index::new(alloc, codes, literals)?;
+        Ok(Checker {
+            vars,
+            trail,
+            seen,
+            index,
+        })
+    }
+
+    /// Whether the log refutes the formula: each clause follows from the formula's and the earlier ones, and the last is empty.
+    /// Takes no memory. The checker can be used again.
+    pub fn check(&mut self, cnf: &Cnf, log: Log) -> Result<Refuted, Bad>
+        requires vars { cnf.now.vars ≤ 2147483647 }
+        requires query { Fit self.old cnf.now.clauses }
+        requires log { Fit self.old log }
+        ensures refutes { IfOk result (λ token. Refutes cnf.now.clauses token) }
+        ensures no_model { IfOk result (λ _. HasNoModel cnf.now.clauses) }
+        ensures exact { IsOk result ↔ Refutes cnf.now.clauses log }
+
+        // the log comes back
+        ensures log { IfOk result (λ token. token ≡ log) }
+        ensures bad_log { IfErr result (λ bad. bad.log ≡ log) }
+        ensures line { IfErr result (λ bad. IsBadLine cnf.now.clauses log bad.line) }
+        ensures kept { self.new ≡ self.old }
+    {
+        self.trail.clear();
+        self.index.clear();
+        if let Some(line) = bad_line(
+            &mut self.trail,
+            &mut self.index,
+            cnf.clauses.as_slice(),
+            log.as_slice(),
+        ) {
+            return Err(Bad { log, line });
+        }
+        Ok(Refuted::from_log(cnf, log))
+    }
+
+    /// Whether the log is fresh and has exactly `limit` clauses. Takes no memory. The checker can be used again.
+    pub fn check_fresh(&mut self, cnf: &Cnf, log: Log, limit: u32) -> Result<Exhausted, Bad>
+        requires vars { cnf.now.vars ≤ 2147483647 }
+        requires query { Fit self.old cnf.now.clauses }
+        requires log { Fit self.old log }
+        ensures fresh { IfOk result (λ token. AreFresh cnf.now.clauses token) }
+        ensures count { IfOk result (λ token. length token ≡ limit) }
+        ensures exact { IsOk result ↔ (AreFresh cnf.now.clauses log × (length log ≡ limit)) }
+
+        // the log comes back
+        ensures log { IfOk result (λ token. token ≡ log) }
+        ensures bad_log { IfErr result (λ bad. bad.log ≡ log) }
+        ensures line { IfErr result (λ bad. IsStaleLine cnf.now.clauses log limit bad.line) }
+        ensures kept { self.new ≡ self.old }
+    {
+        self.trail.clear();
+        self.seen.clear();
+        self.index.clear();
+        if let Some(line) = stale_line(
+            &mut self.trail,
+            &mut self.seen,
+            &mut self.index,
+            cnf.clauses.as_slice(),
+            log.as_slice(),
+            limit,
+        ) {
+            return Err(Bad { log, line });
+        }
+        Ok(Exhausted::from_log(cnf, log, limit))
+    }
+}
+
+#[cfg(test)]
+mod tests;
