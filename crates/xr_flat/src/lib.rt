@@ -1,0 +1,14 @@
+//! Netlists of one flat module of gates, and the designs of such modules. Start at `flat_design`.
+#![tactic(auto)]
+
+mod gates;
+mod module;
+mod names;
+mod netlist;
+mod ports;
+mod refusal;
+#[cfg(test)]
+mod tests;
+
+pub use netlist::{Flat, flat_design};
+pub use refusal::FlatErr;
