@@ -38,9 +38,9 @@ ExpectsAs of old (Err e) new = (of (head old) ≡ None) × (e ≡ fault_of (head
 
 -- a list goes on behind a comma, or is closed
 abbrev pub GoesOn : Fixed → Words → Result Bool ParseErr → Words → Type 0
-GoesOn close old (Ok true) new = old ≡ before (tok (head old).at (quoted fixed.Comma)) new
-GoesOn close old (Ok false) new = old ≡ before (tok (head old).at (quoted close)) new
-GoesOn close old (Err e) new = (is_fixed fixed.Comma (head old).what ≡ false) × (is_fixed close (head old).what ≡ false) × (e ≡ fault_of (head old))
+GoesOn closing old (Ok true) new = old ≡ before (tok (head old).at (quoted fixed.Comma)) new
+GoesOn closing old (Ok false) new = old ≡ before (tok (head old).at (quoted closing)) new
+GoesOn closing old (Err e) new = (is_fixed fixed.Comma (head old).what ≡ false) × (is_fixed closing (head old).what ≡ false) × (e ≡ fault_of (head old))
 
 -- the symbols of a token, the first one and those behind it
 abbrev pub TakesSymbols : Words → Option (ℕ × Bor (List ℕ)) → Words → Type 0
