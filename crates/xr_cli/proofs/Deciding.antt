@@ -23,6 +23,7 @@ use Rattle.xr_cli.specs.RecordingText.{IsBound, IsStimOf}
 use Rattle.xr_cli.specs.declared.recording.Recording.{Recording}
 use Rattle.xr_cli.specs.declared.bit.Bit.{Bit}
 use Rattle.xr_cli.specs.declared.recording.Variable.{Variable}
+use Rattle.xr_cli.specs.Worlds.{choosing}
 use Rattle.xr_cli.specs.Repair.{last_place, Agrees, AgreeBelow, bit_of_variable, Stands, Decided}
 
 last_row : (w s p : ℕ) → 0 < s → p < w → (s - 1) * w + p < w * s
@@ -84,12 +85,13 @@ known_certain j waveform fits whole exact shows place within known = by (written
     by Undecided is holds = absurd holds
 
 -- A waveform that is exact and shows the replay decides the bits of the variables at which the recording agrees.
-pub decided : (design : Design) (order : List ℕ) (stim : Stim) (waveform : List Written) (r : Recording) (bits : List Bit) → IsStimOf design r stim → FitsCircuit design order stim → 0 < (job_of design order stim).moments * (job_of design order stim).rounds → length waveform ≡ places_of (job_of design order stim) → IsExact (job_of design order stim) waveform → ShowsReplay (job_of design order stim) waveform → AllByRecursion (IsBound design) r.variables → AgreeBelow (job_of design order stim) r.variables (length r.variables) → bits ≡ map (bit_of_variable (job_of design order stim) waveform) r.variables → Decided design r bits
-decided design order stim waveform r bits stim_is fits some whole exact shows bound agree is = record {
+pub decided : (design : Design) (order : List ℕ) (stim : Stim) (waveform : List Written) (r : Recording) (bits : List Bit) → IsStimOf design r stim → FitsCircuit design order stim → length (choosing (job_of design order stim)) ≤ 12 → 0 < (job_of design order stim).moments * (job_of design order stim).rounds → length waveform ≡ places_of (job_of design order stim) → IsExact (job_of design order stim) waveform → ShowsReplay (job_of design order stim) waveform → AllByRecursion (IsBound design) r.variables → AgreeBelow (job_of design order stim) r.variables (length r.variables) → bits ≡ map (bit_of_variable (job_of design order stim) waveform) r.variables → Decided design r bits
+decided design order stim waveform r bits stim_is fits few some whole exact shows bound agree is = record {
   order = order;
   stim = stim;
   stim_is = stim_is;
   fits = fits;
+  few = few;
   waveform = waveform;
   whole = whole;
   exact = exact;

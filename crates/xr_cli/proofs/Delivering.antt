@@ -4,13 +4,13 @@ use Rattle.xr_shelf.specs.Shelf.{View, Files, Later, held}
 use Rattle.xr_shelf.specs.Sink.{SinkView}
 use Rattle.xr_shelf.specs.Calls.{HoldsPart}
 use Rattle.xr_cli.specs.Words.{Words, IsRepair}
-use Rattle.xr_cli.specs.Phases.{Repaired, Delivery, DeliveryRefused}
+use Rattle.xr_cli.specs.Phases.{Repaired, netlist_held, Delivery, DeliveryRefused}
 use Rattle.xr_cli.specs.Refusal.{cause_of, text_of, write_text}
 use Rattle.xr_cli.specs.Rows.{Start, Part, RefusedRow}
 use Rattle.xr_cli.specs.declared.refusal.Refusal.{Refusal}
-use Rattle.xr_cli.specs.declared.refusal.Refusal.TheVariants.{Usage, Read, Write, NotBuilt, Memory, Disagrees}
+use Rattle.xr_cli.specs.declared.refusal.Refusal.TheVariants.{Usage, Read, Write, Netlist, Recording, NotBuilt, Memory, Disagrees}
 
-module _ (s : Start) (w : Words) (vcd report : List ℕ) (mid new : View) (sink : SinkView) (is : IsRepair s.line w) (later : Later s.shelf mid) (same : mid.files ≡ s.shelf.files) (texts : IsTrue s.shelf_told → Repaired w (held s.shelf w.netlist) (held s.shelf w.recording) vcd report) where
+module _ (s : Start) (w : Words) (vcd report : List ℕ) (mid new : View) (sink : SinkView) (is : IsRepair s.line w) (later : Later s.shelf mid) (same : mid.files ≡ s.shelf.files) (texts : IsTrue s.shelf_told → Repaired w (netlist_held s.shelf w.netlists) (held s.shelf w.recording) vcd report) where
   part_of : Delivery s.shelf_told s.sink_told w.vcd vcd report mid new s.sink sink → Part s w vcd report new sink
   part_of given = record {
     others = λ other not. given.others other not ∙ ap (λ (files : Files). files other) same;
@@ -36,4 +36,6 @@ module _ (s : Start) (w : Words) (vcd report : List ℕ) (mid new : View) (sink 
   delivered_row Usage given cause = absurd cause
   delivered_row (Read file) given cause = absurd cause
   delivered_row (Disagrees name recorded replayed) given cause = absurd cause
+  delivered_row (Netlist fault) given cause = absurd cause
+  delivered_row (Recording fault) given cause = absurd cause
   delivered_row NotBuilt given cause = absurd cause

@@ -1,8 +1,11 @@
 -- How a run ends: with its row, and the line of the refusal behind what was printed.
 use Rattle.std.specs.Prelude.{◌≡◌, ◌≢◌, ◌⊎◌, ℕ, ◌≤◌, List, [], ◌++◌, Result, Ok, Err, IsTrue, Bool}
-use Rattle.xr_shelf.specs.Shelf.{View, Rose, Prefix}
+use Rattle.xr_shelf.specs.Shelf.{View, Rose, Prefix, held}
 use Rattle.xr_shelf.specs.Sink.{SinkView}
-use Rattle.xr_cli.specs.Words.{NotInSet}
+use Rattle.xr_grammar.specs.declared.refusal.ParseErr.{ParseErr}
+use Rattle.xr_vcd.specs.declared.refusal.VcdErr.{VcdErr}
+use Rattle.xr_cli.specs.Words.{Words, IsRepair, NotInSet}
+use Rattle.xr_cli.specs.Phases.{netlist_held, IsFaultyNetlist, IsFaultyRecording, IsOutside, ChooseMuch}
 use Rattle.xr_cli.specs.Texts.{line}
 use Rattle.xr_cli.specs.Refusal.{Cause, status_of, memory_text, cause_of, text_of}
 use Rattle.xr_cli.specs.Rows.{Start, Row, RefusedRow}
@@ -46,6 +49,27 @@ pub record Ran (s : Start) (shelf : View) (sink : SinkView) (status : ℕ) : Typ
 -- Where the words aren't in the set, the status is 2, want of memory aside.
 abbrev pub UsageExact : Start → ℕ → Type 0
 UsageExact s status = NotInSet s.line → (status ≡ 2) ⊎ (status ≡ 20)
+
+-- The status is this one, a fault of reading and want of memory aside.
+abbrev pub EndsWith : ℕ → ℕ → Type 0
+EndsWith own status = (status ≡ own) ⊎ ((status ≡ 3) ⊎ (status ≡ 20))
+
+-- Where the netlist is none of the grammar, the status is 5.
+abbrev pub NetlistExact : Start → ℕ → Type 0
+NetlistExact s status = IsTrue s.shelf_told → (w : Words) → IsRepair s.line w → (fault : ParseErr) → IsFaultyNetlist (netlist_held s.shelf w.netlists) fault → EndsWith 5 status
+
+-- Where the netlist stands for a design and the recording is none of the grammar, the status is 7.
+abbrev pub RecordingExact : Start → ℕ → Type 0
+RecordingExact s status =
+    IsTrue s.shelf_told → (w : Words) → IsRepair s.line w → (fault : VcdErr) → IsFaultyRecording w (netlist_held s.shelf w.netlists) (held s.shelf w.recording) fault → EndsWith 7 status
+
+-- Where the texts are outside what is built, the status is 14.
+abbrev pub OutsideExact : Start → ℕ → Type 0
+OutsideExact s status = IsTrue s.shelf_told → (w : Words) → IsRepair s.line w → IsOutside w (netlist_held s.shelf w.netlists) (held s.shelf w.recording) → EndsWith 14 status
+
+-- Where too many places choose, the status is 14.
+abbrev pub ChoicesExact : Start → ℕ → Type 0
+ChoicesExact s status = IsTrue s.shelf_told → (w : Words) → IsRepair s.line w → ChooseMuch w (netlist_held s.shelf w.netlists) (held s.shelf w.recording) → EndsWith 14 status
 
 -- There is no other status.
 abbrev pub IsStatus : ℕ → Type 0

@@ -2,10 +2,7 @@ pub mod Circuit
 pub mod Ends
 pub mod NetlistText
 pub mod Next
-pub mod Numbers
-pub mod Ordering
 pub mod Phases
-pub mod RecordingParts
 pub mod RecordingText
 pub mod Refusal
 pub mod Repair

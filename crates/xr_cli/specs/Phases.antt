@@ -1,5 +1,5 @@
 -- What each phase of a run does. A phase names its own refusals and no other.
-use Rattle.std.specs.Prelude.{◌≡◌, ◌⊎◌, ℕ, ◌≤◌, List, ◌++◌, length, Some, Result, IfOk, IfErr, OnOk, IsTrue, Bool, Vec, codes, string_bytes}
+use Rattle.std.specs.Prelude.{◌≡◌, ◌⊎◌, ℕ, ◌<◌, ◌≤◌, List, [], ◌∷◌, ◌++◌, length, map, Contains, Option, Some, None, Result, IfOk, IfErr, OnOk, IsTrue, Bool, Vec, codes, string_bytes}
 use Rattle.std.specs.declared.alloc.Global.{Global}
 use Rattle.xr_shelf.specs.Shelf.{View, Later, Rose, OthersKept, held}
 use Rattle.xr_shelf.specs.Sink.{SinkView}
@@ -8,87 +8,194 @@ use Rattle.xr_cli.specs.Words.{Words, pieces_of}
 use Rattle.xr_cli.specs.Texts.{vcd_text, report_text}
 use Rattle.xr_cell.specs.declared.value.Value.{Value}
 use Rattle.xr_design.specs.declared.design.Design.{Design}
-use Rattle.xr_cli.specs.Repair.{Decided, Disagrees}
+use Rattle.xr_cli.specs.Repair.{Decided, Disagrees, HasManyChoices}
 use Rattle.xr_cli.specs.declared.bit.Bit.{Bit}
-use Rattle.xr_cli.specs.declared.recording.Recording.{Recording}
-use Rattle.xr_cli.specs.NetlistText.{IsNetlist}
-use Rattle.xr_cli.specs.RecordingText.{IsRecording}
+use Rattle.xr_cli.specs.declared.recording.Recording.{Recording as Said}
+use Rattle.xr_grammar.specs.declared.refusal.ParseErr.{ParseErr}
+use Rattle.xr_vcd.specs.Faults.{FirstFault}
+use Rattle.xr_vcd.specs.declared.refusal.VcdErr.{VcdErr}
+use Rattle.xr_cli.specs.NetlistText.{IsNetlist, IsNetlistFault, IsNoFlatNetlist}
+use Rattle.xr_cli.specs.RecordingText.{IsRecording, IsNoFlatRecording, IsStimOf}
+use Rattle.xr_design.specs.Job.{job_of}
+use Rattle.xr_design.specs.declared.stim.Stim.{Stim}
+use Rattle.xr_cli.specs.Circuit.{FitsCircuit}
+use Rattle.xr_cli.specs.Worlds.{choosing}
 use Rattle.xr_cli.specs.declared.refusal.Refusal.{Refusal}
-use Rattle.xr_cli.specs.declared.refusal.Refusal.TheVariants.{Read, Write, NotBuilt, Memory, Disagrees as Differs}
+use Rattle.xr_cli.specs.declared.refusal.Refusal.TheVariants.{Read, Write, Netlist, Recording, NotBuilt, Memory, Disagrees as Differs}
+
+-- The most bytes of a netlist and of a recording.
+abbrev pub netlist_limit : ℕ
+netlist_limit = 67108864
+
+abbrev pub recording_limit : ℕ
+recording_limit = 268435456
 
 -- An input file read, of at most so many bytes.
-abbrev pub InputRefused : List ℕ → View → View → Refusal → Type 0
-InputRefused name old new (Read file) = (string_bytes file ≡ name) × Rose (old.reads name) (new.reads name)
-InputRefused name old new NotBuilt = Unit {0}
-InputRefused name old new Memory = Unit {0}
-InputRefused name old new _ = ⊥
+abbrev pub InputRefused : Bool → List ℕ → ℕ → View → View → Refusal → Type 0
+InputRefused told name limit old new (Read file) = (string_bytes file ≡ name) × Rose (old.reads name) (new.reads name)
+InputRefused told name limit old new NotBuilt = IsTrue told → limit < length (held old name)
+InputRefused told name limit old new Memory = Unit {0}
+InputRefused told name limit old new _ = ⊥
 
 pub record InputRead (told : Bool) (name : List ℕ) (limit : ℕ) (old new : View) (result : Result (Vec ℕ Global) Refusal) : Type 0 where
   pub later : Later old new
   pub files : new.files ≡ old.files
   pub text : IfOk result (λ v. IsTrue told → v.items ≡ held old name)
   pub fits : IfOk result (λ v. length v.items ≤ limit)
-  pub refused : IfErr result (InputRefused name old new)
+  pub refused : IfErr result (InputRefused told name limit old new)
 
--- A text that isn't of the form that is built, or want of memory.
-abbrev pub FormRefused : Refusal → Type 0
-FormRefused NotBuilt = Unit {0}
-FormRefused Memory = Unit {0}
-FormRefused _ = ⊥
+-- A text behind those before it, with a newline between: the first stands alone.
+abbrev pub put_behind : List (List ℕ) → List ℕ → List ℕ → List ℕ
+put_behind [] before text = text
+put_behind (_ ∷ _) before text = before ++ 10 ∷ text
+
+-- Texts joined, with one newline between each two.
+abbrev pub joined_behind : List (List ℕ) → List ℕ → List (List ℕ) → List ℕ
+joined_behind before so_far [] = so_far
+joined_behind before so_far (text ∷ texts) = joined_behind (before ++ text ∷ []) (put_behind before so_far text) texts
+
+abbrev pub joined : List (List ℕ) → List ℕ
+joined texts = joined_behind [] [] texts
+
+-- What the files of a netlist hold, joined.
+abbrev pub netlist_held : View → List (List ℕ) → List ℕ
+netlist_held v names = joined (map (held v) names)
+
+-- A text, or none where it is longer than that.
+abbrev pub IsKept : ℕ → Option (Vec ℕ Global) → List ℕ → Type 0
+IsKept limit (Some v) text = (v.items ≡ text) × (length v.items ≤ limit)
+IsKept limit None text = limit < length text
+
+abbrev pub NetlistsRefused : Bool → List (List ℕ) → ℕ → View → View → Refusal → Type 0
+NetlistsRefused told names limit old new (Read file) = Contains names (string_bytes file) × Rose (old.reads (string_bytes file)) (new.reads (string_bytes file))
+NetlistsRefused told names limit old new NotBuilt = IsTrue told → limit < length (netlist_held old names)
+NetlistsRefused told names limit old new Memory = Unit {0}
+NetlistsRefused told names limit old new _ = ⊥
+
+-- The files of a netlist read, of at most so many bytes joined.
+pub record NetlistsRead (told : Bool) (names : List (List ℕ)) (limit : ℕ) (old new : View) (result : Result (Vec ℕ Global) Refusal) : Type 0 where
+  pub later : Later old new
+  pub files : new.files ≡ old.files
+  pub text : IfOk result (λ v. IsTrue told → v.items ≡ netlist_held old names)
+  pub fits : IfOk result (λ v. length v.items ≤ limit)
+  pub refused : IfErr result (NetlistsRefused told names limit old new)
+
+-- One of the files read: its text, or none where it is longer than that.
+abbrev pub PartRefused : List ℕ → View → View → Refusal → Type 0
+PartRefused name old new (Read file) = (string_bytes file ≡ name) × Rose (old.reads name) (new.reads name)
+PartRefused name old new Memory = Unit {0}
+PartRefused name old new _ = ⊥
+
+pub record PartRead (told : Bool) (name : List ℕ) (limit : ℕ) (old new : View) (result : Result (Option (Vec ℕ Global)) Refusal) : Type 0 where
+  pub later : Later old new
+  pub files : new.files ≡ old.files
+  pub text : IfOk result (λ part. IsTrue told → IsKept limit part (held old name))
+  pub refused : IfErr result (PartRefused name old new)
+
+-- A netlist refused.
+abbrev pub NetlistRefused : List ℕ → List ℕ → Refusal → Type 0
+NetlistRefused text top (Netlist fault) = IsNetlistFault text fault
+NetlistRefused text top NotBuilt = IsNoFlatNetlist text top
+NetlistRefused text top Memory = Unit {0}
+NetlistRefused text top _ = ⊥
+
+-- A recording refused.
+abbrev pub RecordingRefused : List ℕ → List (List ℕ) → Design → Refusal → Type 0
+RecordingRefused text scope design (Recording fault) = FirstFault text fault
+RecordingRefused text scope design NotBuilt = IsNoFlatRecording text scope design
+RecordingRefused text scope design Memory = Unit {0}
+RecordingRefused text scope design _ = ⊥
 
 abbrev pub OnlyMemory : Refusal → Type 0
 OnlyMemory Memory = Unit {0}
 OnlyMemory _ = ⊥
 
 -- The texts of a repair: both are made of the decided bits of the variables.
-pub record MadeTexts (scope : List (List ℕ)) (design : Design) (r : Recording) (vcd report : List ℕ) : Type 0 where
+pub record MadeTexts (scope : List (List ℕ)) (design : Design) (r : Said) (vcd report : List ℕ) : Type 0 where
   pub bits : List Bit
   pub decided : Decided design r bits
   pub vcd_is : vcd ≡ vcd_text r.timescale scope bits
   pub report_is : report ≡ report_text bits
 
 -- The design and the recording that the texts of the input files stand for.
-pub record AreRead (w : Words) (netlist recording : List ℕ) (design : Design) (r : Recording) : Type 0 where
+pub record AreRead (w : Words) (netlist recording : List ℕ) (design : Design) (r : Said) : Type 0 where
+  pub netlist_fits : length netlist ≤ netlist_limit
   pub netlist_is : IsNetlist netlist w.top design
+  pub recording_fits : length recording ≤ recording_limit
   pub recording_is : IsRecording recording (pieces_of w.scope) design r
+
+-- The netlist is none of the grammar.
+pub record IsFaultyNetlist (netlist : List ℕ) (fault : ParseErr) : Type 0 where
+  pub netlist_fits : length netlist ≤ netlist_limit
+  pub is : IsNetlistFault netlist fault
+
+-- The recording is none of the grammar.
+pub record IsFaultyRecording (w : Words) (netlist recording : List ℕ) (fault : VcdErr) : Type 0 where
+  pub design : Design
+  pub netlist_fits : length netlist ≤ netlist_limit
+  pub netlist_is : IsNetlist netlist w.top design
+  pub recording_fits : length recording ≤ recording_limit
+  pub is : FirstFault recording fault
+
+-- Texts outside what is built: a netlist that is too long or whose tree is no flat module named as the top; a recording that is too long or isn't one of
+-- one moment of its nets.
+pub data IsOutside (w : Words) (netlist recording : List ℕ) : Type 0 where
+  long_netlist : netlist_limit < length netlist → IsOutside w netlist recording
+  no_flat_netlist : length netlist ≤ netlist_limit → IsNoFlatNetlist netlist w.top → IsOutside w netlist recording
+  long_recording : (design : Design) → length netlist ≤ netlist_limit → IsNetlist netlist w.top design → recording_limit < length recording → IsOutside w netlist recording
+  no_flat_recording : (design : Design) → length netlist ≤ netlist_limit → IsNetlist netlist w.top design → length recording ≤ recording_limit
+      → IsNoFlatRecording recording (pieces_of w.scope) design → IsOutside w netlist recording
+
+-- What isn't built: texts outside, or more than 12 places that choose.
+pub data IsNotBuilt (w : Words) (netlist recording : List ℕ) : Type 0 where
+  outside : IsOutside w netlist recording → IsNotBuilt w netlist recording
+  many_choices : (design : Design) (r : Said) → AreRead w netlist recording design r → HasManyChoices design r → IsNotBuilt w netlist recording
+
+-- The texts are read, and in whichever order the nets are taken more than 12 places choose.
+pub record ChooseMuch (w : Words) (netlist recording : List ℕ) : Type 0 where
+  pub design : Design
+  pub r : Said
+  pub read : AreRead w netlist recording design r
+  pub many : (other : Design) (said : Said) (order : List ℕ) (stim : Stim) → AreRead w netlist recording other said → IsStimOf other said stim → FitsCircuit other order stim → 12 < length (choosing (job_of other order stim))
 
 -- The texts of the input files stand for a design and a recording of it, and these are the texts of their repair.
 pub record Repaired (w : Words) (netlist recording vcd report : List ℕ) : Type 0 where
   pub design : Design
-  pub r : Recording
+  pub r : Said
   pub read : AreRead w netlist recording design r
   pub texts : MadeTexts (pieces_of w.scope) design r vcd report
 
 -- The texts of the input files stand for a design and a recording of it that differ at a variable.
 pub record Differing (w : Words) (netlist recording name : List ℕ) (recorded replayed : Value) : Type 0 where
   pub design : Design
-  pub r : Recording
+  pub r : Said
   pub read : AreRead w netlist recording design r
   pub disagrees : Disagrees design r name recorded replayed
 
--- The refusal names a variable with both values, or text or memory is wanting.
+-- The refusal names a variable with both values, or memory is wanting.
 abbrev pub SaysDisagreement : List ℕ → Value → Value → Refusal → Type 0
-SaysDisagreement name recorded replayed (Differs said known shown) = (string_bytes said ≡ name) × (known ≡ recorded) × (shown ≡ replayed)
-SaysDisagreement name recorded replayed NotBuilt = Unit {0}
+SaysDisagreement name recorded replayed (Differs said known shown) = (said ≡ name) × (known ≡ recorded) × (shown ≡ replayed)
 SaysDisagreement name recorded replayed Memory = Unit {0}
 SaysDisagreement name recorded replayed _ = ⊥
 
 -- The bits of a recording decided: refused where it disagrees with the replay, at the first variable.
-abbrev pub DecideRefused : Design → Recording → Refusal → Type 0
-DecideRefused design r (Differs name recorded replayed) = Disagrees design r (string_bytes name) recorded replayed
-DecideRefused design r NotBuilt = Unit {0}
+abbrev pub DecideRefused : Design → Said → Refusal → Type 0
+DecideRefused design r (Differs name recorded replayed) = Disagrees design r name recorded replayed
+DecideRefused design r NotBuilt = HasManyChoices design r
 DecideRefused design r Memory = Unit {0}
 DecideRefused design r _ = ⊥
 
 -- The name is that of an input file.
 abbrev pub IsInput : Words → List ℕ → Type 0
-IsInput w name = (name ≡ w.netlist) ⊎ (name ≡ w.recording)
+IsInput w name = Contains w.netlists name ⊎ (name ≡ w.recording)
 
 -- All that comes before the first output: reading, comparing and deciding.
 abbrev pub PrepareRefused : Bool → Words → View → View → Refusal → Type 0
 PrepareRefused told w old new (Read file) = IsInput w (string_bytes file) × Rose (old.reads (string_bytes file)) (new.reads (string_bytes file))
-PrepareRefused told w old new (Differs name recorded replayed) = IsTrue told → Differing w (held old w.netlist) (held old w.recording) (string_bytes name) recorded replayed
-PrepareRefused told w old new NotBuilt = Unit {0}
+PrepareRefused told w old new (Netlist fault) = IsTrue told → IsFaultyNetlist (netlist_held old w.netlists) fault
+PrepareRefused told w old new (Recording fault) = IsTrue told → IsFaultyRecording w (netlist_held old w.netlists) (held old w.recording) fault
+PrepareRefused told w old new (Differs name recorded replayed) = IsTrue told → Differing w (netlist_held old w.netlists) (held old w.recording) name recorded replayed
+PrepareRefused told w old new NotBuilt = IsTrue told → IsNotBuilt w (netlist_held old w.netlists) (held old w.recording)
 PrepareRefused told w old new Memory = Unit {0}
 PrepareRefused told w old new _ = ⊥
 

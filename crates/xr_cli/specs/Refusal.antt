@@ -1,17 +1,28 @@
 -- Why a run is refused: its status and its line.
-use Rattle.std.specs.Prelude.{ℕ, List, [], ◌∷◌, ◌++◌, codes, string_bytes}
+use Rattle.std.specs.Prelude.{ℕ, List, [], ◌∷◌, ◌++◌, codes, decimal, string_bytes}
+use Rattle.xr_text.specs.Left.{place_of}
+use Rattle.xr_text.specs.declared.token.LexErr.{LexErr}
+use Rattle.xr_text.specs.declared.token.LexErr.TheVariants.{BadByte, OpenComment, OpenText, Directive}
+use Rattle.xr_grammar.specs.declared.refusal.ParseErr.{ParseErr}
+use Rattle.xr_grammar.specs.declared.refusal.ParseErr.TheVariants.{Lex, Unexpected, OutOfProfile, Memory as NetlistMemory}
+use Rattle.xr_vcd.specs.declared.refusal.VcdErr.{VcdErr}
+use Rattle.xr_vcd.specs.declared.refusal.VcdErr.TheVariants.{Syntax, UnknownCode, TimeBack, Width, DumpOff, Truncated, Memory as RecordingMemory}
+use Rattle.xr_flat.specs.declared.refusal.FlatErr.{FlatErr}
+use Rattle.xr_flat.specs.declared.refusal.FlatErr.TheVariants.{NotFlat, Memory as FlatMemory}
 use Rattle.xr_cell.specs.declared.value.Value.{Value}
 use Rattle.xr_cell.specs.Value.{letter_of}
 use Rattle.xr_cli.specs.declared.refusal.Refusal.{Refusal}
 use Rattle.xr_cli.specs.declared.unread.Unread.{Unread}
 use Rattle.xr_cli.specs.declared.unread.Unread.TheVariants.{NotBuilt as NotOfTheForm, Memory as NoRoom}
-use Rattle.xr_cli.specs.declared.refusal.Refusal.TheVariants.{Usage, Read, Write, NotBuilt, Memory, Disagrees}
+use Rattle.xr_cli.specs.declared.refusal.Refusal.TheVariants.{Usage, Read, Write, Netlist, Recording, NotBuilt, Memory, Disagrees}
 
 -- The causes of a refusal, without what they name.
 pub data Cause : Type 0 where
   UsageCause : Cause
   ReadCause : Cause
   WriteCause : Cause
+  NetlistCause : Cause
+  RecordingCause : Cause
   DisagreesCause : Cause
   NotBuiltCause : Cause
   MemoryCause : Cause
@@ -20,6 +31,8 @@ abbrev pub cause_of : Refusal → Cause
 cause_of Usage = UsageCause
 cause_of (Read name) = ReadCause
 cause_of (Write name) = WriteCause
+cause_of (Netlist fault) = NetlistCause
+cause_of (Recording fault) = RecordingCause
 cause_of (Disagrees name recorded replayed) = DisagreesCause
 cause_of NotBuilt = NotBuiltCause
 cause_of Memory = MemoryCause
@@ -28,6 +41,8 @@ abbrev pub status_of : Cause → ℕ
 status_of UsageCause = 2
 status_of ReadCause = 3
 status_of WriteCause = 4
+status_of NetlistCause = 5
+status_of RecordingCause = 7
 status_of DisagreesCause = 8
 status_of NotBuiltCause = 14
 status_of MemoryCause = 20
@@ -41,9 +56,55 @@ read_text name = codes "refused: cannot read " ++ name
 abbrev pub write_text : List ℕ → List ℕ
 write_text name = codes "refused: cannot write " ++ name
 
+-- A place and what is wrong there.
+abbrev pub fault_text : ℕ → List ℕ → List ℕ
+fault_text at word = decimal at ++ (codes ": " ++ word)
+
+abbrev pub token_word : LexErr → List ℕ
+token_word (BadByte at) = codes "bad byte"
+token_word (OpenComment at) = codes "open comment"
+token_word (OpenText at) = codes "open text"
+token_word (Directive at) = codes "directive"
+
+abbrev pub netlist_word : ParseErr → List ℕ
+netlist_word (Lex fault) = token_word fault
+netlist_word (Unexpected at) = codes "unexpected"
+netlist_word (OutOfProfile at) = codes "out of profile"
+netlist_word NetlistMemory = codes "memory"
+
+abbrev pub netlist_place : ParseErr → ℕ
+netlist_place (Lex fault) = place_of fault
+netlist_place (Unexpected at) = at
+netlist_place (OutOfProfile at) = at
+netlist_place NetlistMemory = 0
+
+abbrev pub netlist_text : ParseErr → List ℕ
+netlist_text fault = codes "refused: netlist at " ++ fault_text (netlist_place fault) (netlist_word fault)
+
+abbrev pub recording_word : VcdErr → List ℕ
+recording_word (Syntax at) = codes "syntax"
+recording_word (UnknownCode at) = codes "unknown code"
+recording_word (TimeBack at) = codes "time goes back"
+recording_word (Width at) = codes "width"
+recording_word (DumpOff at) = codes "dump off"
+recording_word (Truncated at) = codes "truncated"
+recording_word RecordingMemory = codes "memory"
+
+abbrev pub recording_place : VcdErr → ℕ
+recording_place (Syntax at) = at
+recording_place (UnknownCode at) = at
+recording_place (TimeBack at) = at
+recording_place (Width at) = at
+recording_place (DumpOff at) = at
+recording_place (Truncated at) = at
+recording_place RecordingMemory = 0
+
+abbrev pub recording_text : VcdErr → List ℕ
+recording_text fault = codes "refused: recording at " ++ fault_text (recording_place fault) (recording_word fault)
+
 abbrev pub disagrees_text : List ℕ → Value → Value → List ℕ
 disagrees_text name recorded replayed =
-    codes "refused: disagrees #0 " ++ (name ++ (codes " recorded " ++ (letter_of recorded ∷ codes " replayed " ++ letter_of replayed ∷ [])))
+    (codes "refused: disagrees #0 " ++ name) ++ ((codes " recorded " ++ letter_of recorded ∷ []) ++ (codes " replayed " ++ letter_of replayed ∷ []))
 
 abbrev pub not_built_text : List ℕ
 not_built_text = codes "refused: not built"
@@ -55,7 +116,9 @@ abbrev pub text_of : Refusal → List ℕ
 text_of Usage = usage_text
 text_of (Read name) = read_text (string_bytes name)
 text_of (Write name) = write_text (string_bytes name)
-text_of (Disagrees name recorded replayed) = disagrees_text (string_bytes name) recorded replayed
+text_of (Netlist fault) = netlist_text fault
+text_of (Recording fault) = recording_text fault
+text_of (Disagrees name recorded replayed) = disagrees_text name recorded replayed
 text_of NotBuilt = not_built_text
 text_of Memory = memory_text
 
@@ -63,3 +126,17 @@ text_of Memory = memory_text
 abbrev pub unread_refusal : Unread → Refusal
 unread_refusal NotOfTheForm = NotBuilt
 unread_refusal NoRoom = Memory
+
+-- What a text that is none of the grammar comes to.
+abbrev pub netlist_refusal : ParseErr → Refusal
+netlist_refusal NetlistMemory = Memory
+netlist_refusal fault = Netlist fault
+
+abbrev pub recording_refusal : VcdErr → Refusal
+recording_refusal RecordingMemory = Memory
+recording_refusal fault = Recording fault
+
+-- What a tree that is no flat module comes to.
+abbrev pub flat_refusal : FlatErr → Refusal
+flat_refusal NotFlat = NotBuilt
+flat_refusal FlatMemory = Memory

@@ -1,5 +1,5 @@
 -- What is decided of a recording's bits.
-use Rattle.std.specs.Prelude.{◌≡◌, ◌≢◌, ℕ, ◌*◌, ◌-◌, ◌<◌, List, length, map, slice_get, Some}
+use Rattle.std.specs.Prelude.{◌≡◌, ◌≢◌, ℕ, ◌*◌, ◌-◌, ◌<◌, ◌≤◌, List, length, map, slice_get, Some}
 use Rattle.std.specs.List.{AllByRecursion}
 use Rattle.xr_cell.specs.declared.value.Value.{Value}
 use Rattle.xr_cell.specs.Value.{IsKnown}
@@ -11,6 +11,8 @@ use Rattle.xr_design.specs.declared.waveform.Mark.TheVariants.{Certain}
 use Rattle.xr_design.specs.declared.design.Design.{Design}
 use Rattle.xr_design.specs.declared.stim.Stim.{Stim}
 use Rattle.xr_cli.specs.Circuit.{FitsCircuit}
+use Rattle.xr_cli.specs.Texts.{written_name}
+use Rattle.xr_cli.specs.Worlds.{choosing}
 use Rattle.xr_cli.specs.declared.bit.Bit.{Bit}
 use Rattle.xr_cli.specs.declared.recording.Recording.{Recording}
 use Rattle.xr_cli.specs.declared.recording.Variable.{Variable}
@@ -32,6 +34,7 @@ AgreeBelow j variables n = (k : ℕ) (v : Variable) → k < n → slice_get vari
 abbrev pub bit_of_variable : Job → List Written → Variable → Bit
 bit_of_variable j waveform v = record {
   name = v.name;
+  escaped = v.escaped;
   recorded = v.value;
   shown = (written_at waveform (last_place j v.net)).value;
   mark = (written_at waveform (last_place j v.net)).mark;
@@ -41,6 +44,14 @@ bit_of_variable j waveform v = record {
 abbrev pub Stands : Bit → Type 0
 Stands bit = IsKnown bit.recorded → bit.shown ≡ bit.recorded
 
+-- More than 12 places of the design under the recording's stimulus choose: inputs that are recorded x, each at the first round.
+pub record HasManyChoices (design : Design) (r : Recording) : Type 0 where
+  pub order : List ℕ
+  pub stim : Stim
+  pub stim_is : IsStimOf design r stim
+  pub fits : FitsCircuit design order stim
+  pub many : 12 < length (choosing (job_of design order stim))
+
 -- The bits of the variables are those of a waveform that is exact at every place of the design under the recording's
 -- stimulus, and shows what the replay knows. What it shows known is certain, and there is no other such waveform. The
 -- recording agrees with the replay, and what it knows stands.
@@ -49,6 +60,7 @@ pub record Decided (design : Design) (r : Recording) (bits : List Bit) : Type 0 
   pub stim : Stim
   pub stim_is : IsStimOf design r stim
   pub fits : FitsCircuit design order stim
+  pub few : length (choosing (job_of design order stim)) ≤ 12
   pub waveform : List Written
   pub whole : length waveform ≡ places_of (job_of design order stim)
   pub exact : IsExact (job_of design order stim) waveform
@@ -64,7 +76,7 @@ pub record DiffersAt (j : Job) (variables : List Variable) (first : ℕ) (name :
   pub variable : Variable
   pub is : slice_get variables first ≡ Some variable
   pub earlier : AgreeBelow j variables first
-  pub name_is : name ≡ variable.name
+  pub name_is : name ≡ written_name variable.escaped variable.name
   pub recorded_is : recorded ≡ variable.value
   pub replayed_is : replayed ≡ shown_at j (last_place j variable.net)
   pub differ : recorded ≢ replayed
@@ -75,5 +87,6 @@ pub record Disagrees (design : Design) (r : Recording) (name : List ℕ) (record
   pub stim : Stim
   pub stim_is : IsStimOf design r stim
   pub fits : FitsCircuit design order stim
+  pub few : length (choosing (job_of design order stim)) ≤ 12
   pub first : ℕ
   pub at_first : DiffersAt (job_of design order stim) r.variables first name recorded replayed

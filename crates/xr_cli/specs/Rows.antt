@@ -5,8 +5,10 @@ use Rattle.xr_shelf.specs.Sink.{SinkView}
 use Rattle.xr_shelf.specs.Calls.{HoldsPart, Gained}
 use Rattle.xr_cell.specs.declared.value.Value.{Value}
 use Rattle.xr_cli.specs.Words.{Words, IsRepair, NotInSet}
-use Rattle.xr_cli.specs.Phases.{IsInput, Repaired, Differing, report_name}
-use Rattle.xr_cli.specs.Refusal.{Cause, UsageCause, ReadCause, WriteCause, DisagreesCause, NotBuiltCause, MemoryCause, cause_of, text_of, usage_text, read_text, write_text, disagrees_text, not_built_text, memory_text}
+use Rattle.xr_cli.specs.Phases.{IsInput, Repaired, Differing, IsFaultyNetlist, IsFaultyRecording, IsNotBuilt, netlist_held, report_name}
+use Rattle.xr_cli.specs.Refusal.{Cause, UsageCause, ReadCause, WriteCause, NetlistCause, RecordingCause, DisagreesCause, NotBuiltCause, MemoryCause, cause_of, text_of, usage_text, read_text, write_text, netlist_text, recording_text, disagrees_text, not_built_text, memory_text}
+use Rattle.xr_grammar.specs.declared.refusal.ParseErr.{ParseErr}
+use Rattle.xr_vcd.specs.declared.refusal.VcdErr.{VcdErr}
 use Rattle.xr_cli.specs.declared.refusal.Refusal.{Refusal}
 
 -- What a run is given: its words, the shelf and the sink, and whether these tell their bytes.
@@ -52,7 +54,7 @@ pub record WriteRow (s : Start) (shelf : View) (sink : SinkView) (text : List �
   pub is : IsRepair s.line words
   pub vcd : List ℕ
   pub report : List ℕ
-  pub texts : IsTrue s.shelf_told → Repaired words (held s.shelf words.netlist) (held s.shelf words.recording) vcd report
+  pub texts : IsTrue s.shelf_told → Repaired words (netlist_held s.shelf words.netlists) (held s.shelf words.recording) vcd report
   pub cause : ((text ≡ write_text words.vcd) × Rose (s.shelf.writes words.vcd) (shelf.writes words.vcd)) ⊎ ((text ≡ write_text report_name) × Rose s.sink.faults sink.faults)
   pub part : Part s words vcd report shelf sink
 
@@ -63,13 +65,33 @@ pub record DisagreesRow (s : Start) (shelf : View) (sink : SinkView) (text : Lis
   pub name : List ℕ
   pub recorded : Value
   pub replayed : Value
-  pub differing : IsTrue s.shelf_told → Differing words (held s.shelf words.netlist) (held s.shelf words.recording) name recorded replayed
+  pub differing : IsTrue s.shelf_told → Differing words (netlist_held s.shelf words.netlists) (held s.shelf words.recording) name recorded replayed
   pub untouched : Untouched s shelf sink
   pub text_is : text ≡ disagrees_text name recorded replayed
 
+-- The netlist is none of the grammar, the text names the first token at fault.
+pub record NetlistRow (s : Start) (shelf : View) (sink : SinkView) (text : List ℕ) : Type 0 where
+  pub words : Words
+  pub is : IsRepair s.line words
+  pub fault : ParseErr
+  pub faulty : IsTrue s.shelf_told → IsFaultyNetlist (netlist_held s.shelf words.netlists) fault
+  pub untouched : Untouched s shelf sink
+  pub text_is : text ≡ netlist_text fault
+
+-- The netlist stands for a design, and the recording is none of the grammar, the text names its first fault.
+pub record RecordingRow (s : Start) (shelf : View) (sink : SinkView) (text : List ℕ) : Type 0 where
+  pub words : Words
+  pub is : IsRepair s.line words
+  pub fault : VcdErr
+  pub faulty : IsTrue s.shelf_told → IsFaultyRecording words (netlist_held s.shelf words.netlists) (held s.shelf words.recording) fault
+  pub untouched : Untouched s shelf sink
+  pub text_is : text ≡ recording_text fault
+
+-- Both texts are of their grammars as far as they were read, and what they stand for isn't built.
 pub record NotBuiltRow (s : Start) (shelf : View) (sink : SinkView) (text : List ℕ) : Type 0 where
   pub words : Words
   pub is : IsRepair s.line words
+  pub cause : IsTrue s.shelf_told → IsNotBuilt words (netlist_held s.shelf words.netlists) (held s.shelf words.recording)
   pub untouched : Untouched s shelf sink
   pub text_is : text ≡ not_built_text
 
@@ -79,7 +101,7 @@ pub record MemoryRow (s : Start) (shelf : View) (sink : SinkView) (text : List �
   pub is : IsRepair s.line words
   pub vcd : List ℕ
   pub report : List ℕ
-  pub state : Untouched s shelf sink ⊎ ((IsTrue s.shelf_told → Repaired words (held s.shelf words.netlist) (held s.shelf words.recording) vcd report) × Part s words vcd report shelf sink)
+  pub state : Untouched s shelf sink ⊎ ((IsTrue s.shelf_told → Repaired words (netlist_held s.shelf words.netlists) (held s.shelf words.recording) vcd report) × Part s words vcd report shelf sink)
   pub text_is : text ≡ memory_text
 
 -- The output holds the text of the repaired recording, no other file changed, and the sink gained the report.
@@ -88,7 +110,7 @@ pub record DoneRow (s : Start) (shelf : View) (sink : SinkView) : Type 0 where
   pub is : IsRepair s.line words
   pub vcd : List ℕ
   pub report : List ℕ
-  pub texts : IsTrue s.shelf_told → Repaired words (held s.shelf words.netlist) (held s.shelf words.recording) vcd report
+  pub texts : IsTrue s.shelf_told → Repaired words (netlist_held s.shelf words.netlists) (held s.shelf words.recording) vcd report
   pub others : OthersKept words.vcd s.shelf.files shelf.files
   pub written : IsTrue s.shelf_told → shelf.files words.vcd ≡ Some vcd
   pub printed : IsTrue s.sink_told → sink.bytes ≡ s.sink.bytes ++ report
@@ -97,6 +119,8 @@ abbrev pub RefusedRow : Start → View → SinkView → Cause → List ℕ → T
 RefusedRow s shelf sink UsageCause text = UsageRow s shelf sink text
 RefusedRow s shelf sink ReadCause text = ReadRow s shelf sink text
 RefusedRow s shelf sink WriteCause text = WriteRow s shelf sink text
+RefusedRow s shelf sink NetlistCause text = NetlistRow s shelf sink text
+RefusedRow s shelf sink RecordingCause text = RecordingRow s shelf sink text
 RefusedRow s shelf sink DisagreesCause text = DisagreesRow s shelf sink text
 RefusedRow s shelf sink NotBuiltCause text = NotBuiltRow s shelf sink text
 RefusedRow s shelf sink MemoryCause text = MemoryRow s shelf sink text

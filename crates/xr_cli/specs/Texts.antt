@@ -1,5 +1,5 @@
 -- The texts that a repair writes: the repaired recording (IEEE 1364-2005, clause 18) and the lines of the report.
-use Rattle.std.specs.Prelude.{ℕ, zero, suc, ◌+◌, ◌/◌, ◌%◌, List, [], ◌∷◌, ◌++◌, Option, Some, None, codes, nat_lt, if◌then◌else◌}
+use Rattle.std.specs.Prelude.{ℕ, zero, suc, Bool, true, false, ◌+◌, ◌/◌, ◌%◌, List, [], ◌∷◌, ◌++◌, Option, Some, None, codes, nat_lt, if◌then◌else◌}
 use Rattle.std.specs.List.{flat_map}
 use Rattle.xr_cell.specs.declared.value.Value.{Value}
 use Rattle.xr_cell.specs.Value.{is_unknown, letter_of}
@@ -19,6 +19,16 @@ digits_of (suc most) number = (33 + number % 94) ∷ (if nat_lt number 94 then [
 unfoldable pub code_of : ℕ → List ℕ
 code_of variable = digits_of 10 variable
 
+-- The name of a net in a recording: an escaped one with its backslash.
+abbrev pub recorded_name : Bool → List ℕ → List ℕ
+recorded_name true name = 92 ∷ name
+recorded_name false name = name
+
+-- The written name of a net: an escaped one with its backslash and a space behind it.
+abbrev pub written_name : Bool → List ℕ → List ℕ
+written_name true name = 92 ∷ name ++ 32 ∷ []
+written_name false name = name
+
 abbrev pub timescale_line : Option (List ℕ) → List ℕ
 timescale_line None = []
 timescale_line (Some scale) = line (codes "$timescale " ++ scale ++ codes " $end")
@@ -30,7 +40,7 @@ abbrev pub upscope_line : List ℕ → List ℕ
 upscope_line name = line (codes "$upscope $end")
 
 abbrev pub variable_line : ℕ → Bit → List ℕ
-variable_line variable bit = line (codes "$var wire 1 " ++ code_of variable ++ 32 ∷ bit.name ++ codes " $end")
+variable_line variable bit = line (codes "$var wire 1 " ++ code_of variable ++ 32 ∷ recorded_name bit.escaped bit.name ++ codes " $end")
 
 -- The lines of the variables from one on, each with its code and its name.
 abbrev pub variable_lines : ℕ → List Bit → List ℕ
@@ -61,7 +71,7 @@ result_of Undecided value = codes "undecided"
 -- The line of a bit whose recorded value is x or z.
 abbrev pub bit_line : Bit → List ℕ
 bit_line bit =
-    if is_unknown bit.recorded then line (codes "#0 " ++ bit.name ++ 32 ∷ letter_of bit.recorded ∷ 32 ∷ result_of bit.mark bit.shown) else []
+    if is_unknown bit.recorded then line (codes "#0 " ++ written_name bit.escaped bit.name ++ 32 ∷ letter_of bit.recorded ∷ 32 ∷ result_of bit.mark bit.shown) else []
 
 -- The lines of the report, one for each of these.
 unfoldable pub report_text : List Bit → List ℕ

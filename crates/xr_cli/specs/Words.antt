@@ -1,6 +1,7 @@
 -- The set of command lines.
-use Rattle.std.specs.Prelude.{◌≡◌, ◌≢◌, ℕ, ◌<◌, ◌≤◌, ◌==◌, List, [], ◌∷◌, length, slice_index, codes, if◌then◌else◌}
-use Rattle.std.specs.List.{AllByRecursion}
+use Rattle.std.specs.Prelude.{◌≡◌, ◌≢◌, ℕ, ◌<◌, ◌≤◌, ◌==◌, List, [], ◌∷◌, length, slice_index, codes, map, string_bytes, bytes_eq, IsTrue, Bool, false, not, ◌&&◌, if◌then◌else◌}
+use Rattle.std.specs.List.{AllByRecursion, list_all}
+use Rattle.xr_cli.specs.declared.words.Words.{Words as Given}
 
 -- What the words of `repair` name: the files of the recording, of the netlist and of the repaired recording, the
 -- scope and the top module.
@@ -9,7 +10,11 @@ pub record Words : Type 0 where
   pub scope : List ℕ
   pub top : List ℕ
   pub vcd : List ℕ
-  pub netlist : List ℕ
+  pub netlists : List (List ℕ)
+
+-- What words that were read name.
+abbrev pub values_of : Given → Words
+values_of w = record { recording = w.recording.now; scope = w.scope.now; top = w.top.now; vcd = w.vcd.now; netlists = map string_bytes w.netlists.now }
 
 -- A value isn't empty and doesn't begin with `-`.
 pub record IsValue (value : List ℕ) : Type 0 where
@@ -35,20 +40,28 @@ pub record IsScopeName (name : List ℕ) : Type 0 where
   pub some : 0 < length name
   pub graphic : AllByRecursion IsGraphic name
 
--- The values that the set allows: S cut at its dots gives names, and V is another name than each of the inputs.
+abbrev pub is_value : List ℕ → Bool
+is_value [] = false
+is_value (byte ∷ bytes) = not (byte == 45)
+
+-- The name of a file that is read is a value, and another name than the output's.
+abbrev pub is_input_file : List ℕ → List ℕ → Bool
+is_input_file output name = is_value name && not (bytes_eq output name)
+
+-- The values that the set allows: S cut at its dots gives names, there is a FILE, and V is another name than each of the inputs.
 pub record IsAllowed (w : Words) : Type 0 where
   pub recording : IsValue w.recording
   pub scope : IsValue w.scope
   pub top : IsValue w.top
   pub vcd : IsValue w.vcd
-  pub netlist : IsValue w.netlist
+  pub some : 0 < length w.netlists
+  pub netlists : IsTrue (list_all (is_input_file w.vcd) w.netlists)
   pub names : AllByRecursion IsScopeName (pieces_of w.scope)
   pub not_recording : w.vcd ≢ w.recording
-  pub not_netlist : w.vcd ≢ w.netlist
 
--- `repair --record R --scope S --top T --vcd V FILE`
+-- `repair --record R --scope S --top T --vcd V FILE..`
 abbrev pub line_of_words : Words → List (List ℕ)
-line_of_words w = codes "repair" ∷ codes "--record" ∷ w.recording ∷ codes "--scope" ∷ w.scope ∷ codes "--top" ∷ w.top ∷ codes "--vcd" ∷ w.vcd ∷ w.netlist ∷ []
+line_of_words w = codes "repair" ∷ codes "--record" ∷ w.recording ∷ codes "--scope" ∷ w.scope ∷ codes "--top" ∷ w.top ∷ codes "--vcd" ∷ w.vcd ∷ w.netlists
 
 -- The line is in the set, with these values.
 pub record IsRepair (line : List (List ℕ)) (w : Words) : Type 0 where

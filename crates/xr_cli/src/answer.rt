@@ -3,13 +3,14 @@
 ghost use Rattle.std.specs.Prelude.{◌≡◌, ◌++◌, IfErr, IfOk, OnOk, IsTrue, Some, map, string_bytes};
 ghost use Rattle.xr_shelf.specs.Shelf.{Later, held};
 ghost use Rattle.std.specs.List.{AllByRecursion};
+ghost use Rattle.xr_flat.specs.Design.{FitsOrder};
 ghost use Rattle.xr_cli.specs.RecordingText.{IsBound, NetsOnce};
-ghost use Rattle.xr_cli.specs.Words.{Words as WordsOf};
-ghost use Rattle.xr_cli.specs.Phases.{Repaired, MadeTexts, DecideRefused, PrepareRefused, Delivery, DeliveryRefused};
+ghost use Rattle.xr_cli.specs.Words.{values_of};
+ghost use Rattle.xr_cli.specs.Phases.{Repaired, MadeTexts, DecideRefused, PrepareRefused, netlist_held, Delivery, DeliveryRefused};
 ghost use Rattle.xr_cli.specs.Rows.{Row, start_of};
 
-use crate::netlist::{Netlist, read_netlist};
-use crate::phases::{print_report, read_input, write_output};
+use crate::netlist::read_netlist;
+use crate::phases::{print_report, read_input, read_netlists, write_output};
 use crate::recording::{Recording, read_recording};
 use crate::refusal::Refusal;
 use crate::repair::decide;
@@ -18,6 +19,7 @@ use crate::texts::{write_report, write_vcd};
 use crate::words::{Words, read_words};
 use std::alloc::Global;
 use xr_design::Bytes;
+use xr_flat::Flat;
 use xr_shelf::{Shelf, Sink};
 
 /// The most bytes of a netlist.
@@ -56,12 +58,12 @@ pub fn answer<S: Shelf, O: Sink>(
 fn prepare<S: Shelf>(alloc: Global, shelf: &mut S, words: Words<'_>) -> Result<Texts, Refusal>
     ensures later { Later (S.view shelf.old) (S.view shelf.new) }
     ensures files { (S.view shelf.new).files ≡ (S.view shelf.old).files }
-    ensures made { IfOk result (λ t. IsTrue S.told → Repaired record { recording = words.entry.recording.now; scope = words.entry.scope.now; top = words.entry.top.now; vcd = words.entry.vcd.now; netlist = words.entry.netlist.now } (held (S.view shelf.old) words.entry.netlist.now) (held (S.view shelf.old) words.entry.recording.now) t.vcd.items t.report.items) }
-    ensures refused { IfErr result (PrepareRefused S.told record { recording = words.entry.recording.now; scope = words.entry.scope.now; top = words.entry.top.now; vcd = words.entry.vcd.now; netlist = words.entry.netlist.now } (S.view shelf.old) (S.view shelf.new)) }
+    ensures made { IfOk result (λ t. IsTrue S.told → Repaired (values_of words.entry) (netlist_held (S.view shelf.old) (values_of words.entry).netlists) (held (S.view shelf.old) words.entry.recording.now) t.vcd.items t.report.items) }
+    ensures refused { IfErr result (PrepareRefused S.told (values_of words.entry) (S.view shelf.old) (S.view shelf.new)) }
 {
     let scope = names_of(alloc, words.scope)?;
     let scope = scope.as_slice();
-    let text = read_input(alloc, shelf, words.netlist, NETLIST_BYTES)?;
+    let text = read_netlists(alloc, shelf, words.netlists, NETLIST_BYTES)?;
     let netlist = read_netlist(alloc, text.as_slice(), words.top.as_bytes())?;
     let text = read_input(alloc, shelf, words.recording, RECORDING_BYTES)?;
     let recording = read_recording(alloc, text.as_slice(), scope, &netlist.design)?;
@@ -73,11 +75,12 @@ fn prepare<S: Shelf>(alloc: Global, shelf: &mut S, words: Words<'_>) -> Result<T
 fn write_texts(
     alloc: Global,
     scope: &[Bytes],
-    netlist: Netlist,
+    netlist: Flat,
     recording: &Recording,
 ) -> Result<Texts, Refusal>
     requires bound { AllByRecursion (IsBound netlist.design) recording.now.variables }
     requires once { NetsOnce recording.now.variables }
+    requires order { FitsOrder netlist.design.nets netlist.order.items }
     ensures made { IfOk result (λ t. MadeTexts scope.now netlist.design recording.now t.vcd.items t.report.items) }
     ensures refused { IfErr result (DecideRefused netlist.design recording.now) }
 {

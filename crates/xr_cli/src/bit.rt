@@ -6,8 +6,9 @@ use xr_design::{Bytes, Mark};
 /// The bit of a bound variable at the last round of its moment.
 #[derive(Debug, Drop)]
 pub struct Bit {
-    /// The name of its net.
+    /// The own name of its net, and whether that is escaped.
     pub name: Bytes,
+    pub escaped: bool,
     /// What the recording has.
     pub recorded: Value,
     /// What the waveform shows.

@@ -2,19 +2,18 @@
 #![tactic(auto)]
 
 mod answer;
+mod binding;
 mod bit;
 mod circuit;
 mod compare;
 mod exact;
 mod fillings;
-mod module;
+mod line;
 mod netlist;
-mod ordering;
 mod phases;
 mod program;
 mod reads;
 mod recording;
-mod recording_words;
 mod refusal;
 mod repair;
 mod replay;
@@ -23,7 +22,6 @@ mod scope;
 mod seen;
 mod stimulus;
 mod texts;
-mod token;
 mod unread;
 mod words;
 mod worlds;

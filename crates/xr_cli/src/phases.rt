@@ -1,11 +1,10 @@
 //! The phases that touch the shelf and the sink.
 
-ghost use Rattle.std.specs.Prelude.{◌≡◌, OnOk, IfErr, IfOk, IsTrue, Some};
-ghost use Rattle.std.specs.List.{flat_map};
-ghost use Rattle.xr_cli.specs.Phases.{InputRead, OutputWritten, Printed};
+ghost use Rattle.std.specs.Prelude.{◌≡◌, ◌≤◌, ℕ, List, [], length, map, string_bytes, IfOk, IfSome};
+ghost use Rattle.xr_cli.specs.Phases.{InputRead, NetlistsRead, PartRead, IsKept, put_behind, OutputWritten, Printed};
 
 use crate::refusal::Refusal;
-use std::alloc::Global;
+use std::alloc::{AllocError, Global};
 use xr_shelf::{ReadErr, Shelf, Sink, WriteErr, print_all, read_all, write_all};
 
 /// All bytes of an input file. A file of more than `limit` bytes isn't built.
@@ -26,6 +25,81 @@ pub fn read_input<S: Shelf>(
         Err(ReadErr::TooLong) => Err(Refusal::NotBuilt),
         Err(ReadErr::Memory) => Err(Refusal::Memory),
     }
+}
+
+/// All bytes of the files of a netlist, in their order, with one newline between each two. A netlist of more than `limit` bytes isn't built. A file that
+/// can't be read counts before that.
+pub fn read_netlists<S: Shelf>(
+    alloc: Global,
+    shelf: &mut S,
+    names: &[String],
+    limit: usize,
+) -> Result<Vec<u8>, Refusal>
+    ensures { NetlistsRead S.told (map string_bytes names.now) limit (S.view shelf.old) (S.view shelf.new) result }
+{
+    let mut text = Some(Vec::new(alloc));
+    'files: for (position, name) in names.iter().enumerate() {
+        let part = read_part(alloc, shelf, name, limit)?;
+        text = join(text, position, part, limit)?;
+    }
+    match text {
+        Some(text) => Ok(text),
+        None => Err(Refusal::NotBuilt),
+    }
+}
+
+/// All bytes of one of the files, none where there are more than `limit`.
+fn read_part<S: Shelf>(
+    alloc: Global,
+    shelf: &mut S,
+    name: &str,
+    limit: usize,
+) -> Result<Option<Vec<u8>>, Refusal>
+    ensures { PartRead S.told name.now limit (S.view shelf.old) (S.view shelf.new) result }
+{
+    match read_all(alloc, shelf, name, limit) {
+        Ok(text) => Ok(Some(text)),
+        Err(ReadErr::Fault) => {
+            let name = String::from_str(alloc, name)?;
+            Err(Refusal::Read { name })
+        }
+        Err(ReadErr::TooLong) => Ok(None),
+        Err(ReadErr::Memory) => Err(Refusal::Memory),
+    }
+}
+
+/// A text with the next one behind it, none where there are more than `limit` bytes.
+fn join(
+    text: Option<Vec<u8>>,
+    position: usize,
+    part: Option<Vec<u8>>,
+    limit: usize,
+) -> Result<Option<Vec<u8>>, AllocError>
+    ensures fits { IfOk result (λ whole. IfSome whole (λ v. length v.items ≤ limit)) }
+    ensures joined { IfOk result (λ whole. (before : List (List ℕ)) (so_far more : List ℕ) → length before ≡ position → (position ≡ 0 → so_far ≡ []) → IsKept limit text so_far → IsKept limit part more → IsKept limit whole (put_behind before so_far more)) }
+{
+    let Some(mut text) = text else {
+        return Ok(None);
+    };
+    let Some(part) = part else {
+        return Ok(None);
+    };
+    if position > 0 {
+        text.push(b'\n')?;
+    }
+    text.extend_from_slice(part.as_slice())?;
+    Ok(within(text, limit))
+}
+
+/// A text, none where there are more than `limit` bytes.
+fn within(text: Vec<u8>, limit: usize) -> Option<Vec<u8>>
+    ensures kept { IsKept limit result text.items }
+    ensures fits { IfSome result (λ v. length v.items ≤ limit) }
+{
+    if text.len() > limit {
+        return None;
+    }
+    Some(text)
 }
 
 /// Writes an output file.

@@ -1,15 +1,16 @@
 //! The program as one call.
 
-ghost use Rattle.std.specs.Prelude.{◌≡◌, ◌≤◌, IsTrue, IfOk, map, string_bytes};
+ghost use Rattle.std.specs.Prelude.{◌≡◌, ◌≤◌, IsTrue, map, string_bytes};
 ghost use Rattle.xr_shelf.specs.Calls.{Gained};
 ghost use Rattle.xr_cli.specs.Texts.{line};
-ghost use Rattle.xr_cli.specs.Refusal.{Cause, UsageCause, ReadCause, WriteCause, DisagreesCause, NotBuiltCause, MemoryCause, cause_of, text_of, memory_text};
+ghost use Rattle.xr_cli.specs.Refusal.{Cause, UsageCause, ReadCause, WriteCause, NetlistCause, RecordingCause, DisagreesCause, NotBuiltCause, MemoryCause, cause_of, text_of, memory_text};
 ghost use Rattle.xr_cli.specs.Rows.{start_of, DoneRow};
-ghost use Rattle.xr_cli.specs.Ends.{Said, Ran, EndsBy, UsageExact, IsStatus};
+ghost use Rattle.xr_cli.specs.Ends.{Said, Ran, EndsBy, UsageExact, NetlistExact, RecordingExact, OutsideExact, ChoicesExact, IsStatus};
 
 use crate::answer::answer;
+use crate::line::line_of;
 use crate::refusal::Refusal;
-use std::alloc::{AllocError, Global};
+use std::alloc::Global;
 use xr_shelf::{Shelf, Sink, WriteErr, print_all};
 
 /// Runs the words on the shelf, prints to the sink, and answers the exit status.
@@ -19,6 +20,8 @@ pub fn run<S: Shelf, O: Sink>(alloc: Global, words: &[String], shelf: &mut S, ou
     ensures usage { result ≡ 2 → EndsBy (start_of (map string_bytes words.now) S.told O.told (S.view shelf.old) (O.view out.old)) (S.view shelf.new) (O.view out.new) result UsageCause }
     ensures read { result ≡ 3 → EndsBy (start_of (map string_bytes words.now) S.told O.told (S.view shelf.old) (O.view out.old)) (S.view shelf.new) (O.view out.new) result ReadCause }
     ensures write { result ≡ 4 → EndsBy (start_of (map string_bytes words.now) S.told O.told (S.view shelf.old) (O.view out.old)) (S.view shelf.new) (O.view out.new) result WriteCause }
+    ensures netlist { result ≡ 5 → EndsBy (start_of (map string_bytes words.now) S.told O.told (S.view shelf.old) (O.view out.old)) (S.view shelf.new) (O.view out.new) result NetlistCause }
+    ensures recording { result ≡ 7 → EndsBy (start_of (map string_bytes words.now) S.told O.told (S.view shelf.old) (O.view out.old)) (S.view shelf.new) (O.view out.new) result RecordingCause }
     ensures disagrees { result ≡ 8 → EndsBy (start_of (map string_bytes words.now) S.told O.told (S.view shelf.old) (O.view out.old)) (S.view shelf.new) (O.view out.new) result DisagreesCause }
     ensures not_built { result ≡ 14 → EndsBy (start_of (map string_bytes words.now) S.told O.told (S.view shelf.old) (O.view out.old)) (S.view shelf.new) (O.view out.new) result NotBuiltCause }
     ensures memory { result ≡ 20 → (cause : Cause) × EndsBy (start_of (map string_bytes words.now) S.told O.told (S.view shelf.old) (O.view out.old)) (S.view shelf.new) (O.view out.new) result cause }
@@ -26,6 +29,12 @@ pub fn run<S: Shelf, O: Sink>(alloc: Global, words: &[String], shelf: &mut S, ou
 
     // Words outside the set are refused as such, want of memory aside.
     ensures usage_exact { UsageExact (start_of (map string_bytes words.now) S.told O.told (S.view shelf.old) (O.view out.old)) result }
+
+    // Texts that aren't read are refused as such, a fault of reading and want of memory aside.
+    ensures netlist_exact { NetlistExact (start_of (map string_bytes words.now) S.told O.told (S.view shelf.old) (O.view out.old)) result }
+    ensures recording_exact { RecordingExact (start_of (map string_bytes words.now) S.told O.told (S.view shelf.old) (O.view out.old)) result }
+    ensures outside_exact { OutsideExact (start_of (map string_bytes words.now) S.told O.told (S.view shelf.old) (O.view out.old)) result }
+    ensures choices_exact { ChoicesExact (start_of (map string_bytes words.now) S.told O.told (S.view shelf.old) (O.view out.old)) result }
 {
     ended(alloc, words, shelf, out)
 }
@@ -47,7 +56,7 @@ fn refuse<O: Sink>(alloc: Global, refusal: Refusal, out: &mut O) -> u8
     let Ok(text) = line_of(alloc, &refusal) else {
         return refuse_for_memory(out);
     };
-    match print_all(out, text.as_bytes()) {
+    match print_all(out, text.as_slice()) {
         Err(WriteErr::Memory) => refuse_for_memory(out),
         _ => refusal.status(),
     }
@@ -61,10 +70,4 @@ fn refuse_for_memory<O: Sink>(out: &mut O) -> u8
 {
     let _ = print_all(out, b"refused: memory\n");
     20
-}
-
-fn line_of(alloc: Global, refusal: &Refusal) -> Result<String, AllocError>
-    ensures { IfOk result (λ text. string_bytes text ≡ line (text_of refusal.now)) }
-{
-    format!(in alloc; "{refusal}\n")
 }

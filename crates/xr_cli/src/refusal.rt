@@ -1,13 +1,16 @@
 //! Why a run is refused, and the line that says so.
 
-ghost use Rattle.std.specs.Prelude.{◌≡◌, Some};
-ghost use Rattle.xr_cli.specs.Refusal.{cause_of, status_of, text_of};
+ghost use Rattle.std.specs.Prelude.{◌≡◌};
+ghost use Rattle.xr_cli.specs.Refusal.{cause_of, status_of};
 
 use crate::unread::Unread;
 use std::alloc::{AllocError, AllocFailed};
-use std::fmt;
 use xr_base::Memory;
 use xr_cell::Value;
+use xr_design::Bytes;
+use xr_flat::FlatErr;
+use xr_grammar::ParseErr;
+use xr_vcd::VcdErr;
 
 /// Why a run is refused.
 #[derive(Debug, Drop)]
@@ -22,9 +25,17 @@ pub enum Refusal {
     Write {
         name: String,
     },
-    /// The recording and the replay differ at a variable, at time 0.
+    /// The netlist is none of the grammar.
+    Netlist {
+        fault: ParseErr,
+    },
+    /// The recording is none of the grammar.
+    Recording {
+        fault: VcdErr,
+    },
+    /// The recording and the replay differ at a variable, at time 0. The name is as it is written.
     Disagrees {
-        name: String,
+        name: Bytes,
         recorded: Value,
         replayed: Value,
     },
@@ -43,32 +54,11 @@ impl Refusal {
             Refusal::Usage => 2,
             Refusal::Read { .. } => 3,
             Refusal::Write { .. } => 4,
+            Refusal::Netlist { .. } => 5,
+            Refusal::Recording { .. } => 7,
             Refusal::Disagrees { .. } => 8,
             Refusal::NotBuilt => 14,
             Refusal::Memory => 20,
-        }
-    }
-}
-
-/// As its line, without the newline.
-impl fmt::Display for Refusal {
-    ghost output = { λ refusal. Some (text_of refusal) };
-
-    fn fmt<W: fmt::Write>(&self, f: &mut fmt::Formatter<W>) -> fmt::Result {
-        match self {
-            Refusal::Usage => write!(f, "refused: usage"),
-            Refusal::Read { name } => write!(f, "refused: cannot read {name}"),
-            Refusal::Write { name } => write!(f, "refused: cannot write {name}"),
-            Refusal::Disagrees {
-                name,
-                recorded,
-                replayed,
-            } => write!(
-                f,
-                "refused: disagrees #0 {name} recorded {recorded} replayed {replayed}"
-            ),
-            Refusal::NotBuilt => write!(f, "refused: not built"),
-            Refusal::Memory => write!(f, "refused: memory"),
         }
     }
 }
@@ -116,6 +106,48 @@ impl From<Unread> for Refusal {
         match unread {
             Unread::NotBuilt => Refusal::NotBuilt,
             Unread::Memory => Refusal::Memory,
+        }
+    }
+}
+
+impl From<ParseErr> for Refusal {
+    ghost use Rattle.std.specs.Prelude.{◌≡◌};
+    ghost use Rattle.xr_cli.specs.Refusal.{netlist_refusal};
+
+    ghost from_gives = { λ fault refusal. refusal ≡ netlist_refusal fault };
+
+    fn from(fault: ParseErr) -> Self {
+        match fault {
+            ParseErr::Memory => Refusal::Memory,
+            fault => Refusal::Netlist { fault },
+        }
+    }
+}
+
+impl From<VcdErr> for Refusal {
+    ghost use Rattle.std.specs.Prelude.{◌≡◌};
+    ghost use Rattle.xr_cli.specs.Refusal.{recording_refusal};
+
+    ghost from_gives = { λ fault refusal. refusal ≡ recording_refusal fault };
+
+    fn from(fault: VcdErr) -> Self {
+        match fault {
+            VcdErr::Memory => Refusal::Memory,
+            fault => Refusal::Recording { fault },
+        }
+    }
+}
+
+impl From<FlatErr> for Refusal {
+    ghost use Rattle.std.specs.Prelude.{◌≡◌};
+    ghost use Rattle.xr_cli.specs.Refusal.{flat_refusal};
+
+    ghost from_gives = { λ fault refusal. refusal ≡ flat_refusal fault };
+
+    fn from(fault: FlatErr) -> Self {
+        match fault {
+            FlatErr::NotFlat => Refusal::NotBuilt,
+            FlatErr::Memory => Refusal::Memory,
         }
     }
 }

@@ -7,31 +7,34 @@ ghost use Rattle.xr_cli.specs.Circuit.{job_in, CircuitFits};
 ghost use Rattle.xr_cli.specs.RecordingText.{IsBound, IsStimOf, NetsOnce};
 ghost use Rattle.xr_cli.specs.Repair.{Decided, Disagrees, bit_of_variable};
 ghost use Rattle.xr_cli.specs.Phases.{DecideRefused, SaysDisagreement};
+ghost use Rattle.xr_cli.specs.Texts.{written_name};
+ghost use Rattle.xr_flat.specs.Design.{FitsOrder};
 
 use crate::bit::Bit;
 use crate::circuit::Circuit;
 use crate::compare::{first_difference, last_shown, place_at_end};
 use crate::exact::{MOST_CHOICES, waveform};
-use crate::netlist::Netlist;
-use crate::ordering::order_of;
 use crate::recording::{Recording, Variable};
 use crate::refusal::Refusal;
 use crate::replay::replay_values;
 use crate::stimulus::stimulus_of;
+use crate::texts::put_written_name;
 use crate::worlds::count_choices;
 use std::alloc::{AllocError, Global};
 use xr_cell::Value;
-use xr_design::{Bytes, Written};
+use xr_design::{Bytes, Order, Written};
+use xr_flat::Flat;
 
 /// The bits of the bound variables, where the recording agrees with the replay.
-pub fn decide(alloc: Global, netlist: Netlist, recording: &Recording) -> Result<Vec<Bit>, Refusal>
+pub fn decide(alloc: Global, netlist: Flat, recording: &Recording) -> Result<Vec<Bit>, Refusal>
+    requires order { FitsOrder netlist.design.nets netlist.order.items }
     requires bound { AllByRecursion (IsBound netlist.design) recording.now.variables }
     requires once { NetsOnce recording.now.variables }
     ensures decided { IfOk result (λ bits. Decided netlist.design recording.now bits.items) }
     ensures refused { IfErr result (DecideRefused netlist.design recording.now) }
 {
-    let Netlist { design, order } = netlist;
-    let order = order_of(alloc, &design, order)?;
+    let Flat { design, order } = netlist;
+    let order = Order::new(alloc, order)?;
     let stim = stimulus_of(alloc, &design, recording)?;
     let circuit = Circuit {
         design: &design,
@@ -74,13 +77,12 @@ fn decide_circuit(
 /// The refusal of a variable at which the recording and the replay differ.
 fn disagreement(alloc: Global, variable: &Variable, replayed: Value) -> Result<Vec<Bit>, Refusal>
     ensures err { IsErr result }
-    ensures says { IfErr result (SaysDisagreement variable.now.name variable.now.value replayed) }
+    ensures says { IfErr result (SaysDisagreement (written_name variable.now.escaped variable.now.name) variable.now.value replayed) }
 {
-    let Ok(name) = std::str::from_utf8(variable.name.as_slice()) else {
-        return Err(Refusal::NotBuilt);
-    };
+    let mut name = Vec::new(alloc);
+    put_written_name(&mut name, variable.escaped, variable.name.as_slice())?;
     Err(Refusal::Disagrees {
-        name: String::from_str(alloc, name)?,
+        name: Bytes::from_vec(name),
         recorded: variable.value,
         replayed,
     })
@@ -122,6 +124,7 @@ fn bit_of(
     let name = Bytes::from_vec(variable.name.as_slice().to_vec(alloc)?);
     Ok(Bit {
         name,
+        escaped: variable.escaped,
         recorded: variable.value,
         shown: written.value,
         mark: written.mark,

@@ -4,10 +4,10 @@ ghost use Rattle.std.specs.Prelude.{◌≡◌, IfOk, length};
 ghost use Rattle.std.specs.List.{AllByRecursion};
 ghost use Rattle.xr_cli.specs.RecordingText.{IsBound, IsRowOf, IsStimOf, NetsOnce};
 
-use crate::recording::{Recording, Variable, is_input};
-use crate::unread::Unread;
+use crate::binding::is_input;
+use crate::recording::{Recording, Variable};
 use std::alloc::{AllocError, Global};
-use xr_base::Items;
+use xr_base::{Items, Memory};
 use xr_cell::Value;
 use xr_design::{Design, Stim};
 
@@ -15,7 +15,7 @@ use xr_design::{Design, Stim};
 const ROUNDS: u32 = 4;
 
 /// The stimulus of a recording: one moment at time 0, with the recorded values of the inputs.
-pub fn stimulus_of(alloc: Global, design: &Design, recording: &Recording) -> Result<Stim, Unread>
+pub fn stimulus_of(alloc: Global, design: &Design, recording: &Recording) -> Result<Stim, Memory>
     requires bound { AllByRecursion (IsBound design.now) recording.now.variables }
     requires once { NetsOnce recording.now.variables }
     ensures stim { IfOk result (λ stim. IsStimOf design.now recording.now stim) }

@@ -2,7 +2,7 @@
 
 ghost use Rattle.std.specs.Prelude.{◌≡◌, ◌++◌, OnOk, IfOk, codes};
 ghost use Rattle.std.specs.List.{flat_map};
-ghost use Rattle.xr_cli.specs.Texts.{line, code_of, digits_of, timescale_line, scope_line, upscope_line, variable_line, variable_lines, value_line, value_lines, vcd_text, result_of, bit_line, report_text};
+ghost use Rattle.xr_cli.specs.Texts.{line, code_of, digits_of, timescale_line, scope_line, upscope_line, variable_line, variable_lines, value_line, value_lines, vcd_text, result_of, bit_line, report_text, recorded_name, written_name};
 
 use crate::bit::Bit;
 use std::alloc::Global;
@@ -104,9 +104,31 @@ fn put_variable(text: &mut Vec<u8>, variable: usize, bit: &Bit) -> Result<(), Me
     put(text, b"$var wire 1 ")?;
     put_code(text, variable)?;
     put(text, b" ")?;
-    put(text, bit.name.as_slice())?;
+    put_recorded_name(text, bit)?;
     put(text, b" $end\n")?;
     Ok(())
+}
+
+/// The name of a net in a recording.
+fn put_recorded_name(text: &mut Vec<u8>, bit: &Bit) -> Result<(), Memory>
+    ensures { OnOk result (text.new.items ≡ text.old.items ++ recorded_name bit.now.escaped bit.now.name) }
+{
+    if bit.escaped {
+        put(text, b"\\")?;
+    }
+    put(text, bit.name.as_slice())
+}
+
+/// The written name of a net.
+pub fn put_written_name(text: &mut Vec<u8>, escaped: bool, name: &[u8]) -> Result<(), Memory>
+    ensures { OnOk result (text.new.items ≡ text.old.items ++ written_name escaped name.now) }
+{
+    if !escaped {
+        return put(text, name);
+    }
+    put(text, b"\\")?;
+    put(text, name)?;
+    put(text, b" ")
 }
 
 fn put_values(text: &mut Vec<u8>, bits: &[Bit]) -> Result<(), Memory>
@@ -156,7 +178,7 @@ fn put_bit(text: &mut Vec<u8>, bit: &Bit) -> Result<(), Memory>
         return Ok(());
     }
     put(text, b"#0 ")?;
-    put(text, bit.name.as_slice())?;
+    put_written_name(text, bit.escaped, bit.name.as_slice())?;
     put(text, b" ")?;
     text.push(bit.recorded.letter())?;
     put(text, b" ")?;

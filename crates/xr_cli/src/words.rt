@@ -1,8 +1,8 @@
-//! The words of the command line: `repair --record R --scope S --top T --vcd V FILE`.
+//! The words of the command line: `repair --record R --scope S --top T --vcd V FILE..`.
 
 ghost use Rattle.std.specs.Prelude.{◌≡◌, ◌↔◌, ◌∷◌, [], ℕ, List, IsTrue, IfSome, IfNone, codes, map, string_bytes};
-ghost use Rattle.std.specs.List.{AllByRecursion};
-ghost use Rattle.xr_cli.specs.Words.{Words as WordsOf, IsAllowed, IsValue, IsGraphic, IsScopeName, IsRepair, NotInSet, line_of_words, pieces_of};
+ghost use Rattle.std.specs.List.{AllByRecursion, list_all};
+ghost use Rattle.xr_cli.specs.Words.{Words as WordsOf, values_of, IsAllowed, is_input_file, IsValue, IsGraphic, IsScopeName, IsRepair, NotInSet, line_of_words, pieces_of};
 
 /// What the words of `repair` name.
 #[derive(Clone, Copy, Debug)]
@@ -15,13 +15,13 @@ pub struct Words<'a> {
     pub top: &'a str,
     /// The file of the repaired recording.
     pub vcd: &'a str,
-    /// The file of the netlist.
-    pub netlist: &'a str,
+    /// The files of the netlist, one or more.
+    pub netlists: &'a [String],
 }
 
 /// Reads the words, or answers that they aren't in the set. Takes no memory.
 pub fn read_words(words: &[String]) -> Option<Words<'_>>
-    ensures set { IfSome result (λ w. IsRepair (map string_bytes words.now) record { recording = w.recording.now; scope = w.scope.now; top = w.top.now; vcd = w.vcd.now; netlist = w.netlist.now }) }
+    ensures set { IfSome result (λ w. IsRepair (map string_bytes words.now) (values_of w)) }
     ensures none { IfNone result (NotInSet (map string_bytes words.now)) }
 {
     let words = repair_words(words)?;
@@ -34,21 +34,20 @@ pub fn read_words(words: &[String]) -> Option<Words<'_>>
 
 /// The values of the words, where the other words are as they must be.
 fn repair_words(words: &[String]) -> Option<Words<'_>>
-    ensures set { IfSome result (λ w. map string_bytes words.now ≡ line_of_words record { recording = w.recording.now; scope = w.scope.now; top = w.top.now; vcd = w.vcd.now; netlist = w.netlist.now }) }
+    ensures set { IfSome result (λ w. map string_bytes words.now ≡ line_of_words (values_of w)) }
     ensures none { IfNone result ((w : WordsOf) → map string_bytes words.now ≡ line_of_words w → ⊥) }
 {
     let words = after(words, "repair")?;
     let (recording, words) = value_of(words, "--record")?;
     let (scope, words) = value_of(words, "--scope")?;
     let (top, words) = value_of(words, "--top")?;
-    let (vcd, words) = value_of(words, "--vcd")?;
-    let netlist = last_word(words)?;
+    let (vcd, netlists) = value_of(words, "--vcd")?;
     Some(Words {
         recording,
         scope,
         top,
         vcd,
-        netlist,
+        netlists,
     })
 }
 
@@ -74,41 +73,39 @@ fn value_of<'a>(words: &'a [String], option: &str) -> Option<(&'a str, &'a [Stri
     Some((value.as_str(), rest))
 }
 
-/// The only word.
-fn last_word(words: &[String]) -> Option<&str>
-    ensures only { IfSome result (λ word. map string_bytes words.now ≡ word.now ∷ []) }
-    ensures none { IfNone result ((word : List ℕ) → map string_bytes words.now ≡ word ∷ [] → ⊥) }
-{
-    match words {
-        [word] => Some(word.as_str()),
-        _ => None,
-    }
-}
-
 /// Whether the values are ones that the set allows.
 fn are_allowed(words: Words<'_>) -> bool
-    ensures { IsTrue result ↔ IsAllowed record { recording = words.entry.recording.now; scope = words.entry.scope.now; top = words.entry.top.now; vcd = words.entry.vcd.now; netlist = words.entry.netlist.now } }
+    ensures { IsTrue result ↔ IsAllowed (values_of words.entry) }
 {
-    if !are_values(words) {
+    if !are_values(words) || words.netlists.is_empty() {
         return false;
     }
-    if !is_scope(words.scope) {
+    if !is_scope(words.scope) || words.vcd == words.recording {
         return false;
     }
-    if words.vcd == words.recording {
-        return false;
-    }
-    words.vcd != words.netlist
+    are_input_files(words.netlists, words.vcd)
 }
 
 fn are_values(words: Words<'_>) -> bool
-    ensures { IsTrue result ↔ (IsValue words.entry.recording.now × IsValue words.entry.scope.now × IsValue words.entry.top.now × IsValue words.entry.vcd.now × IsValue words.entry.netlist.now) }
+    ensures { IsTrue result ↔ (IsValue words.entry.recording.now × IsValue words.entry.scope.now × IsValue words.entry.top.now × IsValue words.entry.vcd.now) }
 {
-    is_value(words.recording)
-        && is_value(words.scope)
-        && is_value(words.top)
-        && is_value(words.vcd)
-        && is_value(words.netlist)
+    is_value(words.recording) && is_value(words.scope) && is_value(words.top) && is_value(words.vcd)
+}
+
+/// Whether each name is a value, and another than the output's.
+fn are_input_files(names: &[String], output: &str) -> bool
+    ensures { result ≡ list_all (λ name. is_input_file output.now (string_bytes name)) names.now }
+{
+    names.iter().all(|name| is_input_file(name, output))
+}
+
+fn is_input_file(name: &str, output: &str) -> bool
+    ensures { result ≡ is_input_file output.now name.now }
+{
+    match name.as_bytes() {
+        [] => false,
+        [first, ..] => *first != b'-' && output != name,
+    }
 }
 
 fn is_value(value: &str) -> bool

@@ -6,10 +6,130 @@ use std::test::Fail;
 use xr_cli::run;
 use xr_shelf::{MemShelf, MemSink};
 
+/// A netlist in one file, or over two.
+type Files = (&'static str, &'static str);
+
 const MUX: &str =
     "module mux(d0, d1, s, y);\n  input d0, d1, s; output y; wire ns, a, b;\n  not (ns, s); and (a, d1, s); and (b, d0, ns); or (y, a, b);\nendmodule\n";
 
+/// The multiplexer, written in other ways.
+const MUX_FILES: [Files; 5] = [
+    (MUX, ""),
+    (
+        "module",
+        "mux(d0, d1, s, y); input d0, d1, s; output y; wire ns, a, b; not (ns, s); and (a, d1, s); and (b, d0, ns); or (y, a, b); endmodule",
+    ),
+    (
+        "`timescale 1ns/1ps",
+        "(* full_case *) module mux(d0, d1, s, y); /* the data\nand the select */ input d0, d1, s; output y; wire ns, a, b; not (ns, s); and (a, d1, s); and (b, d0, ns); or (y, a, b); endmodule // mux",
+    ),
+    (
+        "module mux(d0, d1, s, y); input d0, d1, s; output y; wire ns, a, b; not (ns, s); // and (a, d0, s);",
+        "and (a, d1, s); and (b, d0, ns); or (y, a, b); endmodule",
+    ),
+    (
+        "module mux(d0, d1, s, \\y",
+        "); input d0, d1, s; output y; wire \\ns* , a, b; not (\\ns* , s); (* keep *) and (a, d1, s); and (b, d0, \\ns* ); or (\\y , a, b); endmodule",
+    ),
+];
+
 const SAME: &str = "module same(a, y); input a; output y; xor (y, a, a); endmodule";
+
+/// The gate that reads one net twice, written in other ways.
+const SAME_FILES: [Files; 4] = [
+    (SAME, ""),
+    (
+        "module same(a, y); input",
+        "a; output y; xor (y, a, a); endmodule",
+    ),
+    (
+        "// one net twice\n`timescale 1ns/1ps\nmodule same(a, y); input a; (* keep *) output y; xor (y, a, a",
+        "); endmodule",
+    ),
+    (
+        "module same(\\a",
+        ", y); input a; output y; xor \\x1 (y, \\a , a); endmodule",
+    ),
+];
+
+/// Netlists that are none of the grammar, each with its refusal.
+const UNREAD_NETLISTS: [(Files, &str); 12] = [
+    (
+        ("module m(a); inout a; endmodule", ""),
+        "refused: netlist at 13: out of profile\n",
+    ),
+    (
+        ("module m(a) endmodule", ""),
+        "refused: netlist at 12: unexpected\n",
+    ),
+    (
+        ("/* module m(a); endmodule", ""),
+        "refused: netlist at 0: open comment\n",
+    ),
+    (
+        ("module m(a);\u{7f}", ""),
+        "refused: netlist at 12: bad byte\n",
+    ),
+    (
+        ("module m(a);\"a", ""),
+        "refused: netlist at 12: open text\n",
+    ),
+    (("`define m 1", ""), "refused: netlist at 0: directive\n"),
+    (("module m(a);", ""), "refused: netlist at 12: unexpected\n"),
+    (
+        ("module m; endmodule more", ""),
+        "refused: netlist at 20: unexpected\n",
+    ),
+    (
+        ("module m(a); input a", ""),
+        "refused: netlist at 20: unexpected\n",
+    ),
+    (
+        ("mod", "ule m; endmodule"),
+        "refused: netlist at 0: unexpected\n",
+    ),
+    (
+        ("module", "m(a); inout a; endmodule"),
+        "refused: netlist at 13: out of profile\n",
+    ),
+    (
+        ("module m(a);", "/* endmodule"),
+        "refused: netlist at 13: open comment\n",
+    ),
+];
+
+/// Netlists of the grammar that are no flat module `same`: as many modules, its name, its items, its names, its directions, its drivers.
+const NOT_FLAT: [&str; 29] = [
+    "",
+    "module same(a, y); input a; output y; buf (y, a); endmodule module more; endmodule",
+    "primitive p(o, i); output o; input i; table 0 : 0 ; endtable endprimitive module same(a, y); input a; output y; buf (y, a); endmodule",
+    "module other(a, y); input a; output y; buf (y, a); endmodule",
+    "module same(a, y); input a; output y; supply0 t; buf (y, a); buf (t, a); endmodule",
+    "module same(a, y); input [0:0] a; output y; buf (y, a); endmodule",
+    "module same(a, y); input a; output y; wire t = a; buf (y, a); buf (t, a); endmodule",
+    "module same(a, y); input a; output y; buf (y, a); wire t; buf (t, a); endmodule",
+    "module same(a, y); input a; output y; assign y = a; endmodule",
+    "module same(a, y); input a; output y; cell u(y, a); endmodule",
+    "module same(a, y); input a; output y; pullup (y); endmodule",
+    "module same(a, y); input a; output y; buf (y, a[0]); endmodule",
+    "module same(a, y); input a; output y; and (y, a, 1'b1); endmodule",
+    "module same(a, y); input a; output y; and (y, a); endmodule",
+    "module same(a, y); input a; output y; and (y, a, a, a); endmodule",
+    "module same(a, y); input a; output y; buf (y); endmodule",
+    "module same(a, y); input a; output y; not (y, a, a); endmodule",
+    "module same(a, a, y); input a; output y; buf (y, a); endmodule",
+    "module same(a, y); input a, a; output y; buf (y, a); endmodule",
+    "module same(a, y); input a; output y; wire a; buf (y, a); endmodule",
+    "module same(a, y, t); input a; output y; wire t; buf (y, a); buf (t, a); endmodule",
+    "module same(a, y, t); input a; output y; buf (y, a); endmodule",
+    "module same(a); input a; output y; buf (y, a); endmodule",
+    "module same(a, y); input a; output y; buf (y, b); endmodule",
+    "module same(a, y); input a; output y; wire t; buf (y, t); buf (t, a); endmodule",
+    "module same(a, y); input a; output y; buf (y, a); buf (t, a); endmodule",
+    "module same(a, y); input a; output y; buf (y, a); buf (y, a); endmodule",
+    "module same(a, y); input a; output y; buf (y, a); buf (a, y); endmodule",
+    "module same(a, y); input a; output y; endmodule",
+];
 
 const MUX_HEAD: &str =
     "$timescale 1ns $end\n$scope module tb $end\n$scope module dut $end\n$var wire 1 ! d0 $end\n$var wire 1 \" d1 $end\n$var wire 1 # s $end\n$var wire 1 $ y $end\n$upscope $end\n$upscope $end\n$enddefinitions $end\n#0\n$dumpvars\n";
@@ -17,13 +137,147 @@ const MUX_HEAD: &str =
 const SAME_HEAD: &str =
     "$scope module tb $end\n$scope module dut $end\n$var wire 1 ! a $end\n$var wire 1 \" y $end\n$upscope $end\n$upscope $end\n$enddefinitions $end\n#0\n$dumpvars\n";
 
-/// The words of `repair` with this top.
-fn repair_words(alloc: Global, top: &str) -> Result<Vec<String>, Fail> {
+const ESCAPED_HEAD: &str =
+    "$scope module tb $end\n$scope module dut $end\n$var wire 1 ! a $end\n$var wire 1 \" \\y+ $end\n$upscope $end\n$upscope $end\n$enddefinitions $end\n#0\n$dumpvars\n";
+
+const SCOPES: &str = "$scope module tb $end $scope module dut $end";
+
+const VARIABLES: &str = "$var wire 1 ! a $end $var wire 1 \" y $end";
+
+/// Recordings that aren't of the form: scopes, variables and changes.
+const NOT_ONE_MOMENT: [(&str, &str, &str); 23] = [
+    (SCOPES, VARIABLES, "#1 x! x\""),
+    (SCOPES, VARIABLES, "#0 x! x\" #1"),
+    (SCOPES, VARIABLES, "#0 x! #1 x\""),
+    ("$scope module tb $end", VARIABLES, "#0 x! x\""),
+    (
+        "$scope module dut $end $scope module tb $end",
+        VARIABLES,
+        "#0 x! x\"",
+    ),
+    (
+        "$scope module tb $end $scope module dux $end",
+        VARIABLES,
+        "#0 x! x\"",
+    ),
+    (
+        "$scope module tb $end $upscope $end $scope module dut $end",
+        VARIABLES,
+        "#0 x! x\"",
+    ),
+    (
+        "$scope module tb $end $scope module u $end $upscope $end $scope module dut $end",
+        VARIABLES,
+        "#0 x! x\"",
+    ),
+    (
+        "$scope module tb $end $scope module dut $end $scope module u $end $upscope $end",
+        VARIABLES,
+        "#0 x! x\"",
+    ),
+    (
+        SCOPES,
+        "$var wire 1 ! a $end $upscope $end $var wire 1 \" y $end",
+        "#0 x! x\"",
+    ),
+    (
+        SCOPES,
+        "$var wire 1 ! a $end $var wire 2 \" y $end",
+        "#0 x! bxx \"",
+    ),
+    (
+        SCOPES,
+        "$var wire 1 ! a [0] $end $var wire 1 \" y $end",
+        "#0 x! x\"",
+    ),
+    (
+        SCOPES,
+        "$var wire 1 ! a $end $var wire 1 \" z $end",
+        "#0 x! x\"",
+    ),
+    (
+        SCOPES,
+        "$var wire 1 ! a $end $var wire 1 \" Y $end",
+        "#0 x! x\"",
+    ),
+    (SCOPES, VARIABLES, "#0 x!"),
+    (SCOPES, VARIABLES, "#0 x\""),
+    (SCOPES, VARIABLES, ""),
+    (SCOPES, VARIABLES, "#0 z! x\""),
+    (SCOPES, VARIABLES, "#0 x! Z\""),
+    (
+        SCOPES,
+        "$var wire 1 ! a $end $var wire 1 \" a $end",
+        "#0 x! x\"",
+    ),
+    (
+        SCOPES,
+        "$var wire 1 ! a $end $var wire 1 \" \\a $end",
+        "#0 x! x\"",
+    ),
+    (SCOPES, "$var wire 1 \" y $end", "#0 x\""),
+    (SCOPES, "", "#0"),
+];
+
+/// Recordings of the form in other words: variables and changes. Real variables and events are passed over.
+const ONE_MOMENT: [(&str, &str); 6] = [
+    (VARIABLES, "#0 x! x\""),
+    (VARIABLES, "x! x\""),
+    (VARIABLES, "#0 $dumpvars X! bx \" $end"),
+    (VARIABLES, "$comment #1 $end #00 $dumpall x\" x! $end"),
+    ("$var reg 001 ! \\a $end $var wire 1 y y $end", "#0 x! xy"),
+    (
+        "$var wire 1 ! a $end $var real 64 r a $end $var event 1 e y $end $var wire 1 \" y $end",
+        "#0 x! x\" r0.5 r",
+    ),
+];
+
+/// Recordings that are none of the grammar, each with its refusal.
+const UNREAD_RECORDINGS: [(&str, &str); 9] = [
+    ("", "refused: recording at 0: truncated\n"),
+    ("$enddefinitions", "refused: recording at 15: truncated\n"),
+    (
+        "$enddefinitions $end 2!",
+        "refused: recording at 21: syntax\n",
+    ),
+    (
+        "$enddefinitions $end 1!",
+        "refused: recording at 21: unknown code\n",
+    ),
+    (
+        "$enddefinitions $end #5 #4",
+        "refused: recording at 24: time goes back\n",
+    ),
+    ("$var wire 0 ! a $end", "refused: recording at 10: width\n"),
+    (
+        "$enddefinitions $end $dumpoff",
+        "refused: recording at 21: dump off\n",
+    ),
+    (
+        "$var wire 1 ! a $end $enddefinitions $end #0 $dumpvars x!",
+        "refused: recording at 57: truncated\n",
+    ),
+    (
+        "$upscope $end $enddefinitions $end",
+        "refused: recording at 0: syntax\n",
+    ),
+];
+
+/// The status of a run on files in memory.
+fn status_of(alloc: Global, words: &[String], shelf: &mut MemShelf, out: &mut MemSink) -> u8 {
+    run(alloc, words, shelf, out)
+}
+
+/// The words of `repair` with this top, and two files of the netlist or one.
+fn repair_words(alloc: Global, top: &str, two: bool) -> Result<Vec<String>, Fail> {
     let mut words = Vec::new(alloc);
     for word in [
         "repair", "--record", "r.vcd", "--scope", "tb.dut", "--top", top, "--vcd", "o.vcd", "m.v",
     ] {
         words.push(String::from_str(alloc, word)?)?;
+    }
+    if two {
+        words.push(String::from_str(alloc, "n.v")?)?;
     }
     Ok(words)
 }
@@ -34,27 +288,31 @@ fn expect_repair(
     rt: &impl Abort,
     alloc: Global,
     top: &str,
-    netlist: &str,
+    netlist: Files,
     recording: &str,
     want: (u8, &str, &str),
 ) -> Result<(), Fail> {
-    let words = repair_words(alloc, top)?;
+    let (first, second) = netlist;
+    let words = repair_words(alloc, top, !second.is_empty())?;
     let mut shelf = MemShelf::new(alloc, 5);
-    shelf.put("m.v", netlist.as_bytes())?;
+    shelf.put("m.v", first.as_bytes())?;
+    shelf.put("n.v", second.as_bytes())?;
     shelf.put("r.vcd", recording.as_bytes())?;
     let mut out = MemSink::new(alloc, 5);
     let (status, printed, vcd) = want;
+    let answer = status_of(alloc, &words, &mut shelf, &mut out);
+    assert_eq!(rt; answer, status, "{first}|{second}|{recording}");
     assert_eq!(rt;
-        run(alloc, &words, &mut shelf, &mut out),
-        status,
-        "{recording}"
+        out.bytes(),
+        printed.as_bytes(),
+        "{first}|{second}|{recording}"
     );
-    assert_eq!(rt; out.bytes(), printed.as_bytes(), "{recording}");
-    assert_eq!(rt;
-        shelf.get("o.vcd").unwrap_or(b""),
-        vcd.as_bytes(),
-        "{recording}"
-    );
+    let held = if vcd.is_empty() {
+        None
+    } else {
+        Some(vcd.as_bytes())
+    };
+    assert_eq!(rt; shelf.get("o.vcd"), held, "{first}|{second}|{recording}");
     Ok(())
 }
 
@@ -74,7 +332,10 @@ fn mux_equal_data(rt: HostRuntime) -> Result<(), Fail> {
         "1!\n1\"\nx#\n1$\n",
     )?;
     let want = (0, "#0 s x unknown\n#0 y x 1\n", repaired.as_str());
-    expect_repair(&rt, rt.alloc(), "mux", MUX, recording.as_str(), want)
+    for netlist in MUX_FILES {
+        expect_repair(&rt, rt.alloc(), "mux", netlist, recording.as_str(), want)?;
+    }
+    Ok(())
 }
 
 #[test]
@@ -86,14 +347,42 @@ fn mux_different_data(rt: HostRuntime) -> Result<(), Fail> {
         "0!\n1\"\nx#\nx$\n",
     )?;
     let want = (0, "#0 s x unknown\n#0 y x unknown\n", repaired.as_str());
-    expect_repair(&rt, rt.alloc(), "mux", MUX, recording.as_str(), want)
+    for netlist in MUX_FILES {
+        expect_repair(&rt, rt.alloc(), "mux", netlist, recording.as_str(), want)?;
+    }
+    Ok(())
 }
 
 #[test]
 fn xor_of_itself(rt: HostRuntime) -> Result<(), Fail> {
     let (recording, repaired) = texts(rt.alloc(), SAME_HEAD, "x!\nx\"\n", "x!\n0\"\n")?;
     let want = (0, "#0 a x unknown\n#0 y x 0\n", repaired.as_str());
-    expect_repair(&rt, rt.alloc(), "same", SAME, recording.as_str(), want)
+    for netlist in SAME_FILES {
+        expect_repair(&rt, rt.alloc(), "same", netlist, recording.as_str(), want)?;
+    }
+    Ok(())
+}
+
+/// A net that is declared with an escaped name is written so, and recorded with a backslash or without.
+#[test]
+fn escaped_names(rt: HostRuntime) -> Result<(), Fail> {
+    let netlist = (
+        "module same(a, \\y+",
+        "); input a; output \\y+ ; xor (\\y+ , a, a); endmodule",
+    );
+    let (_, repaired) = texts(rt.alloc(), ESCAPED_HEAD, "", "x!\n0\"\n")?;
+    let done = (0, "#0 a x unknown\n#0 \\y+  x 0\n", repaired.as_str());
+    let differs = (8, "refused: disagrees #0 \\y+  recorded 1 replayed 0\n", "");
+    for name in ["y+", "\\y+"] {
+        let variables = format!(in rt.alloc(); "$var wire 1 % a $end $var wire 1 & {name} $end")?;
+        for (changes, want) in [("x% x&", done), ("0% 1&", differs)] {
+            let recording = format!(in rt.alloc();
+                "{SCOPES} {variables} $enddefinitions $end #0 {changes}"
+            )?;
+            expect_repair(&rt, rt.alloc(), "same", netlist, recording.as_str(), want)?;
+        }
+    }
+    Ok(())
 }
 
 #[test]
@@ -113,60 +402,109 @@ fn disagreeing_recording(rt: HostRuntime) -> Result<(), Fail> {
         ),
     ] {
         let (recording, _) = texts(rt.alloc(), SAME_HEAD, changes, "")?;
+        let want = (8, line, "");
         expect_repair(
             &rt,
             rt.alloc(),
             "same",
-            SAME,
+            (SAME, ""),
             recording.as_str(),
-            (8, line, ""),
+            want,
+        )?;
+    }
+    Ok(())
+}
+
+/// A netlist is refused before the recording is looked at, which is none of the grammar here.
+#[test]
+fn netlists_outside_the_grammar(rt: HostRuntime) -> Result<(), Fail> {
+    for (netlist, line) in UNREAD_NETLISTS {
+        expect_repair(&rt, rt.alloc(), "m", netlist, "$end", (5, line, ""))?;
+    }
+    Ok(())
+}
+
+#[test]
+fn netlists_that_are_not_flat(rt: HostRuntime) -> Result<(), Fail> {
+    let want = (14, "refused: not built\n", "");
+    for netlist in NOT_FLAT {
+        expect_repair(&rt, rt.alloc(), "same", (netlist, ""), "$end", want)?;
+    }
+    Ok(())
+}
+
+#[test]
+fn recordings_outside_the_grammar(rt: HostRuntime) -> Result<(), Fail> {
+    for (recording, line) in UNREAD_RECORDINGS {
+        expect_repair(
+            &rt,
+            rt.alloc(),
+            "same",
+            (SAME, ""),
+            recording,
+            (7, line, ""),
         )?;
     }
     Ok(())
 }
 
 #[test]
-fn other_texts_are_not_built(rt: HostRuntime) -> Result<(), Fail> {
-    let (recording, _) = texts(rt.alloc(), SAME_HEAD, "x!\nx\"\n", "")?;
-    for netlist in [
-        "",
-        "module other(a, y); input a; output y; buf (y, a); endmodule",
-        "module same(a, y); input a; output y; endmodule",
-        "module same(a, y); input a; output y; buf (y, a); buf (y, a); endmodule",
-        "module same(a, y); input a; output y; buf (y, b); endmodule",
-        "module same(a); input a; output y; buf (y, a); endmodule",
-        "module same(a, a); input a; output y; buf (y, a); endmodule",
-        "module same(a, y); input a; output y; buf (y, y); endmodule",
-        "module same(a, y); input a, a; output y; buf (y, a); endmodule",
-        "module same(a, y); input a; output y; and (y, a); endmodule",
-        "module same(a, y); input a; output y; buf (y, a); endmodule more",
-    ] {
+fn recordings_of_other_forms(rt: HostRuntime) -> Result<(), Fail> {
+    let want = (14, "refused: not built\n", "");
+    for (scopes, variables, changes) in NOT_ONE_MOMENT {
+        let recording = format!(in rt.alloc();
+            "{scopes} {variables} $enddefinitions $end {changes}"
+        )?;
         expect_repair(
             &rt,
             rt.alloc(),
             "same",
-            netlist,
+            (SAME, ""),
             recording.as_str(),
-            (14, "refused: not built\n", ""),
+            want,
         )?;
     }
-    for changes in [
-        "x!\n",
-        "x!\nx!\n",
-        "x!\nz\"\n",
-        "x!\nx%\n",
-        "x!\nx\"\nx\"\n",
-    ] {
-        let (recording, _) = texts(rt.alloc(), SAME_HEAD, changes, "")?;
+    Ok(())
+}
+
+#[test]
+fn recordings_in_other_words(rt: HostRuntime) -> Result<(), Fail> {
+    let (_, repaired) = texts(rt.alloc(), SAME_HEAD, "", "x!\n0\"\n")?;
+    let want = (0, "#0 a x unknown\n#0 y x 0\n", repaired.as_str());
+    for (variables, changes) in ONE_MOMENT {
+        let recording = format!(in rt.alloc();
+            "$date today $end {SCOPES} {variables} $enddefinitions $end {changes}"
+        )?;
         expect_repair(
             &rt,
             rt.alloc(),
             "same",
-            SAME,
+            (SAME, ""),
             recording.as_str(),
-            (14, "refused: not built\n", ""),
+            want,
         )?;
     }
+    Ok(())
+}
+
+/// A recording that ends before one of its lines is cut in a declaration or in `$dumpvars`, or has no value.
+#[test]
+fn recording_cut_short(rt: HostRuntime) -> Result<(), Fail> {
+    let (recording, _) = texts(rt.alloc(), MUX_HEAD, "1!\n1\"\nx#\nx$\n", "")?;
+    let mut prefix = String::new(rt.alloc());
+    for line in recording.as_str().split_inclusive('\n') {
+        let cut = format!(in rt.alloc(); "refused: recording at {}: truncated\n", prefix.len())?;
+        let want = if prefix.as_str().ends_with("$enddefinitions $end\n")
+            || prefix.as_str().ends_with("#0\n")
+        {
+            (14, "refused: not built\n", "")
+        } else {
+            (7, cut.as_str(), "")
+        };
+        expect_repair(&rt, rt.alloc(), "mux", (MUX, ""), prefix.as_str(), want)?;
+        prefix.push_str(line)?;
+    }
+    assert_eq!(rt; prefix.as_str(), recording.as_str());
     Ok(())
 }
 
@@ -174,7 +512,7 @@ fn other_texts_are_not_built(rt: HostRuntime) -> Result<(), Fail> {
 fn expect_usage(rt: &impl Abort, alloc: Global, words: &[String]) {
     let mut shelf = MemShelf::new(alloc, 4096);
     let mut out = MemSink::new(alloc, 4096);
-    assert_eq!(rt; run(alloc, words, &mut shelf, &mut out), 2, "{words:?}");
+    assert_eq!(rt; status_of(alloc, words, &mut shelf, &mut out), 2, "{words:?}");
     assert_eq!(rt; out.bytes(), b"refused: usage\n".as_slice(), "{words:?}");
 }
 
@@ -183,11 +521,13 @@ fn refused_words(rt: HostRuntime) -> Result<(), Fail> {
     expect_usage(&rt, rt.alloc(), &[]);
     for line in [
         "repair",
+        "repair --record r --scope s --top t --vcd v",
         "repair --record r --scope s --top t --vcd r m",
         "repair --record r --scope s..t --top t --vcd v m",
         "repair --record r --scope s --top -t --vcd v m",
         "repair --record r --scope s --top t --vcd v ",
-        "repair --record r --scope s --top t --vcd v m n",
+        "repair --record r --scope s --top t --vcd v m v",
+        "repair --record r --scope s --top t --vcd v m -n",
     ] {
         let mut words = Vec::new(rt.alloc());
         for word in line.split(' ') {
@@ -207,7 +547,7 @@ fn faults_by_call(rt: HostRuntime) -> Result<(), Fail> {
         "1!\n1\"\nx#\nx$\n",
         "1!\n1\"\nx#\n1$\n",
     )?;
-    let words = repair_words(rt.alloc(), "mux")?;
+    let words = repair_words(rt.alloc(), "mux", false)?;
     for (call, status, line, held) in [
         (1, 3, "refused: cannot read m.v\n", None),
         (4, 3, "refused: cannot read m.v\n", None),
@@ -226,28 +566,56 @@ fn faults_by_call(rt: HostRuntime) -> Result<(), Fail> {
         shelf.put("r.vcd", recording.as_bytes())?;
         shelf.fail_at(call)?;
         let mut out = MemSink::new(rt.alloc(), 4096);
-        assert_eq!(rt;
-            run(rt.alloc(), &words, &mut shelf, &mut out),
-            status,
-            "call {call}"
-        );
+        let answer = status_of(rt.alloc(), &words, &mut shelf, &mut out);
+        assert_eq!(rt; answer, status, "call {call}");
         assert_eq!(rt; out.bytes(), line.as_bytes(), "call {call}");
-        assert_eq!(rt;
-            shelf.get("o.vcd"),
-            held.map(|text| text.as_bytes()),
-            "call {call}"
-        );
+        let held = held.map(|text| text.as_bytes());
+        assert_eq!(rt; shelf.get("o.vcd"), held, "call {call}");
     }
     Ok(())
 }
 
+/// A file that can't be read is refused before one that is none of the grammar.
 #[test]
 fn missing_file(rt: HostRuntime) -> Result<(), Fail> {
-    let words = repair_words(rt.alloc(), "mux")?;
+    let words = repair_words(rt.alloc(), "mux", true)?;
     let mut shelf = MemShelf::new(rt.alloc(), 4096);
-    let mut out = MemSink::new(rt.alloc(), 4096);
-    assert_eq!(rt; run(rt.alloc(), &words, &mut shelf, &mut out), 3);
-    assert_eq!(rt; out.bytes(), b"refused: cannot read m.v\n".as_slice());
+    for (put, text, status, line) in [
+        ("r.vcd", "$end", 3, "refused: cannot read m.v\n"),
+        ("m.v", "module", 3, "refused: cannot read n.v\n"),
+        ("n.v", "mux(;", 5, "refused: netlist at 11: unexpected\n"),
+    ] {
+        shelf.put(put, text.as_bytes())?;
+        let mut out = MemSink::new(rt.alloc(), 4096);
+        assert_eq!(rt;
+            status_of(rt.alloc(), &words, &mut shelf, &mut out),
+            status,
+            "{line}"
+        );
+        assert_eq!(rt; out.bytes(), line.as_bytes());
+    }
+    Ok(())
+}
+
+/// The recording's file is read behind the netlist's grammar and form.
+#[test]
+fn missing_recording(rt: HostRuntime) -> Result<(), Fail> {
+    let words = repair_words(rt.alloc(), "same", false)?;
+    for (netlist, status, line) in [
+        ("module", 5, "refused: netlist at 6: unexpected\n"),
+        ("module mux; endmodule", 14, "refused: not built\n"),
+        (SAME, 3, "refused: cannot read r.vcd\n"),
+    ] {
+        let mut shelf = MemShelf::new(rt.alloc(), 4096);
+        shelf.put("m.v", netlist.as_bytes())?;
+        let mut out = MemSink::new(rt.alloc(), 4096);
+        assert_eq!(rt;
+            status_of(rt.alloc(), &words, &mut shelf, &mut out),
+            status,
+            "{netlist}"
+        );
+        assert_eq!(rt; out.bytes(), line.as_bytes());
+    }
     Ok(())
 }
 
@@ -260,32 +628,50 @@ fn every_gate(rt: HostRuntime) -> Result<(), Fail> {
     let changes = "0!\n1\"\n0#\n1$\n1%\n0&\n1'\n0(\n0)\n1*\n";
     let (recording, repaired) = texts(rt.alloc(), head, changes, changes)?;
     let want = (0, "", repaired.as_str());
-    expect_repair(&rt, rt.alloc(), "gates", netlist, recording.as_str(), want)
+    expect_repair(
+        &rt,
+        rt.alloc(),
+        "gates",
+        (netlist, ""),
+        recording.as_str(),
+        want,
+    )
 }
 
 #[test]
 fn timescales(rt: HostRuntime) -> Result<(), Fail> {
-    for (scale, status) in [
-        ("1s", 0),
-        ("10ms", 0),
-        ("100us", 0),
-        ("10ns", 0),
-        ("1ps", 0),
-        ("1fs", 0),
-        ("2ns", 14),
-        ("1000ns", 14),
-        ("ns", 14),
-        ("1", 14),
-        ("1xs", 14),
-    ] {
+    for scale in ["1s", "10ms", "100us", "10ns", "1ps", "1fs"] {
         let head = format!(in rt.alloc(); "$timescale {scale} $end\n{SAME_HEAD}")?;
         let (recording, repaired) = texts(rt.alloc(), head.as_str(), "1!\n0\"\n", "1!\n0\"\n")?;
-        let want = if status == 0 {
-            (0, "", repaired.as_str())
-        } else {
-            (14, "refused: not built\n", "")
-        };
-        expect_repair(&rt, rt.alloc(), "same", SAME, recording.as_str(), want)?;
+        let want = (0, "", repaired.as_str());
+        expect_repair(
+            &rt,
+            rt.alloc(),
+            "same",
+            (SAME, ""),
+            recording.as_str(),
+            want,
+        )?;
+    }
+    for (scale, at) in [
+        ("2ns", 11),
+        ("1000ns", 11),
+        ("ns", 11),
+        ("1", 13),
+        ("1xs", 11),
+        ("10 ks", 14),
+    ] {
+        let recording = format!(in rt.alloc(); "$timescale {scale} $end\n{SAME_HEAD}$end\n")?;
+        let line = format!(in rt.alloc(); "refused: recording at {at}: syntax\n")?;
+        let want = (7, line.as_str(), "");
+        expect_repair(
+            &rt,
+            rt.alloc(),
+            "same",
+            (SAME, ""),
+            recording.as_str(),
+            want,
+        )?;
     }
     Ok(())
 }
@@ -304,12 +690,12 @@ fn status_of_unknowns(alloc: Global, inputs: usize) -> Result<u8, Fail> {
     let recording = format!(in alloc;
         "$scope module tb $end $scope module dut $end\n{variables}$upscope $end $upscope $end $enddefinitions $end #0 $dumpvars\n{changes}$end\n"
     )?;
-    let words = repair_words(alloc, "wide")?;
+    let words = repair_words(alloc, "wide", false)?;
     let mut shelf = MemShelf::new(alloc, 4096);
     shelf.put("m.v", netlist.as_bytes())?;
     shelf.put("r.vcd", recording.as_bytes())?;
     let mut out = MemSink::new(alloc, 4096);
-    Ok(run(alloc, &words, &mut shelf, &mut out))
+    Ok(status_of(alloc, &words, &mut shelf, &mut out))
 }
 
 #[test]
@@ -322,13 +708,13 @@ fn at_most_twelve_unknown_inputs(rt: HostRuntime) -> Result<(), Fail> {
 #[test]
 fn fault_of_the_report(rt: HostRuntime) -> Result<(), Fail> {
     let (recording, repaired) = texts(rt.alloc(), SAME_HEAD, "x!\nx\"\n", "x!\n0\"\n")?;
-    let words = repair_words(rt.alloc(), "same")?;
+    let words = repair_words(rt.alloc(), "same", false)?;
     let mut shelf = MemShelf::new(rt.alloc(), 4096);
     shelf.put("m.v", SAME.as_bytes())?;
     shelf.put("r.vcd", recording.as_bytes())?;
     let mut out = MemSink::new(rt.alloc(), 4096);
     out.fail_at(1)?;
-    assert_eq!(rt; run(rt.alloc(), &words, &mut shelf, &mut out), 4);
+    assert_eq!(rt; status_of(rt.alloc(), &words, &mut shelf, &mut out), 4);
     assert_eq!(rt; out.bytes(), b"refused: cannot write report\n".as_slice());
     assert_eq!(rt; shelf.get("o.vcd"), Some(repaired.as_bytes()));
     Ok(())

@@ -1,7 +1,8 @@
 -- What the delivery refuses is a row.
 use Rattle.std.proofs.Common.{rules, ◌≡◌, Err, IsTrue}
 use Rattle.xr_shelf.specs.Shelf.{held}
-use Rattle.xr_cli.specs.Phases.{Repaired}
+use Rattle.xr_cli.specs.Phases.{Repaired, netlist_held}
+use Rattle.xr_cli.specs.Words.{values_of}
 use Rattle.xr_cli.proofs.Delivering.{delivered_row}
 use Rattle.xr_cli.proofs.answer.answer.Goals as goal
 
@@ -10,6 +11,6 @@ returns-in_err-deliver g c =
     let is : c.from_residual-in_err-deliver.result ≡ Err c.in_err-deliver.field-0.0 = search rules in
     let ready = c.in_ok-texts.ensures in
     let step = c.in_err-deliver.ensures in
-    let made : IsTrue g.S.Shelf.told → Repaired record { recording = c.in-Some.words.recording.now; scope = c.in-Some.words.scope.now; top = c.in-Some.words.top.now; vcd = c.in-Some.words.vcd.now; netlist = c.in-Some.words.netlist.now } (held (g.S.Shelf.view c.args.shelf.now) c.in-Some.words.netlist.now) (held (g.S.Shelf.view c.args.shelf.now) c.in-Some.words.recording.now) c.as_slice-vcd.result.now c.as_slice-report.result.now =
+    let made : IsTrue g.S.Shelf.told → Repaired (values_of c.in-Some.words) (netlist_held (g.S.Shelf.view c.args.shelf.now) (values_of c.in-Some.words).netlists) (held (g.S.Shelf.view c.args.shelf.now) c.in-Some.words.recording.now) c.as_slice-vcd.result.now c.as_slice-report.result.now =
     λ told. rw (c.as_slice-vcd.ensures.value, c.as_slice-report.ensures.value) (ready.made told) in
     rw is (delivered_row _ _ _ _ _ _ _ c.in-Some.ensures.set ready.later ready.files made _ step.delivery step.refused)
