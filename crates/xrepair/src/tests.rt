@@ -512,7 +512,11 @@ fn recording_cut_short(rt: HostRuntime) -> Result<(), Fail> {
 fn expect_usage(rt: &impl Abort, alloc: Global, words: &[String]) {
     let mut shelf = MemShelf::new(alloc, 4096);
     let mut out = MemSink::new(alloc, 4096);
-    assert_eq!(rt; status_of(alloc, words, &mut shelf, &mut out), 2, "{words:?}");
+    assert_eq!(rt;
+        status_of(alloc, words, &mut shelf, &mut out),
+        2,
+        "{words:?}"
+    );
     assert_eq!(rt; out.bytes(), b"refused: usage\n".as_slice(), "{words:?}");
 }
 
