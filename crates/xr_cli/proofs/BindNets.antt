@@ -41,7 +41,7 @@ some_at [] i within = absurd (omega arith)
 some_at (x ∷ xs) zero within = (x, refl)
 some_at (x ∷ xs) (suc i) within = some_at xs i (omega arith)
 
-net_at : (variables : List Variable) (i : ℕ) (v : Variable) → slice_get variables i ≡ Some v → get_or (nets_of variables) i 0 ≡ v.net
+pub net_at : (variables : List Variable) (i : ℕ) (v : Variable) → slice_get variables i ≡ Some v → get_or (nets_of variables) i 0 ≡ v.net
 net_at variables i v is = get_or-map (λ (w : Variable). w.net) variables i v 0 (slice_get_within variables i v is) ∙ ap (λ (w : Variable). w.net) (get_or_from_slice_get variables i v v is)
 
 -- variables that stand for those of one recording have the same nets, if the names are distinct

@@ -13,15 +13,17 @@ use Rattle.xr_design.specs.declared.stim.Stim.{Stim}
 use Rattle.xr_cell.specs.declared.value.Value.{Value}
 use Rattle.xr_cli.specs.Circuit.{FitsCircuit}
 use Rattle.xr_cli.specs.Worlds.{choosing}
-use Rattle.xr_cli.specs.Repair.{Decided, Disagrees as Differ}
+use Rattle.xr_cli.specs.Repair.{Decided, Disagrees as Differ, HasManyChoices}
 use Rattle.xr_cli.specs.declared.bit.Bit.{Bit}
-use Rattle.xr_cli.specs.RecordingText.{IsFlatRecording, IsStimOf}
-use Rattle.xr_cli.specs.Phases.{netlist_held, AreRead, IsFaultyNetlist, IsFaultyRecording, IsOutside, IsNotBuilt, ChooseMuch, Repaired}
+use Rattle.xr_cli.specs.RecordingText.{IsFlatRecording, IsRecording, IsStimOf}
+use Rattle.xr_cli.specs.Phases.{netlist_held, AreRead, IsFaultyNetlist, IsFaultyRecording, IsNotBuilt, Repaired}
 use Rattle.xr_cli.specs.Rows.{Start, Row}
-use Rattle.xr_cli.specs.Ends.{Ended, Ran, EndsWith, NetlistExact, RecordingExact, OutsideExact, ChoicesExact}
+use Rattle.xr_cli.specs.Ends.{Ended, Ran, EndsWith, NetlistExact, RecordingExact, NotBuiltExact}
 use Rattle.xr_cli.specs.declared.recording.Recording.{Recording as Bound}
 use Rattle.xr_cli.specs.declared.refusal.Refusal.{Refusal}
 use Rattle.xr_cli.specs.declared.refusal.Refusal.TheVariants.{Usage, Read, Write, Netlist, Recording, NotBuilt, Memory, Disagrees}
+use Rattle.xr_cli.proofs.Counting.{no_fewer_choose}
+use Rattle.xr_cli.proofs.Flats.{names_distinct}
 use Rattle.xr_cli.proofs.OneText.{tree_unrefused, one_design, not_both_forms, said_without_fault, one_said}
 
 -- ---- the words of a line
@@ -39,39 +41,21 @@ one_words line a b first second = sym (from_line a) ∙ ap words_from (sym first
 
 -- ---- texts
 
-faulty_is_no_other : (w : Words) (netlist recording : List ℕ) (fault : ParseErr) → IsFaultyNetlist netlist fault → IsOutside w netlist recording → ⊥
-faulty_is_no_other w netlist recording fault faulty (IsOutside.long_netlist long) = let fits = faulty.netlist_fits in absurd (omega (arith, long, fits))
-faulty_is_no_other w netlist recording fault faulty (IsOutside.no_flat_netlist fits other) = tree_unrefused netlist other.tree fault other.is faulty.is
-faulty_is_no_other w netlist recording fault faulty (IsOutside.long_recording design fits is long) = tree_unrefused netlist is.tree fault is.is faulty.is
-faulty_is_no_other w netlist recording fault faulty (IsOutside.no_flat_recording design fits is short other) = tree_unrefused netlist is.tree fault is.is faulty.is
-
-faulty_is_built : (w : Words) (netlist recording : List ℕ) (fault : ParseErr) → IsFaultyNetlist netlist fault → IsNotBuilt w netlist recording → ⊥
-faulty_is_built w netlist recording fault faulty (IsNotBuilt.outside outside) = faulty_is_no_other w netlist recording fault faulty outside
-faulty_is_built w netlist recording fault faulty (IsNotBuilt.many_choices design r read many) = tree_unrefused netlist read.netlist_is.tree fault read.netlist_is.is faulty.is
+module _ (w : Words) (netlist recording : List ℕ) (fault : ParseErr) (faulty : IsFaultyNetlist netlist fault) where
+  no_netlist_is_no_form : IsNotBuilt w netlist recording → ⊥
+  no_netlist_is_no_form (IsNotBuilt.long_netlist long) = let fits = faulty.netlist_fits in absurd (omega (arith, long, fits))
+  no_netlist_is_no_form (IsNotBuilt.no_flat_netlist fits other) = tree_unrefused netlist other.tree fault other.is faulty.is
+  no_netlist_is_no_form (IsNotBuilt.long_recording design fits is long) = tree_unrefused netlist is.tree fault is.is faulty.is
+  no_netlist_is_no_form (IsNotBuilt.no_flat_recording design fits is short other) = tree_unrefused netlist is.tree fault is.is faulty.is
+  no_netlist_is_no_form (IsNotBuilt.many_choices design r read many) = tree_unrefused netlist read.netlist_is.tree fault read.netlist_is.is faulty.is
 
 module _ (w : Words) (netlist recording : List ℕ) (fault : VcdErr) (faulty : IsFaultyRecording w netlist recording fault) where
-  recording_is_no_other : IsOutside w netlist recording → ⊥
-  recording_is_no_other (IsOutside.long_netlist long) = let fits = faulty.netlist_fits in absurd (omega (arith, long, fits))
-  recording_is_no_other (IsOutside.no_flat_netlist fits other) = not_both_forms netlist w.top faulty.design faulty.netlist_is other
-  recording_is_no_other (IsOutside.long_recording design fits is long) = let short = faulty.recording_fits in absurd (omega (arith, long, short))
-  recording_is_no_other (IsOutside.no_flat_recording design fits is short other) = said_without_fault recording other.said fault other.says faulty.is
-
-  recording_is_built : IsNotBuilt w netlist recording → ⊥
-  recording_is_built (IsNotBuilt.outside outside) = recording_is_no_other outside
-  recording_is_built (IsNotBuilt.many_choices design r read many) = said_without_fault recording read.recording_is.said fault read.recording_is.says faulty.is
-
-module _ (w : Words) (netlist recording : List ℕ) (design : Design) (r : Bound) (read : AreRead w netlist recording design r) where
-  read_is_inside : IsOutside w netlist recording → ⊥
-  read_is_inside (IsOutside.long_netlist long) = let fits = read.netlist_fits in absurd (omega (arith, long, fits))
-  read_is_inside (IsOutside.no_flat_netlist fits other) = not_both_forms netlist w.top design read.netlist_is other
-  read_is_inside (IsOutside.long_recording other fits is long) = let short = read.recording_fits in absurd (omega (arith, long, short))
-  read_is_inside (IsOutside.no_flat_recording other fits is short outer) =
-      let one : design ≡ other = one_design netlist w.top design other read.netlist_is is in
-      let said : read.recording_is.said ≡ outer.said = one_said recording read.recording_is.said outer.said read.recording_is.says outer.says in
-      let moved : IsFlatRecording read.recording_is.said (pieces_of w.scope) other r.variables = subst (λ (d : Design). IsFlatRecording read.recording_is.said (pieces_of w.scope) d r.variables) one read.recording_is.flat in
-      outer.not_flat r.variables (subst (λ (x : Said). IsFlatRecording x (pieces_of w.scope) other r.variables) said moved)
-
--- ---- rows
+  no_recording_is_no_form : IsNotBuilt w netlist recording → ⊥
+  no_recording_is_no_form (IsNotBuilt.long_netlist long) = let fits = faulty.netlist_fits in absurd (omega (arith, long, fits))
+  no_recording_is_no_form (IsNotBuilt.no_flat_netlist fits other) = not_both_forms netlist w.top faulty.design faulty.netlist_is other
+  no_recording_is_no_form (IsNotBuilt.long_recording design fits is long) = let short = faulty.recording_fits in absurd (omega (arith, long, short))
+  no_recording_is_no_form (IsNotBuilt.no_flat_recording design fits is short other) = said_without_fault recording other.said fault other.says faulty.is
+  no_recording_is_no_form (IsNotBuilt.many_choices design r read many) = said_without_fault recording read.recording_is.said fault read.recording_is.says faulty.is
 
 -- At most 12 places choose.
 record Few (design : Design) (r : Bound) : Type 0 where
@@ -80,6 +64,29 @@ record Few (design : Design) (r : Bound) : Type 0 where
   stim_is : IsStimOf design r stim
   fits : FitsCircuit design order stim
   few : length (choosing (job_of design order stim)) ≤ 12
+
+module _ (w : Words) (netlist recording : List ℕ) (design : Design) (r : Bound) (read : AreRead w netlist recording design r) (few : Few design r) where
+  -- texts that are read have few choices, whatever order was taken
+  few_is_form : IsNotBuilt w netlist recording → ⊥
+  few_is_form (IsNotBuilt.long_netlist long) = let fits = read.netlist_fits in absurd (omega (arith, long, fits))
+  few_is_form (IsNotBuilt.no_flat_netlist fits other) = not_both_forms netlist w.top design read.netlist_is other
+  few_is_form (IsNotBuilt.long_recording other fits is long) = let short = read.recording_fits in absurd (omega (arith, long, short))
+  few_is_form (IsNotBuilt.no_flat_recording other fits is short outer) =
+      let one : design ≡ other = one_design netlist w.top design other read.netlist_is is in
+      let said : read.recording_is.said ≡ outer.said = one_said recording read.recording_is.said outer.said read.recording_is.says outer.says in
+      let moved : IsFlatRecording read.recording_is.said (pieces_of w.scope) other r.variables = subst (λ (d : Design). IsFlatRecording read.recording_is.said (pieces_of w.scope) d r.variables) one read.recording_is.flat in
+      outer.not_flat r.variables (subst (λ (x : Said). IsFlatRecording x (pieces_of w.scope) other r.variables) said moved)
+  few_is_form (IsNotBuilt.many_choices other said again many) =
+      let one : other ≡ design = one_design netlist w.top other design again.netlist_is read.netlist_is in
+      let is : IsRecording recording (pieces_of w.scope) design said = subst (λ (d : Design). IsRecording recording (pieces_of w.scope) d said) one again.recording_is in
+      let much : HasManyChoices design said = subst (λ (d : Design). HasManyChoices d said) one many in
+      let distinct = names_distinct read.netlist_is.tree w.top design read.netlist_is.flat read.netlist_is.design_is in
+      let most = no_fewer_choose recording (pieces_of w.scope) design distinct said r is read.recording_is much.order few.order much.stim few.stim much.stim_is few.stim_is much.fits few.fits in
+      let more = much.many in
+      let less = few.few in
+      absurd (omega (arith, most, more, less))
+
+-- ---- rows
 
 few_decided : (design : Design) (r : Bound) (bits : List Bit) → Decided design r bits → Few design r
 few_decided design r bits is = record { order = is.order; stim = is.stim; stim_is = is.stim_is; fits = is.fits; few = is.few }
@@ -133,29 +140,22 @@ module _ (w : Words) (netlist recording : List ℕ) (status : ℕ) where
   netlist_only fault faulty (Told.unread ended) = inr ended
   netlist_only fault faulty (Told.no_netlist ended other is) = own_or_memory 5 status ended
   netlist_only fault faulty (Told.no_recording ended other is) = absurd (tree_unrefused netlist is.netlist_is.tree fault is.netlist_is.is faulty.is)
-  netlist_only fault faulty (Told.not_built ended is) = absurd (faulty_is_built w netlist recording fault faulty is)
+  netlist_only fault faulty (Told.not_built ended is) = absurd (no_netlist_is_no_form w netlist recording fault faulty is)
   netlist_only fault faulty (Told.are_read design r read few) = absurd (tree_unrefused netlist read.netlist_is.tree fault read.netlist_is.is faulty.is)
 
   recording_only : (fault : VcdErr) → IsFaultyRecording w netlist recording fault → Told w netlist recording status → EndsWith 7 status
   recording_only fault faulty (Told.unread ended) = inr ended
   recording_only fault faulty (Told.no_netlist ended other is) = absurd (tree_unrefused netlist faulty.netlist_is.tree other faulty.netlist_is.is is.is)
   recording_only fault faulty (Told.no_recording ended other is) = own_or_memory 7 status ended
-  recording_only fault faulty (Told.not_built ended is) = absurd (recording_is_built w netlist recording fault faulty is)
+  recording_only fault faulty (Told.not_built ended is) = absurd (no_recording_is_no_form w netlist recording fault faulty is)
   recording_only fault faulty (Told.are_read design r read few) = absurd (said_without_fault recording read.recording_is.said fault read.recording_is.says faulty.is)
 
-  outside_only : IsOutside w netlist recording → Told w netlist recording status → EndsWith 14 status
-  outside_only outside (Told.unread ended) = inr ended
-  outside_only outside (Told.no_netlist ended fault is) = absurd (faulty_is_no_other w netlist recording fault is outside)
-  outside_only outside (Told.no_recording ended fault is) = absurd (recording_is_no_other w netlist recording fault is outside)
-  outside_only outside (Told.not_built ended is) = own_or_memory 14 status ended
-  outside_only outside (Told.are_read design r read few) = absurd (read_is_inside w netlist recording design r read outside)
-
-  choices_only : ChooseMuch w netlist recording → Told w netlist recording status → EndsWith 14 status
-  choices_only much (Told.unread ended) = inr ended
-  choices_only much (Told.no_netlist ended fault is) = absurd (tree_unrefused netlist much.read.netlist_is.tree fault much.read.netlist_is.is is.is)
-  choices_only much (Told.no_recording ended fault is) = absurd (said_without_fault recording much.read.recording_is.said fault much.read.recording_is.says is.is)
-  choices_only much (Told.not_built ended is) = own_or_memory 14 status ended
-  choices_only much (Told.are_read design r read few) = let many = much.many design r few.order few.stim read few.stim_is few.fits in let most = few.few in absurd (omega (arith, many, most))
+  not_built_only : IsNotBuilt w netlist recording → Told w netlist recording status → EndsWith 14 status
+  not_built_only form (Told.unread ended) = inr ended
+  not_built_only form (Told.no_netlist ended fault is) = absurd (no_netlist_is_no_form w netlist recording fault is form)
+  not_built_only form (Told.no_recording ended fault is) = absurd (no_recording_is_no_form w netlist recording fault is form)
+  not_built_only form (Told.not_built ended is) = own_or_memory 14 status ended
+  not_built_only form (Told.are_read design r read few) = absurd (few_is_form w netlist recording design r read few form)
 
 module _ (s : Start) (shelf : View) (sink : SinkView) (status : ℕ) (ran : Ran s shelf sink status) where
   pub netlist_exact : NetlistExact s status
@@ -164,8 +164,5 @@ module _ (s : Start) (shelf : View) (sink : SinkView) (status : ℕ) (ran : Ran 
   pub recording_exact : RecordingExact s status
   recording_exact told w is fault faulty = recording_only w (netlist_held s.shelf w.netlists) (held s.shelf w.recording) status fault faulty (told_of s told w is status shelf sink ran)
 
-  pub outside_exact : OutsideExact s status
-  outside_exact told w is outside = outside_only w (netlist_held s.shelf w.netlists) (held s.shelf w.recording) status outside (told_of s told w is status shelf sink ran)
-
-  pub choices_exact : ChoicesExact s status
-  choices_exact told w is much = choices_only w (netlist_held s.shelf w.netlists) (held s.shelf w.recording) status much (told_of s told w is status shelf sink ran)
+  pub not_built_exact : NotBuiltExact s status
+  not_built_exact told w is form = not_built_only w (netlist_held s.shelf w.netlists) (held s.shelf w.recording) status form (told_of s told w is status shelf sink ran)

@@ -4,6 +4,7 @@ mod BindNets
 mod BindRecorded
 mod Chains
 mod Choices
+mod Counting
 mod Deciding
 mod Delivering
 mod Exactness

@@ -9,7 +9,7 @@ use Rattle.xr_vcd.specs.Recording.{Recording as Said}
 use Rattle.xr_cli.specs.Words.{Words, pieces_of}
 use Rattle.xr_cli.specs.NetlistText.{IsNetlist}
 use Rattle.xr_cli.specs.RecordingText.{IsRecording, IsRecorded, IsBound}
-use Rattle.xr_cli.specs.Phases.{netlist_limit, recording_limit, netlist_held, InputRefused, RecordingRefused, DecideRefused, PrepareRefused, AreRead, IsOutside, IsNotBuilt}
+use Rattle.xr_cli.specs.Phases.{netlist_limit, recording_limit, netlist_held, InputRefused, RecordingRefused, DecideRefused, PrepareRefused, AreRead, IsNotBuilt}
 use Rattle.xr_cli.specs.declared.recording.Recording.{Recording as Bound}
 use Rattle.xr_cli.specs.declared.recording.Variable.{Variable}
 use Rattle.xr_cli.specs.declared.refusal.Refusal.{Refusal}
@@ -34,7 +34,7 @@ module _ (told : Bool) (w : Words) (old mid new : View) (design : Design) (first
       let less = first.reads (string_bytes file) in
       let rose : Rose (mid.reads (string_bytes file)) (new.reads (string_bytes file)) = rw cause.0 cause.1 in
       (inr cause.0, omega (arith, less, rose))
-  recording_unread NotBuilt cause = λ t. IsNotBuilt.outside (IsOutside.long_recording design (netlist.fits t) (netlist.is t) (rw (← held_same old mid w.recording same) (cause t)))
+  recording_unread NotBuilt cause = λ t. IsNotBuilt.long_recording design (netlist.fits t) (netlist.is t) (rw (← held_same old mid w.recording same) (cause t))
   recording_unread Memory cause = tt
   recording_unread Usage cause = absurd cause
   recording_unread (Write file) cause = absurd cause
@@ -58,7 +58,7 @@ module _ (told : Bool) (w : Words) (old mid new : View) (design : Design) (first
       recording_fits = held_fits t;
       is = rw (← held_is t) cause;
     }
-    recording_refused NotBuilt cause = λ t. IsNotBuilt.outside (IsOutside.no_flat_recording design (netlist.fits t) (netlist.is t) (held_fits t) (rw (← held_is t) cause))
+    recording_refused NotBuilt cause = λ t. IsNotBuilt.no_flat_recording design (netlist.fits t) (netlist.is t) (held_fits t) (rw (← held_is t) cause)
     recording_refused Memory cause = tt
     recording_refused (Read file) cause = absurd cause
     recording_refused Usage cause = absurd cause

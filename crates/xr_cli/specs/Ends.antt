@@ -5,7 +5,7 @@ use Rattle.xr_shelf.specs.Sink.{SinkView}
 use Rattle.xr_grammar.specs.declared.refusal.ParseErr.{ParseErr}
 use Rattle.xr_vcd.specs.declared.refusal.VcdErr.{VcdErr}
 use Rattle.xr_cli.specs.Words.{Words, IsRepair, NotInSet}
-use Rattle.xr_cli.specs.Phases.{netlist_held, IsFaultyNetlist, IsFaultyRecording, IsOutside, ChooseMuch}
+use Rattle.xr_cli.specs.Phases.{netlist_held, IsFaultyNetlist, IsFaultyRecording, IsNotBuilt}
 use Rattle.xr_cli.specs.Texts.{line}
 use Rattle.xr_cli.specs.Refusal.{Cause, status_of, memory_text, cause_of, text_of}
 use Rattle.xr_cli.specs.Rows.{Start, Row, RefusedRow}
@@ -63,13 +63,9 @@ abbrev pub RecordingExact : Start → ℕ → Type 0
 RecordingExact s status =
     IsTrue s.shelf_told → (w : Words) → IsRepair s.line w → (fault : VcdErr) → IsFaultyRecording w (netlist_held s.shelf w.netlists) (held s.shelf w.recording) fault → EndsWith 7 status
 
--- Where the texts are outside what is built, the status is 14.
-abbrev pub OutsideExact : Start → ℕ → Type 0
-OutsideExact s status = IsTrue s.shelf_told → (w : Words) → IsRepair s.line w → IsOutside w (netlist_held s.shelf w.netlists) (held s.shelf w.recording) → EndsWith 14 status
-
--- Where too many places choose, the status is 14.
-abbrev pub ChoicesExact : Start → ℕ → Type 0
-ChoicesExact s status = IsTrue s.shelf_told → (w : Words) → IsRepair s.line w → ChooseMuch w (netlist_held s.shelf w.netlists) (held s.shelf w.recording) → EndsWith 14 status
+-- Where the texts are of no form that is built, the status is 14.
+abbrev pub NotBuiltExact : Start → ℕ → Type 0
+NotBuiltExact s status = IsTrue s.shelf_told → (w : Words) → IsRepair s.line w → IsNotBuilt w (netlist_held s.shelf w.netlists) (held s.shelf w.recording) → EndsWith 14 status
 
 -- There is no other status.
 abbrev pub IsStatus : ℕ → Type 0

@@ -15,11 +15,7 @@ use Rattle.xr_grammar.specs.declared.refusal.ParseErr.{ParseErr}
 use Rattle.xr_vcd.specs.Faults.{FirstFault}
 use Rattle.xr_vcd.specs.declared.refusal.VcdErr.{VcdErr}
 use Rattle.xr_cli.specs.NetlistText.{IsNetlist, IsNetlistFault, IsNoFlatNetlist}
-use Rattle.xr_cli.specs.RecordingText.{IsRecording, IsNoFlatRecording, IsStimOf}
-use Rattle.xr_design.specs.Job.{job_of}
-use Rattle.xr_design.specs.declared.stim.Stim.{Stim}
-use Rattle.xr_cli.specs.Circuit.{FitsCircuit}
-use Rattle.xr_cli.specs.Worlds.{choosing}
+use Rattle.xr_cli.specs.RecordingText.{IsRecording, IsNoFlatRecording}
 use Rattle.xr_cli.specs.declared.refusal.Refusal.{Refusal}
 use Rattle.xr_cli.specs.declared.refusal.Refusal.TheVariants.{Read, Write, Netlist, Recording, NotBuilt, Memory, Disagrees as Differs}
 
@@ -137,26 +133,15 @@ pub record IsFaultyRecording (w : Words) (netlist recording : List ℕ) (fault :
   pub recording_fits : length recording ≤ recording_limit
   pub is : FirstFault recording fault
 
--- Texts outside what is built: a netlist that is too long or whose tree is no flat module named as the top; a recording that is too long or isn't one of
--- one moment of its nets.
-pub data IsOutside (w : Words) (netlist recording : List ℕ) : Type 0 where
-  long_netlist : netlist_limit < length netlist → IsOutside w netlist recording
-  no_flat_netlist : length netlist ≤ netlist_limit → IsNoFlatNetlist netlist w.top → IsOutside w netlist recording
-  long_recording : (design : Design) → length netlist ≤ netlist_limit → IsNetlist netlist w.top design → recording_limit < length recording → IsOutside w netlist recording
-  no_flat_recording : (design : Design) → length netlist ≤ netlist_limit → IsNetlist netlist w.top design → length recording ≤ recording_limit
-      → IsNoFlatRecording recording (pieces_of w.scope) design → IsOutside w netlist recording
-
--- What isn't built: texts outside, or more than 12 places that choose.
+-- What isn't built: a netlist that is too long or whose tree is no flat module named as the top; a recording that is too long or isn't one of one moment
+-- of its nets; more than 12 places that choose.
 pub data IsNotBuilt (w : Words) (netlist recording : List ℕ) : Type 0 where
-  outside : IsOutside w netlist recording → IsNotBuilt w netlist recording
+  long_netlist : netlist_limit < length netlist → IsNotBuilt w netlist recording
+  no_flat_netlist : length netlist ≤ netlist_limit → IsNoFlatNetlist netlist w.top → IsNotBuilt w netlist recording
+  long_recording : (design : Design) → length netlist ≤ netlist_limit → IsNetlist netlist w.top design → recording_limit < length recording → IsNotBuilt w netlist recording
+  no_flat_recording : (design : Design) → length netlist ≤ netlist_limit → IsNetlist netlist w.top design → length recording ≤ recording_limit
+      → IsNoFlatRecording recording (pieces_of w.scope) design → IsNotBuilt w netlist recording
   many_choices : (design : Design) (r : Said) → AreRead w netlist recording design r → HasManyChoices design r → IsNotBuilt w netlist recording
-
--- The texts are read, and in whichever order the nets are taken more than 12 places choose.
-pub record ChooseMuch (w : Words) (netlist recording : List ℕ) : Type 0 where
-  pub design : Design
-  pub r : Said
-  pub read : AreRead w netlist recording design r
-  pub many : (other : Design) (said : Said) (order : List ℕ) (stim : Stim) → AreRead w netlist recording other said → IsStimOf other said stim → FitsCircuit other order stim → 12 < length (choosing (job_of other order stim))
 
 -- The texts of the input files stand for a design and a recording of it, and these are the texts of their repair.
 pub record Repaired (w : Words) (netlist recording vcd report : List ℕ) : Type 0 where

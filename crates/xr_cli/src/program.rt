@@ -5,7 +5,7 @@ ghost use Rattle.xr_shelf.specs.Calls.{Gained};
 ghost use Rattle.xr_cli.specs.Texts.{line};
 ghost use Rattle.xr_cli.specs.Refusal.{Cause, UsageCause, ReadCause, WriteCause, NetlistCause, RecordingCause, DisagreesCause, NotBuiltCause, MemoryCause, cause_of, text_of, memory_text};
 ghost use Rattle.xr_cli.specs.Rows.{start_of, DoneRow};
-ghost use Rattle.xr_cli.specs.Ends.{Said, Ran, EndsBy, UsageExact, NetlistExact, RecordingExact, OutsideExact, ChoicesExact, IsStatus};
+ghost use Rattle.xr_cli.specs.Ends.{Said, Ran, EndsBy, UsageExact, NetlistExact, RecordingExact, NotBuiltExact, IsStatus};
 
 use crate::answer::answer;
 use crate::line::line_of;
@@ -30,11 +30,10 @@ pub fn run<S: Shelf, O: Sink>(alloc: Global, words: &[String], shelf: &mut S, ou
     // Words outside the set are refused as such, want of memory aside.
     ensures usage_exact { UsageExact (start_of (map string_bytes words.now) S.told O.told (S.view shelf.old) (O.view out.old)) result }
 
-    // Texts that aren't read are refused as such, a fault of reading and want of memory aside.
+    // Texts that aren't read, and what isn't built, are refused as such, a fault of reading and want of memory aside.
     ensures netlist_exact { NetlistExact (start_of (map string_bytes words.now) S.told O.told (S.view shelf.old) (O.view out.old)) result }
     ensures recording_exact { RecordingExact (start_of (map string_bytes words.now) S.told O.told (S.view shelf.old) (O.view out.old)) result }
-    ensures outside_exact { OutsideExact (start_of (map string_bytes words.now) S.told O.told (S.view shelf.old) (O.view out.old)) result }
-    ensures choices_exact { ChoicesExact (start_of (map string_bytes words.now) S.told O.told (S.view shelf.old) (O.view out.old)) result }
+    ensures not_built_exact { NotBuiltExact (start_of (map string_bytes words.now) S.told O.told (S.view shelf.old) (O.view out.old)) result }
 {
     ended(alloc, words, shelf, out)
 }
