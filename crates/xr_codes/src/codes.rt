@@ -26,8 +26,8 @@ pub struct Found {
     pub passed: bool,
 }
 
-/// The codes of a text, in the order of their declaration. A code takes 24 bytes and its place in a table of at most 857,375
-/// numbers, or in a map where it has more than three bytes.
+/// The codes of a text, in the order of their declaration. A code takes 24 bytes and its place in a table of at most 2,572,125
+/// numbers, or in a map where it isn't short.
 #[derive(Drop)]
 pub struct Codes<'a> {
     shapes: Vec<Shape<'a>>,
