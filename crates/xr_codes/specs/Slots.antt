@@ -1,9 +1,8 @@
 -- How codes are stored: short ones in a table, the others in a map.
-use Rattle.std.specs.Prelude.{◌≡◌, ℕ, zero, suc, ◌+◌, ◌-◌, ◌*◌, List, [], ◌∷◌, length, map, Bool, cond, ◌&&◌, nat_le, Option, Some, None, bytes_eq, slice_index}
+use Rattle.std.specs.Prelude.{◌≡◌, ℕ, zero, suc, ◌+◌, ◌-◌, ◌*◌, List, [], ◌∷◌, length, Bool, cond, ◌&&◌, nat_le, Option, Some, None, bytes_eq, slice_index}
 use Rattle.std.specs.List.{list_all}
 use Rattle.std.specs.Map.{lookup}
-use Rattle.xr_codes.specs.Code.{Code, code}
-use Rattle.xr_codes.specs.declared.codes.Shape.{Shape}
+use Rattle.xr_codes.specs.Code.{Code}
 use denote.Ref.{Bor}
 
 -- A short code is one to four bytes 33 to 126, of which the fourth is 33 or 34. So are the first 2^20 codes that simulators give,
@@ -38,10 +37,3 @@ number_of cs t = number_from 0 cs t
 -- The table and the map say of each text what the list says.
 abbrev pub Knows : List ℕ → List (Bor (List ℕ) × ℕ) → List Code → Type 0
 Knows slots others cs = (t : List ℕ) → stored_number slots others t ≡ number_of cs t
-
--- the code that a shape stands for
-abbrev pub code_of : Shape → Code
-code_of shape = code shape.text.now shape.width shape.passed
-
-abbrev pub codes_of : List Shape → List Code
-codes_of shapes = map code_of shapes
