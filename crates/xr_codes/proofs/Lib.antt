@@ -1,4 +1,5 @@
--- Lemmas of xr_codes: lists of codes, places in the table, and what is known after a new code.
+-- Lemmas of xr_codes: lists of codes, places in the table, columns, and what is known after a new code.
 pub mod Numbers
 pub mod Places
+pub mod Rows
 pub mod Tables

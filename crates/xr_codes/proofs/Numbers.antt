@@ -1,6 +1,6 @@
 -- The numbers of codes in a list.
 use Rattle.std.proofs.Common.{◌≡◌, ℕ, suc, ◌+◌, ◌-◌, ◌<◌, ◌≤◌, Bool, true, false, cond, List, [], ◌∷◌, ◌++◌, length, Option, Some, None, refl, sym, ap, ◌∙◌, arith, bytes_eq, get_or}
-use Rattle.xr_codes.specs.Code.{Code, found, find, find_from}
+use Rattle.xr_codes.specs.Code.{Code, code, found, find, find_from}
 use Rattle.xr_codes.specs.Slots.{number_from, number_of}
 
 -- the list from n on has this code at k
@@ -32,8 +32,14 @@ has_at n (c ∷ cs) t k h =
 pub number_within : (cs : List Code) (t : List ℕ) (k : ℕ) → Some k ≡ number_of cs t → k < length cs
 number_within cs t k h = omega (arith, (has_at 0 cs t k (sym h)).high)
 
-pub find_is : (cs : List Code) (t : List ℕ) (k : ℕ) (d : Code) → Some k ≡ number_of cs t → find cs t ≡ Some (found k (get_or cs k d))
+find_is : (cs : List Code) (t : List ℕ) (k : ℕ) (d : Code) → Some k ≡ number_of cs t → find cs t ≡ Some (found k (get_or cs k d))
 find_is cs t k d h = let same : k - 0 ≡ k = omega arith in (has_at 0 cs t k (sym h)).is d ∙ ap (λ (n : ℕ). Some (found k (get_or cs n d))) same
+
+-- what is told of the code with a number that was found
+pub told_of : (cs : List Code) (t : List ℕ) (k width : ℕ) (passed : Bool) → Some k ≡ number_of cs t → ((d : Code) → width ≡ (get_or cs k d).width) → ((d : Code) → passed ≡ (get_or cs k d).passed) → find cs t ≡ Some (record { number = k; width = width; passed = passed })
+told_of cs t k width passed h w p =
+    let d : Code = code t 0 true in
+    rw (w d, p d) (find_is cs t k d h)
 
 if_none : {A B : Type 0} (b : Bool) (x : A) (r : Option A) (y : B) (s : Option B) → cond b (Some x) r ≡ None → (r ≡ None → s ≡ None) → cond b (Some y) s ≡ None
 if_none true x r y s h k = cc

@@ -1,13 +1,12 @@
 -- What the table and the map know after a new code.
 use Rattle.std.proofs.Common.{◌≡◌, ◌≢◌, ℕ, suc, ◌+◌, ◌<◌, Bool, true, false, cond, List, [], ◌∷◌, ◌++◌, length, Option, Some, None, refl, sym, ap, ◌∙◌, arith, add-one, bytes_eq, get_or, set, slice_index}
 use Rattle.std.specs.Map.{lookup}
-use Rattle.std.proofs.lemmas.List.{get_or-set_other, get_or-set_same, get_or-map, length-map, map-append}
+use Rattle.std.proofs.lemmas.List.{get_or-set_other, get_or-set_same}
 use Rattle.std.proofs.lemmas.Slice.Eq.{bytes_eq-Decides}
 use Rattle.xr_codes.specs.Code.{Code, code, find}
-use Rattle.xr_codes.specs.Slots.{Knows, is_short, slot_of, slot_number, stored_number, number_of, code_of, codes_of}
+use Rattle.xr_codes.specs.Slots.{Knows, is_short, slot_of, slot_number, stored_number, number_of}
 use Rattle.xr_codes.proofs.Numbers.{first_of, first_cond, number-push, number_none}
 use Rattle.xr_codes.proofs.Places.{same_place}
-use Rattle.xr_codes.specs.declared.codes.Shape.{Shape}
 use denote.Ref.{Bor}
 
 abbrev pub Others : Type 0
@@ -103,21 +102,12 @@ knows_other slots others cs key width passed number h long count = λ t.
     by (is_short t) refl
 
 -- what was looked up is what the list says
-pub told : (slots read : List ℕ) (others : Others) (shapes : List Shape) (now : List Code) (text : List ℕ) (r : Option ℕ) → read ≡ slots → codes_of shapes ≡ now → Knows slots others (codes_of shapes) → r ≡ stored_number read others text → r ≡ number_of now text
-told slots read others shapes now text r same view h is = is ∙ ap (λ (s : List ℕ). stored_number s others text) same ∙ h text ∙ ap (λ (cs : List Code). number_of cs text) view
-
-pub count_is : (shapes : List Shape) (now : List Code) → codes_of shapes ≡ now → length shapes ≡ length now
-count_is shapes now view = sym (length-map shapes code_of) ∙ ap (λ (cs : List Code). length cs) view
-
-pub shape_is : (shapes : List Shape) (now : List Code) (k : ℕ) (shape : Shape) → codes_of shapes ≡ now → k < length shapes → shape ≡ get_or shapes k shape → code_of shape ≡ get_or now k (code_of shape)
-shape_is shapes now k shape view lt is = ap code_of is ∙ sym (get_or-map code_of shapes k shape (code_of shape) lt) ∙ ap (λ (cs : List Code). get_or cs k (code_of shape)) view
-
-pub codes-push : (shapes all : List Shape) (shape : Shape) → all ≡ shapes ++ shape ∷ [] → codes_of all ≡ codes_of shapes ++ code_of shape ∷ []
-codes-push shapes all shape is = rw is (map-append code_of shapes (shape ∷ []))
+pub told : (slots read : List ℕ) (others : Others) (columns now : List Code) (text : List ℕ) (r : Option ℕ) → read ≡ slots → columns ≡ now → Knows slots others columns → r ≡ stored_number read others text → r ≡ number_of now text
+told slots read others columns now text r same view h is = is ∙ ap (λ (s : List ℕ). stored_number s others text) same ∙ h text ∙ ap (λ (cs : List Code). number_of cs text) view
 
 -- a new code isn't there yet
-pub absent : (shapes : List Shape) (now : List Code) (text : List ℕ) → codes_of shapes ≡ now → find now text ≡ None → number_of (codes_of shapes) text ≡ None
-absent shapes now text view h = number_none 0 (codes_of shapes) text (ap (λ (cs : List Code). find cs text) view ∙ h)
+pub absent : (columns now : List Code) (text : List ℕ) → columns ≡ now → find now text ≡ None → number_of columns text ≡ None
+absent columns now text view h = number_none 0 columns text (ap (λ (cs : List Code). find cs text) view ∙ h)
 
 pub absent_other : (slots : List ℕ) (others : Others) (cs : List Code) (text : List ℕ) → Knows slots others cs → is_short text ≡ false → number_of cs text ≡ None → look others text ≡ None
 absent_other slots others cs text h long none = sym (chosen_false (is_short text) (slot_number (slice_index slots (slot_of text))) (look others text) long) ∙ h text ∙ none

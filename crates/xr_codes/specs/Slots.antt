@@ -1,21 +1,21 @@
--- How codes are stored: those of up to three bytes in a table, the others in a map.
-use Rattle.std.specs.Prelude.{◌≡◌, ℕ, zero, suc, ◌+◌, ◌-◌, ◌*◌, List, [], ◌∷◌, length, map, Bool, cond, ◌&&◌, nat_le, Option, Some, None, bytes_eq, slice_index}
+-- How codes are stored: short ones in a table, the others in a map.
+use Rattle.std.specs.Prelude.{◌≡◌, ℕ, zero, suc, ◌+◌, ◌-◌, ◌*◌, List, [], ◌∷◌, length, Bool, cond, ◌&&◌, nat_le, Option, Some, None, bytes_eq, slice_index}
 use Rattle.std.specs.List.{list_all}
 use Rattle.std.specs.Map.{lookup}
-use Rattle.xr_codes.specs.Code.{Code, code}
-use Rattle.xr_codes.specs.declared.codes.Shape.{Shape}
+use Rattle.xr_codes.specs.Code.{Code}
 use denote.Ref.{Bor}
 
--- A short code is one to three bytes 33 to 126.
+-- A short code is one to four bytes 33 to 126, of which the fourth is 33 or 34. So are the first 2^20 codes that simulators give,
+-- who count in base 94, the least digit first.
 abbrev pub is_slot_byte : ℕ → Bool
 is_slot_byte b = nat_le 33 b && nat_le b 126
 
 abbrev pub is_short : List ℕ → Bool
-is_short t = nat_le 1 (length t) && nat_le (length t) 3 && list_all is_slot_byte t
+is_short t = nat_le 1 (length t) && nat_le (length t) 4 && nat_le (slice_index t 3 - 32) 2 && list_all is_slot_byte t
 
 -- its place in the table: its bytes are digits in base 95, the least first, and no byte is 0
 abbrev pub slot_of : List ℕ → ℕ
-slot_of t = (slice_index t 0 - 32) + 95 * (slice_index t 1 - 32) + 9025 * (slice_index t 2 - 32)
+slot_of t = (slice_index t 0 - 32) + 95 * ((slice_index t 1 - 32) + 95 * ((slice_index t 2 - 32) + 95 * (slice_index t 3 - 32)))
 
 -- a slot has the number of its code and one more, or 0
 abbrev pub slot_number : ℕ → Option ℕ
@@ -37,10 +37,3 @@ number_of cs t = number_from 0 cs t
 -- The table and the map say of each text what the list says.
 abbrev pub Knows : List ℕ → List (Bor (List ℕ) × ℕ) → List Code → Type 0
 Knows slots others cs = (t : List ℕ) → stored_number slots others t ≡ number_of cs t
-
--- the code that a shape stands for
-abbrev pub code_of : Shape → Code
-code_of shape = code shape.text.now shape.width shape.passed
-
-abbrev pub codes_of : List Shape → List Code
-codes_of shapes = map code_of shapes

@@ -4,19 +4,12 @@ ghost use Rattle.std.specs.Prelude.{◌≡◌, true, false, ℕ, ◌<◌, [], �
 ghost use Rattle.xr_codes.specs.Code.{find, code};
 ghost use Rattle.xr_codes.specs.Slots.{is_short, stored_number, slot_number};
 
+use crate::columns::Columns;
 use crate::slots::{is_short, slot_of};
 use indexmap::IndexMap;
 use std::alloc::Global;
 use std::marker::Model;
 use xr_base::Memory;
-
-/// A code as its declaration gives it: its text, its width, and whether it is passed over.
-#[derive(Clone, Copy)]
-pub struct Shape<'a> {
-    pub text: &'a [u8],
-    pub width: u32,
-    pub passed: bool,
-}
 
 /// A code that was found: its number from 0, its width, and whether it is passed over.
 #[derive(Clone, Copy)]
@@ -26,11 +19,11 @@ pub struct Found {
     pub passed: bool,
 }
 
-/// The codes of a text, in the order of their declaration. A code takes 24 bytes and its place in a table of at most 857,375
-/// numbers, or in a map where it has more than three bytes.
+/// The codes of a text, in the order of their declaration. A code takes 24 bytes and its place in a table of at most 2,572,125
+/// numbers, or in a map where it isn't short.
 #[derive(Drop)]
 pub struct Codes<'a> {
-    shapes: Vec<Shape<'a>>,
+    columns: Columns<'a>,
     slots: Vec<u32>,
     others: IndexMap<&'a [u8], u32>,
 }
@@ -38,13 +31,13 @@ pub struct Codes<'a> {
 impl<'a> Model for Codes<'a> {
     ghost use Rattle.std.specs.Prelude.{List};
     ghost use Rattle.xr_codes.specs.Code.{Code};
-    ghost use Rattle.xr_codes.specs.Slots.{codes_of, Knows};
+    ghost use Rattle.xr_codes.specs.Slots.{Knows};
 
     ghost Value = { List Code };
 
-    ghost view = { λ c. codes_of c.shapes.items };
+    ghost view = { λ c. c.columns };
 
-    ghost invariant = { λ c. Knows c.slots.items c.others.entries (codes_of c.shapes.items) };
+    ghost invariant = { λ c. Knows c.slots.items c.others.entries c.columns };
 }
 
 impl<'a> Codes<'a> {
@@ -57,7 +50,7 @@ impl<'a> Codes<'a> {
         ensures { result ≡ [] }
     {
         Codes {
-            shapes: Vec::new(alloc),
+            columns: Columns::new(alloc),
             slots: Vec::new(alloc),
             others: IndexMap::new(alloc),
         }
@@ -67,7 +60,7 @@ impl<'a> Codes<'a> {
     pub fn len(&self) -> usize
         ensures { result ≡ length self.now }
     {
-        self.shapes.len()
+        self.columns.len()
     }
 
     /// The code with this text. Takes no memory.
@@ -78,11 +71,11 @@ impl<'a> Codes<'a> {
             None => return None,
             Some(number) => number as usize,
         };
-        let shape = self.shapes[number];
+        let mark = self.columns.mark(number);
         Some(Found {
             number,
-            width: shape.width,
-            passed: shape.passed,
+            width: mark.width,
+            passed: mark.passed,
         })
     }
 
@@ -103,17 +96,13 @@ impl<'a> Codes<'a> {
         requires short { is_short text.now ≡ true }
         ensures { OnOk result (self.new ≡ self.old ++ code text.now width passed ∷ []) }
     {
-        let number = self.shapes.len();
+        let number = self.columns.len();
         if number >= u32::MAX as usize {
             return Err(Memory);
         }
         let slot = slot_of(text);
         reach(&mut self.slots, slot)?;
-        self.shapes.push(Shape {
-            text,
-            width,
-            passed,
-        })?;
+        self.columns.push(text, width, passed)?;
         self.slots[slot] = number as u32 + 1;
         Ok(())
     }
@@ -123,19 +112,15 @@ impl<'a> Codes<'a> {
         requires long { is_short text.now ≡ false }
         ensures { OnOk result (self.new ≡ self.old ++ code text.now width passed ∷ []) }
     {
-        let number = self.shapes.len();
+        let number = self.columns.len();
         if number >= u32::MAX as usize {
             return Err(Memory);
         }
-        self.shapes.push(Shape {
-            text,
-            width,
-            passed,
-        })?;
+        self.columns.push(text, width, passed)?;
         match self.others.insert(text, number as u32) {
             Ok(_) => Ok(()),
             Err(_) => {
-                self.shapes.truncate(number);
+                self.columns.truncate(number);
                 Err(Memory)
             }
         }

@@ -3,6 +3,7 @@
 #![tactic(auto)]
 
 mod codes;
+mod columns;
 mod slots;
 
 pub use codes::{Codes, Found};

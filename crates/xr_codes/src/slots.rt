@@ -4,11 +4,11 @@ ghost use Rattle.std.specs.Prelude.{◌≡◌, ◌<◌, ◌-◌, length, slice_i
 ghost use Rattle.std.specs.List.{list_all};
 ghost use Rattle.xr_codes.specs.Slots.{is_short, is_slot_byte, slot_of};
 
-/// Whether it is one to three bytes 33 to 126.
+/// Whether it is one to four bytes 33 to 126, of which the fourth is 33 or 34.
 pub fn is_short(text: &[u8]) -> bool
     ensures { result ≡ is_short text.now }
 {
-    1 <= text.len() && text.len() <= 3 && all_slot_bytes(text)
+    1 <= text.len() && text.len() <= 4 && digit_at(text, 3) <= 2 && all_slot_bytes(text)
 }
 
 fn all_slot_bytes(text: &[u8]) -> bool
@@ -27,7 +27,7 @@ fn is_slot_byte(b: u8) -> bool
 pub fn slot_of(text: &[u8]) -> usize
     ensures { result ≡ slot_of text.now }
 {
-    digit_at(text, 0) + 95 * digit_at(text, 1) + 9025 * digit_at(text, 2)
+    digit_at(text, 0) + 95 * (digit_at(text, 1) + 95 * (digit_at(text, 2) + 95 * digit_at(text, 3)))
 }
 
 /// The digit that the byte at this place is, 0 where there is none.

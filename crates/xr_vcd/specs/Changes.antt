@@ -24,6 +24,9 @@ abbrev pub times_or : List ℕ → List ℕ
 times_or [] = 0 ∷ []
 times_or (t ∷ ts) = t ∷ ts
 
+abbrev pub with_moment : Body → Body
+with_moment b = record b { times = times_or b.times }
+
 -- A change is in the last moment, or in the first where there is none yet.
 abbrev pub changed : Body → ℕ → List ℕ → Body
 changed b number digits = record { head = b.head; times = times_or b.times; tracks = with_change b.tracks number (change (length b.times - 1) digits) }
@@ -63,9 +66,12 @@ abbrev pub real_on : Option Found → Body → ℕ → Word → Result Body VcdE
 real_on None b at t = Err (undeclared t.text t.at)
 real_on (Some found) b at t = cond found.passed (Ok b) (Err (Syntax at))
 
--- What the whole text says, where it ends here.
+-- What was said so far, and what the whole text says, where it ends here.
+abbrev pub said_of : Body → Recording
+said_of b = record { timescale = b.head.timescale; scopes = b.head.scopes; variables = b.head.variables; times = b.times; changes = map (track_of b.tracks) b.head.numbers }
+
 abbrev pub recording_of : Body → Recording
-recording_of b = record { timescale = b.head.timescale; scopes = b.head.scopes; variables = b.head.variables; times = times_or b.times; changes = map (track_of b.tracks) b.head.numbers }
+recording_of b = said_of (with_moment b)
 
 -- How a body is stored: each code has its changes, its last change is in no moment after the last, and there are fewer than 2^28
 -- moments.

@@ -55,7 +55,7 @@ fn open_tracks(alloc: Global, count: usize) -> Result<Changes, Memory>
 impl<'a> Body<'a> {
     ghost use Rattle.std.specs.Prelude.{◌≡◌, ◌≤◌, ◌+◌, ◌<◌, ◌^◌, ℕ, Bool, false, List, [], ◌∷◌, length, IfOk, IfSome, OnOk, replicate};
     ghost use Rattle.xr_vcd.specs.Bytes.{time_of, rest_of};
-    ghost use Rattle.xr_vcd.specs.Changes.{start, time_on, scalar_on, vector_on, real_on, changed, recording_of, undeclared};
+    ghost use Rattle.xr_vcd.specs.Changes.{start, time_on, scalar_on, vector_on, real_on, changed, said_of, with_moment, undeclared};
     ghost use Rattle.xr_codes.specs.Code.{find};
     ghost use Rattle.xr_vcd.specs.Reading.{Gives, Does};
     ghost use Rattle.xr_vcd.specs.Words.{word};
@@ -72,19 +72,26 @@ impl<'a> Body<'a> {
         })
     }
 
-    /// What the whole text says. Takes no memory but for the first time.
-    pub fn into_recording(self) -> Result<Recording, Memory>
-        ensures { IfOk result (λ recording. recording ≡ recording_of self.entry) }
+    /// What was said so far. Takes no memory.
+    pub fn into_recording(self) -> Recording
+        ensures { result ≡ said_of self.entry }
     {
         let Body {
             head,
-            mut times,
+            times,
             changes,
         } = self;
-        if times.is_empty() {
-            times.push(0)?;
+        Recording::new(head, times, changes)
+    }
+
+    /// The first moment, at time 0, where there is none yet.
+    pub fn open_moment(&mut self) -> Result<(), Memory>
+        ensures { IfOk result (λ _. self.new ≡ with_moment self.old) }
+    {
+        if self.times.is_empty() {
+            self.times.push(0)?;
         }
-        Ok(Recording::new(head, times, changes))
+        Ok(())
     }
 
     fn find(&self, code: &[u8]) -> Option<Found>
@@ -128,10 +135,7 @@ impl<'a> Body<'a> {
     {
         let moment = self.times.len().saturating_sub(1) as u32;
         self.changes.add(number, moment, digits)?;
-        if self.times.is_empty() {
-            self.times.push(0)?;
-        }
-        Ok(())
+        self.open_moment()
     }
 
     /// A digit and a code in one word.

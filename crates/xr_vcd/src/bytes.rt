@@ -1,13 +1,20 @@
 //! Tests of a word's bytes.
 
-ghost use Rattle.std.specs.Prelude.{◌≡◌, [], ◌∷◌, ◌≢◌, ◌<◌, ◌≤◌, ◌-◌, ◌^◌, take, drop, length};
+ghost use Rattle.std.specs.Prelude.{◌≡◌, bytes_eq, [], ◌∷◌, ◌≢◌, ◌<◌, ◌≤◌, ◌-◌, ◌^◌, take, drop, length};
 ghost use Rattle.std.specs.List.{list_all};
 ghost use Rattle.xr_vcd.specs.Bytes.{is_end, is_code_byte, is_code, is_value, are_values, is_digit, are_digits, number_from, at_most, number_within, is_power, is_unit, is_cut_scale, is_scale, is_passed, rest_of, front_of};
+
+/// Whether it is this word.
+pub fn is_word(text: &[u8], word: &[u8]) -> bool
+    ensures { result ≡ bytes_eq text.now word.now }
+{
+    text == word
+}
 
 pub fn is_end(text: &[u8]) -> bool
     ensures { result ≡ is_end text.now }
 {
-    text == b"$end".as_slice()
+    is_word(text, b"$end")
 }
 
 pub fn is_code(text: &[u8]) -> bool
@@ -114,18 +121,18 @@ fn at_most(limit: u64, number: u64) -> Option<u64>
 pub fn is_power(text: &[u8]) -> bool
     ensures { result ≡ is_power text.now }
 {
-    text == b"1".as_slice() || text == b"10".as_slice() || text == b"100".as_slice()
+    is_word(text, b"1") || is_word(text, b"10") || is_word(text, b"100")
 }
 
 pub fn is_unit(text: &[u8]) -> bool
     ensures { result ≡ is_unit text.now }
 {
-    text == b"s".as_slice()
-        || text == b"ms".as_slice()
-        || text == b"us".as_slice()
-        || text == b"ns".as_slice()
-        || text == b"ps".as_slice()
-        || text == b"fs".as_slice()
+    is_word(text, b"s")
+        || is_word(text, b"ms")
+        || is_word(text, b"us")
+        || is_word(text, b"ns")
+        || is_word(text, b"ps")
+        || is_word(text, b"fs")
 }
 
 /// Whether it is 1, 10 or 100 and a unit, joined.
@@ -167,7 +174,7 @@ pub fn drop(text: &[u8], count: usize) -> &[u8]
 pub fn is_passed(text: &[u8]) -> bool
     ensures { result ≡ is_passed text.now }
 {
-    text == b"real".as_slice() || text == b"realtime".as_slice() || text == b"event".as_slice()
+    is_word(text, b"real") || is_word(text, b"realtime") || is_word(text, b"event")
 }
 
 /// The bytes behind the first.

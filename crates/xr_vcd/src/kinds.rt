@@ -3,10 +3,10 @@
 ghost use Rattle.std.specs.Prelude.{◌≡◌};
 ghost use Rattle.xr_vcd.specs.Kinds.{declaration_kind, keyword_kind, kind_of};
 
-use crate::bytes::{is_end, is_value};
+use crate::bytes::{is_end, is_value, is_word};
 
 /// The kinds of words that the grammar tells apart.
-#[derive(Clone, Copy, Debug)]
+#[derive(Clone, Copy)]
 pub enum Kind {
     Scalar,
     Vector,
@@ -55,11 +55,11 @@ fn keyword_kind(text: &[u8]) -> Kind
 {
     if is_end(text) {
         Kind::End
-    } else if text == b"$comment".as_slice() {
+    } else if is_word(text, b"$comment") {
         Kind::Comment
-    } else if text == b"$dumpvars".as_slice() || text == b"$dumpall".as_slice() {
+    } else if is_word(text, b"$dumpvars") || is_word(text, b"$dumpall") {
         Kind::Dump
-    } else if text == b"$dumpoff".as_slice() || text == b"$dumpon".as_slice() {
+    } else if is_word(text, b"$dumpoff") || is_word(text, b"$dumpon") {
         Kind::Off
     } else {
         declaration_kind(text)
@@ -69,17 +69,17 @@ fn keyword_kind(text: &[u8]) -> Kind
 fn declaration_kind(text: &[u8]) -> Kind
     ensures { result ≡ declaration_kind text.now }
 {
-    if text == b"$var".as_slice() {
+    if is_word(text, b"$var") {
         Kind::Var
-    } else if text == b"$scope".as_slice() {
+    } else if is_word(text, b"$scope") {
         Kind::Scope
-    } else if text == b"$upscope".as_slice() {
+    } else if is_word(text, b"$upscope") {
         Kind::Upscope
-    } else if text == b"$timescale".as_slice() {
+    } else if is_word(text, b"$timescale") {
         Kind::Timescale
-    } else if text == b"$date".as_slice() || text == b"$version".as_slice() {
+    } else if is_word(text, b"$date") || is_word(text, b"$version") {
         Kind::Note
-    } else if text == b"$enddefinitions".as_slice() {
+    } else if is_word(text, b"$enddefinitions") {
         Kind::Definitions
     } else {
         Kind::Other

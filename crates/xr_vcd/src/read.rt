@@ -48,6 +48,6 @@ fn read_body<'a>(words: &mut Words<'a>, head: Head<'a>) -> Result<Recording, Vcd
 {
     let mut body = Body::new(head)?;
     read_changes(words, &mut body)?;
-    let recording = body.into_recording()?;
-    Ok(recording)
+    body.open_moment()?;
+    Ok(body.into_recording())
 }

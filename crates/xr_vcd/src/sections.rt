@@ -5,7 +5,7 @@ ghost use Rattle.xr_vcd.specs.Changes.{Body, start};
 ghost use Rattle.xr_codes.specs.Code.{find};
 ghost use Rattle.xr_vcd.specs.Declarations.{Head, with_variable};
 ghost use Rattle.xr_vcd.specs.Machine.{upscope_on, code_on};
-ghost use Rattle.xr_vcd.specs.Machine.State.{note, scale, scope_kind, scale_end, var_kind, var_width, var_code, var_reference, body, body_note, head as in_head};
+ghost use Rattle.xr_vcd.specs.Machine.State.{definitions_end, note, scale, scope_kind, scale_end, var_kind, var_width, var_code, var_reference, body, body_note, head as in_head};
 ghost use Rattle.xr_vcd.specs.Naming.{shown_name};
 ghost use Rattle.xr_vcd.specs.Reading.{Reads, ReadsOn, Shortens};
 
@@ -33,15 +33,24 @@ pub fn read_declarations<'a>(words: &mut Words<'a>, head: &mut Head<'a>) -> Resu
             Kind::Upscope => read_upscope(at, words, head)?,
             Kind::Var => read_var(at, words, head)?,
             Kind::Definitions => {
-                let (at, text) = words.need()?;
-                if !is_end(text) {
-                    return Err(VcdErr::Syntax { at });
-                }
+                read_definitions_end(words)?;
                 return Ok(());
             }
             _ => return Err(VcdErr::Syntax { at }),
         }
     }
+}
+
+// definitions = "$enddefinitions" "$end"
+fn read_definitions_end(words: &mut Words<'_>) -> Result<(), VcdErr>
+    ensures reads { (h : Head) → Reads (definitions_end h) words.old result (λ _. body (start h) false) words.new }
+    ensures shortens { Shortens words.old result words.new }
+{
+    let (at, text) = words.need()?;
+    if !is_end(text) {
+        return Err(VcdErr::Syntax { at });
+    }
+    Ok(())
 }
 
 // note = ( "$date" | "$version" | "$comment" ) { word } "$end"

@@ -58,8 +58,15 @@ fn malicious_texts(rt: HostRuntime) {
 }
 
 /// Texts, each with its refusal.
-const DECLARATIONS: [(&str, (u8, usize)); 31] = [
+const DECLARATIONS: [(&str, (u8, usize)); 54] = [
     ("$enddefinitions $end", (0, 0)),
+    ("\t\r\n\x0c $enddefinitions\t$end\r\n\x0c", (0, 0)),
+    ("$enddefinitions\x0b$end", (1, 0)),
+    ("", (6, 0)),
+    (" \t\r\n\x0c", (6, 5)),
+    ("$comment $end $end", (1, 14)),
+    ("$comment $end$", (6, 14)),
+    ("$version", (6, 8)),
     (
         "$date 1 $var $end $version a $end $comment $end $enddefinitions $end",
         (0, 0),
@@ -72,6 +79,11 @@ const DECLARATIONS: [(&str, (u8, usize)); 31] = [
     ("$timescale 2ns $end", (1, 11)),
     ("$timescale 10 ks $end", (1, 14)),
     ("$timescale 10 s s", (1, 16)),
+    ("$timescale 1ns s", (1, 15)),
+    ("$timescale 1000ns $end", (1, 11)),
+    ("$timescale 1NS $end", (1, 11)),
+    ("$timescale $end", (1, 11)),
+    ("$timescale 1", (6, 12)),
     (
         "$scope module a $end $upscope $end $enddefinitions $end",
         (0, 0),
@@ -81,13 +93,20 @@ const DECLARATIONS: [(&str, (u8, usize)); 31] = [
     ("$scope module a b", (1, 16)),
     ("$scope module a $end $upscope $end $upscope $end", (1, 35)),
     ("$upscope", (1, 0)),
+    ("$scope module a $end $upscope a", (1, 30)),
+    ("$scope module", (6, 13)),
     ("$var $end 1 $end a $end $enddefinitions $end", (0, 0)),
     ("$var wire 001 ! a $end $enddefinitions $end", (0, 0)),
     ("$var wire 1048576 ! a $end $enddefinitions $end", (0, 0)),
     ("$var wire 1048577 ! a $end", (4, 10)),
     ("$var wire 99999999999999999999999999 ! a $end", (4, 10)),
+    ("$var wire 000 ! a $end", (4, 10)),
     ("$var wire 1x ! a $end", (1, 10)),
+    ("$var wire -1 ! a $end", (1, 10)),
+    ("$var wire 1 $end a $end $enddefinitions $end", (0, 0)),
+    ("$var wire 1 ~! a $end $enddefinitions $end", (0, 0)),
     ("$var wire 1 \x7f a $end", (1, 12)),
+    ("$var wire 1 !\u{e9} a $end", (1, 12)),
     (
         "$var wire 1 ! a $end $var reg 1 ! b $end $enddefinitions $end",
         (0, 0),
@@ -97,8 +116,15 @@ const DECLARATIONS: [(&str, (u8, usize)); 31] = [
     ("$var wire 1 ! $end", (1, 14)),
     ("$var wire 1 ! a b $end", (1, 16)),
     ("$var wire 1 ! a [2147483648] $end", (1, 16)),
+    ("$var wire 1 ! a [1:2147483648] $end", (1, 16)),
+    (
+        "$var wire 1 ! a [0:2147483647] $end $enddefinitions $end",
+        (0, 0),
+    ),
     ("$var wire 1 ! a [1:] $end", (1, 16)),
+    ("$var wire 1 ! a [1:2:3] $end", (1, 16)),
     ("$var wire 1 ! a [1] $date", (1, 20)),
+    ("$var wire 1 ! a", (6, 15)),
     ("$enddefini", (1, 0)),
     ("$enddefinitions $en", (1, 16)),
     ("$dumpvars", (1, 0)),
@@ -111,14 +137,49 @@ fn declarations_are_read_or_refused(rt: HostRuntime) {
     }
 }
 
+/// Timescales, with the one that counts.
+const TIMESCALES: [(&str, &str); 9] = [
+    ("1s", "1s"),
+    ("10 ms", "10ms"),
+    ("100us", "100us"),
+    ("1 ns", "1ns"),
+    ("10ps", "10ps"),
+    ("100 fs", "100fs"),
+    ("100\ns", "100s"),
+    ("1ps $end $timescale 10 us", "10us"),
+    ("1 ps $end $date $end $timescale 100fs", "100fs"),
+];
+
+fn has_scale(recording: &Recording, want: &str) -> bool {
+    match recording.timescale() {
+        Some(scale) => scale == want.as_bytes(),
+        None => false,
+    }
+}
+
+#[test]
+fn last_timescale_counts(rt: HostRuntime) -> Result<(), Fail> {
+    for (scale, want) in TIMESCALES {
+        let text = format!(in rt.alloc(); "$timescale {scale} $end $enddefinitions $end")?;
+        let recording = read(&rt, text.as_str())?;
+        assert!(rt; has_scale(&recording, want), "{scale}");
+    }
+    Ok(())
+}
+
 /// What stands behind the declarations, each with its refusal.
-const CHANGES: [(&str, (u8, usize)); 34] = [
+const CHANGES: [(&str, (u8, usize)); 49] = [
     ("#007 #7 #18446744073709551615", (0, 0)),
     ("#18446744073709551616", (1, 0)),
     ("#", (1, 0)),
     ("#1a", (1, 0)),
+    ("#-1", (1, 0)),
+    ("# 1", (1, 0)),
     ("0! 1! x! X! z! Z!", (0, 0)),
     ("1", (1, 0)),
+    ("1 !", (1, 0)),
+    ("2!", (1, 0)),
+    ("1~", (2, 0)),
     ("1\"", (2, 0)),
     ("1\u{e9}", (1, 0)),
     ("b0 ! B1xXzZ !", (4, 5)),
@@ -127,6 +188,9 @@ const CHANGES: [(&str, (u8, usize)); 34] = [
     ("b10101 \"", (2, 7)),
     ("b", (1, 0)),
     ("b2 !", (1, 0)),
+    ("b1\t!\r\n\x0cb1 !", (0, 0)),
+    ("b1\x0b!", (1, 0)),
+    ("b1 \u{e9}", (1, 3)),
     ("b1", (6, 2)),
     ("r1.5 R R-1e3 R r R", (0, 0)),
     ("r1.5 !", (1, 0)),
@@ -134,10 +198,17 @@ const CHANGES: [(&str, (u8, usize)); 34] = [
     ("r1.5", (6, 4)),
     ("b1 R", (1, 0)),
     ("1R", (0, 0)),
+    ("1T xE r1 T r1 E", (0, 0)),
+    ("b1 T", (1, 0)),
+    ("b1 E", (1, 0)),
+    ("b1 I", (0, 0)),
+    ("r1 I", (1, 0)),
+    ("r \u{e9}", (1, 2)),
     ("$comment #1 $end", (0, 0)),
     ("$comment", (6, 8)),
     ("$dumpvars 1! b0 ! r0 R $end $dumpall $end", (0, 0)),
     ("$dumpvars 1!", (6, 12)),
+    ("$dumpall x!", (6, 11)),
     ("$dumpvars #1", (1, 10)),
     ("$dumpvars $comment", (1, 10)),
     ("$dumpall $dumpvars", (1, 9)),
@@ -151,7 +222,9 @@ const CHANGES: [(&str, (u8, usize)); 34] = [
 
 #[test]
 fn changes_are_read_or_refused(rt: HostRuntime) -> Result<(), Fail> {
-    let head = "$var wire 4 ! v $end $var real 64 R r $end $enddefinitions $end ";
+    let head =
+        "$var wire 4 ! v $end $var real 64 R r $end $var realtime 64 T t $end $var event 1 E e $end \
+                $var integer 32 I i $end $enddefinitions $end ";
     for (changes, (number, place)) in CHANGES {
         let text = format!(in rt.alloc(); "{head}{changes}")?;
         let at = if number == 0 {
@@ -232,6 +305,8 @@ fn names_of_variables(rt: HostRuntime) -> Result<(), Fail> {
         ("a [3]", "a Some((3, 3)) false"),
         ("a [007:0]", "a Some((7, 0)) false"),
         ("a[2147483647:1]", "a Some((2147483647, 1)) true"),
+        ("a[1:2]", "a Some((1, 2)) true"),
+        ("a[1]b", "a[1]b None false"),
         ("a[2147483648]", "a[2147483648] None false"),
         ("a[1] [2]", "a[1] Some((2, 2)) false"),
         ("a[1][2]", "a[1] Some((2, 2)) true"),
