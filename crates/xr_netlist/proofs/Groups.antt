@@ -1,9 +1,9 @@
--- The words that the profile leaves out are those of its groups.
-use Rattle.std.proofs.Common.{◌≡◌, ◌∙◌, sym, ap, refl, ℕ, List, [], ◌∷◌, ◌++◌, Bool, true, false, ◌||◌}
+-- The words that the grammar quotes, and those that the profile leaves out, are those of their groups.
+use Rattle.std.proofs.Common.{◌≡◌, ◌∙◌, sym, ap, refl, ℕ, List, [], ◌∷◌, ◌++◌, Bool, true, false, ◌||◌, if◌then◌else◌}
 use Rattle.std.specs.List.{list_any}
 use Rattle.std.specs.Str.{bytes_eq}
-use Rattle.xr_grammar.specs.Lexemes.{is_word_left_out}
-use Rattle.xr_netlist.specs.Groups.{is_among, general, behavioral, wired_nets, switches, pass_switches}
+use Rattle.xr_grammar.specs.Lexemes.{Lexeme, named, entry_or, word_of, is_word_left_out}
+use Rattle.xr_netlist.specs.Groups.{head_words, item_words, gate_words, block_words, is_among, general, behavioral, wired_nets, switches, pass_switches}
 
 or_assoc : (a b c : Bool) → ((a || b) || c) ≡ (a || (b || c))
 or_assoc true b c = refl
@@ -26,3 +26,19 @@ by_groups text =
     ∙ or_right (is_among general text) _ _ (among behavioral (wired_nets ++ (switches ++ pass_switches)) text
     ∙ or_right (is_among behavioral text) _ _ (among wired_nets (switches ++ pass_switches) text
     ∙ or_right (is_among wired_nets text) _ _ (among switches pass_switches text)))
+
+cond_over : (b : Bool) (x y z : Lexeme) → y ≡ z → (if b then x else y) ≡ (if b then x else z)
+cond_over true x y z h = refl
+cond_over false x y z h = h
+
+-- what two tables have at a word, one behind the other
+behind : (xs ys : List (List ℕ × Lexeme)) (text : List ℕ) (otherwise : Lexeme) → entry_or (xs ++ ys) text otherwise ≡ entry_or xs text (entry_or ys text otherwise)
+behind [] ys text otherwise = refl
+behind (x ∷ xs) ys text otherwise = cond_over (bytes_eq text x.0) x.1 _ _ (behind xs ys text otherwise)
+
+pub word_by_groups : (text : List ℕ) → word_of text ≡ entry_or head_words text (entry_or item_words text (entry_or gate_words text (entry_or block_words text (named text false))))
+unfolding word_of
+word_by_groups text =
+    behind head_words (item_words ++ (gate_words ++ block_words)) text (named text false)
+    ∙ ap (entry_or head_words text) (behind item_words (gate_words ++ block_words) text (named text false))
+    ∙ ap (λ l. entry_or head_words text (entry_or item_words text l)) (behind gate_words block_words text (named text false))

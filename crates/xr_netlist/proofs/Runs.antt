@@ -1,7 +1,7 @@
 -- Steps of runs.
 use Rattle.std.proofs.Common.{◌≡◌, ◌≢◌, ◌∙◌, ℕ, List, [], ◌∷◌, true, false, Option, None, Result, Ok, Err, refl, ap}
 use Rattle.xr_grammar.specs.Lexemes.{Tok, Words, head, head_of, is_fixed, gate_kind_of, is_left_out}
-use Rattle.xr_grammar.specs.Machine.{State, in_items, in_rows, first_row, input_pin, input_name, after_name, head_end, declared_port, port_direction, attr_star, in_attr, delay_number, net_kind, net_ranged, net_name, gate_kind, gate_name, definition, instance_name, assign, expr_start, connections, connection, connection_value, Place, left, connected, connected_to, Delayed, net_delay, gate_delay, instance_delay, assign_delay, run, step, finish, goes, then_run, after_delay}
+use Rattle.xr_grammar.specs.Machine.{State, in_items, in_rows, first_row, input_pin, input_name, after_name, head_end, first_port, port, first_pin, pin, declared_port, port_direction, attr_star, in_attr, delay_number, net_kind, net_ranged, net_name, gate_kind, gate_name, definition, instance_name, assign, expr_start, connections, connection, connection_value, Place, left, connected, connected_to, Delayed, net_delay, gate_delay, instance_delay, assign_delay, run, step, finish, goes, then_run, after_delay}
 use Rattle.xr_grammar.specs.Trees.{Range, Under, under, Within}
 use Rattle.xr_grammar.specs.declared.tree.Source.{Source}
 use Rattle.xr_grammar.specs.declared.fixed.Fixed.TheVariants as fixed
@@ -71,6 +71,14 @@ named_starts u d n cs p w h = alike _ _ w (rw h refl) refl
 -- no ports
 pub no_ports : (b : Source) (n : Word) (w : Words) → is_fixed fixed.Open (head w).what ≡ false → goes (after_name b n) w ≡ goes (head_end (under b n [] [])) w
 no_ports b n w h = alike _ _ w (rw h refl) refl
+
+-- the first of some ports
+pub plain_port : (b : Source) (n : Word) (w : Words) → is_fixed fixed.Close (head w).what ≡ false → is_fixed fixed.Input (head w).what ≡ false → is_fixed fixed.Output (head w).what ≡ false → goes (first_port b n) w ≡ goes (port b n []) w
+plain_port b n w h k l = alike _ _ w (rw (h, k, l) refl) refl
+
+-- the first pin of some
+pub plain_pin : (b : Source) (n : Word) (w : Words) → is_fixed fixed.Output (head w).what ≡ false → goes (first_pin b n) w ≡ goes (pin b n []) w
+plain_pin b n w h = alike _ _ w (rw h refl) refl
 
 -- a port without a direction
 pub undirected : (u : Under) (what : NetKind) (r : Range) (w : Words) → is_fixed fixed.Input (head w).what ≡ false → is_fixed fixed.Output (head w).what ≡ false → goes (declared_port u what r) w ≡ goes (port_direction u what r) w

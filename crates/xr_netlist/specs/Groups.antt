@@ -1,8 +1,41 @@
--- The words that the profile leaves out, by groups.
-use Rattle.std.specs.Prelude.{ℕ, List, [], ◌∷◌, Bool}
+-- The words that the grammar quotes, and those that the profile leaves out, by groups.
+use Rattle.std.specs.Prelude.{◌≡◌, ℕ, List, [], ◌∷◌, Bool, Option, Some, None}
 use Rattle.std.specs.List.{list_any}
 use Rattle.std.specs.Str.{bytes_eq}
 use lib.Chars.{codes}
+use Rattle.xr_cell.specs.declared.gate.Gate.TheVariants.{And, Nand, Or, Nor, Xor, Xnor, Buf, Not}
+use Rattle.xr_grammar.specs.Lexemes.{Lexeme, quoted, gate, entry_or}
+use Rattle.xr_grammar.specs.declared.fixed.Fixed.TheVariants as fixed
+use Rattle.xr_grammar.specs.declared.tree.GateKind.TheVariants.{Logic, Pullup, Pulldown}
+
+abbrev pub head_words : List (List ℕ × Lexeme)
+head_words = (codes "module", quoted fixed.Module) ∷ (codes "endmodule", quoted fixed.Endmodule) ∷ (codes "input", quoted fixed.Input) ∷ (codes "output", quoted fixed.Output) ∷ []
+
+abbrev pub item_words : List (List ℕ × Lexeme)
+item_words =
+    (codes "wire", quoted fixed.Wire) ∷ (codes "tri", quoted fixed.Tri)
+    ∷ (codes "supply0", quoted fixed.Supply0) ∷ (codes "supply1", quoted fixed.Supply1)
+    ∷ (codes "reg", quoted fixed.Reg) ∷ (codes "assign", quoted fixed.Assign) ∷ []
+
+abbrev pub gate_words : List (List ℕ × Lexeme)
+gate_words =
+    (codes "and", gate (Logic And)) ∷ (codes "nand", gate (Logic Nand))
+    ∷ (codes "or", gate (Logic Or)) ∷ (codes "nor", gate (Logic Nor))
+    ∷ (codes "xor", gate (Logic Xor)) ∷ (codes "xnor", gate (Logic Xnor))
+    ∷ (codes "buf", gate (Logic Buf)) ∷ (codes "not", gate (Logic Not))
+    ∷ (codes "pullup", gate Pullup) ∷ (codes "pulldown", gate Pulldown) ∷ []
+
+abbrev pub block_words : List (List ℕ × Lexeme)
+block_words =
+    (codes "specify", quoted fixed.Specify) ∷ (codes "endspecify", quoted fixed.Endspecify)
+    ∷ (codes "primitive", quoted fixed.Primitive) ∷ (codes "endprimitive", quoted fixed.Endprimitive)
+    ∷ (codes "table", quoted fixed.Table) ∷ (codes "endtable", quoted fixed.Endtable)
+    ∷ (codes "initial", quoted fixed.Initial) ∷ []
+
+-- what a table has at a word
+abbrev pub Finds : {X : Type 0} → List (List ℕ × Lexeme) → List ℕ → (X → Lexeme) → Option X → Type 0
+Finds words text shows None = (otherwise : Lexeme) → entry_or words text otherwise ≡ otherwise
+Finds words text shows (Some x) = (otherwise : Lexeme) → entry_or words text otherwise ≡ shows x
 
 abbrev pub is_among : List (List ℕ) → List ℕ → Bool
 is_among words text = list_any (λ word. bytes_eq text word) words

@@ -6,6 +6,8 @@ use Rattle.xr_grammar.specs.Machine.{State, Next, on_one_byte, on_few_bytes, goe
 use Rattle.xr_grammar.specs.declared.fixed.Fixed.{Fixed}
 use Rattle.xr_grammar.specs.declared.fixed.Fixed.TheVariants as fixed
 use Rattle.xr_grammar.specs.declared.refusal.ParseErr.{ParseErr}
+use Rattle.xr_grammar.specs.declared.refusal.ParseErr.TheVariants.{Memory}
+use Rattle.xr_grammar.specs.declared.tree.Word.{Word}
 use Rattle.xr_netlist.specs.declared.lexeme.Name.{Name}
 
 -- ---- one token
@@ -26,6 +28,11 @@ TakesName old None new = (new ≡ old) × (name_of (head old) ≡ None)
 abbrev pub ExpectsName : Words → Result Name ParseErr → Words → Type 0
 ExpectsName old (Ok n) new = old ≡ before (tok n.at (named n.text.now n.escaped)) new
 ExpectsName old (Err e) new = (name_of (head old) ≡ None) × (e ≡ fault_of (head old))
+
+-- a name is taken, unless memory runs out
+abbrev pub ExpectsWord : Words → Result Word ParseErr → Words → Type 0
+ExpectsWord old (Ok w) new = old ≡ before (tok w.at (named w.text w.escaped)) new
+ExpectsWord old (Err e) new = e ≢ Memory → (name_of (head old) ≡ None) × (e ≡ fault_of (head old))
 
 -- a token that may be read as a value is taken, or nothing
 abbrev pub TakesAs : {X : Type 0} → (Tok → Option X) → Words → Option X → Words → Type 0

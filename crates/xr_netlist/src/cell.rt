@@ -219,7 +219,7 @@ fn named_connection(alloc: Global, words: &mut Reader<'_>) -> Result<NamedConnec
     ensures reads { (u : Under) (d : word) (n : Option word) (cs : List named_kind) → Reads (connection_port u d n cs) words.old result (λ c. after_connection u d n (cs ++ c ∷ [])) words.new }
     ensures shortens { Shortens words.old result words.new }
 {
-    let port = words.name()?.word(alloc)?;
+    let port = words.word(alloc)?;
     words.expect(Fixed::Open)?;
     if words.take(Fixed::Close) {
         return Ok(NamedConnection { port, value: None });

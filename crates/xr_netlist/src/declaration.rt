@@ -72,7 +72,7 @@ pub fn names(
     ensures shortens { Shortens words.old result words.new }
 {
     'names: loop {
-        let name = words.name()?.word(alloc)?;
+        let name = words.word(alloc)?;
         items.push(Item::Declare(Declare {
             what,
             range,
@@ -129,7 +129,7 @@ fn net(
     ensures reads { (b : source) (n : word) (ps : List word) → Reads (net_name (under b n ps items.old.items) what range) words.old result (λ more. cond more (net_name (under b n ps items.new.items) what range) (in_items (under b n ps items.new.items))) words.new }
     ensures shortens { Shortens words.old result words.new }
 {
-    let name = words.name()?.word(alloc)?;
+    let name = words.word(alloc)?;
     let mut value = None;
     if takes_value(what) && words.take(Fixed::Equals) {
         value = Some(expr(alloc, words)?);

@@ -19,7 +19,8 @@ pub fn expr(alloc: Global, words: &mut Reader<'_>) -> Result<Expr, ParseErr>
     ensures shortens { Shortens words.old result words.new }
 {
     let at = words.at();
-    let mut parts = Vec::new(alloc);
+    // most expressions have one part
+    let mut parts = Vec::with_capacity(alloc, 1)?;
     let mut depth: u64 = 0;
     'parts: loop {
         'opens: while words.take(Fixed::BraceOpen) {

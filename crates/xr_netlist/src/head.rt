@@ -51,20 +51,22 @@ pub fn module_head(alloc: Global, words: &mut Reader<'_>) -> Result<Head, ParseE
 }
 
 // name { "," name } ")"
+#[tactic(auto, using(crate::proofs::Runs::plain_port))]
 fn plain_ports(alloc: Global, words: &mut Reader<'_>) -> Result<Head, ParseErr>
     requires { (is_fixed fixed.Close (head_of words.old).what ≡ false) × (is_fixed fixed.Input (head_of words.old).what ≡ false) × (is_fixed fixed.Output (head_of words.old).what ≡ false) }
     ensures reads { (b : source) (n : word) → Reads (first_port b n) words.old result (λ h. head_end (under b n h.ports.items h.items.items)) words.new }
     ensures shortens { Shortens words.old result words.new }
 {
     let mut ports = Vec::new(alloc);
-    ports.push(words.name()?.word(alloc)?)?;
-    'ports: while words.more(Fixed::Close)? {
-        ports.push(words.name()?.word(alloc)?)?;
+    'ports: loop {
+        ports.push(words.word(alloc)?)?;
+        if !words.more(Fixed::Close)? {
+            return Ok(Head {
+                ports,
+                items: Vec::new(alloc),
+            });
+        }
     }
-    Ok(Head {
-        ports,
-        items: Vec::new(alloc),
-    })
 }
 
 // port { "," port } ")", behind its first direction

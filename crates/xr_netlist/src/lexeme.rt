@@ -1,8 +1,8 @@
 //! Tokens as the grammar tells them apart, over the bytes of a text.
 
 ghost use Rattle.std.specs.Prelude.{◌≡◌, ◌∷◌, [], IfOk, ◌<◌, ◌≤◌, length};
-ghost use Rattle.xr_grammar.specs.Lexemes.{mark_of, word_of, tok_of, fault_of, fixed_symbols, is_left_out, is_word_left_out as spec_is_word_left_out};
-ghost use Rattle.xr_netlist.specs.Groups.{is_among, general, behavioral, wired_nets, switches, pass_switches};
+ghost use Rattle.xr_grammar.specs.Lexemes.{mark_of, quoted, gate, word_of, tok_of, fault_of, fixed_symbols, is_left_out, is_word_left_out as spec_is_word_left_out};
+ghost use Rattle.xr_netlist.specs.Groups.{Finds, head_words, item_words, gate_words, block_words, is_among, general, behavioral, wired_nets, switches, pass_switches};
 ghost use Rattle.xr_netlist.specs.Shown.{shown, shown_tok, AreSymbols, HasSymbols};
 
 use std::alloc::{AllocError, Global};
@@ -97,66 +97,107 @@ fn mark(b: u8) -> Lexeme<'static>
     }
 }
 
-#[tactic(auto, unfolding(xr_grammar::specs::Lexemes::word_of))]
+// A word that the grammar quotes, or else a name.
+#[tactic(auto, using(crate::proofs::Groups::word_by_groups))]
 fn word<'a>(text: &'a [u8]) -> Lexeme<'a>
     ensures { shown result ≡ word_of text.now }
 {
-    if text == b"module".as_slice() {
-        Lexeme::Quoted(Fixed::Module)
-    } else if text == b"endmodule".as_slice() {
-        Lexeme::Quoted(Fixed::Endmodule)
-    } else if text == b"input".as_slice() {
-        Lexeme::Quoted(Fixed::Input)
-    } else if text == b"output".as_slice() {
-        Lexeme::Quoted(Fixed::Output)
-    } else if text == b"wire".as_slice() {
-        Lexeme::Quoted(Fixed::Wire)
-    } else if text == b"tri".as_slice() {
-        Lexeme::Quoted(Fixed::Tri)
-    } else if text == b"supply0".as_slice() {
-        Lexeme::Quoted(Fixed::Supply0)
-    } else if text == b"supply1".as_slice() {
-        Lexeme::Quoted(Fixed::Supply1)
-    } else if text == b"reg".as_slice() {
-        Lexeme::Quoted(Fixed::Reg)
-    } else if text == b"assign".as_slice() {
-        Lexeme::Quoted(Fixed::Assign)
-    } else if text == b"and".as_slice() {
-        Lexeme::Gate(GateKind::Logic(Gate::And))
-    } else if text == b"nand".as_slice() {
-        Lexeme::Gate(GateKind::Logic(Gate::Nand))
-    } else if text == b"or".as_slice() {
-        Lexeme::Gate(GateKind::Logic(Gate::Or))
-    } else if text == b"nor".as_slice() {
-        Lexeme::Gate(GateKind::Logic(Gate::Nor))
-    } else if text == b"xor".as_slice() {
-        Lexeme::Gate(GateKind::Logic(Gate::Xor))
-    } else if text == b"xnor".as_slice() {
-        Lexeme::Gate(GateKind::Logic(Gate::Xnor))
-    } else if text == b"buf".as_slice() {
-        Lexeme::Gate(GateKind::Logic(Gate::Buf))
-    } else if text == b"not".as_slice() {
-        Lexeme::Gate(GateKind::Logic(Gate::Not))
-    } else if text == b"pullup".as_slice() {
-        Lexeme::Gate(GateKind::Pullup)
-    } else if text == b"pulldown".as_slice() {
-        Lexeme::Gate(GateKind::Pulldown)
-    } else if text == b"specify".as_slice() {
-        Lexeme::Quoted(Fixed::Specify)
-    } else if text == b"endspecify".as_slice() {
-        Lexeme::Quoted(Fixed::Endspecify)
-    } else if text == b"primitive".as_slice() {
-        Lexeme::Quoted(Fixed::Primitive)
-    } else if text == b"endprimitive".as_slice() {
-        Lexeme::Quoted(Fixed::Endprimitive)
-    } else if text == b"table".as_slice() {
-        Lexeme::Quoted(Fixed::Table)
-    } else if text == b"endtable".as_slice() {
-        Lexeme::Quoted(Fixed::Endtable)
-    } else if text == b"initial".as_slice() {
-        Lexeme::Quoted(Fixed::Initial)
+    if let Some(fixed) = head_word(text) {
+        Lexeme::Quoted(fixed)
+    } else if let Some(fixed) = item_word(text) {
+        Lexeme::Quoted(fixed)
+    } else if let Some(kind) = gate_word(text) {
+        Lexeme::Gate(kind)
+    } else if let Some(fixed) = block_word(text) {
+        Lexeme::Quoted(fixed)
     } else {
         Lexeme::Named(text, false)
+    }
+}
+
+fn head_word(text: &[u8]) -> Option<Fixed>
+    ensures { Finds head_words text.now quoted result }
+{
+    if text == b"module".as_slice() {
+        Some(Fixed::Module)
+    } else if text == b"endmodule".as_slice() {
+        Some(Fixed::Endmodule)
+    } else if text == b"input".as_slice() {
+        Some(Fixed::Input)
+    } else if text == b"output".as_slice() {
+        Some(Fixed::Output)
+    } else {
+        None
+    }
+}
+
+fn item_word(text: &[u8]) -> Option<Fixed>
+    ensures { Finds item_words text.now quoted result }
+{
+    if text == b"wire".as_slice() {
+        Some(Fixed::Wire)
+    } else if text == b"tri".as_slice() {
+        Some(Fixed::Tri)
+    } else if text == b"supply0".as_slice() {
+        Some(Fixed::Supply0)
+    } else if text == b"supply1".as_slice() {
+        Some(Fixed::Supply1)
+    } else if text == b"reg".as_slice() {
+        Some(Fixed::Reg)
+    } else if text == b"assign".as_slice() {
+        Some(Fixed::Assign)
+    } else {
+        None
+    }
+}
+
+fn gate_word(text: &[u8]) -> Option<GateKind>
+    ensures { Finds gate_words text.now gate result }
+{
+    if text == b"and".as_slice() {
+        Some(GateKind::Logic(Gate::And))
+    } else if text == b"nand".as_slice() {
+        Some(GateKind::Logic(Gate::Nand))
+    } else if text == b"or".as_slice() {
+        Some(GateKind::Logic(Gate::Or))
+    } else if text == b"nor".as_slice() {
+        Some(GateKind::Logic(Gate::Nor))
+    } else if text == b"xor".as_slice() {
+        Some(GateKind::Logic(Gate::Xor))
+    } else if text == b"xnor".as_slice() {
+        Some(GateKind::Logic(Gate::Xnor))
+    } else if text == b"buf".as_slice() {
+        Some(GateKind::Logic(Gate::Buf))
+    } else if text == b"not".as_slice() {
+        Some(GateKind::Logic(Gate::Not))
+    } else if text == b"pullup".as_slice() {
+        Some(GateKind::Pullup)
+    } else if text == b"pulldown".as_slice() {
+        Some(GateKind::Pulldown)
+    } else {
+        None
+    }
+}
+
+fn block_word(text: &[u8]) -> Option<Fixed>
+    ensures { Finds block_words text.now quoted result }
+{
+    if text == b"specify".as_slice() {
+        Some(Fixed::Specify)
+    } else if text == b"endspecify".as_slice() {
+        Some(Fixed::Endspecify)
+    } else if text == b"primitive".as_slice() {
+        Some(Fixed::Primitive)
+    } else if text == b"endprimitive".as_slice() {
+        Some(Fixed::Endprimitive)
+    } else if text == b"table".as_slice() {
+        Some(Fixed::Table)
+    } else if text == b"endtable".as_slice() {
+        Some(Fixed::Endtable)
+    } else if text == b"initial".as_slice() {
+        Some(Fixed::Initial)
+    } else {
+        None
     }
 }
 

@@ -1,9 +1,10 @@
 //! Modules and their items (IEEE 1364-2005, annex A.1).
 
-ghost use Rattle.std.specs.Prelude.{◌≡◌, List, false};
+ghost use Rattle.std.specs.Prelude.{◌≡◌, ◌<◌, List, length, false, IfSome, IfNone};
 ghost use Rattle.xr_grammar.specs.Lexemes.{head, is_fixed};
-ghost use Rattle.xr_grammar.specs.Machine.State.{module_name, in_items, top};
-ghost use Rattle.xr_grammar.specs.Trees.{under, closed, joined, one_module};
+ghost use Rattle.xr_grammar.specs.Machine.{goes};
+ghost use Rattle.xr_grammar.specs.Machine.State.{module_name, in_items, direction, net_kind, top};
+ghost use Rattle.xr_grammar.specs.Trees.{Under, under, closed, joined, one_module};
 ghost use Rattle.xr_grammar.specs.declared.fixed.Fixed.TheVariants as fixed;
 ghost use Rattle.xr_grammar.specs.declared.tree.Source.{Source as source};
 ghost use Rattle.xr_grammar.specs.declared.tree.Word.{Word as word};
@@ -23,17 +24,26 @@ pub fn module(alloc: Global, words: &mut Reader<'_>) -> Result<Module, ParseErr>
     ensures reads { (b : source) → Reads (module_name b) words.old result (λ m. top (joined b (one_module m))) words.new }
     ensures shortens { Shortens words.old result words.new }
 {
-    let name = words.name()?.word(alloc)?;
+    let name = words.name()?;
     let Head { ports, mut items } = module_head(alloc, words)?;
     words.expect(Fixed::Semi)?;
-    'items: while !words.take(Fixed::Endmodule) {
-        item(alloc, words, &mut items)?;
-    }
+    fill(alloc, words, &mut items)?;
     Ok(Module {
-        name,
+        name: name.word(alloc)?,
         ports: Items::from_vec(ports),
         items: Items::from_vec(items),
     })
+}
+
+// { item } "endmodule"
+fn fill(alloc: Global, words: &mut Reader<'_>, items: &mut Vec<Item>) -> Result<(), ParseErr>
+    ensures reads { (b : source) (n : word) (ps : List word) → Reads (in_items (under b n ps items.old.items)) words.old result (λ _. top (closed (under b n ps items.new.items))) words.new }
+    ensures shortens { Shortens words.old result words.new }
+{
+    'items: while !words.take(Fixed::Endmodule) {
+        item(alloc, words, items)?;
+    }
+    Ok(())
 }
 
 // item = attribute | directed | nets | "reg" names | gates | instances | assigns | specify
@@ -44,18 +54,10 @@ fn item(alloc: Global, words: &mut Reader<'_>, items: &mut Vec<Item>) -> Result<
 {
     if words.take(Fixed::Open) {
         attribute(words)?;
-    } else if words.take(Fixed::Input) {
-        directed(alloc, NetKind::Input, words, items)?;
-    } else if words.take(Fixed::Output) {
-        directed(alloc, NetKind::Output, words, items)?;
-    } else if words.take(Fixed::Wire) {
-        nets(alloc, NetKind::Wire, words, items)?;
-    } else if words.take(Fixed::Tri) {
-        nets(alloc, NetKind::Wire, words, items)?;
-    } else if words.take(Fixed::Supply0) {
-        nets(alloc, NetKind::Supply0, words, items)?;
-    } else if words.take(Fixed::Supply1) {
-        nets(alloc, NetKind::Supply1, words, items)?;
+    } else if let Some(what) = take_direction(words) {
+        directed(alloc, what, words, items)?;
+    } else if let Some(what) = take_net(words) {
+        nets(alloc, what, words, items)?;
     } else if words.take(Fixed::Reg) {
         names(alloc, NetKind::Reg, None, words, items)?;
     } else if words.take(Fixed::Assign) {
@@ -66,6 +68,38 @@ fn item(alloc: Global, words: &mut Reader<'_>, items: &mut Vec<Item>) -> Result<
         cell(alloc, words, items)?;
     }
     Ok(())
+}
+
+// dir = "input" | "output"
+fn take_direction(words: &mut Reader<'_>) -> Option<NetKind>
+    ensures begins { IfSome result (λ what. (u : Under) → goes (in_items u) words.old ≡ goes (direction u what) words.new) }
+    ensures shortens { IfSome result (λ _. length words.new.words < length words.old.words) }
+    ensures none { IfNone result ((words.new ≡ words.old) × (is_fixed fixed.Input (head words.old).what ≡ false) × (is_fixed fixed.Output (head words.old).what ≡ false)) }
+{
+    if words.take(Fixed::Input) {
+        Some(NetKind::Input)
+    } else if words.take(Fixed::Output) {
+        Some(NetKind::Output)
+    } else {
+        None
+    }
+}
+
+// net = "wire" | "tri" | "supply0" | "supply1"
+fn take_net(words: &mut Reader<'_>) -> Option<NetKind>
+    ensures begins { IfSome result (λ what. (u : Under) → goes (in_items u) words.old ≡ goes (net_kind u what) words.new) }
+    ensures shortens { IfSome result (λ _. length words.new.words < length words.old.words) }
+    ensures none { IfNone result ((words.new ≡ words.old) × (is_fixed fixed.Wire (head words.old).what ≡ false) × (is_fixed fixed.Tri (head words.old).what ≡ false) × (is_fixed fixed.Supply0 (head words.old).what ≡ false) × (is_fixed fixed.Supply1 (head words.old).what ≡ false)) }
+{
+    if words.take(Fixed::Wire) || words.take(Fixed::Tri) {
+        Some(NetKind::Wire)
+    } else if words.take(Fixed::Supply0) {
+        Some(NetKind::Supply0)
+    } else if words.take(Fixed::Supply1) {
+        Some(NetKind::Supply1)
+    } else {
+        None
+    }
 }
 
 // gates | instances

@@ -3,7 +3,7 @@
 ghost use Rattle.std.specs.Prelude.{◌≡◌, ◌≤◌, [], ◌∷◌, ◌++◌, List, false, length, OnOk};
 ghost use Rattle.xr_grammar.specs.Lexemes.{head, is_fixed};
 ghost use Rattle.xr_grammar.specs.Machine.{goes};
-ghost use Rattle.xr_grammar.specs.Machine.State.{primitive_name, first_pin, output_pin, output_declared, after_output, first_input, input_name, input_pin, after_input, primitive_head_end, in_primitive, reg_declared, input_declared, initial_declared, declared_semi, top};
+ghost use Rattle.xr_grammar.specs.Machine.State.{primitive_name, first_pin, output_pin as output_start, output_declared, after_output, first_input, input_name, input_pin, after_input, primitive_head_end, in_primitive, reg_declared, input_declared, initial_declared, declared_semi, first_row, top};
 ghost use Rattle.xr_grammar.specs.Trees.{Within, within, prim_declare, is_sequential as has_reg, joined, one_primitive};
 ghost use Rattle.xr_grammar.specs.declared.fixed.Fixed.TheVariants as fixed;
 ghost use Rattle.xr_grammar.specs.declared.tree.Source.{Source as source};
@@ -30,24 +30,37 @@ pub fn primitive(alloc: Global, words: &mut Reader<'_>) -> Result<Primitive, Par
     ensures reads { (b : source) → Reads (primitive_name b) words.old result (λ p. top (joined b (one_primitive p))) words.new }
     ensures shortens { Shortens words.old result words.new }
 {
-    let name = words.name()?.word(alloc)?;
+    let name = words.name()?;
     words.expect(Fixed::Open)?;
     let Pins {
         ports,
         mut declarations,
     } = port_list(alloc, words)?;
-    words.expect(Fixed::Semi)?;
-    'declarations: while !words.take(Fixed::Table) {
-        declaration(alloc, words, &mut declarations)?;
-    }
+    declare_all(alloc, words, &mut declarations)?;
     let rows = rows(alloc, is_sequential(&declarations), words)?;
     words.expect(Fixed::Endprimitive)?;
     Ok(Primitive {
-        name,
+        name: name.word(alloc)?,
         ports: Items::from_vec(ports),
         declarations: Items::from_vec(declarations),
         rows: Items::from_vec(rows),
     })
+}
+
+// ";" { declaration } "table"
+fn declare_all(
+    alloc: Global,
+    words: &mut Reader<'_>,
+    declarations: &mut Vec<PrimDeclare>,
+) -> Result<(), ParseErr>
+    ensures reads { (b : source) (n : word) (ps : List word) → Reads (primitive_head_end (within b n ps declarations.old.items [])) words.old result (λ _. first_row (within b n ps declarations.new.items [])) words.new }
+    ensures shortens { Shortens words.old result words.new }
+{
+    words.expect(Fixed::Semi)?;
+    'declarations: while !words.take(Fixed::Table) {
+        declaration(alloc, words, declarations)?;
+    }
+    Ok(())
 }
 
 fn is_sequential(declarations: &[PrimDeclare]) -> bool
@@ -70,42 +83,72 @@ fn port_list(alloc: Global, words: &mut Reader<'_>) -> Result<Pins, ParseErr>
     }
 }
 
+#[tactic(auto, using(crate::proofs::Runs::plain_pin))]
 fn plain_pins(alloc: Global, words: &mut Reader<'_>) -> Result<Pins, ParseErr>
     requires { is_fixed fixed.Output (head words.old).what ≡ false }
     ensures reads { (b : source) (n : word) → Reads (first_pin b n) words.old result (λ p. primitive_head_end (within b n p.ports.items p.declarations.items [])) words.new }
     ensures shortens { Shortens words.old result words.new }
 {
     let mut ports = Vec::new(alloc);
-    ports.push(words.name()?.word(alloc)?)?;
-    'pins: while words.more(Fixed::Close)? {
-        ports.push(words.name()?.word(alloc)?)?;
+    'pins: loop {
+        ports.push(words.word(alloc)?)?;
+        if !words.more(Fixed::Close)? {
+            return Ok(Pins {
+                ports,
+                declarations: Vec::new(alloc),
+            });
+        }
     }
-    Ok(Pins {
-        ports,
-        declarations: Vec::new(alloc),
-    })
 }
 
 // declared_pins = "output" output "," "input" name { "," [ "input" ] name }, behind its first word
 fn declared_pins(alloc: Global, words: &mut Reader<'_>) -> Result<Pins, ParseErr>
-    ensures reads { (b : source) (n : word) → Reads (output_pin b n) words.old result (λ p. primitive_head_end (within b n p.ports.items p.declarations.items [])) words.new }
+    ensures reads { (b : source) (n : word) → Reads (output_start b n) words.old result (λ p. primitive_head_end (within b n p.ports.items p.declarations.items [])) words.new }
     ensures shortens { Shortens words.old result words.new }
 {
-    let mut ports = Vec::new(alloc);
     let mut declarations = Vec::new(alloc);
-    let output = output(alloc, words, &mut declarations)?;
-    ports.push(output.word(alloc)?)?;
-    start_value(alloc, output, words, &mut declarations)?;
+    let mut ports = output_pin(alloc, words, &mut declarations)?;
+    input_pins(alloc, words, &mut ports, &mut declarations)?;
+    Ok(Pins {
+        ports,
+        declarations,
+    })
+}
+
+// output [ "=" bit ] ","
+fn output_pin(
+    alloc: Global,
+    words: &mut Reader<'_>,
+    declarations: &mut Vec<PrimDeclare>,
+) -> Result<Vec<Word>, ParseErr>
+    requires { declarations.old.items ≡ [] }
+    ensures reads { (b : source) (n : word) → Reads (output_start b n) words.old result (λ ps. first_input (within b n ps.items declarations.new.items [])) words.new }
+    ensures shortens { Shortens words.old result words.new }
+{
+    let name = output(alloc, words, declarations)?;
+    start_value(alloc, name, words, declarations)?;
+    let mut ports = Vec::new(alloc);
+    ports.push(name.word(alloc)?)?;
+    Ok(ports)
+}
+
+// "input" name { "," [ "input" ] name } ")"
+fn input_pins(
+    alloc: Global,
+    words: &mut Reader<'_>,
+    ports: &mut Vec<Word>,
+    declarations: &mut Vec<PrimDeclare>,
+) -> Result<(), ParseErr>
+    ensures reads { (b : source) (n : word) → Reads (first_input (within b n ports.old.items declarations.old.items [])) words.old result (λ _. primitive_head_end (within b n ports.new.items declarations.new.items [])) words.new }
+    ensures shortens { Shortens words.old result words.new }
+{
     words.expect(Fixed::Input)?;
     'inputs: loop {
         let name = words.name()?;
         ports.push(name.word(alloc)?)?;
-        declare(alloc, PrimKind::Input, name, &mut declarations)?;
+        declare(alloc, PrimKind::Input, name, declarations)?;
         if !words.more(Fixed::Close)? {
-            return Ok(Pins {
-                ports,
-                declarations,
-            });
+            return Ok(());
         }
         may_input(words);
     }
@@ -126,7 +169,7 @@ fn output<'a>(
     words: &mut Reader<'a>,
     declarations: &mut Vec<PrimDeclare>,
 ) -> Result<Name<'a>, ParseErr>
-    ensures pin { declarations.old.items ≡ [] → (b : source) (n : word) → Reads (output_pin b n) words.old result (λ w. after_output (within b n (word_of_name w ∷ []) declarations.new.items []) (word_of_name w)) words.new }
+    ensures pin { declarations.old.items ≡ [] → (b : source) (n : word) → Reads (output_start b n) words.old result (λ w. after_output (within b n (word_of_name w ∷ []) declarations.new.items []) (word_of_name w)) words.new }
     ensures declared { (b : source) (n : word) (ps : List word) → Reads (output_declared (within b n ps declarations.old.items [])) words.old result (λ _. declared_semi (within b n ps declarations.new.items [])) words.new }
     ensures shortens { Shortens words.old result words.new }
 {

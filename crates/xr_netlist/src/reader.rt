@@ -8,9 +8,10 @@ ghost use Rattle.xr_netlist.specs.Ahead.{ahead, LieWithin};
 
 use crate::lexeme::{Lexeme, Name, Tok, read_token};
 use crate::number::{bit_of, int_of, literal_of};
+use std::alloc::Global;
 use std::marker::Model;
 use xr_cell::Value;
-use xr_grammar::{Fixed, GateKind, NetKind, ParseErr};
+use xr_grammar::{Fixed, GateKind, ParseErr, Word};
 use xr_text::{LexErr, Lexer};
 
 /// The tokens of a text that are left. The next one is read already.
@@ -69,7 +70,7 @@ impl<'a> Reader<'a> {
     ghost use Rattle.xr_text.specs.Tokens.{Tokens};
     ghost use Rattle.xr_grammar.specs.Lexemes.{words_of, head, gate_kind_of, int_at, bit_at, literal_at, is_left_out};
     ghost use Rattle.xr_netlist.specs.Shown.{shown_tok};
-    ghost use Rattle.xr_netlist.specs.Reads.{TakesFixed, ExpectsFixed, TakesName, ExpectsName, TakesAs, ExpectsAs, GoesOn, TakesSymbols, TakesSymbol, ExpectsFew, Skips, Ends};
+    ghost use Rattle.xr_netlist.specs.Reads.{TakesFixed, ExpectsFixed, TakesName, ExpectsName, ExpectsWord, TakesAs, ExpectsAs, GoesOn, TakesSymbols, TakesSymbol, ExpectsFew, Skips, Ends};
 
     pub fn new(text: &'a [u8]) -> Reader<'a>
         ensures told { (told : left) × Tokens 0 text.now told }
@@ -150,6 +151,13 @@ impl<'a> Reader<'a> {
             Some(name) => Ok(name),
             None => Err(self.peek().fault()),
         }
+    }
+
+    /// A copy of a name.
+    pub fn word(&mut self, alloc: Global) -> Result<Word, ParseErr>
+        ensures { ExpectsWord self.old result self.new }
+    {
+        Ok(self.name()?.word(alloc)?)
     }
 
     pub fn take_gate(&mut self) -> Option<GateKind>

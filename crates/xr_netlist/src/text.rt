@@ -59,6 +59,3 @@ fn source(alloc: Global, words: &mut Reader<'_>) -> Result<Source, ParseErr>
         }
     }
 }
-
-#[cfg(test)]
-mod tests;

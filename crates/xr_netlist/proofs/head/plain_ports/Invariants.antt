@@ -1,13 +1,13 @@
-use Rattle.std.proofs.Common.{◌≡◌, ◌<◌, length}
-use Rattle.xr_grammar.specs.Machine.{goes, first_port, after_port}
+use Rattle.std.proofs.Common.{◌≡◌, ◌≤◌, length}
+use Rattle.xr_grammar.specs.Machine.{goes, first_port, port}
 use Rattle.xr_grammar.specs.declared.tree.Source.{Source}
 use Rattle.xr_grammar.specs.declared.tree.Word.{Word}
 use Rattle.xr_netlist.proofs.head.plain_ports.Given as goal
 
 abbrev pub invariant-ports : goal.invariant-ports
 invariant-ports l = record {
-  reads : (b : Source) (n : Word) → goes (first_port b n) l.fn.words ≡ goes (after_port b n l.ports.items) l.words;
-  shortens : length l.words.words < length l.fn.words.words;
+  reads : (b : Source) (n : Word) → goes (first_port b n) l.fn.words ≡ goes (port b n l.ports.items) l.words;
+  shortens : length l.words.words ≤ length l.fn.words.words;
 }
 
 abbrev pub decreases-ports : goal.decreases-ports

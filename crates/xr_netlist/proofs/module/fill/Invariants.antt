@@ -1,0 +1,15 @@
+use Rattle.std.proofs.Common.{◌≡◌, ◌≤◌, List, length}
+use Rattle.xr_grammar.specs.Machine.{goes, in_items}
+use Rattle.xr_grammar.specs.Trees.{under}
+use Rattle.xr_grammar.specs.declared.tree.Source.{Source}
+use Rattle.xr_grammar.specs.declared.tree.Word.{Word}
+use Rattle.xr_netlist.proofs.module.fill.Given as goal
+
+abbrev pub invariant-items : goal.invariant-items
+invariant-items l = record {
+  reads : (b : Source) (n : Word) (ps : List Word) → goes (in_items (under b n ps l.fn.items.items)) l.fn.words ≡ goes (in_items (under b n ps l.items.items)) l.words;
+  shortens : length l.words.words ≤ length l.fn.words.words;
+}
+
+abbrev pub decreases-items : goal.decreases-items
+decreases-items l = length l.words.words

@@ -1,0 +1,15 @@
+use Rattle.std.proofs.Common.{◌≡◌, ◌<◌, [], length}
+use Rattle.xr_grammar.specs.Machine.{goes, first_input, input_name}
+use Rattle.xr_grammar.specs.Trees.{within}
+use Rattle.xr_grammar.specs.declared.tree.Source.{Source}
+use Rattle.xr_grammar.specs.declared.tree.Word.{Word}
+use Rattle.xr_netlist.proofs.primitive.input_pins.Given as goal
+
+abbrev pub invariant-inputs : goal.invariant-inputs
+invariant-inputs l = record {
+  reads : (b : Source) (n : Word) → goes (first_input (within b n l.fn.ports.items l.fn.declarations.items [])) l.fn.words ≡ goes (input_name (within b n l.ports.items l.declarations.items [])) l.words;
+  shortens : length l.words.words < length l.fn.words.words;
+}
+
+abbrev pub decreases-inputs : goal.decreases-inputs
+decreases-inputs l = length l.words.words
