@@ -7,13 +7,13 @@ use xr_cli::run;
 use xr_shelf::{MemShelf, MemSink};
 
 /// A netlist in one file, or over two.
-type Files = (&'static str, &'static str);
+type Files<'a> = (&'a str, &'a str);
 
 const MUX: &str =
     "module mux(d0, d1, s, y);\n  input d0, d1, s; output y; wire ns, a, b;\n  not (ns, s); and (a, d1, s); and (b, d0, ns); or (y, a, b);\nendmodule\n";
 
 /// The multiplexer, written in other ways.
-const MUX_FILES: [Files; 5] = [
+const MUX_FILES: [Files<'static>; 5] = [
     (MUX, ""),
     (
         "module",
@@ -36,7 +36,7 @@ const MUX_FILES: [Files; 5] = [
 const SAME: &str = "module same(a, y); input a; output y; xor (y, a, a); endmodule";
 
 /// The gate that reads one net twice, written in other ways.
-const SAME_FILES: [Files; 4] = [
+const SAME_FILES: [Files<'static>; 4] = [
     (SAME, ""),
     (
         "module same(a, y); input",
@@ -53,7 +53,7 @@ const SAME_FILES: [Files; 4] = [
 ];
 
 /// Netlists that are none of the grammar, each with its refusal.
-const UNREAD_NETLISTS: [(Files, &str); 12] = [
+const UNREAD_NETLISTS: [(Files<'static>, &str); 12] = [
     (
         ("module m(a); inout a; endmodule", ""),
         "refused: netlist at 13: out of profile\n",
@@ -268,18 +268,51 @@ fn status_of(alloc: Global, words: &[String], shelf: &mut MemShelf, out: &mut Me
     run(alloc, words, shelf, out)
 }
 
-/// The words of `repair` with this top, and two files of the netlist or one.
-fn repair_words(alloc: Global, top: &str, two: bool) -> Result<Vec<String>, Fail> {
+/// The words of a line.
+fn words_of(alloc: Global, line: &str) -> Result<Vec<String>, Fail> {
     let mut words = Vec::new(alloc);
-    for word in [
-        "repair", "--record", "r.vcd", "--scope", "tb.dut", "--top", top, "--vcd", "o.vcd", "m.v",
-    ] {
+    for word in line.split(' ') {
         words.push(String::from_str(alloc, word)?)?;
     }
-    if two {
-        words.push(String::from_str(alloc, "n.v")?)?;
-    }
     Ok(words)
+}
+
+/// The words of `repair` with this top, and two files of the netlist or one.
+fn repair_words(alloc: Global, top: &str, two: bool) -> Result<Vec<String>, Fail> {
+    let second = if two { " n.v" } else { "" };
+    let line = format!(in alloc;
+        "repair --record r.vcd --scope tb.dut --top {top} --vcd o.vcd m.v{second}"
+    )?;
+    words_of(alloc, line.as_str())
+}
+
+/// The status of `repair` on a netlist and a recording.
+fn repair(
+    alloc: Global,
+    top: &str,
+    netlist: Files<'_>,
+    recording: &str,
+    shelf: &mut MemShelf,
+    out: &mut MemSink,
+) -> Result<u8, Fail> {
+    let (first, second) = netlist;
+    let words = repair_words(alloc, top, !second.is_empty())?;
+    shelf.put("m.v", first.as_bytes())?;
+    shelf.put("n.v", second.as_bytes())?;
+    shelf.put("r.vcd", recording.as_bytes())?;
+    Ok(status_of(alloc, &words, shelf, out))
+}
+
+/// Looks at the status of a case, at what was printed, and at what the output file holds.
+fn expect_left(
+    rt: &impl Abort,
+    case: [&str; 3],
+    want: (u8, &str, Option<&str>),
+    left: (u8, &[u8], Option<&[u8]>),
+) {
+    let (status, printed, held) = want;
+    let held = held.map(|text| text.as_bytes());
+    assert_eq!(rt; left, (status, printed.as_bytes(), held), "{case:?}");
 }
 
 /// Runs `repair` on a netlist and a recording in pieces of 5 bytes, and looks at the status, what was printed, and the
@@ -288,32 +321,41 @@ fn expect_repair(
     rt: &impl Abort,
     alloc: Global,
     top: &str,
-    netlist: Files,
+    netlist: Files<'_>,
     recording: &str,
     want: (u8, &str, &str),
 ) -> Result<(), Fail> {
-    let (first, second) = netlist;
-    let words = repair_words(alloc, top, !second.is_empty())?;
     let mut shelf = MemShelf::new(alloc, 5);
-    shelf.put("m.v", first.as_bytes())?;
-    shelf.put("n.v", second.as_bytes())?;
-    shelf.put("r.vcd", recording.as_bytes())?;
     let mut out = MemSink::new(alloc, 5);
-    let (status, printed, vcd) = want;
-    let answer = status_of(alloc, &words, &mut shelf, &mut out);
-    assert_eq!(rt; answer, status, "{first}|{second}|{recording}");
-    assert_eq!(rt;
-        out.bytes(),
-        printed.as_bytes(),
-        "{first}|{second}|{recording}"
+    let status = repair(alloc, top, netlist, recording, &mut shelf, &mut out)?;
+    let (answer, printed, vcd) = want;
+    let held = if vcd.is_empty() { None } else { Some(vcd) };
+    expect_left(
+        rt,
+        [netlist.0, netlist.1, recording],
+        (answer, printed, held),
+        (status, out.bytes(), shelf.get("o.vcd")),
     );
-    let held = if vcd.is_empty() {
-        None
-    } else {
-        Some(vcd.as_bytes())
-    };
-    assert_eq!(rt; shelf.get("o.vcd"), held, "{first}|{second}|{recording}");
     Ok(())
+}
+
+/// Runs words that are refused with this status and line.
+fn expect_refused(
+    rt: &impl Abort,
+    alloc: Global,
+    words: &[String],
+    shelf: &mut MemShelf,
+    want: (u8, &str),
+) {
+    let mut out = MemSink::new(alloc, 4096);
+    let status = status_of(alloc, words, shelf, &mut out);
+    let (answer, line) = want;
+    expect_left(
+        rt,
+        [line, "", ""],
+        (answer, line, None),
+        (status, out.bytes(), shelf.get("o.vcd")),
+    );
 }
 
 /// A recording of the head and the changes, and what is written of it.
@@ -508,21 +550,11 @@ fn recording_cut_short(rt: HostRuntime) -> Result<(), Fail> {
     Ok(())
 }
 
-/// Runs words that are refused.
-fn expect_usage(rt: &impl Abort, alloc: Global, words: &[String]) {
-    let mut shelf = MemShelf::new(alloc, 4096);
-    let mut out = MemSink::new(alloc, 4096);
-    assert_eq!(rt;
-        status_of(alloc, words, &mut shelf, &mut out),
-        2,
-        "{words:?}"
-    );
-    assert_eq!(rt; out.bytes(), b"refused: usage\n".as_slice(), "{words:?}");
-}
-
 #[test]
 fn refused_words(rt: HostRuntime) -> Result<(), Fail> {
-    expect_usage(&rt, rt.alloc(), &[]);
+    let mut shelf = MemShelf::new(rt.alloc(), 4096);
+    let usage = (2, "refused: usage\n");
+    expect_refused(&rt, rt.alloc(), &[], &mut shelf, usage);
     for line in [
         "repair",
         "repair --record r --scope s --top t --vcd v",
@@ -533,12 +565,30 @@ fn refused_words(rt: HostRuntime) -> Result<(), Fail> {
         "repair --record r --scope s --top t --vcd v m v",
         "repair --record r --scope s --top t --vcd v m -n",
     ] {
-        let mut words = Vec::new(rt.alloc());
-        for word in line.split(' ') {
-            words.push(String::from_str(rt.alloc(), word)?)?;
-        }
-        expect_usage(&rt, rt.alloc(), &words);
+        let words = words_of(rt.alloc(), line)?;
+        expect_refused(&rt, rt.alloc(), &words, &mut shelf, usage);
     }
+    Ok(())
+}
+
+/// Runs `repair` on the multiplexer where a call on a file fails.
+fn expect_fault(
+    rt: &impl Abort,
+    alloc: Global,
+    call: u64,
+    recording: &str,
+    want: (u8, &str, Option<&str>),
+) -> Result<(), Fail> {
+    let mut shelf = MemShelf::new(alloc, 4096);
+    shelf.fail_at(call)?;
+    let mut out = MemSink::new(alloc, 4096);
+    let status = repair(alloc, "mux", (MUX, ""), recording, &mut shelf, &mut out)?;
+    expect_left(
+        rt,
+        [MUX, "", recording],
+        want,
+        (status, out.bytes(), shelf.get("o.vcd")),
+    );
     Ok(())
 }
 
@@ -551,32 +601,45 @@ fn faults_by_call(rt: HostRuntime) -> Result<(), Fail> {
         "1!\n1\"\nx#\nx$\n",
         "1!\n1\"\nx#\n1$\n",
     )?;
-    let words = repair_words(rt.alloc(), "mux", false)?;
-    for (call, status, line, held) in [
-        (1, 3, "refused: cannot read m.v\n", None),
-        (4, 3, "refused: cannot read m.v\n", None),
-        (7, 3, "refused: cannot read r.vcd\n", None),
-        (9, 4, "refused: cannot write o.vcd\n", None),
-        (10, 4, "refused: cannot write o.vcd\n", Some("")),
-        (
-            11,
-            4,
-            "refused: cannot write o.vcd\n",
-            Some(repaired.as_str()),
-        ),
+    let unwritten = "refused: cannot write o.vcd\n";
+    for (call, want) in [
+        (1, (3, "refused: cannot read m.v\n", None)),
+        (4, (3, "refused: cannot read m.v\n", None)),
+        (7, (3, "refused: cannot read r.vcd\n", None)),
+        (9, (4, unwritten, None)),
+        (10, (4, unwritten, Some(""))),
+        (11, (4, unwritten, Some(repaired.as_str()))),
     ] {
-        let mut shelf = MemShelf::new(rt.alloc(), 4096);
-        shelf.put("m.v", MUX.as_bytes())?;
-        shelf.put("r.vcd", recording.as_bytes())?;
-        shelf.fail_at(call)?;
-        let mut out = MemSink::new(rt.alloc(), 4096);
-        let answer = status_of(rt.alloc(), &words, &mut shelf, &mut out);
-        assert_eq!(rt; answer, status, "call {call}");
-        assert_eq!(rt; out.bytes(), line.as_bytes(), "call {call}");
-        let held = held.map(|text| text.as_bytes());
-        assert_eq!(rt; shelf.get("o.vcd"), held, "call {call}");
+        expect_fault(&rt, rt.alloc(), call, recording.as_str(), want)?;
     }
     Ok(())
+}
+
+/// Runs `repair` where the first call on the sink fails.
+fn expect_report_fault(
+    rt: &impl Abort,
+    alloc: Global,
+    recording: &str,
+    want: (u8, &str, Option<&str>),
+) -> Result<(), Fail> {
+    let mut shelf = MemShelf::new(alloc, 4096);
+    let mut out = MemSink::new(alloc, 4096);
+    out.fail_at(1)?;
+    let status = repair(alloc, "same", (SAME, ""), recording, &mut shelf, &mut out)?;
+    expect_left(
+        rt,
+        [SAME, "", recording],
+        want,
+        (status, out.bytes(), shelf.get("o.vcd")),
+    );
+    Ok(())
+}
+
+#[test]
+fn fault_of_the_report(rt: HostRuntime) -> Result<(), Fail> {
+    let (recording, repaired) = texts(rt.alloc(), SAME_HEAD, "x!\nx\"\n", "x!\n0\"\n")?;
+    let want = (4, "refused: cannot write report\n", Some(repaired.as_str()));
+    expect_report_fault(&rt, rt.alloc(), recording.as_str(), want)
 }
 
 /// A file that can't be read is refused before one that is none of the grammar.
@@ -584,19 +647,13 @@ fn faults_by_call(rt: HostRuntime) -> Result<(), Fail> {
 fn missing_file(rt: HostRuntime) -> Result<(), Fail> {
     let words = repair_words(rt.alloc(), "mux", true)?;
     let mut shelf = MemShelf::new(rt.alloc(), 4096);
-    for (put, text, status, line) in [
-        ("r.vcd", "$end", 3, "refused: cannot read m.v\n"),
-        ("m.v", "module", 3, "refused: cannot read n.v\n"),
-        ("n.v", "mux(;", 5, "refused: netlist at 11: unexpected\n"),
+    for (put, text, want) in [
+        ("r.vcd", "$end", (3, "refused: cannot read m.v\n")),
+        ("m.v", "module", (3, "refused: cannot read n.v\n")),
+        ("n.v", "mux(;", (5, "refused: netlist at 11: unexpected\n")),
     ] {
         shelf.put(put, text.as_bytes())?;
-        let mut out = MemSink::new(rt.alloc(), 4096);
-        assert_eq!(rt;
-            status_of(rt.alloc(), &words, &mut shelf, &mut out),
-            status,
-            "{line}"
-        );
-        assert_eq!(rt; out.bytes(), line.as_bytes());
+        expect_refused(&rt, rt.alloc(), &words, &mut shelf, want);
     }
     Ok(())
 }
@@ -605,20 +662,14 @@ fn missing_file(rt: HostRuntime) -> Result<(), Fail> {
 #[test]
 fn missing_recording(rt: HostRuntime) -> Result<(), Fail> {
     let words = repair_words(rt.alloc(), "same", false)?;
-    for (netlist, status, line) in [
-        ("module", 5, "refused: netlist at 6: unexpected\n"),
-        ("module mux; endmodule", 14, "refused: not built\n"),
-        (SAME, 3, "refused: cannot read r.vcd\n"),
+    let mut shelf = MemShelf::new(rt.alloc(), 4096);
+    for (netlist, want) in [
+        ("module", (5, "refused: netlist at 6: unexpected\n")),
+        ("module mux; endmodule", (14, "refused: not built\n")),
+        (SAME, (3, "refused: cannot read r.vcd\n")),
     ] {
-        let mut shelf = MemShelf::new(rt.alloc(), 4096);
         shelf.put("m.v", netlist.as_bytes())?;
-        let mut out = MemSink::new(rt.alloc(), 4096);
-        assert_eq!(rt;
-            status_of(rt.alloc(), &words, &mut shelf, &mut out),
-            status,
-            "{netlist}"
-        );
-        assert_eq!(rt; out.bytes(), line.as_bytes());
+        expect_refused(&rt, rt.alloc(), &words, &mut shelf, want);
     }
     Ok(())
 }
@@ -680,46 +731,62 @@ fn timescales(rt: HostRuntime) -> Result<(), Fail> {
     Ok(())
 }
 
-/// The status of a module with so many inputs, each recorded x.
-fn status_of_unknowns(alloc: Global, inputs: usize) -> Result<u8, Fail> {
+/// The names of so many inputs.
+fn input_names(alloc: Global, inputs: usize) -> Result<String, Fail> {
     let mut names = String::from_str(alloc, "i0")?;
-    let mut variables = String::from_str(alloc, "$var wire 1 c0 i0 $end\n")?;
-    let mut changes = String::from_str(alloc, "xc0\n")?;
     for input in 1..inputs {
         names = format!(in alloc; "{names}, i{input}")?;
+    }
+    Ok(names)
+}
+
+/// The variables of so many inputs.
+fn input_variables(alloc: Global, inputs: usize) -> Result<String, Fail> {
+    let mut variables = String::new(alloc);
+    for input in 0..inputs {
         variables = format!(in alloc; "{variables}$var wire 1 c{input} i{input} $end\n")?;
+    }
+    Ok(variables)
+}
+
+/// The changes of so many inputs to x.
+fn input_changes(alloc: Global, inputs: usize) -> Result<String, Fail> {
+    let mut changes = String::new(alloc);
+    for input in 0..inputs {
         changes = format!(in alloc; "{changes}xc{input}\n")?;
     }
+    Ok(changes)
+}
+
+/// A recording of so many inputs, each at x.
+fn unknown_inputs(alloc: Global, inputs: usize) -> Result<String, Fail> {
+    let variables = input_variables(alloc, inputs)?;
+    let changes = input_changes(alloc, inputs)?;
+    Ok(format!(in alloc;
+        "{SCOPES}\n{variables}$upscope $end $upscope $end $enddefinitions $end #0 $dumpvars\n{changes}$end\n"
+    )?)
+}
+
+/// The status of a module with so many inputs, each recorded x.
+fn status_of_unknowns(alloc: Global, inputs: usize) -> Result<u8, Fail> {
+    let names = input_names(alloc, inputs)?;
     let netlist = format!(in alloc; "module wide({names}); input {names}; endmodule")?;
-    let recording = format!(in alloc;
-        "$scope module tb $end $scope module dut $end\n{variables}$upscope $end $upscope $end $enddefinitions $end #0 $dumpvars\n{changes}$end\n"
-    )?;
-    let words = repair_words(alloc, "wide", false)?;
+    let recording = unknown_inputs(alloc, inputs)?;
     let mut shelf = MemShelf::new(alloc, 4096);
-    shelf.put("m.v", netlist.as_bytes())?;
-    shelf.put("r.vcd", recording.as_bytes())?;
     let mut out = MemSink::new(alloc, 4096);
-    Ok(status_of(alloc, &words, &mut shelf, &mut out))
+    repair(
+        alloc,
+        "wide",
+        (netlist.as_str(), ""),
+        recording.as_str(),
+        &mut shelf,
+        &mut out,
+    )
 }
 
 #[test]
 fn at_most_twelve_unknown_inputs(rt: HostRuntime) -> Result<(), Fail> {
     assert_eq!(rt; status_of_unknowns(rt.alloc(), 12)?, 0);
     assert_eq!(rt; status_of_unknowns(rt.alloc(), 13)?, 14);
-    Ok(())
-}
-
-#[test]
-fn fault_of_the_report(rt: HostRuntime) -> Result<(), Fail> {
-    let (recording, repaired) = texts(rt.alloc(), SAME_HEAD, "x!\nx\"\n", "x!\n0\"\n")?;
-    let words = repair_words(rt.alloc(), "same", false)?;
-    let mut shelf = MemShelf::new(rt.alloc(), 4096);
-    shelf.put("m.v", SAME.as_bytes())?;
-    shelf.put("r.vcd", recording.as_bytes())?;
-    let mut out = MemSink::new(rt.alloc(), 4096);
-    out.fail_at(1)?;
-    assert_eq!(rt; status_of(rt.alloc(), &words, &mut shelf, &mut out), 4);
-    assert_eq!(rt; out.bytes(), b"refused: cannot write report\n".as_slice());
-    assert_eq!(rt; shelf.get("o.vcd"), Some(repaired.as_bytes()));
     Ok(())
 }
