@@ -7,8 +7,6 @@ mod names;
 mod netlist;
 mod ports;
 mod refusal;
-#[cfg(test)]
-mod tests;
 
 pub use netlist::{Flat, flat_design};
 pub use refusal::FlatErr;

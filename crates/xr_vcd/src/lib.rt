@@ -20,6 +20,3 @@ pub use read::read_vcd;
 pub use recording::Recording;
 pub use refusal::VcdErr;
 pub use variable::Variable;
-
-#[cfg(test)]
-mod tests;

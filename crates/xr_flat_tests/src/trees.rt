@@ -1,11 +1,11 @@
 //! Trees by hand, and the designs that they have.
 
-use crate::{FlatErr, flat_design};
 use std::alloc::Global;
 use std::test::Fail;
 use xr_base::Items;
 use xr_cell::Gate;
 use xr_design::{Driver, Pin, Table};
+use xr_flat::{FlatErr, flat_design};
 use xr_grammar::{
     Declare, Expr, GateItem, GateKind, Item, Module, NetKind, Part, PartKind, Primitive, Source,
     Word,

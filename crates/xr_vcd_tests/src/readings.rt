@@ -1,14 +1,13 @@
-mod simulators;
-
-use crate::{Cursor, Recording, VcdErr, read_vcd};
 use std::fmt::Write;
 use std::process::Abort;
 use std::test::Fail;
+use xr_vcd::{Cursor, Recording, VcdErr, read_vcd};
 
 /// A recording of one variable `v` of 4 bits with the code `!`, and these changes.
 const FOUR: &str = "$var wire 4 ! v $end $enddefinitions $end ";
 
-fn read(rt: &(impl Abort + AllocGlobal), text: &str) -> Result<Recording, VcdErr> {
+/// Reads a text.
+pub fn read(rt: &(impl Abort + AllocGlobal), text: &str) -> Result<Recording, VcdErr> {
     assert!(rt; text.len() <= 268_435_456);
     read_vcd(rt.alloc(), text.as_bytes())
 }
@@ -28,7 +27,7 @@ fn fault(rt: &(impl Abort + AllocGlobal), text: &str) -> (u8, usize) {
 }
 
 /// The bits of a variable in a moment, by their letters.
-fn letters(
+pub fn letters(
     rt: &(impl Abort + AllocGlobal),
     recording: &Recording,
     variable: u32,

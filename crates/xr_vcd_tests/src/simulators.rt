@@ -1,10 +1,10 @@
 //! Recordings that simulators wrote, read with the values that the Verilog gives.
 
-use super::{letters, read};
-use crate::Recording;
+use crate::readings::{letters, read};
 use std::fmt::Write;
 use std::process::Abort;
 use std::test::Fail;
+use xr_vcd::Recording;
 
 /// By Icarus Verilog 11: a register of 4 bits, the parity of its output, a real and an event.
 const ICARUS: &str =
