@@ -193,6 +193,3 @@ impl Shelf for MemShelf {
         }
     }
 }
-
-#[cfg(test)]
-mod tests;

@@ -87,6 +87,3 @@ pub fn write_all<S: Shelf>(shelf: &mut S, name: &str, bytes: &[u8]) -> Result<()
     shelf.close_file()?;
     Ok(())
 }
-
-#[cfg(test)]
-mod tests;

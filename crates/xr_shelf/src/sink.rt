@@ -30,6 +30,3 @@ pub fn print_all<O: Sink>(out: &mut O, bytes: &[u8]) -> Result<(), WriteErr>
     }
     Ok(())
 }
-
-#[cfg(test)]
-mod tests;
