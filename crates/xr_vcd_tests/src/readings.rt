@@ -1,6 +1,7 @@
 use std::fmt::Write;
 use std::process::Abort;
 use std::test::Fail;
+use xr_cell::Value;
 use xr_vcd::{Cursor, Recording, VcdErr, read_vcd};
 
 /// A recording of one variable `v` of 4 bits with the code `!`, and these changes.
@@ -26,6 +27,41 @@ fn fault(rt: &(impl Abort + AllocGlobal), text: &str) -> (u8, usize) {
     }
 }
 
+/// The times of the moments.
+pub fn times(recording: &Recording) -> &[u64] {
+    recording.times()
+}
+
+/// How many variables there are.
+pub fn variable_count(recording: &Recording) -> usize {
+    recording.variables().len()
+}
+
+/// The values of the bits of a variable in a moment.
+fn values(
+    rt: &(impl Abort + AllocGlobal),
+    recording: &Recording,
+    variable: u32,
+    moment: u32,
+) -> Result<Vec<Value>, Fail> {
+    let mut values = Vec::new(rt.alloc());
+    assert!(rt; (variable as usize) < recording.variables().len());
+    assert!(rt; (moment as usize) < recording.times().len());
+    for bit in 0..recording.width(variable) {
+        values.push(recording.value(variable, bit, moment))?;
+    }
+    Ok(values)
+}
+
+/// Values by their letters.
+fn letters_of(rt: &impl AllocGlobal, values: &[Value]) -> Result<String, Fail> {
+    let mut letters = String::new(rt.alloc());
+    for value in values {
+        write!(letters, "{value}")?;
+    }
+    Ok(letters)
+}
+
 /// The bits of a variable in a moment, by their letters.
 pub fn letters(
     rt: &(impl Abort + AllocGlobal),
@@ -33,13 +69,7 @@ pub fn letters(
     variable: u32,
     moment: u32,
 ) -> Result<String, Fail> {
-    let mut letters = String::new(rt.alloc());
-    assert!(rt; (variable as usize) < recording.variables().len());
-    assert!(rt; (moment as usize) < recording.times().len());
-    for bit in 0..recording.width(variable) {
-        write!(letters, "{}", recording.value(variable, bit, moment))?;
-    }
-    Ok(letters)
+    letters_of(rt, &values(rt, recording, variable, moment)?)
 }
 
 #[test]
@@ -262,12 +292,23 @@ fn recording_cut_short(rt: HostRuntime) -> Result<(), Fail> {
         &rt,
         "$var wire 1 ! d0 $end\n$var wire 3 \" d1 $end\n$enddefinitions $end\n",
     )?;
-    assert_eq!(rt; recording.times(), [0].as_slice());
-    assert_eq!(rt; letters(&rt, &recording, 0, 0)?.as_str(), "x");
-    assert_eq!(rt; letters(&rt, &recording, 1, 0)?.as_str(), "xxx");
+    assert_eq!(rt; times(&recording), [0].as_slice());
+    for (variable, want) in [(0, "x"), (1, "xxx")] {
+        assert_eq!(rt; letters(&rt, &recording, variable, 0)?.as_str(), want);
+    }
     let cut = "$scope module tb $end\n$scope module dut $end\n$var wire 1 ! d0";
     assert_eq!(rt; fault(&rt, cut), (6, 61));
     Ok(())
+}
+
+/// The time of each moment, with the bits of the first variable.
+fn bits_by_time(rt: &(impl Abort + AllocGlobal), recording: &Recording) -> Result<String, Fail> {
+    let mut found = String::new(rt.alloc());
+    for (moment, time) in times(recording).iter().enumerate() {
+        let bits = letters(rt, recording, 0, moment as u32)?;
+        write!(found, "{time}:{bits} ")?;
+    }
+    Ok(found)
 }
 
 #[test]
@@ -287,14 +328,21 @@ fn moments(rt: HostRuntime) -> Result<(), Fail> {
     for (changes, want) in rows {
         let text = format!(in rt.alloc(); "$var event 1 R r $end {FOUR}{changes}")?;
         let recording = read(&rt, text.as_str())?;
-        let mut found = String::new(rt.alloc());
-        for (moment, time) in recording.times().iter().enumerate() {
-            let bits = letters(&rt, &recording, 0, moment as u32)?;
-            write!(found, "{time}:{bits} ")?;
-        }
-        assert_eq!(rt; found.as_str(), want, "{changes}");
+        assert_eq!(rt; bits_by_time(&rt, &recording)?.as_str(), want, "{changes}");
     }
     Ok(())
+}
+
+/// The names of the variables with their ranges, and whether the range stands directly behind the name.
+fn names(rt: &impl AllocGlobal, recording: &Recording) -> Result<String, Fail> {
+    let mut found = String::new(rt.alloc());
+    for variable in recording.variables() {
+        let reference = std::str::from_utf8(variable.reference.as_slice())?;
+        let range = variable.range;
+        let direct = variable.direct;
+        write!(found, "{reference} {range:?} {direct}")?;
+    }
+    Ok(found)
 }
 
 #[test]
@@ -316,14 +364,7 @@ fn names_of_variables(rt: HostRuntime) -> Result<(), Fail> {
     for (name, want) in rows {
         let text = format!(in rt.alloc(); "$var wire 1 ! {name} $end $enddefinitions $end")?;
         let recording = read(&rt, text.as_str())?;
-        let mut found = String::new(rt.alloc());
-        for variable in recording.variables() {
-            let reference = std::str::from_utf8(variable.reference.as_slice())?;
-            let range = variable.range;
-            let direct = variable.direct;
-            write!(found, "{reference} {range:?} {direct}")?;
-        }
-        assert_eq!(rt; found.as_str(), want, "{name}");
+        assert_eq!(rt; names(&rt, &recording)?.as_str(), want, "{name}");
     }
     Ok(())
 }
@@ -335,14 +376,21 @@ fn letters_by(
     variable: u32,
     moment: u32,
 ) -> Result<String, Fail> {
-    let mut letters = String::new(rt.alloc());
+    let mut values = Vec::new(rt.alloc());
     let recording = cursor.recording();
     assert!(rt; (variable as usize) < recording.variables().len());
     assert!(rt; (moment as usize) < recording.times().len());
     for bit in 0..recording.width(variable) {
-        write!(letters, "{}", cursor.value(variable, bit, moment))?;
+        values.push(cursor.value(variable, bit, moment))?;
     }
-    Ok(letters)
+    letters_of(rt, &values)
+}
+
+/// How many changes the first variable has.
+fn first_changes(rt: &impl Abort, recording: &Recording) -> usize {
+    let variables = recording.variables().len();
+    assert!(rt; 0 < variables);
+    recording.change_count(0)
 }
 
 #[test]
@@ -367,8 +415,6 @@ fn cursor_goes_forth_and_back(rt: HostRuntime) -> Result<(), Fail> {
             "{moment}"
         );
     }
-    let variables = recording.variables().len();
-    assert!(rt; variables == 1);
-    assert_eq!(rt; recording.change_count(0), 4);
+    assert_eq!(rt; first_changes(&rt, &recording), 4);
     Ok(())
 }

@@ -1,6 +1,6 @@
 //! Recordings that simulators wrote, read with the values that the Verilog gives.
 
-use crate::readings::{letters, read};
+use crate::readings::{letters, read, times, variable_count};
 use std::fmt::Write;
 use std::process::Abort;
 use std::test::Fail;
@@ -39,11 +39,37 @@ fn history(
     variable: u32,
 ) -> Result<String, Fail> {
     let mut history = String::new(rt.alloc());
-    for moment in 0..recording.times().len() as u32 {
+    for moment in 0..times(recording).len() as u32 {
         let bits = letters(rt, recording, variable, moment)?;
         write!(history, "{bits} ")?;
     }
     Ok(history)
+}
+
+/// Looks at the histories of the variables from one on.
+fn expect_histories(
+    rt: &(impl Abort + AllocGlobal),
+    recording: &Recording,
+    from: u32,
+    rows: &[&str],
+) -> Result<(), Fail> {
+    for (variable, want) in rows.iter().enumerate() {
+        let found = history(rt, recording, from.wrapping_add(variable as u32))?;
+        assert_eq!(rt; found.as_str(), *want, "variable {variable} from {from}");
+    }
+    Ok(())
+}
+
+/// The name of a scope, and its parent.
+fn scope<'a>(rt: &impl Abort, recording: &'a Recording, number: u32) -> (&'a [u8], u32) {
+    let scopes = recording.scope_count();
+    assert!(rt; 0 < number && (number as usize) < scopes);
+    (recording.scope_name(number), recording.scope_parent(number))
+}
+
+/// The timescale.
+fn timescale(recording: &Recording) -> Option<&[u8]> {
+    recording.timescale()
 }
 
 #[test]
@@ -60,19 +86,12 @@ fn written_by_icarus_and_gtkwave(rt: HostRuntime) -> Result<(), Fail> {
     ];
     for text in [ICARUS, GTKWAVE] {
         let recording = read(&rt, text)?;
-        assert_eq!(rt; recording.timescale(), Some(b"10ps".as_slice()));
-        assert_eq!(rt; recording.times(), [0, 500, 1000, 1500, 2000].as_slice());
-        assert_eq!(rt; recording.variables().len(), rows.len());
-        for (variable, want) in rows.iter().enumerate() {
-            let found = history(&rt, &recording, variable as u32)?;
-            assert_eq!(rt; found.as_str(), *want, "variable {variable}");
-        }
-        let scopes = recording.scope_count();
-        assert!(rt; scopes == 3);
-        assert_eq!(rt; recording.scope_name(1), b"tb".as_slice());
-        assert_eq!(rt; recording.scope_name(2), b"u".as_slice());
-        assert_eq!(rt; recording.scope_parent(1), 0);
-        assert_eq!(rt; recording.scope_parent(2), 1);
+        assert_eq!(rt; timescale(&recording), Some(b"10ps".as_slice()));
+        assert_eq!(rt; times(&recording), [0, 500, 1000, 1500, 2000].as_slice());
+        assert_eq!(rt; variable_count(&recording), rows.len());
+        expect_histories(&rt, &recording, 0, rows.as_slice())?;
+        assert_eq!(rt; scope(&rt, &recording, 1), (b"tb".as_slice(), 0));
+        assert_eq!(rt; scope(&rt, &recording, 2), (b"u".as_slice(), 1));
     }
     Ok(())
 }
@@ -86,13 +105,10 @@ fn written_by_verilator(rt: HostRuntime) -> Result<(), Fail> {
         "0 0 0 1 ",
     ];
     let recording = read(&rt, VERILATOR)?;
-    assert_eq!(rt; recording.times(), [0, 5, 10, 15].as_slice());
-    assert_eq!(rt; recording.variables().len(), 2 * rows.len());
-    for (variable, want) in rows.iter().enumerate() {
-        let outer = history(&rt, &recording, variable as u32)?;
-        assert_eq!(rt; outer.as_str(), *want, "variable {variable}");
-        let inner = history(&rt, &recording, variable as u32 + 4)?;
-        assert_eq!(rt; inner.as_str(), *want, "variable {variable} within");
+    assert_eq!(rt; times(&recording), [0, 5, 10, 15].as_slice());
+    assert_eq!(rt; variable_count(&recording), 2 * rows.len());
+    for from in [0, 4] {
+        expect_histories(&rt, &recording, from, rows.as_slice())?;
     }
     Ok(())
 }
