@@ -1,6 +1,6 @@
 -- What the clauses propagate with nothing assumed, and how it goes on with one clause more.
-use Rattle.std.proofs.Common.{◌≡◌, ℕ, ◌<◌, ◌≤◌, ◌+◌, ◌-◌, Bool, true, false, List, length, ap, sym, refl, ◌∙◌, subst, inl, inr, take, drop, slice_index_or, [], ◌∷◌, ◌++◌, arith, append_assoc}
-use Rattle.std.proofs.lemmas.Bool.{false≢true, cases_lt}
+use Rattle.std.proofs.Common.{◌≡◌, ℕ, ◌<◌, ◌≤◌, ◌+◌, ◌-◌, Bool, true, false, List, length, ap, sym, refl, ◌∙◌, subst, take, drop, slice_index_or, [], ◌∷◌, ◌++◌, arith, append_assoc}
+use Rattle.std.proofs.lemmas.Bool.{false≢true}
 use Rattle.std.proofs.lemmas.List.{take_more, take_rest, get_or_default, length-append, length-take}
 use Rattle.std.proofs.lemmas.List.Elements.{All-append, All-take, All-contains, All-weaker, Contains-append_left, Contains-push}
 use Rattle.std.specs.Prelude.{ℤ, neg_ℤ}
@@ -9,18 +9,19 @@ use Rattle.xr_proof.specs.Assignment.{HasNoZero}
 use Rattle.xr_proof.specs.Closed.{IsFalse, IsQuiet, AreContrary}
 use Rattle.xr_proof.specs.Code.{is_false, code_of, HaveRoom, HasRoom}
 use Rattle.xr_proof.specs.Follows.{Follows, without}
-use Rattle.xr_proof.specs.Index.{IsSized, Serves}
+use Rattle.xr_proof.specs.Guard.{Watches}
+use Rattle.xr_proof.specs.Index.{IsSized}
 use Rattle.xr_proof.specs.Lines.{IsReady}
 use Rattle.xr_proof.specs.Log.{before, clause_at, EndsEmpty}
-use Rattle.xr_proof.specs.Search.{IsGrowth, AreRefuted, AreForced, IsBase, IsRunning, IsVisit}
+use Rattle.xr_proof.specs.Search.{IsGrowth, AreRefuted, AreForced, IsBase}
 use Rattle.xr_proof.specs.Trail.{held, IsTrail, IsKept}
+use Rattle.xr_proof.specs.Watch.{HasSize}
 use Rattle.xr_proof.specs.declared.index.Index.{Index}
 use Rattle.xr_proof.specs.declared.trail.Trail.{Trail}
+use Rattle.xr_proof.specs.declared.watch.Watch.{Watch}
 use Rattle.xr_proof.proofs.Assuming.{contrary_from, forced_more}
-use Rattle.xr_proof.proofs.Chains.{clause_before, clause_last, length_push}
 use Rattle.xr_proof.proofs.Deciding.{follows_if_none}
 use Rattle.xr_proof.proofs.Laws.{all_from}
-use Rattle.xr_proof.proofs.Runs.{growth_none, clause_in, visited}
 
 pub base_kept : (old new : Trail) (clauses : List (List ℤ)) → IsBase old clauses → IsKept old new → IsBase new clauses
 base_kept old new clauses b k = record {
@@ -31,20 +32,27 @@ base_kept old new clauses b k = record {
   read = k.read ∙ b.read ∙ sym k.len;
 }
 
-pub sized_kept : (old new : Trail) (x : Index) → IsSized x (length old.marks.items) → length new.marks.items ≡ length old.marks.items → IsSized x (length new.marks.items)
-sized_kept old new x h e = subst (IsSized x) (sym e) h
+pub sized_kept : (old new : Trail) (x : Watch) → HasSize x (length old.marks.items) → length new.marks.items ≡ length old.marks.items → HasSize x (length new.marks.items)
+sized_kept old new x h e = subst (HasSize x) (sym e) h
+
+pub listed_kept : (old new : Trail) (x : Index) → IsSized x (length old.marks.items) → length new.marks.items ≡ length old.marks.items → IsSized x (length new.marks.items)
+listed_kept old new x h e = subst (IsSized x) (sym e) h
 
 -- room for the index's own codes
 pub sized_own : (x : Index) (size : ℕ) → IsSized x size → IsSized x (length x.heads.items)
 sized_own x size h = subst (IsSized x) (sym h.heads) h
 
-pub ready_kept : (old new : Trail) (x : Index) (refuted : Bool) (clauses : List (List ℤ)) → IsReady old x refuted clauses → IsKept old new → IsReady new x refuted clauses
-ready_kept old new x refuted clauses r k = record {
+pub size_own : (x : Watch) (size : ℕ) → HasSize x size → HasSize x (length x.heads.items)
+size_own x size h = subst (HasSize x) (sym h.heads) h
+
+pub ready_kept : (old new : Trail) (x y : Watch) (refuted : Bool) (clauses : List (List ℤ)) → IsReady old x refuted clauses → IsKept old new
+    → HasSize y (length old.marks.items) → (refuted ≡ false → Watches y old.marks.items clauses) → IsReady new y refuted clauses
+ready_kept old new x y refuted clauses r k sized watches = record {
   trail = k.trail;
-  sized = sized_kept old new x r.sized (ap length k.marks);
+  sized = sized_kept old new y sized (ap length k.marks);
   contrary = r.contrary;
   base = λ e. base_kept old new clauses (r.base e) k;
-  served = r.served;
+  served = λ e. subst (λ ms. Watches y ms clauses) (sym k.marks) (watches e);
 }
 
 pub kept_more : (old mid new : Trail) → IsKept old mid → IsKept mid new → IsKept old new
@@ -53,8 +61,8 @@ kept_more old mid new a b = record { trail = b.trail; marks = b.marks ∙ a.mark
 pub kept_none : (t : Trail) → IsTrail t → IsKept t t
 kept_none t h = record { trail = h; marks = refl; len = refl; read = refl }
 
-pub ready_from : (old new : Trail) (x : Index) (result : Bool) (clauses : List (List ℤ)) → AreForced old.marks.items clauses → IsTrail new
-    → IsSized x (length new.marks.items) → Serves x clauses
+pub ready_from : (old new : Trail) (x : Watch) (result : Bool) (clauses : List (List ℤ)) → AreForced old.marks.items clauses → IsTrail new
+    → HasSize x (length new.marks.items) → (result ≡ false → Watches x new.marks.items clauses)
     → (result ≡ true → AreRefuted old.marks.items clauses) → (result ≡ false → IsGrowth old.marks.items new.marks.items clauses)
     → (result ≡ false → All (IsQuiet (held new)) clauses) → (result ≡ false → new.read ≡ new.len) → IsReady new x result clauses
 ready_from old new x result clauses forced trail sized served conflict growth quiet read = record {
@@ -68,10 +76,10 @@ ready_from old new x result clauses forced trail sized served conflict growth qu
     quiet = quiet e;
     read = read e;
   };
-  served = λ _. served;
+  served = served;
 }
 
-pub ready_contrary : (t : Trail) (x : Index) (clauses : List (List ℤ)) → IsTrail t → IsSized x (length t.marks.items) → AreContrary clauses → IsReady t x true clauses
+pub ready_contrary : (t : Trail) (x : Watch) (clauses : List (List ℤ)) → IsTrail t → HasSize x (length t.marks.items) → AreContrary clauses → IsReady t x true clauses
 ready_contrary t x clauses trail sized contrary = record {
   trail = trail;
   sized = sized;
@@ -94,7 +102,7 @@ length_before query log k le = omega (arith, length-append query (take k log), l
 
 -- One more clause.
 module _ (clauses : List (List ℤ)) (c : List ℤ) where
-  quiet_push : (f : ℤ → Bool) → All (IsQuiet f) (clauses ++ c ∷ []) → All (IsQuiet f) clauses
+  pub quiet_push : (f : ℤ → Bool) → All (IsQuiet f) (clauses ++ c ∷ []) → All (IsQuiet f) clauses
   quiet_push f quiet = all_from (IsQuiet f) clauses (λ d here. All-contains (IsQuiet f) (clauses ++ c ∷ []) d quiet (Contains-append_left clauses (c ∷ []) d here))
 
   pub contrary_push : AreContrary clauses → AreContrary (clauses ++ c ∷ [])
@@ -108,45 +116,18 @@ module _ (clauses : List (List ℤ)) (c : List ℤ) where
   false_push t b bad f quiet = (All-contains (IsQuiet f) (clauses ++ c ∷ []) c quiet (Contains-push clauses c)).met
       (All-weaker (λ l. held t l ≡ true) (λ l. f l ≡ true) (λ l on. (b.forced f (quiet_push f quiet) l on).0) c bad)
 
-  -- the new clause waits
-  running_push : (t : Trail) → IsBase t clauses → IsRunning t t (clauses ++ c ∷ []) t.len (λ n. n ≡ length clauses)
-  running_push t b = record {
-    trail = b.trail;
-    growth = growth_none t.marks.items (clauses ++ c ∷ []) b.consistent;
-    low = omega arith;
-    over = λ base k o. o;
-    settled = λ n lt none not_waiting. elim (cases_lt n (length clauses)) [
-      | inl low ↦ subst (IsQuiet (held t)) (sym (clause_before clauses c n low)) (All-contains (IsQuiet (held t)) clauses (clause_at clauses n) b.quiet (clause_in clauses n low))
-      | inr high ↦ let last : n ≡ length clauses = omega (arith, length_push clauses c) in absurd (not_waiting last)
-    ];
-  }
-
-  -- and is looked at
-  pub visit_push : (t new : Trail) → IsBase t clauses → All (HasRoom (length t.marks.items)) c → IsVisit t new c → IsRunning t new (clauses ++ c ∷ []) t.len (λ _. ⊥)
-  visit_push t new b room v = visited t t (clauses ++ c ∷ []) t.len (length clauses) (λ n. n ≡ length clauses) (λ _. ⊥) (running_push t b)
-      (omega (arith, length_push clauses c)) (λ n e. inl e) new
-      (subst (All (HasRoom (length t.marks.items))) (sym (clause_last clauses c)) room) (subst (IsVisit t new) (sym (clause_last clauses c)) v)
-
 -- The next clause of a log, as the code has it.
 module _ (query log : List (List ℤ)) (k : ℕ) (lt : k < length log) (c r : List ℤ) (e : c ≡ r) (f : r ≡ slice_index_or log k r) (t : Trail)
     (b : IsBase t (before query log k)) where
-  next_is : before query log k ++ c ∷ [] ≡ before query log (k + 1)
+  pub next_is : before query log k ++ c ∷ [] ≡ before query log (k + 1)
   next_is = before_push query log k c lt (entry log k c r lt e f)
 
   pub next_contrary : IsFalse (held t) c → AreContrary (before query log (k + 1))
   next_contrary bad = subst AreContrary next_is (false_push (before query log k) c t b bad)
 
-  pub next_running : (new : Trail) → All (HasRoom (length t.marks.items)) c → IsVisit t new c → new.read ≡ t.read
-      → IsRunning t new (before query log (k + 1)) new.read (λ _. ⊥)
-  next_running new room v read = subst (λ n. IsRunning t new (before query log (k + 1)) n (λ _. ⊥)) (sym b.read ∙ sym read)
-      (subst (λ cs. IsRunning t new cs t.len (λ _. ⊥)) next_is (visit_push (before query log k) c t new b room v))
-
-  pub next_served : (x : Index) → Serves x (before query log k ++ c ∷ []) → Serves x (before query log (k + 1))
-  next_served x h = subst (Serves x) next_is h
-
-  pub next_forced : (new : Trail) → IsRunning t new (before query log (k + 1)) new.read (λ _. ⊥) → AreForced new.marks.items (before query log (k + 1))
-  next_forced new running = forced_more t.marks.items new.marks.items (before query log (k + 1))
-      (subst (AreForced t.marks.items) next_is (forced_push (before query log k) c t.marks.items b.forced)) running.growth
+  pub next_forced : (new : Trail) → IsGrowth t.marks.items new.marks.items (before query log (k + 1)) → AreForced new.marks.items (before query log (k + 1))
+  next_forced new growth = forced_more t.marks.items new.marks.items (before query log (k + 1))
+      (subst (AreForced t.marks.items) next_is (forced_push (before query log k) c t.marks.items b.forced)) growth
 
 pub contrary_next : (query log : List (List ℤ)) (k : ℕ) → k < length log → AreContrary (before query log k) → AreContrary (before query log (k + 1))
 contrary_next query log k lt contrary = subst AreContrary (before_push query log k (clause_at log k) lt refl) (contrary_push (before query log k) (clause_at log k) contrary)

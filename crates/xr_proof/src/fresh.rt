@@ -5,11 +5,13 @@ ghost use Rattle.std.specs.List.{All};
 ghost use Rattle.xr_proof.specs.Closed.{IsFalse};
 ghost use Rattle.xr_proof.specs.Code.{HasRoom, HaveRoom, is_false};
 ghost use Rattle.xr_proof.specs.Fresh.{IsNew, IsStale, IsCovered, IsUncovered, IsUnmatched, AreUncovered};
+ghost use Rattle.xr_proof.specs.Guard.{Watches};
 ghost use Rattle.xr_proof.specs.Index.{IsSized, IsIndexed, Serves, Reaches};
 ghost use Rattle.xr_proof.specs.Log.{IsFresh};
 ghost use Rattle.xr_proof.specs.Look.{literal_at};
 ghost use Rattle.xr_proof.specs.Search.{IsBase};
 ghost use Rattle.xr_proof.specs.Trail.{IsTrail, IsKept, IsEmpty, StaysOver};
+ghost use Rattle.xr_proof.specs.Watch.{HasSize};
 
 use crate::assume::assume;
 use crate::clause::Clause;
@@ -18,18 +20,22 @@ use crate::follow::{follows, is_tight};
 use crate::index::Index;
 use crate::pass::literals_of;
 use crate::trail::Trail;
+use crate::watch::Watch;
 
 /// Whether the clause is fresh over the clauses of both lists.
 pub(crate) fn is_fresh(
     trail: &mut Trail,
     seen: &mut Trail,
+    watch: &mut Watch,
     index: &Index,
     first: &[Clause],
     second: &[Clause],
     literals: &[i32],
 ) -> bool
     requires base { IsBase trail.old (first.now ++ second.now) }
-    requires sized { IsSized index.now (length trail.old.marks.items) }
+    requires sized { HasSize watch.old (length trail.old.marks.items) }
+    requires watches { Watches watch.old trail.old.marks.items (first.now ++ second.now) }
+    requires index_sized { IsSized index.now (length trail.old.marks.items) }
     requires served { Serves index.now (first.now ++ second.now) }
     requires empty { IsEmpty seen.old }
     requires room { HaveRoom (length trail.old.marks.items) (first.now ++ second.now) }
@@ -39,6 +45,8 @@ pub(crate) fn is_fresh(
     ensures no { result ≡ false → IsFresh (first.now ++ second.now) literals.now → ⊥ }
     ensures kept { IsKept trail.old trail.new }
     ensures seen { IsKept seen.old seen.new }
+    ensures sized { HasSize watch.new (length trail.old.marks.items) }
+    ensures watches { Watches watch.new trail.old.marks.items (first.now ++ second.now) }
 {
     if literals.len() == 0 {
         return false;
@@ -47,10 +55,10 @@ pub(crate) fn is_fresh(
         return false;
     }
     let none = &literals[..0];
-    if !follows(trail, index, first, second, literals, none) {
+    if !follows(trail, watch, first, second, literals, none) {
         return false;
     }
-    is_tight(trail, index, first, second, literals)
+    is_tight(trail, watch, first, second, literals)
 }
 
 /// Whether the clause is no tautology, and no clause equals it as a set. A clause that lies within it is taken for one that

@@ -1,42 +1,64 @@
-use Rattle.std.proofs.Common.{◌++◌, ◌≡◌, ◌∙◌, refl, sym, ap, subst, arith}
+use Rattle.std.proofs.Common.{◌++◌, ◌≡◌, ◌<◌, ◌∙◌, length, refl, ap, sym, subst, arith}
 use Rattle.std.proofs.lemmas.Grind.{get_or_default_zero}
-use Rattle.xr_proof.specs.Index.{Reaches, Lists, head_of}
-use Rattle.xr_proof.specs.Search.{IsRunning}
-use Rattle.xr_proof.specs.Trail.{code_at}
-use Rattle.xr_proof.proofs.Runs.{running_again, running_more, running_quiet}
-use Rattle.xr_proof.proofs.Traces.{running_read}
+use Rattle.xr_proof.specs.Guard.{IsTracing}
+use Rattle.xr_proof.specs.Watch.{Leads, HasSize, IsLaced, head_of, count_of}
+use Rattle.xr_proof.proofs.Guards.{detached_laced, quiet_safe, safe_end, safe_same, tracing_again, tracing_more, tracing_read}
 use Rattle.xr_proof.proofs.trace.trace.Goals as goal
 
-pub walk-requires-clause-running : goal.walk-requires-clause-running
-walk-requires-clause-running c =
-    let head : c.index-head.result.now ≡ head_of c.args.index.now (code_at c.loop-trail.trail c.loop-trail.trail.read) =
-    c.index-head.ensures ∙ get_or_default_zero c.args.index.now.heads.items c.next_code-code.result c.index-head.result.now (omega (arith, c.next_code-code.ensures.below, c.loop-trail.invariant.growth.sized, c.requires.sized.heads)) ∙ ap (head_of c.args.index.now) c.next_code-code.ensures.value in
-    subst (λ i. IsRunning c.next_code-code.new.self c.next_code-code.new.self (c.args.first.now ++ c.args.second.now) c.next_code-code.new.self.read
-    (λ n. Reaches c.args.index.now.nexts.items c.args.index.now.owners.items n i)) (sym head)
-    (running_again c.args.trail.now c.next_code-code.new.self (c.args.first.now ++ c.args.second.now) c.next_code-code.new.self.read
-    (λ n. Lists c.args.index.now (code_at c.loop-trail.trail c.loop-trail.trail.read) n)
-    (running_read c.args.trail.now c.loop-trail.trail c.next_code-code.new.self c.args.index.now (c.args.first.now ++ c.args.second.now)
-    c.loop-trail.invariant c.requires.indexed c.loop-trail-test.true c.next_code-code.ensures.read))
+pub walk-requires-clause-tracing : goal.walk-requires-clause-tracing
+walk-requires-clause-tracing c = subst (λ n. IsTracing c.next_code-code.new.self c.next_code-code.new.self c.detach-head.new.self (c.args.first.now ++ c.args.second.now) c.next_code-code.new.self.read
+    (λ e. Leads c.detach-head.new.self.nexts.items e n)) (sym c.detach-head.ensures.head)
+    (tracing_again c.args.trail.now c.next_code-code.new.self c.detach-head.new.self (c.args.first.now ++ c.args.second.now) c.next_code-code.new.self.read
+    (λ e. Leads c.detach-head.new.self.nexts.items e (head_of c.loop-trail.watch c.next_code-code.result))
+    (tracing_read c.args.trail.now c.loop-trail.trail c.next_code-code.new.self c.loop-trail.watch c.detach-head.new.self (c.args.first.now ++ c.args.second.now) c.next_code-code.result
+    c.loop-trail.invariant.tracing c.loop-trail.invariant.laced c.loop-trail-test.true c.next_code-code.ensures.read c.detach-head.ensures.detached c.next_code-code.ensures.value))
+
+pub walk-requires-clause-laced : goal.walk-requires-clause-laced
+walk-requires-clause-laced c =
+    let room : c.next_code-code.result < length c.loop-trail.watch.heads.items = omega (arith, c.next_code-code.ensures.below, c.loop-trail.invariant.tracing.growth.sized, c.loop-trail.invariant.sized.heads) in
+    let counted : c.next_code-code.result < length c.loop-trail.watch.counts.items = omega (arith, room, c.loop-trail.invariant.sized.heads, c.loop-trail.invariant.sized.counts) in
+    let count : c.index-count.result.now ≡ count_of c.loop-trail.watch c.next_code-code.result =
+    c.index-count.ensures ∙ get_or_default_zero c.loop-trail.watch.counts.items c.next_code-code.result c.index-count.result.now counted in
+    subst (λ n. IsLaced c.detach-head.new.self (c.args.first.now ++ c.args.second.now) n c.index-count.result.now) (sym c.detach-head.ensures.head)
+    (subst (IsLaced c.detach-head.new.self (c.args.first.now ++ c.args.second.now) (head_of c.loop-trail.watch c.next_code-code.result)) (sym count)
+    (detached_laced c.args.trail.now c.loop-trail.trail c.next_code-code.new.self c.loop-trail.watch c.detach-head.new.self (c.args.first.now ++ c.args.second.now) c.next_code-code.result
+    c.loop-trail.invariant.tracing c.loop-trail.invariant.laced c.loop-trail-test.true c.next_code-code.ensures.read c.detach-head.ensures.detached c.next_code-code.ensures.value room counted))
 
 pub returns-then-walk-clause-conflict : goal.returns-then-walk-clause-conflict
 returns-then-walk-clause-conflict c _ f quiet within = c.if-walk.ensures.conflict refl f quiet
-    ((running_read c.args.trail.now c.loop-trail.trail c.next_code-code.new.self c.args.index.now (c.args.first.now ++ c.args.second.now)
-    c.loop-trail.invariant c.requires.indexed c.loop-trail-test.true c.next_code-code.ensures.read).growth.within f quiet within)
+    ((tracing_read c.args.trail.now c.loop-trail.trail c.next_code-code.new.self c.loop-trail.watch c.detach-head.new.self (c.args.first.now ++ c.args.second.now) c.next_code-code.result
+    c.loop-trail.invariant.tracing c.loop-trail.invariant.laced c.loop-trail-test.true c.next_code-code.ensures.read c.detach-head.ensures.detached c.next_code-code.ensures.value).growth.within f quiet within)
 
 pub returns-then-walk-clause-over : goal.returns-then-walk-clause-over
 returns-then-walk-clause-over c base b over = c.walk.ensures.over base b
-    ((running_read c.args.trail.now c.loop-trail.trail c.next_code-code.new.self c.args.index.now (c.args.first.now ++ c.args.second.now)
-    c.loop-trail.invariant c.requires.indexed c.loop-trail-test.true c.next_code-code.ensures.read).over base b over)
+    ((tracing_read c.args.trail.now c.loop-trail.trail c.next_code-code.new.self c.loop-trail.watch c.detach-head.new.self (c.args.first.now ++ c.args.second.now) c.next_code-code.result
+    c.loop-trail.invariant.tracing c.loop-trail.invariant.laced c.loop-trail-test.true c.next_code-code.ensures.read c.detach-head.ensures.detached c.next_code-code.ensures.value).over base b over)
+
+pub returns-then-walk-clause-stays : goal.returns-then-walk-clause-stays
+returns-then-walk-clause-stays c base within safe = c.walk.ensures.stays base
+    (λ l on. (tracing_read c.args.trail.now c.loop-trail.trail c.next_code-code.new.self c.loop-trail.watch c.detach-head.new.self (c.args.first.now ++ c.args.second.now) c.next_code-code.result
+    c.loop-trail.invariant.tracing c.loop-trail.invariant.laced c.loop-trail-test.true c.next_code-code.ensures.read c.detach-head.ensures.detached c.next_code-code.ensures.value).growth.grows l (within l on))
+    (safe_same c.loop-trail.watch c.detach-head.new.self base (c.args.first.now ++ c.args.second.now) c.detach-head.ensures.detached.literals (c.loop-trail.invariant.stays base within safe))
 
 pub loop-trail-preserved : goal.loop-trail-preserved
-loop-trail-preserved c = subst (λ i. IsRunning c.args.trail.now c.walk.new.trail (c.args.first.now ++ c.args.second.now) i (λ _. ⊥)) (sym c.walk.ensures.read)
-    (running_more c.args.trail.now c.next_code-code.new.self c.walk.new.trail (c.args.first.now ++ c.args.second.now) c.next_code-code.new.self.read c.next_code-code.new.self.read
-    (λ n. Lists c.args.index.now (code_at c.loop-trail.trail c.loop-trail.trail.read) n) (λ _. ⊥)
-    (running_read c.args.trail.now c.loop-trail.trail c.next_code-code.new.self c.args.index.now (c.args.first.now ++ c.args.second.now)
-    c.loop-trail.invariant c.requires.indexed c.loop-trail-test.true c.next_code-code.ensures.read)
-    (c.if-walk.ensures.running refl))
+loop-trail-preserved c = record {
+  tracing = subst (λ n. IsTracing c.args.trail.now c.walk.new.trail c.walk.new.watch (c.args.first.now ++ c.args.second.now) n (λ _. ⊥)) (sym c.walk.ensures.read)
+      (tracing_more c.args.trail.now c.next_code-code.new.self c.walk.new.trail c.detach-head.new.self c.walk.new.watch (c.args.first.now ++ c.args.second.now)
+      c.next_code-code.new.self.read c.next_code-code.new.self.read (λ e. Leads c.detach-head.new.self.nexts.items e (head_of c.loop-trail.watch c.next_code-code.result)) (λ _. ⊥)
+      (tracing_read c.args.trail.now c.loop-trail.trail c.next_code-code.new.self c.loop-trail.watch c.detach-head.new.self (c.args.first.now ++ c.args.second.now) c.next_code-code.result
+      c.loop-trail.invariant.tracing c.loop-trail.invariant.laced c.loop-trail-test.true c.next_code-code.ensures.read c.detach-head.ensures.detached c.next_code-code.ensures.value)
+      (c.if-walk.ensures.tracing refl));
+  laced = c.walk.ensures.laced;
+  sized = subst (HasSize c.walk.new.watch) (ap length c.next_code-code.ensures.read.marks ∙ c.loop-trail.invariant.tracing.growth.sized) c.walk.ensures.sized;
+  stays = λ base within safe. c.walk.ensures.stays base
+      (λ l on. (tracing_read c.args.trail.now c.loop-trail.trail c.next_code-code.new.self c.loop-trail.watch c.detach-head.new.self (c.args.first.now ++ c.args.second.now) c.next_code-code.result
+      c.loop-trail.invariant.tracing c.loop-trail.invariant.laced c.loop-trail-test.true c.next_code-code.ensures.read c.detach-head.ensures.detached c.next_code-code.ensures.value).growth.grows l (within l on))
+      (safe_same c.loop-trail.watch c.detach-head.new.self base (c.args.first.now ++ c.args.second.now) c.detach-head.ensures.detached.literals (c.loop-trail.invariant.stays base within safe));
+  on = c.walk.ensures.on ∙ c.detach-head.ensures.detached.on ∙ c.loop-trail.invariant.on;
+}
 
 pub returns-clause-quiet : goal.returns-clause-quiet
 returns-clause-quiet c _ =
-    let done : c.loop-trail.trail.len ≡ c.loop-trail.trail.read = omega (arith, c.loop-trail.invariant.low) in
-    running_quiet c.args.trail.now c.loop-trail.trail (c.args.first.now ++ c.args.second.now) c.loop-trail.trail.read c.loop-trail.invariant done
+    let done : c.loop-trail.trail.len ≡ c.loop-trail.trail.read = omega (arith, c.loop-trail.invariant.tracing.low) in
+    quiet_safe c.loop-trail.watch c.loop-trail.trail.marks.items (c.args.first.now ++ c.args.second.now) 0 0 c.loop-trail.invariant.tracing.growth.consistent c.loop-trail.invariant.laced
+    (safe_end c.args.trail.now c.loop-trail.trail c.loop-trail.watch (c.args.first.now ++ c.args.second.now) c.loop-trail.trail.read c.loop-trail.invariant.tracing c.loop-trail.invariant.on done)

@@ -1,63 +1,90 @@
-use Rattle.std.proofs.Common.{◌++◌, ◌≡◌, ◌<◌, ◌-◌, ◌∙◌, ◌⊎◌, ℕ, List, ℤ, length, refl, sym, subst, arith, inl, inr, slice_index_or}
+use Rattle.std.proofs.Common.{◌++◌, ◌≡◌, ◌-◌, ◌∙◌, length, refl, arith, sym, subst, slice_index_or}
 use Rattle.std.proofs.lemmas.Grind.{get_or_default_zero}
-use Rattle.xr_proof.specs.Assignment.{HasNoZero}
-use Rattle.xr_proof.specs.Closed.{IsFalse}
-use Rattle.xr_proof.specs.Code.{HaveRoom}
-use Rattle.xr_proof.specs.Index.{Reaches}
-use Rattle.xr_proof.specs.Log.{clause_at}
-use Rattle.xr_proof.specs.Search.{IsVisit}
-use Rattle.xr_proof.specs.Trail.{held}
-use Rattle.xr_proof.proofs.Chains.{reaches_next, reaches_none}
-use Rattle.xr_proof.proofs.Runs.{refuted_by, clause_in, visited, room_at, running_weaker}
+use Rattle.xr_proof.specs.Guard.{AreSafe}
+use Rattle.xr_proof.specs.Watch.{IsLoose}
+use Rattle.xr_proof.proofs.Guards.{any_refuted, laced_from, looked_laced, looked_sized, looked_on, safe_same, tracing_walked, walked_laced, walked_safe, walked_tracing}
+use Rattle.xr_proof.proofs.Links.{chained_end, link_sized, loose_entry}
 use Rattle.xr_proof.proofs.trace.walk.Goals as goal
 
-pub returns-then-visit-clause-conflict : goal.returns-then-visit-clause-conflict
-returns-then-visit-clause-conflict c _ =
-    let owner : c.index-owner.result.now ≡ slice_index_or c.args.index.now.owners.items (c.loop-at.at - 1) 0 =
-    c.index-owner.ensures ∙ get_or_default_zero c.args.index.now.owners.items (c.loop-at.at - 1) c.index-owner.result.now (omega arith) in
-    let lt : c.index-owner.result.now < length (c.args.first.now ++ c.args.second.now) = omega (arith, owner, c.requires.indexed.owned (c.loop-at.at - 1) (omega arith)) in
-    refuted_by c.args.trail.now.marks.items c.loop-at.trail.marks.items (c.args.first.now ++ c.args.second.now) (clause_at (c.args.first.now ++ c.args.second.now) c.index-owner.result.now)
-    c.loop-at.invariant.running.growth (clause_in (c.args.first.now ++ c.args.second.now) c.index-owner.result.now lt)
-    (subst (λ (x : List ℤ). IsFalse (held c.loop-at.trail) x) c.literals_of.ensures.value (c.if-visit.ensures.conflict refl))
+pub overflow_sub-entry : goal.overflow_sub-entry
+overflow_sub-entry c = (loose_entry c.loop-left.watch (length c.args.trail.now.marks.items) c.loop-left.at c.loop-left.left
+    c.loop-left.invariant.sized c.loop-left.invariant.laced.chained c.loop-left-test.true).some
 
-pub returns-then-visit-clause-over : goal.returns-then-visit-clause-over
-returns-then-visit-clause-over c base b over = c.visit.ensures.over base b (c.loop-at.invariant.running.over base b over)
+pub index-next-requires : goal.index-next-requires
+index-next-requires c =
+    let loose : IsLoose c.loop-left.watch c.loop-left.at = loose_entry c.loop-left.watch (length c.args.trail.now.marks.items) c.loop-left.at c.loop-left.left
+    c.loop-left.invariant.sized c.loop-left.invariant.laced.chained c.loop-left-test.true in
+    omega (arith, loose.below, c.loop-left.invariant.sized.used)
 
-pub loop-at-smaller : goal.loop-at-smaller
-loop-at-smaller c =
-    let next : c.index-at.result.now ≡ slice_index_or c.args.index.now.nexts.items (c.loop-at.at - 1) 0 =
-    c.index-at.ensures ∙ get_or_default_zero c.args.index.now.nexts.items (c.loop-at.at - 1) c.index-at.result.now (omega arith) in
-    omega (arith, next, c.requires.indexed.nexts (c.loop-at.at - 1) (omega arith))
+pub look-requires-clause-entry : goal.look-requires-clause-entry
+look-requires-clause-entry c = (loose_entry c.loop-left.watch (length c.args.trail.now.marks.items) c.loop-left.at c.loop-left.left
+    c.loop-left.invariant.sized c.loop-left.invariant.laced.chained c.loop-left-test.true).below
 
-pub loop-at-preserved : goal.loop-at-preserved
-loop-at-preserved c =
-    let owner : c.index-owner.result.now ≡ slice_index_or c.args.index.now.owners.items (c.loop-at.at - 1) 0 =
-    c.index-owner.ensures ∙ get_or_default_zero c.args.index.now.owners.items (c.loop-at.at - 1) c.index-owner.result.now (omega arith) in
-    let next : c.index-at.result.now ≡ slice_index_or c.args.index.now.nexts.items (c.loop-at.at - 1) 0 =
-    c.index-at.ensures ∙ get_or_default_zero c.args.index.now.nexts.items (c.loop-at.at - 1) c.index-at.result.now (omega arith) in
-    let lt : c.index-owner.result.now < length (c.args.first.now ++ c.args.second.now) = omega (arith, owner, c.requires.indexed.owned (c.loop-at.at - 1) (omega arith)) in
-    let room : HaveRoom (length c.loop-at.trail.marks.items) (c.args.first.now ++ c.args.second.now) =
-    subst (λ i. HaveRoom i (c.args.first.now ++ c.args.second.now)) (sym c.loop-at.invariant.running.growth.sized) c.requires.room in
-    let split : (n : ℕ) → Reaches c.args.index.now.nexts.items c.args.index.now.owners.items n c.loop-at.at
-    → (n ≡ c.index-owner.result.now) ⊎ Reaches c.args.index.now.nexts.items c.args.index.now.owners.items n c.index-at.result.now =
-    λ n r. elim (reaches_next c.args.index.now.nexts.items c.args.index.now.owners.items n c.loop-at.at (omega arith) r) [
-      | inl e ↦ inl (e ∙ sym owner)
-      | inr rest ↦ inr (subst (Reaches c.args.index.now.nexts.items c.args.index.now.owners.items n) (sym next) rest)
-    ] in
+pub look-requires-clause-some : goal.look-requires-clause-some
+look-requires-clause-some c = (loose_entry c.loop-left.watch (length c.args.trail.now.marks.items) c.loop-left.at c.loop-left.left
+    c.loop-left.invariant.sized c.loop-left.invariant.laced.chained c.loop-left-test.true).room.nonzero
+
+pub returns-then-look-clause-conflict : goal.returns-then-look-clause-conflict
+returns-then-look-clause-conflict c _ = any_refuted c.args.trail.now.marks.items c.loop-left.trail.marks.items (c.args.first.now ++ c.args.second.now)
+    c.loop-left.invariant.tracing.growth (c.if-look.ensures.conflict refl)
+
+pub returns-then-look-clause-over : goal.returns-then-look-clause-over
+returns-then-look-clause-over c base b over = c.look.ensures.over base b (c.loop-left.invariant.tracing.over base b over)
+
+pub returns-then-look-clause-stays : goal.returns-then-look-clause-stays
+returns-then-look-clause-stays c base within safe = safe_same c.look.new.watch c.restore.new.self base (c.args.first.now ++ c.args.second.now) c.restore.ensures.literals
+    (subst (λ x. AreSafe x base (c.args.first.now ++ c.args.second.now)) (sym (c.if-look.ensures.same refl)) (c.loop-left.invariant.stays base within safe))
+
+pub link-requires-clause-room : goal.link-requires-clause-room
+link-requires-clause-room c = (loose_entry c.look.new.watch (length c.args.trail.now.marks.items) c.loop-left.at c.loop-left.left
+    (looked_sized c.args.trail.now c.loop-left.trail c.look.new.trail c.loop-left.watch c.look.new.watch (c.args.first.now ++ c.args.second.now)
+    c.loop-left.at c.loop-left.left (length c.args.trail.now.marks.items) c.loop-left.invariant.sized c.loop-left.invariant.tracing.growth.sized
+    c.loop-left.invariant.laced c.loop-left-test.true (c.if-look.ensures.look refl))
+    (looked_laced c.args.trail.now c.loop-left.trail c.look.new.trail c.loop-left.watch c.look.new.watch (c.args.first.now ++ c.args.second.now)
+    c.loop-left.at c.loop-left.left (length c.args.trail.now.marks.items) c.loop-left.invariant.sized c.loop-left.invariant.tracing.growth.sized
+    c.loop-left.invariant.laced c.loop-left-test.true (c.if-look.ensures.look refl)).chained c.loop-left-test.true).room
+
+pub link-requires-clause-count : goal.link-requires-clause-count
+link-requires-clause-count c = (loose_entry c.look.new.watch (length c.args.trail.now.marks.items) c.loop-left.at c.loop-left.left
+    (looked_sized c.args.trail.now c.loop-left.trail c.look.new.trail c.loop-left.watch c.look.new.watch (c.args.first.now ++ c.args.second.now)
+    c.loop-left.at c.loop-left.left (length c.args.trail.now.marks.items) c.loop-left.invariant.sized c.loop-left.invariant.tracing.growth.sized
+    c.loop-left.invariant.laced c.loop-left-test.true (c.if-look.ensures.look refl))
+    (looked_laced c.args.trail.now c.loop-left.trail c.look.new.trail c.loop-left.watch c.look.new.watch (c.args.first.now ++ c.args.second.now)
+    c.loop-left.at c.loop-left.left (length c.args.trail.now.marks.items) c.loop-left.invariant.sized c.loop-left.invariant.tracing.growth.sized
+    c.loop-left.invariant.laced c.loop-left-test.true (c.if-look.ensures.look refl)).chained c.loop-left-test.true).count
+
+pub loop-left-preserved : goal.loop-left-preserved
+loop-left-preserved c =
+    let loose : IsLoose c.loop-left.watch c.loop-left.at = loose_entry c.loop-left.watch (length c.args.trail.now.marks.items) c.loop-left.at c.loop-left.left
+    c.loop-left.invariant.sized c.loop-left.invariant.laced.chained c.loop-left-test.true in
+    let next : c.index-next.result.now ≡ slice_index_or c.loop-left.watch.nexts.items (c.loop-left.at - 1) 0 =
+    c.index-next.ensures ∙ get_or_default_zero c.loop-left.watch.nexts.items (c.loop-left.at - 1) c.index-next.result.now (omega (arith, loose.below, c.loop-left.invariant.sized.used)) in
     record {
-      running = visited c.args.trail.now c.loop-at.trail (c.args.first.now ++ c.args.second.now) c.args.trail.now.read c.index-owner.result.now
-          (λ n. Reaches c.args.index.now.nexts.items c.args.index.now.owners.items n c.loop-at.at)
-          (λ n. Reaches c.args.index.now.nexts.items c.args.index.now.owners.items n c.index-at.result.now)
-          c.loop-at.invariant.running lt split c.visit.new.trail
-          (room_at (length c.loop-at.trail.marks.items) (c.args.first.now ++ c.args.second.now) c.index-owner.result.now room lt
-          (subst (λ (x : List ℤ). HasNoZero x) c.literals_of.ensures.value c.literals_of.ensures.no_zero))
-          (subst (λ (x : List ℤ). IsVisit c.loop-at.trail c.visit.new.trail x) c.literals_of.ensures.value (c.if-visit.ensures.visit refl));
-      high = omega (arith, next, c.requires.indexed.nexts (c.loop-at.at - 1) (omega arith));
-      read = c.visit.ensures.read ∙ c.loop-at.invariant.read;
+      tracing = walked_tracing c.args.trail.now c.loop-left.trail c.look.new.trail c.loop-left.watch c.look.new.watch (c.args.first.now ++ c.args.second.now)
+          c.loop-left.at c.loop-left.left (length c.args.trail.now.marks.items) c.loop-left.invariant.sized c.loop-left.invariant.tracing.growth.sized
+          c.loop-left.invariant.laced c.loop-left-test.true (c.if-look.ensures.look refl) c.link.new.self c.link.ensures c.index-next.result.now next
+          c.args.trail.now.read c.loop-left.invariant.tracing;
+      laced = walked_laced c.args.trail.now c.loop-left.trail c.look.new.trail c.loop-left.watch c.look.new.watch (c.args.first.now ++ c.args.second.now)
+          c.loop-left.at c.loop-left.left (length c.args.trail.now.marks.items) c.loop-left.invariant.sized c.loop-left.invariant.tracing.growth.sized
+          c.loop-left.invariant.laced c.loop-left-test.true (c.if-look.ensures.look refl) c.link.new.self c.link.ensures c.index-next.result.now next;
+      sized = link_sized c.look.new.watch c.link.new.self (c.loop-left.at - 1) (length c.args.trail.now.marks.items)
+          (looked_sized c.args.trail.now c.loop-left.trail c.look.new.trail c.loop-left.watch c.look.new.watch (c.args.first.now ++ c.args.second.now)
+          c.loop-left.at c.loop-left.left (length c.args.trail.now.marks.items) c.loop-left.invariant.sized c.loop-left.invariant.tracing.growth.sized
+          c.loop-left.invariant.laced c.loop-left-test.true (c.if-look.ensures.look refl)) c.link.ensures;
+      stays = λ base within safe. walked_safe c.args.trail.now c.loop-left.trail c.look.new.trail c.loop-left.watch c.look.new.watch (c.args.first.now ++ c.args.second.now)
+          c.loop-left.at c.loop-left.left (length c.args.trail.now.marks.items) c.loop-left.invariant.sized c.loop-left.invariant.tracing.growth.sized
+          c.loop-left.invariant.laced c.loop-left-test.true (c.if-look.ensures.look refl) c.link.new.self c.link.ensures c.index-next.result.now next
+          base c.args.trail.now.read c.loop-left.invariant.tracing within (c.loop-left.invariant.stays base within safe);
+      read = c.look.ensures.read ∙ c.loop-left.invariant.read;
+      on = c.link.ensures.on ∙ looked_on c.args.trail.now c.loop-left.trail c.look.new.trail c.loop-left.watch c.look.new.watch (c.args.first.now ++ c.args.second.now)
+          c.loop-left.at c.loop-left.left (length c.args.trail.now.marks.items) c.loop-left.invariant.sized c.loop-left.invariant.tracing.growth.sized
+          c.loop-left.invariant.laced c.loop-left-test.true (c.if-look.ensures.look refl) ∙ c.loop-left.invariant.on;
     }
 
-pub returns-clause-running : goal.returns-clause-running
-returns-clause-running c _ = running_weaker c.args.trail.now c.loop-at.trail (c.args.first.now ++ c.args.second.now) c.args.trail.now.read
-    (λ n. Reaches c.args.index.now.nexts.items c.args.index.now.owners.items n c.loop-at.at) (λ _. ⊥)
-    (λ n r. let none : c.loop-at.at ≡ 0 = omega arith in reaches_none c.args.index.now.nexts.items c.args.index.now.owners.items n c.loop-at.at none r)
-    c.loop-at.invariant.running
+pub returns-clause-tracing : goal.returns-clause-tracing
+returns-clause-tracing c _ = tracing_walked c.args.trail.now c.loop-left.trail c.loop-left.watch (c.args.first.now ++ c.args.second.now) c.args.trail.now.read
+    c.loop-left.at c.loop-left.left c.loop-left.invariant.tracing c.loop-left.invariant.laced.chained (omega arith)
+
+pub returns-clause-laced : goal.returns-clause-laced
+returns-clause-laced c = laced_from c.loop-left.watch c.loop-left.watch (c.args.first.now ++ c.args.second.now) c.loop-left.at c.loop-left.left 0 0 c.loop-left.invariant.laced refl refl
+    (chained_end c.loop-left.watch c.loop-left.at c.loop-left.left (omega arith) c.loop-left.invariant.laced.chained)

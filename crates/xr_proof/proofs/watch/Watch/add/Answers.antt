@@ -1,0 +1,22 @@
+use Rattle.std.proofs.Common.{◌<◌, ◌+◌, length, refl, arith, subst, sym, ap}
+use Rattle.std.specs.Prelude.{pos}
+use Rattle.xr_proof.specs.Code.{HasRoom}
+use Rattle.xr_proof.specs.Look.{literal_at}
+use Rattle.xr_proof.specs.Watch.{HasSize, IsChained}
+use Rattle.xr_proof.proofs.Links.{stage_chained, staged_sized, staged_length}
+use Rattle.xr_proof.proofs.watch.Watch.add.Goals as goal
+
+pub restore-requires-clause-chained : goal.restore-requires-clause-chained
+restore-requires-clause-chained c =
+    let lt : c.args.self.now.used < length c.args.self.now.nexts.items = omega arith in
+    let s : HasSize c.stage-first.new.self (length c.args.self.now.heads.items) =
+    staged_sized c.args.self.now c.stage-first.new.self 0 (length c.args.self.now.heads.items) (literal_at c.args.literals.now c.args.j) c.requires.sized c.stage-first.ensures.staged lt in
+    let more : c.stage-first.new.self.used < length c.stage-first.new.self.nexts.items = omega (arith, staged_length c.args.self.now c.stage-first.new.self 0 (literal_at c.args.literals.now c.args.j) c.stage-first.ensures.staged) in
+    let first : IsChained c.stage-first.new.self (c.args.self.now.used + 1) 1 =
+    stage_chained c.args.self.now c.stage-first.new.self 0 0 0 (literal_at c.args.literals.now c.args.j) (c.requires.chained c.if-not-self.false) c.stage-first.ensures.staged
+    (omega (arith, lt, c.requires.sized.literals)) lt (c.requires.room c.args.j (pos 0) c.requires.j) refl in
+    let room : HasRoom (length c.stage-first.new.self.heads.items) (literal_at c.args.literals.now c.args.k) =
+    subst (λ n. HasRoom n (literal_at c.args.literals.now c.args.k)) (sym (ap length c.stage-first.ensures.staged.heads)) (c.requires.room c.args.k (pos 0) c.requires.k) in
+    subst (λ n. IsChained c.stage-second.new.self n 2) (sym c.stage-second.ensures.head)
+    (stage_chained c.stage-first.new.self c.stage-second.new.self (c.args.self.now.used + 1) c.stage-first.result 1 (literal_at c.args.literals.now c.args.k) first c.stage-second.ensures.staged
+    (omega (arith, more, s.literals)) more room c.stage-first.ensures.head)
