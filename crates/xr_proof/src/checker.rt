@@ -38,8 +38,8 @@ impl Model for Checker {
 }
 
 impl Checker {
-    /// A checker for variables 1 to `vars`, with no index: it looks through all clauses again at each step. Takes 68 bytes for
-    /// each variable.
+    /// A checker for variables 1 to `vars`, with no watches and no index: it looks through all clauses again at each step. Takes 100
+    /// bytes for each variable.
     pub fn new(alloc: Global, vars: u32) -> Result<Checker, Memory>
         requires { vars ≤ 2147483647 }
         ensures { IfOk result (λ checker. checker ≡ vars) }
@@ -47,9 +47,9 @@ impl Checker {
         Checker::with_room(alloc, vars, 0, 0)
     }
 
-    /// A checker for variables 1 to `vars`, with room for an index of so many clauses and literals, those of a formula and a log
-    /// together. Where they have more literals it goes on without the index. Takes 68 bytes for each variable, 16 for each
-    /// literal, and nothing for each clause.
+    /// A checker for variables 1 to `vars`, with room for watches of so many clauses and, for `check_fresh`, an index of so many
+    /// literals, those of a formula and a log together. Where they have more it goes on without. Takes 100 bytes for each variable,
+    /// 24 for each clause and 16 for each literal.
     pub fn with_room(
         alloc: Global,
         vars: u32,

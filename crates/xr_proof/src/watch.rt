@@ -7,6 +7,7 @@ ghost use Rattle.xr_proof.specs.Code.{HasRoom, code_of};
 ghost use Rattle.xr_proof.specs.Look.{literal_at};
 
 use crate::code::code;
+use crate::index::zero;
 use std::alloc::{AllocError, Global};
 
 /// For each code the first entry of its chain and the number of entries; for each entry the next one and the literal that it
@@ -210,13 +211,5 @@ impl Watch {
         self.nexts[entry] = self.heads[code];
         self.heads[code] = entry + 1;
         self.counts[code] += 1;
-    }
-}
-
-fn zero(numbers: &mut [usize])
-    ensures { (k : ℕ) → slice_index numbers.new k ≡ 0 }
-{
-    for number in numbers.iter_mut() {
-        *number = 0;
     }
 }

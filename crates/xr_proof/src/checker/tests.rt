@@ -1,4 +1,5 @@
-//! Logs that are taken and logs that are refused. Each is checked with no index, with one that ends on the way, and with one.
+//! Logs that are taken and logs that are refused. Each is checked with no watches and no index, with some that end on the way, with
+//! watches alone, and with both.
 
 ghost use Rattle.std.specs.Prelude.{◌≡◌, ◌≤◌, IfOk};
 ghost use Rattle.xr_proof.specs.Log.{Fit};
@@ -12,7 +13,8 @@ use std::process::Abort;
 use std::test::Fail;
 use xr_base::Items;
 
-const ROOMS: [usize; 3] = [0, 9, 1000];
+// of clauses and of literals
+const ROOMS: [(usize, usize); 4] = [(0, 0), (9, 9), (1000, 0), (1000, 1000)];
 
 /// The clauses of these numbers, each ended by 0.
 fn clauses(rt: &impl Abort, alloc: Global, numbers: &[i32]) -> Result<Vec<Clause>, AllocError>
@@ -35,12 +37,12 @@ fn clauses(rt: &impl Abort, alloc: Global, numbers: &[i32]) -> Result<Vec<Clause
 /// The line at which the log breaks the rules, 0 if it refutes.
 fn refuting(
     rt: &(impl Abort + AllocGlobal),
-    room: usize,
+    room: (usize, usize),
     query: &[i32],
     log: &[i32],
 ) -> Result<usize, Fail> {
     let alloc = rt.alloc();
-    let mut checker = Checker::with_room(alloc, 12, room, room)?;
+    let mut checker = Checker::with_room(alloc, 12, room.0, room.1)?;
     let cnf = Cnf {
         vars: 12,
         clauses: Items::from_vec(clauses(rt, alloc, query)?),
@@ -58,13 +60,13 @@ fn refuting(
 /// The line at which the log breaks the rules, 0 if it is fresh and has as many clauses.
 fn fresh(
     rt: &(impl Abort + AllocGlobal),
-    room: usize,
+    room: (usize, usize),
     query: &[i32],
     log: &[i32],
     limit: u32,
 ) -> Result<usize, Fail> {
     let alloc = rt.alloc();
-    let mut checker = Checker::with_room(alloc, 12, room, room)?;
+    let mut checker = Checker::with_room(alloc, 12, room.0, room.1)?;
     let cnf = Cnf {
         vars: 12,
         clauses: Items::from_vec(clauses(rt, alloc, query)?),
@@ -234,13 +236,13 @@ fn drawn(alloc: Global, seed: u32, length: u32) -> Result<Vec<i32>, AllocError> 
 }
 
 #[test]
-fn an_index_changes_no_answer(rt: HostRuntime) -> Result<(), Fail> {
+fn room_changes_no_answer(rt: HostRuntime) -> Result<(), Fail> {
     let alloc = rt.alloc();
     for seed in 0..200u32 {
         let query = drawn(alloc, seed, 16)?;
         let log = drawn(alloc, seed.wrapping_mul(7919), 8)?;
-        let plain = refuting(&rt, 0, query.as_slice(), log.as_slice())?;
-        let plain_fresh = fresh(&rt, 0, query.as_slice(), log.as_slice(), 1)?;
+        let plain = refuting(&rt, (0, 0), query.as_slice(), log.as_slice())?;
+        let plain_fresh = fresh(&rt, (0, 0), query.as_slice(), log.as_slice(), 1)?;
         for room in ROOMS {
             assert_eq!(rt;
                 refuting(&rt, room, query.as_slice(), log.as_slice())?,
