@@ -9,6 +9,7 @@ use crate::index::Index;
 use crate::lines::{bad_line, stale_line};
 use crate::token::{Bad, Exhausted, Refuted};
 use crate::trail::Trail;
+use crate::watch::Watch;
 use std::alloc::Global;
 use std::marker::Model;
 use xr_base::Memory;
@@ -19,6 +20,7 @@ pub struct Checker {
     vars: u32,
     trail: Trail,
     seen: Trail,
+    watch: Watch,
     index: Index,
 }
 
@@ -26,17 +28,18 @@ impl Model for Checker {
     ghost use Rattle.std.specs.Prelude.{◌≤◌, ◌+◌, ◌*◌, ℕ};
     ghost use Rattle.xr_proof.specs.Index.{IsSized};
     ghost use Rattle.xr_proof.specs.Lines.{HasVars};
+    ghost use Rattle.xr_proof.specs.Watch.{HasSize};
 
     ghost Value = { ℕ };
 
     ghost view = { λ checker. checker.vars };
 
-    ghost invariant = { λ checker. (checker.vars ≤ 2147483647) × HasVars checker.trail checker.vars × HasVars checker.seen checker.vars × IsSized checker.index (2 * checker.vars + 2) };
+    ghost invariant = { λ checker. (checker.vars ≤ 2147483647) × HasVars checker.trail checker.vars × HasVars checker.seen checker.vars × HasSize checker.watch (2 * checker.vars + 2) × IsSized checker.index (2 * checker.vars + 2) };
 }
 
 impl Checker {
-    /// A checker for variables 1 to `vars`, with no index: it looks through all clauses again at each step. Takes 68 bytes for
-    /// each variable.
+    /// A checker for variables 1 to `vars`, with no watches and no index: it looks through all clauses again at each step. Takes 100
+    /// bytes for each variable.
     pub fn new(alloc: Global, vars: u32) -> Result<Checker, Memory>
         requires { vars ≤ 2147483647 }
         ensures { IfOk result (λ checker. checker ≡ vars) }
@@ -44,13 +47,13 @@ impl Checker {
         Checker::with_room(alloc, vars, 0, 0)
     }
 
-    /// A checker for variables 1 to `vars`, with room for an index of so many clauses and literals, those of a formula and a log
-    /// together. Where they have more literals it goes on without the index. Takes 68 bytes for each variable, 16 for each
-    /// literal, and nothing for each clause.
+    /// A checker for variables 1 to `vars`, with room for watches of so many clauses and, for `check_fresh`, an index of so many
+    /// literals, those of a formula and a log together. Where they have more it goes on without. Takes 100 bytes for each variable,
+    /// 24 for each clause and 16 for each literal.
     pub fn with_room(
         alloc: Global,
         vars: u32,
-        _clauses: usize,
+        clauses: usize,
         literals: usize,
     ) -> Result<Checker, Memory>
         requires { vars ≤ 2147483647 }
@@ -59,11 +62,13 @@ impl Checker {
         let codes = 2 * (vars as usize) + 2;
         let trail = Trail::new(alloc, codes)?;
         let seen = Trail::new(alloc, codes)?;
+        let watch = Watch::new(alloc, codes, clauses)?;
         let index = Index::new(alloc, codes, literals)?;
         Ok(Checker {
             vars,
             trail,
             seen,
+            watch,
             index,
         })
     }
@@ -85,10 +90,10 @@ impl Checker {
         ensures kept { self.new ≡ self.old }
     {
         self.trail.clear();
-        self.index.clear();
+        self.watch.clear();
         if let Some(line) = bad_line(
             &mut self.trail,
-            &mut self.index,
+            &mut self.watch,
             cnf.clauses.as_slice(),
             log.as_slice(),
         ) {
@@ -114,10 +119,12 @@ impl Checker {
     {
         self.trail.clear();
         self.seen.clear();
+        self.watch.clear();
         self.index.clear();
         if let Some(line) = stale_line(
             &mut self.trail,
             &mut self.seen,
+            &mut self.watch,
             &mut self.index,
             cnf.clauses.as_slice(),
             log.as_slice(),
