@@ -304,7 +304,7 @@ fn recording_cut_short(rt: HostRuntime) -> Result<(), Fail> {
 /// The time of each moment, with the bits of the first variable.
 fn bits_by_time(rt: &(impl Abort + AllocGlobal), recording: &Recording) -> Result<String, Fail> {
     let mut found = String::new(rt.alloc());
-    for (moment, time) in times(recording).iter().enumerate() {
+    for (moment, time) in recording.times().iter().enumerate() {
         let bits = letters(rt, recording, 0, moment as u32)?;
         write!(found, "{time}:{bits} ")?;
     }

@@ -39,7 +39,7 @@ fn history(
     variable: u32,
 ) -> Result<String, Fail> {
     let mut history = String::new(rt.alloc());
-    for moment in 0..times(recording).len() as u32 {
+    for moment in 0..recording.times().len() as u32 {
         let bits = letters(rt, recording, variable, moment)?;
         write!(history, "{bits} ")?;
     }
@@ -51,20 +51,23 @@ fn expect_histories(
     rt: &(impl Abort + AllocGlobal),
     recording: &Recording,
     from: u32,
-    rows: &[&str],
+    rows: &[&'static str],
 ) -> Result<(), Fail> {
-    for (variable, want) in rows.iter().enumerate() {
-        let found = history(rt, recording, from.wrapping_add(variable as u32))?;
-        assert_eq!(rt; found.as_str(), *want, "variable {variable} from {from}");
+    let mut variable = from;
+    for want in rows {
+        let found = history(rt, recording, variable)?;
+        assert_eq!(rt; found.as_str(), *want, "variable {variable}");
+        variable = variable.wrapping_add(1);
     }
     Ok(())
 }
 
-/// The name of a scope, and its parent.
-fn scope<'a>(rt: &impl Abort, recording: &'a Recording, number: u32) -> (&'a [u8], u32) {
+/// Looks at the name of a scope and at its parent.
+fn expect_scope(rt: &impl Abort, recording: &Recording, number: u32, name: &[u8], parent: u32) {
     let scopes = recording.scope_count();
     assert!(rt; 0 < number && (number as usize) < scopes);
-    (recording.scope_name(number), recording.scope_parent(number))
+    assert_eq!(rt; recording.scope_name(number), name);
+    assert_eq!(rt; recording.scope_parent(number), parent);
 }
 
 /// The timescale.
@@ -90,8 +93,8 @@ fn written_by_icarus_and_gtkwave(rt: HostRuntime) -> Result<(), Fail> {
         assert_eq!(rt; times(&recording), [0, 500, 1000, 1500, 2000].as_slice());
         assert_eq!(rt; variable_count(&recording), rows.len());
         expect_histories(&rt, &recording, 0, rows.as_slice())?;
-        assert_eq!(rt; scope(&rt, &recording, 1), (b"tb".as_slice(), 0));
-        assert_eq!(rt; scope(&rt, &recording, 2), (b"u".as_slice(), 1));
+        expect_scope(&rt, &recording, 1, b"tb", 0);
+        expect_scope(&rt, &recording, 2, b"u", 1);
     }
     Ok(())
 }

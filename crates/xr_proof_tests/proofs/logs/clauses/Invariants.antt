@@ -3,7 +3,7 @@ use Rattle.std.proofs.Common.{◌≤◌, nat_abs}
 use Rattle.std.specs.List.{All}
 use Rattle.xr_proof.specs.Assignment.{HasNoZero}
 use Rattle.xr_proof.specs.Log.{Fit}
-use Rattle.xr_proof.proofs.checker.tests.clauses.Given as goal
+use Rattle.xr_proof_tests.proofs.logs.clauses.Given as goal
 
 abbrev pub invariant-loop-k : goal.invariant-loop-k
 invariant-loop-k g l = record {

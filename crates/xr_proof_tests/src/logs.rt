@@ -4,14 +4,12 @@
 ghost use Rattle.std.specs.Prelude.{◌≡◌, ◌≤◌, IfOk};
 ghost use Rattle.xr_proof.specs.Log.{Fit};
 
-use super::*;
-use crate::clause::Clause;
-use crate::model::Model;
-use std::alloc::AllocError;
+use std::alloc::{AllocError, Global};
 use std::mem;
 use std::process::Abort;
 use std::test::Fail;
 use xr_base::Items;
+use xr_proof::{Bad, Checker, Clause, Cnf, Exhausted, Log, Model, Refuted};
 
 // of clauses and of literals
 const ROOMS: [(usize, usize); 4] = [(0, 0), (9, 9), (1000, 0), (1000, 1000)];
