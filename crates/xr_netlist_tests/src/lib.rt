@@ -12,6 +12,8 @@ mod productions;
 #[cfg(test)]
 mod refusals;
 #[cfg(test)]
+mod texts;
+#[cfg(test)]
 mod trees;
 #[cfg(test)]
 mod words;

@@ -1,5 +1,6 @@
 //! What no call over whole files shows of a shelf in memory.
 
+use crate::files::expect_read;
 use std::alloc::Global;
 use std::test::Fail;
 use xr_shelf::{IoErr, MemShelf, Shelf};
@@ -87,6 +88,7 @@ fn put_replaces(rt: HostRuntime) -> Result<(), Fail> {
         assert!(rt; holds(&shelf, name, text), "{name} as {text}");
     }
     assert!(rt; holds(&shelf, "a", "two"));
-    assert!(rt; holds(&shelf, "b", "three"));
+    let want = (Ok("three".as_bytes()), 0);
+    expect_read(&rt, rt.alloc(), &mut shelf, ("b", 5), want);
     Ok(())
 }

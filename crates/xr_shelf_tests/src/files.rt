@@ -21,10 +21,10 @@ fn shelf_of(alloc: Global, piece: usize, text: &[u8], call: u64) -> Result<MemSh
 }
 
 /// What a read of a file gave, in short: its text, or the refusal.
-type Got<'a> = Result<&'a [u8], ReadErr>;
+pub(crate) type Got<'a> = Result<&'a [u8], ReadErr>;
 
-/// Looks at what a read of a file of the shelf gives, and at the counts of faults.
-fn expect_read(
+/// Looks at what a read of a file of the shelf gives, and at the counts of faults, of writing none.
+pub(crate) fn expect_read(
     rt: &impl Abort,
     alloc: Global,
     shelf: &mut MemShelf,
@@ -37,8 +37,9 @@ fn expect_read(
         Ok(text) => Ok(text.as_slice()),
         Err(refusal) => Err(*refusal),
     };
-    let faults = shelf.read_faults();
-    assert_eq!(rt; (got, faults), want, "{file:?}");
+    let (answer, faults) = want;
+    let left = (got, shelf.read_faults(), shelf.write_faults());
+    assert_eq!(rt; left, (answer, faults, 0), "{file:?}");
 }
 
 #[test]
@@ -91,7 +92,7 @@ fn each_call_of_a_read_fails(rt: HostRuntime) -> Result<(), Fail> {
     Ok(())
 }
 
-/// Looks at what a write of a file gives, at what the file then holds, and at the count of faults.
+/// Looks at what a write of a file gives, at what the file then holds, and at the counts of faults, of reading none.
 fn expect_written(
     rt: &impl Abort,
     shelf: &mut MemShelf,
@@ -101,8 +102,13 @@ fn expect_written(
     let (name, text) = file;
     let got = write_all(shelf, name, text.as_bytes());
     let (answer, held, faults) = want;
-    let left = (got, shelf.get(name), shelf.write_faults());
-    assert_eq!(rt; left, (answer, Some(held.as_bytes()), faults), "{file:?}");
+    let counts = (shelf.read_faults(), shelf.write_faults());
+    let left = (got, shelf.get(name), counts);
+    assert_eq!(rt;
+        left,
+        (answer, Some(held.as_bytes()), (0, faults)),
+        "{file:?}"
+    );
 }
 
 #[test]
