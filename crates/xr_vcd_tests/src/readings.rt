@@ -415,6 +415,7 @@ fn cursor_goes_forth_and_back(rt: HostRuntime) -> Result<(), Fail> {
             "{moment}"
         );
     }
+    assert_eq!(rt; variable_count(&recording), 1);
     assert_eq!(rt; first_changes(&rt, &recording), 4);
     Ok(())
 }

@@ -70,6 +70,11 @@ fn expect_scope(rt: &impl Abort, recording: &Recording, number: u32, name: &[u8]
     assert_eq!(rt; recording.scope_parent(number), parent);
 }
 
+/// How many scopes there are, with the empty path.
+fn scope_count(recording: &Recording) -> usize {
+    recording.scope_count()
+}
+
 /// The timescale.
 fn timescale(recording: &Recording) -> Option<&[u8]> {
     recording.timescale()
@@ -93,6 +98,7 @@ fn written_by_icarus_and_gtkwave(rt: HostRuntime) -> Result<(), Fail> {
         assert_eq!(rt; times(&recording), [0, 500, 1000, 1500, 2000].as_slice());
         assert_eq!(rt; variable_count(&recording), rows.len());
         expect_histories(&rt, &recording, 0, rows.as_slice())?;
+        assert_eq!(rt; scope_count(&recording), 3);
         expect_scope(&rt, &recording, 1, b"tb", 0);
         expect_scope(&rt, &recording, 2, b"u", 1);
     }
