@@ -4,7 +4,7 @@ use Rattle.std.specs.Prelude.{◌⊎◌}
 use Rattle.xr_shelf.specs.Shelf.{View, held}
 use Rattle.xr_shelf.specs.Sink.{SinkView}
 use Rattle.xr_design.specs.declared.design.Design.{Design}
-use Rattle.xr_grammar.specs.declared.refusal.ParseErr.{ParseErr}
+use Rattle.xr_netlist_grammar.specs.declared.refusal.ParseErr.{ParseErr}
 use Rattle.xr_vcd.specs.declared.refusal.VcdErr.{VcdErr}
 use Rattle.xr_vcd.specs.Recording.{Recording as Said}
 use Rattle.xr_cli.specs.Words.{Words, IsRepair, line_of_words, pieces_of}

@@ -4,10 +4,10 @@ use Rattle.std.specs.Prelude.{bytes_eq, not, ◌||◌, ◌&&◌, ◌==◌, nat_l
 use Rattle.std.proofs.lemmas.Bool.{and_parts}
 use Rattle.xr_design.specs.declared.design.Design.{Design}
 use Rattle.xr_design.specs.declared.design.Net.{Net}
-use Rattle.xr_grammar.specs.declared.tree.Declare.{Declare}
-use Rattle.xr_grammar.specs.declared.tree.Module.{Module}
-use Rattle.xr_grammar.specs.declared.tree.Source.{Source}
-use Rattle.xr_grammar.specs.declared.tree.Word.{Word}
+use Rattle.xr_netlist_grammar.specs.declared.tree.Declare.{Declare}
+use Rattle.xr_netlist_grammar.specs.declared.tree.Module.{Module}
+use Rattle.xr_netlist_grammar.specs.declared.tree.Source.{Source}
+use Rattle.xr_netlist_grammar.specs.declared.tree.Word.{Word}
 use Rattle.xr_flat.specs.Netlist.{FlatGate, has, are_distinct, declared, declares_of, gates_of, are_plain, are_directed, are_driven, declared_as, is_input, is_flat_module, are_flat, is_flat}
 use Rattle.xr_flat.specs.Design.{net_of, module_design, first_design, design_of}
 use Rattle.std.specs.Cmp.Lexicographic.{bytes_decides}

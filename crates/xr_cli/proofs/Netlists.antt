@@ -2,12 +2,12 @@
 use Rattle.std.proofs.Common.{◌≡◌, ◌≢◌, List, ℕ, false, None, refl}
 use Rattle.xr_text.specs.Left.{Left}
 use Rattle.xr_text.specs.Tokens.{Tokens}
-use Rattle.xr_grammar.specs.Lexemes.{words_of}
-use Rattle.xr_grammar.specs.Text.{Text}
-use Rattle.xr_grammar.specs.Refusal.{RefusesFirst}
-use Rattle.xr_grammar.specs.declared.refusal.ParseErr.{ParseErr}
-use Rattle.xr_grammar.specs.declared.refusal.ParseErr.TheVariants.{Lex, Unexpected, OutOfProfile, Memory}
-use Rattle.xr_grammar.specs.declared.tree.Source.{Source}
+use Rattle.xr_netlist_grammar.specs.Lexemes.{words_of}
+use Rattle.xr_netlist_grammar.specs.Text.{Text}
+use Rattle.xr_netlist_grammar.specs.Refusal.{RefusesFirst}
+use Rattle.xr_netlist_grammar.specs.declared.refusal.ParseErr.{ParseErr}
+use Rattle.xr_netlist_grammar.specs.declared.refusal.ParseErr.TheVariants.{Lex, Unexpected, OutOfProfile, Memory}
+use Rattle.xr_netlist_grammar.specs.declared.tree.Source.{Source}
 use Rattle.xr_flat.specs.Netlist.{is_flat}
 use Rattle.xr_flat.specs.declared.refusal.FlatErr.{FlatErr}
 use Rattle.xr_flat.specs.declared.refusal.FlatErr.TheVariants.{NotFlat, Memory as FlatMemory}

@@ -5,14 +5,14 @@ use Rattle.xr_text.specs.Left.{Left}
 use Rattle.xr_text.specs.Tokens.{Tokens}
 use Rattle.xr_text.specs.declared.token.LexErr.{LexErr}
 use Rattle.xr_text.proofs.Told.{left_follows}
-use Rattle.xr_grammar.specs.Lexemes.{Tok, ending, stop_of, words_of}
-use Rattle.xr_grammar.specs.Machine.{State as at, run}
-use Rattle.xr_grammar.specs.Refusal.{MayNotFollow, RefusesFirst}
-use Rattle.xr_grammar.specs.Text.{Text}
-use Rattle.xr_grammar.specs.declared.refusal.ParseErr.{ParseErr}
-use Rattle.xr_grammar.specs.declared.tree.Source.{Source}
-use Rattle.xr_grammar.specs.Trees.{nothing}
-use Rattle.xr_grammar.proofs.Follows.{is_read}
+use Rattle.xr_netlist_grammar.specs.Lexemes.{Tok, ending, stop_of, words_of}
+use Rattle.xr_netlist_grammar.specs.Machine.{State as at, run}
+use Rattle.xr_netlist_grammar.specs.Refusal.{MayNotFollow, RefusesFirst}
+use Rattle.xr_netlist_grammar.specs.Text.{Text}
+use Rattle.xr_netlist_grammar.specs.declared.refusal.ParseErr.{ParseErr}
+use Rattle.xr_netlist_grammar.specs.declared.tree.Source.{Source}
+use Rattle.xr_netlist_grammar.specs.Trees.{nothing}
+use Rattle.xr_netlist_grammar.proofs.Follows.{is_read}
 use Rattle.xr_design.specs.declared.design.Design.{Design}
 use Rattle.xr_flat.specs.Netlist.{is_flat}
 use Rattle.xr_flat.specs.Design.{design_of}

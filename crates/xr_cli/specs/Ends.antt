@@ -2,7 +2,7 @@
 use Rattle.std.specs.Prelude.{◌≡◌, ◌≢◌, ◌⊎◌, ℕ, ◌≤◌, List, [], ◌++◌, Result, Ok, Err, IsTrue, Bool}
 use Rattle.xr_shelf.specs.Shelf.{View, Rose, Prefix, held}
 use Rattle.xr_shelf.specs.Sink.{SinkView}
-use Rattle.xr_grammar.specs.declared.refusal.ParseErr.{ParseErr}
+use Rattle.xr_netlist_grammar.specs.declared.refusal.ParseErr.{ParseErr}
 use Rattle.xr_vcd.specs.declared.refusal.VcdErr.{VcdErr}
 use Rattle.xr_cli.specs.Words.{Words, IsRepair, NotInSet}
 use Rattle.xr_cli.specs.Phases.{netlist_held, IsFaultyNetlist, IsFaultyRecording, IsNotBuilt}

@@ -2,11 +2,11 @@
 use Rattle.std.specs.Prelude.{◌≡◌, ℕ, List, IsTrue, false, None}
 use Rattle.xr_text.specs.Left.{Left}
 use Rattle.xr_text.specs.Tokens.{Tokens}
-use Rattle.xr_grammar.specs.Lexemes.{words_of}
-use Rattle.xr_grammar.specs.Text.{Text}
-use Rattle.xr_grammar.specs.Refusal.{RefusesFirst}
-use Rattle.xr_grammar.specs.declared.refusal.ParseErr.{ParseErr}
-use Rattle.xr_grammar.specs.declared.tree.Source.{Source}
+use Rattle.xr_netlist_grammar.specs.Lexemes.{words_of}
+use Rattle.xr_netlist_grammar.specs.Text.{Text}
+use Rattle.xr_netlist_grammar.specs.Refusal.{RefusesFirst}
+use Rattle.xr_netlist_grammar.specs.declared.refusal.ParseErr.{ParseErr}
+use Rattle.xr_netlist_grammar.specs.declared.tree.Source.{Source}
 use Rattle.xr_design.specs.declared.design.Design.{Design}
 use Rattle.xr_flat.specs.Netlist.{is_flat}
 use Rattle.xr_flat.specs.Design.{design_of}

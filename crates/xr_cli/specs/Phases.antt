@@ -11,7 +11,7 @@ use Rattle.xr_design.specs.declared.design.Design.{Design}
 use Rattle.xr_cli.specs.Repair.{Decided, Disagrees, HasManyChoices}
 use Rattle.xr_cli.specs.declared.bit.Bit.{Bit}
 use Rattle.xr_cli.specs.declared.recording.Recording.{Recording as Said}
-use Rattle.xr_grammar.specs.declared.refusal.ParseErr.{ParseErr}
+use Rattle.xr_netlist_grammar.specs.declared.refusal.ParseErr.{ParseErr}
 use Rattle.xr_vcd.specs.Faults.{FirstFault}
 use Rattle.xr_vcd.specs.declared.refusal.VcdErr.{VcdErr}
 use Rattle.xr_cli.specs.NetlistText.{IsNetlist, IsNetlistFault, IsNoFlatNetlist}

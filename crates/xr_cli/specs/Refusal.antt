@@ -3,8 +3,8 @@ use Rattle.std.specs.Prelude.{ℕ, List, [], ◌∷◌, ◌++◌, codes, decimal
 use Rattle.xr_text.specs.Left.{place_of}
 use Rattle.xr_text.specs.declared.token.LexErr.{LexErr}
 use Rattle.xr_text.specs.declared.token.LexErr.TheVariants.{BadByte, OpenComment, OpenText, Directive}
-use Rattle.xr_grammar.specs.declared.refusal.ParseErr.{ParseErr}
-use Rattle.xr_grammar.specs.declared.refusal.ParseErr.TheVariants.{Lex, Unexpected, OutOfProfile, Memory as NetlistMemory}
+use Rattle.xr_netlist_grammar.specs.declared.refusal.ParseErr.{ParseErr}
+use Rattle.xr_netlist_grammar.specs.declared.refusal.ParseErr.TheVariants.{Lex, Unexpected, OutOfProfile, Memory as NetlistMemory}
 use Rattle.xr_vcd.specs.declared.refusal.VcdErr.{VcdErr}
 use Rattle.xr_vcd.specs.declared.refusal.VcdErr.TheVariants.{Syntax, UnknownCode, TimeBack, Width, DumpOff, Truncated, Memory as RecordingMemory}
 use Rattle.xr_flat.specs.declared.refusal.FlatErr.{FlatErr}

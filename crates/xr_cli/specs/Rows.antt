@@ -7,7 +7,7 @@ use Rattle.xr_cell.specs.declared.value.Value.{Value}
 use Rattle.xr_cli.specs.Words.{Words, IsRepair, NotInSet}
 use Rattle.xr_cli.specs.Phases.{IsInput, Repaired, Differing, IsFaultyNetlist, IsFaultyRecording, IsNotBuilt, netlist_held, report_name}
 use Rattle.xr_cli.specs.Refusal.{Cause, UsageCause, ReadCause, WriteCause, NetlistCause, RecordingCause, DisagreesCause, NotBuiltCause, MemoryCause, cause_of, text_of, usage_text, read_text, write_text, netlist_text, recording_text, disagrees_text, not_built_text, memory_text}
-use Rattle.xr_grammar.specs.declared.refusal.ParseErr.{ParseErr}
+use Rattle.xr_netlist_grammar.specs.declared.refusal.ParseErr.{ParseErr}
 use Rattle.xr_vcd.specs.declared.refusal.VcdErr.{VcdErr}
 use Rattle.xr_cli.specs.declared.refusal.Refusal.{Refusal}
 

@@ -7,7 +7,7 @@ ghost use Rattle.xr_cli.specs.Refusal.{text_of, netlist_text, recording_text, fa
 use crate::refusal::Refusal;
 use std::alloc::{AllocError, Global};
 use xr_cell::Value;
-use xr_grammar::ParseErr;
+use xr_netlist_grammar::ParseErr;
 use xr_text::LexErr;
 use xr_vcd::VcdErr;
 

@@ -9,7 +9,7 @@ use xr_base::Memory;
 use xr_cell::Value;
 use xr_design::Bytes;
 use xr_flat::FlatErr;
-use xr_grammar::ParseErr;
+use xr_netlist_grammar::ParseErr;
 use xr_vcd::VcdErr;
 
 /// Why a run is refused.

@@ -6,11 +6,11 @@ use Rattle.std.proofs.lemmas.Bool.{cases_Bool, and_parts, not-true, false_from_n
 use Rattle.std.proofs.lemmas.List.{length-map}
 use Rattle.xr_design.specs.declared.design.Driver.{Driver}
 use Rattle.xr_design.specs.declared.design.Driver.TheVariants.{Input, Undriven, Constant, Copy, Cell}
-use Rattle.xr_grammar.specs.declared.tree.Declare.{Declare}
-use Rattle.xr_grammar.specs.declared.tree.NetKind.{NetKind}
-use Rattle.xr_grammar.specs.declared.tree.GateItem.{GateItem}
-use Rattle.xr_grammar.specs.declared.tree.Item.{Item}
-use Rattle.xr_grammar.specs.declared.tree.Item.TheVariants as item
+use Rattle.xr_netlist_grammar.specs.declared.tree.Declare.{Declare}
+use Rattle.xr_netlist_grammar.specs.declared.tree.NetKind.{NetKind}
+use Rattle.xr_netlist_grammar.specs.declared.tree.GateItem.{GateItem}
+use Rattle.xr_netlist_grammar.specs.declared.tree.Item.{Item}
+use Rattle.xr_netlist_grammar.specs.declared.tree.Item.TheVariants as item
 use Rattle.xr_flat.specs.Netlist.{FlatGate, has, are_distinct, are_driven, are_gates, declared, declared_as, flat_gate, gates_of, is_input}
 use Rattle.xr_flat.specs.Design.{number_of, cell_of, gate_driver, driver_of}
 use Rattle.xr_flat.specs.Steps.{drives, first_driver, is_driven, run}

@@ -2,10 +2,10 @@
 use Rattle.std.proofs.Common.{◌≡◌, ℕ, suc, ◌+◌, Bool, true, false, true≢false, cond, ◌&&◌, List, [], ◌∷◌, ◌++◌, length, take, drop, is_some, refl, sym, ◌∙◌, ap, arith, append-nil, take-append-drop}
 use Rattle.std.specs.Prelude.{nat_le}
 use Rattle.std.specs.List.{prefix_len}
-use Rattle.xr_grammar.specs.declared.tree.Declare.{Declare}
-use Rattle.xr_grammar.specs.declared.tree.Module.{Module}
-use Rattle.xr_grammar.specs.declared.tree.Item.{Item}
-use Rattle.xr_grammar.specs.declared.tree.Item.TheVariants as item
+use Rattle.xr_netlist_grammar.specs.declared.tree.Declare.{Declare}
+use Rattle.xr_netlist_grammar.specs.declared.tree.Module.{Module}
+use Rattle.xr_netlist_grammar.specs.declared.tree.Item.{Item}
+use Rattle.xr_netlist_grammar.specs.declared.tree.Item.TheVariants as item
 use Rattle.xr_flat.specs.Netlist.{FlatGate, are_directed, are_distinct, are_driven, are_gates, are_plain, declared, declared_as, declares_of, flat_gate, gates_of, is_flat_module, is_input, is_plain_declare}
 use Rattle.xr_flat.specs.Steps.{behind_front, front, is_plain_item, words}
 

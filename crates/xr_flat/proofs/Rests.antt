@@ -1,10 +1,10 @@
 -- What is left of a list, one step on.
 use Rattle.std.proofs.Common.{◌≡◌, ℕ, suc, ◌+◌, ◌<◌, Bool, true, List, ◌∷◌, length, drop, get_or, sym, ◌∙◌, ap, add-one, drop-cons}
-use Rattle.xr_grammar.specs.declared.tree.Word.{Word}
-use Rattle.xr_grammar.specs.declared.tree.Declare.{Declare}
-use Rattle.xr_grammar.specs.declared.tree.NetKind.{NetKind}
-use Rattle.xr_grammar.specs.declared.tree.Item.{Item}
-use Rattle.xr_grammar.specs.declared.tree.Item.TheVariants as item
+use Rattle.xr_netlist_grammar.specs.declared.tree.Word.{Word}
+use Rattle.xr_netlist_grammar.specs.declared.tree.Declare.{Declare}
+use Rattle.xr_netlist_grammar.specs.declared.tree.NetKind.{NetKind}
+use Rattle.xr_netlist_grammar.specs.declared.tree.Item.{Item}
+use Rattle.xr_netlist_grammar.specs.declared.tree.Item.TheVariants as item
 use Rattle.xr_flat.specs.Netlist.{declared, declared_as, declares_of}
 use Rattle.xr_flat.specs.Steps.{words}
 

@@ -14,12 +14,12 @@ use Rattle.xr_design.specs.declared.design.Table.TheVariants.{Gate as GateTable}
 use Rattle.xr_design.specs.declared.design.Net.{Net}
 use Rattle.xr_design.specs.declared.design.Pin.{Pin}
 use Rattle.xr_design.specs.declared.design.Pin.TheVariants.{Net as NetPin}
-use Rattle.xr_grammar.specs.declared.tree.Expr.{Expr}
-use Rattle.xr_grammar.specs.declared.tree.GateKind.{GateKind}
-use Rattle.xr_grammar.specs.declared.tree.GateKind.TheVariants.{Logic, Pullup, Pulldown}
-use Rattle.xr_grammar.specs.declared.tree.GateItem.{GateItem}
-use Rattle.xr_grammar.specs.declared.tree.Item.{Item}
-use Rattle.xr_grammar.specs.declared.tree.Item.TheVariants as item
+use Rattle.xr_netlist_grammar.specs.declared.tree.Expr.{Expr}
+use Rattle.xr_netlist_grammar.specs.declared.tree.GateKind.{GateKind}
+use Rattle.xr_netlist_grammar.specs.declared.tree.GateKind.TheVariants.{Logic, Pullup, Pulldown}
+use Rattle.xr_netlist_grammar.specs.declared.tree.GateItem.{GateItem}
+use Rattle.xr_netlist_grammar.specs.declared.tree.Item.{Item}
+use Rattle.xr_netlist_grammar.specs.declared.tree.Item.TheVariants as item
 use Rattle.xr_flat.specs.Netlist.{FlatGate, has, flat_gate, gate_of_kind, gate_with, inputs_of, name_of_parts, names_of, put_name}
 use Rattle.xr_flat.specs.Design.{number_of, cell_of}
 use Rattle.xr_flat.specs.Steps.{IsOrdered, StandsBefore, drivers_of, paths_of, run, drives, is_driven, if_driven, if_free, number_at, number_if, pins_of, put_pin, step, step_kind, step_terminals, with_cell}

@@ -6,9 +6,9 @@ use Rattle.xr_design.specs.declared.design.Design.{Design}
 use Rattle.xr_design.specs.declared.design.Driver.{Driver}
 use Rattle.xr_design.specs.declared.design.Net.{Net}
 use Rattle.xr_design.specs.declared.name.Name.{Name}
-use Rattle.xr_grammar.specs.declared.tree.Declare.{Declare}
-use Rattle.xr_grammar.specs.declared.tree.Module.{Module}
-use Rattle.xr_grammar.specs.declared.tree.Item.{Item}
+use Rattle.xr_netlist_grammar.specs.declared.tree.Declare.{Declare}
+use Rattle.xr_netlist_grammar.specs.declared.tree.Module.{Module}
+use Rattle.xr_netlist_grammar.specs.declared.tree.Item.{Item}
 use Rattle.xr_flat.specs.Netlist.{FlatGate, are_directed, are_distinct, are_driven, are_gates, declared, declared_as, declares_of, gates_of, is_directed, is_flat_module, is_input}
 use Rattle.xr_flat.specs.Design.{driver_of, module_design, name_of, net_of}
 use Rattle.xr_flat.specs.Steps.{behind_front, front, drivers_of, first_driver, first_net, is_driven, paths_of, run, words}

@@ -10,10 +10,10 @@ use Rattle.xr_design.specs.declared.design.Driver.TheVariants.{Input, Undriven, 
 use Rattle.xr_design.specs.declared.design.Table.TheVariants.{Gate as GateTable}
 use Rattle.xr_design.specs.declared.design.Pin.TheVariants.{Net as NetPin}
 use Rattle.xr_design.specs.declared.name.Name.{Name}
-use Rattle.xr_grammar.specs.declared.tree.Word.{Word}
-use Rattle.xr_grammar.specs.declared.tree.Declare.{Declare}
-use Rattle.xr_grammar.specs.declared.tree.Module.{Module}
-use Rattle.xr_grammar.specs.declared.tree.Source.{Source}
+use Rattle.xr_netlist_grammar.specs.declared.tree.Word.{Word}
+use Rattle.xr_netlist_grammar.specs.declared.tree.Declare.{Declare}
+use Rattle.xr_netlist_grammar.specs.declared.tree.Module.{Module}
+use Rattle.xr_netlist_grammar.specs.declared.tree.Source.{Source}
 use Rattle.xr_flat.specs.Netlist.{FlatGate, is_input, declares_of, gates_of, declared}
 
 -- The nets are numbered in the order of their declarations.

@@ -3,21 +3,21 @@ use Rattle.std.specs.Prelude.{ℕ, ◌==◌, ◌&&◌, Bool, true, false, not, L
 use Rattle.std.specs.List.{list_any, list_all}
 use Rattle.xr_cell.specs.declared.gate.Gate.{Gate}
 use Rattle.xr_cell.specs.declared.gate.Gate.TheVariants.{Buf, Not}
-use Rattle.xr_grammar.specs.declared.tree.Word.{Word}
-use Rattle.xr_grammar.specs.declared.tree.Part.{Part}
-use Rattle.xr_grammar.specs.declared.tree.PartKind.{PartKind}
-use Rattle.xr_grammar.specs.declared.tree.PartKind.TheVariants.{Whole}
-use Rattle.xr_grammar.specs.declared.tree.Expr.{Expr}
-use Rattle.xr_grammar.specs.declared.tree.GateKind.{GateKind}
-use Rattle.xr_grammar.specs.declared.tree.GateKind.TheVariants.{Logic}
-use Rattle.xr_grammar.specs.declared.tree.GateItem.{GateItem}
-use Rattle.xr_grammar.specs.declared.tree.Declare.{Declare}
-use Rattle.xr_grammar.specs.declared.tree.NetKind.{NetKind}
-use Rattle.xr_grammar.specs.declared.tree.NetKind.TheVariants.{Input, Output, Wire}
-use Rattle.xr_grammar.specs.declared.tree.Item.{Item}
-use Rattle.xr_grammar.specs.declared.tree.Item.TheVariants as item
-use Rattle.xr_grammar.specs.declared.tree.Module.{Module}
-use Rattle.xr_grammar.specs.declared.tree.Source.{Source}
+use Rattle.xr_netlist_grammar.specs.declared.tree.Word.{Word}
+use Rattle.xr_netlist_grammar.specs.declared.tree.Part.{Part}
+use Rattle.xr_netlist_grammar.specs.declared.tree.PartKind.{PartKind}
+use Rattle.xr_netlist_grammar.specs.declared.tree.PartKind.TheVariants.{Whole}
+use Rattle.xr_netlist_grammar.specs.declared.tree.Expr.{Expr}
+use Rattle.xr_netlist_grammar.specs.declared.tree.GateKind.{GateKind}
+use Rattle.xr_netlist_grammar.specs.declared.tree.GateKind.TheVariants.{Logic}
+use Rattle.xr_netlist_grammar.specs.declared.tree.GateItem.{GateItem}
+use Rattle.xr_netlist_grammar.specs.declared.tree.Declare.{Declare}
+use Rattle.xr_netlist_grammar.specs.declared.tree.NetKind.{NetKind}
+use Rattle.xr_netlist_grammar.specs.declared.tree.NetKind.TheVariants.{Input, Output, Wire}
+use Rattle.xr_netlist_grammar.specs.declared.tree.Item.{Item}
+use Rattle.xr_netlist_grammar.specs.declared.tree.Item.TheVariants as item
+use Rattle.xr_netlist_grammar.specs.declared.tree.Module.{Module}
+use Rattle.xr_netlist_grammar.specs.declared.tree.Source.{Source}
 
 -- a gate by the names of the nets at its terminals, the output first
 pub record FlatGate : Type 0 where

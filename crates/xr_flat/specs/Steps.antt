@@ -11,14 +11,14 @@ use Rattle.xr_design.specs.declared.design.Table.TheVariants.{Gate as GateTable}
 use Rattle.xr_design.specs.declared.design.Pin.{Pin}
 use Rattle.xr_design.specs.declared.design.Pin.TheVariants.{Net as NetPin}
 use Rattle.xr_design.specs.declared.name.Name.{Name}
-use Rattle.xr_grammar.specs.declared.tree.Word.{Word}
-use Rattle.xr_grammar.specs.declared.tree.Expr.{Expr}
-use Rattle.xr_grammar.specs.declared.tree.GateKind.{GateKind}
-use Rattle.xr_grammar.specs.declared.tree.GateKind.TheVariants.{Logic}
-use Rattle.xr_grammar.specs.declared.tree.GateItem.{GateItem}
-use Rattle.xr_grammar.specs.declared.tree.Declare.{Declare}
-use Rattle.xr_grammar.specs.declared.tree.Item.{Item}
-use Rattle.xr_grammar.specs.declared.tree.Item.TheVariants as item
+use Rattle.xr_netlist_grammar.specs.declared.tree.Word.{Word}
+use Rattle.xr_netlist_grammar.specs.declared.tree.Expr.{Expr}
+use Rattle.xr_netlist_grammar.specs.declared.tree.GateKind.{GateKind}
+use Rattle.xr_netlist_grammar.specs.declared.tree.GateKind.TheVariants.{Logic}
+use Rattle.xr_netlist_grammar.specs.declared.tree.GateItem.{GateItem}
+use Rattle.xr_netlist_grammar.specs.declared.tree.Declare.{Declare}
+use Rattle.xr_netlist_grammar.specs.declared.tree.Item.{Item}
+use Rattle.xr_netlist_grammar.specs.declared.tree.Item.TheVariants as item
 use Rattle.xr_flat.specs.Netlist.{has, inputs_of, is_input, is_plain_declare, name_of_parts}
 use Rattle.xr_flat.specs.Design.{number_of, name_of}
 

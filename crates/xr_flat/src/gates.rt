@@ -11,7 +11,7 @@ use std::alloc::Global;
 use xr_base::Items;
 use xr_cell::Gate;
 use xr_design::{Driver, Net, Pin, Table};
-use xr_grammar::{Expr, GateItem, GateKind, Item, Part, PartKind};
+use xr_netlist_grammar::{Expr, GateItem, GateKind, Item, Part, PartKind};
 
 /// Reads the gates, each of which gives a net its driver, and puts their outputs into the order.
 pub fn drive_all(

@@ -15,7 +15,7 @@ use crate::refusal::FlatErr;
 use std::alloc::{AllocError, Global};
 use xr_base::Items;
 use xr_design::{Bytes, Design, Driver, Name, NamePart, Net};
-use xr_grammar::{Declare, Item, Module, NetKind, Word};
+use xr_netlist_grammar::{Declare, Item, Module, NetKind, Word};
 
 /// The most nets of a design.
 const MOST_NETS: usize = 1 << 20;

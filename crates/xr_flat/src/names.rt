@@ -9,7 +9,7 @@ use crate::refusal::FlatErr;
 use indexmap::IndexSet;
 use std::alloc::Global;
 use std::marker::Model;
-use xr_grammar::Word;
+use xr_netlist_grammar::Word;
 
 /// Different names, slices of the tree, each with its number.
 #[derive(Drop)]

@@ -9,7 +9,7 @@ use crate::module::design_module;
 use crate::refusal::FlatErr;
 use std::alloc::Global;
 use xr_design::Design;
-use xr_grammar::{Module, Source};
+use xr_netlist_grammar::{Module, Source};
 
 /// A design, and an order that lists each net behind its arguments.
 #[derive(Drop)]

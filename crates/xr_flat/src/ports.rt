@@ -9,7 +9,7 @@ ghost use Rattle.xr_flat.specs.declared.refusal.FlatErr.TheVariants.{NotFlat};
 use crate::names::{Names, word_names};
 use crate::refusal::FlatErr;
 use std::alloc::Global;
-use xr_grammar::{Item, NetKind, Word};
+use xr_netlist_grammar::{Item, NetKind, Word};
 
 /// Refuses ports that aren't distinct, or aren't the inputs and outputs.
 pub fn check_ports(alloc: Global, list: &[Word], declares: &[Item]) -> Result<(), FlatErr>

@@ -6,7 +6,7 @@ use xr_base::Items;
 use xr_cell::Gate;
 use xr_design::{Driver, Pin, Table};
 use xr_flat::{FlatErr, flat_design};
-use xr_grammar::{
+use xr_netlist_grammar::{
     Declare, Expr, GateItem, GateKind, Item, Module, NetKind, Part, PartKind, Primitive, Source,
     Word,
 };

@@ -6,7 +6,7 @@ use Rattle.xr_text.specs.Left.{Left, first}
 use Rattle.xr_text.specs.declared.token.Token.{Token}
 use Rattle.xr_text.specs.declared.token.Kind.{Kind}
 use Rattle.xr_text.specs.declared.token.Kind.TheVariants as kind
-use Rattle.xr_grammar.specs.Lexemes.{Lexeme, named, Tok, entry_or, word_table, word_of, mark_of, first_mark, lexeme_of, tok_of, words_of}
+use Rattle.xr_netlist_grammar.specs.Lexemes.{Lexeme, named, Tok, entry_or, word_table, word_of, mark_of, first_mark, lexeme_of, tok_of, words_of}
 use Rattle.xr_netlist.specs.Ahead.{is_stop, ahead, LieWithin}
 use Rattle.std.proofs.lemmas.List.Elements.{All-rest}
 

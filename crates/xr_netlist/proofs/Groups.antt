@@ -2,7 +2,7 @@
 use Rattle.std.proofs.Common.{◌≡◌, ◌∙◌, sym, ap, refl, ℕ, List, [], ◌∷◌, ◌++◌, Bool, true, false, ◌||◌, if◌then◌else◌}
 use Rattle.std.specs.List.{list_any}
 use Rattle.std.specs.Str.{bytes_eq}
-use Rattle.xr_grammar.specs.Lexemes.{Lexeme, named, entry_or, word_of, is_word_left_out}
+use Rattle.xr_netlist_grammar.specs.Lexemes.{Lexeme, named, entry_or, word_of, is_word_left_out}
 use Rattle.xr_netlist.specs.Groups.{head_words, item_words, gate_words, block_words, is_among, general, behavioral, wired_nets, switches, pass_switches}
 
 or_assoc : (a b c : Bool) → ((a || b) || c) ≡ (a || (b || c))

@@ -3,8 +3,8 @@ use Rattle.std.proofs.Common.{◌≡◌, ◌≢◌, ℕ, suc, ◌+◌, ◌*◌, 
 use Rattle.std.proofs.Math.Nat.{le-mul_of_pos_right, div-eq_of_lt, lt-div-mul-add}
 use Rattle.std.proofs.Math.Pow.{pow_mono}
 use Rattle.std.proofs.lemmas.Bool.Decides.{nat_tests, eqb_tells, leb_tells}
-use Rattle.xr_grammar.specs.Bytes.{number_from, worth, are_digits}
-use Rattle.xr_grammar.specs.Numbers.{int_of, base_of, literal_in, literal_behind, are_spaced_digits, spaced_number}
+use Rattle.xr_netlist_grammar.specs.Bytes.{number_from, worth, are_digits}
+use Rattle.xr_netlist_grammar.specs.Numbers.{int_of, base_of, literal_in, literal_behind, are_spaced_digits, spaced_number}
 
 -- a number grows with its digits
 pub grows : (base n : ℕ) (ds : List ℕ) → 1 ≤ base → n ≤ number_from base n ds

@@ -1,17 +1,17 @@
 -- Steps of runs.
 use Rattle.std.proofs.Common.{◌≡◌, ◌≢◌, ◌∙◌, ℕ, List, [], ◌∷◌, true, false, Option, None, Result, Ok, Err, refl, ap}
-use Rattle.xr_grammar.specs.Lexemes.{Tok, Words, head, head_of, is_fixed, gate_kind_of, is_left_out}
-use Rattle.xr_grammar.specs.Machine.{State, in_items, in_rows, first_row, input_pin, input_name, after_name, head_end, first_port, port, first_pin, pin, declared_port, port_direction, attr_star, in_attr, delay_number, net_kind, net_ranged, net_name, gate_kind, gate_name, definition, instance_name, assign, expr_start, connections, connection, connection_value, Place, left, connected, connected_to, Delayed, net_delay, gate_delay, instance_delay, assign_delay, run, step, finish, goes, then_run, after_delay}
-use Rattle.xr_grammar.specs.Trees.{Range, Under, under, Within}
-use Rattle.xr_grammar.specs.declared.tree.Source.{Source}
-use Rattle.xr_grammar.specs.declared.fixed.Fixed.TheVariants as fixed
-use Rattle.xr_grammar.specs.declared.refusal.ParseErr.{ParseErr}
-use Rattle.xr_grammar.specs.declared.refusal.ParseErr.TheVariants.{OutOfProfile}
-use Rattle.xr_grammar.specs.declared.tree.Connection.{Connection}
-use Rattle.xr_grammar.specs.declared.tree.GateKind.{GateKind}
-use Rattle.xr_grammar.specs.declared.tree.NamedConnection.{NamedConnection}
-use Rattle.xr_grammar.specs.declared.tree.NetKind.{NetKind}
-use Rattle.xr_grammar.specs.declared.tree.Word.{Word}
+use Rattle.xr_netlist_grammar.specs.Lexemes.{Tok, Words, head, head_of, is_fixed, gate_kind_of, is_left_out}
+use Rattle.xr_netlist_grammar.specs.Machine.{State, in_items, in_rows, first_row, input_pin, input_name, after_name, head_end, first_port, port, first_pin, pin, declared_port, port_direction, attr_star, in_attr, delay_number, net_kind, net_ranged, net_name, gate_kind, gate_name, definition, instance_name, assign, expr_start, connections, connection, connection_value, Place, left, connected, connected_to, Delayed, net_delay, gate_delay, instance_delay, assign_delay, run, step, finish, goes, then_run, after_delay}
+use Rattle.xr_netlist_grammar.specs.Trees.{Range, Under, under, Within}
+use Rattle.xr_netlist_grammar.specs.declared.tree.Source.{Source}
+use Rattle.xr_netlist_grammar.specs.declared.fixed.Fixed.TheVariants as fixed
+use Rattle.xr_netlist_grammar.specs.declared.refusal.ParseErr.{ParseErr}
+use Rattle.xr_netlist_grammar.specs.declared.refusal.ParseErr.TheVariants.{OutOfProfile}
+use Rattle.xr_netlist_grammar.specs.declared.tree.Connection.{Connection}
+use Rattle.xr_netlist_grammar.specs.declared.tree.GateKind.{GateKind}
+use Rattle.xr_netlist_grammar.specs.declared.tree.NamedConnection.{NamedConnection}
+use Rattle.xr_netlist_grammar.specs.declared.tree.NetKind.{NetKind}
+use Rattle.xr_netlist_grammar.specs.declared.tree.Word.{Word}
 use Rattle.xr_netlist.specs.Reads.{Reads, BeginsNone}
 
 alike_of : (s s' : State) (ts : List Tok) (stop : Tok) → step s (head_of ts stop) ≡ step s' (head_of ts stop) → finish s stop ≡ finish s' stop → run s ts stop ≡ run s' ts stop

@@ -2,7 +2,7 @@
 use Rattle.std.specs.Prelude.{ℕ, ◌+◌, ◌<◌, ◌≤◌, ◌^◌, List, [], ◌∷◌, length, All, Bool, true, false, cond}
 use Rattle.xr_text.specs.Left.{Left}
 use Rattle.xr_text.specs.declared.token.Token.{Token}
-use Rattle.xr_grammar.specs.Lexemes.{Lexeme, ending, broken, Tok, Words}
+use Rattle.xr_netlist_grammar.specs.Lexemes.{Lexeme, ending, broken, Tok, Words}
 
 -- what ends a text
 abbrev pub is_stop : Lexeme → Bool

@@ -4,9 +4,9 @@ use Rattle.std.specs.List.{list_any}
 use Rattle.std.specs.Str.{bytes_eq}
 use lib.Chars.{codes}
 use Rattle.xr_cell.specs.declared.gate.Gate.TheVariants.{And, Nand, Or, Nor, Xor, Xnor, Buf, Not}
-use Rattle.xr_grammar.specs.Lexemes.{Lexeme, quoted, gate, entry_or}
-use Rattle.xr_grammar.specs.declared.fixed.Fixed.TheVariants as fixed
-use Rattle.xr_grammar.specs.declared.tree.GateKind.TheVariants.{Logic, Pullup, Pulldown}
+use Rattle.xr_netlist_grammar.specs.Lexemes.{Lexeme, quoted, gate, entry_or}
+use Rattle.xr_netlist_grammar.specs.declared.fixed.Fixed.TheVariants as fixed
+use Rattle.xr_netlist_grammar.specs.declared.tree.GateKind.TheVariants.{Logic, Pullup, Pulldown}
 
 abbrev pub head_words : List (List ℕ × Lexeme)
 head_words = (codes "module", quoted fixed.Module) ∷ (codes "endmodule", quoted fixed.Endmodule) ∷ (codes "input", quoted fixed.Input) ∷ (codes "output", quoted fixed.Output) ∷ []

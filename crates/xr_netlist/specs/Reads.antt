@@ -1,13 +1,13 @@
 -- What the reader's methods do to the tokens that are left, and what the functions above them do as runs of the machine.
 use Rattle.std.specs.Prelude.{◌≡◌, ◌≢◌, ℕ, ◌<◌, length, List, [], ◌∷◌, Bool, true, false, Option, Some, None, option_to_list, Result, Ok, Err}
 use Rattle.std.specs.Borrow.{Bor}
-use Rattle.xr_grammar.specs.Lexemes.{Lexeme, quoted, named, ending, Tok, tok, Words, is_fixed, name_of, symbols_of, head, before, fault_of}
-use Rattle.xr_grammar.specs.Machine.{State, Next, on_one_byte, on_few_bytes, goes, Refuses}
-use Rattle.xr_grammar.specs.declared.fixed.Fixed.{Fixed}
-use Rattle.xr_grammar.specs.declared.fixed.Fixed.TheVariants as fixed
-use Rattle.xr_grammar.specs.declared.refusal.ParseErr.{ParseErr}
-use Rattle.xr_grammar.specs.declared.refusal.ParseErr.TheVariants.{Memory}
-use Rattle.xr_grammar.specs.declared.tree.Word.{Word}
+use Rattle.xr_netlist_grammar.specs.Lexemes.{Lexeme, quoted, named, ending, Tok, tok, Words, is_fixed, name_of, symbols_of, head, before, fault_of}
+use Rattle.xr_netlist_grammar.specs.Machine.{State, Next, on_one_byte, on_few_bytes, goes, Refuses}
+use Rattle.xr_netlist_grammar.specs.declared.fixed.Fixed.{Fixed}
+use Rattle.xr_netlist_grammar.specs.declared.fixed.Fixed.TheVariants as fixed
+use Rattle.xr_netlist_grammar.specs.declared.refusal.ParseErr.{ParseErr}
+use Rattle.xr_netlist_grammar.specs.declared.refusal.ParseErr.TheVariants.{Memory}
+use Rattle.xr_netlist_grammar.specs.declared.tree.Word.{Word}
 use Rattle.xr_netlist.specs.declared.lexeme.Name.{Name}
 
 -- ---- one token

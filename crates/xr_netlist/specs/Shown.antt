@@ -1,12 +1,12 @@
 -- The lexemes that the code holds.
 use Rattle.std.specs.Prelude.{◌≡◌, ℕ, List, [], ◌∷◌, Option, Some, None}
 use Rattle.std.specs.Borrow.{Bor}
-use Rattle.xr_grammar.specs.Lexemes as spec
+use Rattle.xr_netlist_grammar.specs.Lexemes as spec
 use Rattle.xr_netlist.specs.declared.lexeme.Lexeme.{Lexeme}
 use Rattle.xr_netlist.specs.declared.lexeme.Lexeme.TheVariants.{Quoted, Gate, Named, Number, Mark, Quotation, Ending, Broken}
 use Rattle.xr_netlist.specs.declared.lexeme.Tok.{Tok}
 use Rattle.xr_netlist.specs.declared.lexeme.Name.{Name}
-use Rattle.xr_grammar.specs.declared.tree.Word.{Word}
+use Rattle.xr_netlist_grammar.specs.declared.tree.Word.{Word}
 
 abbrev pub shown : Lexeme → spec.Lexeme
 shown (Quoted f) = spec.quoted f

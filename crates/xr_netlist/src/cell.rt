@@ -1,14 +1,14 @@
 //! Gates, instances and assignments (IEEE 1364-2005, annexes A.3, A.4 and A.6.1).
 
 ghost use Rattle.std.specs.Prelude.{◌≡◌, ℕ, ◌++◌, ◌∷◌, [], List, Option, Some, None, option_map, IfOk, cond};
-ghost use Rattle.xr_grammar.specs.Machine.State.{gate_kind, gate_name, after_gate, expr_start, assign, definition as definition_of, instance_name, after_instance, connections as connections_of, connection as connection_of, connection_port, after_connection, in_items};
-ghost use Rattle.xr_grammar.specs.Machine.Context.{terminal, left as left_of};
-ghost use Rattle.xr_grammar.specs.Trees.{Under, under, with_item, gate_of, instance_of};
-ghost use Rattle.xr_grammar.specs.declared.tree.Connections.TheVariants.{Positional};
-ghost use Rattle.xr_grammar.specs.declared.tree.GateKind.{GateKind as gate_kinds};
-ghost use Rattle.xr_grammar.specs.declared.tree.NamedConnection.{NamedConnection as named_kind};
-ghost use Rattle.xr_grammar.specs.declared.tree.Source.{Source as source};
-ghost use Rattle.xr_grammar.specs.declared.tree.Word.{Word as word};
+ghost use Rattle.xr_netlist_grammar.specs.Machine.State.{gate_kind, gate_name, after_gate, expr_start, assign, definition as definition_of, instance_name, after_instance, connections as connections_of, connection as connection_of, connection_port, after_connection, in_items};
+ghost use Rattle.xr_netlist_grammar.specs.Machine.Context.{terminal, left as left_of};
+ghost use Rattle.xr_netlist_grammar.specs.Trees.{Under, under, with_item, gate_of, instance_of};
+ghost use Rattle.xr_netlist_grammar.specs.declared.tree.Connections.TheVariants.{Positional};
+ghost use Rattle.xr_netlist_grammar.specs.declared.tree.GateKind.{GateKind as gate_kinds};
+ghost use Rattle.xr_netlist_grammar.specs.declared.tree.NamedConnection.{NamedConnection as named_kind};
+ghost use Rattle.xr_netlist_grammar.specs.declared.tree.Source.{Source as source};
+ghost use Rattle.xr_netlist_grammar.specs.declared.tree.Word.{Word as word};
 ghost use Rattle.xr_netlist.specs.Reads.{Reads, Shortens};
 ghost use Rattle.xr_netlist.specs.Shown.{word_of_name};
 
@@ -18,7 +18,7 @@ use crate::reader::Reader;
 use crate::skip::may_delay;
 use std::alloc::{AllocError, Global};
 use xr_base::Items;
-use xr_grammar::{
+use xr_netlist_grammar::{
     Connection, Connections, Expr, Fixed, GateItem, GateKind, InstanceItem, Item, NamedConnection,
     ParseErr, Word,
 };

@@ -1,19 +1,19 @@
 //! Declarations (IEEE 1364-2005, annex A.2).
 
 ghost use Rattle.std.specs.Prelude.{◌≡◌, ◌≤◌, List, length, OnOk, None, Some, cond};
-ghost use Rattle.xr_grammar.specs.Machine.{Ranged, after_range};
-ghost use Rattle.xr_grammar.specs.Machine.State.{range_first, in_items, port_direction, port_word, direction as direction_of, declared_name, net_kind, net_name};
-ghost use Rattle.xr_grammar.specs.Trees.{Under, under, takes_value};
-ghost use Rattle.xr_grammar.specs.declared.tree.NetKind.{NetKind as net_kinds};
-ghost use Rattle.xr_grammar.specs.declared.tree.Source.{Source as source};
-ghost use Rattle.xr_grammar.specs.declared.tree.Word.{Word as word};
+ghost use Rattle.xr_netlist_grammar.specs.Machine.{Ranged, after_range};
+ghost use Rattle.xr_netlist_grammar.specs.Machine.State.{range_first, in_items, port_direction, port_word, direction as direction_of, declared_name, net_kind, net_name};
+ghost use Rattle.xr_netlist_grammar.specs.Trees.{Under, under, takes_value};
+ghost use Rattle.xr_netlist_grammar.specs.declared.tree.NetKind.{NetKind as net_kinds};
+ghost use Rattle.xr_netlist_grammar.specs.declared.tree.Source.{Source as source};
+ghost use Rattle.xr_netlist_grammar.specs.declared.tree.Word.{Word as word};
 ghost use Rattle.xr_netlist.specs.Reads.{Reads, Shortens};
 
 use crate::expression::expr;
 use crate::reader::Reader;
 use crate::skip::may_delay;
 use std::alloc::Global;
-use xr_grammar::{Declare, Fixed, Item, NetKind, ParseErr};
+use xr_netlist_grammar::{Declare, Fixed, Item, NetKind, ParseErr};
 
 // range = "[" int ":" int "]", behind its "["
 fn range(words: &mut Reader<'_>) -> Result<(u32, u32), ParseErr>

@@ -1,17 +1,17 @@
 //! Expressions (IEEE 1364-2005, annex A.8).
 
 ghost use Rattle.std.specs.Prelude.{◌≡◌, ℕ, List, ◌++◌, ◌∷◌, [], ◌≤◌, length, OnOk, false};
-ghost use Rattle.xr_grammar.specs.Lexemes.{head, is_fixed};
-ghost use Rattle.xr_grammar.specs.Machine.{Context};
-ghost use Rattle.xr_grammar.specs.Machine.State.{expr_start, expr as in_expr, after_part_name, after_part};
-ghost use Rattle.xr_grammar.specs.declared.fixed.Fixed.TheVariants as fixed;
-ghost use Rattle.xr_grammar.specs.declared.tree.Part.{Part as part_of};
+ghost use Rattle.xr_netlist_grammar.specs.Lexemes.{head, is_fixed};
+ghost use Rattle.xr_netlist_grammar.specs.Machine.{Context};
+ghost use Rattle.xr_netlist_grammar.specs.Machine.State.{expr_start, expr as in_expr, after_part_name, after_part};
+ghost use Rattle.xr_netlist_grammar.specs.declared.fixed.Fixed.TheVariants as fixed;
+ghost use Rattle.xr_netlist_grammar.specs.declared.tree.Part.{Part as part_of};
 ghost use Rattle.xr_netlist.specs.Reads.{Reads, Shortens};
 
 use crate::reader::Reader;
 use std::alloc::Global;
 use xr_base::Items;
-use xr_grammar::{Expr, Fixed, ParseErr, Part, PartKind, Word};
+use xr_netlist_grammar::{Expr, Fixed, ParseErr, Part, PartKind, Word};
 
 // expr = name | name "[" int "]" | name "[" int ":" int "]" | literal | "{" expr { "," expr } "}"
 pub fn expr(alloc: Global, words: &mut Reader<'_>) -> Result<Expr, ParseErr>

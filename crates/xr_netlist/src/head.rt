@@ -1,19 +1,19 @@
 //! The head of a module (IEEE 1364-2005, annex A.1.3).
 
 ghost use Rattle.std.specs.Prelude.{◌≡◌, ◌≤◌, [], length, OnOk, None, false};
-ghost use Rattle.xr_grammar.specs.Lexemes.{head as head_of, is_fixed};
-ghost use Rattle.xr_grammar.specs.Machine.{goes};
-ghost use Rattle.xr_grammar.specs.Machine.State.{after_name, head_end, first_port, port_direction, port_word, after_declared_port, declared_port};
-ghost use Rattle.xr_grammar.specs.declared.fixed.Fixed.TheVariants as fixed;
-ghost use Rattle.xr_grammar.specs.Trees.{Under, under};
-ghost use Rattle.xr_grammar.specs.declared.tree.Source.{Source as source};
-ghost use Rattle.xr_grammar.specs.declared.tree.Word.{Word as word};
+ghost use Rattle.xr_netlist_grammar.specs.Lexemes.{head as head_of, is_fixed};
+ghost use Rattle.xr_netlist_grammar.specs.Machine.{goes};
+ghost use Rattle.xr_netlist_grammar.specs.Machine.State.{after_name, head_end, first_port, port_direction, port_word, after_declared_port, declared_port};
+ghost use Rattle.xr_netlist_grammar.specs.declared.fixed.Fixed.TheVariants as fixed;
+ghost use Rattle.xr_netlist_grammar.specs.Trees.{Under, under};
+ghost use Rattle.xr_netlist_grammar.specs.declared.tree.Source.{Source as source};
+ghost use Rattle.xr_netlist_grammar.specs.declared.tree.Word.{Word as word};
 ghost use Rattle.xr_netlist.specs.Reads.{Reads, Shortens};
 
 use crate::declaration::wire_range;
 use crate::reader::Reader;
 use std::alloc::Global;
-use xr_grammar::{Declare, Fixed, Item, NetKind, ParseErr, Word};
+use xr_netlist_grammar::{Declare, Fixed, Item, NetKind, ParseErr, Word};
 
 /// The ports of a module, and what its head declares of them.
 #[derive(Drop)]

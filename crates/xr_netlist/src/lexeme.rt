@@ -1,14 +1,14 @@
 //! Tokens as the grammar tells them apart, over the bytes of a text.
 
 ghost use Rattle.std.specs.Prelude.{◌≡◌, ◌∷◌, [], IfOk, ◌<◌, ◌≤◌, length};
-ghost use Rattle.xr_grammar.specs.Lexemes.{mark_of, quoted, gate, word_of, tok_of, fault_of, fixed_symbols, is_left_out, is_word_left_out as spec_is_word_left_out};
+ghost use Rattle.xr_netlist_grammar.specs.Lexemes.{mark_of, quoted, gate, word_of, tok_of, fault_of, fixed_symbols, is_left_out, is_word_left_out as spec_is_word_left_out};
 ghost use Rattle.xr_netlist.specs.Groups.{Finds, head_words, item_words, gate_words, block_words, is_among, general, behavioral, wired_nets, switches, pass_switches};
 ghost use Rattle.xr_netlist.specs.Shown.{shown, shown_tok, AreSymbols, HasSymbols};
 
 use std::alloc::{AllocError, Global};
 use xr_base::Items;
 use xr_cell::Gate;
-use xr_grammar::{Fixed, GateKind, ParseErr, Word};
+use xr_netlist_grammar::{Fixed, GateKind, ParseErr, Word};
 use xr_text::{Kind, LexErr, Token};
 
 /// What a token may be read as. Names and numbers are bytes of the text.

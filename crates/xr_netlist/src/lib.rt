@@ -15,7 +15,7 @@ mod table;
 mod text;
 
 pub use text::parse;
-pub use xr_grammar::{
+pub use xr_netlist_grammar::{
     Connection, Connections, Declare, Expr, GateItem, GateKind, InstanceItem, Item, Module,
     NamedConnection, NetKind, ParseErr, Part, PartKind, PrimDeclare, PrimKind, Primitive, Source,
     Word,

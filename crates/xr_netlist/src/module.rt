@@ -1,13 +1,13 @@
 //! Modules and their items (IEEE 1364-2005, annex A.1).
 
 ghost use Rattle.std.specs.Prelude.{◌≡◌, ◌<◌, List, length, false, IfSome, IfNone};
-ghost use Rattle.xr_grammar.specs.Lexemes.{head, is_fixed};
-ghost use Rattle.xr_grammar.specs.Machine.{goes};
-ghost use Rattle.xr_grammar.specs.Machine.State.{module_name, in_items, direction, net_kind, top};
-ghost use Rattle.xr_grammar.specs.Trees.{Under, under, closed, joined, one_module};
-ghost use Rattle.xr_grammar.specs.declared.fixed.Fixed.TheVariants as fixed;
-ghost use Rattle.xr_grammar.specs.declared.tree.Source.{Source as source};
-ghost use Rattle.xr_grammar.specs.declared.tree.Word.{Word as word};
+ghost use Rattle.xr_netlist_grammar.specs.Lexemes.{head, is_fixed};
+ghost use Rattle.xr_netlist_grammar.specs.Machine.{goes};
+ghost use Rattle.xr_netlist_grammar.specs.Machine.State.{module_name, in_items, direction, net_kind, top};
+ghost use Rattle.xr_netlist_grammar.specs.Trees.{Under, under, closed, joined, one_module};
+ghost use Rattle.xr_netlist_grammar.specs.declared.fixed.Fixed.TheVariants as fixed;
+ghost use Rattle.xr_netlist_grammar.specs.declared.tree.Source.{Source as source};
+ghost use Rattle.xr_netlist_grammar.specs.declared.tree.Word.{Word as word};
 ghost use Rattle.xr_netlist.specs.Reads.{Reads, Shortens, BeginsNone};
 
 use crate::cell::{assigns, gates, instances};
@@ -17,7 +17,7 @@ use crate::reader::Reader;
 use crate::skip::{attribute, specify};
 use std::alloc::Global;
 use xr_base::Items;
-use xr_grammar::{Fixed, Item, Module, NetKind, ParseErr};
+use xr_netlist_grammar::{Fixed, Item, Module, NetKind, ParseErr};
 
 // module = "module" name head ";" { item } "endmodule", behind its first word
 pub fn module(alloc: Global, words: &mut Reader<'_>) -> Result<Module, ParseErr>

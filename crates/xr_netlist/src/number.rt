@@ -2,13 +2,13 @@
 
 ghost use Rattle.std.specs.Prelude.{◌≡◌, ◌≤◌, ◌<◌, ◌^◌, ◌*◌, ◌+◌, ◌&&◌, ◌==◌, IfSome, nat_lt, nat_le, length, take_while, Option, Some, None, if◌then◌else◌};
 ghost use Rattle.std.specs.Option.{SomeIff};
-ghost use Rattle.xr_grammar.specs.Bytes.{is_digit as spec_is_digit, worth as spec_worth, are_digits, number_from};
-ghost use Rattle.xr_grammar.specs.Numbers.{int_of, bit_of, literal_of, literal_behind, literal_in, base_of, are_spaced_digits, spaced_number};
+ghost use Rattle.xr_netlist_grammar.specs.Bytes.{is_digit as spec_is_digit, worth as spec_worth, are_digits, number_from};
+ghost use Rattle.xr_netlist_grammar.specs.Numbers.{int_of, bit_of, literal_of, literal_behind, literal_in, base_of, are_spaced_digits, spaced_number};
 
 use xr_cell::Value;
 
 /// An int: digits, at most 2^31 - 1.
-#[tactic(auto, unfolding(xr_grammar::specs::Numbers::int_of))]
+#[tactic(auto, unfolding(xr_netlist_grammar::specs::Numbers::int_of))]
 pub fn int_of(text: &[u8]) -> Option<u32>
     ensures { result ≡ int_of text.now }
 {
@@ -35,7 +35,7 @@ pub fn int_of(text: &[u8]) -> Option<u32>
 }
 
 /// A bit, by one of five spellings.
-#[tactic(auto, unfolding(xr_grammar::specs::Numbers::bit_of))]
+#[tactic(auto, unfolding(xr_netlist_grammar::specs::Numbers::bit_of))]
 pub fn bit_of(text: &[u8]) -> Option<Value>
     ensures { result ≡ bit_of text.now }
 {
@@ -51,7 +51,7 @@ pub fn bit_of(text: &[u8]) -> Option<Value>
 }
 
 /// A literal, by its size in bits and its value.
-#[tactic(auto, unfolding(xr_grammar::specs::Numbers::literal_of))]
+#[tactic(auto, unfolding(xr_netlist_grammar::specs::Numbers::literal_of))]
 pub fn literal_of(text: &[u8]) -> Option<(u32, u128)>
     ensures { result ≡ literal_of text.now }
 {
@@ -86,7 +86,7 @@ fn leading_digits(text: &[u8]) -> &[u8]
 }
 
 /// The size of a literal, 1 to 128, where a quotation mark stands behind it.
-#[tactic(auto, unfolding(xr_grammar::specs::Numbers::int_of))]
+#[tactic(auto, unfolding(xr_netlist_grammar::specs::Numbers::int_of))]
 fn size_of(text: &[u8], quote: u8) -> Option<u32>
     ensures size { result ≡ (if are_digits text.now && (quote == 39) && nat_le 1 (number_from 10 0 text.now) && nat_le (number_from 10 0 text.now) 128 then Some (number_from 10 0 text.now) else None) }
     ensures bounds { IfSome result (λ n. (1 ≤ n) × (n ≤ 128)) }

@@ -1,13 +1,13 @@
 //! User-defined primitives (IEEE 1364-2005, clause 8 and annex A.5).
 
 ghost use Rattle.std.specs.Prelude.{◌≡◌, ◌≤◌, [], ◌∷◌, ◌++◌, List, false, length, OnOk};
-ghost use Rattle.xr_grammar.specs.Lexemes.{head, is_fixed};
-ghost use Rattle.xr_grammar.specs.Machine.{goes};
-ghost use Rattle.xr_grammar.specs.Machine.State.{primitive_name, first_pin, output_pin as output_start, output_declared, after_output, first_input, input_name, input_pin, after_input, primitive_head_end, in_primitive, reg_declared, input_declared, initial_declared, declared_semi, first_row, top};
-ghost use Rattle.xr_grammar.specs.Trees.{Within, within, prim_declare, is_sequential as has_reg, joined, one_primitive};
-ghost use Rattle.xr_grammar.specs.declared.fixed.Fixed.TheVariants as fixed;
-ghost use Rattle.xr_grammar.specs.declared.tree.Source.{Source as source};
-ghost use Rattle.xr_grammar.specs.declared.tree.Word.{Word as word};
+ghost use Rattle.xr_netlist_grammar.specs.Lexemes.{head, is_fixed};
+ghost use Rattle.xr_netlist_grammar.specs.Machine.{goes};
+ghost use Rattle.xr_netlist_grammar.specs.Machine.State.{primitive_name, first_pin, output_pin as output_start, output_declared, after_output, first_input, input_name, input_pin, after_input, primitive_head_end, in_primitive, reg_declared, input_declared, initial_declared, declared_semi, first_row, top};
+ghost use Rattle.xr_netlist_grammar.specs.Trees.{Within, within, prim_declare, is_sequential as has_reg, joined, one_primitive};
+ghost use Rattle.xr_netlist_grammar.specs.declared.fixed.Fixed.TheVariants as fixed;
+ghost use Rattle.xr_netlist_grammar.specs.declared.tree.Source.{Source as source};
+ghost use Rattle.xr_netlist_grammar.specs.declared.tree.Word.{Word as word};
 ghost use Rattle.xr_netlist.specs.Reads.{Reads, Shortens};
 ghost use Rattle.xr_netlist.specs.Shown.{word_of_name};
 
@@ -16,7 +16,7 @@ use crate::reader::Reader;
 use crate::table::rows;
 use std::alloc::{AllocError, Global};
 use xr_base::Items;
-use xr_grammar::{Fixed, ParseErr, PrimDeclare, PrimKind, Primitive, Word};
+use xr_netlist_grammar::{Fixed, ParseErr, PrimDeclare, PrimKind, Primitive, Word};
 
 /// The ports of a primitive, and what its port list declares of them.
 #[derive(Drop)]

@@ -2,7 +2,7 @@
 
 ghost use Rattle.std.specs.Prelude.{◌≡◌, ◌-◌, ◌≤◌, ◌==◌, length};
 ghost use Rattle.std.specs.Bool.{OnTrue};
-ghost use Rattle.xr_grammar.specs.Lexemes.{words_of, code};
+ghost use Rattle.xr_netlist_grammar.specs.Lexemes.{words_of, code};
 ghost use Rattle.xr_netlist.specs.Shown.{shown_tok};
 ghost use Rattle.xr_netlist.specs.Ahead.{ahead, LieWithin};
 
@@ -11,7 +11,7 @@ use crate::number::{bit_of, int_of, literal_of};
 use std::alloc::Global;
 use std::marker::Model;
 use xr_cell::Value;
-use xr_grammar::{Fixed, GateKind, ParseErr, Word};
+use xr_netlist_grammar::{Fixed, GateKind, ParseErr, Word};
 use xr_text::{LexErr, Lexer};
 
 /// The tokens of a text that are left. The next one is read already.
@@ -24,7 +24,7 @@ pub struct Reader<'a> {
 
 impl<'a> Model for Reader<'a> {
     ghost use Rattle.std.specs.Prelude.{length};
-    ghost use Rattle.xr_grammar.specs.Lexemes.{Words, words_of};
+    ghost use Rattle.xr_netlist_grammar.specs.Lexemes.{Words, words_of};
     ghost use Rattle.xr_netlist.specs.Shown.{shown_tok};
     ghost use Rattle.xr_netlist.specs.Ahead.{ahead, CanRead};
 
@@ -68,7 +68,7 @@ impl<'a> Reader<'a> {
     ghost use Rattle.std.specs.Bool.{OnTrue};
     ghost use Rattle.xr_text.specs.Left.{Left as left};
     ghost use Rattle.xr_text.specs.Tokens.{Tokens};
-    ghost use Rattle.xr_grammar.specs.Lexemes.{words_of, head, gate_kind_of, int_at, bit_at, literal_at, is_left_out};
+    ghost use Rattle.xr_netlist_grammar.specs.Lexemes.{words_of, head, gate_kind_of, int_at, bit_at, literal_at, is_left_out};
     ghost use Rattle.xr_netlist.specs.Shown.{shown_tok};
     ghost use Rattle.xr_netlist.specs.Reads.{TakesFixed, ExpectsFixed, TakesName, ExpectsName, ExpectsWord, TakesAs, ExpectsAs, GoesOn, TakesSymbols, TakesSymbol, ExpectsFew, Skips, Ends};
 

@@ -1,16 +1,16 @@
 //! What is read and leaves nothing behind: attributes, specify blocks and delays (IEEE 1364-2005, annexes A.2.2.3, A.7 and A.9).
 
 ghost use Rattle.std.specs.Prelude.{◌≡◌, ℕ, ◌≤◌, length, OnOk};
-ghost use Rattle.xr_grammar.specs.Machine.{Place, Delayed, left, after_attr, after_delay};
-ghost use Rattle.xr_grammar.specs.Machine.State.{attr_open, in_attr, attr_star, in_specify, in_items, delay as delay_start, in_delay, net_ranged, net_name, gate_kind, gate_name, definition, instance_name, assign, expr_start};
-ghost use Rattle.xr_grammar.specs.Trees.{Range, Under};
-ghost use Rattle.xr_grammar.specs.declared.tree.GateKind.{GateKind as gate_kinds};
-ghost use Rattle.xr_grammar.specs.declared.tree.NetKind.{NetKind as net_kinds};
-ghost use Rattle.xr_grammar.specs.declared.tree.Word.{Word as word};
+ghost use Rattle.xr_netlist_grammar.specs.Machine.{Place, Delayed, left, after_attr, after_delay};
+ghost use Rattle.xr_netlist_grammar.specs.Machine.State.{attr_open, in_attr, attr_star, in_specify, in_items, delay as delay_start, in_delay, net_ranged, net_name, gate_kind, gate_name, definition, instance_name, assign, expr_start};
+ghost use Rattle.xr_netlist_grammar.specs.Trees.{Range, Under};
+ghost use Rattle.xr_netlist_grammar.specs.declared.tree.GateKind.{GateKind as gate_kinds};
+ghost use Rattle.xr_netlist_grammar.specs.declared.tree.NetKind.{NetKind as net_kinds};
+ghost use Rattle.xr_netlist_grammar.specs.declared.tree.Word.{Word as word};
 ghost use Rattle.xr_netlist.specs.Reads.{Reads, Shortens};
 
 use crate::reader::Reader;
-use xr_grammar::{Fixed, ParseErr};
+use xr_netlist_grammar::{Fixed, ParseErr};
 
 // attribute = "(" "*" tokens "*" ")", behind its "("
 #[tactic(auto, using(crate::proofs::Runs::star_goes_on))]

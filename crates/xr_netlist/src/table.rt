@@ -2,21 +2,21 @@
 
 ghost use Rattle.std.specs.Prelude.{◌≡◌, ◌≤◌, ℕ, List, [], ◌∷◌, ◌++◌, Option, false, length, OnOk};
 ghost use Rattle.xr_cell.specs.declared.symbol.Symbol.{Symbol as symbol};
-ghost use Rattle.xr_grammar.specs.Lexemes.{head, is_fixed};
-ghost use Rattle.xr_grammar.specs.Machine.{Column, after_symbol, after_entries};
-ghost use Rattle.xr_grammar.specs.Machine.State.{first_row, in_rows, in_row, row_state, after_state, row_output, after_output_symbol, change_first, change_close, primitive_end};
-ghost use Rattle.xr_grammar.specs.Trees.{Within, within, with_row, is_sequential, singles};
-ghost use Rattle.xr_grammar.specs.declared.fixed.Fixed.TheVariants as fixed;
-ghost use Rattle.xr_grammar.specs.declared.tree.PrimDeclare.{PrimDeclare as declares};
-ghost use Rattle.xr_grammar.specs.declared.tree.Source.{Source as source};
-ghost use Rattle.xr_grammar.specs.declared.tree.Word.{Word as word};
+ghost use Rattle.xr_netlist_grammar.specs.Lexemes.{head, is_fixed};
+ghost use Rattle.xr_netlist_grammar.specs.Machine.{Column, after_symbol, after_entries};
+ghost use Rattle.xr_netlist_grammar.specs.Machine.State.{first_row, in_rows, in_row, row_state, after_state, row_output, after_output_symbol, change_first, change_close, primitive_end};
+ghost use Rattle.xr_netlist_grammar.specs.Trees.{Within, within, with_row, is_sequential, singles};
+ghost use Rattle.xr_netlist_grammar.specs.declared.fixed.Fixed.TheVariants as fixed;
+ghost use Rattle.xr_netlist_grammar.specs.declared.tree.PrimDeclare.{PrimDeclare as declares};
+ghost use Rattle.xr_netlist_grammar.specs.declared.tree.Source.{Source as source};
+ghost use Rattle.xr_netlist_grammar.specs.declared.tree.Word.{Word as word};
 ghost use Rattle.xr_netlist.specs.Reads.{Reads, Shortens};
 
 use crate::reader::Reader;
 use std::alloc::{AllocError, Global};
 use xr_base::Items;
 use xr_cell::{RawRow, Symbol};
-use xr_grammar::{Fixed, ParseErr};
+use xr_netlist_grammar::{Fixed, ParseErr};
 
 // row { row } "endtable"
 #[tactic(auto, using(crate::proofs::Runs::next_row))]

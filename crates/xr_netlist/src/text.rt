@@ -3,12 +3,12 @@
 ghost use Rattle.std.specs.Prelude.{◌≡◌, ◌≢◌, ℕ, IfOk, IfErr, MatchResult, None};
 ghost use Rattle.xr_text.specs.Left.{Left as left};
 ghost use Rattle.xr_text.specs.Tokens.{Tokens};
-ghost use Rattle.xr_grammar.specs.Lexemes.{words_of};
-ghost use Rattle.xr_grammar.specs.Machine.{Answers};
-ghost use Rattle.xr_grammar.specs.Refusal.{RefusesFirst};
-ghost use Rattle.xr_grammar.specs.Text.{Text};
-ghost use Rattle.xr_grammar.specs.declared.refusal.ParseErr.TheVariants.{Memory};
-ghost use Rattle.xr_grammar.specs.declared.tree.Source.{Source as source_of};
+ghost use Rattle.xr_netlist_grammar.specs.Lexemes.{words_of};
+ghost use Rattle.xr_netlist_grammar.specs.Machine.{Answers};
+ghost use Rattle.xr_netlist_grammar.specs.Refusal.{RefusesFirst};
+ghost use Rattle.xr_netlist_grammar.specs.Text.{Text};
+ghost use Rattle.xr_netlist_grammar.specs.declared.refusal.ParseErr.TheVariants.{Memory};
+ghost use Rattle.xr_netlist_grammar.specs.declared.tree.Source.{Source as source_of};
 
 use crate::module::module;
 use crate::primitive::primitive;
@@ -16,7 +16,7 @@ use crate::reader::Reader;
 use crate::skip::attribute;
 use std::alloc::Global;
 use xr_base::Items;
-use xr_grammar::{Fixed, ParseErr, Source};
+use xr_netlist_grammar::{Fixed, ParseErr, Source};
 
 /// What a netlist text stands for. The words of the tree are copies, so the text may be let go. Takes memory in proportion to the text, and its time
 /// is so, too.

@@ -3,7 +3,7 @@
 use std::alloc::{AllocError, Global};
 use std::fmt::Write;
 use xr_cell::{RawRow, Symbol};
-use xr_grammar::{
+use xr_netlist_grammar::{
     Connection, Connections, Declare, Expr, GateItem, InstanceItem, Item, Module, NamedConnection,
     Part, PartKind, PrimDeclare, Primitive, Source, Word,
 };

@@ -1,7 +1,7 @@
 -- A code that is found has the number of a track.
 use Rattle.std.proofs.Common.{◌≡◌, ℕ, suc, ◌+◌, ◌<◌, Bool, true, false, cond, List, [], ◌∷◌, length, Option, Some, IfSome, subst, arith}
-use Rattle.xr_codes.specs.Code.{Code, find, find_from, found}
-use Rattle.xr_codes.specs.declared.codes.Found.{Found}
+use Rattle.xr_vcd_codes.specs.Code.{Code, find, find_from, found}
+use Rattle.xr_vcd_codes.specs.declared.codes.Found.{Found}
 
 within_if : (b : Bool) (x : Found) (r : Option Found) (m : ℕ) → x.number < m → IfSome r (λ (c : Found). c.number < m) → IfSome (cond b (Some x) r) (λ (c : Found). c.number < m)
 within_if true x r m h k = h

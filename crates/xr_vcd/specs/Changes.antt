@@ -1,11 +1,11 @@
 -- What the changes say.
 use Rattle.std.specs.Prelude.{◌≡◌, ℕ, ◌-◌, List, [], ◌∷◌, ◌++◌, length, map, cond, ◌==◌, ◌<◌, ◌≤◌, ◌^◌, nat_le, nat_lt, Option, Some, None, Result, Ok, Err, slice_index, replicate}
-use Rattle.xr_changes.specs.Held.{Change, History, change, track_of, with_change}
+use Rattle.xr_vcd_changes.specs.Held.{Change, History, change, track_of, with_change}
 use Rattle.xr_vcd.specs.Bytes.{is_code, rest_of, front_of}
 use Rattle.xr_vcd.specs.Declarations.{Head}
 use Rattle.xr_vcd.specs.Recording.{Recording}
 use Rattle.xr_vcd.specs.Words.{Word}
-use Rattle.xr_codes.specs.declared.codes.Found.{Found}
+use Rattle.xr_vcd_codes.specs.declared.codes.Found.{Found}
 use Rattle.xr_vcd.specs.declared.refusal.VcdErr.{VcdErr}
 use Rattle.xr_vcd.specs.declared.refusal.VcdErr.TheVariants.{Syntax, UnknownCode, TimeBack, Width}
 

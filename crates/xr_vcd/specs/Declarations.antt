@@ -1,7 +1,7 @@
 -- What the declarations say.
 use Rattle.std.specs.Prelude.{ℕ, ◌-◌, List, [], ◌∷◌, ◌++◌, length, take, drop, Bool, true, false, cond, ◌==◌, Option, Some, None, slice_index}
 use Rattle.xr_vcd.specs.Bytes.{range_of, last_bracket}
-use Rattle.xr_codes.specs.Code.{Code, code}
+use Rattle.xr_vcd_codes.specs.Code.{Code, code}
 use Rattle.xr_vcd.specs.Recording.{Path, path_at}
 use Rattle.xr_vcd.specs.declared.variable.Variable.{Variable}
 

@@ -2,12 +2,12 @@
 use Rattle.std.specs.Prelude.{ℕ, List, [], ◌∷◌, ◌++◌, length, Bool, true, false, cond, ◌==◌, ◌&&◌, nat_le, nat_lt, Option, Some, None, Result, Ok, Err}
 use Rattle.xr_vcd.specs.Bytes.{is_end, is_code, are_values, are_digits, number_from, time_of, range_of, is_power, is_unit, is_scale, is_passed, rest_of}
 use Rattle.xr_vcd.specs.Changes.{Body, start, time_on, scalar_on, vector_on, real_on, recording_of}
-use Rattle.xr_codes.specs.Code.{find}
+use Rattle.xr_vcd_codes.specs.Code.{find}
 use Rattle.xr_vcd.specs.Declarations.{Head, name, name_of, with_scale, with_scope, left_scope, with_code, with_variable}
 use Rattle.xr_vcd.specs.Kinds.{kind_of}
 use Rattle.xr_vcd.specs.Recording.{Recording}
 use Rattle.xr_vcd.specs.Words.{Word}
-use Rattle.xr_codes.specs.declared.codes.Found.{Found}
+use Rattle.xr_vcd_codes.specs.declared.codes.Found.{Found}
 use Rattle.xr_vcd.specs.declared.kinds.Kind.{Kind}
 use Rattle.xr_vcd.specs.declared.kinds.Kind.TheVariants as kind
 use Rattle.xr_vcd.specs.declared.refusal.VcdErr.{VcdErr}

@@ -1,7 +1,7 @@
 -- A recording: what a text says.
 use Rattle.std.specs.Prelude.{ℕ, ◌-◌, List, [], ◌∷◌, ◌++◌, length, Option, Some, None, slice_get, slice_index_or}
 use Rattle.xr_cell.specs.declared.value.Value.{Value}
-use Rattle.xr_changes.specs.Held.{Change, bit_value}
+use Rattle.xr_vcd_changes.specs.Held.{Change, bit_value}
 use Rattle.xr_vcd.specs.declared.variable.Variable.{Variable}
 use Rattle.xr_vcd.specs.declared.variable.Scope.{Scope}
 

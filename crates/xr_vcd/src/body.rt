@@ -18,8 +18,8 @@ use crate::words::Words;
 use std::alloc::Global;
 use std::marker::Model;
 use xr_base::Memory;
-use xr_changes::Changes;
-use xr_codes::Found;
+use xr_vcd_changes::Changes;
+use xr_vcd_codes::Found;
 
 /// The declarations, and the times and changes so far.
 #[derive(Drop)]
@@ -56,7 +56,7 @@ impl<'a> Body<'a> {
     ghost use Rattle.std.specs.Prelude.{◌≡◌, ◌≤◌, ◌+◌, ◌<◌, ◌^◌, ℕ, Bool, false, List, [], ◌∷◌, length, IfOk, IfSome, OnOk, replicate};
     ghost use Rattle.xr_vcd.specs.Bytes.{time_of, rest_of};
     ghost use Rattle.xr_vcd.specs.Changes.{start, time_on, scalar_on, vector_on, real_on, changed, said_of, with_moment, undeclared};
-    ghost use Rattle.xr_codes.specs.Code.{find};
+    ghost use Rattle.xr_vcd_codes.specs.Code.{find};
     ghost use Rattle.xr_vcd.specs.Reading.{Gives, Does};
     ghost use Rattle.xr_vcd.specs.Words.{word};
 

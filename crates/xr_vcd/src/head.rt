@@ -1,7 +1,7 @@
 //! What the declarations say.
 
 ghost use Rattle.std.specs.Prelude.{◌≡◌, ◌+◌, ◌<◌, ◌==◌, length, IfOk, OnOk, OnErr, None, Some, Ok, cond};
-ghost use Rattle.xr_codes.specs.Code.{find};
+ghost use Rattle.xr_vcd_codes.specs.Code.{find};
 ghost use Rattle.xr_vcd.specs.Declarations.{Head, nothing, scope_of, with_scale, with_scope, left_scope, with_code, with_variable};
 ghost use Rattle.xr_vcd.specs.Naming.{shown_name};
 ghost use Rattle.xr_vcd.specs.Reading.{Does};
@@ -12,7 +12,7 @@ use crate::variable::{Scope, Variable};
 use std::alloc::Global;
 use std::marker::Model;
 use xr_base::{Items, Memory};
-use xr_codes::{Codes, Found};
+use xr_vcd_codes::{Codes, Found};
 
 /// There are at most so many scopes, variables and moments, 2^28 - 1: no text of 2^28 bytes has more.
 pub const LIMIT: usize = 268_435_455;
@@ -43,7 +43,7 @@ impl<'a> Model for Head<'a> {
 
 impl<'a> Head<'a> {
     ghost use Rattle.std.specs.Prelude.{◌≡◌, ◌+◌, ◌<◌, ◌==◌, ◌++◌, nat_lt, length, IfOk, OnOk, OnErr, None, Some, Ok, cond};
-    ghost use Rattle.xr_codes.specs.Code.{find};
+    ghost use Rattle.xr_vcd_codes.specs.Code.{find};
     ghost use Rattle.xr_vcd.specs.Declarations.{nothing, scope_of, with_scale, with_scope, left_scope, with_code, with_variable};
     ghost use Rattle.xr_vcd.specs.Naming.{shown_name};
     ghost use Rattle.xr_vcd.specs.Reading.{Does};

@@ -7,7 +7,7 @@ use crate::variable::{Scope, Variable};
 use std::marker::Model;
 use xr_base::Items;
 use xr_cell::Value;
-use xr_changes::Changes;
+use xr_vcd_changes::Changes;
 
 /// A recording. Scopes are numbered in the order of the text, from 1; 0 is the place outside every scope. Variables and moments
 /// are numbered from 0.
@@ -23,7 +23,7 @@ pub struct Recording {
 
 impl Model for Recording {
     ghost use Rattle.std.specs.Prelude.{map};
-    ghost use Rattle.xr_changes.specs.Held.{track_of};
+    ghost use Rattle.xr_vcd_changes.specs.Held.{track_of};
     ghost use Rattle.xr_vcd.specs.Recording.{Recording, paths_of};
     ghost use Rattle.xr_vcd.specs.Trees.{IsFew};
 
@@ -36,7 +36,7 @@ impl Model for Recording {
 
 impl Recording {
     ghost use Rattle.std.specs.Prelude.{◌≡◌, ◌+◌, ◌<◌, ◌^◌, [], ◌∷◌, ◌++◌, length, map, option_map, slice_index_or};
-    ghost use Rattle.xr_changes.specs.Held.{track_of};
+    ghost use Rattle.xr_vcd_changes.specs.Held.{track_of};
     ghost use Rattle.xr_vcd.specs.Recording.{path_at, last_name, value_at, width_at};
 
     /// What the declarations, the times and the changes say. Takes no memory.

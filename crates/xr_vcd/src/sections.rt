@@ -2,7 +2,7 @@
 
 ghost use Rattle.std.specs.Prelude.{◌≡◌, ◌<◌, ◌++◌, Bool, false, ℕ, List, length, IfOk};
 ghost use Rattle.xr_vcd.specs.Changes.{Body, start};
-ghost use Rattle.xr_codes.specs.Code.{find};
+ghost use Rattle.xr_vcd_codes.specs.Code.{find};
 ghost use Rattle.xr_vcd.specs.Declarations.{Head, with_variable};
 ghost use Rattle.xr_vcd.specs.Machine.{upscope_on, code_on};
 ghost use Rattle.xr_vcd.specs.Machine.State.{definitions_end, note, scale, scope_kind, scale_end, var_kind, var_width, var_code, var_reference, body, body_note, head as in_head};

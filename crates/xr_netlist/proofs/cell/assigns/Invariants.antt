@@ -1,8 +1,8 @@
 use Rattle.std.proofs.Common.{◌≡◌, ◌≤◌, List, length}
-use Rattle.xr_grammar.specs.Machine.{goes, assign, expr_start, left}
-use Rattle.xr_grammar.specs.Trees.{under}
-use Rattle.xr_grammar.specs.declared.tree.Source.{Source}
-use Rattle.xr_grammar.specs.declared.tree.Word.{Word}
+use Rattle.xr_netlist_grammar.specs.Machine.{goes, assign, expr_start, left}
+use Rattle.xr_netlist_grammar.specs.Trees.{under}
+use Rattle.xr_netlist_grammar.specs.declared.tree.Source.{Source}
+use Rattle.xr_netlist_grammar.specs.declared.tree.Word.{Word}
 use Rattle.xr_netlist.proofs.cell.assigns.Given as goal
 
 abbrev pub invariant-assigns : goal.invariant-assigns

@@ -1,7 +1,7 @@
 use Rattle.std.proofs.Common.{◌≡◌, ◌≤◌, [], Option, length}
-use Rattle.xr_grammar.specs.Machine.{goes, connection}
-use Rattle.xr_grammar.specs.Trees.{Under}
-use Rattle.xr_grammar.specs.declared.tree.Word.{Word}
+use Rattle.xr_netlist_grammar.specs.Machine.{goes, connection}
+use Rattle.xr_netlist_grammar.specs.Trees.{Under}
+use Rattle.xr_netlist_grammar.specs.declared.tree.Word.{Word}
 use Rattle.xr_netlist.proofs.cell.positional.Given as goal
 
 abbrev pub invariant-list : goal.invariant-list

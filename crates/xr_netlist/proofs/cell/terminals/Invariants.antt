@@ -1,7 +1,7 @@
 use Rattle.std.proofs.Common.{◌≡◌, ◌≤◌, [], ℕ, length}
-use Rattle.xr_grammar.specs.Machine.{goes, expr_start, terminal}
-use Rattle.xr_grammar.specs.Trees.{Under}
-use Rattle.xr_grammar.specs.declared.tree.GateKind.{GateKind}
+use Rattle.xr_netlist_grammar.specs.Machine.{goes, expr_start, terminal}
+use Rattle.xr_netlist_grammar.specs.Trees.{Under}
+use Rattle.xr_netlist_grammar.specs.declared.tree.GateKind.{GateKind}
 use Rattle.xr_netlist.proofs.cell.terminals.Given as goal
 
 abbrev pub invariant-list : goal.invariant-list

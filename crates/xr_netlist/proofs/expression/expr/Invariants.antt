@@ -1,6 +1,6 @@
 use Rattle.std.proofs.Common.{◌≡◌, ◌+◌, ◌≤◌, ◌<◌, length}
-use Rattle.xr_grammar.specs.Machine.{goes, Context}
-use Rattle.xr_grammar.specs.Machine.State.{expr_start, expr, after_part}
+use Rattle.xr_netlist_grammar.specs.Machine.{goes, Context}
+use Rattle.xr_netlist_grammar.specs.Machine.State.{expr_start, expr, after_part}
 use Rattle.xr_netlist.proofs.expression.expr.Given as goal
 
 abbrev pub invariant-parts : goal.invariant-parts

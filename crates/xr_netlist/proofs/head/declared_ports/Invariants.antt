@@ -1,8 +1,8 @@
 use Rattle.std.proofs.Common.{◌≡◌, ◌≤◌, [], None, length}
-use Rattle.xr_grammar.specs.Machine.{goes, port_direction}
-use Rattle.xr_grammar.specs.Trees.{under}
-use Rattle.xr_grammar.specs.declared.tree.Source.{Source}
-use Rattle.xr_grammar.specs.declared.tree.Word.{Word}
+use Rattle.xr_netlist_grammar.specs.Machine.{goes, port_direction}
+use Rattle.xr_netlist_grammar.specs.Trees.{under}
+use Rattle.xr_netlist_grammar.specs.declared.tree.Source.{Source}
+use Rattle.xr_netlist_grammar.specs.declared.tree.Word.{Word}
 use Rattle.xr_netlist.proofs.head.declared_ports.Given as goal
 
 abbrev pub invariant-ports : goal.invariant-ports

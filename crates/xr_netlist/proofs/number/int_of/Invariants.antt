@@ -1,6 +1,6 @@
 use Rattle.std.proofs.Common.{◌≡◌, ◌≤◌, length}
 use Rattle.std.specs.List.{list_all}
-use Rattle.xr_grammar.specs.Bytes.{is_digit, number_from}
+use Rattle.xr_netlist_grammar.specs.Bytes.{is_digit, number_from}
 use Rattle.xr_netlist.proofs.number.int_of.Given as goal
 
 abbrev pub invariant-digits : goal.invariant-digits

@@ -1,6 +1,6 @@
 use Rattle.std.proofs.Common.{◌≡◌, ◌+◌, ◌≤◌, length}
 use Rattle.std.specs.List.{prefix_len}
-use Rattle.xr_grammar.specs.Bytes.{is_digit}
+use Rattle.xr_netlist_grammar.specs.Bytes.{is_digit}
 use Rattle.xr_netlist.proofs.number.leading_digits.Given as goal
 
 abbrev pub invariant-digits : goal.invariant-digits

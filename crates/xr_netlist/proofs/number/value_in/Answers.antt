@@ -1,5 +1,5 @@
 use Rattle.std.proofs.Common.{sym}
-use Rattle.xr_grammar.specs.Numbers.{are_spaced_digits, spaced_number}
+use Rattle.xr_netlist_grammar.specs.Numbers.{are_spaced_digits, spaced_number}
 use Rattle.xr_netlist.proofs.Numbers.{narrower}
 use Rattle.xr_netlist.proofs.number.value_in.Goals as goal
 

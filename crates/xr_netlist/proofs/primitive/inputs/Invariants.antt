@@ -1,8 +1,8 @@
 use Rattle.std.proofs.Common.{◌≡◌, ◌≤◌, [], List, length}
-use Rattle.xr_grammar.specs.Machine.{goes, input_declared}
-use Rattle.xr_grammar.specs.Trees.{within}
-use Rattle.xr_grammar.specs.declared.tree.Source.{Source}
-use Rattle.xr_grammar.specs.declared.tree.Word.{Word}
+use Rattle.xr_netlist_grammar.specs.Machine.{goes, input_declared}
+use Rattle.xr_netlist_grammar.specs.Trees.{within}
+use Rattle.xr_netlist_grammar.specs.declared.tree.Source.{Source}
+use Rattle.xr_netlist_grammar.specs.declared.tree.Word.{Word}
 use Rattle.xr_netlist.proofs.primitive.inputs.Given as goal
 
 abbrev pub invariant-inputs : goal.invariant-inputs

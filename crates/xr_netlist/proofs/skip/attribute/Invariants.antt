@@ -1,5 +1,5 @@
 use Rattle.std.proofs.Common.{◌≡◌, ◌<◌, length}
-use Rattle.xr_grammar.specs.Machine.{goes, Place, attr_open, attr_star}
+use Rattle.xr_netlist_grammar.specs.Machine.{goes, Place, attr_open, attr_star}
 use Rattle.xr_netlist.proofs.skip.attribute.Given as goal
 
 abbrev pub invariant-stars : goal.invariant-stars

@@ -1,5 +1,5 @@
 use Rattle.std.proofs.Common.{◌≡◌, ◌+◌, ◌≤◌, length}
-use Rattle.xr_grammar.specs.Machine.{goes, Delayed, in_delay}
+use Rattle.xr_netlist_grammar.specs.Machine.{goes, Delayed, in_delay}
 use Rattle.xr_netlist.proofs.skip.parenthesized.Given as goal
 
 abbrev pub invariant-tokens : goal.invariant-tokens

@@ -1,6 +1,6 @@
 use Rattle.std.proofs.Common.{◌≡◌, ◌≤◌, length}
-use Rattle.xr_grammar.specs.Machine.{goes, in_specify}
-use Rattle.xr_grammar.specs.Trees.{Under}
+use Rattle.xr_netlist_grammar.specs.Machine.{goes, in_specify}
+use Rattle.xr_netlist_grammar.specs.Trees.{Under}
 use Rattle.xr_netlist.proofs.skip.specify.Given as goal
 
 abbrev pub invariant-tokens : goal.invariant-tokens

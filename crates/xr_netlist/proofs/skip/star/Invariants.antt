@@ -1,5 +1,5 @@
 use Rattle.std.proofs.Common.{◌≡◌, ◌≤◌, length}
-use Rattle.xr_grammar.specs.Machine.{goes, Place, in_attr}
+use Rattle.xr_netlist_grammar.specs.Machine.{goes, Place, in_attr}
 use Rattle.xr_netlist.proofs.skip.star.Given as goal
 
 abbrev pub invariant-tokens : goal.invariant-tokens

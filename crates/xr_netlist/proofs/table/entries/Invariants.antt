@@ -1,6 +1,6 @@
 use Rattle.std.proofs.Common.{◌≡◌, ◌<◌, length}
-use Rattle.xr_grammar.specs.Machine.{goes, first_row, in_row}
-use Rattle.xr_grammar.specs.Trees.{Within}
+use Rattle.xr_netlist_grammar.specs.Machine.{goes, first_row, in_row}
+use Rattle.xr_netlist_grammar.specs.Trees.{Within}
 use Rattle.xr_netlist.proofs.table.entries.Given as goal
 
 abbrev pub invariant-entries : goal.invariant-entries

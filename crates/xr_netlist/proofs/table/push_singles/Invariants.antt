@@ -1,5 +1,5 @@
 use Rattle.std.proofs.Common.{◌≡◌, ◌++◌, ◌∷◌, length}
-use Rattle.xr_grammar.specs.Trees.{singles}
+use Rattle.xr_netlist_grammar.specs.Trees.{singles}
 use Rattle.xr_netlist.proofs.table.push_singles.Given as goal
 
 abbrev pub invariant-symbols : goal.invariant-symbols

@@ -1,10 +1,10 @@
 use Rattle.std.proofs.Common.{◌≡◌, ◌≤◌, [], List, length}
-use Rattle.xr_grammar.specs.Machine.{goes, first_row}
-use Rattle.xr_grammar.specs.Trees.{within}
-use Rattle.xr_grammar.specs.declared.tree.Source.{Source}
-use Rattle.xr_grammar.specs.declared.tree.Word.{Word}
-use Rattle.xr_grammar.specs.Trees.{is_sequential}
-use Rattle.xr_grammar.specs.declared.tree.PrimDeclare.{PrimDeclare}
+use Rattle.xr_netlist_grammar.specs.Machine.{goes, first_row}
+use Rattle.xr_netlist_grammar.specs.Trees.{within}
+use Rattle.xr_netlist_grammar.specs.declared.tree.Source.{Source}
+use Rattle.xr_netlist_grammar.specs.declared.tree.Word.{Word}
+use Rattle.xr_netlist_grammar.specs.Trees.{is_sequential}
+use Rattle.xr_netlist_grammar.specs.declared.tree.PrimDeclare.{PrimDeclare}
 use Rattle.xr_netlist.proofs.table.rows.Given as goal
 
 abbrev pub invariant-rows : goal.invariant-rows

@@ -1,4 +1,4 @@
-use Rattle.xr_grammar.proofs.Theorem.{found_is, only_is, first_is}
+use Rattle.xr_netlist_grammar.proofs.Theorem.{found_is, only_is, first_is}
 use Rattle.xr_netlist.proofs.text.parse.Goals as goal
 
 pub returns-clause-told : goal.returns-clause-told

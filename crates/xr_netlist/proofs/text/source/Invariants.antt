@@ -1,6 +1,6 @@
 use Rattle.std.proofs.Common.{◌≡◌, ◌≤◌, length}
-use Rattle.xr_grammar.specs.Machine.{goes, parse_of, top}
-use Rattle.xr_grammar.specs.Trees.{source_of}
+use Rattle.xr_netlist_grammar.specs.Machine.{goes, parse_of, top}
+use Rattle.xr_netlist_grammar.specs.Trees.{source_of}
 use Rattle.xr_netlist.proofs.text.source.Given as goal
 
 abbrev pub invariant-texts : goal.invariant-texts

@@ -1,7 +1,7 @@
 -- Each declared code has its track.
 use Rattle.std.proofs.Common.{◌<◌, Option, IfSome, length, sym, subst}
 use Rattle.xr_vcd.specs.Changes.{Body}
-use Rattle.xr_codes.specs.declared.codes.Found.{Found}
+use Rattle.xr_vcd_codes.specs.declared.codes.Found.{Found}
 use Rattle.xr_vcd.proofs.Found.{found_within}
 use Rattle.xr_vcd.proofs.body.Body.find.Goals as goal
 

@@ -1,4 +1,0 @@
--- Definitions of xr_changes: what a code holds in a moment, and how changes are stored.
-pub mod Held
-pub mod Stored
-pub mod Texts

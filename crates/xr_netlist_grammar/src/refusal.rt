@@ -1,0 +1,44 @@
+//! Why a text is none of the grammar.
+
+ghost use Rattle.std.specs.Prelude.{◌≡◌};
+ghost use Rattle.xr_netlist_grammar.specs.declared.refusal.ParseErr.TheVariants.{Memory as OutOfMemory};
+
+use std::alloc::{AllocError, AllocFailed};
+use xr_base::Memory;
+use xr_text::LexErr;
+
+/// The first token with which no text of the grammar goes on. `at` is its first byte, or the length of the text at its end.
+#[derive(Clone, Copy, Debug, PartialEq, Eq)]
+pub enum ParseErr {
+    /// There is no token.
+    Lex(LexErr),
+    /// The token may not stand here.
+    Unexpected { at: usize },
+    /// The token begins an item that the profile leaves out.
+    OutOfProfile { at: usize },
+    Memory,
+}
+
+impl From<AllocError> for ParseErr {
+    ghost from_gives = { λ _ refusal. refusal ≡ OutOfMemory };
+
+    fn from(_: AllocError) -> ParseErr {
+        ParseErr::Memory
+    }
+}
+
+impl<T: Drop> From<AllocFailed<T>> for ParseErr {
+    ghost from_gives = { λ _ refusal. refusal ≡ OutOfMemory };
+
+    fn from(_: AllocFailed<T>) -> ParseErr {
+        ParseErr::Memory
+    }
+}
+
+impl From<Memory> for ParseErr {
+    ghost from_gives = { λ _ refusal. refusal ≡ OutOfMemory };
+
+    fn from(_: Memory) -> ParseErr {
+        ParseErr::Memory
+    }
+}

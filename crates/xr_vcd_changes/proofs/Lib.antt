@@ -1,0 +1,5 @@
+-- Lemmas of xr_vcd_changes: texts cut from bytes, entries stored, the digits that are held.
+pub mod Counts
+pub mod Cuts
+pub mod Holds
+pub mod Stores

@@ -1,0 +1,161 @@
+//! Codes in the order of their declaration.
+
+ghost use Rattle.std.specs.Prelude.{◌≡◌, true, false, ℕ, ◌<◌, [], ◌∷◌, ◌++◌, OnOk, None, length, slice_index};
+ghost use Rattle.xr_vcd_codes.specs.Code.{find, code};
+ghost use Rattle.xr_vcd_codes.specs.Slots.{is_short, stored_number, slot_number};
+
+use crate::columns::Columns;
+use crate::slots::{is_short, slot_of};
+use indexmap::IndexMap;
+use std::alloc::Global;
+use std::marker::Model;
+use xr_base::Memory;
+
+/// A code that was found: its number from 0, its width, and whether it is passed over.
+#[derive(Clone, Copy)]
+pub struct Found {
+    pub number: usize,
+    pub width: u32,
+    pub passed: bool,
+}
+
+/// The codes of a text, in the order of their declaration. A code takes 24 bytes and its place in a table of at most 2,572,125
+/// numbers, or in a map where it isn't short.
+#[derive(Drop)]
+pub struct Codes<'a> {
+    columns: Columns<'a>,
+    slots: Vec<u32>,
+    others: IndexMap<&'a [u8], u32>,
+}
+
+impl<'a> Model for Codes<'a> {
+    ghost use Rattle.std.specs.Prelude.{List};
+    ghost use Rattle.xr_vcd_codes.specs.Code.{Code};
+    ghost use Rattle.xr_vcd_codes.specs.Slots.{Knows};
+
+    ghost Value = { List Code };
+
+    ghost view = { λ c. c.columns };
+
+    ghost invariant = { λ c. Knows c.slots.items c.others.entries c.columns };
+}
+
+impl<'a> Codes<'a> {
+    ghost use Rattle.std.specs.Prelude.{◌≡◌, true, false, [], ◌∷◌, ◌++◌, OnOk, None, length};
+    ghost use Rattle.xr_vcd_codes.specs.Code.{find, code};
+    ghost use Rattle.xr_vcd_codes.specs.Slots.{is_short};
+
+    /// No codes. Takes no memory.
+    pub fn new(alloc: Global) -> Codes<'a>
+        ensures { result ≡ [] }
+    {
+        Codes {
+            columns: Columns::new(alloc),
+            slots: Vec::new(alloc),
+            others: IndexMap::new(alloc),
+        }
+    }
+
+    /// How many there are. Takes no memory.
+    pub fn len(&self) -> usize
+        ensures { result ≡ length self.now }
+    {
+        self.columns.len()
+    }
+
+    /// The code with this text. Takes no memory.
+    pub fn find(&self, text: &[u8]) -> Option<Found>
+        ensures { result ≡ find self.now text.now }
+    {
+        let number = match stored_number(self.slots.as_slice(), &self.others, text) {
+            None => return None,
+            Some(number) => number as usize,
+        };
+        let mark = self.columns.mark(number);
+        Some(Found {
+            number,
+            width: mark.width,
+            passed: mark.passed,
+        })
+    }
+
+    /// A new code, which takes the next number. More than 2^32 - 2 codes are want of memory.
+    pub fn add(&mut self, text: &'a [u8], width: u32, passed: bool) -> Result<(), Memory>
+        requires { find self.old text.now ≡ None }
+        ensures { OnOk result (self.new ≡ self.old ++ code text.now width passed ∷ []) }
+    {
+        if is_short(text) {
+            self.add_short(text, width, passed)
+        } else {
+            self.add_other(text, width, passed)
+        }
+    }
+
+    fn add_short(&mut self, text: &'a [u8], width: u32, passed: bool) -> Result<(), Memory>
+        requires new { find self.old text.now ≡ None }
+        requires short { is_short text.now ≡ true }
+        ensures { OnOk result (self.new ≡ self.old ++ code text.now width passed ∷ []) }
+    {
+        let number = self.columns.len();
+        if number >= u32::MAX as usize {
+            return Err(Memory);
+        }
+        let slot = slot_of(text);
+        reach(&mut self.slots, slot)?;
+        self.columns.push(text, width, passed)?;
+        self.slots[slot] = number as u32 + 1;
+        Ok(())
+    }
+
+    fn add_other(&mut self, text: &'a [u8], width: u32, passed: bool) -> Result<(), Memory>
+        requires new { find self.old text.now ≡ None }
+        requires long { is_short text.now ≡ false }
+        ensures { OnOk result (self.new ≡ self.old ++ code text.now width passed ∷ []) }
+    {
+        let number = self.columns.len();
+        if number >= u32::MAX as usize {
+            return Err(Memory);
+        }
+        self.columns.push(text, width, passed)?;
+        match self.others.insert(text, number as u32) {
+            Ok(_) => Ok(()),
+            Err(_) => {
+                self.columns.truncate(number);
+                Err(Memory)
+            }
+        }
+    }
+}
+
+/// The number of a code, by the table and the map.
+fn stored_number(slots: &[u32], others: &IndexMap<&[u8], u32>, text: &[u8]) -> Option<u32>
+    ensures { result ≡ stored_number slots.now others.now.entries text.now }
+{
+    if is_short(text) {
+        return slot_number(slots, slot_of(text));
+    }
+    match others.get(text) {
+        Some(number) => Some(*number),
+        None => None,
+    }
+}
+
+fn slot_number(slots: &[u32], slot: usize) -> Option<u32>
+    ensures { result ≡ slot_number (slice_index slots.now slot) }
+{
+    if slot >= slots.len() || slots[slot] == 0 {
+        return None;
+    }
+    Some(slots[slot] - 1)
+}
+
+/// Empty slots up to this one.
+fn reach(slots: &mut Vec<u32>, slot: usize) -> Result<(), Memory>
+    ensures same { (k : ℕ) → slice_index slots.new.items k ≡ slice_index slots.old.items k }
+    ensures there { OnOk result (slot < length slots.new.items) }
+{
+    'slots: while slots.len() <= slot {
+        slots.push(0)?;
+    }
+    Ok(())
+}
