@@ -2,10 +2,13 @@
 
 ghost use Rattle.std.specs.Prelude.{◌≡◌, ◌*◌, ◌<◌, ◌/◌};
 ghost use Rattle.xr_design.specs.Job.{places_of};
-ghost use Rattle.xr_cli.specs.Circuit.{job_in, CircuitFits, IsSpot};
+ghost use Rattle.xr_design.specs.Circuit.{job_in, CircuitFits, IsSpot};
+ghost use Rattle.xr_design.specs.Register as spec;
 
+use crate::design::{Design, Driver};
+use crate::order::Order;
+use crate::stim::{StartRule, Stim};
 use xr_cell::Value;
-use xr_design::{Design, Driver, Order, Stim};
 
 /// A design with its order and its stimulus.
 #[derive(Clone, Copy, Debug)]
@@ -61,6 +64,22 @@ pub fn driver_at<'a>(circuit: &Circuit<'a>, net: usize) -> &'a Driver
     ensures { result.now ≡ (job_in circuit.now).driver net }
 {
     &circuit.design.nets.as_slice()[net].driver
+}
+
+/// What a net starts with.
+pub fn start_at(circuit: &Circuit<'_>, net: usize) -> Value
+    requires fits { CircuitFits circuit.now }
+    requires net { net < (job_in circuit.now).width }
+    ensures { result ≡ (job_in circuit.now).start net }
+{
+    circuit.stim.starts.as_slice()[net]
+}
+
+/// Whether a register that looks two steps back from a step sees nothing there.
+pub fn looks_before(circuit: &Circuit<'_>, step: usize) -> bool
+    ensures { result ≡ spec.looks_before (job_in circuit.now) step }
+{
+    step == 1 && matches!(circuit.stim.start, StartRule::Cold)
 }
 
 /// What the recording has for an input at a step.
