@@ -5,14 +5,15 @@
 mod body;
 mod bytes;
 mod cursor;
+mod declarations;
 mod fault;
-mod head;
 mod kinds;
 mod ranges;
 mod read;
+mod read_changes;
+mod read_declarations;
 mod recording;
 mod refusal;
-mod sections;
 mod variable;
 mod words;
 

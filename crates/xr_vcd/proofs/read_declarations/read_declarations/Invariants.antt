@@ -1,12 +1,12 @@
 -- Declaration by declaration.
 use Rattle.std.proofs.Common.{◌≡◌, ◌≤◌, length}
-use Rattle.xr_vcd.specs.Machine.State.{head}
+use Rattle.xr_vcd.specs.Machine.State.{declaring}
 use Rattle.xr_vcd.specs.Reading.{goes}
-use Rattle.xr_vcd.proofs.sections.read_declarations.Given as goal
+use Rattle.xr_vcd.proofs.read_declarations.read_declarations.Given as goal
 
 abbrev pub invariant-declarations : goal.invariant-declarations
 invariant-declarations l = record {
-  reads : goes (head l.fn.head) l.fn.words ≡ goes (head l.head) l.words;
+  reads : goes (declaring l.fn.declared) l.fn.words ≡ goes (declaring l.declared) l.words;
   shortens : length l.words.words ≤ length l.fn.words.words;
 }
 

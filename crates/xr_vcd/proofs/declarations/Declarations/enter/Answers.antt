@@ -2,7 +2,7 @@
 use Rattle.std.proofs.Common.{◌∙◌, refl, sym, ap}
 use Rattle.xr_vcd.specs.Declarations.{scope_of}
 use Rattle.xr_vcd.proofs.Paths.{entered_path, entered_number}
-use Rattle.xr_vcd.proofs.head.Head.enter.Goals as goal
+use Rattle.xr_vcd.proofs.declarations.Declarations.enter.Goals as goal
 
 pub returns : goal.returns
 returns c =

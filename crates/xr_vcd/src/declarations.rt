@@ -1,12 +1,8 @@
-//! What the declarations say.
+//! What is declared so far: scopes, codes and variables. `read_declarations.rt` reads them.
 
-ghost use Rattle.std.specs.Prelude.{◌≡◌, ◌+◌, ◌<◌, ◌==◌, length, IfOk, OnOk, OnErr, None, Some, Ok, cond};
-ghost use Rattle.xr_vcd_codes.specs.Code.{find};
-ghost use Rattle.xr_vcd.specs.Declarations.{Head, nothing, scope_of, with_scale, with_scope, left_scope, with_code, with_variable};
-ghost use Rattle.xr_vcd.specs.Naming.{shown_name};
-ghost use Rattle.xr_vcd.specs.Reading.{Does};
+ghost use Rattle.std.specs.Prelude.{◌≡◌, IfOk};
 
-use crate::ranges::Name;
+use crate::ranges::RecordedName;
 use crate::refusal::VcdErr;
 use crate::variable::{Scope, Variable};
 use std::alloc::Global;
@@ -17,9 +13,9 @@ use xr_vcd_codes::{Codes, Found};
 /// There are at most so many scopes, variables and moments, 2^28 - 1: no text of 2^28 bytes has more.
 pub const LIMIT: usize = 268_435_455;
 
-/// What was declared so far.
+/// What is declared so far.
 #[derive(Drop)]
-pub struct Head<'a> {
+pub struct Declarations<'a> {
     pub alloc: Global,
     pub timescale: Option<Items<u8>>,
     pub scopes: Vec<Scope>,
@@ -29,29 +25,30 @@ pub struct Head<'a> {
     pub numbers: Vec<u32>,
 }
 
-impl<'a> Model for Head<'a> {
-    ghost use Rattle.xr_vcd.specs.Declarations.{Head};
+impl<'a> Model for Declarations<'a> {
+    ghost use Rattle.xr_vcd.specs.Declarations.{Declarations};
     ghost use Rattle.xr_vcd.specs.Recording.{paths_of};
-    ghost use Rattle.xr_vcd.specs.Trees.{IsHead};
+    ghost use Rattle.xr_vcd.specs.Trees.{AreDeclared, IsEntered};
 
-    ghost Value = { Head };
+    ghost Value = { Declarations };
 
     ghost view = { λ h. record { timescale = h.timescale; scopes = paths_of h.scopes.items; entered = h.entered.items; codes = h.codes; variables = h.variables.items; numbers = h.numbers.items } };
 
-    ghost invariant = { λ h. IsHead h.scopes.items h.entered.items h.variables.items };
+    ghost invariant = { λ h. AreDeclared h.scopes.items h.variables.items h.numbers.items × IsEntered h.scopes.items h.entered.items };
 }
 
-impl<'a> Head<'a> {
-    ghost use Rattle.std.specs.Prelude.{◌≡◌, ◌+◌, ◌<◌, ◌==◌, ◌++◌, nat_lt, length, IfOk, OnOk, OnErr, None, Some, Ok, cond};
+impl<'a> Declarations<'a> {
+    ghost use Rattle.std.specs.Prelude.{◌≡◌, ◌+◌, ◌<◌, ◌≤◌, ◌^◌, ◌==◌, [], ◌∷◌, ◌++◌, nat_lt, length, IfOk, OnOk, OnErr, IfSome, None, Some, Ok, cond};
     ghost use Rattle.xr_vcd_codes.specs.Code.{find};
-    ghost use Rattle.xr_vcd.specs.Declarations.{nothing, scope_of, with_scale, with_scope, left_scope, with_code, with_variable};
+    ghost use Rattle.xr_vcd.specs.Declarations.{nothing, scope_of, with_scale, with_scope, left_scope, with_code, with_kind, with_variable};
     ghost use Rattle.xr_vcd.specs.Naming.{shown_name};
     ghost use Rattle.xr_vcd.specs.Reading.{Does};
+    ghost use Rattle.xr_vcd.specs.Recording.{IsVariable};
 
-    pub fn new(alloc: Global) -> Head<'a>
+    pub fn new(alloc: Global) -> Declarations<'a>
         ensures { result ≡ nothing }
     {
-        Head {
+        Declarations {
             alloc,
             timescale: None,
             scopes: Vec::new(alloc),
@@ -108,33 +105,44 @@ impl<'a> Head<'a> {
     }
 
     pub fn find(&self, text: &[u8]) -> Option<Found>
-        ensures { result ≡ find self.now.codes text.now }
+        ensures is { result ≡ find self.now.codes text.now }
+        ensures within { IfSome result (λ found. found.number < length self.now.codes) }
     {
         self.codes.find(text)
     }
 
-    /// A new code, which takes the next number.
-    pub fn add_code(&mut self, text: &'a [u8], width: u32, passed: bool) -> Result<usize, VcdErr>
+    /// A new code, of one variable, which takes the next number.
+    pub fn add_code(&mut self, text: &'a [u8], width: u32, skipped: bool) -> Result<usize, VcdErr>
         requires { find self.old.codes text.now ≡ None }
-        ensures is { Does result (self.new ≡ with_code self.old text.now width passed) }
+        ensures is { Does result (self.new ≡ with_code self.old text.now width skipped) }
         ensures number { IfOk result (λ number. number ≡ length self.old.codes) }
     {
         let number = self.codes.len();
-        self.codes.add(text, width, passed)?;
+        self.codes.add(text, width, skipped)?;
         Ok(number)
     }
 
-    /// A variable, which is listed where it isn't passed over. More than `LIMIT`, of codes too, are want of memory.
+    /// One more variable of the code with this number.
+    pub fn add_kind(&mut self, number: usize, skipped: bool)
+        requires { number < length self.old.codes }
+        ensures { self.new ≡ with_kind self.old number skipped }
+    {
+        self.codes.add_kind(number, skipped);
+    }
+
+    /// A variable, which is listed where it isn't skipped. More than `LIMIT`, of codes too, are want of memory.
     pub fn add_variable(
         &mut self,
-        passed: bool,
+        skipped: bool,
         number: usize,
         width: u32,
-        name: &Name<'_>,
+        name: &RecordedName<'_>,
     ) -> Result<(), VcdErr>
-        ensures { Does result (self.new ≡ with_variable self.old passed number width (shown_name name.now)) }
+        requires some { 1 ≤ width }
+        requires wide { width ≤ 2 ^ 20 }
+        ensures { Does result (self.new ≡ with_variable self.old skipped number width (shown_name name.now)) }
     {
-        if passed {
+        if skipped {
             return Ok(());
         }
         if number > LIMIT || self.variables.len() >= LIMIT {
@@ -142,15 +150,31 @@ impl<'a> Head<'a> {
         }
         let reference = bytes_of(self.alloc, name.reference)?;
         let scope = self.scope();
-        self.variables.push(Variable {
+        let variable = Variable {
             scope,
             reference,
             range: name.range,
             direct: name.direct,
             width,
-        })?;
-        self.numbers.push(number as u32)?;
-        Ok(())
+        };
+        self.list(variable, number as u32)
+    }
+
+    /// A variable behind the others, and the number of its code.
+    fn list(&mut self, variable: Variable, number: u32) -> Result<(), VcdErr>
+        requires variable { IsVariable (length self.old.scopes) variable }
+        requires few { length self.old.variables + 1 < 2 ^ 28 }
+        ensures { Does result (self.new ≡ record self.old { variables = self.old.variables ++ variable ∷ []; numbers = self.old.numbers ++ number ∷ [] }) }
+    {
+        let count = self.numbers.len();
+        self.numbers.push(number)?;
+        match self.variables.push(variable) {
+            Ok(_) => Ok(()),
+            Err(_) => {
+                self.numbers.truncate(count);
+                Err(VcdErr::Memory)
+            }
+        }
     }
 }
 

@@ -2,7 +2,7 @@
 use Rattle.std.proofs.Common.{◌≡◌, false, length}
 use Rattle.xr_vcd.specs.Machine.State.{body}
 use Rattle.xr_vcd.specs.Reading.{goes}
-use Rattle.xr_vcd.proofs.body.read_changes.Given as goal
+use Rattle.xr_vcd.proofs.read_changes.read_changes.Given as goal
 
 abbrev pub invariant-changes : goal.invariant-changes
 invariant-changes l = record {
