@@ -1,0 +1,3 @@
+-- Definitions of test_cases.
+pub mod Left
+pub mod Lines
