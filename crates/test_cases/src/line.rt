@@ -1,6 +1,6 @@
 //! The lines of a case file.
 
-ghost use Rattle.std.specs.Prelude.{◌≡◌, ◌≢◌, length};
+ghost use Rattle.std.specs.Prelude.{◌≡◌, ◌≢◌, ◌⊎◌, ◌∷◌, ◌++◌, [], ℕ, List, IsTrue, MatchOption, length};
 ghost use Rattle.test_cases.specs.Lines.{LineBreak};
 
 /// A line of a case file, without its end, and its number, counted from 1.
@@ -12,12 +12,18 @@ pub struct Line<'a> {
 
 impl<'a> Line<'a> {
     /// Nothing stands on the line, or it begins with a `#` and a space.
-    pub fn is_idle(&self) -> bool {
+    pub fn is_idle(&self) -> bool
+        ensures empty { self.now.text.now ≡ [] → IsTrue result }
+        ensures note { (rest : List ℕ) → self.now.text.now ≡ 35 ∷ 32 ∷ rest → IsTrue result }
+        ensures idle { IsTrue result → (self.now.text.now ≡ []) ⊎ ((rest : List ℕ) × (self.now.text.now ≡ 35 ∷ 32 ∷ rest)) }
+    {
         self.text.is_empty() || self.text.starts_with(b"# ")
     }
 
     /// What stands behind this mark at the line's head.
-    pub fn behind(&self, mark: &[u8]) -> Option<&'a [u8]> {
+    pub fn behind(&self, mark: &[u8]) -> Option<&'a [u8]>
+        ensures { MatchOption result ((rest : List ℕ) → self.now.text.now ≢ mark.now ++ rest) (λ rest. self.now.text.now ≡ mark.now ++ rest.now) }
+    {
         self.text.strip_prefix(mark)
     }
 }

@@ -1,5 +1,8 @@
 //! What was compared, and what of it failed.
 
+ghost use Rattle.std.specs.Prelude.{◌≡◌, ◌++◌, ◌∷◌, [], Some, OnOk, IfOk, IsTrue, true, false, string_bytes, decimal};
+ghost use Rattle.test_cases.specs.Compared.{ended, place_of};
+
 use crate::line::{Line, Lines};
 use std::alloc::{AllocError, Global};
 use std::fmt;
@@ -17,7 +20,12 @@ pub struct Report {
 
 impl Report {
     /// No case so far. Keeps a copy of the file's name.
-    pub fn new(alloc: Global, name: &str) -> Result<Report, AllocError> {
+    pub fn new(alloc: Global, name: &str) -> Result<Report, AllocError>
+        ensures name { IfOk result (λ report. string_bytes report.name ≡ name.now) }
+        ensures agreed { IfOk result (λ report. report.agreed ≡ 0) }
+        ensures differs { IfOk result (λ report. report.differs ≡ false) }
+        ensures failed { IfOk result (λ report. string_bytes report.failed ≡ []) }
+    {
         Ok(Report {
             alloc,
             name: String::from_str(alloc, name)?,
@@ -30,7 +38,13 @@ impl Report {
     /// Compares what came with what must come, which begins on this line of the file.
     ///
     /// Where they differ, the report has the first line that does, as `NAME:LINE: want W, got G`.
-    pub fn compare(&mut self, line: usize, want: &[u8], got: &[u8]) -> Result<(), AllocError> {
+    pub fn compare(&mut self, line: usize, want: &[u8], got: &[u8]) -> Result<(), AllocError>
+        ensures agrees { want.now ≡ got.now → self.new ≡ self.old }
+        ensures differs { OnOk result ((want.now ≡ got.now → ⊥) → self.new.differs ≡ true) }
+        ensures kept { IsTrue self.old.differs → IsTrue self.new.differs }
+        ensures agreed { self.new.agreed ≡ self.old.agreed }
+        ensures name { self.new.name ≡ self.old.name }
+    {
         if want == got {
             return Ok(());
         }
@@ -45,7 +59,11 @@ impl Report {
         line: usize,
         want: Option<&[u8]>,
         got: Option<&[u8]>,
-    ) -> Result<(), AllocError> {
+    ) -> Result<(), AllocError>
+        ensures differs { self.new.differs ≡ self.old.differs }
+        ensures agreed { self.new.agreed ≡ self.old.agreed }
+        ensures name { self.new.name ≡ self.old.name }
+    {
         write!(self.failed, "{}:{line}: want ", self.name)?;
         put_shown(&mut self.failed, want)?;
         self.failed.push_str(", got ")?;
@@ -54,7 +72,12 @@ impl Report {
     }
 
     /// Ends a case: it counts where all that was compared since the last end came as wanted.
-    pub fn end_case(&mut self) {
+    pub fn end_case(&mut self)
+        ensures agreed { self.new.agreed ≡ ended self.old.differs self.old.agreed }
+        ensures differs { self.new.differs ≡ false }
+        ensures failed { self.new.failed ≡ self.old.failed }
+        ensures name { self.new.name ≡ self.old.name }
+    {
         if !self.differs {
             self.agreed = self.agreed.saturating_add(1);
         }
@@ -63,6 +86,10 @@ impl Report {
 }
 
 impl fmt::Display for Report {
+    ghost use Rattle.std.specs.Prelude.{◌++◌, ◌∷◌, [], Some, string_bytes, decimal};
+
+    ghost output = { λ report. Some (string_bytes report.failed ++ (string_bytes report.name ++ 32 ∷ (decimal report.agreed ++ 10 ∷ []))) };
+
     fn fmt<W: fmt::Write>(&self, f: &mut fmt::Formatter<W>) -> fmt::Result {
         write!(f, "{}{} {}\n", self.failed, self.name, self.agreed)
     }
@@ -95,7 +122,9 @@ fn text_of(line: Option<Line<'_>>) -> Option<&[u8]> {
 }
 
 /// The number of a line, counted from 1, of a text that begins on this line.
-fn line_at(first: usize, number: usize) -> usize {
+fn line_at(first: usize, number: usize) -> usize
+    ensures { result ≡ place_of first number }
+{
     first.saturating_add(number.saturating_sub(1))
 }
 
