@@ -18,3 +18,6 @@ found_within cs t tracks same =
     let P : ℕ → Type 0 = λ n. IfSome (find cs t) (λ (c : Found). c.number < n) in
     let e : 0 + length cs ≡ tracks = omega (arith, same) in
     subst P e (within cs 0 t)
+
+pub within_same : (r : Option Found) (m n : ℕ) → m ≡ n → IfSome r (λ (c : Found). c.number < m) → IfSome r (λ (c : Found). c.number < n)
+within_same r m n same h = subst (λ (k : ℕ). IfSome r (λ (c : Found). c.number < k)) same h

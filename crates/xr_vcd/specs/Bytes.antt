@@ -73,6 +73,10 @@ bracket_from found n (b ∷ bs) = bracket_from (cond (b == 91) n found) (n + 1) 
 abbrev pub last_bracket : List ℕ → ℕ
 last_bracket t = bracket_from 0 0 t
 
+-- the text without a range directly behind it
+abbrev pub without_range : Bool → List ℕ → List ℕ
+without_range direct t = cond direct (take (last_bracket t) t) t
+
 abbrev pub is_power : List ℕ → Bool
 is_power t = bytes_eq t (codes "1") || bytes_eq t (codes "10") || bytes_eq t (codes "100")
 
@@ -86,9 +90,9 @@ is_cut_scale t k = is_power (take k t) && is_unit (drop k t)
 abbrev pub is_scale : List ℕ → Bool
 is_scale t = is_cut_scale t 1 || is_cut_scale t 2 || is_cut_scale t 3
 
--- variables of these kinds are passed over
-abbrev pub is_passed : List ℕ → Bool
-is_passed t = bytes_eq t (codes "real") || bytes_eq t (codes "realtime") || bytes_eq t (codes "event")
+-- variables of these kinds are passed over with their changes
+abbrev pub is_skipped : List ℕ → Bool
+is_skipped t = bytes_eq t (codes "real") || bytes_eq t (codes "realtime") || bytes_eq t (codes "event")
 
 -- the bytes behind the first, and the first
 abbrev pub rest_of : List ℕ → List ℕ

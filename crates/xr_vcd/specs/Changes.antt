@@ -1,8 +1,9 @@
 -- What the changes say.
 use Rattle.std.specs.Prelude.{◌≡◌, ℕ, ◌-◌, List, [], ◌∷◌, ◌++◌, length, map, cond, ◌==◌, ◌<◌, ◌≤◌, ◌^◌, nat_le, nat_lt, Option, Some, None, Result, Ok, Err, slice_index, replicate}
+use Rattle.std.specs.List.Sorted.{IsStrictlyIncreasing}
 use Rattle.xr_vcd_changes.specs.Held.{Change, History, change, track_of, with_change}
 use Rattle.xr_vcd.specs.Bytes.{is_code, rest_of, front_of}
-use Rattle.xr_vcd.specs.Declarations.{Head}
+use Rattle.xr_vcd.specs.Declarations.{Declarations}
 use Rattle.xr_vcd.specs.Recording.{Recording}
 use Rattle.xr_vcd.specs.Words.{Word}
 use Rattle.xr_vcd_codes.specs.declared.codes.Found.{Found}
@@ -11,13 +12,13 @@ use Rattle.xr_vcd.specs.declared.refusal.VcdErr.TheVariants.{Syntax, UnknownCode
 
 -- The declarations, the times of the moments so far, and the changes of each code.
 pub record Body : Type 0 where
-  pub head : Head
+  pub declared : Declarations
   pub times : List ℕ
   pub tracks : List (List Change)
 
 -- Behind the declarations there is no moment and no change.
-abbrev pub start : Head → Body
-start h = record { head = h; times = []; tracks = replicate (length h.codes) [] }
+abbrev pub start : Declarations → Body
+start h = record { declared = h; times = []; tracks = replicate (length h.codes) [] }
 
 -- Changes before the first time belong to time 0, and with no time at all there is one moment, at time 0.
 abbrev pub times_or : List ℕ → List ℕ
@@ -29,7 +30,7 @@ with_moment b = record b { times = times_or b.times }
 
 -- A change is in the last moment, or in the first where there is none yet.
 abbrev pub changed : Body → ℕ → List ℕ → Body
-changed b number digits = record { head = b.head; times = times_or b.times; tracks = with_change b.tracks number (change (length b.times - 1) digits) }
+changed b number digits = record { declared = b.declared; times = times_or b.times; tracks = with_change b.tracks number (change (length b.times - 1) digits) }
 
 abbrev pub last_time : Body → ℕ
 last_time b = slice_index b.times (length b.times - 1)
@@ -49,33 +50,34 @@ time_on (Some time) b at =
 abbrev pub undeclared : List ℕ → ℕ → VcdErr
 undeclared t at = cond (is_code t) (UnknownCode at) (Syntax at)
 
--- A digit and a code in one word.
+-- A digit and a code in one word: a change of the variables that are listed.
 abbrev pub scalar_on : Option Found → Body → Word → Result Body VcdErr
 scalar_on None b t = Err (undeclared (rest_of t.text) t.at)
-scalar_on (Some found) b t = cond found.passed (Ok b) (Ok (changed b found.number (front_of t.text)))
+scalar_on (Some found) b t = cond found.listed (Ok (changed b found.number (front_of t.text))) (Ok b)
 
--- Digits, whose word stands at this place, and a code.
+-- Digits, whose word stands at this place, and a code that no skipped variable has.
 abbrev pub vector_on : Option Found → Body → ℕ → List ℕ → Word → Result Body VcdErr
 vector_on None b at digits t = Err (undeclared t.text t.at)
 vector_on (Some found) b at digits t =
-    cond found.passed (Err (Syntax at))
+    cond found.skipped (Err (Syntax at))
     (cond (nat_le (length digits) found.width) (Ok (changed b found.number digits)) (Err (Width at)))
 
--- A real number, whose word stands at this place, and a code.
+-- A real number, whose word stands at this place, and a code that some skipped variable has: nothing changes.
 abbrev pub real_on : Option Found → Body → ℕ → Word → Result Body VcdErr
 real_on None b at t = Err (undeclared t.text t.at)
-real_on (Some found) b at t = cond found.passed (Ok b) (Err (Syntax at))
+real_on (Some found) b at t = cond found.skipped (Ok b) (Err (Syntax at))
 
--- What was said so far, and what the whole text says, where it ends here.
-abbrev pub said_of : Body → Recording
-said_of b = record { timescale = b.head.timescale; scopes = b.head.scopes; variables = b.head.variables; times = b.times; changes = map (track_of b.tracks) b.head.numbers }
+-- What stands in the text so far, and what the whole text says, where it ends here.
+abbrev pub recorded_so_far : Body → Recording
+recorded_so_far b = record { timescale = b.declared.timescale; scopes = b.declared.scopes; variables = b.declared.variables; times = b.times; changes = map (track_of b.tracks) b.declared.numbers }
 
 abbrev pub recording_of : Body → Recording
-recording_of b = said_of (with_moment b)
+recording_of b = recorded_so_far (with_moment b)
 
--- How a body is stored: each code has its changes, its last change is in no moment after the last, and there are fewer than 2^28
--- moments.
-pub record IsBody (head : Head) (times : List ℕ) (stored : History) : Type 0 where
-  pub known : length stored.tracks ≡ length head.codes
+-- How a body is stored: each code has its changes, the last change is in no moment after the last, times ascend, and there are
+-- fewer than 2^28 moments.
+pub record IsBody (declared : Declarations) (times : List ℕ) (stored : History) : Type 0 where
+  pub known : length stored.tracks ≡ length declared.codes
   pub moments : stored.moment ≤ length times - 1
+  pub ascending : IsStrictlyIncreasing times
   pub few : length times < 2 ^ 28

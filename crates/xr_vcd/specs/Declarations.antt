@@ -1,13 +1,13 @@
--- What the declarations say.
+-- What is declared: scopes, codes and variables.
 use Rattle.std.specs.Prelude.{ℕ, ◌-◌, List, [], ◌∷◌, ◌++◌, length, take, drop, Bool, true, false, cond, ◌==◌, Option, Some, None, slice_index}
 use Rattle.xr_vcd.specs.Bytes.{range_of, last_bracket}
-use Rattle.xr_vcd_codes.specs.Code.{Code, code}
+use Rattle.xr_vcd_codes.specs.Code.{Code, code, with_kind_at}
 use Rattle.xr_vcd.specs.Recording.{Path, path_at}
 use Rattle.xr_vcd.specs.declared.variable.Variable.{Variable}
 
--- What was declared so far; the scopes that are entered and not left stand innermost last, and each variable has the number of
+-- What is declared so far; the scopes that are entered and not left stand innermost last, and each variable has the number of
 -- its code.
-pub record Head : Type 0 where
+pub record Declarations : Type 0 where
   pub timescale : Option (List ℕ)
   pub scopes : List Path
   pub entered : List ℕ
@@ -16,51 +16,55 @@ pub record Head : Type 0 where
   pub numbers : List ℕ
 
 -- Nothing is declared, and there is the place outside every scope.
-abbrev pub nothing : Head
+abbrev pub nothing : Declarations
 nothing = record { timescale = None; scopes = [] ∷ []; entered = []; codes = []; variables = []; numbers = [] }
 
 -- The scope that declarations are in: the innermost one, or the place outside every scope.
-abbrev pub scope_of : Head → ℕ
+abbrev pub scope_of : Declarations → ℕ
 scope_of h = slice_index h.entered (length h.entered - 1)
 
-abbrev pub with_scale : Head → List ℕ → Head
+abbrev pub with_scale : Declarations → List ℕ → Declarations
 with_scale h scale = record h { timescale = Some scale }
 
 -- `$scope`: a scope of this name within the present one is entered.
-abbrev pub with_scope : Head → List ℕ → Head
+abbrev pub with_scope : Declarations → List ℕ → Declarations
 with_scope h name = record h { scopes = h.scopes ++ (path_at h.scopes (scope_of h) ++ name ∷ []) ∷ []; entered = h.entered ++ length h.scopes ∷ [] }
 
 -- `$upscope`: the present scope is left.
-abbrev pub left_scope : Head → Head
+abbrev pub left_scope : Declarations → Declarations
 left_scope h = record h { entered = take (length h.entered - 1) h.entered }
 
--- A code takes the next number.
-abbrev pub with_code : Head → List ℕ → ℕ → Bool → Head
-with_code h text width passed = record h { codes = h.codes ++ code text width passed ∷ [] }
+-- A code takes the next number; it is of one variable.
+abbrev pub with_code : Declarations → List ℕ → ℕ → Bool → Declarations
+with_code h text width skipped = record h { codes = h.codes ++ code text width skipped ∷ [] }
 
--- The name of a variable: its reference, its range, and whether that stands directly behind the reference.
-pub record Name : Type 0 where
+-- One more variable of the code with this number.
+abbrev pub with_kind : Declarations → ℕ → Bool → Declarations
+with_kind h number skipped = record h { codes = with_kind_at h.codes number skipped }
+
+-- The name of a variable: its reference as recorded, its range, and whether that stands directly behind the reference.
+pub record RecordedName : Type 0 where
   pub reference : List ℕ
   pub range : Option (ℕ × ℕ)
   pub direct : Bool
 
-abbrev pub name : List ℕ → Option (ℕ × ℕ) → Bool → Name
+abbrev pub name : List ℕ → Option (ℕ × ℕ) → Bool → RecordedName
 name reference range direct = record { reference = reference; range = range; direct = direct }
 
--- A range directly behind a reference begins at the last `[`, which isn't the first byte. What is no range belongs to the
--- reference.
-abbrev pub name_at : Option (ℕ × ℕ) → ℕ → List ℕ → Name
+-- A range directly behind a reference begins at the last `[`, which isn't the first byte. The reference as recorded has it too.
+-- What is no range belongs to the reference alone.
+abbrev pub name_at : Option (ℕ × ℕ) → ℕ → List ℕ → RecordedName
 name_at None k t = name t None false
-name_at (Some range) k t = cond (k == 0) (name t None false) (name (take k t) (Some range) true)
+name_at (Some range) k t = cond (k == 0) (name t None false) (name t (Some range) true)
 
 -- The name that one word gives.
-abbrev pub name_of : List ℕ → Name
+abbrev pub name_of : List ℕ → RecordedName
 name_of t = name_at (range_of (drop (last_bracket t) t)) (last_bracket t) t
 
-abbrev pub variable : ℕ → Name → ℕ → Variable
+abbrev pub variable : ℕ → RecordedName → ℕ → Variable
 variable scope n width = record { scope = scope; reference = n.reference; range = n.range; direct = n.direct; width = width }
 
 -- `$var`: a variable that isn't passed over by its kind is listed.
-abbrev pub with_variable : Head → Bool → ℕ → ℕ → Name → Head
-with_variable h passed number width n =
-    cond passed h (record h { variables = h.variables ++ variable (scope_of h) n width ∷ []; numbers = h.numbers ++ number ∷ [] })
+abbrev pub with_variable : Declarations → Bool → ℕ → ℕ → RecordedName → Declarations
+with_variable h skipped number width n =
+    cond skipped h (record h { variables = h.variables ++ variable (scope_of h) n width ∷ []; numbers = h.numbers ++ number ∷ [] })

@@ -2,14 +2,14 @@
 use Rattle.std.specs.Prelude.{◌≡◌, ℕ, List, [], ◌∷◌, ◌++◌, length, Ok, Err}
 use Rattle.xr_vcd.specs.Declarations.{nothing}
 use Rattle.xr_vcd.specs.Machine.{State, Next, step, finish, run}
-use Rattle.xr_vcd.specs.Machine.State.{head as before_declarations}
+use Rattle.xr_vcd.specs.Machine.State.{declaring}
 use Rattle.xr_vcd.specs.Recording.{Recording}
 use Rattle.xr_vcd.specs.Words.{Word, words_of}
 use Rattle.xr_vcd.specs.declared.refusal.VcdErr.{VcdErr}
 
 -- At the beginning nothing is declared.
 abbrev pub beginning : State
-beginning = before_declarations nothing
+beginning = declaring nothing
 
 -- The whole text says this recording.
 abbrev pub Says : List ℕ → Recording → Type 0

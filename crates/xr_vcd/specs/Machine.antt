@@ -1,9 +1,9 @@
 -- Reading word by word. A state has what was read so far, and says what may stand next.
 use Rattle.std.specs.Prelude.{ℕ, List, [], ◌∷◌, ◌++◌, length, Bool, true, false, cond, ◌==◌, ◌&&◌, nat_le, nat_lt, Option, Some, None, Result, Ok, Err}
-use Rattle.xr_vcd.specs.Bytes.{is_end, is_code, are_values, are_digits, number_from, time_of, range_of, is_power, is_unit, is_scale, is_passed, rest_of}
+use Rattle.xr_vcd.specs.Bytes.{is_end, is_code, are_values, are_digits, number_from, time_of, range_of, is_power, is_unit, is_scale, is_skipped, rest_of}
 use Rattle.xr_vcd.specs.Changes.{Body, start, time_on, scalar_on, vector_on, real_on, recording_of}
 use Rattle.xr_vcd_codes.specs.Code.{find}
-use Rattle.xr_vcd.specs.Declarations.{Head, name, name_of, with_scale, with_scope, left_scope, with_code, with_variable}
+use Rattle.xr_vcd.specs.Declarations.{Declarations, name, name_of, with_scale, with_scope, left_scope, with_code, with_kind, with_variable}
 use Rattle.xr_vcd.specs.Kinds.{kind_of}
 use Rattle.xr_vcd.specs.Recording.{Recording}
 use Rattle.xr_vcd.specs.Words.{Word}
@@ -16,22 +16,22 @@ use Rattle.xr_vcd.specs.declared.refusal.VcdErr.TheVariants.{Syntax, Width, Dump
 -- Where the reading stands: before a declaration or in one, then before a change or in one. `Bool` in the states of a variable
 -- says that its kind is passed over, and behind the declarations that a dump is open.
 pub data State : Type 0 where
-  head : Head → State
-  note : Head → State
-  scale : Head → State
-  scale_unit : Head → List ℕ → State
-  scale_end : Head → List ℕ → State
-  scope_kind : Head → State
-  scope_name : Head → State
-  scope_end : Head → List ℕ → State
-  upscope_end : Head → State
-  var_kind : Head → ℕ → State
-  var_width : Head → ℕ → Bool → State
-  var_code : Head → ℕ → Bool → ℕ → State
-  var_reference : Head → Bool → ℕ → ℕ → State
-  var_range : Head → Bool → ℕ → ℕ → List ℕ → State
-  var_end : Head → Bool → ℕ → ℕ → List ℕ → ℕ × ℕ → State
-  definitions_end : Head → State
+  declaring : Declarations → State
+  note : Declarations → State
+  scale : Declarations → State
+  scale_unit : Declarations → List ℕ → State
+  scale_end : Declarations → List ℕ → State
+  scope_kind : Declarations → State
+  scope_name : Declarations → State
+  scope_end : Declarations → List ℕ → State
+  upscope_end : Declarations → State
+  var_kind : Declarations → ℕ → State
+  var_width : Declarations → ℕ → Bool → State
+  var_code : Declarations → ℕ → Bool → ℕ → State
+  var_reference : Declarations → Bool → ℕ → ℕ → State
+  var_range : Declarations → Bool → ℕ → ℕ → List ℕ → State
+  var_end : Declarations → Bool → ℕ → ℕ → List ℕ → ℕ × ℕ → State
+  definitions_end : Declarations → State
   body : Body → Bool → State
   body_note : Body → State
   vector : Body → Bool → ℕ → List ℕ → State
@@ -49,48 +49,48 @@ abbrev pub but_end : Word → State → Next
 but_end t s = cond (is_end t.text) (Err (Syntax t.at)) (Ok s)
 
 -- A scope is left where there is one.
-abbrev pub upscope_on : Head → ℕ → Next
+abbrev pub upscope_on : Declarations → ℕ → Next
 upscope_on h at = cond (nat_lt 0 (length h.entered)) (Ok (upscope_end (left_scope h))) (Err (Syntax at))
 
 -- Before a declaration.
-abbrev pub head_on : Kind → Head → ℕ → Next
-head_on kind.Note h at = Ok (note h)
-head_on kind.Comment h at = Ok (note h)
-head_on kind.Timescale h at = Ok (scale h)
-head_on kind.Scope h at = Ok (scope_kind h)
-head_on kind.Upscope h at = upscope_on h at
-head_on kind.Var h at = Ok (var_kind h at)
-head_on kind.Definitions h at = Ok (definitions_end h)
-head_on _ h at = Err (Syntax at)
+abbrev pub declaration_on : Kind → Declarations → ℕ → Next
+declaration_on kind.Note h at = Ok (note h)
+declaration_on kind.Comment h at = Ok (note h)
+declaration_on kind.Timescale h at = Ok (scale h)
+declaration_on kind.Scope h at = Ok (scope_kind h)
+declaration_on kind.Upscope h at = upscope_on h at
+declaration_on kind.Var h at = Ok (var_kind h at)
+declaration_on kind.Definitions h at = Ok (definitions_end h)
+declaration_on _ h at = Err (Syntax at)
 
 -- 1, 10 or 100, and a unit in the same word or the next.
-abbrev pub scale_on : Head → Word → Next
+abbrev pub scale_on : Declarations → Word → Next
 scale_on h t = cond (is_scale t.text) (Ok (scale_end h t.text)) (needs (is_power t.text) t (scale_unit h t.text))
 
 -- A width is 1 to 2^20.
 abbrev pub is_width : ℕ → Bool
 is_width width = nat_le 1 width && nat_le width 1048576
 
-abbrev pub width_on : Head → ℕ → Bool → Word → Next
-width_on h var passed t =
+abbrev pub width_on : Declarations → ℕ → Bool → Word → Next
+width_on h var skipped t =
     cond (are_digits t.text)
-    (cond (is_width (number_from 0 t.text)) (Ok (var_code h var passed (number_from 0 t.text))) (Err (Width t.at)))
+    (cond (is_width (number_from 0 t.text)) (Ok (var_code h var skipped (number_from 0 t.text))) (Err (Width t.at)))
     (Err (Syntax t.at))
 
--- A code has one width: the second is refused at its `$var`.
-abbrev pub code_on : Option Found → Head → ℕ → Bool → ℕ → List ℕ → Next
-code_on None h var passed width t = Ok (var_reference (with_code h t width passed) passed (length h.codes) width)
-code_on (Some found) h var passed width t = cond (found.width == width) (Ok (var_reference h passed found.number width)) (Err (Width var))
+-- A code has one width: the second is refused at its `$var`. Whichever of its variables came first, some is skipped or none.
+abbrev pub code_on : Option Found → Declarations → ℕ → Bool → ℕ → List ℕ → Next
+code_on None h var skipped width t = Ok (var_reference (with_code h t width skipped) skipped (length h.codes) width)
+code_on (Some found) h var skipped width t = cond (found.width == width) (Ok (var_reference (with_kind h found.number skipped) skipped found.number width)) (Err (Width var))
 
-abbrev pub range_on : Option (ℕ × ℕ) → Head → Bool → ℕ → ℕ → List ℕ → ℕ → Next
-range_on None h passed number width reference at = Err (Syntax at)
-range_on (Some range) h passed number width reference at = Ok (var_end h passed number width reference range)
+abbrev pub range_on : Option (ℕ × ℕ) → Declarations → Bool → ℕ → ℕ → List ℕ → ℕ → Next
+range_on None h skipped number width reference at = Err (Syntax at)
+range_on (Some range) h skipped number width reference at = Ok (var_end h skipped number width reference range)
 
 -- Behind the reference: `$end`, or a range in a word of its own.
-abbrev pub behind_on : Head → Bool → ℕ → ℕ → List ℕ → Word → Next
-behind_on h passed number width reference t =
-    cond (is_end t.text) (Ok (head (with_variable h passed number width (name_of reference))))
-    (range_on (range_of t.text) h passed number width reference t.at)
+abbrev pub behind_on : Declarations → Bool → ℕ → ℕ → List ℕ → Word → Next
+behind_on h skipped number width reference t =
+    cond (is_end t.text) (Ok (declaring (with_variable h skipped number width (name_of reference))))
+    (range_on (range_of t.text) h skipped number width reference t.at)
 
 abbrev pub to_body : Bool → Result Body VcdErr → Next
 to_body dump (Ok b) = Ok (body b dump)
@@ -98,7 +98,7 @@ to_body dump (Err e) = Err e
 
 -- Before a change. In a dump stand changes alone.
 abbrev pub body_on : Kind → Body → Bool → Word → Next
-body_on kind.Scalar b dump t = to_body dump (scalar_on (find b.head.codes (rest_of t.text)) b t)
+body_on kind.Scalar b dump t = to_body dump (scalar_on (find b.declared.codes (rest_of t.text)) b t)
 body_on kind.Vector b dump t = needs (are_values (rest_of t.text)) t (vector b dump t.at (rest_of t.text))
 body_on kind.Real b dump t = Ok (real b dump t.at)
 body_on kind.Time b dump t = cond dump (Err (Syntax t.at)) (to_body dump (time_on (time_of (rest_of t.text)) b t.at))
@@ -110,26 +110,26 @@ body_on _ b dump t = Err (Syntax t.at)
 
 -- One word.
 abbrev pub step : State → Word → Next
-step (head h) t = head_on (kind_of t.text) h t.at
-step (note h) t = Ok (cond (is_end t.text) (head h) (note h))
+step (declaring h) t = declaration_on (kind_of t.text) h t.at
+step (note h) t = Ok (cond (is_end t.text) (declaring h) (note h))
 step (scale h) t = scale_on h t
 step (scale_unit h power) t = needs (is_unit t.text) t (scale_end h (power ++ t.text))
-step (scale_end h text) t = needs (is_end t.text) t (head (with_scale h text))
+step (scale_end h text) t = needs (is_end t.text) t (declaring (with_scale h text))
 step (scope_kind h) t = Ok (scope_name h)
 step (scope_name h) t = but_end t (scope_end h t.text)
-step (scope_end h name) t = needs (is_end t.text) t (head (with_scope h name))
-step (upscope_end h) t = needs (is_end t.text) t (head h)
-step (var_kind h var) t = Ok (var_width h var (is_passed t.text))
-step (var_width h var passed) t = width_on h var passed t
-step (var_code h var passed width) t = cond (is_code t.text) (code_on (find h.codes t.text) h var passed width t.text) (Err (Syntax t.at))
-step (var_reference h passed number width) t = but_end t (var_range h passed number width t.text)
-step (var_range h passed number width reference) t = behind_on h passed number width reference t
-step (var_end h passed number width reference range) t = needs (is_end t.text) t (head (with_variable h passed number width (name reference (Some range) false)))
+step (scope_end h name) t = needs (is_end t.text) t (declaring (with_scope h name))
+step (upscope_end h) t = needs (is_end t.text) t (declaring h)
+step (var_kind h var) t = Ok (var_width h var (is_skipped t.text))
+step (var_width h var skipped) t = width_on h var skipped t
+step (var_code h var skipped width) t = cond (is_code t.text) (code_on (find h.codes t.text) h var skipped width t.text) (Err (Syntax t.at))
+step (var_reference h skipped number width) t = but_end t (var_range h skipped number width t.text)
+step (var_range h skipped number width reference) t = behind_on h skipped number width reference t
+step (var_end h skipped number width reference range) t = needs (is_end t.text) t (declaring (with_variable h skipped number width (name reference (Some range) false)))
 step (definitions_end h) t = needs (is_end t.text) t (body (start h) false)
 step (body b dump) t = body_on (kind_of t.text) b dump t
 step (body_note b) t = Ok (cond (is_end t.text) (body b false) (body_note b))
-step (vector b dump at digits) t = to_body dump (vector_on (find b.head.codes t.text) b at digits t)
-step (real b dump at) t = to_body dump (real_on (find b.head.codes t.text) b at t)
+step (vector b dump at digits) t = to_body dump (vector_on (find b.declared.codes t.text) b at digits t)
+step (real b dump at) t = to_body dump (real_on (find b.declared.codes t.text) b at t)
 
 -- The text may end before a change that is in no dump; elsewhere more must come.
 abbrev pub finish : State → ℕ → Result Recording VcdErr

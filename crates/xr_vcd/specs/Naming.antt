@@ -1,6 +1,6 @@
 -- A name as code holds it.
-use Rattle.xr_vcd.specs.Declarations.{Name, name}
-use Rattle.xr_vcd.specs.declared.ranges.Name.{Name as Held}
+use Rattle.xr_vcd.specs.Declarations.{RecordedName, name}
+use Rattle.xr_vcd.specs.declared.ranges.RecordedName.{RecordedName as Held}
 
-abbrev pub shown_name : Held → Name
+abbrev pub shown_name : Held → RecordedName
 shown_name n = name n.reference.now n.range n.direct

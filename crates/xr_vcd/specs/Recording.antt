@@ -1,7 +1,9 @@
 -- A recording: what a text says.
-use Rattle.std.specs.Prelude.{ℕ, ◌-◌, List, [], ◌∷◌, ◌++◌, length, Option, Some, None, slice_get, slice_index_or}
+use Rattle.std.specs.Prelude.{◌≡◌, ℕ, ◌-◌, ◌+◌, ◌<◌, ◌≤◌, ◌^◌, List, [], ◌∷◌, ◌++◌, length, Option, Some, None, slice_get, slice_index_or, All}
+use Rattle.std.specs.List.Sorted.{IsStrictlyIncreasing}
 use Rattle.xr_cell.specs.declared.value.Value.{Value}
 use Rattle.xr_vcd_changes.specs.Held.{Change, bit_value}
+use Rattle.xr_vcd_changes.specs.Last.{IsLastValue}
 use Rattle.xr_vcd.specs.declared.variable.Variable.{Variable}
 use Rattle.xr_vcd.specs.declared.variable.Scope.{Scope}
 
@@ -33,6 +35,27 @@ width_at r variable = width_of (slice_get r.variables variable)
 -- The value of a bit of a variable, counted from the left, in a moment.
 abbrev pub value_at : Recording → ℕ → ℕ → ℕ → Value
 value_at r variable bit moment = bit_value (slice_index_or r.changes variable []) (width_at r variable) bit moment
+
+-- The value of a bit in a moment is that of the last change in it or before, and x before any change.
+abbrev pub IsValueAt : Recording → ℕ → ℕ → ℕ → Value → Type 0
+IsValueAt r variable bit moment value = IsLastValue (slice_index_or r.changes variable []) (width_at r variable) bit moment value
+
+-- A variable stands in one of so many scopes, and its width is 1 to 2^20.
+pub record IsVariable (scopes : ℕ) (v : Variable) : Type 0 where
+  pub known : v.scope < scopes
+  pub some : 1 ≤ v.width
+  pub wide : v.width ≤ 2 ^ 20
+
+-- What each recording is: it has a moment, its times ascend strictly, each variable stands in one of its scopes with a width of 1
+-- to 2^20, and there is a list of changes for each. There are fewer than 2^28 scopes, variables and moments.
+pub record IsRecording (r : Recording) : Type 0 where
+  pub moment : 0 < length r.times
+  pub ascending : IsStrictlyIncreasing r.times
+  pub variables : All (IsVariable (length r.scopes)) r.variables
+  pub changes : length r.changes ≡ length r.variables
+  pub few_scopes : length r.scopes < 2 ^ 28
+  pub few_variables : length r.variables < 2 ^ 28
+  pub few_moments : length r.times < 2 ^ 28
 
 -- The paths of scopes, each with its parent and its name, behind those of the scopes before them.
 abbrev pub paths_from : List Path → List Scope → List Path

@@ -1,5 +1,7 @@
 -- How scopes are stored, and how many scopes, variables and moments there are.
-use Rattle.std.specs.Prelude.{ℕ, ◌+◌, ◌^◌, ◌<◌, ◌≤◌, List, length, slice_index_or, All}
+use Rattle.std.specs.Prelude.{◌≡◌, ℕ, ◌+◌, ◌^◌, ◌<◌, ◌≤◌, List, length, slice_index_or, All}
+use Rattle.std.specs.List.Sorted.{IsStrictlyIncreasing}
+use Rattle.xr_vcd.specs.Recording.{IsVariable}
 use Rattle.xr_vcd.specs.declared.variable.Scope.{Scope}
 use Rattle.xr_vcd.specs.declared.variable.Variable.{Variable}
 
@@ -11,16 +13,17 @@ IsTree ss = (k : ℕ) → (d : Scope) → k < length ss → (slice_index_or ss k
 abbrev pub IsEntered : List Scope → List ℕ → Type 0
 IsEntered ss entered = All (λ scope. scope ≤ length ss) entered
 
--- Declarations: fewer than 2^28 scopes, with the place outside every scope, and fewer than 2^28 variables.
-pub record IsHead (scopes : List Scope) (entered : List ℕ) (variables : List Variable) : Type 0 where
+-- Scopes and variables, and the number of each variable's code: fewer than 2^28 scopes, with the place outside every scope, and
+-- fewer than 2^28 variables.
+pub record AreDeclared (scopes : List Scope) (variables : List Variable) (numbers : List ℕ) : Type 0 where
   pub tree : IsTree scopes
-  pub entered_ : IsEntered scopes entered
+  pub listed : All (IsVariable (length scopes + 1)) variables
+  pub numbered : length numbers ≡ length variables
   pub scopes_ : length scopes + 1 < 2 ^ 28
   pub variables_ : length variables < 2 ^ 28
 
--- A recording: fewer than 2^28 scopes, variables and moments.
-pub record IsFew (scopes : List Scope) (variables : List Variable) (times : List ℕ) : Type 0 where
-  pub tree : IsTree scopes
-  pub scopes_ : length scopes + 1 < 2 ^ 28
-  pub variables_ : length variables < 2 ^ 28
-  pub times_ : length times < 2 ^ 28
+-- The times of a recording's moments.
+pub record AreTimes (times : List ℕ) : Type 0 where
+  pub some : 0 < length times
+  pub ascending : IsStrictlyIncreasing times
+  pub few : length times < 2 ^ 28

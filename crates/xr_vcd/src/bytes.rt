@@ -2,7 +2,7 @@
 
 ghost use Rattle.std.specs.Prelude.{◌≡◌, bytes_eq, [], ◌∷◌, ◌≢◌, ◌<◌, ◌≤◌, ◌-◌, ◌^◌, take, drop, length};
 ghost use Rattle.std.specs.List.{list_all};
-ghost use Rattle.xr_vcd.specs.Bytes.{is_end, is_code_byte, is_code, is_value, are_values, is_digit, are_digits, number_from, at_most, number_within, is_power, is_unit, is_cut_scale, is_scale, is_passed, rest_of, front_of};
+ghost use Rattle.xr_vcd.specs.Bytes.{is_end, is_code_byte, is_code, is_value, are_values, is_digit, are_digits, number_from, at_most, number_within, is_power, is_unit, is_cut_scale, is_scale, is_skipped, rest_of, front_of};
 
 /// Whether it is this word.
 pub fn is_word(text: &[u8], word: &[u8]) -> bool
@@ -171,8 +171,8 @@ pub fn drop(text: &[u8], count: usize) -> &[u8]
 }
 
 /// Whether variables of this kind are passed over.
-pub fn is_passed(text: &[u8]) -> bool
-    ensures { result ≡ is_passed text.now }
+pub fn is_skipped(text: &[u8]) -> bool
+    ensures { result ≡ is_skipped text.now }
 {
     is_word(text, b"real") || is_word(text, b"realtime") || is_word(text, b"event")
 }

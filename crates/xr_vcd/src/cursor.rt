@@ -26,7 +26,7 @@ impl<'a> Model for Cursor<'a> {
 
 impl<'a> Cursor<'a> {
     ghost use Rattle.std.specs.Prelude.{◌≡◌, ◌<◌, length, IfOk};
-    ghost use Rattle.xr_vcd.specs.Recording.{value_at, width_at};
+    ghost use Rattle.xr_vcd.specs.Recording.{IsValueAt, value_at, width_at};
 
     /// A cursor of a recording.
     pub fn new(alloc: Global, recording: &'a Recording) -> Result<Cursor<'a>, Memory>
@@ -51,6 +51,7 @@ impl<'a> Cursor<'a> {
         requires bit { bit < width_at self.old variable }
         requires moment { moment < length self.old.times }
         ensures value { result ≡ value_at self.old variable bit moment }
+        ensures last { IsValueAt self.old variable bit moment result }
         ensures same { self.new ≡ self.old }
     {
         let hint = match self.hints.get(variable as usize) {

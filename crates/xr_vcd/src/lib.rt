@@ -5,17 +5,20 @@
 mod body;
 mod bytes;
 mod cursor;
-mod head;
+mod declarations;
+mod fault;
 mod kinds;
 mod ranges;
 mod read;
+mod read_changes;
+mod read_declarations;
 mod recording;
 mod refusal;
-mod sections;
 mod variable;
 mod words;
 
 pub use cursor::Cursor;
+pub use fault::RecordingFault;
 pub use read::read_vcd;
 pub use recording::Recording;
 pub use refusal::VcdErr;

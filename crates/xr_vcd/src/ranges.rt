@@ -1,4 +1,4 @@
-//! Ranges, and the names of variables.
+//! Ranges, and the recorded names of variables.
 
 ghost use Rattle.std.specs.Prelude.{◌≡◌, ◌<◌, ◌==◌, IfSome, length, option_map, position};
 ghost use Rattle.xr_vcd.specs.Bytes.{index_of, both_of, bounds_of, is_bracketed, range_of, last_bracket};
@@ -7,26 +7,27 @@ ghost use Rattle.xr_vcd.specs.Naming.{shown_name};
 
 use crate::bytes::{drop, number_within, take};
 
-/// The name of a variable in the text: its reference, its range, and whether that stands directly behind the reference.
+/// The name of a variable in the text: its reference as recorded, its range, and whether that stands directly behind the
+/// reference, which then has it too.
 #[derive(Clone, Copy)]
-pub struct Name<'a> {
+pub struct RecordedName<'a> {
     pub reference: &'a [u8],
     pub range: Option<(u32, u32)>,
     pub direct: bool,
 }
 
 /// The name that one word gives: a range directly behind the reference begins at the last `[`.
-pub fn name_of(text: &[u8]) -> Name<'_>
+pub fn name_of(text: &[u8]) -> RecordedName<'_>
     ensures { shown_name result ≡ name_of text.now }
 {
     let place = last_bracket(text);
     match range_of(drop(text, place)) {
-        Some(range) if place != 0 => Name {
-            reference: take(text, place),
+        Some(range) if place != 0 => RecordedName {
+            reference: text,
             range: Some(range),
             direct: true,
         },
-        _ => Name {
+        _ => RecordedName {
             reference: text,
             range: None,
             direct: false,
@@ -35,7 +36,7 @@ pub fn name_of(text: &[u8]) -> Name<'_>
 }
 
 /// The place of the last `[`, or 0 where there is none.
-fn last_bracket(text: &[u8]) -> usize
+pub fn last_bracket(text: &[u8]) -> usize
     ensures { result ≡ last_bracket text.now }
 {
     let mut rest = text;

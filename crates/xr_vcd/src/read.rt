@@ -5,15 +5,16 @@ ghost use Rattle.xr_vcd.specs.Changes.{start};
 ghost use Rattle.xr_vcd.specs.Faults.{Says, FirstFault, beginning};
 ghost use Rattle.xr_vcd.specs.Machine.State.{body as in_body};
 ghost use Rattle.xr_vcd.specs.Reading.{Answers, goes};
-ghost use Rattle.xr_vcd.specs.Recording.{Recording as Said};
+ghost use Rattle.xr_vcd.specs.Recording.{Recording};
 ghost use Rattle.xr_vcd.specs.Words.{left_of};
 ghost use Rattle.xr_vcd.specs.declared.refusal.VcdErr.TheVariants.{Memory as OutOfMemory};
 
-use crate::body::{Body, read_changes};
-use crate::head::Head;
+use crate::body::Body;
+use crate::declarations::Declarations;
+use crate::read_changes::read_changes;
+use crate::read_declarations::read_declarations;
 use crate::recording::Recording;
 use crate::refusal::VcdErr;
-use crate::sections::read_declarations;
 use crate::words::Words;
 use std::alloc::Global;
 
@@ -27,7 +28,7 @@ pub fn read_vcd(alloc: Global, bytes: &[u8]) -> Result<Recording, VcdErr>
     ensures first { IfErr result (λ refusal. refusal ≢ OutOfMemory → FirstFault bytes.now refusal) }
 
     // A text that says a recording is refused for want of memory alone.
-    ensures only { (said : Said) → Says bytes.now said → MatchResult result (λ recording. recording ≡ said) (λ refusal. refusal ≡ OutOfMemory) }
+    ensures only { (r : Recording) → Says bytes.now r → MatchResult result (λ recording. recording ≡ r) (λ refusal. refusal ≡ OutOfMemory) }
 {
     read_text(alloc, bytes)
 }
@@ -37,16 +38,16 @@ fn read_text(alloc: Global, bytes: &[u8]) -> Result<Recording, VcdErr>
     ensures { Answers result (goes beginning (left_of 0 bytes.now)) }
 {
     let mut words = Words::new(bytes);
-    let mut head = Head::new(alloc);
-    read_declarations(&mut words, &mut head)?;
-    read_body(&mut words, head)
+    let mut declared = Declarations::new(alloc);
+    read_declarations(&mut words, &mut declared)?;
+    read_body(&mut words, declared)
 }
 
 /// Reads what stands behind the declarations.
-fn read_body<'a>(words: &mut Words<'a>, head: Head<'a>) -> Result<Recording, VcdErr>
-    ensures { Answers result (goes (in_body (start head.entry) false) words.old) }
+fn read_body<'a>(words: &mut Words<'a>, declared: Declarations<'a>) -> Result<Recording, VcdErr>
+    ensures { Answers result (goes (in_body (start declared.entry) false) words.old) }
 {
-    let mut body = Body::new(head)?;
+    let mut body = Body::new(declared)?;
     read_changes(words, &mut body)?;
     body.open_moment()?;
     Ok(body.into_recording())

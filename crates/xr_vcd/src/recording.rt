@@ -2,7 +2,7 @@
 
 ghost use Rattle.std.specs.Prelude.{◌≡◌, ◌<◌, length};
 
-use crate::head::Head;
+use crate::declarations::Declarations;
 use crate::variable::{Scope, Variable};
 use std::marker::Model;
 use xr_base::Items;
@@ -25,26 +25,27 @@ impl Model for Recording {
     ghost use Rattle.std.specs.Prelude.{map};
     ghost use Rattle.xr_vcd_changes.specs.Held.{track_of};
     ghost use Rattle.xr_vcd.specs.Recording.{Recording, paths_of};
-    ghost use Rattle.xr_vcd.specs.Trees.{IsFew};
+    ghost use Rattle.xr_vcd.specs.Trees.{AreDeclared, AreTimes};
 
     ghost Value = { Recording };
 
     ghost view = { λ r. record { timescale = r.timescale; scopes = paths_of r.scopes.items; variables = r.variables.items; times = r.times.items; changes = map (track_of r.changes.tracks) r.numbers.items } };
 
-    ghost invariant = { λ r. IsFew r.scopes.items r.variables.items r.times.items };
+    ghost invariant = { λ r. AreDeclared r.scopes.items r.variables.items r.numbers.items × AreTimes r.times.items };
 }
 
 impl Recording {
-    ghost use Rattle.std.specs.Prelude.{◌≡◌, ◌+◌, ◌<◌, ◌^◌, [], ◌∷◌, ◌++◌, length, map, option_map, slice_index_or};
+    ghost use Rattle.std.specs.Prelude.{◌≡◌, ◌+◌, ◌<◌, ◌≤◌, ◌^◌, [], ◌∷◌, ◌++◌, length, map, option_map, slice_index_or};
     ghost use Rattle.xr_vcd_changes.specs.Held.{track_of};
-    ghost use Rattle.xr_vcd.specs.Recording.{path_at, last_name, value_at, width_at};
+    ghost use Rattle.xr_vcd.specs.Recording.{IsRecording, IsValueAt, path_at, last_name, value_at, width_at};
+    ghost use Rattle.xr_vcd.specs.Trees.{AreTimes};
 
-    /// What the declarations, the times and the changes say. Takes no memory.
-    pub(crate) fn new(head: Head<'_>, times: Vec<u64>, changes: Changes) -> Recording
-        requires { length times.items < 2 ^ 28 }
-        ensures { result ≡ record { timescale = head.entry.timescale; scopes = head.entry.scopes; variables = head.entry.variables; times = times.items; changes = map (track_of changes.tracks) head.entry.numbers } }
+    /// The recording of these declarations, times and changes. Takes no memory.
+    pub(crate) fn new(declared: Declarations<'_>, times: Vec<u64>, changes: Changes) -> Recording
+        requires { AreTimes times.items }
+        ensures { result ≡ record { timescale = declared.entry.timescale; scopes = declared.entry.scopes; variables = declared.entry.variables; times = times.items; changes = map (track_of changes.tracks) declared.entry.numbers } }
     {
-        let Head {
+        let Declarations {
             alloc: _,
             timescale,
             scopes,
@@ -52,7 +53,7 @@ impl Recording {
             codes: _,
             variables,
             numbers,
-        } = head;
+        } = declared;
         Recording {
             timescale,
             scopes,
@@ -105,7 +106,7 @@ impl Recording {
     /// The variables, in the order of the text. Takes no memory.
     pub fn variables(&self) -> &[Variable]
         ensures list { result.now ≡ self.now.variables }
-        ensures few { length self.now.variables < 2 ^ 28 }
+        ensures recording { IsRecording self.now }
     {
         self.variables.as_slice()
     }
@@ -113,7 +114,9 @@ impl Recording {
     /// The width of a variable. Takes no memory.
     pub fn width(&self, variable: u32) -> u32
         requires { variable < length self.now.variables }
-        ensures { result ≡ width_at self.now variable }
+        ensures is { result ≡ width_at self.now variable }
+        ensures some { 1 ≤ result }
+        ensures wide { result ≤ 2 ^ 20 }
     {
         self.variables[variable as usize].width
     }
@@ -123,16 +126,14 @@ impl Recording {
         requires { variable < length self.now.variables }
         ensures { result ≡ length (slice_index_or self.now.changes variable []) }
     {
-        match self.numbers.get(variable as usize) {
-            Some(number) => self.changes.count(*number as usize),
-            None => 0,
-        }
+        let number = self.numbers[variable as usize];
+        self.changes.count(number as usize)
     }
 
     /// The time of each moment, ascending. Takes no memory.
     pub fn times(&self) -> &[u64]
         ensures list { result.now ≡ self.now.times }
-        ensures few { length self.now.times < 2 ^ 28 }
+        ensures recording { IsRecording self.now }
     {
         self.times.as_slice()
     }
@@ -143,13 +144,15 @@ impl Recording {
         requires variable { variable < length self.now.variables }
         requires bit { bit < width_at self.now variable }
         requires moment { moment < length self.now.times }
-        ensures { result ≡ value_at self.now variable bit moment }
+        ensures is { result ≡ value_at self.now variable bit moment }
+        ensures last { IsValueAt self.now variable bit moment result }
     {
         let (value, _) = self.value_near(variable, bit, moment, usize::MAX);
         value
     }
 
     /// The same from a hint on: how many changes of the variable come up to some moment. The answer has that number for this one.
+    #[tactic(auto, using(xr_vcd_changes::proofs::LastLemmas::is_last_value))]
     pub(crate) fn value_near(
         &self,
         variable: u32,
@@ -159,14 +162,12 @@ impl Recording {
     ) -> (Value, usize)
         requires variable { variable < length self.now.variables }
         requires bit { bit < width_at self.now variable }
-        ensures { result.0 ≡ value_at self.now variable bit moment }
+        ensures is { result.0 ≡ value_at self.now variable bit moment }
+        ensures last { IsValueAt self.now variable bit moment result.0 }
     {
         let width = self.variables[variable as usize].width;
-        match self.numbers.get(variable as usize) {
-            Some(number) => self
-                .changes
-                .value_near(*number as usize, width, bit, moment, hint),
-            None => (Value::X, 0),
-        }
+        let number = self.numbers[variable as usize];
+        self.changes
+            .value_near(number as usize, width, bit, moment, hint)
     }
 }

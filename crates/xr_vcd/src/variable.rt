@@ -1,5 +1,7 @@
 //! Scopes and variables of a recording.
 
+use crate::bytes::take;
+use crate::ranges::last_bracket;
 use xr_base::Items;
 
 /// A scope: the position of the scope that it is in, and its name.
@@ -9,8 +11,8 @@ pub struct Scope {
     pub name: Items<u8>,
 }
 
-/// A variable. `scope` is a position in the recording's scopes; a range `[i]` is (i, i); `direct` says that the range stands
-/// directly behind the reference, which is then given without it.
+/// A variable. `scope` is a position in the recording's scopes. `reference` is the text as recorded: with its range where that
+/// stands directly behind it, as `direct` says. A range `[i]` is (i, i). `width` is 1 to 2^20.
 #[derive(Debug, Drop)]
 pub struct Variable {
     pub scope: u32,
@@ -18,4 +20,21 @@ pub struct Variable {
     pub range: Option<(u32, u32)>,
     pub direct: bool,
     pub width: u32,
+}
+
+impl Variable {
+    ghost use Rattle.std.specs.Prelude.{◌≡◌};
+    ghost use Rattle.xr_vcd.specs.Bytes.{without_range};
+
+    /// The reference without a range directly behind it. Takes no memory.
+    pub fn bare_reference(&self) -> &[u8]
+        ensures { result.now ≡ without_range self.now.direct self.now.reference }
+    {
+        let reference = self.reference.as_slice();
+        if self.direct {
+            take(reference, last_bracket(reference))
+        } else {
+            reference
+        }
+    }
 }

@@ -2,4 +2,5 @@
 pub mod Counts
 pub mod Cuts
 pub mod Holds
+pub mod LastLemmas
 pub mod Stores

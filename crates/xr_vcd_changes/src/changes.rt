@@ -1,6 +1,7 @@
 //! The changes of all codes.
 
 ghost use Rattle.std.specs.Prelude.{◌≡◌, ℕ, ◌+◌, ◌<◌, ◌≤◌, ◌^◌, [], ◌∷◌, ◌++◌, List, length, IfOk, OnOk, OnErr, slice_index, slice_index_or};
+ghost use Rattle.xr_vcd_changes.specs.Last.{IsLastValue};
 ghost use Rattle.xr_vcd_changes.specs.Held.{bit_value, change, digit_value, extended, fill_of, held, track_of, unknown, with_change};
 
 use crate::digits::Digits;
@@ -82,7 +83,8 @@ impl Changes {
     /// time by the logarithm of the number of the code's changes.
     pub fn value(&self, code: usize, width: u32, bit: u32, moment: u32) -> Value
         requires { bit < width }
-        ensures { result ≡ bit_value (track_of self.now.tracks code) width bit moment }
+        ensures is { result ≡ bit_value (track_of self.now.tracks code) width bit moment }
+        ensures last { IsLastValue (track_of self.now.tracks code) width bit moment result }
     {
         let (value, _) = self.value_near(code, width, bit, moment, usize::MAX);
         value
@@ -90,6 +92,7 @@ impl Changes {
 
     /// The same from a hint on: how many changes of the code came in some moment or before it. The answer has that number for
     /// this moment, and the time is what lies between; any other hint is as good as none.
+    #[tactic(auto, using(crate::proofs::LastLemmas::is_last_value))]
     pub fn value_near(
         &self,
         code: usize,
@@ -99,7 +102,8 @@ impl Changes {
         hint: usize,
     ) -> (Value, usize)
         requires { bit < width }
-        ensures { result.0 ≡ bit_value (track_of self.now.tracks code) width bit moment }
+        ensures is { result.0 ≡ bit_value (track_of self.now.tracks code) width bit moment }
+        ensures last { IsLastValue (track_of self.now.tracks code) width bit moment result.0 }
     {
         let (digits, count) = self.digits(code, moment, hint);
         (bit_value(digits, width as usize, bit as usize), count)

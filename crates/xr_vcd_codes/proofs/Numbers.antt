@@ -1,7 +1,8 @@
 -- The numbers of codes in a list.
-use Rattle.std.proofs.Common.{◌≡◌, ℕ, suc, ◌+◌, ◌-◌, ◌<◌, ◌≤◌, Bool, true, false, cond, List, [], ◌∷◌, ◌++◌, length, Option, Some, None, refl, sym, ap, ◌∙◌, arith, bytes_eq, get_or}
-use Rattle.xr_vcd_codes.specs.Code.{Code, code, found, find, find_from}
-use Rattle.xr_vcd_codes.specs.Slots.{number_from, number_of}
+use Rattle.std.proofs.Common.{◌≡◌, ℕ, zero, suc, ◌+◌, ◌-◌, ◌<◌, ◌≤◌, Bool, true, false, cond, List, [], ◌∷◌, ◌++◌, length, Option, Some, None, refl, sym, ap, ◌∙◌, arith, bytes_eq, get_or}
+use Rattle.xr_vcd_codes.specs.Code.{Code, code, found, find, find_from, with_kind_at}
+use Rattle.xr_vcd_codes.specs.Slots.{Knows, number_from, number_of}
+use denote.Ref.{Bor}
 
 -- the list from n on has this code at k
 pub record HasAt (n : ℕ) (cs : List Code) (t : List ℕ) (k : ℕ) : Type 0 where
@@ -36,10 +37,10 @@ find_is : (cs : List Code) (t : List ℕ) (k : ℕ) (d : Code) → Some k ≡ nu
 find_is cs t k d h = let same : k - 0 ≡ k = omega arith in (has_at 0 cs t k (sym h)).is d ∙ ap (λ (n : ℕ). Some (found k (get_or cs n d))) same
 
 -- what is told of the code with a number that was found
-pub told_of : (cs : List Code) (t : List ℕ) (k width : ℕ) (passed : Bool) → Some k ≡ number_of cs t → ((d : Code) → width ≡ (get_or cs k d).width) → ((d : Code) → passed ≡ (get_or cs k d).passed) → find cs t ≡ Some (record { number = k; width = width; passed = passed })
-told_of cs t k width passed h w p =
+pub told_of : (cs : List Code) (t : List ℕ) (k width : ℕ) (skipped listed : Bool) → Some k ≡ number_of cs t → ((d : Code) → width ≡ (get_or cs k d).width) → ((d : Code) → skipped ≡ (get_or cs k d).skipped) → ((d : Code) → listed ≡ (get_or cs k d).listed) → find cs t ≡ Some (record { number = k; width = width; skipped = skipped; listed = listed })
+told_of cs t k width skipped listed h w s l =
     let d : Code = code t 0 true in
-    rw (w d, p d) (find_is cs t k d h)
+    rw (w d, s d, l d) (find_is cs t k d h)
 
 if_none : {A B : Type 0} (b : Bool) (x : A) (r : Option A) (y : B) (s : Option B) → cond b (Some x) r ≡ None → (r ≡ None → s ≡ None) → cond b (Some y) s ≡ None
 if_none true x r y s h k = cc
@@ -68,3 +69,12 @@ number-push n [] c t = let e : n + 0 ≡ n = omega arith in rw e refl
 number-push n (x ∷ cs) c t =
     let e : n + 1 + length cs ≡ n + suc (length cs) = omega arith in
     rw (number-push (n + 1) cs c t, e) (first_cond (bytes_eq t x.text) n (number_from (n + 1) cs t) _)
+
+-- one more variable of a code changes no number
+number-with_kind_at : (n : ℕ) (cs : List Code) (k : ℕ) (skipped : Bool) (t : List ℕ) → number_from n (with_kind_at cs k skipped) t ≡ number_from n cs t
+number-with_kind_at n [] k skipped t = refl
+number-with_kind_at n (c ∷ cs) zero skipped t = refl
+number-with_kind_at n (c ∷ cs) (suc k) skipped t = ap (λ (r : Option ℕ). cond (bytes_eq t c.text) (Some n) r) (number-with_kind_at (n + 1) cs k skipped t)
+
+pub knows-with_kind_at : (slots : List ℕ) (others : List (Bor (List ℕ) × ℕ)) (cs : List Code) (k : ℕ) (skipped : Bool) → Knows slots others cs → Knows slots others (with_kind_at cs k skipped)
+knows-with_kind_at slots others cs k skipped h = λ t. h t ∙ sym (number-with_kind_at 0 cs k skipped t)

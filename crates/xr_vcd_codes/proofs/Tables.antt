@@ -69,9 +69,9 @@ slot_new slots others text t slot number short at lt e =
     chosen_true (is_short t) _ (look others t) some ∙ ap slot_number here
 
 -- a short code takes its place in the table
-pub knows_short : (slots : List ℕ) (others : Others) (cs : List Code) (text : List ℕ) (width : ℕ) (passed : Bool) (slot number : ℕ) → Knows slots others cs → is_short text ≡ true → slot ≡ slot_of text → slot < length slots → number ≡ length cs → number_of cs text ≡ None → Knows (set slots slot (number + 1)) others (cs ++ code text width passed ∷ [])
-knows_short slots others cs text width passed slot number h short at lt count none = λ t.
-    let c : Code = code text width passed in
+pub knows_short : (slots : List ℕ) (others : Others) (cs : List Code) (text : List ℕ) (width : ℕ) (skipped : Bool) (slot number : ℕ) → Knows slots others cs → is_short text ≡ true → slot ≡ slot_of text → slot < length slots → number ≡ length cs → number_of cs text ≡ None → Knows (set slots slot (number + 1)) others (cs ++ code text width skipped ∷ [])
+knows_short slots others cs text width skipped slot number h short at lt count none = λ t.
+    let c : Code = code text width skipped in
     let P : Bool → Type 0 = λ v. bytes_eq t text ≡ v → stored_number (set slots slot (number + 1)) others t ≡ number_of (cs ++ c ∷ []) t in
     let by : (v : Bool) → P v = λ v. elim v as P [
       | true ↦ λ e.
@@ -86,9 +86,9 @@ look-push [] key n t = refl
 look-push (o ∷ others) key n t = rw (look-push others key n t) (first_cond (bytes_eq t o.0.now) o.1 (look others t) _)
 
 -- any other code goes into the map
-pub knows_other : (slots : List ℕ) (others : Others) (cs : List Code) (key : Bor (List ℕ)) (width : ℕ) (passed : Bool) (number : ℕ) → Knows slots others cs → is_short key.now ≡ false → number ≡ length cs → Knows slots (others ++ (key, number) ∷ []) (cs ++ code key.now width passed ∷ [])
-knows_other slots others cs key width passed number h long count = λ t.
-    let c : Code = code key.now width passed in
+pub knows_other : (slots : List ℕ) (others : Others) (cs : List Code) (key : Bor (List ℕ)) (width : ℕ) (skipped : Bool) (number : ℕ) → Knows slots others cs → is_short key.now ≡ false → number ≡ length cs → Knows slots (others ++ (key, number) ∷ []) (cs ++ code key.now width skipped ∷ [])
+knows_other slots others cs key width skipped number h long count = λ t.
+    let c : Code = code key.now width skipped in
     let P : Bool → Type 0 = λ v. is_short t ≡ v → stored_number slots (others ++ (key, number) ∷ []) t ≡ number_of (cs ++ c ∷ []) t in
     let by : (v : Bool) → P v = λ v. elim v as P [
       | true ↦ λ s.

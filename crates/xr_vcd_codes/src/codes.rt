@@ -1,7 +1,7 @@
 //! Codes in the order of their declaration.
 
 ghost use Rattle.std.specs.Prelude.{◌≡◌, true, false, ℕ, ◌<◌, [], ◌∷◌, ◌++◌, OnOk, None, length, slice_index};
-ghost use Rattle.xr_vcd_codes.specs.Code.{find, code};
+ghost use Rattle.xr_vcd_codes.specs.Code.{find, code, with_kind_at};
 ghost use Rattle.xr_vcd_codes.specs.Slots.{is_short, stored_number, slot_number};
 
 use crate::columns::Columns;
@@ -11,12 +11,13 @@ use std::alloc::Global;
 use std::marker::Model;
 use xr_base::Memory;
 
-/// A code that was found: its number from 0, its width, and whether it is passed over.
+/// A code that was found: its number from 0, its width, whether some variable with it is skipped, and whether some is listed.
 #[derive(Clone, Copy)]
 pub struct Found {
     pub number: usize,
     pub width: u32,
-    pub passed: bool,
+    pub skipped: bool,
+    pub listed: bool,
 }
 
 /// The codes of a text, in the order of their declaration. A code takes 24 bytes and its place in a table of at most 2,572,125
@@ -42,7 +43,7 @@ impl<'a> Model for Codes<'a> {
 
 impl<'a> Codes<'a> {
     ghost use Rattle.std.specs.Prelude.{◌≡◌, true, false, [], ◌∷◌, ◌++◌, OnOk, None, length};
-    ghost use Rattle.xr_vcd_codes.specs.Code.{find, code};
+    ghost use Rattle.xr_vcd_codes.specs.Code.{find, code, with_kind_at};
     ghost use Rattle.xr_vcd_codes.specs.Slots.{is_short};
 
     /// No codes. Takes no memory.
@@ -75,26 +76,35 @@ impl<'a> Codes<'a> {
         Some(Found {
             number,
             width: mark.width,
-            passed: mark.passed,
+            skipped: mark.skipped,
+            listed: mark.listed,
         })
     }
 
-    /// A new code, which takes the next number. More than 2^32 - 2 codes are want of memory.
-    pub fn add(&mut self, text: &'a [u8], width: u32, passed: bool) -> Result<(), Memory>
+    /// A new code, of one variable, which takes the next number. More than 2^32 - 2 codes are want of memory.
+    pub fn add(&mut self, text: &'a [u8], width: u32, skipped: bool) -> Result<(), Memory>
         requires { find self.old text.now ≡ None }
-        ensures { OnOk result (self.new ≡ self.old ++ code text.now width passed ∷ []) }
+        ensures { OnOk result (self.new ≡ self.old ++ code text.now width skipped ∷ []) }
     {
         if is_short(text) {
-            self.add_short(text, width, passed)
+            self.add_short(text, width, skipped)
         } else {
-            self.add_other(text, width, passed)
+            self.add_other(text, width, skipped)
         }
     }
 
-    fn add_short(&mut self, text: &'a [u8], width: u32, passed: bool) -> Result<(), Memory>
+    /// One more variable of the code with this number.
+    pub fn add_kind(&mut self, number: usize, skipped: bool)
+        requires { number < length self.old }
+        ensures { self.new ≡ with_kind_at self.old number skipped }
+    {
+        self.columns.add_kind(number, skipped);
+    }
+
+    fn add_short(&mut self, text: &'a [u8], width: u32, skipped: bool) -> Result<(), Memory>
         requires new { find self.old text.now ≡ None }
         requires short { is_short text.now ≡ true }
-        ensures { OnOk result (self.new ≡ self.old ++ code text.now width passed ∷ []) }
+        ensures { OnOk result (self.new ≡ self.old ++ code text.now width skipped ∷ []) }
     {
         let number = self.columns.len();
         if number >= u32::MAX as usize {
@@ -102,21 +112,21 @@ impl<'a> Codes<'a> {
         }
         let slot = slot_of(text);
         reach(&mut self.slots, slot)?;
-        self.columns.push(text, width, passed)?;
+        self.columns.push(text, width, skipped)?;
         self.slots[slot] = number as u32 + 1;
         Ok(())
     }
 
-    fn add_other(&mut self, text: &'a [u8], width: u32, passed: bool) -> Result<(), Memory>
+    fn add_other(&mut self, text: &'a [u8], width: u32, skipped: bool) -> Result<(), Memory>
         requires new { find self.old text.now ≡ None }
         requires long { is_short text.now ≡ false }
-        ensures { OnOk result (self.new ≡ self.old ++ code text.now width passed ∷ []) }
+        ensures { OnOk result (self.new ≡ self.old ++ code text.now width skipped ∷ []) }
     {
         let number = self.columns.len();
         if number >= u32::MAX as usize {
             return Err(Memory);
         }
-        self.columns.push(text, width, passed)?;
+        self.columns.push(text, width, skipped)?;
         match self.others.insert(text, number as u32) {
             Ok(_) => Ok(()),
             Err(_) => {

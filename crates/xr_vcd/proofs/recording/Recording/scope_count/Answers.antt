@@ -11,6 +11,6 @@ returns c =
     record {
       count = count_is _ _ _ is len;
       some = omega arith;
-      few = omega (arith, len, c.self.invariant.scopes_);
+      few = omega (arith, len, c.self.invariant.0.scopes_);
       outside = outside c.self.inside.scopes.items _ is;
     }

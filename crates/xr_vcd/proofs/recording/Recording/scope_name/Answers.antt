@@ -8,4 +8,4 @@ pub index-requires : goal.index-requires
 index-requires c = within_is _ _ _ _ (ap (λ (r : Recording). r.scopes) c.self.view_is) c.self.inside.scopes.ok.0 c.requires.some c.requires.known
 
 pub returns : goal.returns
-returns c = c.as_slice.ensures ∙ name_is _ _ _ _ (ap (λ (r : Recording). r.scopes) c.self.view_is) c.self.invariant.tree c.requires.some c.requires.known c.index.ensures
+returns c = c.as_slice.ensures ∙ name_is _ _ _ _ (ap (λ (r : Recording). r.scopes) c.self.view_is) c.self.invariant.0.tree c.requires.some c.requires.known c.index.ensures

@@ -8,7 +8,7 @@ pub index-requires : goal.index-requires
 index-requires c = within_is _ _ _ _ (ap (λ (r : Recording). r.scopes) c.self.view_is) c.self.inside.scopes.ok.0 c.requires.some c.requires.known
 
 pub returns-clause-before : goal.returns-clause-before
-returns-clause-before c = parent_before _ _ _ _ (ap (λ (r : Recording). r.scopes) c.self.view_is) c.self.invariant.tree c.requires.some c.requires.known c.index.ensures
+returns-clause-before c = parent_before _ _ _ _ (ap (λ (r : Recording). r.scopes) c.self.view_is) c.self.invariant.0.tree c.requires.some c.requires.known c.index.ensures
 
 pub returns-clause-path : goal.returns-clause-path
-returns-clause-path c = parent_is _ _ _ _ (ap (λ (r : Recording). r.scopes) c.self.view_is) c.self.invariant.tree c.requires.some c.requires.known c.index.ensures
+returns-clause-path c = parent_is _ _ _ _ (ap (λ (r : Recording). r.scopes) c.self.view_is) c.self.invariant.0.tree c.requires.some c.requires.known c.index.ensures

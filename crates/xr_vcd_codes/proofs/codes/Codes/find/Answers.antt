@@ -17,4 +17,4 @@ mark-mark-requires c =
 pub returns : goal.returns
 returns c =
     let at : Some c.in-Some.number ≡ number_of c.args.self.now c.args.text.now = told _ _ _ c.self.inside.columns _ _ _ c.as_slice.ensures.value c.self.view_is c.self.invariant c.in-Some.ensures in
-    sym (told_of c.args.self.now c.args.text.now c.in-Some.number _ _ at (λ d. rw (← c.self.view_is) (c.mark-mark.ensures.width d)) (λ d. rw (← c.self.view_is) (c.mark-mark.ensures.passed d)))
+    sym (told_of c.args.self.now c.args.text.now c.in-Some.number _ _ _ at (λ d. rw (← c.self.view_is) (c.mark-mark.ensures.width d)) (λ d. rw (← c.self.view_is) (c.mark-mark.ensures.skipped d)) (λ d. rw (← c.self.view_is) (c.mark-mark.ensures.listed d)))

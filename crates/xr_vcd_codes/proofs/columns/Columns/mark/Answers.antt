@@ -9,5 +9,8 @@ index-requires c = omega (arith, count_is _ _ _ c.self.view_is c.self.invariant,
 pub returns-clause-width : goal.returns-clause-width
 returns-clause-width c = λ d. (mark_is _ _ _ _ _ d c.self.view_is c.self.invariant c.requires c.index.ensures).width
 
-pub returns-clause-passed : goal.returns-clause-passed
-returns-clause-passed c = λ d. (mark_is _ _ _ _ _ d c.self.view_is c.self.invariant c.requires c.index.ensures).passed
+pub returns-clause-skipped : goal.returns-clause-skipped
+returns-clause-skipped c = λ d. (mark_is _ _ _ _ _ d c.self.view_is c.self.invariant c.requires c.index.ensures).skipped
+
+pub returns-clause-listed : goal.returns-clause-listed
+returns-clause-listed c = λ d. (mark_is _ _ _ _ _ d c.self.view_is c.self.invariant c.requires c.index.ensures).listed

@@ -1,0 +1,11 @@
+-- A scope is entered.
+use Rattle.std.proofs.Common.{◌∙◌, refl, sym, ap}
+use Rattle.xr_vcd.specs.Declarations.{scope_of}
+use Rattle.xr_vcd.proofs.Paths.{entered_path, entered_number}
+use Rattle.xr_vcd.proofs.declarations.Declarations.enter.Goals as goal
+
+pub returns : goal.returns
+returns c =
+    let path = entered_path c.self.inside.scopes.items _ _ _ _ c.in_ok-name.ensures (c.scope-parent.ensures ∙ ap scope_of (sym c.self.view_is)) in
+    let number = entered_number c.self.inside.scopes.items _ _ c.len-2.ensures c.self.inside.scopes.ok.0 in
+    rw (← c.self.view_is, c.in_ok-push.ensures.items, c.in_ok-push-2.ensures.items, path, number) refl

@@ -1,0 +1,231 @@
+//! Reading the declarations.
+
+ghost use Rattle.std.specs.Prelude.{◌≡◌, ◌<◌, ◌≤◌, ◌^◌, ◌++◌, Bool, false, ℕ, List, length, IfOk};
+ghost use Rattle.xr_vcd.specs.Changes.{Body, start};
+ghost use Rattle.xr_vcd_codes.specs.Code.{find};
+ghost use Rattle.xr_vcd.specs.Declarations.{Declarations, with_variable};
+ghost use Rattle.xr_vcd.specs.Machine.{upscope_on, code_on};
+ghost use Rattle.xr_vcd.specs.Machine.State.{definitions_end, note, scale, scope_kind, scale_end, var_kind, var_width, var_code, var_reference, body, body_note, declaring};
+ghost use Rattle.xr_vcd.specs.Naming.{shown_name};
+ghost use Rattle.xr_vcd.specs.Reading.{Reads, ReadsOn, Shortens};
+
+use crate::bytes::{
+    are_digits, is_code, is_end, is_power, is_scale, is_skipped, is_unit, value_within,
+};
+use crate::declarations::Declarations;
+use crate::kinds::{Kind, kind_of};
+use crate::ranges::{RecordedName, name_of, range_of};
+use crate::refusal::VcdErr;
+use crate::words::Words;
+
+/// Reads the declarations up to `$enddefinitions $end`.
+pub fn read_declarations<'a>(
+    words: &mut Words<'a>,
+    declared: &mut Declarations<'a>,
+) -> Result<(), VcdErr>
+    ensures reads { Reads (declaring declared.old) words.old result (λ _. body (start declared.new) false) words.new }
+    ensures shortens { Shortens words.old result words.new }
+{
+    'declarations: loop {
+        let (at, text) = words.need()?;
+        match kind_of(text) {
+            Kind::Note => skip_note(words)?,
+            Kind::Comment => skip_note(words)?,
+            Kind::Timescale => read_scale(words, declared)?,
+            Kind::Scope => read_scope(words, declared)?,
+            Kind::Upscope => read_upscope(at, words, declared)?,
+            Kind::Var => read_var(at, words, declared)?,
+            Kind::Definitions => {
+                read_definitions_end(words)?;
+                return Ok(());
+            }
+            _ => return Err(VcdErr::Syntax { at }),
+        }
+    }
+}
+
+// definitions = "$enddefinitions" "$end"
+fn read_definitions_end(words: &mut Words<'_>) -> Result<(), VcdErr>
+    ensures reads { (h : Declarations) → Reads (definitions_end h) words.old result (λ _. body (start h) false) words.new }
+    ensures shortens { Shortens words.old result words.new }
+{
+    let (at, text) = words.need()?;
+    if !is_end(text) {
+        return Err(VcdErr::Syntax { at });
+    }
+    Ok(())
+}
+
+// note = ( "$date" | "$version" | "$comment" ) { word } "$end"
+pub fn skip_note(words: &mut Words<'_>) -> Result<(), VcdErr>
+    ensures reads { (h : Declarations) → Reads (note h) words.old result (λ _. declaring h) words.new }
+    ensures in_body { (b : Body) → Reads (body_note b) words.old result (λ _. body b false) words.new }
+    ensures shortens { Shortens words.old result words.new }
+{
+    'words: loop {
+        let (_, text) = words.need()?;
+        if is_end(text) {
+            return Ok(());
+        }
+    }
+}
+
+// timescale = "$timescale" ( power unit | power white unit ) "$end"
+fn read_scale(words: &mut Words<'_>, declared: &mut Declarations<'_>) -> Result<(), VcdErr>
+    ensures reads { Reads (scale declared.old) words.old result (λ _. declaring declared.new) words.new }
+    ensures shortens { Shortens words.old result words.new }
+{
+    let (at, text) = words.need()?;
+    if is_scale(text) {
+        return read_scale_end(text, b"".as_slice(), words, declared);
+    }
+    if !is_power(text) {
+        return Err(VcdErr::Syntax { at });
+    }
+    let (unit_at, unit) = words.need()?;
+    if !is_unit(unit) {
+        return Err(VcdErr::Syntax { at: unit_at });
+    }
+    read_scale_end(text, unit, words, declared)
+}
+
+fn read_scale_end(
+    front: &[u8],
+    back: &[u8],
+    words: &mut Words<'_>,
+    declared: &mut Declarations<'_>,
+) -> Result<(), VcdErr>
+    ensures reads { Reads (scale_end declared.old (front.now ++ back.now)) words.old result (λ _. declaring declared.new) words.new }
+    ensures shortens { Shortens words.old result words.new }
+{
+    let (at, text) = words.need()?;
+    if !is_end(text) {
+        return Err(VcdErr::Syntax { at });
+    }
+    declared.set_scale(front, back)
+}
+
+// scope = "$scope" kind name "$end"
+fn read_scope(words: &mut Words<'_>, declared: &mut Declarations<'_>) -> Result<(), VcdErr>
+    ensures reads { Reads (scope_kind declared.old) words.old result (λ _. declaring declared.new) words.new }
+    ensures shortens { Shortens words.old result words.new }
+{
+    words.need()?;
+    let (name_at, name) = words.need()?;
+    if is_end(name) {
+        return Err(VcdErr::Syntax { at: name_at });
+    }
+    let (at, text) = words.need()?;
+    if !is_end(text) {
+        return Err(VcdErr::Syntax { at });
+    }
+    declared.enter(name)
+}
+
+// upscope = "$upscope" "$end"
+fn read_upscope(
+    at: usize,
+    words: &mut Words<'_>,
+    declared: &mut Declarations<'_>,
+) -> Result<(), VcdErr>
+    ensures reads { ReadsOn (upscope_on declared.old at) words.old result (λ _. declaring declared.new) words.new }
+    ensures shortens { Shortens words.old result words.new }
+{
+    if !declared.leave() {
+        return Err(VcdErr::Syntax { at });
+    }
+    let (at, text) = words.need()?;
+    if !is_end(text) {
+        return Err(VcdErr::Syntax { at });
+    }
+    Ok(())
+}
+
+// var = "$var" kind width code name "$end"
+fn read_var<'a>(
+    at: usize,
+    words: &mut Words<'a>,
+    declared: &mut Declarations<'a>,
+) -> Result<(), VcdErr>
+    ensures reads { Reads (var_kind declared.old at) words.old result (λ _. declaring declared.new) words.new }
+    ensures shortens { Shortens words.old result words.new }
+{
+    let (_, kind) = words.need()?;
+    let skipped = is_skipped(kind);
+    let width = read_width(words)?;
+    let number = read_code(at, skipped, width, words, declared)?;
+    let name = read_name(words)?;
+    declared.add_variable(skipped, number, width, &name)
+}
+
+/// Reads a width, 1 to 2^20.
+fn read_width(words: &mut Words<'_>) -> Result<u32, VcdErr>
+    ensures reads { (h : Declarations) → (var : ℕ) → (skipped : Bool) → Reads (var_width h var skipped) words.old result (λ width. var_code h var skipped width) words.new }
+    ensures some { IfOk result (λ width. 1 ≤ width) }
+    ensures wide { IfOk result (λ width. width ≤ 2 ^ 20) }
+    ensures shortens { Shortens words.old result words.new }
+{
+    let (at, text) = words.need()?;
+    if !are_digits(text) {
+        return Err(VcdErr::Syntax { at });
+    }
+    match value_within(1_048_576, text) {
+        Some(width) if width >= 1 => Ok(width as u32),
+        _ => Err(VcdErr::Width { at }),
+    }
+}
+
+/// Reads a code, which is new or has this width already.
+fn read_code<'a>(
+    var: usize,
+    skipped: bool,
+    width: u32,
+    words: &mut Words<'a>,
+    declared: &mut Declarations<'a>,
+) -> Result<usize, VcdErr>
+    ensures reads { Reads (var_code declared.old var skipped width) words.old result (λ number. var_reference declared.new skipped number width) words.new }
+    ensures shortens { Shortens words.old result words.new }
+{
+    let (at, text) = words.need()?;
+    if !is_code(text) {
+        return Err(VcdErr::Syntax { at });
+    }
+    match declared.find(text) {
+        Some(found) => {
+            if found.width != width {
+                return Err(VcdErr::Width { at: var });
+            }
+            declared.add_kind(found.number, skipped);
+            Ok(found.number)
+        }
+        None => declared.add_code(text, width, skipped),
+    }
+}
+
+// name = reference [ range ] "$end"
+fn read_name<'a>(words: &mut Words<'a>) -> Result<RecordedName<'a>, VcdErr>
+    ensures reads { (h : Declarations) → (skipped : Bool) → (number width : ℕ) → Reads (var_reference h skipped number width) words.old result (λ name. declaring (with_variable h skipped number width (shown_name name))) words.new }
+    ensures shortens { Shortens words.old result words.new }
+{
+    let (reference_at, reference) = words.need()?;
+    if is_end(reference) {
+        return Err(VcdErr::Syntax { at: reference_at });
+    }
+    let (at, text) = words.need()?;
+    if is_end(text) {
+        return Ok(name_of(reference));
+    }
+    let range = match range_of(text) {
+        None => return Err(VcdErr::Syntax { at }),
+        Some(range) => range,
+    };
+    let (end_at, end) = words.need()?;
+    if !is_end(end) {
+        return Err(VcdErr::Syntax { at: end_at });
+    }
+    Ok(RecordedName {
+        reference,
+        range: Some(range),
+        direct: false,
+    })
+}
