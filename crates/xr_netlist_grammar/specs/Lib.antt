@@ -10,3 +10,5 @@ pub mod Primitives
 pub mod Text
 pub mod Refusal
 pub mod Fault
+pub mod Source
+pub mod Whole

@@ -58,6 +58,3 @@ impl<'a> Lexer<'a> {
         }
     }
 }
-
-#[cfg(test)]
-mod tests;
