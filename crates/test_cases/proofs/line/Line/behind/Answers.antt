@@ -1,0 +1,7 @@
+-- What is stripped is the mark, and what it is stripped of begins with it.
+use Rattle.std.proofs.lemmas.Slice.Eq.{strip_prefix_is}
+use Rattle.std.proofs.lemmas.Bool.Decides.{Decides-eqb}
+use Rattle.test_cases.proofs.line.Line.behind.Goals as goal
+
+pub returns : goal.returns
+returns c = strip_prefix_is Decides-eqb _ _ _ c.strip_prefix.ensures.cases

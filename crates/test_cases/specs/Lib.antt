@@ -1,0 +1,4 @@
+-- Definitions of test_cases.
+pub mod Compared
+pub mod Left
+pub mod Lines
