@@ -30,7 +30,8 @@ pub fn gates(
     words: &mut Reader<'_>,
     items: &mut Vec<Item>,
 ) -> Result<(), ParseErr>
-    ensures reads { ReadsItems (λ u. spec.gate_kind u kind at) items.old words.old result (λ _. spec.in_items) items.new words.new }
+    ensures reads { ReadsItems (λ u. spec.gate_kind u kind at) items.old
+        words.old result (λ _. spec.in_items) items.new words.new }
     ensures shortens { Shortens words.old result words.new }
 {
     may_delay(words)?;
@@ -50,7 +51,8 @@ fn gate(
     words: &mut Reader<'_>,
     items: &mut Vec<Item>,
 ) -> Result<(), ParseErr>
-    ensures reads { ReadsItems (λ u. spec.gate_name u kind at) items.old words.old result (λ _ u. spec.after_gate u kind at) items.new words.new }
+    ensures reads { ReadsItems (λ u. spec.gate_name u kind at) items.old
+        words.old result (λ _ u. spec.after_gate u kind at) items.new words.new }
     ensures shortens { Shortens words.old result words.new }
 {
     let _ = words.take_name();
@@ -125,7 +127,8 @@ fn instance(
     items: &mut Vec<Item>,
 ) -> Result<(), ParseErr>
     ensures reads { let d = word_of_name definition.entry in
-        ReadsItems (λ u. spec.instance_name u d) items.old words.old result (λ _ u. spec.after_instance u d) items.new words.new }
+        ReadsItems (λ u. spec.instance_name u d) items.old
+        words.old result (λ _ u. spec.after_instance u d) items.new words.new }
     ensures shortens { Shortens words.old result words.new }
 {
     let name = words.take_name();
@@ -223,7 +226,8 @@ fn named(alloc: Global, words: &mut Reader<'_>) -> Result<Connections, ParseErr>
 #[tactic(auto, using(crate::proofs::Runs::named_starts))]
 fn named_connection(alloc: Global, words: &mut Reader<'_>) -> Result<NamedConnection, ParseErr>
     ensures reads { (u : Under) (d : word) (n : Option word) (cs : List named_kind)
-        → Reads (spec.connection_port u d n cs) words.old result (λ c. spec.after_connection u d n (cs ++ c ∷ [])) words.new }
+        → Reads (spec.connection_port u d n cs)
+        words.old result (λ c. spec.after_connection u d n (cs ++ c ∷ [])) words.new }
     ensures shortens { Shortens words.old result words.new }
 {
     let port = words.word(alloc)?;

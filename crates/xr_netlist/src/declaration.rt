@@ -52,7 +52,8 @@ pub fn directed(
     words: &mut Reader<'_>,
     items: &mut Vec<Item>,
 ) -> Result<(), ParseErr>
-    ensures reads { ReadsItems (λ u. spec.direction u what) items.old words.old result (λ _. spec.in_items) items.new words.new }
+    ensures reads { ReadsItems (λ u. spec.direction u what) items.old
+        words.old result (λ _. spec.in_items) items.new words.new }
     ensures shortens { Shortens words.old result words.new }
 {
     let range = wire_range(words, None)?;
@@ -68,7 +69,8 @@ pub fn names(
     words: &mut Reader<'_>,
     items: &mut Vec<Item>,
 ) -> Result<(), ParseErr>
-    ensures reads { ReadsItems (λ u. spec.declared_name u what range) items.old words.old result (λ _. spec.in_items) items.new words.new }
+    ensures reads { ReadsItems (λ u. spec.declared_name u what range) items.old
+        words.old result (λ _. spec.in_items) items.new words.new }
     ensures shortens { Shortens words.old result words.new }
 {
     'names: loop {
@@ -92,7 +94,8 @@ pub fn nets(
     words: &mut Reader<'_>,
     items: &mut Vec<Item>,
 ) -> Result<(), ParseErr>
-    ensures reads { ReadsItems (λ u. spec.net_kind u what) items.old words.old result (λ _. spec.in_items) items.new words.new }
+    ensures reads { ReadsItems (λ u. spec.net_kind u what) items.old
+        words.old result (λ _. spec.in_items) items.new words.new }
     ensures shortens { Shortens words.old result words.new }
 {
     let range = net_range(words)?;

@@ -15,7 +15,8 @@ use xr_netlist_grammar::{Expr, Fixed, ParseErr, Part, PartKind, Word};
 
 // expr = name | name "[" int "]" | name "[" int ":" int "]" | literal | "{" expr { "," expr } "}"
 pub fn expr(alloc: Global, words: &mut Reader<'_>) -> Result<Expr, ParseErr>
-    ensures reads { (k : Context) → Reads (spec.expr_start k) words.old result (λ e. spec.after_part k e.at 0 e.parts) words.new }
+    ensures reads { (k : Context) → Reads (spec.expr_start k)
+        words.old result (λ e. spec.after_part k e.at 0 e.parts) words.new }
     ensures shortens { Shortens words.old result words.new }
 {
     let at = words.at();

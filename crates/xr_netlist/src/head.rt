@@ -97,8 +97,10 @@ fn port(
     items: &mut Vec<Item>,
 ) -> Result<(), ParseErr>
     ensures reads { (b : source) (n : word)
-        → Reads (spec.port_word (under b n ports.old.items items.old.items) direction.what direction.range) words.old result
-        (λ _. spec.after_declared_port (under b n ports.new.items items.new.items) direction.what direction.range) words.new }
+        → Reads (spec.port_word (under b n ports.old.items items.old.items) direction.what direction.range)
+        words.old result
+        (λ _. spec.after_declared_port (under b n ports.new.items items.new.items) direction.what
+        direction.range) words.new }
     ensures shortens { Shortens words.old result words.new }
 {
     let name = words.name()?;
@@ -116,7 +118,8 @@ fn port(
 #[tactic(auto, using(crate::proofs::Runs::undirected))]
 fn next_direction(words: &mut Reader<'_>, had: Direction) -> Direction
     ensures reads { (u : Under)
-        → goes (spec.declared_port u had.what had.range) words.old ≡ goes (spec.port_direction u result.what result.range) words.new }
+        → goes (spec.declared_port u had.what had.range) words.old
+        ≡ goes (spec.port_direction u result.what result.range) words.new }
     ensures shortens { length words.new.words ≤ length words.old.words }
 {
     if words.take(Fixed::Input) {

@@ -1,4 +1,4 @@
-//! The words that the grammar quotes, and those that the profile leaves out (IEEE 1364-2005, annex B), found group by group.
+//! The words that the grammar quotes, and those that the profile leaves out (IEEE 1364-2005, annex B), group by group.
 
 ghost use Rattle.std.specs.Prelude.{◌≡◌};
 ghost use Rattle.xr_netlist_grammar.specs.Lexemes as spec;

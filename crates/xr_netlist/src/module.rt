@@ -20,7 +20,8 @@ use xr_netlist_grammar::{Fixed, Item, Module, NetKind, ParseErr};
 
 // module = "module" name head ";" { item } "endmodule", behind its first word
 pub fn module(alloc: Global, words: &mut Reader<'_>) -> Result<Module, ParseErr>
-    ensures reads { (b : source) → Reads (spec.module_name b) words.old result (λ m. spec.top (joined b (one_module m))) words.new }
+    ensures reads { (b : source) → Reads (spec.module_name b)
+        words.old result (λ m. spec.top (joined b (one_module m))) words.new }
     ensures shortens { Shortens words.old result words.new }
 {
     let name = words.name()?;
@@ -36,7 +37,8 @@ pub fn module(alloc: Global, words: &mut Reader<'_>) -> Result<Module, ParseErr>
 
 // { item } "endmodule"
 fn fill(alloc: Global, words: &mut Reader<'_>, items: &mut Vec<Item>) -> Result<(), ParseErr>
-    ensures reads { ReadsItems spec.in_items items.old words.old result (λ _ u. spec.top (closed u)) items.new words.new }
+    ensures reads { ReadsItems spec.in_items items.old
+        words.old result (λ _ u. spec.top (closed u)) items.new words.new }
     ensures shortens { Shortens words.old result words.new }
 {
     'items: while !words.take(Fixed::Endmodule) {
@@ -71,7 +73,8 @@ fn item(alloc: Global, words: &mut Reader<'_>, items: &mut Vec<Item>) -> Result<
 
 // dir = "input" | "output"
 fn take_direction(words: &mut Reader<'_>) -> Option<NetKind>
-    ensures begins { IfSome result (λ what. (u : Under) → goes (spec.in_items u) words.old ≡ goes (spec.direction u what) words.new) }
+    ensures begins { IfSome result (λ what. (u : Under)
+        → goes (spec.in_items u) words.old ≡ goes (spec.direction u what) words.new) }
     ensures shortens { IfSome result (λ _. length words.new.words < length words.old.words) }
     ensures none { IfNone result ((words.new ≡ words.old) × BeginsNoDirection (head words.old).what) }
 {
@@ -86,7 +89,8 @@ fn take_direction(words: &mut Reader<'_>) -> Option<NetKind>
 
 // net = "wire" | "tri" | "supply0" | "supply1"
 fn take_net(words: &mut Reader<'_>) -> Option<NetKind>
-    ensures begins { IfSome result (λ what. (u : Under) → goes (spec.in_items u) words.old ≡ goes (spec.net_kind u what) words.new) }
+    ensures begins { IfSome result (λ what. (u : Under)
+        → goes (spec.in_items u) words.old ≡ goes (spec.net_kind u what) words.new) }
     ensures shortens { IfSome result (λ _. length words.new.words < length words.old.words) }
     ensures none { IfNone result ((words.new ≡ words.old) × BeginsNoNet (head words.old).what) }
 {

@@ -28,7 +28,8 @@ struct Pins {
 
 // primitive = "primitive" name "(" pins ")" ";" { declaration } "table" rows "endprimitive", behind its first word
 pub fn primitive(alloc: Global, words: &mut Reader<'_>) -> Result<Primitive, ParseErr>
-    ensures reads { (b : source) → Reads (spec.primitive_name b) words.old result (λ p. spec.top (joined b (one_primitive p))) words.new }
+    ensures reads { (b : source) → Reads (spec.primitive_name b)
+        words.old result (λ p. spec.top (joined b (one_primitive p))) words.new }
     ensures shortens { Shortens words.old result words.new }
 {
     let name = words.name()?;
@@ -54,7 +55,8 @@ fn declare_all(
     words: &mut Reader<'_>,
     declarations: &mut Vec<PrimDeclare>,
 ) -> Result<(), ParseErr>
-    ensures reads { ReadsPins spec.primitive_head_end declarations.old words.old result spec.first_row declarations.new words.new }
+    ensures reads { ReadsPins spec.primitive_head_end declarations.old
+        words.old result spec.first_row declarations.new words.new }
     ensures shortens { Shortens words.old result words.new }
 {
     words.expect(Fixed::Semi)?;
@@ -176,8 +178,10 @@ fn output<'a>(
 ) -> Result<Name<'a>, ParseErr>
     ensures pin { declarations.old.items ≡ [] → (b : source) (n : word)
         → Reads (spec.output_pin b n) words.old result
-        (λ w. spec.after_output (within b n (word_of_name w ∷ []) declarations.new.items []) (word_of_name w)) words.new }
-    ensures declared { ReadsPins spec.output_declared declarations.old words.old result spec.declared_semi declarations.new words.new }
+        (λ w. spec.after_output (within b n (word_of_name w ∷ []) declarations.new.items [])
+        (word_of_name w)) words.new }
+    ensures declared { ReadsPins spec.output_declared declarations.old
+        words.old result spec.declared_semi declarations.new words.new }
     ensures shortens { Shortens words.old result words.new }
 {
     if words.take(Fixed::Reg) {
@@ -199,7 +203,8 @@ fn start_value(
     declarations: &mut Vec<PrimDeclare>,
 ) -> Result<(), ParseErr>
     ensures reads { let w = word_of_name name.entry in
-        ReadsPins (λ p. spec.after_output p w) declarations.old words.old result spec.first_input declarations.new words.new }
+        ReadsPins (λ p. spec.after_output p w) declarations.old
+        words.old result spec.first_input declarations.new words.new }
     ensures shortens { Shortens words.old result words.new }
 {
     if !words.take(Fixed::Equals) {
@@ -231,7 +236,8 @@ fn declaration(
     declarations: &mut Vec<PrimDeclare>,
 ) -> Result<(), ParseErr>
     requires { is_fixed fixed.Table (head words.old).what ≡ false }
-    ensures reads { ReadsPins spec.in_primitive declarations.old words.old result spec.in_primitive declarations.new words.new }
+    ensures reads { ReadsPins spec.in_primitive declarations.old
+        words.old result spec.in_primitive declarations.new words.new }
     ensures shortens { Shortens words.old result words.new }
 {
     if words.take(Fixed::Output) {
@@ -257,7 +263,8 @@ fn inputs(
     words: &mut Reader<'_>,
     declarations: &mut Vec<PrimDeclare>,
 ) -> Result<(), ParseErr>
-    ensures reads { ReadsPins spec.input_declared declarations.old words.old result spec.in_primitive declarations.new words.new }
+    ensures reads { ReadsPins spec.input_declared declarations.old
+        words.old result spec.in_primitive declarations.new words.new }
     ensures shortens { Shortens words.old result words.new }
 {
     'inputs: loop {
@@ -274,7 +281,8 @@ fn initial(
     words: &mut Reader<'_>,
     declarations: &mut Vec<PrimDeclare>,
 ) -> Result<(), ParseErr>
-    ensures reads { ReadsPins spec.initial_declared declarations.old words.old result spec.declared_semi declarations.new words.new }
+    ensures reads { ReadsPins spec.initial_declared declarations.old
+        words.old result spec.declared_semi declarations.new words.new }
     ensures shortens { Shortens words.old result words.new }
 {
     let name = words.name()?;

@@ -58,7 +58,8 @@ fn row(alloc: Global, sequential: bool, words: &mut Reader<'_>) -> Result<RawRow
 
 // entry { entry } ":"
 fn entries(alloc: Global, words: &mut Reader<'_>) -> Result<Vec<Symbol>, ParseErr>
-    ensures reads { (p : Within) → Reads (spec.first_row p) words.old result (λ es. after_entries p es.items) words.new }
+    ensures reads { (p : Within) → Reads (spec.first_row p)
+        words.old result (λ es. after_entries p es.items) words.new }
     ensures shortens { Shortens words.old result words.new }
 {
     let mut entries = Vec::new(alloc);
@@ -140,7 +141,8 @@ fn change(words: &mut Reader<'_>) -> Result<Symbol, ParseErr>
 
 /// Two bytes, in one token or two.
 fn two_symbols(words: &mut Reader<'_>) -> Result<(u8, u8), ParseErr>
-    ensures reads { (k : Column) → Reads (spec.change_first k) words.old result (λ p. spec.change_close k p.0 p.1) words.new }
+    ensures reads { (k : Column) → Reads (spec.change_first k)
+        words.old result (λ p. spec.change_close k p.0 p.1) words.new }
     ensures shortens { Shortens words.old result words.new }
 {
     let (first, second) = words.few_symbols()?;

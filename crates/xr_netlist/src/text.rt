@@ -24,7 +24,8 @@ pub fn parse(alloc: Global, bytes: &[u8]) -> Result<Source, ParseErr>
     ensures whole { IfOk result IsWhole }
 
     // What is in the grammar is read, unless memory runs out, and as one tree.
-    ensures only { (tree : source_of) → IsTree bytes.now tree → MatchResult result (λ found. found ≡ tree) (λ e. e ≡ Memory) }
+    ensures only { (tree : source_of) → IsTree bytes.now tree
+        → MatchResult result (λ found. found ≡ tree) (λ e. e ≡ Memory) }
 
     // A refusal is that of the first token with which no text of the grammar goes on.
     ensures first { IfErr result (λ e. IfSome (fault_in e) (IsRefused bytes.now)) }

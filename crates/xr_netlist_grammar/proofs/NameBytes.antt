@@ -1,16 +1,14 @@
 -- The names of a text are spelled as names, and its numbers are small.
-use Rattle.std.proofs.Common.{◌≡◌, ℕ, ◌+◌, ◌-◌, ◌<◌, ◌≤◌, ◌^◌, List, [], ◌∷◌, ◌++◌, take, append_assoc, length-append, length, map, Bool, true, false, cond, ◌&&◌, nat_lt, nat_le, if◌then◌else◌, ◌==◌, take_while, Option, Some, None, refl, sym, ap, subst, ◌∙◌, arith, length-drop, rules, drop}
-use Rattle.std.proofs.lemmas.Grind.{common_steps}
+use Rattle.std.proofs.Common.{◌≡◌, ℕ, ◌+◌, ◌-◌, ◌<◌, ◌≤◌, ◌^◌, List, [], ◌∷◌, ◌++◌, take, append_assoc, length-append, length, map, Bool, true, false, cond, ◌&&◌, nat_lt, nat_le, if◌then◌else◌, ◌==◌, take_while, Option, Some, None, refl, sym, ap, subst, ◌∙◌, arith, rules, drop}
 use Rattle.std.specs.Prelude.{slice_range}
 use Rattle.std.specs.Str.{bytes_eq}
-use Rattle.std.proofs.lemmas.Bool.{and_parts, true≢false, ltb-true, lt-ltb, leb-true}
+use Rattle.std.proofs.lemmas.Bool.{and_parts, ltb-true, leb-true}
 use Rattle.xr_text.specs.Left.{Left}
-use Rattle.xr_text.specs.Tokens.{Tokens, Reads}
-use Rattle.xr_text.specs.declared.token.Token.{Token}
+use Rattle.xr_text.specs.Tokens.{Tokens}
 use Rattle.xr_text.specs.declared.token.Kind.{Kind}
 use Rattle.xr_text.specs.declared.token.Kind.TheVariants as kind
 use Rattle.xr_text.proofs.Sizes.{reads_goes}
-use Rattle.xr_text.proofs.Pieces.{Piece, is_spelled, skips_piece, reads_spelled}
+use Rattle.xr_text.proofs.Pieces.{is_spelled, skips_piece, reads_spelled}
 use Rattle.xr_netlist_grammar.specs.Bytes.{is_digit, are_digits, number_from}
 use Rattle.xr_netlist_grammar.specs.Numbers.{int_of, literal_of, literal_behind, literal_in, base_of, are_spaced_digits, spaced_number}
 use Rattle.xr_netlist_grammar.specs.Whole.{is_name, IsIndex, IsLiteral}

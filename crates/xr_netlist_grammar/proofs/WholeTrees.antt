@@ -1,7 +1,6 @@
 -- Each tree of a text is whole: what the rules make sure of, rule by rule.
 use Rattle.std.proofs.Common.{◌≡◌, ℕ, ◌<◌, List, [], ◌∷◌, ◌++◌, length, map, Bool, true, Some, None, All, refl, arith, length-append}
 use Rattle.std.specs.Prelude.{IfSome}
-use Rattle.std.proofs.lemmas.Bool.{ltb-true}
 use Rattle.std.proofs.lemmas.List.Elements.{All-nil, All-cons, All-append, All-map, All-weaker}
 use Rattle.xr_netlist_grammar.specs.Rules.{quote, OneName, Listed, Until, UntilStar, Attribute, Balanced, Delay, MayDelay, Bounds, MayRange, WireRange}
 use Rattle.xr_netlist_grammar.specs.Expressions.{Parts, Flat, Expression}

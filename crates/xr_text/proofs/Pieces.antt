@@ -2,7 +2,7 @@
 use Rattle.std.proofs.Common.{◌≡◌, ℕ, ◌+◌, List, [], ◌∷◌, ◌++◌, length, Bool, true, ◌&&◌, refl, sym, ap, ◌∙◌, arith, append_assoc, length-append}
 use Rattle.std.specs.List.{list_all}
 use Rattle.std.proofs.lemmas.Bool.{true≢false}
-use Rattle.xr_text.specs.Byte.{quote, star, slash, backslash, backquote, is_letter, is_name_byte, is_number_byte, is_printable, begins}
+use Rattle.xr_text.specs.Byte.{quote, star, slash, is_letter, is_name_byte, is_printable, begins}
 use Rattle.xr_text.specs.Ends.{Longest, Closes, Unquotes, IsName}
 use Rattle.xr_text.specs.Tokens.{Blank, Wire, Skips, Reads}
 use Rattle.xr_text.specs.declared.token.Token.{Token}
