@@ -9,3 +9,4 @@ pub mod Items
 pub mod Primitives
 pub mod Text
 pub mod Refusal
+pub mod Fault
