@@ -8,6 +8,7 @@ pub mod Machine
 pub mod Naming
 pub mod Reading
 pub mod Recording
+pub mod RecordingFault
 pub mod Scanning
 pub mod Trees
 pub mod Words

@@ -5,6 +5,7 @@
 mod body;
 mod bytes;
 mod cursor;
+mod fault;
 mod head;
 mod kinds;
 mod ranges;
@@ -16,6 +17,7 @@ mod variable;
 mod words;
 
 pub use cursor::Cursor;
+pub use fault::RecordingFault;
 pub use read::read_vcd;
 pub use recording::Recording;
 pub use refusal::VcdErr;

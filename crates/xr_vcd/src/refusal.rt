@@ -1,8 +1,10 @@
 //! Why a text is refused.
 
-ghost use Rattle.std.specs.Prelude.{◌≡◌};
+ghost use Rattle.std.specs.Prelude.{◌≡◌, ◌↔◌, None};
+ghost use Rattle.xr_vcd.specs.RecordingFault.{fault_of};
 ghost use Rattle.xr_vcd.specs.declared.refusal.VcdErr.TheVariants.{Memory as OutOfMemory};
 
+use crate::fault::RecordingFault;
 use std::alloc::{AllocError, AllocFailed};
 use xr_base::Memory;
 
@@ -23,6 +25,24 @@ pub enum VcdErr {
     Truncated { at: usize },
     /// There was no memory.
     Memory,
+}
+
+impl VcdErr {
+    /// The fault of the text, where it isn't want of memory.
+    pub fn fault(self) -> Option<RecordingFault>
+        ensures is { result ≡ fault_of self }
+        ensures memory { (result ≡ None) ↔ (self ≡ OutOfMemory) }
+    {
+        match self {
+            VcdErr::Syntax { at } => Some(RecordingFault::Syntax { at }),
+            VcdErr::UnknownCode { at } => Some(RecordingFault::UnknownCode { at }),
+            VcdErr::TimeBack { at } => Some(RecordingFault::TimeBack { at }),
+            VcdErr::Width { at } => Some(RecordingFault::Width { at }),
+            VcdErr::DumpOff { at } => Some(RecordingFault::DumpOff { at }),
+            VcdErr::Truncated { at } => Some(RecordingFault::Truncated { at }),
+            VcdErr::Memory => None,
+        }
+    }
 }
 
 impl From<AllocError> for VcdErr {
