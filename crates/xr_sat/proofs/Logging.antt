@@ -4,7 +4,7 @@ use Rattle.std.proofs.lemmas.Bool.{cases_eq, false≢true, not-true, not-false}
 use Rattle.std.proofs.lemmas.List.{take_all, take-append-le, get_or_append_left, length-append}
 use Rattle.std.proofs.lemmas.List.Elements.{All-contains, All-weaker, All-append, All-cons, All-nil, Contains-append_left}
 use Rattle.std.proofs.Math.Seq.{get_or-append_seam}
-use Rattle.std.specs.Prelude.{ℤ, pos, negsuc, neg_ℤ}
+use Rattle.std.specs.Prelude.{ℤ, pos, negsuc, neg_ℤ, nat_abs}
 use Rattle.std.specs.List.{All}
 use Rattle.xr_proof.specs.Assignment.{HasNoZero, IsMet, IsModel, assigned, value_of}
 use Rattle.xr_proof.specs.Closed.{IsQuiet, AreContrary}
@@ -12,7 +12,7 @@ use Rattle.xr_proof.specs.Code.{is_false, code_of, HasRoom, HaveRoom}
 use Rattle.xr_proof.specs.Follows.{Follows}
 use Rattle.xr_proof.specs.Guard.{Watches}
 use Rattle.xr_proof.specs.Lines.{IsReady}
-use Rattle.xr_proof.specs.Log.{before, clause_at, IsFresh, AreFresh, Refutes, DoesFollow}
+use Rattle.xr_proof.specs.Log.{before, clause_at, IsFresh, AreFresh, Refutes, DoesFollow, Fit}
 use Rattle.xr_proof.specs.Trail.{IsKept}
 use Rattle.xr_proof.specs.Watch.{HasSize}
 use Rattle.xr_proof.specs.declared.trail.Trail.{Trail}
@@ -104,6 +104,15 @@ room_of n c all = All-weaker (HasRoom n) (λ l. (code_of l < n) × (code_of (neg
 pub room_logged : (n : ℕ) (log : List (List ℤ)) (c : List ℤ) → HaveRoom n log → All (HasRoom n) c → HaveRoom n (log ++ c ∷ [])
 room_logged n log c all room = All-append (All (λ l. (code_of l < n) × (code_of (neg_ℤ l) < n))) log (c ∷ []) all
     (All-cons (All (λ l. (code_of l < n) × (code_of (neg_ℤ l) < n))) c [] (room_of n c room) (All-nil (All (λ l. (code_of l < n) × (code_of (neg_ℤ l) < n)))))
+
+-- literals with room are those of the variables
+within : (vars n : ℕ) (l : ℤ) → n ≡ 2 * vars + 2 → code_of l < n → nat_abs l ≤ vars
+within vars n (pos k) e lt = omega arith
+within vars n (negsuc k) e lt = omega arith
+
+pub fit_with_room : (vars n : ℕ) (log : List (List ℤ)) → n ≡ 2 * vars + 2 → HaveRoom n log → Fit vars log
+fit_with_room vars n log e room = All-weaker (All (λ l. (code_of l < n) × (code_of (neg_ℤ l) < n))) (All (λ l. nat_abs l ≤ vars))
+    (λ c all. All-weaker (λ l. (code_of l < n) × (code_of (neg_ℤ l) < n)) (λ l. nat_abs l ≤ vars) (λ l r. within vars n l e r.0) c all) log room
 
 pub room_both : (n m : ℕ) (query log : List (List ℤ)) → m ≡ n → HaveRoom n query → HaveRoom n log → HaveRoom m (query ++ log)
 room_both n m query log e a b = subst (λ i. HaveRoom i (query ++ log)) (sym e) (All-append (All (λ l. (code_of l < n) × (code_of (neg_ℤ l) < n))) query log a b)

@@ -8,7 +8,6 @@ use Rattle.xr_proof.specs.Watch.{HasSize}
 use Rattle.xr_proof.proofs.Bases.{base_kept, kept_more}
 use Rattle.xr_proof.proofs.Trails.{kept_by_undo, low_to_undo, over_none, over_sized}
 use Rattle.xr_sat.specs.Decide.{IsConflict}
-use Rattle.xr_sat.specs.Learn.{IsCandidate}
 use Rattle.xr_sat.proofs.round.round.Goals as goal
 
 pub returns-then-not-branch-clause-size : goal.returns-then-not-branch-clause-size

@@ -1,4 +1,5 @@
 use Rattle.std.proofs.Common.{◌≡◌, ◌≢◌, ◌∙◌, ◌++◌, ◌*◌, ◌+◌, ◌-◌, ◌∷◌, [], sym, subst, ap, List, Bool, false, length, arith, slice_index_or, Option, IfSome, IfNone, OnSome}
+use Rattle.std.proofs.lemmas.List.Elements.{All-nil}
 use Rattle.std.specs.Prelude.{ℤ, Vec, vec_len}
 use Rattle.std.specs.declared.alloc.Global.{Global}
 use Rattle.std.specs.List.{All}
@@ -6,12 +7,12 @@ use Rattle.xr_proof.specs.Code.{HasRoom, HaveRoom, is_false}
 use Rattle.xr_proof.specs.Assignment.{IsModel}
 use Rattle.xr_proof.specs.Guard.{Watches}
 use Rattle.xr_proof.specs.Lines.{IsReady}
-use Rattle.xr_proof.specs.Log.{Refutes, AreFresh, IsFresh, before}
+use Rattle.xr_proof.specs.Log.{Refutes, AreFresh, IsFresh, Fit, before}
 use Rattle.xr_proof.specs.Trail.{IsKept}
 use Rattle.xr_proof.specs.Watch.{HasSize}
 use Rattle.xr_sat.specs.Decide.{AreValued}
 use Rattle.xr_sat.specs.Reach.{IsSettled}
-use Rattle.xr_sat.proofs.Logging.{refutes_pushed, fresh_pushed, before_whole, before_last, length_logged, room_logged, room_both, quiet_query, ready_next, model_if_settled}
+use Rattle.xr_sat.proofs.Logging.{refutes_pushed, fresh_pushed, before_whole, before_last, length_logged, room_logged, room_both, quiet_query, ready_next, fit_with_room, model_if_settled}
 use Rattle.xr_sat.proofs.search.search.Goals as goal
 
 pub from_log-requires-clause-refutes : goal.from_log-requires-clause-refutes
@@ -21,6 +22,29 @@ from_log-requires-clause-refutes c =
     subst (λ (q : List (List ℤ)). Refutes q c.from_vec-then-refuted.result) c.requires.query
     (subst (Refutes c.args.query.now) (sym log_is)
     (refutes_pushed c.args.query.now c.rounds.log.items c.rounds.invariant.fresh (c.rounds.invariant.ready.contrary c.if-refuted.true)))
+
+pub returns-then-refuted : goal.returns-then-refuted
+returns-then-refuted c =
+    let log_is : c.from_vec-then-refuted.result ≡ c.rounds.log.items ++ [] ∷ [] =
+    c.from_vec-then-refuted.ensures ∙ c.in_ok-push.ensures.items ∙ ap (λ (d : List ℤ). c.rounds.log.items ++ d ∷ []) (c.from_vec.ensures ∙ c.new-none.ensures.items) in (
+      c.from_log.ensures.refutes,
+      subst (Fit c.args.cnf.now.vars) (sym (c.from_log.ensures.log ∙ log_is)) (fit_with_room c.args.cnf.now.vars (length c.args.trail.now.marks.items) (c.rounds.log.items ++ [] ∷ []) c.requires.codes
+          (room_logged (length c.args.trail.now.marks.items) c.rounds.log.items [] c.rounds.invariant.room (All-nil (HasRoom (length c.args.trail.now.marks.items))))),
+    )
+
+pub returns-then-len-limit : goal.returns-then-len-limit
+returns-then-len-limit c =
+    let log_is : c.push-in-Some.new.self.items ≡ c.rounds.log.items ++ c.in-Some.literals.items ∷ [] =
+    c.in_ok-push-in-Some.ensures.items ∙ ap (λ (d : List ℤ). c.rounds.log.items ++ d ∷ []) c.from_vec-in-Some.ensures in
+    let room_now : All (HasRoom (length c.args.trail.now.marks.items)) c.in-Some.literals.items =
+    subst (λ n. All (HasRoom n) c.in-Some.literals.items) c.rounds.invariant.size
+    (subst (λ (o : Option (Vec ℤ Global)). IfSome o (λ v. All (HasRoom (length c.rounds.trail.marks.items)) v.items)) c.in-Some.is c.in_ok-round.ensures.room) in (
+      c.from_log-then-len-limit.ensures.fresh,
+      c.from_log-then-len-limit.ensures.count,
+      subst (Fit c.args.cnf.now.vars) (sym (c.from_log-then-len-limit.ensures.log ∙ c.from_vec-then-len-limit.ensures ∙ log_is))
+          (fit_with_room c.args.cnf.now.vars (length c.args.trail.now.marks.items) (c.rounds.log.items ++ c.in-Some.literals.items ∷ []) c.requires.codes
+          (room_logged (length c.args.trail.now.marks.items) c.rounds.log.items c.in-Some.literals.items c.rounds.invariant.room room_now)),
+    )
 
 pub round-requires-clause-room : goal.round-requires-clause-room
 round-requires-clause-room c = room_both (length c.args.trail.now.marks.items) (length c.rounds.trail.marks.items) c.args.query.now c.deref.result.now c.rounds.invariant.size c.requires.room
