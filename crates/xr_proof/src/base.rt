@@ -5,7 +5,7 @@ ghost use Rattle.std.specs.Prelude.{◌≡◌, ◌<◌, ◌+◌, ◌++◌, [], t
 ghost use Rattle.std.specs.List.{All};
 ghost use Rattle.xr_proof.specs.Assignment.{HasNoZero};
 ghost use Rattle.xr_proof.specs.Code.{HaveRoom};
-ghost use Rattle.xr_proof.specs.Guard.{IsPropagating};
+ghost use Rattle.xr_proof.specs.Guard.{IsPropagatingFrom};
 ghost use Rattle.xr_proof.specs.Lines.{IsReady};
 ghost use Rattle.xr_proof.specs.Log.{before};
 ghost use Rattle.xr_proof.specs.Propagation.{AreRefuted};
@@ -43,7 +43,7 @@ fn gather(trail: &mut Trail, watch: &mut Watch, query: &[Clause]) -> bool
     requires query { HaveRoom (length trail.old.marks.items) query.now }
     ensures conflict { result ≡ true → AreRefuted trail.old.marks.items query.now }
     ensures no_zero { result ≡ false → All HasNoZero query.now }
-    ensures tracing { result ≡ false → IsPropagating trail.old trail.new watch.new query.now trail.new.read (λ _. ⊥) }
+    ensures tracing { result ≡ false → IsPropagatingFrom trail.old trail.new watch.new query.now trail.new.read }
     ensures laced { result ≡ false → watch.new.on ≡ true → IsLaced watch.new query.now 0 0 }
     ensures trail { IsTrail trail.new }
     ensures over { StaysOver trail.old trail.new }

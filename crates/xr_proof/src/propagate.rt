@@ -5,7 +5,7 @@ ghost use Rattle.std.specs.Prelude.{◌≡◌, ◌≢◌, ◌<◌, ◌*◌, ◌/
 ghost use Rattle.std.specs.List.{All};
 ghost use Rattle.xr_proof.specs.Closed.{IsQuiet};
 ghost use Rattle.xr_proof.specs.Code.{HaveRoom, IsConsistent};
-ghost use Rattle.xr_proof.specs.Guard.{AreSafe, StaysSafe, IsPropagating, IsEntryVisit, IsAnyFalse};
+ghost use Rattle.xr_proof.specs.Guard.{AreSafe, AreSafeIfOn, StaysSafe, IsPropagatingFrom, IsPropagatingBut, IsVisited, IsAnyFalse};
 ghost use Rattle.xr_proof.specs.Propagation.{IsGrowth, AreRefuted};
 ghost use Rattle.xr_proof.specs.Trail.{IsTrail, StaysOver, held};
 ghost use Rattle.xr_proof.specs.Watch.{HasSize, IsLaced, IsPaired, Leads, watched};
@@ -18,7 +18,7 @@ use crate::watched_clause::handle;
 
 /// Propagates until nothing changes; whether a clause became false. With the watches off, by passes over all clauses.
 pub fn propagate(trail: &mut Trail, watch: &mut Watch, first: &[Clause], second: &[Clause]) -> bool
-    requires tracing { IsPropagating trail.old trail.old watch.old (first.now ++ second.now) trail.old.read (λ _. ⊥) }
+    requires tracing { IsPropagatingFrom trail.old trail.old watch.old (first.now ++ second.now) trail.old.read }
     requires room { HaveRoom (length trail.old.marks.items) (first.now ++ second.now) }
     requires sized { HasSize watch.old (length trail.old.marks.items) }
     requires laced { watch.old.on ≡ true → IsLaced watch.old (first.now ++ second.now) 0 0 }
@@ -32,7 +32,7 @@ pub fn propagate(trail: &mut Trail, watch: &mut Watch, first: &[Clause], second:
     // the watches
     ensures sized { HasSize watch.new (length trail.old.marks.items) }
     ensures laced { watch.new.on ≡ true → IsLaced watch.new (first.now ++ second.now) 0 0 }
-    ensures safe { result ≡ false → watch.new.on ≡ true → AreSafe watch.new trail.new.marks.items (first.now ++ second.now) }
+    ensures safe { result ≡ false → AreSafeIfOn watch.new trail.new.marks.items (first.now ++ second.now) }
     ensures stays { StaysSafe watch.old watch.new trail.old.marks.items (first.now ++ second.now) }
     ensures on { watch.new.on ≡ watch.old.on }
 {
@@ -46,7 +46,7 @@ pub fn propagate(trail: &mut Trail, watch: &mut Watch, first: &[Clause], second:
 /// Reads the trail to its end; whether a clause became false.
 fn read_trail(trail: &mut Trail, watch: &mut Watch, first: &[Clause], second: &[Clause]) -> bool
     requires on { watch.old.on ≡ true }
-    requires tracing { IsPropagating trail.old trail.old watch.old (first.now ++ second.now) trail.old.read (λ _. ⊥) }
+    requires tracing { IsPropagatingFrom trail.old trail.old watch.old (first.now ++ second.now) trail.old.read }
     requires room { HaveRoom (length trail.old.marks.items) (first.now ++ second.now) }
     requires sized { HasSize watch.old (length trail.old.marks.items) }
     requires laced { IsLaced watch.old (first.now ++ second.now) 0 0 }
@@ -85,12 +85,12 @@ fn visit_chain(
     count: usize,
 ) -> bool
     requires on { watch.old.on ≡ true }
-    requires tracing { IsPropagating trail.old trail.old watch.old (first.now ++ second.now) trail.old.read (λ e. Leads watch.old.nexts.items e head) }
+    requires tracing { IsPropagatingBut trail.old trail.old watch.old (first.now ++ second.now) trail.old.read head }
     requires room { HaveRoom (length trail.old.marks.items) (first.now ++ second.now) }
     requires sized { HasSize watch.old (length trail.old.marks.items) }
     requires laced { IsLaced watch.old (first.now ++ second.now) head count }
     ensures conflict { result ≡ true → AreRefuted trail.old.marks.items (first.now ++ second.now) }
-    ensures tracing { result ≡ false → IsPropagating trail.old trail.new watch.new (first.now ++ second.now) trail.old.read (λ _. ⊥) }
+    ensures tracing { result ≡ false → IsPropagatingFrom trail.old trail.new watch.new (first.now ++ second.now) trail.old.read }
     ensures trail { IsTrail trail.new }
     ensures over { StaysOver trail.old trail.new }
     ensures read { trail.new.read ≡ trail.old.read }
@@ -135,7 +135,7 @@ fn visit_entry(
     requires some { watched watch.old entry ≢ pos 0 }
     ensures conflict { result ≡ true → IsAnyFalse (held trail.old) (first.now ++ second.now) }
     ensures same { result ≡ true → watch.new ≡ watch.old }
-    ensures look { result ≡ false → IsEntryVisit trail.old trail.new watch.old watch.new (first.now ++ second.now) entry }
+    ensures look { result ≡ false → IsVisited trail.old trail.new watch.old watch.new (first.now ++ second.now) entry }
     ensures trail { IsTrail trail.new }
     ensures over { StaysOver trail.old trail.new }
     ensures read { trail.new.read ≡ trail.old.read }
