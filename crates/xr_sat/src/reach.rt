@@ -8,7 +8,7 @@ ghost use Rattle.xr_proof.specs.Guard.{Watches};
 ghost use Rattle.xr_proof.specs.Status.{literal_at};
 ghost use Rattle.xr_proof.specs.Trail.{IsTrail, StaysOver, held};
 ghost use Rattle.xr_proof.specs.Watch.{HasSize};
-ghost use Rattle.xr_sat.specs.Reach.{IsSettled, IsFrom, IsMet, KeepsServing};
+ghost use Rattle.xr_sat.specs.Reach.{IsSettled, GoesOnFrom, FollowsWith, IsMetBehind, KeepsServing};
 
 use xr_proof::Clause;
 use xr_proof::clause_status::{Value, value_at};
@@ -31,8 +31,8 @@ pub(crate) fn reach(
     requires room_literals { All (HasRoom (length trail.old.marks.items)) literals.now }
     requires sized { HasSize watch.old (length trail.old.marks.items) }
     requires watches { Watches watch.old trail.old.marks.items (first.now ++ second.now) }
-    ensures conflict { result ≡ true → (c : List ℤ) → IsFrom trail.old.marks.items (first.now ++ second.now) c → NoneResists (first.now ++ second.now) (c ++ literal_at literals.now k ∷ []) }
-    ensures from { result ≡ false → (c : List ℤ) → IsFrom trail.old.marks.items (first.now ++ second.now) c → IsFrom trail.new.marks.items (first.now ++ second.now) (c ++ literal_at literals.now k ∷ []) }
+    ensures conflict { result ≡ true → FollowsWith trail.old.marks.items (first.now ++ second.now) (literal_at literals.now k) }
+    ensures from { result ≡ false → GoesOnFrom trail.old trail.new (first.now ++ second.now) (literal_at literals.now k ∷ []) }
     ensures settled { result ≡ false → IsSettled trail.new (first.now ++ second.now) }
     ensures watches { result ≡ false → Watches watch.new trail.new.marks.items (first.now ++ second.now) }
     ensures grows { result ≡ false → IsWithin trail.old.marks.items (held trail.new) }
@@ -67,8 +67,8 @@ pub(crate) fn reach_all(
     requires sized { HasSize watch.old (length trail.old.marks.items) }
     requires watches { Watches watch.old trail.old.marks.items (first.now ++ second.now) }
     ensures below { IfSome result (λ k. k < length literals.now) }
-    ensures met { IfSome result (λ k. (c : List ℤ) → IsFrom trail.old.marks.items (first.now ++ second.now) c → IsMet (first.now ++ second.now) c literals.now k) }
-    ensures from { IfNone result ((c : List ℤ) → IsFrom trail.old.marks.items (first.now ++ second.now) c → IsFrom trail.new.marks.items (first.now ++ second.now) (c ++ literals.now)) }
+    ensures met { IfSome result (IsMetBehind trail.old.marks.items (first.now ++ second.now) literals.now) }
+    ensures from { IfNone result (GoesOnFrom trail.old trail.new (first.now ++ second.now) literals.now) }
     ensures settled { IfNone result (IsSettled trail.new (first.now ++ second.now)) }
     ensures watches { IfNone result (Watches watch.new trail.new.marks.items (first.now ++ second.now)) }
     ensures grows { IfNone result (IsWithin trail.old.marks.items (held trail.new)) }

@@ -6,6 +6,7 @@ ghost use Rattle.xr_proof.specs.Assignment.{HasNoZero};
 ghost use Rattle.xr_proof.specs.Code.{HaveRoom};
 ghost use Rattle.xr_proof.specs.Lines.{IsReady};
 ghost use Rattle.xr_proof.specs.Log.{Fit};
+ghost use Rattle.xr_sat.specs.Decide.{AreValues};
 ghost use Rattle.xr_sat.specs.Outcome.{IsOutcome};
 
 use crate::hints::Hints;
@@ -25,7 +26,7 @@ pub fn solve(alloc: Global, cnf: &Cnf, limit: u32) -> Result<Outcome, Memory>
     requires vars { cnf.now.vars ≤ 2147483647 }
     requires fit { Fit cnf.now.vars cnf.now.clauses }
     requires some { 0 < limit }
-    ensures { IfOk result (IsOutcome cnf.now.clauses cnf.now.vars limit) }
+    ensures outcome { IfOk result (IsOutcome cnf.now.clauses cnf.now.vars limit) }
 {
     let codes = 2 * (cnf.vars as usize) + 2;
     let query = cnf.clauses.as_slice();
@@ -95,7 +96,7 @@ fn search(
 fn values_of(alloc: Global, marks: &[bool], vars: usize) -> Result<Vec<bool>, AllocError>
     requires { length marks.now ≡ 2 * vars + 2 }
     ensures count { IfOk result (λ v. length v.items ≡ vars) }
-    ensures values { IfOk result (λ v. (n : ℕ) → n < vars → slice_index_or v.items n false ≡ slice_index_or marks.now (2 * n + 3) false) }
+    ensures values { IfOk result (λ v. AreValues marks.now vars v.items) }
 {
     let mut values = Vec::new(alloc);
     for n in 0..vars {
