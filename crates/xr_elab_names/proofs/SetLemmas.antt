@@ -1,13 +1,10 @@
 -- A set of names means the list of them.
-use Rattle.std.proofs.Common.{◌≡◌, ℕ, Bool, true, false, List, [], ◌∷◌, ◌++◌, refl, sym, ◌∙◌, ap, subst, bytes_eq, Bor, if◌then◌else◌, map, ◌||◌, not}
+use Rattle.std.proofs.Common.{◌≡◌, ℕ, Bool, true, false, List, [], ◌∷◌, ◌++◌, refl, sym, ◌∙◌, ap, bytes_eq, Bor, if◌then◌else◌, map, ◌||◌, not}
 use Rattle.std.specs.List.{list_any}
-use Rattle.std.proofs.lemmas.Bool.{not-true, not-false}
+use Rattle.std.proofs.lemmas.Bool.{not-false}
 use Rattle.std.proofs.lemmas.Slice.Eq.{bytes_eq-Decides}
 use Rattle.xr_netlist_grammar.specs.declared.tree.Word.{Word}
 use Rattle.xr_elab_names.specs.Sets.{has, is_among, HasNames}
-
-now_of : Bor (List ℕ) → List ℕ
-now_of k = k.now
 
 -- the names of the keys
 pub any_is : (keys : List (Bor (List ℕ))) (name : List ℕ) → has (map (λ (k : Bor (List ℕ)). k.now) keys) name ≡ list_any (λ (k : Bor (List ℕ)). bytes_eq name k.now) keys
@@ -40,12 +37,12 @@ any_push p [] x = or_false (p x)
 any_push p (y ∷ ys) x = ap (λ (b : Bool). p y || b) (any_push p ys x) ∙ sym (or_assoc (p y) (list_any p ys) (p x))
 
 -- a name that is there already adds nothing
-again : (b there : Bool) (names : List (List ℕ)) (name text : List ℕ) → bytes_eq name text ≡ b → has names text ≡ true → has names name ≡ (has names name || b)
-again true there names name text is h = (
+again : (b : Bool) (names : List (List ℕ)) (name text : List ℕ) → bytes_eq name text ≡ b → has names text ≡ true → has names name ≡ (has names name || b)
+again true names name text is h = (
     let same : name ≡ text = bytes_same name text is in
     let all : has names name ≡ true = ap (λ (l : List ℕ). has names l) same ∙ h in
     rw all refl)
-again false there names name text is h = sym (or_false (has names name))
+again false names name text is h = sym (or_false (has names name))
 
 module _ (names : List (List ℕ)) (before : List Word) (w : Word) (more : List (List ℕ)) (had : HasNames names before) where
   more_new : (name : List ℕ) → more ≡ names ++ w.text ∷ [] → has more name ≡ is_among (before ++ w ∷ []) name
@@ -55,7 +52,7 @@ module _ (names : List (List ℕ)) (before : List Word) (w : Word) (more : List 
 
   more_old : (name : List ℕ) → has names w.text ≡ true → more ≡ names → has more name ≡ is_among (before ++ w ∷ []) name
   more_old name there grown =
-      ap (λ (l : List (List ℕ)). has l name) grown ∙ again (bytes_eq name w.text) true names name w.text refl there ∙ ap (λ (b : Bool). b || bytes_eq name w.text) (had.same name)
+      ap (λ (l : List (List ℕ)). has l name) grown ∙ again (bytes_eq name w.text) names name w.text refl there ∙ ap (λ (b : Bool). b || bytes_eq name w.text) (had.same name)
       ∙ sym (any_push (λ (v : Word). bytes_eq name v.text) before w)
 
   -- one word more
