@@ -18,10 +18,11 @@ use Rattle.xr_design.specs.Fits.{Fits, chooses, chooses_of}
 use Rattle.xr_design.specs.declared.design.Design.{Design}
 use Rattle.xr_design.specs.declared.design.Net.{Net}
 use Rattle.xr_design.specs.declared.design.Driver.{Driver}
-use Rattle.xr_design.specs.declared.design.Driver.TheVariants.{Input, Undriven, Constant, Copy, Cell}
+use Rattle.xr_design.specs.declared.design.Driver.TheVariants.{Input, Undriven, Constant, Copy, Cell, Register}
+use Rattle.xr_design.specs.declared.design.Table.TheVariants.{Gate as GateTable, Udp as UdpTable}
 use Rattle.xr_design.specs.declared.stim.Stim.{Stim}
 use Rattle.xr_design.proofs.OrderLemmas.{net_at_position, position_within}
-use Rattle.xr_design.proofs.Worlds.{some_width, net_within}
+use Rattle.xr_design.proofs.Rules.{some_width, spot}
 use Rattle.xr_vcd.specs.Recording.{Recording as Said, Path}
 use Rattle.xr_cli.specs.Circuit.{FitsCircuit}
 use Rattle.xr_cli.specs.RecordingText.{AreDistinct, AreRecorded, InputsCome, IsRecording, IsRowOf, IsStimOf, own_names}
@@ -65,7 +66,9 @@ module _ (j k : Job) (alike : AreAlike j k) (j_fits : Fits j) (k_fits : Fits k) 
   choose_alike step net Undriven within is = rw alike.rounds refl
   choose_alike step net (Constant bit) within is = refl
   choose_alike step net (Copy argument) within is = refl
-  choose_alike step net (Cell table pins) within is = refl
+  choose_alike step net (Cell (GateTable gate) pins) within is = refl
+  choose_alike step net (Cell (UdpTable number) pins) within is = refl
+  choose_alike step net (Register latching) within is = refl
 
   -- where a place of the one job stands in the other
   abbrev moved : ℕ → ℕ
@@ -76,7 +79,7 @@ module _ (j k : Job) (alike : AreAlike j k) (j_fits : Fits j) (k_fits : Fits k) 
     some = some_width j.width (j.moments * j.rounds) place within
 
     net_in : net_of j place < length k.order
-    net_in = let below = net_within j j_fits place within in omega (arith, below, alike.width, k_fits.all)
+    net_in = let below = (spot j j_fits place within).net in omega (arith, below, alike.width, k_fits.all)
 
     stands : (position_of k.order (net_of j place) < k.width) × (slice_index k.order (position_of k.order (net_of j place)) ≡ net_of j place)
     stands =
@@ -107,7 +110,7 @@ module _ (j k : Job) (alike : AreAlike j k) (j_fits : Fits j) (k_fits : Fits k) 
     moved_chooses =
         let net = net_of j place in
         let here : chooses k (moved place) ≡ chooses_of k (step_of j place) net (k.driver net) = rw (moved_step, moved_net) refl in
-        here ∙ ap (λ (d : Driver). chooses_of k (step_of j place) net d) (sym (alike.driver net)) ∙ sym (choose_alike (step_of j place) net (j.driver net) (net_within j j_fits place within) refl)
+        here ∙ ap (λ (d : Driver). chooses_of k (step_of j place) net d) (sym (alike.driver net)) ∙ sym (choose_alike (step_of j place) net (j.driver net) (spot j j_fits place within).net refl)
 
   moved_once : (a b : ℕ) → a < places_of j → b < places_of j → moved a ≡ moved b → a ≡ b
   moved_once a b a_within b_within same =
@@ -204,4 +207,4 @@ module _ (text : List ℕ) (scope : Path) (design : Design) (distinct : AreDisti
   }
 
   pub no_fewer_choose : FitsCircuit design order stim → FitsCircuit design other twin → length (choosing (job_of design order stim)) ≤ length (choosing (job_of design other twin))
-  no_fewer_choose fits twin_fits = no_fewer (job_of design order stim) (job_of design other twin) alike fits.fits_job twin_fits.fits_job
+  no_fewer_choose fits twin_fits = no_fewer (job_of design order stim) (job_of design other twin) alike fits.any.fits_job twin_fits.any.fits_job

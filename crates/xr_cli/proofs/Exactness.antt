@@ -9,15 +9,16 @@ use Rattle.xr_cell.specs.declared.value.Value.{Value}
 use Rattle.xr_cell.specs.declared.value.Value.TheVariants.{X}
 use Rattle.xr_cell.specs.Value.{IsKnown, bit_value}
 use Rattle.xr_design.specs.Job.{Job, places_of}
-use Rattle.xr_design.specs.Fits.{Fits, chooses, place_at}
+use Rattle.xr_design.specs.Fits.{Fits, IsPlain, chooses, place_at}
 use Rattle.xr_design.specs.Filling.{IsFilling, bit_of}
 use Rattle.xr_design.specs.Replay.{shown_at}
 use Rattle.xr_design.specs.World.{bit_at, world, world_bit}
 use Rattle.xr_design.specs.declared.place.Place.{Place}
 use Rattle.xr_design.specs.declared.waveform.Written.{Written}
-use Rattle.xr_design.specs.declared.waveform.Mark.TheVariants.{Certain}
+use Rattle.xr_design.specs.declared.waveform.Mark.TheVariants.{Certain, Unknown}
 use Rattle.xr_design.specs.Waveform.{written_at, certain, HasPair, ExactBy, IsExact, ShowsReplay}
-use Rattle.xr_design.proofs.Worlds.{world_prefix, world_bit_idle, world_bits_agree}
+use Rattle.xr_design.proofs.Worlds.{world_prefix, world_bits_agree}
+use Rattle.xr_design.proofs.Plain.{world_bit_idle}
 use Rattle.xr_design.proofs.Numbers.{filling_at, bit_of_at}
 use Rattle.xr_design.proofs.Follows.{world_follows}
 use Rattle.xr_cli.specs.Worlds.{bit_in, choosing}
@@ -42,11 +43,11 @@ choosing_bit j f i within picked =
     sym (bit_of_filter f (choosing j) i listed)
 
 -- The bit of a place by any bits of a filling is the bit by one of the sublists.
-any_bit : (j : Job) (c : ℕ → Value) (f : ℕ → Bool) (place : ℕ) → Fits j → place < places_of j → world_bit j c f place ≡ bit_by j place (filter f (choosing j))
-any_bit j c f place fits within =
+any_bit : (j : Job) (c : ℕ → Value) (f : ℕ → Bool) (place : ℕ) → Fits j → ((net : ℕ) → IsPlain (j.driver net)) → place < places_of j → world_bit j c f place ≡ bit_by j place (filter f (choosing j))
+any_bit j c f place fits plain within =
     let s = filter f (choosing j) in
     let same : world_bit j c f place ≡ world_bit j c (bit_in s) place = world_bits_agree j c f (bit_in s) place fits within (λ i less picked. choosing_bit j f i (omega arith) picked) in
-    same ∙ world_bit_idle j c (λ k. X) (bit_in s) place ∙ sym (world_prefix j (λ k. X) (bit_in s) (places_of j) place within)
+    same ∙ world_bit_idle j plain c (λ k. X) (bit_in s) place ∙ sym (world_prefix j (λ k. X) (bit_in s) (places_of j) place within)
 
 any_of_map : (test : Bool → Bool) (h : List ℕ → Bool) (ss : List (List ℕ)) (s : List ℕ) → Contains ss s → test (h s) ≡ true → list_any test (map h ss) ≡ true
 any_of_map test h ss s contained passes =
@@ -56,10 +57,10 @@ any_of_map test h ss s contained passes =
     or_at (list_any test) test refl (λ x xs. refl) (map h ss) k false (omega (arith, contained.1)) (ap test here ∙ passes)
 
 -- A bit that some world gives a place is among its bits.
-bit_among : (j : Job) (test : Bool → Bool) (c : ℕ → Value) (f : ℕ → Bool) (place : ℕ) → Fits j → place < places_of j → test (world_bit j c f place) ≡ true → list_any test (all_bits j place) ≡ true
+bit_among : (j : Job) (test : Bool → Bool) (c : ℕ → Value) (f : ℕ → Bool) (place : ℕ) → Fits j → ((net : ℕ) → IsPlain (j.driver net)) → place < places_of j → test (world_bit j c f place) ≡ true → list_any test (all_bits j place) ≡ true
 unfolding given
-bit_among j test c f place fits within passes =
-    let by = any_bit j c f place fits within in
+bit_among j test c f place fits plain within passes =
+    let by = any_bit j c f place fits plain within in
     any_of_map test (bit_by j place) (sublists (choosing j)) (filter f (choosing j)) (filter_among f (choosing j)) (rw by at passes)
 
 is_true : (b any : Bool) → (not b ≡ true → any ≡ true) → any ≡ false → b ≡ true
@@ -71,11 +72,11 @@ is_false false any seen none = refl
 is_false true any seen none = (let h = seen refl in cc)
 
 -- Where no world gives 0, all give 1, and the other way round.
-gives_one : (j : Job) (c : ℕ → Value) (f : ℕ → Bool) (place : ℕ) → Fits j → place < places_of j → list_any not (all_bits j place) ≡ false → world_bit j c f place ≡ true
-gives_one j c f place fits within none = is_true (world_bit j c f place) (list_any not (all_bits j place)) (bit_among j not c f place fits within) none
+gives_one : (j : Job) (c : ℕ → Value) (f : ℕ → Bool) (place : ℕ) → Fits j → ((net : ℕ) → IsPlain (j.driver net)) → place < places_of j → list_any not (all_bits j place) ≡ false → world_bit j c f place ≡ true
+gives_one j c f place fits plain within none = is_true (world_bit j c f place) (list_any not (all_bits j place)) (bit_among j not c f place fits plain within) none
 
-gives_zero : (j : Job) (c : ℕ → Value) (f : ℕ → Bool) (place : ℕ) → Fits j → place < places_of j → list_any (λ b. b) (all_bits j place) ≡ false → world_bit j c f place ≡ false
-gives_zero j c f place fits within none = is_false (world_bit j c f place) (list_any (λ b. b) (all_bits j place)) (bit_among j (λ b. b) c f place fits within) none
+gives_zero : (j : Job) (c : ℕ → Value) (f : ℕ → Bool) (place : ℕ) → Fits j → ((net : ℕ) → IsPlain (j.driver net)) → place < places_of j → list_any (λ b. b) (all_bits j place) ≡ false → world_bit j c f place ≡ false
+gives_zero j c f place fits plain within none = is_false (world_bit j c f place) (list_any (λ b. b) (all_bits j place)) (bit_among j (λ b. b) c f place fits plain within) none
 
 -- A filling whose world's bit passes a test.
 record Giving (j : Job) (c : ℕ → Value) (place : ℕ) (test : Bool → Bool) : Type 0 where
@@ -83,12 +84,12 @@ record Giving (j : Job) (c : ℕ → Value) (place : ℕ) (test : Bool → Bool)
   is_filling : IsFilling j filling
   gives : test (world_bit j c (bit_of j filling) place) ≡ true
 
-sublist_gives : (j : Job) (c : ℕ → Value) (place : ℕ) (test : Bool → Bool) (s : List ℕ) → Fits j → place < places_of j → Ascends 0 (places_of j) s → test (bit_by j place s) ≡ true → Giving j c place test
-sublist_gives j c place test s fits within ascends passes =
+sublist_gives : (j : Job) (c : ℕ → Value) (place : ℕ) (test : Bool → Bool) (s : List ℕ) → Fits j → ((net : ℕ) → IsPlain (j.driver net)) → place < places_of j → Ascends 0 (places_of j) s → test (bit_by j place s) ≡ true → Giving j c place test
+sublist_gives j c place test s fits plain within ascends passes =
     let below = below_of 0 (places_of j) s ascends in
     let filling = map (place_at j) s in
     let agree : world_bit j c (bit_of j filling) place ≡ world_bit j c (bit_in s) place = world_bits_agree j c (bit_of j filling) (bit_in s) place fits within (λ i less picked. bit_of_at j s i fits.ordering fits.all below) in
-    let same : world_bit j c (bit_of j filling) place ≡ bit_by j place s = agree ∙ world_bit_idle j c (λ k. X) (bit_in s) place ∙ sym (world_prefix j (λ k. X) (bit_in s) (places_of j) place within) in
+    let same : world_bit j c (bit_of j filling) place ≡ bit_by j place s = agree ∙ world_bit_idle j plain c (λ k. X) (bit_in s) place ∙ sym (world_prefix j (λ k. X) (bit_in s) (places_of j) place within) in
     record {
       filling = filling;
       is_filling = filling_at j s fits.ordering fits.all below (increasing_of 0 (places_of j) s ascends);
@@ -107,22 +108,22 @@ unfolding choosing
 choosing_ascends j = ascends_of (places_of j) (choosing j) (filtered_increasing (chooses j) (places_of j)) (filtered_below (chooses j) (places_of j))
 
 -- A bit among those of a place has its filling.
-among_gives : (j : Job) (c : ℕ → Value) (place : ℕ) (test : Bool → Bool) → Fits j → place < places_of j → list_any test (all_bits j place) ≡ true → Giving j c place test
+among_gives : (j : Job) (c : ℕ → Value) (place : ℕ) (test : Bool → Bool) → Fits j → ((net : ℕ) → IsPlain (j.driver net)) → place < places_of j → list_any test (all_bits j place) ≡ true → Giving j c place test
 unfolding given
-among_gives j c place test fits within passes =
+among_gives j c place test fits plain within passes =
     let ascend = sublists_ascend 0 (places_of j) (choosing j) (choosing_ascends j) in
     let s = found test (bit_by j place) (Ascends 0 (places_of j)) (sublists (choosing j)) ascend passes in
-    sublist_gives j c place test s.0 fits within s.1 s.2
+    sublist_gives j c place test s.0 fits plain within s.1 s.2
 
 is_off : (b : Bool) → not b ≡ true → b ≡ false
 is_off false off = refl
 is_off true off = cc
 
 -- Where worlds give both bits, two fillings tell.
-pair_of : (j : Job) (w : List Written) (place : ℕ) → Fits j → place < places_of j → list_any (λ b. b) (all_bits j place) ≡ true → list_any not (all_bits j place) ≡ true → HasPair j w place
-pair_of j w place fits within one zero =
-    let on = among_gives j (certain w) place (λ b. b) fits within one in
-    let off = among_gives j (certain w) place not fits within zero in
+pair_of : (j : Job) (w : List Written) (place : ℕ) → Fits j → ((net : ℕ) → IsPlain (j.driver net)) → place < places_of j → list_any (λ b. b) (all_bits j place) ≡ true → list_any not (all_bits j place) ≡ true → HasPair j w place
+pair_of j w place fits plain within one zero =
+    let on = among_gives j (certain w) place (λ b. b) fits plain within one in
+    let off = among_gives j (certain w) place not fits plain within zero in
     record {
       zero = off.filling;
       one = on.filling;
@@ -136,20 +137,36 @@ pair_of j w place fits within one zero =
 abbrev seen_by : Bool → Bool → Seen
 seen_by one zero = if one then (if zero then Both else One) else (if zero then Zero else Neither)
 
-exact_by : (j : Job) (w : List Written) (place : ℕ) (shown : Value) (one zero : Bool) → Fits j → place < places_of j → list_any (λ b. b) (all_bits j place) ≡ one → list_any not (all_bits j place) ≡ zero → ExactBy j w place (written_by (seen_by one zero) shown).mark (written_by (seen_by one zero) shown).value
-exact_by j w place shown true true fits within one zero = pair_of j w place fits within one zero
-exact_by j w place shown true false fits within one zero = λ filling is. gives_one j (certain w) (bit_of j filling) place fits within zero
-exact_by j w place shown false true fits within one zero = λ filling is. gives_zero j (certain w) (bit_of j filling) place fits within one
-exact_by j w place shown false false fits within one zero =
-    let on = gives_one j (certain w) (λ k. false) place fits within zero in
-    let off = gives_zero j (certain w) (λ k. false) place fits within one in
+exact_by : (j : Job) (w : List Written) (place : ℕ) (shown : Value) (one zero : Bool) → Fits j → ((net : ℕ) → IsPlain (j.driver net)) → place < places_of j → list_any (λ b. b) (all_bits j place) ≡ one → list_any not (all_bits j place) ≡ zero → ExactBy j w place (written_by (seen_by one zero) shown).mark (written_by (seen_by one zero) shown).value
+exact_by j w place shown true true fits plain within one zero = pair_of j w place fits plain within one zero
+exact_by j w place shown true false fits plain within one zero = λ filling is. gives_one j (certain w) (bit_of j filling) place fits plain within zero
+exact_by j w place shown false true fits plain within one zero = λ filling is. gives_zero j (certain w) (bit_of j filling) place fits plain within one
+exact_by j w place shown false false fits plain within one zero =
+    let on = gives_one j (certain w) (λ k. false) place fits plain within zero in
+    let off = gives_zero j (certain w) (λ k. false) place fits plain within one in
     cc
 
-known_by : (j : Job) (place : ℕ) (one zero : Bool) → Fits j → place < places_of j → list_any (λ b. b) (all_bits j place) ≡ one → list_any not (all_bits j place) ≡ zero → IsKnown (shown_at j place) → (written_by (seen_by one zero) (shown_at j place)).value ≡ shown_at j place
-known_by j place true true fits within one zero known = refl
-known_by j place true false fits within one zero known = ap bit_value (sym (gives_one j (λ k. X) (λ k. false) place fits within zero)) ∙ world_follows j (λ k. X) (λ k. false) place fits within known
-known_by j place false true fits within one zero known = ap bit_value (sym (gives_zero j (λ k. X) (λ k. false) place fits within one)) ∙ world_follows j (λ k. X) (λ k. false) place fits within known
-known_by j place false false fits within one zero known = refl
+known_by : (j : Job) (place : ℕ) (one zero : Bool) → Fits j → ((net : ℕ) → IsPlain (j.driver net)) → place < places_of j → list_any (λ b. b) (all_bits j place) ≡ one → list_any not (all_bits j place) ≡ zero → IsKnown (shown_at j place) → (written_by (seen_by one zero) (shown_at j place)).value ≡ shown_at j place
+known_by j place true true fits plain within one zero known = refl
+known_by j place true false fits plain within one zero known = ap bit_value (sym (gives_one j (λ k. X) (λ k. false) place fits plain within zero)) ∙ world_follows j (λ k. X) (λ k. false) place fits plain within known
+known_by j place false true fits plain within one zero known = ap bit_value (sym (gives_zero j (λ k. X) (λ k. false) place fits plain within one)) ∙ world_follows j (λ k. X) (λ k. false) place fits plain within known
+known_by j place false false fits plain within one zero known = refl
+
+-- What is unknown isn't known to the replay.
+open_by : (j : Job) (place : ℕ) (one zero : Bool) → Fits j → ((net : ℕ) → IsPlain (j.driver net)) → place < places_of j → list_any (λ b. b) (all_bits j place) ≡ one → list_any not (all_bits j place) ≡ zero → (written_by (seen_by one zero) (shown_at j place)).mark ≡ Unknown → IsKnown (shown_at j place) → ⊥
+open_by j place true true fits plain within one zero unknown known =
+    let on = among_gives j (λ k. X) place (λ b. b) fits plain within one in
+    let off = among_gives j (λ k. X) place not fits plain within zero in
+    let up : bit_value true ≡ shown_at j place = ap bit_value (sym on.gives) ∙ world_follows j (λ k. X) (bit_of j on.filling) place fits plain within known in
+    let down : bit_value false ≡ shown_at j place = ap bit_value (sym (is_off (world_bit j (λ k. X) (bit_of j off.filling) place) off.gives)) ∙ world_follows j (λ k. X) (bit_of j off.filling) place fits plain within known in
+    let both : bit_value true ≡ bit_value false = up ∙ sym down in
+    cc
+open_by j place true false fits plain within one zero unknown known = cc
+open_by j place false true fits plain within one zero unknown known = cc
+open_by j place false false fits plain within one zero unknown known =
+    let on = gives_one j (λ k. X) (λ k. false) place fits plain within zero in
+    let off = gives_zero j (λ k. X) (λ k. false) place fits plain within one in
+    cc
 
 uncertain_by : (seen : Seen) (shown : Value) → ((written_by seen shown).mark ≡ Certain → ⊥) → (written_by seen shown).value ≡ shown
 uncertain_by Neither shown uncertain = refl
@@ -163,21 +180,25 @@ pub record IsWritten (j : Job) (w : List Written) : Type 0 where
   pub each : (place : ℕ) → place < places_of j → written_at w place ≡ written_by (seen_of (all_bits j place)) (shown_at j place)
 
 -- Such a waveform is exact.
-pub written_exact : (j : Job) (w : List Written) → Fits j → IsWritten j w → IsExact j w
-written_exact j w fits written = λ place less.
+pub written_exact : (j : Job) (w : List Written) → Fits j → ((net : ℕ) → IsPlain (j.driver net)) → IsWritten j w → IsExact j w
+written_exact j w fits plain written = λ place less.
     let within : place < places_of j = omega (arith, written.all) in
     let P : Written → Type 0 = λ x. ExactBy j w place x.mark x.value in
-    let exact = exact_by j w place (shown_at j place) (list_any (λ b. b) (all_bits j place)) (list_any not (all_bits j place)) fits within refl refl in
+    let exact = exact_by j w place (shown_at j place) (list_any (λ b. b) (all_bits j place)) (list_any not (all_bits j place)) fits plain within refl refl in
     subst P (sym (written.each place within)) exact
 
 -- And it shows what the replay knows.
-pub written_shows : (j : Job) (w : List Written) → Fits j → IsWritten j w → ShowsReplay j w
-written_shows j w fits written = record {
+pub written_shows : (j : Job) (w : List Written) → Fits j → ((net : ℕ) → IsPlain (j.driver net)) → IsWritten j w → ShowsReplay j w
+written_shows j w fits plain written = record {
   known = λ place less known.
       let within : place < places_of j = omega (arith, written.all) in
-      ap (λ (x : Written). x.value) (written.each place within) ∙ known_by j place (list_any (λ b. b) (all_bits j place)) (list_any not (all_bits j place)) fits within refl refl known;
+      ap (λ (x : Written). x.value) (written.each place within) ∙ known_by j place (list_any (λ b. b) (all_bits j place)) (list_any not (all_bits j place)) fits plain within refl refl known;
   uncertain = λ place less uncertain.
       let within : place < places_of j = omega (arith, written.all) in
       let each = written.each place within in
       ap (λ (x : Written). x.value) each ∙ uncertain_by (seen_of (all_bits j place)) (shown_at j place) (λ same. uncertain (ap (λ (x : Written). x.mark) each ∙ same));
+  open_ = λ place less unknown known.
+      let within : place < places_of j = omega (arith, written.all) in
+      let each = written.each place within in
+      open_by j place (list_any (λ b. b) (all_bits j place)) (list_any not (all_bits j place)) fits plain within refl refl (sym (ap (λ (x : Written). x.mark) each) ∙ unknown) known;
 }

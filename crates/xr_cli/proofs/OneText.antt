@@ -21,7 +21,8 @@ use Rattle.xr_vcd.specs.Words.{Word, words_of as recorded_words}
 use Rattle.xr_vcd.specs.Machine.{State, Next, step, then_run, run as run_recording}
 use Rattle.xr_vcd.specs.Faults.{Says, FirstFault, beginning, reach, reach_on, stops}
 use Rattle.xr_vcd.specs.Recording.{Recording as Said}
-use Rattle.xr_cli.specs.NetlistText.{IsTree, IsNetlistFault, IsNetlist, IsNoFlatNetlist}
+use Rattle.xr_netlist_grammar.specs.Source.{IsTree}
+use Rattle.xr_cli.specs.NetlistText.{IsNetlistFault, IsNetlist, IsNoFlatNetlist}
 
 -- ---- netlists
 

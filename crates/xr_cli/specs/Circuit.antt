@@ -1,36 +1,17 @@
--- A circuit as a job, and when it fits.
-use Rattle.std.specs.Prelude.{◌≡◌, ℕ, ◌+◌, ◌*◌, ◌%◌, ◌<◌, length, slice_index_or, [], List}
-use Rattle.xr_design.specs.Job.{Job, job_of, step_of, net_of, places_of}
-use Rattle.xr_design.specs.Fits.{Fits}
+-- When a circuit of gates fits.
+use Rattle.std.specs.Prelude.{ℕ, List}
+pub use Rattle.xr_design.specs.Circuit.{job_in}
+use Rattle.xr_design.specs.Circuit.{FitsCircuit as FitsAny}
+use Rattle.xr_design.specs.Fits.{IsPlain}
+use Rattle.xr_design.specs.Job.{job_of}
+use Rattle.xr_design.specs.declared.circuit.Circuit.{Circuit}
 use Rattle.xr_design.specs.declared.design.Design.{Design}
 use Rattle.xr_design.specs.declared.stim.Stim.{Stim}
-use Rattle.xr_cli.specs.declared.circuit.Circuit.{Circuit}
-use Rattle.xr_cli.specs.declared.circuit.Spot.{Spot}
 
--- There is a row of inputs for each moment, and in each row a value for each net.
-pub record FitsStim (design : Design) (stim : Stim) : Type 0 where
-  pub rows : length stim.inputs ≡ length stim.times
-  pub values : (moment : ℕ) → moment < length stim.inputs → length (slice_index_or stim.inputs moment []) ≡ length design.nets
-
+-- A circuit fits, and no net is a register or a cell of a primitive.
 pub record FitsCircuit (design : Design) (order : List ℕ) (stim : Stim) : Type 0 where
-  pub fits_job : Fits (job_of design order stim)
-  pub fits_stim : FitsStim design stim
+  pub any : FitsAny design order stim
+  pub plain : (net : ℕ) → IsPlain ((job_of design order stim).driver net)
 
--- The job of a circuit.
-abbrev pub job_in : Circuit → Job
-job_in circuit = job_of circuit.design.now circuit.order.now circuit.stim.now
-
--- A circuit fits where its parts do.
 abbrev pub CircuitFits : Circuit → Type 0
 CircuitFits circuit = FitsCircuit circuit.design.now circuit.order.now circuit.stim.now
-
--- A spot of a job is the step, the moment, the position and the net of one of its places.
-pub record IsSpot (j : Job) (place : ℕ) (spot : Spot) : Type 0 where
-  pub step : spot.step ≡ step_of j place
-  pub position : spot.position ≡ place % j.width
-  pub net : spot.net ≡ net_of j place
-  pub step_within : spot.step < j.moments * j.rounds
-  pub position_within : spot.position < j.width
-  pub net_within : spot.net < j.width
-  pub place_is : spot.step * j.width + spot.position ≡ place
-  pub place_within : place < places_of j

@@ -1,5 +1,5 @@
 -- Which recordings of one moment are read, and what each says of the nets (IEEE 1364-2005, clause 18).
-use Rattle.std.specs.Prelude.{◌≡◌, ◌≢◌, ℕ, ◌+◌, ◌<◌, ◌==◌, Bool, false, List, [], ◌∷◌, ◌++◌, length, map, if◌then◌else◌, Some, None, slice_get, slice_index_or, Contains, Vec}
+use Rattle.std.specs.Prelude.{◌≡◌, ◌≢◌, ℕ, ◌+◌, ◌<◌, ◌==◌, Bool, false, List, [], ◌∷◌, ◌++◌, length, map, if◌then◌else◌, Some, None, slice_get, slice_index_or, Contains, Vec, replicate}
 use Rattle.std.specs.declared.alloc.Global.{Global}
 use Rattle.xr_cell.specs.declared.value.Value.{Value}
 use Rattle.xr_cell.specs.declared.value.Value.TheVariants.{X, Z}
@@ -8,6 +8,7 @@ use Rattle.xr_design.specs.declared.design.Net.{Net}
 use Rattle.xr_design.specs.declared.design.Driver.TheVariants.{Input, Undriven}
 use Rattle.xr_design.specs.declared.name.Name.{Name as NetName}
 use Rattle.xr_design.specs.declared.name.NamePart.{NamePart}
+use Rattle.xr_design.specs.declared.stim.StartRule.TheVariants.{Cold}
 use Rattle.xr_design.specs.declared.stim.Stim.{Stim}
 use Rattle.xr_vcd.specs.Faults.{Says}
 use Rattle.xr_vcd.specs.Recording.{Recording as Said, Path, path_at, value_at}
@@ -125,8 +126,10 @@ pub record IsRowOf (design : Design) (variables : List Variable) (row : List Val
   pub recorded : (net : ℕ) → net < length design.nets → slice_index_or (map (λ (n : Net). n.driver) design.nets) net Undriven ≡ Input → (v : Variable) → Contains variables v → v.net ≡ net → slice_index_or row net X ≡ v.value
   pub others : (net : ℕ) → net < length design.nets → (slice_index_or (map (λ (n : Net). n.driver) design.nets) net Undriven ≡ Input → ⊥) → slice_index_or row net X ≡ X
 
--- The stimulus of a recording: one moment at time 0 of four rounds, with the values of its variables.
+-- The stimulus of a recording: one moment at time 0 of four rounds, with the values of its variables. Nothing in it starts.
 pub record IsStimOf (design : Design) (r : Recording) (stim : Stim) : Type 0 where
+  pub start : stim.start ≡ Cold
+  pub starts : stim.starts ≡ replicate (length design.nets) X
   pub times : stim.times ≡ 0 ∷ []
   pub rounds : stim.rounds ≡ 4
   pub row : List Value

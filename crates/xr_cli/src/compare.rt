@@ -8,9 +8,9 @@ ghost use Rattle.xr_cli.specs.Circuit.{job_in, CircuitFits};
 ghost use Rattle.xr_cli.specs.Repair.{AgreeBelow, last_place};
 ghost use Rattle.xr_cli.specs.declared.recording.Variable.{Variable as VariableOf};
 
-use crate::circuit::{Circuit, width_of};
 use crate::recording::Variable;
 use xr_cell::Value;
+use xr_design::{Circuit, width_of};
 
 /// The first variable whose recorded value isn't what the replay shows, all four values told apart.
 pub fn first_difference(

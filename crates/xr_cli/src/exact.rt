@@ -8,14 +8,13 @@ ghost use Rattle.xr_cli.specs.Circuit.{job_in, CircuitFits};
 ghost use Rattle.xr_cli.specs.Worlds.{choosing};
 ghost use Rattle.xr_cli.specs.Seen.{written_by};
 
-use crate::circuit::Circuit;
 use crate::fillings::all_fillings;
 use crate::seen::{Seen, seen_places};
 use crate::worlds::{choosing_places, count_choices};
 use std::alloc::Global;
 use xr_base::Memory;
 use xr_cell::Value;
-use xr_design::{Mark, Written};
+use xr_design::{Circuit, Mark, Written};
 
 /// The most places that may choose, so that there are at most 4096 fillings to try.
 pub const MOST_CHOICES: usize = 12;

@@ -4,7 +4,6 @@
 mod answer;
 mod binding;
 mod bit;
-mod circuit;
 mod compare;
 mod exact;
 mod fillings;

@@ -11,7 +11,6 @@ ghost use Rattle.xr_cli.specs.Texts.{written_name};
 ghost use Rattle.xr_flat.specs.Design.{FitsOrder};
 
 use crate::bit::Bit;
-use crate::circuit::Circuit;
 use crate::compare::{first_difference, last_shown, place_at_end};
 use crate::exact::{MOST_CHOICES, waveform};
 use crate::recording::{Recording, Variable};
@@ -22,7 +21,7 @@ use crate::texts::put_written_name;
 use crate::worlds::count_choices;
 use std::alloc::{AllocError, Global};
 use xr_cell::Value;
-use xr_design::{Bytes, Order, Written};
+use xr_design::{Bytes, Circuit, Order, Written};
 use xr_flat::Flat;
 
 /// The bits of the bound variables, where the recording agrees with the replay.

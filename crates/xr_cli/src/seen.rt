@@ -6,10 +6,10 @@ ghost use Rattle.xr_design.specs.World.{bit_at};
 ghost use Rattle.xr_cli.specs.Circuit.{job_in, CircuitFits};
 ghost use Rattle.xr_cli.specs.Seen.{given, seen_of, seen_with};
 
-use crate::circuit::{Circuit, count_places};
 use crate::worlds::world_bits;
 use std::alloc::Global;
 use xr_base::{Items, Memory};
+use xr_design::{Circuit, count_places};
 
 /// Which of 0 and 1 worlds have given a place.
 #[derive(Clone, Copy, Debug, PartialEq, Eq)]

@@ -9,7 +9,7 @@ use crate::recording::{Recording, Variable};
 use std::alloc::{AllocError, Global};
 use xr_base::{Items, Memory};
 use xr_cell::Value;
-use xr_design::{Design, Stim};
+use xr_design::{Design, StartRule, Stim};
 
 /// The rounds of the moment.
 const ROUNDS: u32 = 4;
@@ -27,10 +27,13 @@ pub fn stimulus_of(alloc: Global, design: &Design, recording: &Recording) -> Res
     inputs.push(Items::from_vec(row))?;
     let mut times = Vec::new(alloc);
     times.push(0)?;
+    let starts = vec![in alloc; Value::X; design.nets.as_slice().len()]?;
     Ok(Stim {
         times: Items::from_vec(times),
         rounds: ROUNDS,
         inputs: Items::from_vec(inputs),
+        start: StartRule::Cold,
+        starts: Items::from_vec(starts),
     })
 }
 

@@ -8,11 +8,11 @@ ghost use Rattle.xr_design.specs.World.{decided, world};
 ghost use Rattle.xr_cli.specs.Circuit.{job_in, CircuitFits};
 ghost use Rattle.xr_cli.specs.Worlds.{bit_in, choosing};
 
-use crate::circuit::{Circuit, count_places};
-use crate::rule::{is_choosing, rule_value};
+use crate::rule::{is_choosing, next_value};
 use std::alloc::Global;
 use xr_base::Memory;
 use xr_cell::Value;
+use xr_design::{Circuit, count_places};
 
 /// The bit of each place in the world of a filling, which lists the numbers of the places that get 1. Takes a byte for
 /// each place.
@@ -27,7 +27,7 @@ pub fn world_bits(
     let places = count_places(circuit);
     let mut bits = Vec::with_capacity(alloc, places)?;
     'places: for place in 0..places {
-        let value = rule_value(circuit, &bits);
+        let value = next_value(circuit, &bits);
         bits.push(decided_bit(value, has_place(filling, place)))?;
     }
     Ok(bits)

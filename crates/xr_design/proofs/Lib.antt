@@ -2,9 +2,13 @@ pub mod Exact
 pub mod Follows
 pub mod Gates
 mod HistoryLemmas
-mod Multiplexer
+pub mod Multiplexer
 pub mod Numbers
 pub mod OrderLemmas
+pub mod Pins
+pub mod Plain
 pub mod Prefix
+pub mod Reaching
 pub mod Replays
+pub mod Rules
 pub mod Worlds

@@ -7,6 +7,7 @@ use Rattle.xr_design.specs.declared.design.Driver.{Driver}
 use Rattle.xr_design.specs.declared.design.Driver.TheVariants.{Input, Undriven, Cell}
 use Rattle.xr_design.specs.declared.design.Table.TheVariants.{Gate}
 use Rattle.xr_design.specs.declared.design.Pin.TheVariants.{Net}
+use Rattle.xr_design.specs.declared.stim.StartRule.TheVariants.{Cold}
 use Rattle.xr_design.specs.Job.{Job}
 use Rattle.xr_design.specs.Filling.{bit_of}
 use Rattle.xr_design.specs.Replay.{Held, held_at, replay_under, replay}
@@ -14,17 +15,20 @@ use Rattle.xr_design.specs.Rule.{rule}
 use Rattle.xr_design.specs.World.{world, world_bit}
 use Rattle.xr_design.specs.Waveform.{Written, certain}
 
-abbrev drivers : List Driver
+abbrev pub drivers : List Driver
 drivers = Input ∷ Input ∷ Input ∷ Cell (Gate Or) (Net 5 ∷ Net 6 ∷ []) ∷ Cell (Gate Not) (Net 2 ∷ []) ∷ Cell (Gate And) (Net 1 ∷ Net 2 ∷ []) ∷ Cell (Gate And) (Net 0 ∷ Net 4 ∷ []) ∷ []
 
-abbrev mux : Job
+abbrev pub mux : Job
 mux = record {
   width = 7;
   driver = λ net. get_or drivers net Undriven;
+  udps = [];
   order = 0 ∷ 1 ∷ 2 ∷ 4 ∷ 5 ∷ 6 ∷ 3 ∷ [];
   rounds = 2;
   moments = 1;
   recorded = λ moment net. get_or (One ∷ One ∷ X ∷ []) net X;
+  start_rule = Cold;
+  start = λ net. X;
 }
 
 -- the replay shows d0 and d1 and knows no other net

@@ -1,8 +1,7 @@
 -- Laws of the worlds of fillings.
-use Rattle.std.proofs.Common.{◌≡◌, ℕ, zero, suc, ◌+◌, ◌-◌, ◌*◌, ◌/◌, ◌%◌, ◌<◌, ◌≤◌, ◌==◌, ◌&&◌, Bool, true, false, List, [], ◌∷◌, ◌++◌, length, map, refl, ap, arith, add-one, length-append, if◌then◌else◌, subst}
+use Rattle.std.proofs.Common.{◌≡◌, ℕ, zero, suc, ◌+◌, ◌-◌, ◌/◌, ◌%◌, ◌<◌, ◌≤◌, ◌==◌, ◌&&◌, Bool, true, false, List, [], ◌∷◌, ◌++◌, length, refl, sym, ap, ◌∙◌, arith, add-one, length-append, if◌then◌else◌, subst}
 use Rattle.std.proofs.Math.ListN.{get_or-append}
 use Rattle.std.proofs.Math.Seq.{get_or-append_seam}
-use Rattle.std.proofs.Math.Nat.{mod-lt}
 use Rattle.std.proofs.Math.Bool.{and-true}
 use Rattle.std.proofs.lemmas.List.{length-map}
 use Rattle.std.specs.List.{AllByRecursion, list_any}
@@ -11,16 +10,17 @@ use Rattle.xr_cell.specs.declared.value.Value.TheVariants.{Zero, One, X, Z}
 use Rattle.xr_cell.specs.Value.{IsKnown, bit_value, is_unknown}
 use Rattle.xr_design.specs.declared.design.Pin.{Pin}
 use Rattle.xr_design.specs.declared.design.Pin.TheVariants.{Net, Bit, Dead}
-use Rattle.xr_design.specs.declared.design.Table.TheVariants.{Gate}
+use Rattle.xr_design.specs.declared.design.Table.TheVariants.{Gate, Udp}
 use Rattle.xr_design.specs.declared.design.Driver.{Driver}
-use Rattle.xr_design.specs.declared.design.Driver.TheVariants.{Input, Undriven, Constant, Copy, Cell}
+use Rattle.xr_design.specs.declared.design.Driver.TheVariants.{Input, Undriven, Constant, Copy, Cell, Register}
 use Rattle.xr_design.specs.Job.{Job, at, step_of, net_of, places_of}
 use Rattle.xr_design.specs.Fits.{Fits, FitsDriver, is_dead, chooses, chooses_of}
-use Rattle.xr_design.specs.Replay.{pin_of}
-use Rattle.xr_design.specs.Rule.{rule, rule_of, known_or}
-use Rattle.xr_design.specs.World.{decided, bit_at, world, world_bit}
+use Rattle.xr_design.specs.Register.{pins_at}
+use Rattle.xr_design.specs.Rule.{rule, rule_of, known_or, as_values}
+use Rattle.xr_design.specs.World.{decided, bit_at, world, world_bit, IsWorld}
 use Rattle.xr_design.proofs.Gates.{gate_known}
 use Rattle.xr_design.proofs.Prefix.{prefix}
+use Rattle.xr_design.proofs.Rules.{AgreeBelow, rule_local, spot}
 
 -- The world up to n has n bits.
 pub world_length : (j : Job) (c : ℕ → Value) (f : ℕ → Bool) (n : ℕ) → length (world j c f n) ≡ n
@@ -46,30 +46,38 @@ world_rule j c f place =
     let seam : bit_at (bits ++ bit ∷ []) place ≡ bit = subst (λ n. bit_at (bits ++ bit ∷ []) n ≡ bit) here (get_or-append_seam bits bit [] false) in
     rw add-one seam
 
-certain_idle_of : (j : Job) (c d : ℕ → Value) (b : ℕ → Bool) (step net : ℕ) (driver : Driver) → rule_of j c b step net driver ≡ rule_of j d b step net driver
-certain_idle_of j c d b step net Input = refl
-certain_idle_of j c d b step net Undriven = refl
-certain_idle_of j c d b step net (Constant bit) = refl
-certain_idle_of j c d b step net (Copy argument) = refl
-certain_idle_of j c d b step net (Cell table pins) = refl
-
--- No rule reads the certain values.
-pub certain_idle : (j : Job) (c d : ℕ → Value) (f : ℕ → Bool) (place : ℕ) → rule j c f place ≡ rule j d f place
-unfolding rule
-certain_idle j c d f place = certain_idle_of j c d f (step_of j place) (net_of j place) (j.driver (net_of j place))
-
--- Worlds are the same for all certain values.
-pub world_idle : (j : Job) (c d : ℕ → Value) (f : ℕ → Bool) (n : ℕ) → world j c f n ≡ world j d f n
+-- The world up to n reads the filling below n, and the certain values below the last of its places.
+pub world_local : (j : Job) → Fits j → (c d : ℕ → Value) (f g : ℕ → Bool) (n : ℕ) → n ≤ places_of j → ((k : ℕ) → suc k < n → c k ≡ d k) → AgreeBelow f g n → world j c f n ≡ world j d g n
 unfolding world
-world_idle j c d f zero = refl
-world_idle j c d f (suc n) =
-    let ih = world_idle j c d f n in
-    let same = certain_idle j c d (bit_at (world j d f n)) n in
-    rw (ih, same) refl
+world_local j fits c d f g zero within certains fillings = refl
+world_local j fits c d f g (suc n) within certains fillings =
+    let ih = world_local j fits c d f g n (omega arith) (λ k less. certains k (omega arith)) (λ k less. fillings k (omega arith)) in
+    let bits = world j d g n in
+    let same : rule j c (bit_at bits) n ≡ rule j d (bit_at bits) n = rule_local j fits c d (bit_at bits) (bit_at bits) n (omega arith) (λ k less. certains k (omega arith)) (λ k less. refl) in
+    rw (ih, same, fillings n (omega arith)) refl
 
--- The bit of a place is the same for all certain values.
-pub world_bit_idle : (j : Job) (c d : ℕ → Value) (f : ℕ → Bool) (place : ℕ) → world_bit j c f place ≡ world_bit j d f place
-world_bit_idle j c d f place = ap (λ bits. bit_at bits place) (world_idle j c d f (place + 1))
+-- The bit of a place reads the filling up to the place, and the certain values before it.
+pub world_bit_local : (j : Job) → Fits j → (c d : ℕ → Value) (f g : ℕ → Bool) (place : ℕ) → place < places_of j → AgreeBelow c d place → AgreeBelow f g (place + 1) → world_bit j c f place ≡ world_bit j d g place
+world_bit_local j fits c d f g place within certains fillings =
+    ap (λ bits. bit_at bits place) (world_local j fits c d f g (place + 1) (omega arith) (λ k less. certains k (omega arith)) fillings)
+
+-- The bits of all places are a world of the filling.
+pub world_is : (j : Job) → Fits j → (c : ℕ → Value) (f : ℕ → Bool) → IsWorld j c f (places_of j) (world_bit j c f)
+world_is j fits c f place within =
+    let same : rule j c (bit_at (world j c f place)) place ≡ rule j c (world_bit j c f) place = rule_local j fits c c (bit_at (world j c f place)) (world_bit j c f) place within (λ k less. refl) (λ k less. world_prefix j c f place k less) in
+    world_rule j c f place ∙ ap (λ v. decided v (f place)) same
+
+-- It has no other: places of a world are those of every world of the filling.
+pub world_once : (j : Job) → Fits j → (c : ℕ → Value) (f : ℕ → Bool) (w : ℕ → Bool) → IsWorld j c f (places_of j) w → (place : ℕ) → place < places_of j → w place ≡ world_bit j c f place
+world_once j fits c f w is place within = below (suc place) place (omega arith) within
+  where
+    here : (place : ℕ) → place < places_of j → AgreeBelow w (world_bit j c f) place → w place ≡ world_bit j c f place
+    here place within agree =
+        is place within ∙ ap (λ (v : Value). decided v (f place)) (rule_local j fits c c w (world_bit j c f) place within (λ k less. refl) agree) ∙ sym (world_is j fits c f place within)
+
+    below : (n place : ℕ) → place < n → place < places_of j → w place ≡ world_bit j c f place
+    below zero place before within = absurd (omega arith)
+    below (suc n) place before within = here place within (λ k less. below n k (omega arith) (omega arith))
 
 born_known : (recorded : Value) (first : Bool) (bit : Bool) → first && is_unknown recorded ≡ false → IsKnown (known_or recorded (if first then X else bit_value bit))
 born_known Zero first bit idle = tt
@@ -85,43 +93,31 @@ bit_known : (bit : Bool) → IsKnown (bit_value bit)
 bit_known false = tt
 bit_known true = tt
 
-pins_known : (pins : List Pin) (b : ℕ → Bool) → list_any is_dead pins ≡ false → AllByRecursion IsKnown (map (pin_of (λ a. bit_value (b a))) pins)
-pins_known [] b alive = tt
-pins_known (Net net ∷ pins) b alive = (bit_known (b net), pins_known pins b alive)
-pins_known (Bit bit ∷ pins) b alive = (bit_known bit, pins_known pins b alive)
-pins_known (Dead ∷ pins) b alive = cc
+pins_known : (j : Job) (b : ℕ → Bool) (step : ℕ) (pins : List Pin) → list_any is_dead pins ≡ false → AllByRecursion IsKnown (pins_at j (as_values b) step pins)
+pins_known j b step [] alive = tt
+pins_known j b step (Net net ∷ pins) alive = (bit_known (b (at j step net)), pins_known j b step pins alive)
+pins_known j b step (Bit bit ∷ pins) alive = (bit_known bit, pins_known j b step pins alive)
+pins_known j b step (Dead ∷ pins) alive = cc
 
-rule_of_known : (j : Job) (c : ℕ → Value) (b : ℕ → Bool) (step net : ℕ) (driver : Driver) → FitsDriver driver → chooses_of j step net driver ≡ false → IsKnown (rule_of j c b step net driver)
+rule_of_known : (j : Job) (c : ℕ → Value) (b : ℕ → Bool) (step net : ℕ) (driver : Driver) → FitsDriver j.udps j.width driver → chooses_of j step net driver ≡ false → IsKnown (rule_of j c b step net driver)
 rule_of_known j c b step net Input fits idle = born_known (j.recorded (step / j.rounds) net) (step % j.rounds == 0) (b (at j (step - 1) net)) idle
 rule_of_known j c b step net Undriven fits idle = let first : (step % j.rounds == 0) && true ≡ false = rw (and-true (step % j.rounds == 0)) idle in born_known X (step % j.rounds == 0) (b (at j (step - 1) net)) first
 rule_of_known j c b step net (Constant bit) fits idle = bit_known bit
 rule_of_known j c b step net (Copy argument) fits idle = bit_known (b (at j step argument))
 rule_of_known j c b step net (Cell (Gate gate) pins) fits idle =
-    let values = map (pin_of (λ a. bit_value (b (at j step a)))) pins in
+    let values = pins_at j (as_values b) step pins in
     let many : length values ≡ length pins = length-map pins _ in
-    gate_known gate values (rw many fits) (pins_known pins (λ a. b (at j step a)) idle)
-
--- Where there is a place, there is a net.
-pub some_width : (w k place : ℕ) → place < w * k → 0 < w
-some_width zero k place within = omega arith
-some_width (suc w) k place within = omega arith
-
--- The net of a place is one of the job's.
-pub net_within : (j : Job) → Fits j → (place : ℕ) → place < places_of j → net_of j place < j.width
-net_within j fits place within =
-    let some : 0 < j.width = some_width j.width (j.moments * j.rounds) place within in
-    let index : place % j.width < j.width = mod-lt place some in
-    let all = fits.all in
-    let below = fits.ordering.below (place % j.width) (omega arith) in
-    omega (arith, all, below)
+    gate_known gate values (rw many fits) (pins_known j b step pins idle)
+rule_of_known j c b step net (Cell (Udp number) pins) fits idle = cc
+rule_of_known j c b step net (Register latching) fits idle = cc
 
 -- Where a world may not read its filling, the rule is known.
 pub rule_known : (j : Job) (c : ℕ → Value) (f : ℕ → Bool) (place : ℕ) → Fits j → place < places_of j → chooses j place ≡ false → IsKnown (rule j c f place)
 unfolding rule
 rule_known j c f place fits within idle =
-    rule_of_known j c f (step_of j place) (net_of j place) (j.driver (net_of j place)) (fits.pins (net_of j place) (net_within j fits place within)) idle
+    rule_of_known j c f (step_of j place) (net_of j place) (j.driver (net_of j place)) (fits.pins (net_of j place) (spot j fits place within).net) idle
 
-decided_known : (v : Value) (x y : Bool) → IsKnown v → decided v x ≡ decided v y
+pub decided_known : (v : Value) (x y : Bool) → IsKnown v → decided v x ≡ decided v y
 decided_known Zero x y known = refl
 decided_known One x y known = refl
 decided_known X x y known = absurd known

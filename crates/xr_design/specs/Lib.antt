@@ -1,9 +1,20 @@
+-- Definitions of designs, stimuli, replays, worlds and waveforms.
+pub mod Circuit
+pub mod Design
+pub mod Driving
 pub mod Filling
 pub mod Fits
+pub mod Force
+pub mod Handed
 pub mod History
 pub mod Job
+pub mod Laws
+pub mod Name
 pub mod Order
+pub mod Register
 pub mod Replay
 pub mod Rule
+pub mod Settled
+pub mod Stim
 pub mod Waveform
 pub mod World

@@ -1,16 +1,17 @@
 -- The replay: what a simulator of four values shows at each place.
-use Rattle.std.specs.Prelude.{ℕ, zero, suc, ◌+◌, ◌/◌, Option, None, List, [], ◌∷◌, ◌++◌, map, slice_index_or, unwrap_or}
+use Rattle.std.specs.Prelude.{ℕ, zero, suc, ◌+◌, ◌-◌, ◌/◌, ◌==◌, Option, None, List, [], ◌∷◌, ◌++◌, slice_index_or, unwrap_or, if◌then◌else◌}
 use Rattle.xr_cell.specs.declared.value.Value.{Value}
 use Rattle.xr_cell.specs.declared.value.Value.TheVariants.{X, Z}
 use Rattle.xr_cell.specs.Value.{bit_value}
 use Rattle.xr_cell.specs.Gate.{gate_of}
-use Rattle.xr_design.specs.Job.{Job, at, step_of, net_of}
-use Rattle.xr_design.specs.declared.design.Pin.{Pin}
-use Rattle.xr_design.specs.declared.design.Pin.TheVariants.{Net, Bit, Dead}
+use Rattle.xr_cell.specs.Table.{Table as Primitive, look}
+use Rattle.xr_design.specs.Job.{Job, at, step_of, net_of, primitive_of}
+use Rattle.xr_design.specs.Register.{pins_at, updated}
 use Rattle.xr_design.specs.declared.design.Table.{Table}
-use Rattle.xr_design.specs.declared.design.Table.TheVariants.{Gate}
+use Rattle.xr_design.specs.declared.design.Table.TheVariants.{Gate, Udp}
 use Rattle.xr_design.specs.declared.design.Driver.{Driver}
-use Rattle.xr_design.specs.declared.design.Driver.TheVariants.{Input, Undriven, Constant, Copy, Cell}
+use Rattle.xr_design.specs.declared.design.Driver.TheVariants.{Input, Undriven, Constant, Copy, Cell, Register}
+use Rattle.xr_design.specs.declared.design.Latching.{Latching}
 
 -- What a place has in the replay: the value that it shows, and the one that its register keeps, x for any other driver.
 pub record Held : Type 0 where
@@ -21,27 +22,33 @@ abbrev pub blank : Held
 blank = record { shown = X; kept = X }
 
 -- The value of a cell on the values of its pins.
-abbrev pub table_of : Table → List Value → Value
-table_of (Gate gate) pins = gate_of gate pins
+abbrev pub table_of : List Primitive → Table → List Value → Value
+table_of udps (Gate gate) pins = gate_of gate pins
+table_of udps (Udp number) pins = look (primitive_of udps number) pins
 
--- The value at a pin, from the values of the nets. A dead pin is x.
-abbrev pub pin_of : (ℕ → Value) → Pin → Value
-pin_of nets (Net net) = nets net
-pin_of nets (Bit bit) = bit_value bit
-pin_of nets Dead = X
+-- What a register keeps at a step: its start at step 0, later what it makes of the values shown and of what it kept.
+abbrev pub register_kept : Job → (ℕ → Held) → ℕ → ℕ → Latching → Value
+register_kept j earlier step net latching =
+    if step == 0 then j.start net else updated j (λ place. (earlier place).shown) (earlier (at j (step - 1) net)).kept step latching
 
 -- What a driver gives at a step, from what earlier places have: an input its recorded value of the moment, no driver z,
--- a copy its argument's value, a cell its table's.
+-- a copy its argument's value, a cell its table's, a register what it keeps.
 abbrev pub driven : Job → (ℕ → Held) → ℕ → ℕ → Driver → Value
 driven j earlier step net Input = j.recorded (step / j.rounds) net
 driven j earlier step net Undriven = Z
 driven j earlier step net (Constant bit) = bit_value bit
 driven j earlier step net (Copy argument) = (earlier (at j step argument)).shown
-driven j earlier step net (Cell table pins) = table_of table (map (pin_of (λ a. (earlier (at j step a)).shown)) pins)
+driven j earlier step net (Cell table pins) = table_of j.udps table (pins_at j (λ place. (earlier place).shown) step pins)
+driven j earlier step net (Register latching) = register_kept j earlier step net latching
 
 -- What a driver keeps at a step: no driver but a register keeps anything.
 abbrev pub kept : Job → (ℕ → Held) → ℕ → ℕ → Driver → Value
-kept j earlier step net driver = X
+kept j earlier step net Input = X
+kept j earlier step net Undriven = X
+kept j earlier step net (Constant bit) = X
+kept j earlier step net (Copy argument) = X
+kept j earlier step net (Cell table pins) = X
+kept j earlier step net (Register latching) = register_kept j earlier step net latching
 
 -- A forced place shows the forced value in place of its driver's.
 unfoldable pub held_at : Job → (ℕ → Option Value) → (ℕ → Held) → ℕ → Held
@@ -60,6 +67,9 @@ replay_under j forced (suc n) =
 abbrev pub replay : Job → ℕ → List Held
 replay j n = replay_under j (λ place. None) n
 
--- The value that the replay shows at a place, which depends on the places up to it alone.
+-- The value that the replay shows at a place, and the one that it keeps there, which depend on the places up to it alone.
 abbrev pub shown_at : Job → ℕ → Value
 shown_at j place = (slice_index_or (replay j (place + 1)) place blank).shown
+
+abbrev pub kept_at : Job → ℕ → Value
+kept_at j place = (slice_index_or (replay j (place + 1)) place blank).kept

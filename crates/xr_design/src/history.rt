@@ -108,6 +108,7 @@ mod tests {
     use super::*;
     use crate::design::{Driver, Net};
     use crate::name::Name;
+    use crate::stim::StartRule;
     use std::alloc::AllocError;
     use std::test::Fail;
     use xr_base::Items;
@@ -137,11 +138,17 @@ mod tests {
         times.push(10)?;
         let design = Design {
             nets: Items::from_vec(nets),
+            udps: Items::from_vec(Vec::new(alloc)),
         };
+        let mut inputs = Vec::new(alloc);
+        inputs.push(Items::from_vec(Vec::new(alloc)))?;
+        inputs.push(Items::from_vec(Vec::new(alloc)))?;
         let stim = Stim {
             times: Items::from_vec(times),
             rounds: 2,
-            inputs: Items::from_vec(Vec::new(alloc)),
+            inputs: Items::from_vec(inputs),
+            start: StartRule::Cold,
+            starts: Items::from_vec(Vec::new(alloc)),
         };
         Ok((design, stim))
     }

@@ -4,18 +4,35 @@
 //! Start at `Design` and `Stim`, then read specs/Job.antt, Replay.antt, Rule.antt, World.antt and Waveform.antt.
 #![tactic(auto)]
 
+mod circuit;
 mod design;
+mod force;
 mod history;
+mod laws;
 mod name;
 mod order;
 mod place;
+mod reads;
+mod register;
+mod rule;
 mod stim;
 mod waveform;
 
-pub use design::{Design, Driver, Net, Pin, Table};
+pub use circuit::{
+    Circuit, Spot, count_places, driver_at, recorded_at, spot_of, start_at, width_of,
+};
+pub use design::{Design, Driver, Latching, Net, Pin, Table};
+pub use force::{Event, Forces};
 pub use history::History;
+pub use laws::{
+    arguments_stand_before, exact_is_unique, rule_reads_arguments, rule_reads_earlier,
+    worlds_are_unique, worlds_exist,
+};
 pub use name::{Bytes, Name, NamePart};
 pub use order::Order;
 pub use place::{Filling, Place};
-pub use stim::Stim;
+pub use reads::{AsValues, BitSource, Source, net_value, pin_values};
+pub use register::{clock_is_uncertain, updated_value};
+pub use rule::{rule_value, table_value};
+pub use stim::{StartRule, Stim};
 pub use waveform::{Mark, Written};

@@ -5,7 +5,7 @@ use Rattle.std.specs.List.{list_all}
 use Rattle.std.proofs.lemmas.Bool.{cases_Bool, and_parts, not-true, false_from_ne_true}
 use Rattle.std.proofs.lemmas.List.{length-map}
 use Rattle.xr_design.specs.declared.design.Driver.{Driver}
-use Rattle.xr_design.specs.declared.design.Driver.TheVariants.{Input, Undriven, Constant, Copy, Cell}
+use Rattle.xr_design.specs.declared.design.Driver.TheVariants.{Input, Undriven, Constant, Copy, Cell, Register}
 use Rattle.xr_netlist_grammar.specs.declared.tree.Declare.{Declare}
 use Rattle.xr_netlist_grammar.specs.declared.tree.NetKind.{NetKind}
 use Rattle.xr_netlist_grammar.specs.declared.tree.GateItem.{GateItem}
@@ -63,6 +63,7 @@ stays Undriven = refl
 stays (Constant bit) = refl
 stays (Copy net) = refl
 stays (Cell table pins) = refl
+stays (Register latching) = refl
 
 module _ (names : List (List ℕ)) (gs : List FlatGate) (g : FlatGate) where
   other_net : (d : Declare) → bytes_eq d.name.text g.output ≡ false → driver_of names (gs ++ g ∷ []) d ≡ driver_of names gs d

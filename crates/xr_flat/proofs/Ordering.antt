@@ -5,7 +5,7 @@ use Rattle.std.proofs.lemmas.Grind.{common_steps}
 use Rattle.std.proofs.lemmas.Bool.{cases_eq, cases_lt, and_parts}
 use Rattle.std.proofs.lemmas.List.{get_or_past, get_or_append_left, get_or_push, length_push, length-map, set_at}
 use Rattle.std.proofs.lemmas.List.Sums.{sum_by-append, sum_by-set}
-use Rattle.xr_design.specs.Fits.{FitsDriver}
+use Rattle.xr_design.specs.Fits.{FitsPlain}
 use Rattle.xr_design.specs.Order.{position_of, arguments_of_driver}
 use Rattle.xr_design.specs.declared.design.Driver.{Driver}
 use Rattle.xr_design.specs.declared.design.Driver.TheVariants.{Input, Undriven}
@@ -18,7 +18,7 @@ all_by P Q [] f all = tt
 all_by P Q (x ∷ xs) f all = (f x all.0, all_by P Q xs f all.1)
 
 -- A net that was free gets a driver whose arguments are listed, and is listed.
-module _ (drivers : List Driver) (order : List ℕ) (net : ℕ) (d : Driver) (is : IsOrdered drivers order) (within : net < length drivers) (free : drives drivers net ≡ false) (ready : AllByRecursion (StandsBefore order (length order)) (arguments_of_driver d)) (fits : FitsDriver d) (driven : is_driven d ≡ true) where
+module _ (drivers : List Driver) (order : List ℕ) (net : ℕ) (d : Driver) (is : IsOrdered drivers order) (within : net < length drivers) (free : drives drivers net ≡ false) (ready : AllByRecursion (StandsBefore order (length order)) (arguments_of_driver d)) (fits : FitsPlain d) (driven : is_driven d ≡ true) where
   at : (p : ℕ) → p < length order → get_or (order ++ net ∷ []) p 0 ≡ get_or order p 0
   at p less = get_or_append_left order (net ∷ []) 0 p less
 
@@ -78,7 +78,7 @@ module _ (drivers : List Driver) (order : List ℕ) (net : ℕ) (d : Driver) (is
       here : AllByRecursion (StandsBefore (order ++ net ∷ []) (length order)) (arguments_of_driver (get_or (set drivers net d) net Undriven))
       here = rw own (all_by _ _ _ (λ a. stands (length order) a (omega arith)) ready)
 
-  pins : (m : ℕ) → FitsDriver (get_or (set drivers net d) m Undriven)
+  pins : (m : ℕ) → FitsPlain (get_or (set drivers net d) m Undriven)
   pins m = ⊎_elim (λ (same : m ≡ net). rw (same, own) fits) (λ (differ : m ≢ net). rw (other m differ) (is.pins m)) (cases_eq m net)
 
   count : length (order ++ net ∷ []) ≡ count_by is_driven (set drivers net d)

@@ -84,11 +84,11 @@ module _ (m : Module) (declares gates : List Item) (front_is : declares ≡ fron
       is_whole few ports directed each =
           form ∙ and_from _ _ (and_from _ _ (and_from _ _ (and_from _ _ (and_from _ _ drove.gates ports) distinct) (le-leb (length (declares_of declares)) 1048576 (omega (arith, long, few)))) directed) (all_are ∙ each)
 
-      pub design_is : (nets : List Net) → paths_of nets ≡ paths_of (map first_net (declares_of declares)) → drivers_of nets ≡ drivers → record { nets = nets } ≡ module_design m
+      pub design_is : (nets : List Net) → paths_of nets ≡ paths_of (map first_net (declares_of declares)) → drivers_of nets ≡ drivers → record { nets = nets; udps = [] } ≡ module_design m
       unfolding module_design
       design_is nets paths own =
-          let of : List Declare → List FlatGate → Design = λ ds gs. record { nets = map (net_of (declared ds) gs) ds } in
-          let design : List Net → Design = λ ns. record { nets = ns } in
+          let of : List Declare → List FlatGate → Design = λ ds gs. record { nets = map (net_of (declared ds) gs) ds; udps = [] } in
+          let design : List Net → Design = λ ns. record { nets = ns; udps = [] } in
           let all : declares_of m.items ≡ declares_of declares = all_declared m.items (ap are_gates (sym behind_is) ∙ drove.gates) ∙ ap declares_of (sym front_is) in
           let every : gates_of m.items ≡ gates_of gates = all_gates m.items ∙ ap gates_of (sym behind_is) in
           ap design (nets_are (driver_of (declared (declares_of declares)) (gates_of gates)) nets (declares_of declares) paths (own ∙ drove.are))

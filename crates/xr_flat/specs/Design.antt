@@ -2,7 +2,7 @@
 use Rattle.std.specs.Prelude.{ℕ, ◌+◌, ◌<◌, ◌≤◌, ◌^◌, ◌≡◌, List, [], ◌∷◌, length, map, bytes_eq, None, if◌then◌else◌, slice_index, slice_index_or}
 use Rattle.std.specs.List.{AllByRecursion}
 use Rattle.xr_design.specs.Order.{IsOrdering, position_of, arguments_of_driver}
-use Rattle.xr_design.specs.Fits.{FitsDriver}
+use Rattle.xr_design.specs.Fits.{FitsPlain}
 use Rattle.xr_design.specs.declared.design.Design.{Design}
 use Rattle.xr_design.specs.declared.design.Net.{Net}
 use Rattle.xr_design.specs.declared.design.Driver.{Driver}
@@ -40,12 +40,13 @@ name_of w = record { parts = record { text = w.text; escaped = w.escaped } ∷ [
 abbrev pub net_of : List (List ℕ) → List FlatGate → Declare → Net
 net_of names gs d = record { path = name_of d.name; driver = driver_of names gs d }
 
--- The design of a flat module has a net for each declaration, driven by the world outside where it is an input, else by its gate.
+-- The design of a flat module has a net for each declaration, driven by the world outside where it is an input, else by
+-- its gate, and no primitive.
 unfoldable pub module_design : Module → Design
-module_design m = record { nets = map (net_of (declared (declares_of m.items)) (gates_of m.items)) (declares_of m.items) }
+module_design m = record { nets = map (net_of (declared (declares_of m.items)) (gates_of m.items)) (declares_of m.items); udps = [] }
 
 abbrev pub first_design : List Module → Design
-first_design [] = record { nets = [] }
+first_design [] = record { nets = []; udps = [] }
 first_design (m ∷ ms) = module_design m
 
 abbrev pub design_of : Source → Design
@@ -55,10 +56,11 @@ design_of s = first_design s.modules
 abbrev pub driver_at : List Net → ℕ → Driver
 driver_at nets net = slice_index_or (map (λ (n : Net). n.driver) nets) net Undriven
 
--- The order lists each net once and behind its arguments, each cell has the pins of its table, and there are at most 2^20 nets.
+-- The order lists each net once and behind its arguments, each net is driven by a gate with its pins or by none, and
+-- there are at most 2^20 nets.
 pub record FitsOrder (nets : List Net) (order : List ℕ) : Type 0 where
   pub ordering : IsOrdering order
   pub all : length order ≡ length nets
   pub arguments : (p : ℕ) → p < length nets → AllByRecursion (λ a. (a < length nets) × (position_of order a < p)) (arguments_of_driver (driver_at nets (slice_index order p)))
-  pub pins : (net : ℕ) → net < length nets → FitsDriver (driver_at nets net)
+  pub pins : (net : ℕ) → net < length nets → FitsPlain (driver_at nets net)
   pub few : length nets ≤ 2 ^ 20

@@ -3,7 +3,7 @@ use Rattle.std.specs.Prelude.{◌≡◌, ℕ, ◌<◌, ◌==◌, ◌&&◌, Bool,
 use Rattle.std.specs.List.{AllByRecursion, prefix_len, take_while}
 use Rattle.xr_cell.specs.declared.gate.Gate.{Gate}
 use Rattle.xr_design.specs.Order.{arguments_of_driver}
-use Rattle.xr_design.specs.Fits.{FitsDriver}
+use Rattle.xr_design.specs.Fits.{FitsPlain}
 use Rattle.xr_design.specs.declared.design.Net.{Net}
 use Rattle.xr_design.specs.declared.design.Driver.{Driver}
 use Rattle.xr_design.specs.declared.design.Driver.TheVariants.{Input, Undriven, Cell}
@@ -122,5 +122,5 @@ pub record IsOrdered (drivers : List Driver) (order : List ℕ) : Type 0 where
   pub driven : (p : ℕ) → p < length order → drives drivers (slice_index order p) ≡ true
   pub listed : (net : ℕ) → drives drivers net ≡ true → StandsBefore order (length order) net
   pub arguments : (p : ℕ) → p < length order → AllByRecursion (StandsBefore order p) (arguments_of_driver (slice_index_or drivers (slice_index order p) Undriven))
-  pub pins : (net : ℕ) → FitsDriver (slice_index_or drivers net Undriven)
+  pub pins : (net : ℕ) → FitsPlain (slice_index_or drivers net Undriven)
   pub count : length order ≡ count_by is_driven drivers

@@ -41,6 +41,7 @@ pub fn design_module(alloc: Global, tree: &Module) -> Result<Flat, FlatErr>
     Ok(Flat {
         design: Design {
             nets: Items::from_vec(nets),
+            udps: Items::from_vec(Vec::new(alloc)),
         },
         order,
     })

@@ -1,18 +1,12 @@
 -- Numbers by their digits.
-use Rattle.std.proofs.Common.{◌≡◌, ◌≢◌, ℕ, suc, ◌+◌, ◌*◌, ◌/◌, ◌^◌, ◌≤◌, ◌<◌, ◌⊎◌, inl, inr, Bool, true, false, not, List, [], ◌∷◌, length, drop, filter, get_or, refl, ◌==◌, ◌&&◌, nat_eq, nat_le, nat_lt, arith, if◌then◌else◌, Option, Some, None, option_and_then}
+use Rattle.std.proofs.Common.{◌≡◌, ◌≢◌, ℕ, suc, ◌+◌, ◌*◌, ◌/◌, ◌^◌, ◌≤◌, ◌<◌, ◌⊎◌, inl, inr, Bool, true, false, not, List, [], ◌∷◌, length, drop, filter, get_or, refl, sym, ap, subst, ◌∙◌, ◌==◌, ◌&&◌, ◌||◌, nat_eq, nat_le, nat_lt, arith, if◌then◌else◌, Option, Some, None, option_and_then}
 use Rattle.std.proofs.Math.Nat.{le-mul_of_pos_right, div-eq_of_lt, lt-div-mul-add}
 use Rattle.std.proofs.Math.Pow.{pow_mono}
 use Rattle.std.proofs.lemmas.Bool.Decides.{nat_tests, eqb_tells, leb_tells}
-use Rattle.xr_netlist_grammar.specs.Bytes.{number_from, worth, are_digits}
-use Rattle.xr_netlist_grammar.specs.Numbers.{int_of, base_of, literal_in, literal_behind, are_spaced_digits, spaced_number}
-
--- a number grows with its digits
-pub grows : (base n : ℕ) (ds : List ℕ) → 1 ≤ base → n ≤ number_from base n ds
-grows base n [] h = omega arith
-grows base n (d ∷ ds) h =
-    let once : n ≤ n * base = le-mul_of_pos_right n (omega arith) in
-    let more : n * base + worth d ≤ number_from base (n * base + worth d) ds = grows base (n * base + worth d) ds h in
-    omega arith
+use Rattle.std.specs.List.{list_all}
+use Rattle.std.proofs.lemmas.Bool.{eqb-true}
+use Rattle.xr_netlist_grammar.specs.Bytes.{number_from, worth, are_digits, is_digit_of}
+use Rattle.xr_netlist_grammar.specs.Numbers.{int_of, base_of, literal_in, literal_behind, begins, ends, are_spaced_digits, spaced_number}
 
 and_false : (b : Bool) → (b && false) ≡ false
 and_false true = refl
@@ -23,6 +17,77 @@ ltb_tells n m = elim (leb_tells (suc n) m) [ inl t ↦ inl (t.0, omega (arith, t
 
 above : (n m : ℕ) → m ≤ n → nat_lt n m ≡ false
 above n m h = grind (arith, nat_tests)
+
+-- ---- digits with `_` between, byte by byte
+
+-- behind a byte that is a digit or not
+abbrev pub go_on : ℕ → Bool → List ℕ → Bool
+go_on base is_end [] = is_end
+go_on base is_end (b ∷ bs) = (is_digit_of base b || (b == 95)) && go_on base (is_digit_of base b) bs
+
+-- whether the last byte is a digit, behind one that is or not
+ends_behind : ℕ → Bool → List ℕ → Bool
+ends_behind base is_end [] = is_end
+ends_behind base is_end (b ∷ bs) = ends_behind base (is_digit_of base b) bs
+
+ends_is : (base b : ℕ) (bs : List ℕ) → ends (is_digit_of base) (b ∷ bs) ≡ ends_behind base (is_digit_of base b) bs
+unfolding ends_behind
+ends_is base b [] = refl
+ends_is base b (c ∷ cs) = ends_is base c cs
+
+swapped : (q e l : Bool) → (q && (e && l)) ≡ (e && (q && l))
+swapped true e l = refl
+swapped false e l = sym (and_false e)
+
+and_true : (b : Bool) → (b && true) ≡ b
+and_true true = refl
+and_true false = refl
+
+go_on_is : (base : ℕ) (is_end : Bool) (bs : List ℕ) → go_on base is_end bs ≡ (ends_behind base is_end bs && list_all (λ b. is_digit_of base b || (b == 95)) bs)
+unfolding ends_behind
+go_on_is base is_end [] = sym (and_true is_end)
+go_on_is base is_end (b ∷ bs) =
+    let q = is_digit_of base b || (b == 95) in
+    let e = ends_behind base (is_digit_of base b) bs in
+    let l = list_all (λ b. is_digit_of base b || (b == 95)) bs in
+    ap (λ x. q && x) (go_on_is base (is_digit_of base b) bs) ∙ swapped q e l
+
+begun : (d u e l : Bool) → ((d && e) && ((d || u) && l)) ≡ (d && (e && l))
+begun true u e l = refl
+begun false u e l = refl
+
+or_false : (d u : Bool) → u ≡ false → (d || u) ≡ d
+or_false true u h = refl
+or_false false u h = h
+
+-- what doesn't begin with `_`
+pub spaced_starts : (base : ℕ) (text : List ℕ) → begins (λ b. b == 95) text ≡ false → are_spaced_digits base text ≡ go_on base false text
+unfolding are_spaced_digits
+spaced_starts base [] h = refl
+spaced_starts base (b ∷ bs) h =
+    let d = is_digit_of base b in
+    let u = (b == 95) in
+    let l = list_all (λ b. is_digit_of base b || (b == 95)) bs in
+    let rest : go_on base d bs ≡ (ends (is_digit_of base) (b ∷ bs) && l) = go_on_is base d bs ∙ ap (λ x. x && l) (sym (ends_is base b bs)) in
+    begun d u (ends (is_digit_of base) (b ∷ bs)) l ∙ ap (λ x. d && x) (sym rest) ∙ ap (λ x. x && go_on base d bs) (sym (or_false d u h))
+
+-- No digit is a `_`.
+pub space_first : (base : ℕ) (text : List ℕ) → begins (λ b. b == 95) text ≡ true → base ≤ 16 → are_spaced_digits base text ≡ false
+unfolding are_spaced_digits
+space_first base [] h l = absurd cc
+space_first base (b ∷ bs) h l =
+    let same : 95 ≡ b = sym (eqb-true b 95 h) in
+    let none : is_digit_of base 95 ≡ false = above 16 base l in
+    let no : is_digit_of base b ≡ false = subst (λ (x : ℕ). is_digit_of base x ≡ false) same none in
+    rw no refl
+
+-- a number grows with its digits
+pub grows : (base n : ℕ) (ds : List ℕ) → 1 ≤ base → n ≤ number_from base n ds
+grows base n [] h = omega arith
+grows base n (d ∷ ds) h =
+    let once : n ≤ n * base = le-mul_of_pos_right n (omega arith) in
+    let more : n * base + worth d ≤ number_from base (n * base + worth d) ds = grows base (n * base + worth d) ds h in
+    omega arith
 
 -- a value that one more digit makes too big
 pub int_too_big : (text : List ℕ) (n : ℕ) (rest : List ℕ) → number_from 10 0 text ≡ number_from 10 n rest → 1 ≤ length rest → 214748364 < n → int_of text ≡ None

@@ -1,7 +1,16 @@
 -- What the reader's methods do to the tokens that are left, and what the functions above them do as runs of the machine.
-use Rattle.std.specs.Prelude.{◌≡◌, ◌≢◌, ℕ, ◌<◌, length, List, [], ◌∷◌, Bool, true, false, Option, Some, None, option_to_list, Result, Ok, Err}
+use Rattle.std.specs.Prelude.{Vec, ◌≡◌, ◌≢◌, ℕ, ◌<◌, length, List, [], ◌∷◌, Bool, true, false, Option, Some, None, option_to_list, Result, Ok, Err}
 use Rattle.std.specs.Borrow.{Bor}
 use Rattle.xr_netlist_grammar.specs.Lexemes.{Lexeme, quoted, named, ending, Tok, tok, Words, is_fixed, name_of, symbols_of, head, before, fault_of}
+use Rattle.std.specs.declared.alloc.Global.{Global}
+use Rattle.xr_netlist_grammar.specs.Machine.State.{head_end, primitive_head_end, after_instance}
+use Rattle.xr_netlist_grammar.specs.Trees.{Under, under, with_item, instance_of, Within, within}
+use Rattle.xr_netlist_grammar.specs.declared.tree.Connections.{Connections}
+use Rattle.xr_netlist_grammar.specs.declared.tree.Item.{Item}
+use Rattle.xr_netlist_grammar.specs.declared.tree.PrimDeclare.{PrimDeclare}
+use Rattle.xr_netlist_grammar.specs.declared.tree.Source.{Source}
+use Rattle.xr_netlist.specs.declared.head.Head.{Head}
+use Rattle.xr_netlist.specs.declared.primitive.Pins.{Pins}
 use Rattle.xr_netlist_grammar.specs.Machine.{State, Next, on_one_byte, on_few_bytes, goes, Refuses}
 use Rattle.xr_netlist_grammar.specs.declared.fixed.Fixed.{Fixed}
 use Rattle.xr_netlist_grammar.specs.declared.fixed.Fixed.TheVariants as fixed
@@ -81,6 +90,30 @@ abbrev pub Reads : {X : Type 0} → State → Words → Result X ParseErr → (X
 Reads s old (Ok x) next new = goes s old ≡ goes (next x) new
 Reads s old (Err e) next new = Refuses (goes s old) e
 
+-- From a state of a module under way, what was read adds items and leads to the next state, whatever stands before.
+abbrev pub ReadsItems : {X : Type 0} → (Under → State) → Vec Item Global → Words → Result X ParseErr → (X → Under → State) → Vec Item Global → Words → Type 0
+ReadsItems from items old result to more new =
+    (b : Source) (n : Word) (ps : List Word) → Reads (from (under b n ps items.items)) old result (λ x. to x (under b n ps more.items)) new
+
+-- The same of a primitive under way and its declarations.
+abbrev pub ReadsPins : {X : Type 0} → (Within → State) → Vec PrimDeclare Global → Words → Result X ParseErr → (Within → State) → Vec PrimDeclare Global → Words → Type 0
+ReadsPins from pins old result to more new =
+    (b : Source) (n : Word) (ps : List Word) → Reads (from (within b n ps pins.items [])) old result (λ _. to (within b n ps more.items [])) new
+
+-- From a state behind the name of a module, what was read is its head.
+abbrev pub ReadsHead : (Source → Word → State) → Words → Result Head ParseErr → Words → Type 0
+ReadsHead from old result new = (b : Source) (n : Word) → Reads (from b n) old result (λ h. head_end (under b n h.ports.items h.items.items)) new
+
+-- From a state behind the name of a primitive, what was read are its ports and what the port list declares.
+abbrev pub ReadsPortList : (Source → Word → State) → Words → Result Pins ParseErr → Words → Type 0
+ReadsPortList from old result new =
+    (b : Source) (n : Word) → Reads (from b n) old result (λ p. primitive_head_end (within b n p.ports.items p.declarations.items [])) new
+
+-- From a state of an instance under way, what was read are its connections.
+abbrev pub ReadsConnections : (Under → Word → Option Word → State) → Words → Result Connections ParseErr → Words → Type 0
+ReadsConnections from old result new =
+    (u : Under) (d : Word) (n : Option Word) → Reads (from u d n) old result (λ cs. after_instance (with_item u (instance_of d n cs)) d) new
+
 abbrev pub Shortens : {X : Type 0} → Words → Result X ParseErr → Words → Type 0
 Shortens old (Ok x) new = length new.words < length old.words
 Shortens old (Err e) new = Unit {0}
@@ -98,3 +131,16 @@ pub record BeginsNone (what : Lexeme) : Type 0 where
   pub reg : is_fixed fixed.Reg what ≡ false
   pub assign : is_fixed fixed.Assign what ≡ false
   pub specify : is_fixed fixed.Specify what ≡ false
+
+-- no ')', and no direction
+abbrev pub BeginsNoPort : Lexeme → Type 0
+BeginsNoPort what = (is_fixed fixed.Close what ≡ false) × (is_fixed fixed.Input what ≡ false) × (is_fixed fixed.Output what ≡ false)
+
+abbrev pub BeginsNoDirection : Lexeme → Type 0
+BeginsNoDirection what = (is_fixed fixed.Input what ≡ false) × (is_fixed fixed.Output what ≡ false)
+
+pub record BeginsNoNet (what : Lexeme) : Type 0 where
+  pub wire : is_fixed fixed.Wire what ≡ false
+  pub tri : is_fixed fixed.Tri what ≡ false
+  pub supply0 : is_fixed fixed.Supply0 what ≡ false
+  pub supply1 : is_fixed fixed.Supply1 what ≡ false

@@ -1,15 +1,14 @@
 //! Gates, instances and assignments (IEEE 1364-2005, annexes A.3, A.4 and A.6.1).
 
 ghost use Rattle.std.specs.Prelude.{◌≡◌, ℕ, ◌++◌, ◌∷◌, [], List, Option, Some, None, option_map, IfOk, cond};
-ghost use Rattle.xr_netlist_grammar.specs.Machine.State.{gate_kind, gate_name, after_gate, expr_start, assign, definition as definition_of, instance_name, after_instance, connections as connections_of, connection as connection_of, connection_port, after_connection, in_items};
+ghost use Rattle.xr_netlist_grammar.specs.Machine.{State as spec};
 ghost use Rattle.xr_netlist_grammar.specs.Machine.Context.{terminal, left as left_of};
-ghost use Rattle.xr_netlist_grammar.specs.Trees.{Under, under, with_item, gate_of, instance_of};
+ghost use Rattle.xr_netlist_grammar.specs.Trees.{Under, with_item, gate_of, instance_of};
 ghost use Rattle.xr_netlist_grammar.specs.declared.tree.Connections.TheVariants.{Positional};
 ghost use Rattle.xr_netlist_grammar.specs.declared.tree.GateKind.{GateKind as gate_kinds};
 ghost use Rattle.xr_netlist_grammar.specs.declared.tree.NamedConnection.{NamedConnection as named_kind};
-ghost use Rattle.xr_netlist_grammar.specs.declared.tree.Source.{Source as source};
 ghost use Rattle.xr_netlist_grammar.specs.declared.tree.Word.{Word as word};
-ghost use Rattle.xr_netlist.specs.Reads.{Reads, Shortens};
+ghost use Rattle.xr_netlist.specs.Reads.{Reads, ReadsItems, ReadsConnections, Shortens};
 ghost use Rattle.xr_netlist.specs.Shown.{word_of_name};
 
 use crate::expression::expr;
@@ -31,7 +30,8 @@ pub fn gates(
     words: &mut Reader<'_>,
     items: &mut Vec<Item>,
 ) -> Result<(), ParseErr>
-    ensures reads { (b : source) (n : word) (ps : List word) → Reads (gate_kind (under b n ps items.old.items) kind at) words.old result (λ _. in_items (under b n ps items.new.items)) words.new }
+    ensures reads { ReadsItems (λ u. spec.gate_kind u kind at) items.old
+        words.old result (λ _. spec.in_items) items.new words.new }
     ensures shortens { Shortens words.old result words.new }
 {
     may_delay(words)?;
@@ -51,7 +51,8 @@ fn gate(
     words: &mut Reader<'_>,
     items: &mut Vec<Item>,
 ) -> Result<(), ParseErr>
-    ensures reads { (b : source) (n : word) (ps : List word) → Reads (gate_name (under b n ps items.old.items) kind at) words.old result (λ _. after_gate (under b n ps items.new.items) kind at) words.new }
+    ensures reads { ReadsItems (λ u. spec.gate_name u kind at) items.old
+        words.old result (λ _ u. spec.after_gate u kind at) items.new words.new }
     ensures shortens { Shortens words.old result words.new }
 {
     let _ = words.take_name();
@@ -67,7 +68,9 @@ fn gate(
 
 // expr { "," expr } ")"
 fn terminals(alloc: Global, words: &mut Reader<'_>) -> Result<Vec<Expr>, ParseErr>
-    ensures reads { (u : Under) (kind : gate_kinds) (at : ℕ) → Reads (expr_start (terminal u kind at [])) words.old result (λ es. after_gate (with_item u (gate_of kind at es.items)) kind at) words.new }
+    ensures reads { (u : Under) (kind : gate_kinds) (at : ℕ)
+        → Reads (spec.expr_start (terminal u kind at [])) words.old result
+        (λ es. spec.after_gate (with_item u (gate_of kind at es.items)) kind at) words.new }
     ensures shortens { Shortens words.old result words.new }
 {
     let mut list = Vec::new(alloc);
@@ -81,7 +84,7 @@ fn terminals(alloc: Global, words: &mut Reader<'_>) -> Result<Vec<Expr>, ParseEr
 
 // assigns = "assign" [ delay ] assign { "," assign } ";", behind its first word; assign = expr "=" expr
 pub fn assigns(alloc: Global, words: &mut Reader<'_>, items: &mut Vec<Item>) -> Result<(), ParseErr>
-    ensures reads { (b : source) (n : word) (ps : List word) → Reads (assign (under b n ps items.old.items)) words.old result (λ _. in_items (under b n ps items.new.items)) words.new }
+    ensures reads { ReadsItems spec.assign items.old words.old result (λ _. spec.in_items) items.new words.new }
     ensures shortens { Shortens words.old result words.new }
 {
     may_delay(words)?;
@@ -103,7 +106,8 @@ pub fn instances(
     words: &mut Reader<'_>,
     items: &mut Vec<Item>,
 ) -> Result<(), ParseErr>
-    ensures reads { (b : source) (n : word) (ps : List word) → Reads (definition_of (under b n ps items.old.items) (word_of_name definition.entry)) words.old result (λ _. in_items (under b n ps items.new.items)) words.new }
+    ensures reads { let d = word_of_name definition.entry in
+        ReadsItems (λ u. spec.definition u d) items.old words.old result (λ _. spec.in_items) items.new words.new }
     ensures shortens { Shortens words.old result words.new }
 {
     may_delay(words)?;
@@ -122,7 +126,9 @@ fn instance(
     words: &mut Reader<'_>,
     items: &mut Vec<Item>,
 ) -> Result<(), ParseErr>
-    ensures reads { (b : source) (n : word) (ps : List word) → Reads (instance_name (under b n ps items.old.items) (word_of_name definition.entry)) words.old result (λ _. after_instance (under b n ps items.new.items) (word_of_name definition.entry)) words.new }
+    ensures reads { let d = word_of_name definition.entry in
+        ReadsItems (λ u. spec.instance_name u d) items.old
+        words.old result (λ _ u. spec.after_instance u d) items.new words.new }
     ensures shortens { Shortens words.old result words.new }
 {
     let name = words.take_name();
@@ -148,7 +154,7 @@ fn may_word(alloc: Global, name: Option<Name<'_>>) -> Result<Option<Word>, Alloc
 // [ positional | named ] ")"
 #[tactic(auto, using(crate::proofs::Runs::positional_starts, crate::proofs::Runs::reads_on))]
 fn connections(alloc: Global, words: &mut Reader<'_>) -> Result<Connections, ParseErr>
-    ensures reads { (u : Under) (d : word) (n : Option word) → Reads (connections_of u d n) words.old result (λ cs. after_instance (with_item u (instance_of d n cs)) d) words.new }
+    ensures reads { ReadsConnections spec.connections words.old result words.new }
     ensures shortens { Shortens words.old result words.new }
 {
     if words.take(Fixed::Close) {
@@ -162,7 +168,7 @@ fn connections(alloc: Global, words: &mut Reader<'_>) -> Result<Connections, Par
 
 // positional = [ expr ] { "," [ expr ] }, up to its ")"
 fn positional(alloc: Global, words: &mut Reader<'_>) -> Result<Connections, ParseErr>
-    ensures reads { (u : Under) (d : word) (n : Option word) → Reads (connection_of u d n []) words.old result (λ cs. after_instance (with_item u (instance_of d n cs)) d) words.new }
+    ensures reads { ReadsConnections (λ u d n. spec.connection u d n []) words.old result words.new }
     ensures shortens { Shortens words.old result words.new }
 {
     let mut list = Vec::new(alloc);
@@ -178,7 +184,10 @@ fn connection(
     words: &mut Reader<'_>,
     list: &mut Vec<Connection>,
 ) -> Result<bool, ParseErr>
-    ensures reads { (u : Under) (d : word) (n : Option word) → Reads (connection_of u d n list.old.items) words.old result (λ more. cond more (connection_of u d n list.new.items) (after_instance (with_item u (instance_of d n (Positional list.new.items))) d)) words.new }
+    ensures reads { (u : Under) (d : word) (n : Option word)
+        → Reads (spec.connection u d n list.old.items) words.old result
+        (λ more. cond more (spec.connection u d n list.new.items)
+        (spec.after_instance (with_item u (instance_of d n (Positional list.new.items))) d)) words.new }
     ensures shortens { Shortens words.old result words.new }
 {
     let at = words.at();
@@ -200,7 +209,7 @@ fn connection(
 
 // named = connection { "," connection }, behind its first "." and up to its ")"
 fn named(alloc: Global, words: &mut Reader<'_>) -> Result<Connections, ParseErr>
-    ensures reads { (u : Under) (d : word) (n : Option word) → Reads (connection_port u d n []) words.old result (λ cs. after_instance (with_item u (instance_of d n cs)) d) words.new }
+    ensures reads { ReadsConnections (λ u d n. spec.connection_port u d n []) words.old result words.new }
     ensures shortens { Shortens words.old result words.new }
 {
     let mut list = Vec::new(alloc);
@@ -216,7 +225,9 @@ fn named(alloc: Global, words: &mut Reader<'_>) -> Result<Connections, ParseErr>
 // connection = "." name "(" [ expr ] ")", behind its "."
 #[tactic(auto, using(crate::proofs::Runs::named_starts))]
 fn named_connection(alloc: Global, words: &mut Reader<'_>) -> Result<NamedConnection, ParseErr>
-    ensures reads { (u : Under) (d : word) (n : Option word) (cs : List named_kind) → Reads (connection_port u d n cs) words.old result (λ c. after_connection u d n (cs ++ c ∷ [])) words.new }
+    ensures reads { (u : Under) (d : word) (n : Option word) (cs : List named_kind)
+        → Reads (spec.connection_port u d n cs)
+        words.old result (λ c. spec.after_connection u d n (cs ++ c ∷ [])) words.new }
     ensures shortens { Shortens words.old result words.new }
 {
     let port = words.word(alloc)?;

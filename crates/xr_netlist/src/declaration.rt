@@ -1,13 +1,11 @@
 //! Declarations (IEEE 1364-2005, annex A.2).
 
-ghost use Rattle.std.specs.Prelude.{◌≡◌, ◌≤◌, List, length, OnOk, None, Some, cond};
+ghost use Rattle.std.specs.Prelude.{◌≡◌, ◌≤◌, length, OnOk, None, Some, cond};
 ghost use Rattle.xr_netlist_grammar.specs.Machine.{Ranged, after_range};
-ghost use Rattle.xr_netlist_grammar.specs.Machine.State.{range_first, in_items, port_direction, port_word, direction as direction_of, declared_name, net_kind, net_name};
-ghost use Rattle.xr_netlist_grammar.specs.Trees.{Under, under, takes_value};
+ghost use Rattle.xr_netlist_grammar.specs.Machine.{State as spec};
+ghost use Rattle.xr_netlist_grammar.specs.Trees.{Under, takes_value};
 ghost use Rattle.xr_netlist_grammar.specs.declared.tree.NetKind.{NetKind as net_kinds};
-ghost use Rattle.xr_netlist_grammar.specs.declared.tree.Source.{Source as source};
-ghost use Rattle.xr_netlist_grammar.specs.declared.tree.Word.{Word as word};
-ghost use Rattle.xr_netlist.specs.Reads.{Reads, Shortens};
+ghost use Rattle.xr_netlist.specs.Reads.{Reads, ReadsItems, Shortens};
 
 use crate::expression::expr;
 use crate::reader::Reader;
@@ -17,7 +15,7 @@ use xr_netlist_grammar::{Declare, Fixed, Item, NetKind, ParseErr};
 
 // range = "[" int ":" int "]", behind its "["
 fn range(words: &mut Reader<'_>) -> Result<(u32, u32), ParseErr>
-    ensures reads { (k : Ranged) → Reads (range_first k) words.old result (λ r. after_range k (Some r)) words.new }
+    ensures reads { (k : Ranged) → Reads (spec.range_first k) words.old result (λ r. after_range k (Some r)) words.new }
     ensures shortens { Shortens words.old result words.new }
 {
     let first = words.int()?;
@@ -33,8 +31,10 @@ pub fn wire_range(
     words: &mut Reader<'_>,
     had: Option<(u32, u32)>,
 ) -> Result<Option<(u32, u32)>, ParseErr>
-    ensures port { (u : Under) (what : net_kinds) → Reads (port_direction u what had) words.old result (λ r. port_word u what r) words.new }
-    ensures declared { had ≡ None → (u : Under) (what : net_kinds) → Reads (direction_of u what) words.old result (λ r. declared_name u what r) words.new }
+    ensures port { (u : Under) (what : net_kinds)
+        → Reads (spec.port_direction u what had) words.old result (λ r. spec.port_word u what r) words.new }
+    ensures declared { had ≡ None → (u : Under) (what : net_kinds)
+        → Reads (spec.direction u what) words.old result (λ r. spec.declared_name u what r) words.new }
     ensures shortens { OnOk result (length words.new.words ≤ length words.old.words) }
 {
     let _ = words.take(Fixed::Wire);
@@ -52,7 +52,8 @@ pub fn directed(
     words: &mut Reader<'_>,
     items: &mut Vec<Item>,
 ) -> Result<(), ParseErr>
-    ensures reads { (b : source) (n : word) (ps : List word) → Reads (direction_of (under b n ps items.old.items) what) words.old result (λ _. in_items (under b n ps items.new.items)) words.new }
+    ensures reads { ReadsItems (λ u. spec.direction u what) items.old
+        words.old result (λ _. spec.in_items) items.new words.new }
     ensures shortens { Shortens words.old result words.new }
 {
     let range = wire_range(words, None)?;
@@ -68,7 +69,8 @@ pub fn names(
     words: &mut Reader<'_>,
     items: &mut Vec<Item>,
 ) -> Result<(), ParseErr>
-    ensures reads { (b : source) (n : word) (ps : List word) → Reads (declared_name (under b n ps items.old.items) what range) words.old result (λ _. in_items (under b n ps items.new.items)) words.new }
+    ensures reads { ReadsItems (λ u. spec.declared_name u what range) items.old
+        words.old result (λ _. spec.in_items) items.new words.new }
     ensures shortens { Shortens words.old result words.new }
 {
     'names: loop {
@@ -92,7 +94,8 @@ pub fn nets(
     words: &mut Reader<'_>,
     items: &mut Vec<Item>,
 ) -> Result<(), ParseErr>
-    ensures reads { (b : source) (n : word) (ps : List word) → Reads (net_kind (under b n ps items.old.items) what) words.old result (λ _. in_items (under b n ps items.new.items)) words.new }
+    ensures reads { ReadsItems (λ u. spec.net_kind u what) items.old
+        words.old result (λ _. spec.in_items) items.new words.new }
     ensures shortens { Shortens words.old result words.new }
 {
     let range = net_range(words)?;
@@ -106,7 +109,8 @@ pub fn nets(
 // [ range ] [ delay ]
 #[tactic(auto, using(crate::proofs::Runs::net_no_range))]
 fn net_range(words: &mut Reader<'_>) -> Result<Option<(u32, u32)>, ParseErr>
-    ensures reads { (u : Under) (what : net_kinds) → Reads (net_kind u what) words.old result (λ r. net_name u what r) words.new }
+    ensures reads { (u : Under) (what : net_kinds)
+        → Reads (spec.net_kind u what) words.old result (λ r. spec.net_name u what r) words.new }
     ensures shortens { OnOk result (length words.new.words ≤ length words.old.words) }
 {
     let mut bits = None;
@@ -126,7 +130,8 @@ fn net(
     words: &mut Reader<'_>,
     items: &mut Vec<Item>,
 ) -> Result<bool, ParseErr>
-    ensures reads { (b : source) (n : word) (ps : List word) → Reads (net_name (under b n ps items.old.items) what range) words.old result (λ more. cond more (net_name (under b n ps items.new.items) what range) (in_items (under b n ps items.new.items))) words.new }
+    ensures reads { ReadsItems (λ u. spec.net_name u what range) items.old words.old result
+        (λ more u. cond more (spec.net_name u what range) (spec.in_items u)) items.new words.new }
     ensures shortens { Shortens words.old result words.new }
 {
     let name = words.word(alloc)?;

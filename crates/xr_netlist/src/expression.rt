@@ -3,7 +3,7 @@
 ghost use Rattle.std.specs.Prelude.{◌≡◌, ℕ, List, ◌++◌, ◌∷◌, [], ◌≤◌, length, OnOk, false};
 ghost use Rattle.xr_netlist_grammar.specs.Lexemes.{head, is_fixed};
 ghost use Rattle.xr_netlist_grammar.specs.Machine.{Context};
-ghost use Rattle.xr_netlist_grammar.specs.Machine.State.{expr_start, expr as in_expr, after_part_name, after_part};
+ghost use Rattle.xr_netlist_grammar.specs.Machine.{State as spec};
 ghost use Rattle.xr_netlist_grammar.specs.declared.fixed.Fixed.TheVariants as fixed;
 ghost use Rattle.xr_netlist_grammar.specs.declared.tree.Part.{Part as part_of};
 ghost use Rattle.xr_netlist.specs.Reads.{Reads, Shortens};
@@ -15,7 +15,8 @@ use xr_netlist_grammar::{Expr, Fixed, ParseErr, Part, PartKind, Word};
 
 // expr = name | name "[" int "]" | name "[" int ":" int "]" | literal | "{" expr { "," expr } "}"
 pub fn expr(alloc: Global, words: &mut Reader<'_>) -> Result<Expr, ParseErr>
-    ensures reads { (k : Context) → Reads (expr_start k) words.old result (λ e. after_part k e.at 0 e.parts) words.new }
+    ensures reads { (k : Context) → Reads (spec.expr_start k)
+        words.old result (λ e. spec.after_part k e.at 0 e.parts) words.new }
     ensures shortens { Shortens words.old result words.new }
 {
     let at = words.at();
@@ -43,7 +44,8 @@ pub fn expr(alloc: Global, words: &mut Reader<'_>) -> Result<Expr, ParseErr>
 // part = name | name "[" int "]" | name "[" int ":" int "]" | literal
 fn part(alloc: Global, words: &mut Reader<'_>) -> Result<Part, ParseErr>
     requires { is_fixed fixed.BraceOpen (head words.old).what ≡ false }
-    ensures reads { (k : Context) (at d : ℕ) (ps : List part_of) → Reads (in_expr k at d ps) words.old result (λ p. after_part k at d (ps ++ p ∷ [])) words.new }
+    ensures reads { (k : Context) (at d : ℕ) (ps : List part_of)
+        → Reads (spec.expr k at d ps) words.old result (λ p. spec.after_part k at d (ps ++ p ∷ [])) words.new }
     ensures shortens { Shortens words.old result words.new }
 {
     let at = words.at();
@@ -60,7 +62,9 @@ fn part(alloc: Global, words: &mut Reader<'_>) -> Result<Part, ParseErr>
 
 // [ "[" int [ ":" int ] "]" ]
 fn select(name: Word, words: &mut Reader<'_>) -> Result<PartKind, ParseErr>
-    ensures reads { (k : Context) (at d : ℕ) (ps : List part_of) → Reads (after_part_name k at d ps name) words.old result (λ what. after_part k at d (ps ++ record { at = name.at; what = what } ∷ [])) words.new }
+    ensures reads { (k : Context) (at d : ℕ) (ps : List part_of)
+        → Reads (spec.after_part_name k at d ps name) words.old result
+        (λ what. spec.after_part k at d (ps ++ record { at = name.at; what = what } ∷ [])) words.new }
     ensures shortens { OnOk result (length words.new.words ≤ length words.old.words) }
 {
     if !words.take(Fixed::SquareOpen) {

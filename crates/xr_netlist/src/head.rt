@@ -1,14 +1,13 @@
 //! The head of a module (IEEE 1364-2005, annex A.1.3).
 
-ghost use Rattle.std.specs.Prelude.{◌≡◌, ◌≤◌, [], length, OnOk, None, false};
-ghost use Rattle.xr_netlist_grammar.specs.Lexemes.{head as head_of, is_fixed};
+ghost use Rattle.std.specs.Prelude.{◌≡◌, ◌≤◌, [], length, OnOk, None};
+ghost use Rattle.xr_netlist_grammar.specs.Lexemes.{head as head_of};
 ghost use Rattle.xr_netlist_grammar.specs.Machine.{goes};
-ghost use Rattle.xr_netlist_grammar.specs.Machine.State.{after_name, head_end, first_port, port_direction, port_word, after_declared_port, declared_port};
-ghost use Rattle.xr_netlist_grammar.specs.declared.fixed.Fixed.TheVariants as fixed;
+ghost use Rattle.xr_netlist_grammar.specs.Machine.{State as spec};
 ghost use Rattle.xr_netlist_grammar.specs.Trees.{Under, under};
 ghost use Rattle.xr_netlist_grammar.specs.declared.tree.Source.{Source as source};
 ghost use Rattle.xr_netlist_grammar.specs.declared.tree.Word.{Word as word};
-ghost use Rattle.xr_netlist.specs.Reads.{Reads, Shortens};
+ghost use Rattle.xr_netlist.specs.Reads.{Reads, ReadsHead, BeginsNoPort, Shortens};
 
 use crate::declaration::wire_range;
 use crate::reader::Reader;
@@ -32,7 +31,7 @@ pub struct Direction {
 // head = [ "(" [ ports ] ")" ]
 #[tactic(auto, using(crate::proofs::Runs::no_ports))]
 pub fn module_head(alloc: Global, words: &mut Reader<'_>) -> Result<Head, ParseErr>
-    ensures reads { (b : source) (n : word) → Reads (after_name b n) words.old result (λ h. head_end (under b n h.ports.items h.items.items)) words.new }
+    ensures reads { ReadsHead spec.after_name words.old result words.new }
     ensures shortens { OnOk result (length words.new.words ≤ length words.old.words) }
 {
     if !words.take(Fixed::Open) || words.take(Fixed::Close) {
@@ -53,8 +52,8 @@ pub fn module_head(alloc: Global, words: &mut Reader<'_>) -> Result<Head, ParseE
 // name { "," name } ")"
 #[tactic(auto, using(crate::proofs::Runs::plain_port))]
 fn plain_ports(alloc: Global, words: &mut Reader<'_>) -> Result<Head, ParseErr>
-    requires { (is_fixed fixed.Close (head_of words.old).what ≡ false) × (is_fixed fixed.Input (head_of words.old).what ≡ false) × (is_fixed fixed.Output (head_of words.old).what ≡ false) }
-    ensures reads { (b : source) (n : word) → Reads (first_port b n) words.old result (λ h. head_end (under b n h.ports.items h.items.items)) words.new }
+    requires { BeginsNoPort (head_of words.old).what }
+    ensures reads { ReadsHead spec.first_port words.old result words.new }
     ensures shortens { Shortens words.old result words.new }
 {
     let mut ports = Vec::new(alloc);
@@ -71,7 +70,7 @@ fn plain_ports(alloc: Global, words: &mut Reader<'_>) -> Result<Head, ParseErr>
 
 // port { "," port } ")", behind its first direction
 fn declared_ports(alloc: Global, what: NetKind, words: &mut Reader<'_>) -> Result<Head, ParseErr>
-    ensures reads { (b : source) (n : word) → Reads (port_direction (under b n [] []) what None) words.old result (λ h. head_end (under b n h.ports.items h.items.items)) words.new }
+    ensures reads { ReadsHead (λ b n. spec.port_direction (under b n [] []) what None) words.old result words.new }
     ensures shortens { Shortens words.old result words.new }
 {
     let mut head = Head {
@@ -97,7 +96,11 @@ fn port(
     ports: &mut Vec<Word>,
     items: &mut Vec<Item>,
 ) -> Result<(), ParseErr>
-    ensures reads { (b : source) (n : word) → Reads (port_word (under b n ports.old.items items.old.items) direction.what direction.range) words.old result (λ _. after_declared_port (under b n ports.new.items items.new.items) direction.what direction.range) words.new }
+    ensures reads { (b : source) (n : word)
+        → Reads (spec.port_word (under b n ports.old.items items.old.items) direction.what direction.range)
+        words.old result
+        (λ _. spec.after_declared_port (under b n ports.new.items items.new.items) direction.what
+        direction.range) words.new }
     ensures shortens { Shortens words.old result words.new }
 {
     let name = words.name()?;
@@ -114,7 +117,9 @@ fn port(
 /// The direction of a port, which is that of the port before where none stands here.
 #[tactic(auto, using(crate::proofs::Runs::undirected))]
 fn next_direction(words: &mut Reader<'_>, had: Direction) -> Direction
-    ensures reads { (u : Under) → goes (declared_port u had.what had.range) words.old ≡ goes (port_direction u result.what result.range) words.new }
+    ensures reads { (u : Under)
+        → goes (spec.declared_port u had.what had.range) words.old
+        ≡ goes (spec.port_direction u result.what result.range) words.new }
     ensures shortens { length words.new.words ≤ length words.old.words }
 {
     if words.take(Fixed::Input) {

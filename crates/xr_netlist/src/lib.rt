@@ -5,6 +5,7 @@ mod cell;
 mod declaration;
 mod expression;
 mod head;
+mod keyword;
 mod lexeme;
 mod module;
 mod number;
@@ -12,11 +13,12 @@ mod primitive;
 mod reader;
 mod skip;
 mod table;
+mod table_symbol;
 mod text;
 
 pub use text::parse;
 pub use xr_netlist_grammar::{
     Connection, Connections, Declare, Expr, GateItem, GateKind, InstanceItem, Item, Module,
-    NamedConnection, NetKind, ParseErr, Part, PartKind, PrimDeclare, PrimKind, Primitive, Source,
-    Word,
+    NamedConnection, NetKind, NetlistFault, ParseErr, Part, PartKind, PrimDeclare, PrimKind,
+    Primitive, Source, Word,
 };

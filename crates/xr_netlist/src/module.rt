@@ -1,14 +1,13 @@
 //! Modules and their items (IEEE 1364-2005, annex A.1).
 
-ghost use Rattle.std.specs.Prelude.{◌≡◌, ◌<◌, List, length, false, IfSome, IfNone};
+ghost use Rattle.std.specs.Prelude.{◌≡◌, ◌<◌, length, false, IfSome, IfNone};
 ghost use Rattle.xr_netlist_grammar.specs.Lexemes.{head, is_fixed};
 ghost use Rattle.xr_netlist_grammar.specs.Machine.{goes};
-ghost use Rattle.xr_netlist_grammar.specs.Machine.State.{module_name, in_items, direction, net_kind, top};
-ghost use Rattle.xr_netlist_grammar.specs.Trees.{Under, under, closed, joined, one_module};
+ghost use Rattle.xr_netlist_grammar.specs.Machine.{State as spec};
+ghost use Rattle.xr_netlist_grammar.specs.Trees.{Under, closed, joined, one_module};
 ghost use Rattle.xr_netlist_grammar.specs.declared.fixed.Fixed.TheVariants as fixed;
 ghost use Rattle.xr_netlist_grammar.specs.declared.tree.Source.{Source as source};
-ghost use Rattle.xr_netlist_grammar.specs.declared.tree.Word.{Word as word};
-ghost use Rattle.xr_netlist.specs.Reads.{Reads, Shortens, BeginsNone};
+ghost use Rattle.xr_netlist.specs.Reads.{Reads, ReadsItems, Shortens, BeginsNone, BeginsNoDirection, BeginsNoNet};
 
 use crate::cell::{assigns, gates, instances};
 use crate::declaration::{directed, names, nets};
@@ -21,7 +20,8 @@ use xr_netlist_grammar::{Fixed, Item, Module, NetKind, ParseErr};
 
 // module = "module" name head ";" { item } "endmodule", behind its first word
 pub fn module(alloc: Global, words: &mut Reader<'_>) -> Result<Module, ParseErr>
-    ensures reads { (b : source) → Reads (module_name b) words.old result (λ m. top (joined b (one_module m))) words.new }
+    ensures reads { (b : source) → Reads (spec.module_name b)
+        words.old result (λ m. spec.top (joined b (one_module m))) words.new }
     ensures shortens { Shortens words.old result words.new }
 {
     let name = words.name()?;
@@ -37,7 +37,8 @@ pub fn module(alloc: Global, words: &mut Reader<'_>) -> Result<Module, ParseErr>
 
 // { item } "endmodule"
 fn fill(alloc: Global, words: &mut Reader<'_>, items: &mut Vec<Item>) -> Result<(), ParseErr>
-    ensures reads { (b : source) (n : word) (ps : List word) → Reads (in_items (under b n ps items.old.items)) words.old result (λ _. top (closed (under b n ps items.new.items))) words.new }
+    ensures reads { ReadsItems spec.in_items items.old
+        words.old result (λ _ u. spec.top (closed u)) items.new words.new }
     ensures shortens { Shortens words.old result words.new }
 {
     'items: while !words.take(Fixed::Endmodule) {
@@ -49,7 +50,7 @@ fn fill(alloc: Global, words: &mut Reader<'_>, items: &mut Vec<Item>) -> Result<
 // item = attribute | directed | nets | "reg" names | gates | instances | assigns | specify
 fn item(alloc: Global, words: &mut Reader<'_>, items: &mut Vec<Item>) -> Result<(), ParseErr>
     requires { is_fixed fixed.Endmodule (head words.old).what ≡ false }
-    ensures reads { (b : source) (n : word) (ps : List word) → Reads (in_items (under b n ps items.old.items)) words.old result (λ _. in_items (under b n ps items.new.items)) words.new }
+    ensures reads { ReadsItems spec.in_items items.old words.old result (λ _. spec.in_items) items.new words.new }
     ensures shortens { Shortens words.old result words.new }
 {
     if words.take(Fixed::Open) {
@@ -72,9 +73,10 @@ fn item(alloc: Global, words: &mut Reader<'_>, items: &mut Vec<Item>) -> Result<
 
 // dir = "input" | "output"
 fn take_direction(words: &mut Reader<'_>) -> Option<NetKind>
-    ensures begins { IfSome result (λ what. (u : Under) → goes (in_items u) words.old ≡ goes (direction u what) words.new) }
+    ensures begins { IfSome result (λ what. (u : Under)
+        → goes (spec.in_items u) words.old ≡ goes (spec.direction u what) words.new) }
     ensures shortens { IfSome result (λ _. length words.new.words < length words.old.words) }
-    ensures none { IfNone result ((words.new ≡ words.old) × (is_fixed fixed.Input (head words.old).what ≡ false) × (is_fixed fixed.Output (head words.old).what ≡ false)) }
+    ensures none { IfNone result ((words.new ≡ words.old) × BeginsNoDirection (head words.old).what) }
 {
     if words.take(Fixed::Input) {
         Some(NetKind::Input)
@@ -87,9 +89,10 @@ fn take_direction(words: &mut Reader<'_>) -> Option<NetKind>
 
 // net = "wire" | "tri" | "supply0" | "supply1"
 fn take_net(words: &mut Reader<'_>) -> Option<NetKind>
-    ensures begins { IfSome result (λ what. (u : Under) → goes (in_items u) words.old ≡ goes (net_kind u what) words.new) }
+    ensures begins { IfSome result (λ what. (u : Under)
+        → goes (spec.in_items u) words.old ≡ goes (spec.net_kind u what) words.new) }
     ensures shortens { IfSome result (λ _. length words.new.words < length words.old.words) }
-    ensures none { IfNone result ((words.new ≡ words.old) × (is_fixed fixed.Wire (head words.old).what ≡ false) × (is_fixed fixed.Tri (head words.old).what ≡ false) × (is_fixed fixed.Supply0 (head words.old).what ≡ false) × (is_fixed fixed.Supply1 (head words.old).what ≡ false)) }
+    ensures none { IfNone result ((words.new ≡ words.old) × BeginsNoNet (head words.old).what) }
 {
     if words.take(Fixed::Wire) || words.take(Fixed::Tri) {
         Some(NetKind::Wire)
@@ -106,7 +109,7 @@ fn take_net(words: &mut Reader<'_>) -> Option<NetKind>
 #[tactic(auto, using(crate::proofs::Runs::left_out))]
 fn cell(alloc: Global, words: &mut Reader<'_>, items: &mut Vec<Item>) -> Result<(), ParseErr>
     requires { BeginsNone (head words.old).what }
-    ensures reads { (b : source) (n : word) (ps : List word) → Reads (in_items (under b n ps items.old.items)) words.old result (λ _. in_items (under b n ps items.new.items)) words.new }
+    ensures reads { ReadsItems spec.in_items items.old words.old result (λ _. spec.in_items) items.new words.new }
     ensures shortens { Shortens words.old result words.new }
 {
     let at = words.at();

@@ -1,16 +1,17 @@
 //! Numbers of the grammar (IEEE 1364-2005, clause 3.5).
 
-ghost use Rattle.std.specs.Prelude.{◌≡◌, ◌≤◌, ◌<◌, ◌^◌, ◌*◌, ◌+◌, ◌&&◌, ◌==◌, IfSome, nat_lt, nat_le, length, take_while, Option, Some, None, if◌then◌else◌};
+ghost use Rattle.std.specs.Prelude.{◌≡◌, ◌==◌, ◌≤◌, ◌<◌, ◌^◌, ◌*◌, ◌+◌, IfSome, nat_lt, length, take_while, Some};
 ghost use Rattle.std.specs.Option.{SomeIff};
-ghost use Rattle.xr_netlist_grammar.specs.Bytes.{is_digit as spec_is_digit, worth as spec_worth, are_digits, number_from};
-ghost use Rattle.xr_netlist_grammar.specs.Numbers.{int_of, bit_of, literal_of, literal_behind, literal_in, base_of, are_spaced_digits, spaced_number};
+ghost use Rattle.xr_netlist_grammar.specs.Bytes as bytes;
+ghost use Rattle.xr_netlist_grammar.specs.Numbers as spec;
+ghost use Rattle.xr_netlist.specs.Sizes.{size_in, narrow_number};
 
 use xr_cell::Value;
 
 /// An int: digits, at most 2^31 - 1.
 #[tactic(auto, unfolding(xr_netlist_grammar::specs::Numbers::int_of))]
 pub fn int_of(text: &[u8]) -> Option<u32>
-    ensures { result ≡ int_of text.now }
+    ensures { result ≡ spec.int_of text.now }
 {
     if text.is_empty() {
         return None;
@@ -37,7 +38,7 @@ pub fn int_of(text: &[u8]) -> Option<u32>
 /// A bit, by one of five spellings.
 #[tactic(auto, unfolding(xr_netlist_grammar::specs::Numbers::bit_of))]
 pub fn bit_of(text: &[u8]) -> Option<Value>
-    ensures { result ≡ bit_of text.now }
+    ensures { result ≡ spec.bit_of text.now }
 {
     if text == b"1'b0".as_slice() || text == b"0".as_slice() {
         Some(Value::Zero)
@@ -53,7 +54,7 @@ pub fn bit_of(text: &[u8]) -> Option<Value>
 /// A literal, by its size in bits and its value.
 #[tactic(auto, unfolding(xr_netlist_grammar::specs::Numbers::literal_of))]
 pub fn literal_of(text: &[u8]) -> Option<(u32, u128)>
-    ensures { result ≡ literal_of text.now }
+    ensures { result ≡ spec.literal_of text.now }
 {
     let size = leading_digits(text);
     literal_behind(size, &text[size.len()..])
@@ -61,7 +62,7 @@ pub fn literal_of(text: &[u8]) -> Option<(u32, u128)>
 
 /// A literal, by its size and what stands behind the size.
 fn literal_behind(size: &[u8], rest: &[u8]) -> Option<(u32, u128)>
-    ensures { result ≡ literal_behind size.now rest.now }
+    ensures { result ≡ spec.literal_behind size.now rest.now }
 {
     let [quote, letter, digits @ ..] = rest else {
         return None;
@@ -72,7 +73,7 @@ fn literal_behind(size: &[u8], rest: &[u8]) -> Option<(u32, u128)>
 }
 
 fn leading_digits(text: &[u8]) -> &[u8]
-    ensures digits { result.now ≡ take_while spec_is_digit text.now }
+    ensures digits { result.now ≡ take_while bytes.is_digit text.now }
     ensures fits { length result.now ≤ length text.now }
 {
     let mut rest = text;
@@ -88,7 +89,7 @@ fn leading_digits(text: &[u8]) -> &[u8]
 /// The size of a literal, 1 to 128, where a quotation mark stands behind it.
 #[tactic(auto, unfolding(xr_netlist_grammar::specs::Numbers::int_of))]
 fn size_of(text: &[u8], quote: u8) -> Option<u32>
-    ensures size { result ≡ (if are_digits text.now && (quote == 39) && nat_le 1 (number_from 10 0 text.now) && nat_le (number_from 10 0 text.now) 128 then Some (number_from 10 0 text.now) else None) }
+    ensures size { result ≡ size_in text.now quote }
     ensures bounds { IfSome result (λ n. (1 ≤ n) × (n ≤ 128)) }
 {
     if quote != b'\'' {
@@ -104,7 +105,7 @@ fn size_of(text: &[u8], quote: u8) -> Option<u32>
 
 /// The base that a letter stands for.
 fn base_of(letter: u8) -> Option<u8>
-    ensures { result ≡ base_of letter }
+    ensures { result ≡ spec.base_of letter }
 {
     match letter {
         b'b' | b'B' => Some(2),
@@ -119,7 +120,7 @@ fn base_of(letter: u8) -> Option<u8>
 fn value_in(size: u32, base: u8, digits: &[u8]) -> Option<(u32, u128)>
     requires size { (1 ≤ size) × (size ≤ 128) }
     requires base { (2 ≤ base) × (base ≤ 16) }
-    ensures { result ≡ literal_in size digits.now (Some base) }
+    ensures { result ≡ spec.literal_in size digits.now (Some base) }
 {
     let value = spaced_value(base, digits)?;
     if fits(value, size) {
@@ -137,12 +138,23 @@ fn fits(number: u128, size: u32) -> bool
     size == 128 || number >> size == 0
 }
 
+/// Whether a `_` stands first.
+fn begins_low(text: &[u8]) -> bool
+    ensures { result ≡ spec.begins (λ b. b == 95) text.now }
+{
+    match text {
+        [byte, ..] => *byte == b'_',
+        [] => false,
+    }
+}
+
 /// The number that digits of a base give, with `_` between, where it is below 2^128.
+#[tactic(auto, using(crate::proofs::Numbers::spaced_starts, crate::proofs::Numbers::space_first))]
 fn spaced_value(base: u8, text: &[u8]) -> Option<u128>
     requires { (2 ≤ base) × (base ≤ 16) }
-    ensures { result ≡ (if are_spaced_digits base text.now && nat_lt (spaced_number base text.now) (2 ^ 128) then Some (spaced_number base text.now) else None) }
+    ensures { result ≡ narrow_number base text.now }
 {
-    if let [b'_', ..] = text {
+    if begins_low(text) {
         return None;
     }
     let mut rest = text;
@@ -171,14 +183,14 @@ fn with_digit(number: u128, base: u8, digit: u8) -> Option<u128>
 }
 
 fn is_digit(b: u8) -> bool
-    ensures { result ≡ spec_is_digit b }
+    ensures { result ≡ bytes.is_digit b }
 {
     b'0' <= b && b <= b'9'
 }
 
 /// What a byte is worth as a digit, 16 where it is none.
 fn worth(b: u8) -> u8
-    ensures { result ≡ spec_worth b }
+    ensures { result ≡ bytes.worth b }
 {
     if is_digit(b) {
         b - b'0'

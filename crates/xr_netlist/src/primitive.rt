@@ -1,14 +1,15 @@
 //! User-defined primitives (IEEE 1364-2005, clause 8 and annex A.5).
 
-ghost use Rattle.std.specs.Prelude.{◌≡◌, ◌≤◌, [], ◌∷◌, ◌++◌, List, false, length, OnOk};
+ghost use Rattle.std.specs.Prelude.{◌≡◌, ◌≤◌, [], ◌∷◌, ◌++◌, false, length, OnOk};
 ghost use Rattle.xr_netlist_grammar.specs.Lexemes.{head, is_fixed};
 ghost use Rattle.xr_netlist_grammar.specs.Machine.{goes};
-ghost use Rattle.xr_netlist_grammar.specs.Machine.State.{primitive_name, first_pin, output_pin as output_start, output_declared, after_output, first_input, input_name, input_pin, after_input, primitive_head_end, in_primitive, reg_declared, input_declared, initial_declared, declared_semi, first_row, top};
-ghost use Rattle.xr_netlist_grammar.specs.Trees.{Within, within, prim_declare, is_sequential as has_reg, joined, one_primitive};
+ghost use Rattle.xr_netlist_grammar.specs.Machine.{State as spec};
+ghost use Rattle.xr_netlist_grammar.specs.Trees.{Within, within, prim_declare, is_sequential as has_reg};
+ghost use Rattle.xr_netlist_grammar.specs.Trees.{joined, one_primitive};
 ghost use Rattle.xr_netlist_grammar.specs.declared.fixed.Fixed.TheVariants as fixed;
 ghost use Rattle.xr_netlist_grammar.specs.declared.tree.Source.{Source as source};
 ghost use Rattle.xr_netlist_grammar.specs.declared.tree.Word.{Word as word};
-ghost use Rattle.xr_netlist.specs.Reads.{Reads, Shortens};
+ghost use Rattle.xr_netlist.specs.Reads.{Reads, ReadsPins, ReadsPortList, Shortens};
 ghost use Rattle.xr_netlist.specs.Shown.{word_of_name};
 
 use crate::lexeme::Name;
@@ -27,7 +28,8 @@ struct Pins {
 
 // primitive = "primitive" name "(" pins ")" ";" { declaration } "table" rows "endprimitive", behind its first word
 pub fn primitive(alloc: Global, words: &mut Reader<'_>) -> Result<Primitive, ParseErr>
-    ensures reads { (b : source) → Reads (primitive_name b) words.old result (λ p. top (joined b (one_primitive p))) words.new }
+    ensures reads { (b : source) → Reads (spec.primitive_name b)
+        words.old result (λ p. spec.top (joined b (one_primitive p))) words.new }
     ensures shortens { Shortens words.old result words.new }
 {
     let name = words.name()?;
@@ -53,7 +55,8 @@ fn declare_all(
     words: &mut Reader<'_>,
     declarations: &mut Vec<PrimDeclare>,
 ) -> Result<(), ParseErr>
-    ensures reads { (b : source) (n : word) (ps : List word) → Reads (primitive_head_end (within b n ps declarations.old.items [])) words.old result (λ _. first_row (within b n ps declarations.new.items [])) words.new }
+    ensures reads { ReadsPins spec.primitive_head_end declarations.old
+        words.old result spec.first_row declarations.new words.new }
     ensures shortens { Shortens words.old result words.new }
 {
     words.expect(Fixed::Semi)?;
@@ -73,7 +76,7 @@ fn is_sequential(declarations: &[PrimDeclare]) -> bool
 
 // pins = name { "," name } | declared_pins, up to their ")"
 fn port_list(alloc: Global, words: &mut Reader<'_>) -> Result<Pins, ParseErr>
-    ensures reads { (b : source) (n : word) → Reads (first_pin b n) words.old result (λ p. primitive_head_end (within b n p.ports.items p.declarations.items [])) words.new }
+    ensures reads { ReadsPortList spec.first_pin words.old result words.new }
     ensures shortens { Shortens words.old result words.new }
 {
     if words.take(Fixed::Output) {
@@ -86,7 +89,7 @@ fn port_list(alloc: Global, words: &mut Reader<'_>) -> Result<Pins, ParseErr>
 #[tactic(auto, using(crate::proofs::Runs::plain_pin))]
 fn plain_pins(alloc: Global, words: &mut Reader<'_>) -> Result<Pins, ParseErr>
     requires { is_fixed fixed.Output (head words.old).what ≡ false }
-    ensures reads { (b : source) (n : word) → Reads (first_pin b n) words.old result (λ p. primitive_head_end (within b n p.ports.items p.declarations.items [])) words.new }
+    ensures reads { ReadsPortList spec.first_pin words.old result words.new }
     ensures shortens { Shortens words.old result words.new }
 {
     let mut ports = Vec::new(alloc);
@@ -103,7 +106,7 @@ fn plain_pins(alloc: Global, words: &mut Reader<'_>) -> Result<Pins, ParseErr>
 
 // declared_pins = "output" output "," "input" name { "," [ "input" ] name }, behind its first word
 fn declared_pins(alloc: Global, words: &mut Reader<'_>) -> Result<Pins, ParseErr>
-    ensures reads { (b : source) (n : word) → Reads (output_start b n) words.old result (λ p. primitive_head_end (within b n p.ports.items p.declarations.items [])) words.new }
+    ensures reads { ReadsPortList spec.output_pin words.old result words.new }
     ensures shortens { Shortens words.old result words.new }
 {
     let mut declarations = Vec::new(alloc);
@@ -122,7 +125,9 @@ fn output_pin(
     declarations: &mut Vec<PrimDeclare>,
 ) -> Result<Vec<Word>, ParseErr>
     requires { declarations.old.items ≡ [] }
-    ensures reads { (b : source) (n : word) → Reads (output_start b n) words.old result (λ ps. first_input (within b n ps.items declarations.new.items [])) words.new }
+    ensures reads { (b : source) (n : word)
+        → Reads (spec.output_pin b n) words.old result
+        (λ ps. spec.first_input (within b n ps.items declarations.new.items [])) words.new }
     ensures shortens { Shortens words.old result words.new }
 {
     let name = output(alloc, words, declarations)?;
@@ -139,7 +144,9 @@ fn input_pins(
     ports: &mut Vec<Word>,
     declarations: &mut Vec<PrimDeclare>,
 ) -> Result<(), ParseErr>
-    ensures reads { (b : source) (n : word) → Reads (first_input (within b n ports.old.items declarations.old.items [])) words.old result (λ _. primitive_head_end (within b n ports.new.items declarations.new.items [])) words.new }
+    ensures reads { (b : source) (n : word)
+        → Reads (spec.first_input (within b n ports.old.items declarations.old.items [])) words.old result
+        (λ _. spec.primitive_head_end (within b n ports.new.items declarations.new.items [])) words.new }
     ensures shortens { Shortens words.old result words.new }
 {
     words.expect(Fixed::Input)?;
@@ -157,7 +164,7 @@ fn input_pins(
 // [ "input" ]
 #[tactic(auto, using(crate::proofs::Runs::undirected_input))]
 fn may_input(words: &mut Reader<'_>)
-    ensures reads { (p : Within) → goes (input_pin p) words.old ≡ goes (input_name p) words.new }
+    ensures reads { (p : Within) → goes (spec.input_pin p) words.old ≡ goes (spec.input_name p) words.new }
     ensures shortens { length words.new.words ≤ length words.old.words }
 {
     let _ = words.take(Fixed::Input);
@@ -169,8 +176,12 @@ fn output<'a>(
     words: &mut Reader<'a>,
     declarations: &mut Vec<PrimDeclare>,
 ) -> Result<Name<'a>, ParseErr>
-    ensures pin { declarations.old.items ≡ [] → (b : source) (n : word) → Reads (output_start b n) words.old result (λ w. after_output (within b n (word_of_name w ∷ []) declarations.new.items []) (word_of_name w)) words.new }
-    ensures declared { (b : source) (n : word) (ps : List word) → Reads (output_declared (within b n ps declarations.old.items [])) words.old result (λ _. declared_semi (within b n ps declarations.new.items [])) words.new }
+    ensures pin { declarations.old.items ≡ [] → (b : source) (n : word)
+        → Reads (spec.output_pin b n) words.old result
+        (λ w. spec.after_output (within b n (word_of_name w ∷ []) declarations.new.items [])
+        (word_of_name w)) words.new }
+    ensures declared { ReadsPins spec.output_declared declarations.old
+        words.old result spec.declared_semi declarations.new words.new }
     ensures shortens { Shortens words.old result words.new }
 {
     if words.take(Fixed::Reg) {
@@ -191,7 +202,9 @@ fn start_value(
     words: &mut Reader<'_>,
     declarations: &mut Vec<PrimDeclare>,
 ) -> Result<(), ParseErr>
-    ensures reads { (b : source) (n : word) (ps : List word) → Reads (after_output (within b n ps declarations.old.items []) (word_of_name name.entry)) words.old result (λ _. first_input (within b n ps declarations.new.items [])) words.new }
+    ensures reads { let w = word_of_name name.entry in
+        ReadsPins (λ p. spec.after_output p w) declarations.old
+        words.old result spec.first_input declarations.new words.new }
     ensures shortens { Shortens words.old result words.new }
 {
     if !words.take(Fixed::Equals) {
@@ -208,7 +221,8 @@ fn declare(
     name: Name<'_>,
     declarations: &mut Vec<PrimDeclare>,
 ) -> Result<(), AllocError>
-    ensures { OnOk result (declarations.new.items ≡ declarations.old.items ++ prim_declare what (word_of_name name.entry) ∷ []) }
+    ensures { let d = prim_declare what (word_of_name name.entry) in
+        OnOk result (declarations.new.items ≡ declarations.old.items ++ d ∷ []) }
 {
     let name = name.word(alloc)?;
     declarations.push(PrimDeclare { what, name })?;
@@ -222,7 +236,8 @@ fn declaration(
     declarations: &mut Vec<PrimDeclare>,
 ) -> Result<(), ParseErr>
     requires { is_fixed fixed.Table (head words.old).what ≡ false }
-    ensures reads { (b : source) (n : word) (ps : List word) → Reads (in_primitive (within b n ps declarations.old.items [])) words.old result (λ _. in_primitive (within b n ps declarations.new.items [])) words.new }
+    ensures reads { ReadsPins spec.in_primitive declarations.old
+        words.old result spec.in_primitive declarations.new words.new }
     ensures shortens { Shortens words.old result words.new }
 {
     if words.take(Fixed::Output) {
@@ -248,7 +263,8 @@ fn inputs(
     words: &mut Reader<'_>,
     declarations: &mut Vec<PrimDeclare>,
 ) -> Result<(), ParseErr>
-    ensures reads { (b : source) (n : word) (ps : List word) → Reads (input_declared (within b n ps declarations.old.items [])) words.old result (λ _. in_primitive (within b n ps declarations.new.items [])) words.new }
+    ensures reads { ReadsPins spec.input_declared declarations.old
+        words.old result spec.in_primitive declarations.new words.new }
     ensures shortens { Shortens words.old result words.new }
 {
     'inputs: loop {
@@ -265,7 +281,8 @@ fn initial(
     words: &mut Reader<'_>,
     declarations: &mut Vec<PrimDeclare>,
 ) -> Result<(), ParseErr>
-    ensures reads { (b : source) (n : word) (ps : List word) → Reads (initial_declared (within b n ps declarations.old.items [])) words.old result (λ _. declared_semi (within b n ps declarations.new.items [])) words.new }
+    ensures reads { ReadsPins spec.initial_declared declarations.old
+        words.old result spec.declared_semi declarations.new words.new }
     ensures shortens { Shortens words.old result words.new }
 {
     let name = words.name()?;

@@ -1,8 +1,9 @@
-//! What is read and leaves nothing behind: attributes, specify blocks and delays (IEEE 1364-2005, annexes A.2.2.3, A.7 and A.9).
+//! What is read and leaves nothing behind: attributes, specify blocks and delays
+//! (IEEE 1364-2005, annexes A.2.2.3, A.7 and A.9).
 
 ghost use Rattle.std.specs.Prelude.{◌≡◌, ℕ, ◌≤◌, length, OnOk};
 ghost use Rattle.xr_netlist_grammar.specs.Machine.{Place, Delayed, left, after_attr, after_delay};
-ghost use Rattle.xr_netlist_grammar.specs.Machine.State.{attr_open, in_attr, attr_star, in_specify, in_items, delay as delay_start, in_delay, net_ranged, net_name, gate_kind, gate_name, definition, instance_name, assign, expr_start};
+ghost use Rattle.xr_netlist_grammar.specs.Machine.{State as spec};
 ghost use Rattle.xr_netlist_grammar.specs.Trees.{Range, Under};
 ghost use Rattle.xr_netlist_grammar.specs.declared.tree.GateKind.{GateKind as gate_kinds};
 ghost use Rattle.xr_netlist_grammar.specs.declared.tree.NetKind.{NetKind as net_kinds};
@@ -15,7 +16,7 @@ use xr_netlist_grammar::{Fixed, ParseErr};
 // attribute = "(" "*" tokens "*" ")", behind its "("
 #[tactic(auto, using(crate::proofs::Runs::star_goes_on))]
 pub fn attribute(words: &mut Reader<'_>) -> Result<(), ParseErr>
-    ensures reads { (k : Place) → Reads (attr_open k) words.old result (λ _. after_attr k) words.new }
+    ensures reads { (k : Place) → Reads (spec.attr_open k) words.old result (λ _. after_attr k) words.new }
     ensures shortens { Shortens words.old result words.new }
 {
     words.expect(Fixed::Star)?;
@@ -28,7 +29,7 @@ pub fn attribute(words: &mut Reader<'_>) -> Result<(), ParseErr>
 
 /// Reads up to a star, and behind it.
 fn star(words: &mut Reader<'_>) -> Result<(), ParseErr>
-    ensures reads { (k : Place) → Reads (in_attr k) words.old result (λ _. attr_star k) words.new }
+    ensures reads { (k : Place) → Reads (spec.in_attr k) words.old result (λ _. spec.attr_star k) words.new }
     ensures shortens { Shortens words.old result words.new }
 {
     'tokens: while !words.take(Fixed::Star) {
@@ -39,7 +40,7 @@ fn star(words: &mut Reader<'_>) -> Result<(), ParseErr>
 
 // specify = "specify" tokens "endspecify", behind its first word
 pub fn specify(words: &mut Reader<'_>) -> Result<(), ParseErr>
-    ensures reads { (u : Under) → Reads (in_specify u) words.old result (λ _. in_items u) words.new }
+    ensures reads { (u : Under) → Reads (spec.in_specify u) words.old result (λ _. spec.in_items u) words.new }
     ensures shortens { Shortens words.old result words.new }
 {
     'tokens: while !words.take(Fixed::Endspecify) {
@@ -51,10 +52,13 @@ pub fn specify(words: &mut Reader<'_>) -> Result<(), ParseErr>
 // [ delay ]
 #[tactic(auto, using(crate::proofs::Runs::reads_on, crate::proofs::Runs::net_no_delay, crate::proofs::Runs::gate_no_delay, crate::proofs::Runs::instance_no_delay, crate::proofs::Runs::assign_no_delay))]
 pub fn may_delay(words: &mut Reader<'_>) -> Result<(), ParseErr>
-    ensures net { (u : Under) (what : net_kinds) (r : Range) → Reads (net_ranged u what r) words.old result (λ _. net_name u what r) words.new }
-    ensures gate { (u : Under) (kind : gate_kinds) (at : ℕ) → Reads (gate_kind u kind at) words.old result (λ _. gate_name u kind at) words.new }
-    ensures instance { (u : Under) (d : word) → Reads (definition u d) words.old result (λ _. instance_name u d) words.new }
-    ensures assign { (u : Under) → Reads (assign u) words.old result (λ _. expr_start (left u)) words.new }
+    ensures net { (u : Under) (what : net_kinds) (r : Range)
+        → Reads (spec.net_ranged u what r) words.old result (λ _. spec.net_name u what r) words.new }
+    ensures gate { (u : Under) (kind : gate_kinds) (at : ℕ)
+        → Reads (spec.gate_kind u kind at) words.old result (λ _. spec.gate_name u kind at) words.new }
+    ensures instance { (u : Under) (d : word)
+        → Reads (spec.definition u d) words.old result (λ _. spec.instance_name u d) words.new }
+    ensures assign { (u : Under) → Reads (spec.assign u) words.old result (λ _. spec.expr_start (left u)) words.new }
     ensures shortens { OnOk result (length words.new.words ≤ length words.old.words) }
 {
     if words.take(Fixed::Hash) {
@@ -66,7 +70,7 @@ pub fn may_delay(words: &mut Reader<'_>) -> Result<(), ParseErr>
 // delay = "#" int [ "." int ] | "#" "(" tokens ")", behind its "#"
 #[tactic(auto, using(crate::proofs::Runs::reads_on, crate::proofs::Runs::no_fraction))]
 fn delay(words: &mut Reader<'_>) -> Result<(), ParseErr>
-    ensures reads { (k : Delayed) → Reads (delay_start k) words.old result (λ _. after_delay k) words.new }
+    ensures reads { (k : Delayed) → Reads (spec.delay k) words.old result (λ _. after_delay k) words.new }
     ensures shortens { Shortens words.old result words.new }
 {
     if words.take(Fixed::Open) {
@@ -81,7 +85,7 @@ fn delay(words: &mut Reader<'_>) -> Result<(), ParseErr>
 
 /// Reads up to the parenthesis that closes one before.
 fn parenthesized(words: &mut Reader<'_>) -> Result<(), ParseErr>
-    ensures reads { (k : Delayed) → Reads (in_delay k 0) words.old result (λ _. after_delay k) words.new }
+    ensures reads { (k : Delayed) → Reads (spec.in_delay k 0) words.old result (λ _. after_delay k) words.new }
     ensures shortens { Shortens words.old result words.new }
 {
     let _ = words.at();

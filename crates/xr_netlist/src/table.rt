@@ -4,7 +4,7 @@ ghost use Rattle.std.specs.Prelude.{◌≡◌, ◌≤◌, ℕ, List, [], ◌∷�
 ghost use Rattle.xr_cell.specs.declared.symbol.Symbol.{Symbol as symbol};
 ghost use Rattle.xr_netlist_grammar.specs.Lexemes.{head, is_fixed};
 ghost use Rattle.xr_netlist_grammar.specs.Machine.{Column, after_symbol, after_entries};
-ghost use Rattle.xr_netlist_grammar.specs.Machine.State.{first_row, in_rows, in_row, row_state, after_state, row_output, after_output_symbol, change_first, change_close, primitive_end};
+ghost use Rattle.xr_netlist_grammar.specs.Machine.{State as spec};
 ghost use Rattle.xr_netlist_grammar.specs.Trees.{Within, within, with_row, is_sequential, singles};
 ghost use Rattle.xr_netlist_grammar.specs.declared.fixed.Fixed.TheVariants as fixed;
 ghost use Rattle.xr_netlist_grammar.specs.declared.tree.PrimDeclare.{PrimDeclare as declares};
@@ -25,7 +25,9 @@ pub fn rows(
     sequential: bool,
     words: &mut Reader<'_>,
 ) -> Result<Vec<RawRow>, ParseErr>
-    ensures reads { (b : source) (n : word) (ps : List word) (ds : List declares) → is_sequential ds ≡ sequential → Reads (first_row (within b n ps ds [])) words.old result (λ rs. primitive_end (within b n ps ds rs.items)) words.new }
+    ensures reads { (b : source) (n : word) (ps : List word) (ds : List declares) → is_sequential ds ≡ sequential
+        → Reads (spec.first_row (within b n ps ds [])) words.old result
+        (λ rs. spec.primitive_end (within b n ps ds rs.items)) words.new }
     ensures shortens { Shortens words.old result words.new }
 {
     let mut rows = Vec::new(alloc);
@@ -39,7 +41,8 @@ pub fn rows(
 
 // row = entry { entry } ":" [ symbol ":" ] symbol ";"
 fn row(alloc: Global, sequential: bool, words: &mut Reader<'_>) -> Result<RawRow, ParseErr>
-    ensures reads { (p : Within) → is_sequential p.declarations ≡ sequential → Reads (first_row p) words.old result (λ r. in_rows (with_row p r)) words.new }
+    ensures reads { (p : Within) → is_sequential p.declarations ≡ sequential
+        → Reads (spec.first_row p) words.old result (λ r. spec.in_rows (with_row p r)) words.new }
     ensures shortens { Shortens words.old result words.new }
 {
     let entries = entries(alloc, words)?;
@@ -55,7 +58,8 @@ fn row(alloc: Global, sequential: bool, words: &mut Reader<'_>) -> Result<RawRow
 
 // entry { entry } ":"
 fn entries(alloc: Global, words: &mut Reader<'_>) -> Result<Vec<Symbol>, ParseErr>
-    ensures reads { (p : Within) → Reads (first_row p) words.old result (λ es. after_entries p es.items) words.new }
+    ensures reads { (p : Within) → Reads (spec.first_row p)
+        words.old result (λ es. after_entries p es.items) words.new }
     ensures shortens { Shortens words.old result words.new }
 {
     let mut entries = Vec::new(alloc);
@@ -68,8 +72,10 @@ fn entries(alloc: Global, words: &mut Reader<'_>) -> Result<Vec<Symbol>, ParseEr
 
 /// The symbols of one token, or a change.
 fn entry(words: &mut Reader<'_>, entries: &mut Vec<Symbol>) -> Result<(), ParseErr>
-    ensures first { entries.old.items ≡ [] → (p : Within) → Reads (first_row p) words.old result (λ _. in_row p entries.new.items) words.new }
-    ensures next { is_fixed fixed.Colon (head words.old).what ≡ false → (p : Within) → Reads (in_row p entries.old.items) words.old result (λ _. in_row p entries.new.items) words.new }
+    ensures first { entries.old.items ≡ [] → (p : Within)
+        → Reads (spec.first_row p) words.old result (λ _. spec.in_row p entries.new.items) words.new }
+    ensures next { is_fixed fixed.Colon (head words.old).what ≡ false → (p : Within)
+        → Reads (spec.in_row p entries.old.items) words.old result (λ _. spec.in_row p entries.new.items) words.new }
     ensures shortens { Shortens words.old result words.new }
 {
     if let Some((first, more)) = words.take_symbols() {
@@ -95,7 +101,8 @@ fn push_singles(entries: &mut Vec<Symbol>, first: u8, more: &[u8]) -> Result<(),
 
 // [ symbol ":" ], in a sequential primitive alone
 fn state(sequential: bool, words: &mut Reader<'_>) -> Result<Option<Symbol>, ParseErr>
-    ensures reads { (p : Within) (es : List symbol) → is_sequential p.declarations ≡ sequential → Reads (after_entries p es) words.old result (λ st. row_output p es st) words.new }
+    ensures reads { (p : Within) (es : List symbol) → is_sequential p.declarations ≡ sequential
+        → Reads (after_entries p es) words.old result (λ st. spec.row_output p es st) words.new }
     ensures shortens { OnOk result (length words.new.words ≤ length words.old.words) }
 {
     if !sequential {
@@ -109,8 +116,10 @@ fn state(sequential: bool, words: &mut Reader<'_>) -> Result<Option<Symbol>, Par
 /// The symbol of a column for the state or the output.
 #[tactic(auto, using(crate::proofs::Runs::reads_on))]
 fn column(words: &mut Reader<'_>) -> Result<Symbol, ParseErr>
-    ensures state { (p : Within) (es : List symbol) → Reads (row_state p es) words.old result (λ s. after_state p es s) words.new }
-    ensures output { (p : Within) (es : List symbol) (st : Option symbol) → Reads (row_output p es st) words.old result (λ s. after_output_symbol p es st s) words.new }
+    ensures state { (p : Within) (es : List symbol)
+        → Reads (spec.row_state p es) words.old result (λ s. spec.after_state p es s) words.new }
+    ensures output { (p : Within) (es : List symbol) (st : Option symbol)
+        → Reads (spec.row_output p es st) words.old result (λ s. spec.after_output_symbol p es st s) words.new }
     ensures shortens { Shortens words.old result words.new }
 {
     if let Some(byte) = words.take_symbol() {
@@ -122,7 +131,7 @@ fn column(words: &mut Reader<'_>) -> Result<Symbol, ParseErr>
 
 // change = "(" byte byte ")", behind its "("
 fn change(words: &mut Reader<'_>) -> Result<Symbol, ParseErr>
-    ensures reads { (k : Column) → Reads (change_first k) words.old result (λ s. after_symbol k s) words.new }
+    ensures reads { (k : Column) → Reads (spec.change_first k) words.old result (λ s. after_symbol k s) words.new }
     ensures shortens { Shortens words.old result words.new }
 {
     let (first, second) = two_symbols(words)?;
@@ -132,7 +141,8 @@ fn change(words: &mut Reader<'_>) -> Result<Symbol, ParseErr>
 
 /// Two bytes, in one token or two.
 fn two_symbols(words: &mut Reader<'_>) -> Result<(u8, u8), ParseErr>
-    ensures reads { (k : Column) → Reads (change_first k) words.old result (λ p. change_close k p.0 p.1) words.new }
+    ensures reads { (k : Column) → Reads (spec.change_first k)
+        words.old result (λ p. spec.change_close k p.0 p.1) words.new }
     ensures shortens { Shortens words.old result words.new }
 {
     let (first, second) = words.few_symbols()?;

@@ -1,12 +1,10 @@
 //! Whole texts.
 
-ghost use Rattle.std.specs.Prelude.{◌≡◌, ◌≢◌, ℕ, IfOk, IfErr, MatchResult, None};
-ghost use Rattle.xr_text.specs.Left.{Left as left};
-ghost use Rattle.xr_text.specs.Tokens.{Tokens};
-ghost use Rattle.xr_netlist_grammar.specs.Lexemes.{words_of};
+ghost use Rattle.std.specs.Prelude.{◌≡◌, IfOk, IfErr, IfSome, MatchResult};
+ghost use Rattle.xr_netlist_grammar.specs.Fault.{fault_in};
 ghost use Rattle.xr_netlist_grammar.specs.Machine.{Answers};
-ghost use Rattle.xr_netlist_grammar.specs.Refusal.{RefusesFirst};
-ghost use Rattle.xr_netlist_grammar.specs.Text.{Text};
+ghost use Rattle.xr_netlist_grammar.specs.Source.{IsTree, IsRefused};
+ghost use Rattle.xr_netlist_grammar.specs.Whole.{IsWhole};
 ghost use Rattle.xr_netlist_grammar.specs.declared.refusal.ParseErr.TheVariants.{Memory};
 ghost use Rattle.xr_netlist_grammar.specs.declared.tree.Source.{Source as source_of};
 
@@ -18,20 +16,19 @@ use std::alloc::Global;
 use xr_base::Items;
 use xr_netlist_grammar::{Fixed, ParseErr, Source};
 
-/// What a netlist text stands for. The words of the tree are copies, so the text may be let go. Takes memory in proportion to the text, and its time
-/// is so, too.
+/// What a netlist text stands for. The words of the tree are copies, so the text may be let go. Time and memory are in
+/// proportion to the text and to the tree, where the name of a definition stands once for each of its instances.
 pub fn parse(alloc: Global, bytes: &[u8]) -> Result<Source, ParseErr>
-    // the tokens that the other clauses speak of
-    ensures told { (told : left) × Tokens 0 bytes.now told }
-
-    // What is read is in the grammar, and there is a token at each place.
-    ensures found { (told : left) → Tokens 0 bytes.now told → IfOk result (λ tree. Text (words_of bytes.now told).words tree × (told.fault ≡ None)) }
+    // What is read is in the grammar.
+    ensures found { IfOk result (IsTree bytes.now) }
+    ensures whole { IfOk result IsWhole }
 
     // What is in the grammar is read, unless memory runs out, and as one tree.
-    ensures only { (told : left) → Tokens 0 bytes.now told → (tree : source_of) → Text (words_of bytes.now told).words tree → told.fault ≡ None → MatchResult result (λ found. found ≡ tree) (λ e. e ≡ Memory) }
+    ensures only { (tree : source_of) → IsTree bytes.now tree
+        → MatchResult result (λ found. found ≡ tree) (λ e. e ≡ Memory) }
 
     // A refusal is that of the first token with which no text of the grammar goes on.
-    ensures first { (told : left) → Tokens 0 bytes.now told → IfErr result (λ e. e ≢ Memory → RefusesFirst (words_of bytes.now told).words (words_of bytes.now told).stop e) }
+    ensures first { IfErr result (λ e. IfSome (fault_in e) (IsRefused bytes.now)) }
 {
     let mut words = Reader::new(bytes);
     source(alloc, &mut words)

@@ -1,15 +1,15 @@
 -- What the machine reads to the end is in the grammar.
-use Rattle.std.proofs.Common.{◌≡◌, ℕ, zero, suc, Bool, true, false, cond, ◌⊎◌, inl, inr, List, [], ◌∷◌, ◌++◌, Option, Some, None, Ok, Err, refl, sym, ap, subst, ◌∙◌, append_assoc}
+use Rattle.std.proofs.Common.{◌≡◌, ℕ, zero, suc, Bool, true, false, cond, ◌⊎◌, inl, inr, List, [], ◌∷◌, ◌++◌, Option, Some, None, Ok, Err, refl, sym, subst, ◌∙◌, append_assoc}
 use Rattle.std.specs.Prelude.{map}
 use Rattle.std.proofs.lemmas.List.{append-nil}
 use Rattle.xr_cell.specs.declared.row.RawRow.{RawRow}
 use Rattle.xr_cell.specs.declared.symbol.Symbol.{Symbol}
-use Rattle.xr_cell.specs.declared.symbol.Symbol.TheVariants.{Single, Change}
+use Rattle.xr_cell.specs.declared.symbol.Symbol.TheVariants.{Change}
 use Rattle.xr_cell.specs.declared.value.Value.{Value}
 use Rattle.xr_netlist_grammar.specs.Numbers.{int_of, bit_of, literal_of}
-use Rattle.xr_netlist_grammar.specs.Lexemes.{Lexeme, quoted, gate, named, number, Tok, tok, ending, is_fixed, gate_kind_of, name_of, int_at, bit_at, literal_at, symbols_of, is_left_out}
-use Rattle.xr_netlist_grammar.specs.Trees.{Range, whole_part, bit_part, slice_part, expr_of, declares, declare_of, gate_of, instance_of, connection_of, no_connection, named_of, nothing, joined, one_module, one_primitive, prim_declare, is_sequential, row_of, singles, takes_value, Under, under, with_item, with_port, module_of, closed, Within, within, with_declare, with_pin, with_row, primitive_of, closed_primitive}
-use Rattle.xr_netlist_grammar.specs.Machine.{State, State as at, Place, Ranged, Delayed, Context, Column, Next, on, on_some, on_bytes, on_one_byte, on_few_bytes, then_run, run, step, finish, finish_top, expr_step, after_expr, after_whole, net_name_step, port_step, gate_name_step, instance_name_step, after_delay_step, after_delay, leave_delay, after_range, after_attr, after_symbol, after_entries, row_step}
+use Rattle.xr_netlist_grammar.specs.Lexemes.{Lexeme, gate, named, Tok, tok, ending, is_fixed, gate_kind_of, name_of, int_at, bit_at, literal_at, symbols_of, is_left_out}
+use Rattle.xr_netlist_grammar.specs.Trees.{Range, whole_part, bit_part, slice_part, expr_of, declares, declare_of, gate_of, instance_of, connection_of, named_of, nothing, joined, one_module, one_primitive, prim_declare, is_sequential, row_of, takes_value, Under, under, with_item, with_port, closed, Within, within, with_declare, with_pin, with_row, closed_primitive}
+use Rattle.xr_netlist_grammar.specs.Machine.{State, State as at, Place, Ranged, Delayed, Context, Column, Next, on, on_some, on_bytes, on_one_byte, on_few_bytes, then_run, run, step, finish, finish_top, expr_step, after_expr, net_name_step, port_step, gate_name_step, instance_name_step, after_delay_step, after_delay, leave_delay, after_range, after_attr, after_symbol, row_step}
 use Rattle.xr_netlist_grammar.specs.Machine.Place.{at_top, in_module}
 use Rattle.xr_netlist_grammar.specs.Machine.Ranged.{port_range, declared_range, net_range}
 use Rattle.xr_netlist_grammar.specs.Machine.Delayed.{net_delay, gate_delay, instance_delay, assign_delay}
@@ -19,7 +19,7 @@ use Rattle.xr_netlist_grammar.specs.Rules.{quote, name, digits, OneName, Listed,
 use Rattle.xr_netlist_grammar.specs.Expressions.{Parts, Flat, Expression}
 use Rattle.xr_netlist_grammar.specs.Items.{Direction, Net, NetName, OneGate, MayConnect, OneNamed, Connecting, OneInstance, OneAssign, OneItem, Items}
 use Rattle.xr_netlist_grammar.specs.Primitives.{MayStart, OutputPin, InputPin, InputPins, Pins, PinDeclare, PinDeclares, OneChange, OneSymbol, Entry, Entries, Row, Rows, OnePrimitive}
-use Rattle.xr_netlist_grammar.specs.Text.{Port, port_of, declare_port, Directed, DeclaredPort, DeclaredPorts, Head, OneModule, Text}
+use Rattle.xr_netlist_grammar.specs.Text.{Port, declare_port, Directed, DeclaredPort, DeclaredPorts, Head, OneModule, Text}
 use Rattle.xr_netlist_grammar.specs.declared.fixed.Fixed.{Fixed}
 use Rattle.xr_netlist_grammar.specs.declared.fixed.Fixed.TheVariants as fixed
 use Rattle.xr_netlist_grammar.specs.declared.refusal.ParseErr.{ParseErr}
@@ -29,7 +29,6 @@ use Rattle.xr_netlist_grammar.specs.declared.tree.Expr.{Expr}
 use Rattle.xr_netlist_grammar.specs.declared.tree.GateKind.{GateKind}
 use Rattle.xr_netlist_grammar.specs.declared.tree.Connection.{Connection}
 use Rattle.xr_netlist_grammar.specs.declared.tree.NamedConnection.{NamedConnection}
-use Rattle.xr_netlist_grammar.specs.declared.tree.Connections.{Connections}
 use Rattle.xr_netlist_grammar.specs.declared.tree.Connections.TheVariants.{Positional, Named}
 use Rattle.xr_netlist_grammar.specs.declared.tree.NetKind.{NetKind}
 use Rattle.xr_netlist_grammar.specs.declared.tree.NetKind.TheVariants as net

@@ -2,8 +2,8 @@
 use Rattle.std.proofs.Common.{◌≡◌, ℕ, zero, suc, Bool, true, false, cond, List, [], ◌∷◌, ◌++◌, Option, Some, None, Result, Ok, Err, refl, sym, ap, ◌∙◌, append_assoc}
 use Rattle.std.specs.Prelude.{map}
 use Rattle.std.proofs.lemmas.List.{append-nil}
-use Rattle.xr_netlist_grammar.specs.Lexemes.{Lexeme, quoted, Tok, ending, is_fixed, fault_of, symbols_of}
-use Rattle.xr_netlist_grammar.specs.Trees.{Range, whole_part, expr_of, declares, declare_of, gate_of, instance_of, connection_of, no_connection, named_of, nothing, joined, one_module, one_primitive, prim_declare, is_sequential, row_of, singles, Under, under, with_item, with_port, Within, within, with_row}
+use Rattle.xr_netlist_grammar.specs.Lexemes.{quoted, Tok, ending, is_fixed, fault_of, symbols_of}
+use Rattle.xr_netlist_grammar.specs.Trees.{Range, whole_part, declares, declare_of, gate_of, instance_of, nothing, joined, one_module, one_primitive, prim_declare, is_sequential, singles, Under, under, with_item, with_port, Within, within, with_row}
 use Rattle.xr_netlist_grammar.specs.Machine.{State, State as at, Context, Delayed, Next, on, then_run, run, step, finish, expr_step, after_expr, after_delay, after_delay_step, leave_delay}
 use Rattle.xr_netlist_grammar.specs.Machine.Context.{terminal, left, right, declared, connected, connected_to}
 use Rattle.xr_netlist_grammar.specs.Machine.{Column, after_symbol}

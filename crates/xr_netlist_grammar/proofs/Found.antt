@@ -1,7 +1,7 @@
 -- Which lexeme a test found.
-use Rattle.std.proofs.Common.{◌≡◌, ℕ, Bool, true, false, cond, eqb, List, [], ◌∷◌, Option, Some, None, refl, sym, ap, ◌∙◌}
+use Rattle.std.proofs.Common.{◌≡◌, ℕ, true, cond, eqb, List, Option, Some, refl, sym, ap, ◌∙◌}
 use Rattle.std.proofs.lemmas.Bool.{eqb-true}
-use Rattle.xr_netlist_grammar.specs.Lexemes.{Lexeme, quoted, gate, named, number, Tok, code, is_fixed, gate_kind_of, name_at, word_at, int_at, bit_at, literal_at}
+use Rattle.xr_netlist_grammar.specs.Lexemes.{Lexeme, quoted, gate, named, number, code, is_fixed, gate_kind_of, name_at, int_at, bit_at, literal_at}
 use Rattle.xr_netlist_grammar.specs.Numbers.{int_of, bit_of, literal_of}
 use Rattle.xr_cell.specs.declared.value.Value.{Value}
 use Rattle.xr_netlist_grammar.specs.declared.fixed.Fixed.{Fixed}

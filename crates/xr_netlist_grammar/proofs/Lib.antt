@@ -3,3 +3,5 @@ pub mod Follows
 pub mod Accepts
 pub mod Viable
 pub mod Theorem
+pub mod NameBytes
+pub mod WholeTrees

@@ -1,18 +1,23 @@
 -- What a reader ensures whose answer is that of the run.
-use Rattle.std.proofs.Common.{◌≡◌, ◌≢◌, ℕ, List, Bool, false, Option, Some, None, Result, Ok, Err, refl, sym, ap, ◌∙◌}
-use Rattle.std.specs.Prelude.{length, IfOk, IfErr, MatchResult}
+use Rattle.std.proofs.Common.{◌≡◌, ◌≢◌, ℕ, List, false, Option, Some, None, Result, Ok, Err, refl}
+use Rattle.std.specs.Prelude.{length, IfOk, IfErr, IfSome, MatchResult}
 use Rattle.xr_text.specs.Left.{Left}
+use Rattle.xr_text.specs.Tokens.{Tokens}
 use Rattle.xr_text.specs.declared.token.LexErr.{LexErr}
-use Rattle.xr_netlist_grammar.specs.Lexemes.{ending, Tok, words_of, stop_of, is_left_out}
+use Rattle.xr_netlist_grammar.specs.Lexemes.{ending, words_of, stop_of, is_left_out}
 use Rattle.xr_netlist_grammar.specs.Machine.{Answers, parse_of}
 use Rattle.xr_netlist_grammar.specs.Text.{Text}
 use Rattle.xr_netlist_grammar.specs.Refusal.{RefusesFirst}
+use Rattle.xr_netlist_grammar.specs.Fault.{fault_in}
+use Rattle.xr_netlist_grammar.specs.Source.{IsTree, IsRefused}
+use Rattle.xr_netlist_grammar.specs.Whole.{IsWhole}
 use Rattle.xr_netlist_grammar.specs.declared.refusal.ParseErr.{ParseErr}
 use Rattle.xr_netlist_grammar.specs.declared.refusal.ParseErr.TheVariants.{Lex, Unexpected, OutOfProfile, Memory}
 use Rattle.xr_netlist_grammar.specs.declared.tree.Source.{Source}
 use Rattle.xr_netlist_grammar.proofs.Follows.{is_read}
 use Rattle.xr_netlist_grammar.proofs.Accepts.{is_in_grammar}
 use Rattle.xr_netlist_grammar.proofs.Viable.{is_refused}
+use Rattle.xr_netlist_grammar.proofs.WholeTrees.{tree_is_whole}
 
 no_fault : (size : ℕ) (fault : Option LexErr) → (stop_of size fault).what ≡ ending → fault ≡ None
 no_fault size None h = refl
@@ -26,21 +31,42 @@ is_no_item : (size : ℕ) (fault : Option LexErr) → is_left_out (stop_of size 
 is_no_item size None = refl
 is_no_item size (Some e) = refl
 
-pub found_is : (bytes : List ℕ) (left : Left) (r : Result Source ParseErr) → Answers r (words_of bytes left) → IfOk r (λ tree. Text (words_of bytes left).words tree × (left.fault ≡ None))
-found_is bytes left (Ok tree) h = let a = is_in_grammar (words_of bytes left).words (words_of bytes left).stop tree h in (a.0, no_fault (length bytes) left.fault a.1)
-found_is bytes left (Err e) h = tt
+-- A reader of a text answers as the run over its tokens does.
+module _ (bytes : List ℕ) (told : (left : Left) × Tokens 0 bytes left) (r : Result Source ParseErr) (answers : (left : Left) → Tokens 0 bytes left → Answers r (words_of bytes left)) where
+  found_in : (left : Left) → Tokens 0 bytes left → (tree : Source) → Answers (Ok tree) (words_of bytes left) → IsTree bytes tree
+  found_in left tokens tree h =
+      let a = is_in_grammar (words_of bytes left).words (words_of bytes left).stop tree h in
+      record { left = left; told = tokens; parsed = a.0; whole = no_fault (length bytes) left.fault a.1 }
 
-pub only_is : (bytes : List ℕ) (left : Left) (r : Result Source ParseErr) → Answers r (words_of bytes left) → (tree : Source) → Text (words_of bytes left).words tree → left.fault ≡ None
-    → MatchResult r (λ found. found ≡ tree) (λ e. e ≡ Memory)
-only_is bytes left (Ok found) h tree d q = let k : parse_of (words_of bytes left) ≡ Ok tree = is_read (words_of bytes left).stop (ends (length bytes) left.fault q) d in cc
-only_is bytes left (Err Memory) h tree d q = refl
-only_is bytes left (Err (Lex e)) h tree d q =
-    let k : parse_of (words_of bytes left) ≡ Ok tree = is_read (words_of bytes left).stop (ends (length bytes) left.fault q) d in let l = h (λ q. cc) in absurd cc
-only_is bytes left (Err (Unexpected e)) h tree d q =
-    let k : parse_of (words_of bytes left) ≡ Ok tree = is_read (words_of bytes left).stop (ends (length bytes) left.fault q) d in let l = h (λ q. cc) in absurd cc
-only_is bytes left (Err (OutOfProfile e)) h tree d q =
-    let k : parse_of (words_of bytes left) ≡ Ok tree = is_read (words_of bytes left).stop (ends (length bytes) left.fault q) d in let l = h (λ q. cc) in absurd cc
+  pub found_is : IfOk r (IsTree bytes)
+  found_is = elim r as (λ r. Answers r (words_of bytes told.0) → IfOk r (IsTree bytes)) [ Ok tree ↦ λ h. found_in told.0 told.1 tree h | Err e ↦ λ h. tt ] (answers told.0 told.1)
 
-pub first_is : (bytes : List ℕ) (left : Left) (r : Result Source ParseErr) → Answers r (words_of bytes left) → IfErr r (λ e. e ≢ Memory → RefusesFirst (words_of bytes left).words (words_of bytes left).stop e)
-first_is bytes left (Ok tree) h = tt
-first_is bytes left (Err e) h = λ ne. is_refused (words_of bytes left).words (words_of bytes left).stop e (is_no_item (length bytes) left.fault) (h ne)
+  pub whole_is : IfOk r IsWhole
+  whole_is = elim r as (λ r. Answers r (words_of bytes told.0) → IfOk r IsWhole) [ Ok tree ↦ λ h. tree_is_whole bytes tree (found_in told.0 told.1 tree h) | Err e ↦ λ h. tt ] (answers told.0 told.1)
+
+  only_in : (left : Left) (r : Result Source ParseErr) → Answers r (words_of bytes left) → (tree : Source) → Text (words_of bytes left).words tree → left.fault ≡ None
+      → MatchResult r (λ found. found ≡ tree) (λ e. e ≡ Memory)
+  only_in left (Ok found) h tree d q = let k : parse_of (words_of bytes left) ≡ Ok tree = is_read (words_of bytes left).stop (ends (length bytes) left.fault q) d in cc
+  only_in left (Err Memory) h tree d q = refl
+  only_in left (Err (Lex e)) h tree d q =
+      let k : parse_of (words_of bytes left) ≡ Ok tree = is_read (words_of bytes left).stop (ends (length bytes) left.fault q) d in let l = h (λ q. cc) in absurd cc
+  only_in left (Err (Unexpected e)) h tree d q =
+      let k : parse_of (words_of bytes left) ≡ Ok tree = is_read (words_of bytes left).stop (ends (length bytes) left.fault q) d in let l = h (λ q. cc) in absurd cc
+  only_in left (Err (OutOfProfile e)) h tree d q =
+      let k : parse_of (words_of bytes left) ≡ Ok tree = is_read (words_of bytes left).stop (ends (length bytes) left.fault q) d in let l = h (λ q. cc) in absurd cc
+
+  pub only_is : (tree : Source) → IsTree bytes tree → MatchResult r (λ found. found ≡ tree) (λ e. e ≡ Memory)
+  only_is tree is = only_in is.left r (answers is.left is.told) tree is.parsed is.whole
+
+  refused_in : (e : ParseErr) → Answers (Err e) (words_of bytes told.0) → e ≢ Memory → RefusesFirst (words_of bytes told.0).words (words_of bytes told.0).stop e
+  refused_in e h ne = is_refused (words_of bytes told.0).words (words_of bytes told.0).stop e (is_no_item (length bytes) told.0.fault) (h ne)
+
+  first_in : (r : Result Source ParseErr) → Answers r (words_of bytes told.0) → IfErr r (λ e. IfSome (fault_in e) (IsRefused bytes))
+  first_in (Ok tree) h = tt
+  first_in (Err (Lex e)) h = record { left = told.0; told = told.1; first = refused_in (Lex e) h (λ q. cc) }
+  first_in (Err (Unexpected at)) h = record { left = told.0; told = told.1; first = refused_in (Unexpected at) h (λ q. cc) }
+  first_in (Err (OutOfProfile at)) h = record { left = told.0; told = told.1; first = refused_in (OutOfProfile at) h (λ q. cc) }
+  first_in (Err Memory) h = tt
+
+  pub first_is : IfErr r (λ e. IfSome (fault_in e) (IsRefused bytes))
+  first_is = first_in r (answers told.0 told.1)

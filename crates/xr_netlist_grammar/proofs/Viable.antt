@@ -1,11 +1,8 @@
 -- The first token that the machine refuses is the first that no text of the grammar continues with.
-use Rattle.std.proofs.Common.{◌≡◌, ℕ, zero, suc, Bool, true, false, cond, List, [], ◌∷◌, ◌++◌, Option, Some, None, Result, Ok, Err, refl, sym, ap, subst, ◌∙◌, append_assoc}
-use Rattle.std.specs.Prelude.{map}
-use Rattle.xr_cell.specs.declared.row.RawRow.{RawRow}
+use Rattle.std.proofs.Common.{◌≡◌, ℕ, zero, suc, Bool, true, false, cond, List, [], ◌∷◌, ◌++◌, Option, Some, None, Ok, Err, refl, sym, ap, subst, ◌∙◌, append_assoc}
 use Rattle.xr_cell.specs.declared.symbol.Symbol.{Symbol}
 use Rattle.xr_cell.specs.declared.symbol.Symbol.TheVariants.{Single, Change}
-use Rattle.xr_cell.specs.declared.value.Value.{Value}
-use Rattle.xr_netlist_grammar.specs.Numbers.{int_of, bit_of, literal_of}
+use Rattle.xr_netlist_grammar.specs.Numbers.{int_of, bit_of}
 use Rattle.xr_netlist_grammar.specs.Machine.Place.{at_top, in_module}
 use Rattle.xr_netlist_grammar.specs.Machine.Ranged.{port_range, declared_range, net_range}
 use Rattle.xr_netlist_grammar.specs.Machine.Delayed.{net_delay, gate_delay, instance_delay, assign_delay}
@@ -16,29 +13,18 @@ use Rattle.xr_netlist_grammar.specs.declared.fixed.Fixed.TheVariants as fixed
 use Rattle.xr_netlist_grammar.specs.declared.refusal.ParseErr.{ParseErr}
 use Rattle.xr_netlist_grammar.specs.declared.tree.Word.{Word}
 use Rattle.xr_netlist_grammar.specs.declared.tree.Part.{Part}
-use Rattle.xr_netlist_grammar.specs.declared.tree.Expr.{Expr}
 use Rattle.xr_netlist_grammar.specs.declared.tree.GateKind.{GateKind}
-use Rattle.xr_netlist_grammar.specs.declared.tree.Connection.{Connection}
-use Rattle.xr_netlist_grammar.specs.declared.tree.NamedConnection.{NamedConnection}
-use Rattle.xr_netlist_grammar.specs.declared.tree.Connections.{Connections}
-use Rattle.xr_netlist_grammar.specs.declared.tree.Connections.TheVariants.{Positional, Named}
 use Rattle.xr_netlist_grammar.specs.declared.tree.NetKind.{NetKind}
-use Rattle.xr_netlist_grammar.specs.declared.tree.NetKind.TheVariants as net
-use Rattle.xr_netlist_grammar.specs.declared.tree.Item.{Item}
-use Rattle.xr_netlist_grammar.specs.declared.tree.Item.TheVariants as item
-use Rattle.xr_netlist_grammar.specs.declared.tree.Module.{Module}
 use Rattle.xr_netlist_grammar.specs.declared.tree.PrimKind.TheVariants.{Output, Input, Reg, Initial}
 use Rattle.xr_netlist_grammar.specs.declared.tree.PrimDeclare.{PrimDeclare}
-use Rattle.xr_netlist_grammar.specs.declared.tree.Primitive.{Primitive}
 use Rattle.xr_netlist_grammar.specs.declared.tree.Source.{Source}
 use Rattle.xr_cell.specs.declared.value.Value.TheVariants.{Zero}
 use Rattle.std.proofs.lemmas.List.{append-nil}
-use Rattle.xr_netlist_grammar.specs.Lexemes.{Lexeme, named, number, Tok, tok, ending, is_fixed, gate_kind_of, name_of, int_at, bit_at, literal_at, symbols_of, is_left_out, fault_of, word_at}
-use Rattle.xr_netlist_grammar.specs.Trees.{Range, whole_part, expr_of, prim_declare, is_sequential, takes_value, nothing, Under, Within, within, with_declare, with_pin}
-use Rattle.xr_netlist_grammar.specs.Machine.{State, State as at, Place, Ranged, Delayed, Context, Column, Next, on, on_some, on_bytes, on_one_byte, on_few_bytes, then_run, run, step, finish, finish_top, expr_step, after_expr, port_step, gate_name_step, instance_name_step, after_delay_step, after_delay, leave_delay, after_range, after_attr, after_symbol}
+use Rattle.xr_netlist_grammar.specs.Lexemes.{Lexeme, Tok, tok, ending, is_fixed, gate_kind_of, name_of, int_at, bit_at, literal_at, symbols_of, is_left_out, fault_of, word_at}
+use Rattle.xr_netlist_grammar.specs.Trees.{Range, whole_part, prim_declare, is_sequential, takes_value, nothing, Under, Within, within, with_declare, with_pin}
+use Rattle.xr_netlist_grammar.specs.Machine.{State, State as at, Place, Ranged, Delayed, Context, Column, Next, on, on_some, on_bytes, on_one_byte, on_few_bytes, then_run, run, step, finish, finish_top, expr_step, after_expr, port_step, gate_name_step, instance_name_step, after_delay_step, after_delay, after_range, after_attr, after_symbol}
 use Rattle.xr_netlist_grammar.specs.Rules.{quote, name, digits}
-use Rattle.xr_netlist_grammar.specs.Text.{Text}
-use Rattle.xr_netlist_grammar.specs.Refusal.{IsViable, IsLeftOut, IsFault, RefusesFirst}
+use Rattle.xr_netlist_grammar.specs.Refusal.{IsViable, IsFault, RefusesFirst}
 use Rattle.xr_netlist_grammar.specs.declared.refusal.ParseErr.TheVariants.{OutOfProfile}
 use Rattle.xr_netlist_grammar.proofs.Follows.{is_read}
 use Rattle.xr_netlist_grammar.proofs.Accepts.{is_in_grammar}

@@ -1,6 +1,6 @@
 -- The rules of items (IEEE 1364-2005, annexes A.2 to A.4 and A.7).
-use Rattle.std.specs.Prelude.{◌≡◌, ℕ, List, [], ◌∷◌, ◌++◌, map, true, false, Option, Some, None}
-use Rattle.xr_netlist_grammar.specs.Lexemes.{Lexeme, gate, named as named_lexeme, Tok, tok, is_left_out}
+use Rattle.std.specs.Prelude.{◌≡◌, ℕ, List, [], ◌∷◌, ◌++◌, map, true, false, Some, None}
+use Rattle.xr_netlist_grammar.specs.Lexemes.{gate, named as named_lexeme, Tok, tok, is_left_out}
 use Rattle.xr_netlist_grammar.specs.Trees.{Range, declares, declare_of, gate_of, instance_of, connection_of, no_connection, named_of, takes_value}
 use Rattle.xr_netlist_grammar.specs.Rules.{quote, name, OneName, Listed, Until, Attribute, MayDelay, MayRange, WireRange}
 use Rattle.xr_netlist_grammar.specs.Expressions.{Expression}

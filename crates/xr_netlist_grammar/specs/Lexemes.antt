@@ -1,5 +1,5 @@
 -- The tokens of a text as the grammar tells them apart (IEEE 1364-2005, annex A).
-use Rattle.std.specs.Prelude.{◌≡◌, ℕ, List, [], ◌∷◌, map, length, drop, Bool, true, false, ◌==◌, cond, if◌then◌else◌, Option, Some, None, slice_range}
+use Rattle.std.specs.Prelude.{ℕ, List, [], ◌∷◌, map, length, drop, Bool, true, false, ◌==◌, if◌then◌else◌, Option, Some, None, slice_range}
 use Rattle.std.specs.List.{list_any}
 use Rattle.std.specs.Str.{bytes_eq}
 use lib.Chars.{codes}

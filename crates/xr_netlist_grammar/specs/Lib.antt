@@ -9,3 +9,6 @@ pub mod Items
 pub mod Primitives
 pub mod Text
 pub mod Refusal
+pub mod Fault
+pub mod Source
+pub mod Whole

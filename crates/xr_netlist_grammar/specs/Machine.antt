@@ -1,5 +1,5 @@
 -- Reading token by token. A state has what was read so far, and a step says what may stand next.
-use Rattle.std.specs.Prelude.{◌≡◌, ◌≢◌, ◌<◌, ◌≤◌, length, ℕ, zero, suc, List, [], ◌∷◌, ◌++◌, map, cond, Bool, true, false, Option, Some, None, Result, Ok, Err}
+use Rattle.std.specs.Prelude.{◌≡◌, ◌≢◌, ℕ, zero, suc, List, [], ◌∷◌, ◌++◌, cond, Option, Some, None, Result, Ok, Err}
 use Rattle.xr_cell.specs.declared.value.Value.{Value}
 use Rattle.xr_cell.specs.declared.symbol.Symbol.{Symbol}
 use Rattle.xr_cell.specs.declared.symbol.Symbol.TheVariants.{Single, Change}
@@ -20,7 +20,6 @@ use Rattle.xr_netlist_grammar.specs.declared.tree.NetKind.{NetKind}
 use Rattle.xr_netlist_grammar.specs.declared.tree.NetKind.TheVariants as net
 use Rattle.xr_netlist_grammar.specs.declared.tree.Item.TheVariants as item
 use Rattle.xr_netlist_grammar.specs.declared.tree.PrimKind.TheVariants.{Output, Input, Reg, Initial}
-use Rattle.xr_netlist_grammar.specs.declared.tree.PrimDeclare.{PrimDeclare}
 use Rattle.xr_netlist_grammar.specs.declared.tree.Source.{Source}
 
 -- where an attribute stands

@@ -1,5 +1,6 @@
 -- Numbers of the grammar (IEEE 1364-2005, clause 3.5).
-use Rattle.std.specs.Prelude.{ℕ, ◌^◌, List, [], ◌∷◌, Bool, true, false, ◌==◌, ◌&&◌, ◌||◌, nat_le, nat_lt, not, length, drop, filter, take_while, if◌then◌else◌, Option, Some, None}
+use Rattle.std.specs.Prelude.{ℕ, ◌^◌, List, [], ◌∷◌, Bool, false, ◌==◌, ◌&&◌, ◌||◌, nat_le, nat_lt, not, length, drop, filter, take_while, if◌then◌else◌, Option, Some, None}
+use Rattle.std.specs.List.{list_all}
 use Rattle.std.specs.Str.{bytes_eq}
 use lib.Chars.{codes}
 use Rattle.xr_cell.specs.declared.value.Value.{Value}
@@ -27,15 +28,21 @@ base_of b =
     else if (b == 104) || (b == 72) then Some 16
     else None
 
--- digits of the base and `_`, behind a byte that is a digit or not; the last one is a digit
-abbrev pub go_on : ℕ → Bool → List ℕ → Bool
-go_on base is_end [] = is_end
-go_on base is_end (b ∷ bs) = (is_digit_of base b || (b == 95)) && go_on base (is_digit_of base b) bs
+-- the first byte is so
+abbrev pub begins : (ℕ → Bool) → List ℕ → Bool
+begins is [] = false
+begins is (b ∷ bs) = is b
 
--- Digits of the base with `_` between.
-abbrev pub are_spaced_digits : ℕ → List ℕ → Bool
-are_spaced_digits base [] = false
-are_spaced_digits base (b ∷ bs) = is_digit_of base b && go_on base true bs
+-- the last byte is so
+abbrev pub ends : (ℕ → Bool) → List ℕ → Bool
+ends is [] = false
+ends is (b ∷ []) = is b
+ends is (b ∷ c ∷ cs) = ends is (c ∷ cs)
+
+-- Digits of the base with `_` between: it begins and ends with a digit, and each byte is a digit or `_`.
+unfoldable pub are_spaced_digits : ℕ → List ℕ → Bool
+are_spaced_digits base text =
+    begins (is_digit_of base) text && ends (is_digit_of base) text && list_all (λ b. is_digit_of base b || (b == 95)) text
 
 -- their number
 abbrev pub spaced_number : ℕ → List ℕ → ℕ
@@ -44,7 +51,8 @@ spaced_number base text = number_from base 0 (filter (λ b. not (b == 95)) text)
 -- a literal of so many bits, by its base and its digits, where its value fits
 abbrev pub literal_in : ℕ → List ℕ → Option ℕ → Option (ℕ × ℕ)
 literal_in size digits None = None
-literal_in size digits (Some base) = if are_spaced_digits base digits && nat_lt (spaced_number base digits) (2 ^ size) then Some (size, spaced_number base digits) else None
+literal_in size digits (Some base) =
+    if are_spaced_digits base digits && nat_lt (spaced_number base digits) (2 ^ size) then Some (size, spaced_number base digits) else None
 
 -- a literal by its size, and what stands behind the size
 abbrev pub literal_behind : List ℕ → List ℕ → Option (ℕ × ℕ)

@@ -1,6 +1,6 @@
 -- What the rules of the grammar are made of. A rule relates the tokens before it, the tokens behind it and what it stands for.
 use Rattle.std.specs.Prelude.{◌≡◌, ℕ, List, [], ◌∷◌, false, Some, None}
-use Rattle.xr_netlist_grammar.specs.Lexemes.{Lexeme, quoted, named, number, Tok, tok, is_fixed}
+use Rattle.xr_netlist_grammar.specs.Lexemes.{quoted, named, number, Tok, tok, is_fixed}
 use Rattle.xr_netlist_grammar.specs.Numbers.{int_of}
 use Rattle.xr_netlist_grammar.specs.Trees.{Range}
 use Rattle.xr_netlist_grammar.specs.declared.fixed.Fixed.{Fixed}

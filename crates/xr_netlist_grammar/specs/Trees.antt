@@ -1,7 +1,6 @@
 -- What is made of the lexemes of a text: its parts, under way and whole.
 use Rattle.std.specs.Prelude.{ℕ, List, [], ◌∷◌, ◌++◌, map, Option, Some, None, Bool, true, false}
 use Rattle.std.specs.List.{list_any}
-use Rattle.xr_cell.specs.declared.value.Value.{Value}
 use Rattle.xr_cell.specs.declared.row.RawRow.{RawRow}
 use Rattle.xr_cell.specs.declared.symbol.Symbol.{Symbol}
 use Rattle.xr_cell.specs.declared.symbol.Symbol.TheVariants.{Single}

@@ -3,10 +3,12 @@
 //! say the same is proved in proofs/.
 #![tactic(auto)]
 
+mod fault;
 mod fixed;
 mod refusal;
 mod tree;
 
+pub use fault::NetlistFault;
 pub use fixed::Fixed;
 pub use refusal::ParseErr;
 pub use tree::{

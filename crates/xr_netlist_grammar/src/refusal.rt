@@ -1,8 +1,10 @@
 //! Why a text is none of the grammar.
 
 ghost use Rattle.std.specs.Prelude.{◌≡◌};
+ghost use Rattle.xr_netlist_grammar.specs.Fault.{fault_in};
 ghost use Rattle.xr_netlist_grammar.specs.declared.refusal.ParseErr.TheVariants.{Memory as OutOfMemory};
 
+use crate::fault::NetlistFault;
 use std::alloc::{AllocError, AllocFailed};
 use xr_base::Memory;
 use xr_text::LexErr;
@@ -17,6 +19,20 @@ pub enum ParseErr {
     /// The token begins an item that the profile leaves out.
     OutOfProfile { at: usize },
     Memory,
+}
+
+impl ParseErr {
+    /// What is wrong with the text, `None` exactly for want of memory.
+    pub fn fault(self) -> Option<NetlistFault>
+        ensures { result ≡ fault_in self }
+    {
+        match self {
+            ParseErr::Lex(fault) => Some(NetlistFault::Lex(fault)),
+            ParseErr::Unexpected { at } => Some(NetlistFault::Unexpected { at }),
+            ParseErr::OutOfProfile { at } => Some(NetlistFault::OutOfProfile { at }),
+            ParseErr::Memory => None,
+        }
+    }
 }
 
 impl From<AllocError> for ParseErr {

@@ -6,15 +6,16 @@ use Rattle.std.proofs.lemmas.List.{append-nil}
 use Rattle.xr_shelf.specs.declared.fault.IoErr.{IoErr}
 use Rattle.xr_shelf.specs.declared.fault.ReadErr.TheVariants.{TooLong, Fault as ReadFault, Memory as ReadMemory}
 use Rattle.xr_shelf.specs.Errors.{read_err}
-use Rattle.xr_shelf.specs.Shelf.{View, Later, Rose, Opened, Created, held, OpenStep, ReadStep, CloseStep}
+use Rattle.xr_shelf.specs.Shelf.{View, Later, Rose, SameCounts, Nothing, Opened, Created, held, OpenStep, ReadStep, CloseStep}
 use Rattle.xr_shelf.specs.Calls.{ReadAll}
 use Rattle.xr_shelf.proofs.Turns.{ReadTurn}
 use Rattle.xr_shelf.proofs.Fronts.{read_more}
-use Rattle.xr_shelf.proofs.Failed.{read_failed, not_long, opened_not, later_trans, rose_here}
+use Rattle.xr_shelf.proofs.Failed.{read_failed, not_long, opened_not, opened_none, later_trans, same_trans, rose_behind, rose_here, kept_read}
 
 pub read_starts : (told : Bool) (name : List ℕ) (limit : ℕ) (old new : View) → OpenStep told name old new (Ok tt) → ReadTurn told name [] limit old new
 read_starts told name limit old new step = record {
   later = step.later;
+  kept = step.counts;
   files = step.files;
   hand = step.ok;
   text = λ t. sym (step.unread t);
@@ -24,6 +25,7 @@ read_starts told name limit old new step = record {
 pub read_grows : (told : Bool) (name so_far buffer : List ℕ) (limit count : ℕ) (old mid new : View) → ReadTurn told name so_far limit old mid → ReadStep told mid new buffer (Ok count) → count ≤ limit - length so_far → ReadTurn told name (so_far ++ take count buffer) limit old new
 read_grows told name so_far buffer limit count old mid new turn step fits = record {
   later = later_trans old mid new turn.later step.later;
+  kept = same_trans old mid new turn.kept step.counts;
   files = step.files ∙ turn.files;
   hand = step.hand ∙ turn.hand;
   text = λ t. read_more (held old name) so_far mid.unread (take count buffer) new.unread (turn.text t) (step.bytes name turn.hand t);
@@ -40,7 +42,9 @@ read_fails told name so_far buffer limit old mid new e turn step = record {
   long = λ h. absurd (let is : read_err e ≡ TooLong = cc in not_long e is);
   fault = λ h. let is : read_err e ≡ ReadFault = cc in
       let r = rose_here name mid new turn.hand (step.fault (ap (λ (x : IoErr). Err x) (read_failed e is))) in
-      omega (arith, r, turn.later.reads name);
+      rose_behind _ _ _ (turn.later.reads name) r;
+  kept = λ not. same_trans old mid new turn.kept (kept_read e _ step.counts not);
+  before = λ _ _ t. omega (arith, ap length (turn.text t), ap length (step.err t), length-append so_far mid.unread, turn.fits);
 }
 
 pub read_long : (told : Bool) (name so_far buffer : List ℕ) (limit count : ℕ) (old mid new : View) → ReadTurn told name so_far limit old mid → ReadStep told mid new buffer (Ok count) → limit - length so_far < count → ReadAll told name limit old new (Err TooLong)
@@ -54,10 +58,12 @@ read_long told name so_far buffer limit count old mid new turn step over = recor
       let all = read_more (held old name) so_far mid.unread (take count buffer) new.unread (turn.text t) (step.bytes name turn.hand t) in
       omega (arith, ap length all, length-append (so_far ++ take count buffer) new.unread, length-append so_far (take count buffer), length-take count buffer, step.bound, over);
   fault = λ h. absurd (cc);
+  kept = λ _. same_trans old mid new turn.kept step.counts;
+  before = λ h. absurd (cc);
 }
 
-pub read_memory : (told : Bool) (name so_far : List ℕ) (limit : ℕ) (old new : View) → Later old new → new.files ≡ old.files → ReadAll told name limit old new (Err ReadMemory)
-read_memory told name so_far limit old new later files = record {
+pub read_memory : (told : Bool) (name so_far : List ℕ) (limit : ℕ) (old new : View) → Later old new → SameCounts old new → new.files ≡ old.files → ReadAll told name limit old new (Err ReadMemory)
+read_memory told name so_far limit old new later same files = record {
   later = later;
   files = files;
   text = tt;
@@ -65,10 +71,12 @@ read_memory told name so_far limit old new later files = record {
   closed = tt;
   long = λ h. absurd (cc);
   fault = λ h. absurd (cc);
+  kept = λ _. same;
+  before = λ h. absurd (cc);
 }
 
-pub close_fails : (told : Bool) (name so_far : List ℕ) (limit : ℕ) (old mid new : View) (e : IoErr) → Later old mid → mid.files ≡ old.files → mid.hand ≡ Opened name → CloseStep mid new (Err e) → ReadAll told name limit old new (Err (read_err e))
-close_fails told name so_far limit old mid new e later files hand step = record {
+pub close_fails : (told : Bool) (name so_far : List ℕ) (limit : ℕ) (old mid new : View) (e : IoErr) → Later old mid → SameCounts old mid → mid.files ≡ old.files → mid.hand ≡ Opened name → CloseStep mid new (Err e) → ReadAll told name limit old new (Err (read_err e))
+close_fails told name so_far limit old mid new e later same files hand step = record {
   later = later_trans old mid new later step.later;
   files = step.files ∙ files;
   text = tt;
@@ -77,7 +85,9 @@ close_fails told name so_far limit old mid new e later files hand step = record 
   long = λ h. absurd (let is : read_err e ≡ TooLong = cc in not_long e is);
   fault = λ h. let is : read_err e ≡ ReadFault = cc in
       let r = here (step.fault (ap (λ (x : IoErr). Err x) (read_failed e is))) in
-      omega (arith, r, later.reads name);
+      rose_behind _ _ _ (later.reads name) r;
+  kept = λ not. same_trans old mid new same (kept_read e _ step.counts not);
+  before = λ _ hand. absurd (opened_none name (sym hand ∙ step.hand));
 }
   where
     here : ((n : List ℕ) × (mid.hand ≡ Opened n) × Rose (mid.reads n) (new.reads n)) ⊎ ((n : List ℕ) × (mid.hand ≡ Created n) × Rose (mid.writes n) (new.writes n)) → Rose (mid.reads name) (new.reads name)
@@ -93,4 +103,6 @@ read_done told name buffer limit old mid last new v turn step room close = recor
   closed = close.hand;
   long = λ h. absurd (cc);
   fault = λ h. absurd (cc);
+  kept = λ _. same_trans old mid new turn.kept (same_trans mid last new step.counts close.counts);
+  before = λ h. absurd (cc);
 }

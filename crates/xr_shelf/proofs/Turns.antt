@@ -1,10 +1,11 @@
 -- What the loops over a shelf and a sink keep.
 use Rattle.std.proofs.Common.{◌≡◌, ℕ, ◌≤◌, List, ◌++◌, length, take, Some, IsTrue, Bool}
-use Rattle.xr_shelf.specs.Shelf.{View, Later, Opened, Created, held, OthersKept}
+use Rattle.xr_shelf.specs.Shelf.{View, Later, SameCounts, Opened, Created, held, OthersKept}
 use Rattle.xr_shelf.specs.Sink.{SinkView}
 
 pub record ReadTurn (told : Bool) (name so_far : List ℕ) (limit : ℕ) (old new : View) : Type 0 where
   pub later : Later old new
+  pub kept : SameCounts old new
   pub files : new.files ≡ old.files
   pub hand : new.hand ≡ Opened name
   pub text : IsTrue told → held old name ≡ so_far ++ new.unread
@@ -12,6 +13,7 @@ pub record ReadTurn (told : Bool) (name so_far : List ℕ) (limit : ℕ) (old ne
 
 pub record WriteTurn (told : Bool) (name bytes : List ℕ) (done : ℕ) (old new : View) : Type 0 where
   pub later : Later old new
+  pub kept : SameCounts old new
   pub hand : new.hand ≡ Created name
   pub others : OthersKept name old.files new.files
   pub wrote : IsTrue told → new.files name ≡ Some (take done bytes)
@@ -19,5 +21,6 @@ pub record WriteTurn (told : Bool) (name bytes : List ℕ) (done : ℕ) (old new
 
 pub record PrintTurn (told : Bool) (text : List ℕ) (done : ℕ) (old new : SinkView) : Type 0 where
   pub later : old.faults ≤ new.faults
+  pub kept : new.faults ≡ old.faults
   pub wrote : IsTrue told → new.bytes ≡ old.bytes ++ take done text
   pub within : done ≤ length text

@@ -1,5 +1,5 @@
 -- The turns of the loops that write and print.
-use Rattle.std.proofs.Common.{◌≡◌, ℕ, ◌+◌, List, ◌++◌, take, drop, sym, ◌∙◌, ap, arith, length-drop, Option, Some, inr, Ok, Err, Bool, subst}
+use Rattle.std.proofs.Common.{◌≡◌, ℕ, ◌+◌, List, ◌++◌, refl, take, drop, sym, ◌∙◌, ap, arith, length-drop, Option, Some, inr, Ok, Err, Bool, subst}
 use Rattle.std.proofs.Math.Seq.{take-add}
 use Rattle.xr_shelf.specs.declared.fault.IoErr.{IoErr}
 use Rattle.xr_shelf.specs.declared.fault.WriteErr.TheVariants.{Fault as WriteFault}
@@ -9,7 +9,7 @@ use Rattle.xr_shelf.specs.Sink.{SinkView, SinkStep}
 use Rattle.xr_shelf.specs.Calls.{WriteAll, PrintAll}
 use Rattle.xr_shelf.proofs.Turns.{WriteTurn, PrintTurn}
 use Rattle.xr_shelf.proofs.Fronts.{front, grown, tail_of, tail_is}
-use Rattle.xr_shelf.proofs.Failed.{write_failed, later_trans}
+use Rattle.xr_shelf.proofs.Failed.{write_failed, kept_write, later_trans, same_trans, rose_behind}
 
 pub print_grows : (told : Bool) (text : List ℕ) (done count : ℕ) (old mid new : SinkView) → PrintTurn told text done old mid → SinkStep told mid new (tail_of done text) (Ok count) → PrintTurn told text (done + count) old new
 print_grows told text done count old mid new turn given =
@@ -17,6 +17,7 @@ print_grows told text done count old mid new turn given =
     let step = subst P (tail_is done text) given in
     record {
       later = omega (arith, turn.later, step.later);
+      kept = step.counts ∙ turn.kept;
       wrote = λ t. grown old.bytes mid.bytes new.bytes done count text (turn.wrote t) (step.wrote t);
       within = omega (arith, turn.within, step.bound, length-drop done text);
     }
@@ -26,7 +27,8 @@ print_fails told text done old mid new e rest turn step = record {
   later = omega (arith, turn.later, step.later);
   whole = tt;
   part = λ t. (take done text, step.err t ∙ turn.wrote t, front done text);
-  fault = λ h. let is : write_err e ≡ WriteFault = cc in let r = step.fault (ap (λ (x : IoErr). Err x) (write_failed e is)) in omega (arith, r, turn.later);
+  fault = λ h. let is : write_err e ≡ WriteFault = cc in rose_behind _ _ _ turn.later (step.fault (ap (λ (x : IoErr). Err x) (write_failed e is)));
+  kept = λ not. kept_write e _ step.counts not ∙ turn.kept;
 }
 
 pub write_grows : (told : Bool) (name bytes : List ℕ) (done count : ℕ) (old mid new : View) → WriteTurn told name bytes done old mid → WriteStep told name mid new (tail_of done bytes) (Ok count) → WriteTurn told name bytes (done + count) old new
@@ -35,6 +37,7 @@ write_grows told name bytes done count old mid new turn given =
     let step = subst P (tail_is done bytes) given in
     record {
       later = later_trans old mid new turn.later step.later;
+      kept = same_trans old mid new turn.kept step.counts;
       hand = step.hand ∙ turn.hand;
       others = λ other not. step.others other not ∙ turn.others other not;
       wrote = λ t. step.wrote t ∙ ap (λ (o : Option (List ℕ)). Some (bytes_of o ++ take count (drop done bytes))) (turn.wrote t) ∙ ap (λ (l : List ℕ). Some l) (sym (take-add done count bytes));
@@ -48,5 +51,6 @@ write_fails told name bytes done old mid new e rest turn step = record {
   whole = tt;
   part = λ t. inr (take done bytes, step.err t ∙ turn.wrote t, front done bytes);
   closed = tt;
-  fault = λ h. let is : write_err e ≡ WriteFault = cc in let r = step.fault (ap (λ (x : IoErr). Err x) (write_failed e is)) in omega (arith, r, turn.later.writes name);
+  fault = λ h. let is : write_err e ≡ WriteFault = cc in rose_behind _ _ _ (turn.later.writes name) (step.fault (ap (λ (x : IoErr). Err x) (write_failed e is)));
+  kept = λ not. same_trans old mid new turn.kept (kept_write e _ step.counts not);
 }

@@ -1,14 +1,16 @@
 -- What it means to read a whole file, to write a whole file and to print a whole text.
-use Rattle.std.specs.Prelude.{◌≡◌, ◌⊎◌, ℕ, ◌<◌, ◌≤◌, List, ◌++◌, length, Some, Result, IsErrOf, OnOk, IfOk, IsTrue, Bool, Vec}
+use Rattle.std.specs.Prelude.{◌≡◌, ◌⊎◌, ℕ, ◌+◌, ◌<◌, ◌≤◌, List, ◌++◌, length, Some, Result, IsErrOf, OnOk, IfOk, IsTrue, Bool, Vec}
 use Rattle.std.specs.declared.alloc.Global.{Global}
-use Rattle.xr_shelf.specs.Shelf.{View, Files, Nothing, Later, Rose, OthersKept, Prefix, held}
+use Rattle.xr_shelf.specs.Shelf.{View, Files, Nothing, Opened, Later, SameCounts, Rose, OthersKept, Prefix, held}
 use Rattle.xr_shelf.specs.Sink.{SinkView}
 use Rattle.xr_shelf.specs.declared.fault.ReadErr.{ReadErr}
 use Rattle.xr_shelf.specs.declared.fault.ReadErr.TheVariants.{Fault as ReadFault, TooLong}
 use Rattle.xr_shelf.specs.declared.fault.WriteErr.{WriteErr}
 use Rattle.xr_shelf.specs.declared.fault.WriteErr.TheVariants.{Fault as WriteFault}
 
--- A whole file read: its text, or a fault with a risen count of that very name.
+-- A whole file read: its text, or a fault with a risen count of that very name. Where any count rose in the call, the
+-- answer is Fault; so TooLong comes before any fault. Where a file is still in hand after a fault, the file's bytes up to
+-- there were within the limit.
 pub record ReadAll (told : Bool) (name : List ℕ) (limit : ℕ) (old new : View) (result : Result (Vec ℕ Global) ReadErr) : Type 0 where
   pub later : Later old new
   pub files : new.files ≡ old.files
@@ -17,13 +19,15 @@ pub record ReadAll (told : Bool) (name : List ℕ) (limit : ℕ) (old new : View
   pub closed : OnOk result (new.hand ≡ Nothing)
   pub long : IsErrOf result TooLong → IsTrue told → limit < length (held old name)
   pub fault : IsErrOf result ReadFault → Rose (old.reads name) (new.reads name)
+  pub kept : (IsErrOf result ReadFault → ⊥) → SameCounts old new
+  pub before : IsErrOf result ReadFault → new.hand ≡ Opened name → IsTrue told → length (held old name) ≤ limit + length new.unread
 
 -- The name holds what it held, or a prefix of the bytes.
 abbrev pub HoldsPart : List ℕ → List ℕ → Files → Files → Type 0
 HoldsPart name bytes old new = (new name ≡ old name) ⊎ ((part : List ℕ) × (new name ≡ Some part) × Prefix part bytes)
 
 -- A whole file written. A file that was created holds a prefix of the bytes, and one that wasn't holds what it
--- held, or nothing.
+-- held, or nothing. Where any count rose in the call, the answer is Fault.
 pub record WriteAll (told : Bool) (name bytes : List ℕ) (old new : View) (result : Result Unit WriteErr) : Type 0 where
   pub later : Later old new
   pub others : OthersKept name old.files new.files
@@ -31,14 +35,16 @@ pub record WriteAll (told : Bool) (name bytes : List ℕ) (old new : View) (resu
   pub part : IsTrue told → HoldsPart name bytes old.files new.files
   pub closed : OnOk result (new.hand ≡ Nothing)
   pub fault : IsErrOf result WriteFault → Rose (old.writes name) (new.writes name)
+  pub kept : (IsErrOf result WriteFault → ⊥) → SameCounts old new
 
 -- The sink gained a prefix of the text.
 abbrev pub Gained : List ℕ → SinkView → SinkView → Type 0
 Gained text old new = (gained : List ℕ) × (new.bytes ≡ old.bytes ++ gained) × Prefix gained text
 
--- A whole text printed: the sink gained all of it, or a prefix.
+-- A whole text printed: the sink gained all of it, or a prefix. Where the count rose in the call, the answer is Fault.
 pub record PrintAll (told : Bool) (text : List ℕ) (old new : SinkView) (result : Result Unit WriteErr) : Type 0 where
   pub later : old.faults ≤ new.faults
   pub whole : OnOk result (IsTrue told → new.bytes ≡ old.bytes ++ text)
   pub part : IsTrue told → Gained text old new
   pub fault : IsErrOf result WriteFault → Rose old.faults new.faults
+  pub kept : (IsErrOf result WriteFault → ⊥) → new.faults ≡ old.faults

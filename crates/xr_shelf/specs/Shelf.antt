@@ -1,11 +1,12 @@
 -- What is seen of a shelf of named files, and what each of its calls does to that.
-use Rattle.std.specs.Prelude.{◌≡◌, ◌⊎◌, ℕ, ◌+◌, ◌^◌, ◌-◌, ◌<◌, ◌≤◌, min, List, [], ◌++◌, length, take, Option, Some, None, Result, IsErrOf, OnErr, OnOk, IfOk, IsTrue, Bool}
+use Rattle.std.specs.Prelude.{◌≡◌, ◌⊎◌, ℕ, ◌+◌, ◌^◌, ◌-◌, ◌<◌, ◌≤◌, min, List, [], ◌++◌, length, take, Option, Some, None, Result, Ok, Err, IsErrOf, OnErr, OnOk, IfOk, IsTrue, Bool}
 use Rattle.xr_shelf.specs.declared.fault.IoErr.{IoErr}
-use Rattle.xr_shelf.specs.declared.fault.IoErr.TheVariants.{Failed}
+use Rattle.xr_shelf.specs.declared.fault.IoErr.TheVariants.{Failed, Memory}
 
--- A count of faults rose, or stands at the end of its type.
-abbrev pub Rose : ℕ → ℕ → Type 0
-Rose before now = min (before + 1) (2 ^ 64 - 1) ≤ now
+-- A count of faults, which is a number of 64 bits, rose, or stands at the end of its type.
+pub record Rose (before now : ℕ) : Type 0 where
+  pub up : min (before + 1) (2 ^ 64 - 1) ≤ now
+  pub end : now ≤ 2 ^ 64 - 1
 
 -- The file in hand: none, an opened one or a created one, by its name.
 pub data Hand : Type 0 where
@@ -39,6 +40,20 @@ pub record Later (old new : View) : Type 0 where
   pub reads : (name : List ℕ) → old.reads name ≤ new.reads name
   pub writes : (name : List ℕ) → old.writes name ≤ new.writes name
 
+-- Every count is as it was.
+pub record SameCounts (old new : View) : Type 0 where
+  pub reads : (name : List ℕ) → new.reads name ≡ old.reads name
+  pub writes : (name : List ℕ) → new.writes name ≡ old.writes name
+
+-- Only a call that answers Failed raises a count.
+abbrev pub KeptUnless : IoErr → Type 0 → Type 0
+KeptUnless Failed same = Unit {0}
+KeptUnless Memory same = same
+
+abbrev pub KeepsCounts : {T : Type 0} → View → View → Result T IoErr → Type 0
+KeepsCounts old new (Ok _) = SameCounts old new
+KeepsCounts old new (Err e) = KeptUnless e (SameCounts old new)
+
 -- No file but this one changed.
 abbrev pub OthersKept : List ℕ → Files → Files → Type 0
 OthersKept name old new = (other : List ℕ) → (other ≡ name → ⊥) → new other ≡ old other
@@ -51,6 +66,7 @@ pub record Prefix (part whole : List ℕ) : Type 0 where
 -- `open_file`: the named file is in hand and all its bytes are unread, or none is in hand.
 pub record OpenStep (told : Bool) (name : List ℕ) (old new : View) (result : Result Unit IoErr) : Type 0 where
   pub later : Later old new
+  pub counts : KeepsCounts old new result
   pub files : new.files ≡ old.files
   pub ok : OnOk result (new.hand ≡ Opened name)
   pub unread : OnOk result (IsTrue told → new.unread ≡ held old name)
@@ -58,20 +74,23 @@ pub record OpenStep (told : Bool) (name : List ℕ) (old new : View) (result : R
   pub fault : IsErrOf result Failed → Rose (old.reads name) (new.reads name)
 
 -- `read`: the next unread bytes stand at the front of the buffer; it gives none only at the end of the file,
--- and with no opened file in hand.
+-- and with no opened file in hand. A failed one leaves the unread bytes.
 pub record ReadStep (told : Bool) (old new : View) (buffer : List ℕ) (result : Result ℕ IoErr) : Type 0 where
   pub later : Later old new
+  pub counts : KeepsCounts old new result
   pub files : new.files ≡ old.files
   pub hand : new.hand ≡ old.hand
   pub bound : IfOk result (λ n. n ≤ length buffer)
   pub bytes : (name : List ℕ) → old.hand ≡ Opened name → IfOk result (λ n. IsTrue told → old.unread ≡ take n buffer ++ new.unread)
   pub end : (name : List ℕ) → old.hand ≡ Opened name → IfOk result (λ n. n ≡ 0 → 0 < length buffer → IsTrue told → old.unread ≡ [])
   pub idle : ((name : List ℕ) → old.hand ≡ Opened name → ⊥) → IfOk result (λ n. n ≡ 0)
+  pub err : OnErr result (IsTrue told → new.unread ≡ old.unread)
   pub fault : IsErrOf result Failed → (name : List ℕ) × (old.hand ≡ Opened name) × Rose (old.reads name) (new.reads name)
 
 -- `create_file`: the name is empty and in hand, or none is in hand and the name may have been emptied.
 pub record CreateStep (told : Bool) (name : List ℕ) (old new : View) (result : Result Unit IoErr) : Type 0 where
   pub later : Later old new
+  pub counts : KeepsCounts old new result
   pub others : OthersKept name old.files new.files
   pub ok : OnOk result (new.hand ≡ Created name)
   pub empty : OnOk result (IsTrue told → new.files name ≡ Some [])
@@ -82,6 +101,7 @@ pub record CreateStep (told : Bool) (name : List ℕ) (old new : View) (result :
 -- `write`: the file in hand gains the first of the bytes, at least one where there are any.
 pub record WriteStep (told : Bool) (name : List ℕ) (old new : View) (bytes : List ℕ) (result : Result ℕ IoErr) : Type 0 where
   pub later : Later old new
+  pub counts : KeepsCounts old new result
   pub hand : new.hand ≡ old.hand
   pub others : OthersKept name old.files new.files
   pub bound : IfOk result (λ n. n ≤ length bytes)
@@ -93,6 +113,7 @@ pub record WriteStep (told : Bool) (name : List ℕ) (old new : View) (bytes : L
 -- `close_file`: no file is in hand afterwards, whatever it answers.
 pub record CloseStep (old new : View) (result : Result Unit IoErr) : Type 0 where
   pub later : Later old new
+  pub counts : KeepsCounts old new result
   pub files : new.files ≡ old.files
   pub hand : new.hand ≡ Nothing
   pub fault : IsErrOf result Failed → ((name : List ℕ) × (old.hand ≡ Opened name) × Rose (old.reads name) (new.reads name)) ⊎ ((name : List ℕ) × (old.hand ≡ Created name) × Rose (old.writes name) (new.writes name))

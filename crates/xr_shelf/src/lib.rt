@@ -3,6 +3,7 @@
 #![tactic(auto)]
 
 mod fault;
+mod fault_count;
 mod in_hand;
 mod mem_shelf;
 mod mem_sink;
@@ -13,6 +14,7 @@ mod shelf;
 mod sink;
 
 pub use fault::{IoErr, ReadErr, WriteErr};
+pub use fault_count::FaultCount;
 pub use mem_shelf::MemShelf;
 pub use mem_sink::MemSink;
 pub use shelf::{Shelf, read_all, write_all};

@@ -7,6 +7,7 @@ ghost use Rattle.xr_shelf.specs.Plan.{with_fault};
 ghost use Rattle.xr_shelf.specs.MemShelf.{empty_shelf, with_plan, shelf_of, PutsFile, MemOpen, MemRead, MemCreate, MemWrite, MemClose};
 
 use crate::fault::IoErr;
+use crate::fault_count::FaultCount;
 use crate::in_hand::{InHand, opened_file};
 use crate::named_files::NamedFiles;
 use crate::plan::Plan;
@@ -24,8 +25,8 @@ pub struct MemShelf {
     files: NamedFiles,
     hand: InHand,
     plan: Plan,
-    read_faults: u64,
-    write_faults: u64,
+    read_faults: FaultCount,
+    write_faults: FaultCount,
 }
 
 impl Model for MemShelf {
@@ -52,8 +53,8 @@ impl MemShelf {
             files: NamedFiles::new(alloc),
             hand: InHand::Nothing,
             plan: Plan::new(alloc),
-            read_faults: 0,
-            write_faults: 0,
+            read_faults: FaultCount::new(),
+            write_faults: FaultCount::new(),
         }
     }
 
@@ -77,14 +78,14 @@ impl MemShelf {
     pub fn read_faults(&self) -> u64
         ensures { result ≡ self.now.read_faults }
     {
-        self.read_faults
+        self.read_faults.count()
     }
 
     /// How many calls of writing failed, which stays at the end of its type. Takes no memory.
     pub fn write_faults(&self) -> u64
         ensures { result ≡ self.now.write_faults }
     {
-        self.write_faults
+        self.write_faults.count()
     }
 
     /// Sets a call to fail, counted from 1 over all calls of `Shelf` on this shelf.
@@ -111,11 +112,11 @@ impl Shelf for MemShelf {
     {
         self.hand = InHand::Nothing;
         if self.plan.call() {
-            self.read_faults = self.read_faults.saturating_add(1);
+            self.read_faults.rise();
             return Err(IoErr::Failed);
         }
         let Some(bytes) = self.files.get(name) else {
-            self.read_faults = self.read_faults.saturating_add(1);
+            self.read_faults.rise();
             return Err(IoErr::Failed);
         };
         self.hand = opened_file(self.alloc, name, bytes)?;
@@ -130,7 +131,7 @@ impl Shelf for MemShelf {
         match &mut self.hand {
             InHand::Opened(_, reader) => {
                 if fails {
-                    self.read_faults = self.read_faults.saturating_add(1);
+                    self.read_faults.rise();
                     return Err(IoErr::Failed);
                 }
                 Ok(reader.read(self.piece, buffer))
@@ -145,7 +146,7 @@ impl Shelf for MemShelf {
     {
         self.hand = InHand::Nothing;
         if self.plan.call() {
-            self.write_faults = self.write_faults.saturating_add(1);
+            self.write_faults.rise();
             return Err(IoErr::Failed);
         }
         let created = String::from_str(self.alloc, name)?;
@@ -163,7 +164,7 @@ impl Shelf for MemShelf {
             unreachable!()
         };
         if self.plan.call() {
-            self.write_faults = self.write_faults.saturating_add(1);
+            self.write_faults.rise();
             return Err(IoErr::Failed);
         }
         let count = self.piece.min(bytes.len());
@@ -183,11 +184,11 @@ impl Shelf for MemShelf {
         match hand {
             InHand::Nothing => Ok(()),
             InHand::Opened(_, _) => {
-                self.read_faults = self.read_faults.saturating_add(1);
+                self.read_faults.rise();
                 Err(IoErr::Failed)
             }
             InHand::Created(_) => {
-                self.write_faults = self.write_faults.saturating_add(1);
+                self.write_faults.rise();
                 Err(IoErr::Failed)
             }
         }

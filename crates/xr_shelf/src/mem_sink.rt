@@ -6,6 +6,7 @@ ghost use Rattle.xr_shelf.specs.Sink.{SinkStep};
 ghost use Rattle.xr_shelf.specs.MemSink.{empty_sink, sink_with_plan, sink_of, MemSinkStep};
 
 use crate::fault::IoErr;
+use crate::fault_count::FaultCount;
 use crate::plan::Plan;
 use crate::sink::Sink;
 use std::alloc::Global;
@@ -18,7 +19,7 @@ pub struct MemSink {
     piece: usize,
     bytes: Vec<u8>,
     plan: Plan,
-    faults: u64,
+    faults: FaultCount,
 }
 
 impl Model for MemSink {
@@ -42,7 +43,7 @@ impl MemSink {
             piece,
             bytes: Vec::new(alloc),
             plan: Plan::new(alloc),
-            faults: 0,
+            faults: FaultCount::new(),
         }
     }
 
@@ -57,7 +58,7 @@ impl MemSink {
     pub fn faults(&self) -> u64
         ensures { result ≡ self.now.faults }
     {
-        self.faults
+        self.faults.count()
     }
 
     /// Sets a call to fail, counted from 1 over all calls of `Sink` on this sink.
@@ -81,7 +82,7 @@ impl Sink for MemSink {
         ensures exact { MemSinkStep self.old self.new bytes.now result }
     {
         if self.plan.call() {
-            self.faults = self.faults.saturating_add(1);
+            self.faults.rise();
             return Err(IoErr::Failed);
         }
         let count = bytes.len().min(self.piece);

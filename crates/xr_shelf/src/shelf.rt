@@ -84,6 +84,5 @@ pub fn write_all<S: Shelf>(shelf: &mut S, name: &str, bytes: &[u8]) -> Result<()
         let count = shelf.write(&bytes[done..])?;
         done += count;
     }
-    shelf.close_file()?;
-    Ok(())
+    Ok(shelf.close_file()?)
 }

@@ -4,4 +4,5 @@ pub mod Sizes
 pub mod Sound
 pub mod Steps
 pub mod Told
+pub mod Pieces
 pub mod Wires

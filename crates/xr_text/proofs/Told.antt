@@ -6,7 +6,7 @@ use Rattle.xr_text.specs.declared.token.Token.{Token}
 use Rattle.xr_text.specs.declared.token.LexErr.{LexErr}
 use Rattle.xr_text.specs.declared.token.LexErr.TheVariants.{Directive}
 use Rattle.xr_text.specs.Byte.{backquote, is_letter, begins}
-use Rattle.xr_text.specs.Left.{Left, ended, refused, first}
+use Rattle.xr_text.specs.Left.{Left, ended, refused, first, Ascend}
 use Rattle.xr_text.specs.Scan.{Rest, rest, blank, directive, Step, done, skip, tell, refuse, skip_or, begins_directive, read, begin, step, told, scan, left}
 use Rattle.xr_text.specs.Tokens.{Tokens}
 use Rattle.xr_text.proofs.Sizes.{skips_goes, reads_goes}
@@ -130,3 +130,14 @@ count Tokens.ends = omega arith
 count (Tokens.skips s d) = let g = skips_goes s in omega (arith, g.fits, g.onward, count d)
 count (Tokens.reads s d) = let g = (reads_goes s).1 in omega (arith, g.fits, g.onward, count d)
 count (Tokens.refuses s) = omega arith
+
+-- Tokens that begin at or behind a place begin at or behind a lower one.
+ascend_before : (at to : ℕ) (ts : List Token) → at ≤ to → Ascend to ts → Ascend at ts
+ascend_before at to [] h a = tt
+ascend_before at to (t ∷ ts) h a = let low : to ≤ t.start = a.0 in (omega arith, a.1)
+
+pub ascends : {at : ℕ} {bs : List ℕ} {l : Left} → Tokens at bs l → Ascend at l.tokens
+ascends Tokens.ends = tt
+ascends (Tokens.skips {at = at} {to = to} {l = l} s d) = let g = skips_goes s in ascend_before at to l.tokens (omega (arith, g.onward)) (ascends d)
+ascends (Tokens.reads s d) = let g = reads_goes s in (omega (arith, g.0), ascends d)
+ascends (Tokens.refuses s) = tt

@@ -1,5 +1,5 @@
 -- What is left to tell of a text: its tokens in order, then the fault that ends them, or none.
-use Rattle.std.specs.Prelude.{◌≡◌, ℕ, List, [], ◌∷◌, Option, Some, None, Result, Ok, Err}
+use Rattle.std.specs.Prelude.{◌≡◌, ℕ, ◌≤◌, List, [], ◌∷◌, Option, Some, None, Result, Ok, Err, codes}
 use Rattle.xr_text.specs.declared.token.Token.{Token}
 use Rattle.xr_text.specs.declared.token.Kind.{Kind}
 use Rattle.xr_text.specs.declared.token.LexErr.{LexErr}
@@ -24,6 +24,11 @@ refused e = record { tokens = []; fault = Some e }
 abbrev pub first : Token → Left → Left
 first t l = record { tokens = t ∷ l.tokens; fault = l.fault }
 
+-- Tokens ascend: each begins at or behind the end of the one before, and the first at or behind this place.
+abbrev pub Ascend : ℕ → List Token → Type 0
+Ascend at [] = Unit {0}
+Ascend at (t ∷ ts) = (at ≤ t.start) × Ascend t.«end» ts
+
 -- A token is the first of what was left. The end and a fault are all that is left, and stay so.
 abbrev pub Tells : Left → Result (Option Token) LexErr → Left → Type 0
 Tells old (Ok (Some t)) new = old ≡ first t new
@@ -36,3 +41,10 @@ place_of (BadByte at) = at
 place_of (OpenComment at) = at
 place_of (OpenText at) = at
 place_of (Directive at) = at
+
+-- the words of a refusal, without the place
+abbrev pub fault_words : LexErr → List ℕ
+fault_words (BadByte at) = codes "bad byte"
+fault_words (OpenComment at) = codes "open comment"
+fault_words (OpenText at) = codes "open text"
+fault_words (Directive at) = codes "directive"

@@ -1,7 +1,7 @@
 //! The lexer.
 
 ghost use Rattle.std.specs.Prelude.{◌≡◌, ◌<◌, ◌≤◌, length, All};
-ghost use Rattle.xr_text.specs.Left.{Left as left, Tells};
+ghost use Rattle.xr_text.specs.Left.{Left as left, Tells, Ascend};
 ghost use Rattle.xr_text.specs.Tokens.{Tokens};
 
 use crate::step::next;
@@ -35,7 +35,8 @@ impl<'a> Lexer<'a> {
         ensures rules { Tokens 0 bytes.now result }
         ensures one { (told : left) → Tokens 0 bytes.now told → told ≡ result }
 
-        // each token has bytes, and lies within the text
+        // each token begins behind the one before, has bytes, and lies within the text
+        ensures ascend { Ascend 0 result.tokens }
         ensures spans { All (λ t. (t.start < t.end) × (t.end ≤ length bytes.now)) result.tokens }
         ensures count { length result.tokens ≤ length bytes.now }
     {
@@ -57,6 +58,3 @@ impl<'a> Lexer<'a> {
         }
     }
 }
-
-#[cfg(test)]
-mod tests;

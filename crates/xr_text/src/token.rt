@@ -1,7 +1,7 @@
 //! Tokens, and what no token begins with.
 
-ghost use Rattle.std.specs.Prelude.{◌≡◌};
-ghost use Rattle.xr_text.specs.Left.{place_of};
+ghost use Rattle.std.specs.Prelude.{◌≡◌, Some};
+ghost use Rattle.xr_text.specs.Left.{place_of, fault_words};
 
 use std::fmt;
 
@@ -54,7 +54,10 @@ impl LexErr {
     }
 }
 
+/// The words of a refusal, without the place.
 impl fmt::Display for LexErr {
+    ghost output = { λ fault. Some (fault_words fault) };
+
     fn fmt<W: fmt::Write>(&self, f: &mut fmt::Formatter<W>) -> fmt::Result {
         match self {
             LexErr::BadByte { .. } => write!(f, "bad byte"),

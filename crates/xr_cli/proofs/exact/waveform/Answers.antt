@@ -29,7 +29,7 @@ is_written c =
     }
 
 pub returns-clause-exact : goal.returns-clause-exact
-returns-clause-exact c = written_exact (job_in c.args.circuit.now) c.in_ok-written.written.items c.requires.fits.fits_job (is_written c)
+returns-clause-exact c = written_exact (job_in c.args.circuit.now) c.in_ok-written.written.items c.requires.fits.any.fits_job c.requires.fits.plain (is_written c)
 
 pub returns-clause-shows : goal.returns-clause-shows
-returns-clause-shows c = written_shows (job_in c.args.circuit.now) c.in_ok-written.written.items c.requires.fits.fits_job (is_written c)
+returns-clause-shows c = written_shows (job_in c.args.circuit.now) c.in_ok-written.written.items c.requires.fits.any.fits_job c.requires.fits.plain (is_written c)

@@ -1,9 +1,8 @@
--- A cell gives its table's value on the values of its pins.
-use Rattle.std.proofs.Common.{◌∙◌}
+-- A step has room for all nets.
+use Rattle.std.proofs.Common.{length}
+use Rattle.xr_design.specs.Circuit.{job_in}
+use Rattle.xr_design.proofs.Reaching.{step_room}
 use Rattle.xr_cli.proofs.replay.driven_value.Goals as goal
 
-pub returns-in-Cell : goal.returns-in-Cell
-returns-in-Cell c =
-    let width = c.width_of.ensures in
-    let pins = c.as_slice.ensures in
-    rw c.in-Cell.is (c.cell_value.ensures ∙ simp (width, pins))
+pub net_value-requires-clause-small : goal.net_value-requires-clause-small
+net_value-requires-clause-small c = step_room (job_in c.args.circuit.now) c.requires.fits.any.fits_job (length c.args.shown.now) c.args.spot c.requires.spot

@@ -29,7 +29,7 @@ places-preserved c =
     let read : c.deref.result.now ≡ c.places.shown.items = c.deref.ensures.value in
     let value : c.shown_value-value.result ≡ next_shown j (shows j c.places.counter) = c.shown_value-value.ensures ∙ ap (next_shown j) (read ∙ before) in
     let grown : c.places.shown.items ++ c.shown_value-value.result ∷ [] ≡ shows j c.places.counter ++ next_shown j (shows j c.places.counter) ∷ [] = rw (before, value) refl in
-    items ∙ grown ∙ sym (shows_more j c.places.counter)
+    items ∙ grown ∙ sym (shows_more j c.requires.plain c.places.counter)
 
 pub returns : goal.returns
 returns c =

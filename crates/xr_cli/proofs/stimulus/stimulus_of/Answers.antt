@@ -4,6 +4,8 @@ use Rattle.xr_cli.proofs.stimulus.stimulus_of.Goals as goal
 
 pub returns-clause-stim : goal.returns-clause-stim
 returns-clause-stim c = record {
+  start = refl;
+  starts = search rules;
   times = search rules;
   rounds = refl;
   row = c.in_ok-row.row.items;

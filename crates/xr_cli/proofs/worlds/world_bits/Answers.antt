@@ -13,8 +13,8 @@ pub places-init : goal.places-init
 unfolding world
 places-init c = λ certain. c.in_ok-bits.ensures.items
 
-pub rule_value-value-requires-clause-within : goal.rule_value-value-requires-clause-within
-rule_value-value-requires-clause-within c =
+pub next_value-value-requires-clause-within : goal.next_value-value-requires-clause-within
+next_value-value-requires-clause-within c =
     let j = job_in c.args.circuit.now in
     let certain = λ (k : ℕ). X in
     let f = bit_in c.args.filling.now in
@@ -36,7 +36,7 @@ places-preserved c = λ certain.
     let read : c.deref.result.now ≡ bits = c.deref.ensures.value ∙ before in
     let long : length c.deref.result.now ≡ n = ap length read ∙ world_length j certain f n in
     let items : c.push.new.self.items ≡ c.places.bits.items ++ c.decided_bit.result ∷ [] = c.in_ok-push.ensures.items in
-    let value : c.rule_value-value.result ≡ rule j certain (bit_at bits) n = c.rule_value-value.ensures certain ∙ rw (long, read) refl in
+    let value : c.next_value-value.result ≡ rule j certain (bit_at bits) n = c.next_value-value.ensures certain ∙ rw (long, read) refl in
     let here : c.decided_bit.result ≡ decided (rule j certain (bit_at bits) n) (f n) = c.decided_bit.ensures ∙ rw (value, c.has_place.ensures) refl in
     let grown : c.places.bits.items ++ c.decided_bit.result ∷ [] ≡ bits ++ decided (rule j certain (bit_at bits) n) (f n) ∷ [] = rw (before, here) refl in
     let step : world j certain f (n + 1) ≡ bits ++ decided (rule j certain (bit_at bits) n) (f n) ∷ [] = rw add-one refl in

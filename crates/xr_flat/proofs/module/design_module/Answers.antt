@@ -1,7 +1,8 @@
 -- Each refusal leaves one condition of the form open, and what passes meets them all.
-use Rattle.std.proofs.Common.{rules, ◌≡◌, ◌∙◌, ◌<◌, ◌≤◌, sym, ap, refl, Some, None, false, true, length, arith, ◌&&◌}
+use Rattle.std.proofs.Common.{rules, List, [], ◌≡◌, ◌∙◌, ◌<◌, ◌≤◌, sym, ap, refl, Some, None, false, true, length, arith, ◌&&◌}
 use Rattle.std.specs.List.{list_all}
 use Rattle.std.proofs.lemmas.List.{length-map}
+use Rattle.xr_cell.specs.Table.{Table as Primitive}
 use Rattle.xr_design.specs.declared.design.Net.{Net}
 use Rattle.xr_flat.specs.Netlist.{are_directed, are_distinct, declared, declared_as, declares_of, is_directed}
 use Rattle.xr_flat.specs.Steps.{drivers_of, first_net, is_driven, paths_of, run, words}
@@ -53,8 +54,11 @@ pub returns-clause-design : goal.returns-clause-design
 returns-clause-design c =
     let ran : run c.in_ok-names.names (drivers_of c.in_ok-nets.nets.items) c.parts.result.1.now ≡ Some (drivers_of c.drive_all.new.nets.items) = search rules in
     let paths : paths_of c.drive_all.new.nets.items ≡ paths_of c.in_ok-nets.nets.items = search rules in
-    rw c.from_vec.ensures (design_is c.args.tree.now _ _ c.parts.ensures.declares c.parts.ensures.gates c.in_ok-names.ensures.distinct _ (rw (c.in_ok-names.ensures.names, c.in_ok-nets.ensures.nets, first_drivers (declares_of c.parts.result.0.now)) at ran)
-    c.drive_all.new.nets.items (paths ∙ ap paths_of c.in_ok-nets.ensures.nets) refl)
+    let is = design_is c.args.tree.now _ _ c.parts.ensures.declares c.parts.ensures.gates c.in_ok-names.ensures.distinct _ (rw (c.in_ok-names.ensures.names, c.in_ok-nets.ensures.nets, first_drivers (declares_of c.parts.result.0.now)) at ran)
+    c.drive_all.new.nets.items (paths ∙ ap paths_of c.in_ok-nets.ensures.nets) refl in
+    let nets : c.from_vec.result ≡ c.drive_all.new.nets.items = search rules in
+    let udps : c.from_vec-2.result ≡ [] = search rules in
+    ap (λ (ns : List Net). record { nets = ns; udps = c.from_vec-2.result }) nets ∙ (ap (λ (us : List Primitive). record { nets = c.drive_all.new.nets.items; udps = us }) udps ∙ is)
 
 pub returns-clause-order : goal.returns-clause-order
 returns-clause-order c =

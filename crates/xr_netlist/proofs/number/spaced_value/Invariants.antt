@@ -1,6 +1,7 @@
 use Rattle.std.proofs.Common.{◌≡◌, ◌<◌, ◌^◌, ◌==◌, not, length, filter}
 use Rattle.xr_netlist_grammar.specs.Bytes.{number_from}
-use Rattle.xr_netlist_grammar.specs.Numbers.{are_spaced_digits, spaced_number, go_on}
+use Rattle.xr_netlist_grammar.specs.Numbers.{are_spaced_digits, spaced_number}
+use Rattle.xr_netlist.proofs.Numbers.{go_on}
 use Rattle.xr_netlist.proofs.number.spaced_value.Given as goal
 
 abbrev pub invariant-digits : goal.invariant-digits

@@ -1,14 +1,19 @@
-use Rattle.xr_netlist_grammar.proofs.Theorem.{found_is, only_is, first_is}
+-- A text is read as the run over its tokens.
+use Rattle.xr_netlist_grammar.proofs.Theorem.{found_is, whole_is, only_is, first_is}
 use Rattle.xr_netlist.proofs.text.parse.Goals as goal
 
-pub returns-clause-told : goal.returns-clause-told
-returns-clause-told c = c.new-words.ensures.told
-
 pub returns-clause-found : goal.returns-clause-found
-returns-clause-found c = λ told tokens. found_is c.args.bytes.now told c.source.result (rw (c.new-words.ensures.words told tokens) at c.source.ensures)
+returns-clause-found c =
+    let said = c.new-words.ensures in found_is c.args.bytes.now said.told c.source.result (λ told tokens. rw (said.words told tokens) at c.source.ensures)
+
+pub returns-clause-whole : goal.returns-clause-whole
+returns-clause-whole c =
+    let said = c.new-words.ensures in whole_is c.args.bytes.now said.told c.source.result (λ told tokens. rw (said.words told tokens) at c.source.ensures)
 
 pub returns-clause-only : goal.returns-clause-only
-returns-clause-only c = λ told tokens. only_is c.args.bytes.now told c.source.result (rw (c.new-words.ensures.words told tokens) at c.source.ensures)
+returns-clause-only c =
+    let said = c.new-words.ensures in only_is c.args.bytes.now said.told c.source.result (λ told tokens. rw (said.words told tokens) at c.source.ensures)
 
 pub returns-clause-first : goal.returns-clause-first
-returns-clause-first c = λ told tokens. first_is c.args.bytes.now told c.source.result (rw (c.new-words.ensures.words told tokens) at c.source.ensures)
+returns-clause-first c =
+    let said = c.new-words.ensures in first_is c.args.bytes.now said.told c.source.result (λ told tokens. rw (said.words told tokens) at c.source.ensures)

@@ -1,0 +1,59 @@
+-- What a register sees of its pins, and what it makes of them. The replay, the rule and the settled test share this.
+use Rattle.std.specs.Prelude.{ℕ, ◌-◌, ◌==◌, ◌&&◌, ◌||◌, Bool, true, false, List, map, slice_index_or, length, if◌then◌else◌}
+use Rattle.std.specs.Int.{bit_at}
+use Rattle.xr_cell.specs.Below.{any_below}
+use Rattle.xr_cell.specs.declared.value.Value.{Value}
+use Rattle.xr_cell.specs.declared.value.Value.TheVariants.{X}
+use Rattle.xr_cell.specs.Value.{bit_value, is_unknown}
+use Rattle.xr_cell.specs.Next.{next}
+use Rattle.xr_design.specs.Job.{Job, at, primitive_of}
+use Rattle.xr_design.specs.declared.stim.StartRule.{StartRule}
+use Rattle.xr_design.specs.declared.stim.StartRule.TheVariants.{Cold, Recorded}
+use Rattle.xr_design.specs.declared.design.Pin.{Pin}
+use Rattle.xr_design.specs.declared.design.Pin.TheVariants.{Net, Bit, Dead}
+use Rattle.xr_design.specs.declared.design.Latching.{Latching}
+
+-- The value at a pin, from the values of the nets. A dead pin is x.
+abbrev pub pin_of : (ℕ → Value) → Pin → Value
+pin_of nets (Net net) = nets net
+pin_of nets (Bit bit) = bit_value bit
+pin_of nets Dead = X
+
+-- The values at pins at a step, from the values of places.
+abbrev pub pins_at : Job → (ℕ → Value) → ℕ → List Pin → List Value
+pins_at j values step pins = map (pin_of (λ net. values (at j step net))) pins
+
+abbrev pub is_cold : StartRule → Bool
+is_cold Cold = true
+is_cold Recorded = false
+
+-- At step 1 a register that starts cold looks two steps back to where nothing is known.
+abbrev pub looks_before : Job → ℕ → Bool
+looks_before j step = (step == 1) && is_cold j.start_rule
+
+-- There each pin is x, and no pin is certain.
+abbrev pub early_pins : List Pin → List Value
+early_pins pins = map (λ (pin : Pin). X) pins
+
+-- A register at a later step looks two steps back and one step back. Two steps back from step 1 is step 0 again, which
+-- stands for the step before it where registers start as recorded.
+abbrev pub old_pins : Job → (ℕ → Value) → ℕ → List Pin → List Value
+old_pins j values step pins = if looks_before j step then early_pins pins else pins_at j values (step - 2) pins
+
+abbrev pub new_pins : Job → (ℕ → Value) → ℕ → List Pin → List Value
+new_pins j values step pins = pins_at j values (step - 1) pins
+
+-- What it keeps then: what its primitive makes of the pins that it looks back at, and of what it kept one step before.
+abbrev pub updated : Job → (ℕ → Value) → Value → ℕ → Latching → Value
+updated j values kept step latching =
+    next (primitive_of j.udps latching.udp) latching.clocks (old_pins j values step latching.pins) (new_pins j values step latching.pins) kept
+
+-- One of the clock pins is x or z.
+abbrev pub has_unknown_clock : ℕ → List Value → Bool
+has_unknown_clock clocks values = any_below (length values) (λ pin. (bit_at clocks pin == 1) && is_unknown (slice_index_or values pin X))
+
+-- A clock pin isn't certain where the register looks back at it. So where registers start cold, no clock pin is certain
+-- before step 0, a constant one among them.
+abbrev pub has_uncertain_clock : Job → (ℕ → Value) → ℕ → Latching → Bool
+has_uncertain_clock j certain step latching =
+    has_unknown_clock latching.clocks (old_pins j certain step latching.pins) || has_unknown_clock latching.clocks (new_pins j certain step latching.pins)

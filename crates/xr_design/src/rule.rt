@@ -1,0 +1,161 @@
+//! The rule of a place: what earlier places make of it in the circuit of zeros and ones.
+
+ghost use Rattle.std.specs.Prelude.{◌≡◌, ℕ, ◌+◌, ◌*◌, ◌<◌, ◌≤◌, ◌^◌, length};
+ghost use Rattle.std.specs.List.{AllByRecursion};
+ghost use Rattle.xr_cell.specs.declared.value.Value.{Value as AnyValue};
+ghost use Rattle.xr_design.specs.Circuit.{job_in, CircuitFits, IsSpot, Reach};
+ghost use Rattle.xr_design.specs.Fits.{StandsBefore, FitsDriver, FitsRegister, FitsTable};
+ghost use Rattle.xr_design.specs.Job.{places_of};
+ghost use Rattle.xr_design.specs.Order.{arguments_of_driver, net_pins};
+ghost use Rattle.xr_design.specs.Register.{pins_at};
+ghost use Rattle.xr_design.specs.Replay.{table_of};
+ghost use Rattle.xr_design.specs.Rule.{born, known_or, as_values, register_rule, rule, rule_of};
+
+use crate::circuit::{Circuit, Spot, driver_at, recorded_at, spot_of, start_at};
+use crate::design::{Driver, Latching, Pin, Table};
+use crate::reads::{AsValues, BitSource, Source, net_value, pin_values};
+use crate::register::{clock_is_uncertain, updated_value};
+use xr_cell::{Value, gate_value};
+
+/// What the certain values and the bits of the places before a place make of it. Takes no memory.
+#[tactic(auto, unfolding(crate::specs::Rule::rule))]
+pub fn rule_value<C: Source, B: BitSource>(
+    circuit: &Circuit<'_>,
+    certain: &C,
+    bits: &B,
+    place: usize,
+) -> Value
+    requires fits { CircuitFits circuit.now }
+    requires within { place < places_of (job_in circuit.now) }
+    requires certain { (k : ℕ) → k < place → C.has certain.now k }
+    requires bits { (k : ℕ) → k < place → B.has bits.now k }
+    ensures { result ≡ rule (job_in circuit.now) (C.reads certain.now) (B.bits bits.now) place }
+{
+    let spot = spot_of(circuit, place);
+    ruled_value(
+        circuit,
+        certain,
+        bits,
+        place,
+        spot,
+        driver_at(circuit, spot.net),
+    )
+}
+
+fn ruled_value<C: Source, B: BitSource>(
+    circuit: &Circuit<'_>,
+    certain: &C,
+    bits: &B,
+    place: usize,
+    spot: Spot,
+    driver: &Driver,
+) -> Value
+    requires fits { CircuitFits circuit.now }
+    requires spot { IsSpot (job_in circuit.now) place spot }
+    requires before { AllByRecursion (StandsBefore (job_in circuit.now) spot.position) (arguments_of_driver driver.now) }
+    requires driver { FitsDriver (job_in circuit.now).udps (job_in circuit.now).width driver.now }
+    requires is { driver.now ≡ (job_in circuit.now).driver spot.net }
+    requires certain { (k : ℕ) → k < place → C.has certain.now k }
+    requires bits { (k : ℕ) → k < place → B.has bits.now k }
+    ensures { result ≡ rule_of (job_in circuit.now) (C.reads certain.now) (B.bits bits.now) spot.step spot.net driver.now }
+{
+    match driver {
+        Driver::Input => {
+            let recorded = recorded_at(circuit, spot.step, spot.net);
+            value_known_or(recorded, born_value(circuit, bits, place, spot))
+        }
+        Driver::Undriven => born_value(circuit, bits, place, spot),
+        Driver::Constant(bit) => Value::from_bit(*bit),
+        Driver::Copy(net) => net_value(circuit, &AsValues { source: bits }, spot.step, *net),
+        Driver::Cell(table, pins) => cell_value(
+            circuit,
+            bits,
+            place,
+            spot,
+            *table,
+            pins.as_slice(),
+        ),
+        Driver::Register(latching) => register_value(circuit, certain, bits, place, spot, latching),
+    }
+}
+
+fn value_known_or(value: Value, other: Value) -> Value
+    ensures { result ≡ known_or value other }
+{
+    if value.is_known() { value } else { other }
+}
+
+fn born_value<B: BitSource>(circuit: &Circuit<'_>, bits: &B, place: usize, spot: Spot) -> Value
+    requires fits { CircuitFits circuit.now }
+    requires spot { IsSpot (job_in circuit.now) place spot }
+    requires bits { (k : ℕ) → k < place → B.has bits.now k }
+    ensures { result ≡ born (job_in circuit.now) (B.bits bits.now) spot.step spot.net }
+{
+    if spot.step % circuit.stim.rounds as usize == 0 {
+        Value::X
+    } else {
+        net_value(
+            circuit,
+            &AsValues { source: bits },
+            spot.step - 1,
+            spot.net as u32,
+        )
+    }
+}
+
+fn cell_value<B: BitSource>(
+    circuit: &Circuit<'_>,
+    bits: &B,
+    place: usize,
+    spot: Spot,
+    table: Table,
+    pins: &[Pin],
+) -> Value
+    requires fits { CircuitFits circuit.now }
+    requires spot { IsSpot (job_in circuit.now) place spot }
+    requires before { AllByRecursion (StandsBefore (job_in circuit.now) spot.position) (net_pins pins.now) }
+    requires table { FitsTable (job_in circuit.now).udps table (length pins.now) }
+    requires bits { (k : ℕ) → k < place → B.has bits.now k }
+    ensures { result ≡ table_of (job_in circuit.now).udps table (pins_at (job_in circuit.now) (as_values (B.bits bits.now)) spot.step pins.now) }
+{
+    let values = pin_values(circuit, &AsValues { source: bits }, spot.step, pins);
+    table_value(circuit, table, &values[..pins.len()])
+}
+
+/// The value of a cell's table.
+pub fn table_value(circuit: &Circuit<'_>, table: Table, values: &[Value]) -> Value
+    requires { FitsTable (job_in circuit.now).udps table (length values.now) }
+    ensures { result ≡ table_of (job_in circuit.now).udps table values.now }
+{
+    match table {
+        Table::Gate(gate) => gate_value(gate, values),
+        Table::Udp(number) => circuit.design.udps.as_slice()[number as usize].look(values),
+    }
+}
+
+fn register_value<C: Source, B: BitSource>(
+    circuit: &Circuit<'_>,
+    certain: &C,
+    bits: &B,
+    place: usize,
+    spot: Spot,
+    latching: &Latching,
+) -> Value
+    requires fits { CircuitFits circuit.now }
+    requires spot { IsSpot (job_in circuit.now) place spot }
+    requires register { FitsRegister (job_in circuit.now).udps (job_in circuit.now).width latching.now }
+    requires certain { (k : ℕ) → k < place → C.has certain.now k }
+    requires bits { (k : ℕ) → k < place → B.has bits.now k }
+    ensures { result ≡ register_rule (job_in circuit.now) (C.reads certain.now) (B.bits bits.now) spot.step spot.net latching.now }
+{
+    let values = AsValues { source: bits };
+    if spot.step == 0 {
+        start_at(circuit, spot.net)
+    } else if clock_is_uncertain(circuit, certain, spot.step, latching) {
+        let kept = net_value(circuit, certain, spot.step - 1, spot.net as u32);
+        updated_value(circuit, certain, kept, spot.step, latching)
+    } else {
+        let kept = net_value(circuit, &values, spot.step - 1, spot.net as u32);
+        updated_value(circuit, &values, kept, spot.step, latching)
+    }
+}

@@ -1,0 +1,23 @@
+-- Texts and what they stand for.
+use Rattle.std.specs.Prelude.{◌≡◌, ℕ, List, None}
+use Rattle.xr_text.specs.Left.{Left}
+use Rattle.xr_text.specs.Tokens.{Tokens}
+use Rattle.xr_netlist_grammar.specs.Lexemes.{words_of}
+use Rattle.xr_netlist_grammar.specs.Text.{Text}
+use Rattle.xr_netlist_grammar.specs.Refusal.{RefusesFirst}
+use Rattle.xr_netlist_grammar.specs.Fault.{refusal_of}
+use Rattle.xr_netlist_grammar.specs.declared.fault.NetlistFault.{NetlistFault}
+use Rattle.xr_netlist_grammar.specs.declared.tree.Source.{Source}
+
+-- A text is one of the grammar, and stands for a tree.
+pub record IsTree (text : List ℕ) (tree : Source) : Type 0 where
+  pub left : Left
+  pub told : Tokens 0 text left
+  pub parsed : Text (words_of text left).words tree
+  pub whole : left.fault ≡ None
+
+-- A text is none of the grammar, and this is what is wrong with it.
+pub record IsRefused (text : List ℕ) (fault : NetlistFault) : Type 0 where
+  pub left : Left
+  pub told : Tokens 0 text left
+  pub first : RefusesFirst (words_of text left).words (words_of text left).stop (refusal_of fault)

@@ -1,0 +1,5 @@
+use Rattle.xr_proof.specs.Status.{HasSeen}
+use Rattle.xr_proof.proofs.clause_status.status_of.Given as goal
+
+abbrev pub invariant-loop-k : goal.invariant-loop-k
+invariant-loop-k l = HasSeen l.marks l.literals l.k l.open

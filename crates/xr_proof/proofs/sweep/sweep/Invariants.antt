@@ -1,0 +1,14 @@
+use Rattle.std.proofs.Common.{◌++◌, ◌-◌, length}
+use Rattle.xr_proof.specs.Propagation.{IsGrowth}
+use Rattle.xr_proof.specs.Trail.{IsTrail, StaysOver}
+use Rattle.xr_proof.proofs.sweep.sweep.Given as goal
+
+abbrev pub invariant-rounds : goal.invariant-rounds
+invariant-rounds l = record {
+  trail : IsTrail l.trail;
+  growth : IsGrowth l.initial.trail.marks.items l.trail.marks.items (l.first ++ l.second);
+  over : StaysOver l.initial.trail l.trail;
+}
+
+abbrev pub decreases-rounds : goal.decreases-rounds
+decreases-rounds l = length l.trail.marks.items - l.trail.len

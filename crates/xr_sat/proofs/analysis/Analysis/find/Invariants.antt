@@ -1,0 +1,4 @@
+use Rattle.xr_sat.proofs.analysis.Analysis.find.Given as goal
+
+abbrev pub decreases-points : goal.decreases-points
+decreases-points l = l.at

@@ -1,0 +1,106 @@
+//! The search: rounds until a formula is decided or the limit is reached.
+
+ghost use Rattle.std.specs.Prelude.{◌≡◌, ◌≤◌, ◌<◌, ◌+◌, ◌*◌, ◌++◌, ◌∷◌, [], ℕ, true, false, length, IfOk};
+ghost use Rattle.std.specs.List.{All, slice_index_or};
+ghost use Rattle.xr_proof.specs.Assignment.{HasNoZero};
+ghost use Rattle.xr_proof.specs.Code.{HaveRoom};
+ghost use Rattle.xr_proof.specs.Lines.{IsReady};
+ghost use Rattle.xr_proof.specs.Log.{Fit};
+ghost use Rattle.xr_sat.specs.Decide.{AreValues};
+ghost use Rattle.xr_sat.specs.Outcome.{IsOutcome};
+
+use crate::hints::Hints;
+use crate::outcome::Outcome;
+use crate::round::round;
+use std::alloc::{AllocError, Global};
+use xr_base::Memory;
+use xr_proof::base::{advance, start};
+use xr_proof::trail::Trail;
+use xr_proof::watch::Watch;
+use xr_proof::{Clause, Cnf, Exhausted, Log, Model, Refuted};
+
+/// A model of the formula, or a log that refutes it, or a fresh log of `limit` clauses, whichever comes first. A log whose
+/// `limit`-th clause is empty refutes. Takes about 120 bytes for each variable, and for each clause of the formula and of the log 24
+/// and, in the log, four for each literal.
+pub fn solve(alloc: Global, cnf: &Cnf, limit: u32) -> Result<Outcome, Memory>
+    requires vars { cnf.now.vars ≤ 2147483647 }
+    requires fit { Fit cnf.now.vars cnf.now.clauses }
+    requires some { 0 < limit }
+    ensures outcome { IfOk result (IsOutcome cnf.now.clauses cnf.now.vars limit) }
+{
+    let codes = 2 * (cnf.vars as usize) + 2;
+    let query = cnf.clauses.as_slice();
+    let mut trail = Trail::new(alloc, codes)?;
+    let mut watch = Watch::new(alloc, codes, query.len())?;
+    trail.clear();
+    watch.clear();
+    let log: Vec<Clause> = Vec::new(alloc);
+    let refuted = start(&mut trail, &mut watch, query, &log[..0]);
+    search(
+        alloc, cnf, query, limit, &mut trail, &mut watch, log, refuted,
+    )
+}
+
+/// Makes rounds until there is an answer.
+fn search(
+    alloc: Global,
+    cnf: &Cnf,
+    query: &[Clause],
+    limit: u32,
+    trail: &mut Trail,
+    watch: &mut Watch,
+    mut log: Vec<Clause>,
+    mut refuted: bool,
+) -> Result<Outcome, Memory>
+    requires query { query.now ≡ cnf.now.clauses }
+    requires vars { cnf.now.vars ≤ 2147483647 }
+    requires room { HaveRoom (length trail.old.marks.items) query.now }
+    requires no_zero { refuted ≡ false → All HasNoZero query.now }
+    requires some { 0 < limit }
+    requires codes { length trail.old.marks.items ≡ 2 * cnf.now.vars + 2 }
+    requires log { log.items ≡ [] }
+    requires ready { IsReady trail.old watch.old refuted query.now }
+    ensures { IfOk result (IsOutcome cnf.now.clauses cnf.now.vars limit) }
+{
+    let mut hints = Hints::new(alloc, cnf.vars as usize)?;
+    'rounds: loop {
+        if refuted {
+            let none = Vec::new(alloc);
+            log.push(Clause::from_vec(none))?;
+            return Ok(Outcome::Refuted(Refuted::from_log(cnf, Log::from_vec(log))));
+        }
+        match round(
+            alloc,
+            trail,
+            watch,
+            query,
+            &log,
+            cnf.vars as usize,
+            &mut hints,
+        )? {
+            None => {
+                let values = values_of(alloc, &trail.marks, cnf.vars as usize)?;
+                return Ok(Outcome::Model(Model::from_vec(values)));
+            }
+            Some(literals) => log.push(Clause::from_vec(literals))?,
+        }
+        if log.len() == limit as usize {
+            return Ok(Outcome::Limit(Exhausted::from_log(cnf, Log::from_vec(log), limit)));
+        }
+        watch.widen()?;
+        refuted = advance(trail, watch, false, query, &log, log.len() - 1);
+    }
+}
+
+/// The values that the trail gives to the variables.
+fn values_of(alloc: Global, marks: &[bool], vars: usize) -> Result<Vec<bool>, AllocError>
+    requires { length marks.now ≡ 2 * vars + 2 }
+    ensures count { IfOk result (λ v. length v.items ≡ vars) }
+    ensures values { IfOk result (λ v. AreValues marks.now vars v.items) }
+{
+    let mut values = Vec::new(alloc);
+    for n in 0..vars {
+        values.push(marks[2 * n + 3])?;
+    }
+    Ok(values)
+}
