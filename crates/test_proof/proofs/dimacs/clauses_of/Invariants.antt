@@ -3,11 +3,11 @@ use Rattle.std.proofs.Common.{◌≤◌, nat_abs}
 use Rattle.std.specs.List.{All}
 use Rattle.xr_proof.specs.Assignment.{HasNoZero}
 use Rattle.xr_proof.specs.Log.{Fit}
-use Rattle.xr_proof_tests.proofs.logs.clauses.Given as goal
+use Rattle.test_proof.proofs.dimacs.clauses_of.Given as goal
 
 abbrev pub invariant-loop-k : goal.invariant-loop-k
-invariant-loop-k g l = record {
-  fit : Fit 12 l.clauses.items;
-  small : All (λ n. nat_abs n ≤ 12) l.literals.items;
+invariant-loop-k l = record {
+  fit : Fit l.vars l.clauses.items;
+  small : All (λ n. nat_abs n ≤ l.vars) l.literals.items;
   no_zero : HasNoZero l.literals.items;
 }
