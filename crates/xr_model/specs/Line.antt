@@ -1,0 +1,65 @@
+-- Lines: when what a line says of its place holds, over the waveform before it.
+use Rattle.std.specs.Prelude.{◌≡◌, ℕ, ℤ, ◌<◌, ◌≤◌, Bool, true, false, List, length}
+use Rattle.std.specs.List.{All}
+use Rattle.xr_design.specs.declared.waveform.Written.{Written}
+use Rattle.xr_design.specs.Job.{Job}
+use Rattle.xr_design.specs.Filling.{IsFilling, bit_of}
+use Rattle.xr_design.specs.Waveform.{certain, Settles}
+use Rattle.xr_design.specs.World.{world_bit}
+use Rattle.xr_design.specs.declared.place.Place.{Place}
+use Rattle.xr_proof.specs.Assignment.{HasNoZero}
+use Rattle.xr_proof.specs.Log.{Refutes, AreFresh}
+use Rattle.xr_model.specs.Places.{among}
+use Rattle.xr_model.specs.Cone.{sources, denied_value}
+use Rattle.xr_model.specs.Query.{IsQuery}
+use Rattle.xr_model.specs.Stated.{Stated, pair_of}
+use Rattle.xr_model.specs.declared.line.Body.{Body}
+use Rattle.xr_model.specs.declared.line.Body.TheVariants.{Enumerated, Refuted, Pair, Undecided}
+
+-- The worlds of two fillings give 0 and 1 at a place.
+pub record GivesBoth (j : Job) (waveform : List Written) (place : ℕ) (stated : Stated) : Type 0 where
+  pub zero_filling : IsFilling j stated.zero
+  pub one_filling : IsFilling j stated.one
+  pub gives_zero : world_bit j (certain waveform) (bit_of j stated.zero) place ≡ false
+  pub gives_one : world_bit j (certain waveform) (bit_of j stated.one) place ≡ true
+
+-- A filling lists sources of the place alone.
+abbrev pub IsOfSources : Job → List Written → ℕ → List Place → Type 0
+IsOfSources j waveform place filling =
+    (k : ℕ) → bit_of j filling k ≡ true → among (sources j (certain waveform) place) k ≡ true
+
+-- The place has at most 12 sources, and the world of every filling of them gives the bit.
+pub record IsEnumerated (j : Job) (waveform : List Written) (place : ℕ) (bit : Bool) : Type 0 where
+  pub few : length (sources j (certain waveform) place) ≤ 12
+  pub each : (filling : List Place) → IsFilling j filling → IsOfSources j waveform place filling
+      → world_bit j (certain waveform) (bit_of j filling) place ≡ bit
+
+-- The bit is the one that the query of the place denies, and the log refutes the query.
+pub record IsRefuted (j : Job) (waveform : List Written) (place : ℕ) (bit : Bool) (log : List (List ℤ)) : Type 0 where
+  pub denied : denied_value j (certain waveform) place ≡ bit
+  pub query : List (List ℤ)
+  pub is_query : IsQuery j (certain waveform) place query
+  pub literals : All HasNoZero log
+  pub refutes : Refutes query log
+
+-- The licence of a place: it has more than 12 sources, and the log is fresh for its query and as long as the limit.
+pub record IsLicence (j : Job) (limit : ℕ) (waveform : List Written) (place : ℕ) (log : List (List ℤ)) : Type 0 where
+  pub many : 12 < length (sources j (certain waveform) place)
+  pub query : List (List ℤ)
+  pub is_query : IsQuery j (certain waveform) place query
+  pub fresh : AreFresh query log
+  pub long : length log ≡ limit
+
+-- When a body holds at a place. All of these read the certain values before the place alone.
+abbrev pub BodyHolds : Job → ℕ → List Written → ℕ → Body → Type 0
+BodyHolds j limit waveform place (Enumerated bit) = IsEnumerated j waveform place bit
+BodyHolds j limit waveform place (Refuted bit log) = IsRefuted j waveform place bit log
+BodyHolds j limit waveform place (Pair first second) = GivesBoth j waveform place (pair_of first second)
+BodyHolds j limit waveform place (Undecided log) = IsLicence j limit waveform place log
+
+-- What is then true of the place.
+abbrev pub BodyGives : Job → List Written → ℕ → Body → Type 0
+BodyGives j waveform place (Enumerated bit) = Settles j waveform place bit
+BodyGives j waveform place (Refuted bit log) = Settles j waveform place bit
+BodyGives j waveform place (Pair first second) = GivesBoth j waveform place (pair_of first second)
+BodyGives j waveform place (Undecided log) = Unit {0}
