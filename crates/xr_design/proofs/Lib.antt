@@ -5,6 +5,7 @@ mod HistoryLemmas
 pub mod Multiplexer
 pub mod Numbers
 pub mod OrderLemmas
+pub mod OrdersFit
 pub mod Pins
 pub mod Plain
 pub mod Prefix

@@ -2,7 +2,12 @@
 use Rattle.std.specs.Prelude.{◌≡◌, ℕ, ◌<◌, ◌≤◌, Bool, List, length}
 use Rattle.std.specs.List.{AllByRecursion}
 use Rattle.xr_cell.specs.declared.value.Value.{Value}
-use Rattle.xr_design.specs.Job.{Job, places_of}
+use Rattle.xr_design.specs.Job.{Job, places_of, job_of, driver_in}
+use Rattle.xr_design.specs.Order.{IsOrder}
+use Rattle.xr_design.specs.Design.{FitsDesign}
+use Rattle.xr_design.specs.Stim.{FitsStim}
+use Rattle.xr_design.specs.declared.design.Design.{Design}
+use Rattle.xr_design.specs.declared.stim.Stim.{Stim}
 use Rattle.xr_design.specs.Fits.{Fits}
 use Rattle.xr_design.specs.Rule.{rule, arguments}
 use Rattle.xr_design.specs.World.{IsWorld, world_bit}
@@ -31,3 +36,7 @@ WorldsAreUnique = (j : Job) → Fits j → (c : ℕ → Value) (f : ℕ → Bool
 -- There is at most one waveform that is exact at each place and shows a history.
 abbrev pub ExactIsUnique : Type 0
 ExactIsUnique = (j : Job) (shown : ℕ → Value) (v w : List Written) → Fits j → length v ≡ length w → length v ≤ places_of j → IsExact j v → IsExact j w → Shows shown v → Shows shown w → v ≡ w
+
+-- A design, its order and a stimulus that fit make a job that fits.
+abbrev pub JobsFit : Type 0
+JobsFit = (design : Design) (order : List ℕ) (stim : Stim) → FitsDesign design → IsOrder (driver_in design) (length design.nets) order → FitsStim design stim → 0 < stim.rounds → stim.rounds ≤ 16 → Fits (job_of design order stim)

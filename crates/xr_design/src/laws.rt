@@ -2,6 +2,11 @@
 
 ghost use Rattle.xr_design.specs.Laws as spec;
 
+/// A design, its order and a stimulus that fit make a job that fits.
+pub fn jobs_fit()
+    ensures { spec.JobsFit }
+{}
+
 /// The rule of a place reads the bits of its argument places alone.
 pub fn rule_reads_arguments()
     ensures { spec.RuleReadsArguments }

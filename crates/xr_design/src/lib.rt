@@ -25,7 +25,7 @@ pub use design::{Design, Driver, Latching, Net, Pin, Table};
 pub use force::{Event, Forces};
 pub use history::History;
 pub use laws::{
-    arguments_stand_before, exact_is_unique, rule_reads_arguments, rule_reads_earlier,
+    arguments_stand_before, exact_is_unique, jobs_fit, rule_reads_arguments, rule_reads_earlier,
     worlds_are_unique, worlds_exist,
 };
 pub use name::{Bytes, Name, NamePart};

@@ -6,7 +6,8 @@ ghost use Rattle.xr_netlist_grammar.specs.Fault.{fault_at, fault_words};
 use std::fmt;
 use xr_text::LexErr;
 
-/// The first token with which no text of the grammar goes on. `at` is its first byte, or the length of the text at its end.
+/// The first token with which no text of the grammar goes on. `at` is its first byte, or the length of the text at its
+/// end.
 #[derive(Clone, Copy, Debug, PartialEq, Eq)]
 pub enum NetlistFault {
     /// There is no token.

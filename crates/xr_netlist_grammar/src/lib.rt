@@ -1,6 +1,7 @@
-//! The grammar of netlist texts (IEEE 1364-2005, annex A): what a text stands for (`Source`), and the words and marks that its rules quote (`Fixed`).
-//! Start at `Source` and at specs/Text.antt, which has the rule of a whole text. specs/Machine.antt reads the same texts word by word; that both
-//! say the same is proved in proofs/.
+//! The grammar of netlist texts (IEEE 1364-2005, annex A): what a text stands for (`Source`), the words and marks that its
+//! rules quote (`Fixed`), and what is wrong with a text that is none (`NetlistFault`). Start at `Source` and at
+//! specs/Text.antt, which has the rule of a whole text; specs/Whole.antt says what each tree has. specs/Machine.antt reads
+//! the same texts word by word; that both say the same is proved in proofs/.
 #![tactic(auto)]
 
 mod fault;

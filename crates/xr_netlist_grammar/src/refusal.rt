@@ -9,7 +9,8 @@ use std::alloc::{AllocError, AllocFailed};
 use xr_base::Memory;
 use xr_text::LexErr;
 
-/// The first token with which no text of the grammar goes on. `at` is its first byte, or the length of the text at its end.
+/// The first token with which no text of the grammar goes on. `at` is its first byte, or the length of the text at its
+/// end.
 #[derive(Clone, Copy, Debug, PartialEq, Eq)]
 pub enum ParseErr {
     /// There is no token.

@@ -19,7 +19,7 @@ pub(crate) struct Hints {
 }
 
 impl Hints {
-    /// Takes 80 bytes for each variable.
+    /// Takes 43 bytes for each variable.
     pub(crate) fn new(alloc: Global, vars: usize) -> Result<Hints, AllocError> {
         let phases = Phases::new(alloc, vars)?;
         let scores = Scores::new(alloc, vars)?;

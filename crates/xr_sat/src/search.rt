@@ -1,7 +1,7 @@
 //! The search: rounds until a formula is decided or the limit is reached.
 
-ghost use Rattle.std.specs.Prelude.{◌≡◌, ◌≤◌, ◌<◌, ◌+◌, ◌*◌, ◌++◌, ◌∷◌, [], ℕ, true, false, length, IfOk};
-ghost use Rattle.std.specs.List.{All, slice_index_or};
+ghost use Rattle.std.specs.Prelude.{◌≡◌, ◌≤◌, ◌<◌, ◌+◌, ◌*◌, ◌++◌, ◌∷◌, ◌≢◌, [], true, false, length, IfOk};
+ghost use Rattle.std.specs.List.{All};
 ghost use Rattle.xr_proof.specs.Assignment.{HasNoZero};
 ghost use Rattle.xr_proof.specs.Code.{HaveRoom};
 ghost use Rattle.xr_proof.specs.Lines.{IsReady};
@@ -20,8 +20,8 @@ use xr_proof::watch::Watch;
 use xr_proof::{Clause, Cnf, Exhausted, Log, Model, Refuted};
 
 /// A model of the formula, or a log that refutes it, or a fresh log of `limit` clauses, whichever comes first. A log whose
-/// `limit`-th clause is empty refutes. Takes about 120 bytes for each variable, and for each clause of the formula and of the log 24
-/// and, in the log, four for each literal.
+/// `limit`-th clause is empty refutes. Takes about 100 bytes for each variable, 24 for each clause of the formula, and for each of the
+/// log 48 and four for each literal, in steps that double.
 pub fn solve(alloc: Global, cnf: &Cnf, limit: u32) -> Result<Outcome, Memory>
     requires vars { cnf.now.vars ≤ 2147483647 }
     requires fit { Fit cnf.now.vars cnf.now.clauses }
@@ -65,9 +65,8 @@ fn search(
     let mut hints = Hints::new(alloc, cnf.vars as usize)?;
     'rounds: loop {
         if refuted {
-            let none = Vec::new(alloc);
-            log.push(Clause::from_vec(none))?;
-            return Ok(Outcome::Refuted(Refuted::from_log(cnf, Log::from_vec(log))));
+            let log = close(alloc, log)?;
+            return Ok(Outcome::Refuted(Refuted::from_log(cnf, log)));
         }
         match round(
             alloc,
@@ -84,12 +83,28 @@ fn search(
             }
             Some(literals) => log.push(Clause::from_vec(literals))?,
         }
-        if log.len() == limit as usize {
+        if is_full(&log, limit) {
             return Ok(Outcome::Limit(Exhausted::from_log(cnf, Log::from_vec(log), limit)));
         }
         watch.widen()?;
         refuted = advance(trail, watch, false, query, &log, log.len() - 1);
     }
+}
+
+/// The log with the empty clause behind it.
+fn close(alloc: Global, mut log: Vec<Clause>) -> Result<Log, AllocError>
+    ensures { IfOk result (λ closed. closed ≡ log.items ++ [] ∷ []) }
+{
+    log.push(Clause::from_vec(Vec::new(alloc)))?;
+    Ok(Log::from_vec(log))
+}
+
+/// Whether the log has as many clauses as the limit says.
+fn is_full(log: &[Clause], limit: u32) -> bool
+    ensures yes { result ≡ true → length log.now ≡ limit }
+    ensures no { result ≡ false → length log.now ≢ limit }
+{
+    log.len() == limit as usize
 }
 
 /// The values that the trail gives to the variables.

@@ -1,5 +1,6 @@
 -- The tokens of a text by calculation: one blank, directive or token after another.
-use Rattle.std.specs.Prelude.{ℕ, zero, suc, ◌+◌, ◌-◌, List, [], ◌∷◌, length, take, Bool, false, not, if◌then◌else◌, ◌==◌, ◌&&◌, codes, Option, Some, None}
+use Rattle.std.specs.Prelude.{◌≡◌, ℕ, zero, suc, ◌+◌, ◌-◌, List, [], ◌∷◌, length, take, Bool, false, not, if◌then◌else◌, ◌==◌, ◌&&◌, codes, Option, Some, None}
+use Rattle.std.specs.Borrow.{Bor}
 use Rattle.std.specs.Str.{bytes_eq}
 use Rattle.xr_text.specs.declared.bytes.Class.{Class}
 use Rattle.xr_text.specs.declared.bytes.Class.TheVariants as class
@@ -25,6 +26,11 @@ pub record Rest : Type 0 where
 
 abbrev pub rest : ℕ → List ℕ → Rest
 rest at bs = record { at = at; bytes = bs }
+
+-- a call's answer is this: the bytes behind, and their place
+abbrev pub IsBehind : Option Rest → Option (Bor (List ℕ) × ℕ) → Type 0
+IsBehind wanted None = wanted ≡ None
+IsBehind wanted (Some r) = wanted ≡ Some (rest r.1 r.0.now)
 
 -- behind as many bytes as pass
 abbrev pub after : (ℕ → Bool) → ℕ → List ℕ → Rest

@@ -1,7 +1,7 @@
 //! White space and comments.
 
-ghost use Rattle.std.specs.Prelude.{◌≡◌, ◌+◌, ◌<◌, ◌≤◌, ◌^◌, length, IfSome, MatchOption, Some, None};
-ghost use Rattle.xr_text.specs.Scan.{comment as comment_of, blank as blank_of, wire, left, rest as behind};
+ghost use Rattle.std.specs.Prelude.{◌≡◌, ◌+◌, ◌<◌, ◌≤◌, ◌^◌, length, IfSome, None};
+ghost use Rattle.xr_text.specs.Scan.{comment as comment_of, blank as blank_of, wire, left, IsBehind};
 
 use crate::bytes::{Class, is_white};
 use crate::ends::{close, run};
@@ -28,7 +28,7 @@ pub fn skip_blanks(bytes: &[u8], start: usize) -> (&[u8], usize)
 #[inline]
 fn blank(bytes: &[u8], start: usize) -> Option<(&[u8], usize)>
     requires { start + length bytes.now < 2 ^ 64 }
-    ensures reads { MatchOption result (blank_of start bytes.now ≡ None) (λ r. blank_of start bytes.now ≡ Some (behind r.1 r.0.now)) }
+    ensures reads { IsBehind (blank_of start bytes.now) result }
     ensures fits { IfSome result (λ r. r.1 + length r.0.now ≡ start + length bytes.now) }
     ensures onward { IfSome result (λ r. start < r.1) }
 {
@@ -49,7 +49,7 @@ fn blank(bytes: &[u8], start: usize) -> Option<(&[u8], usize)>
 /// Behind a comment whose first `/` stands before `bytes`.
 fn comment(bytes: &[u8], start: usize) -> Option<(&[u8], usize)>
     requires { start + length bytes.now < 2 ^ 64 }
-    ensures reads { MatchOption result (comment_of start bytes.now ≡ None) (λ r. comment_of start bytes.now ≡ Some (behind r.1 r.0.now)) }
+    ensures reads { IsBehind (comment_of start bytes.now) result }
     ensures fits { IfSome result (λ r. r.1 + length r.0.now ≡ start + length bytes.now) }
     ensures onward { IfSome result (λ r. start ≤ r.1) }
 {

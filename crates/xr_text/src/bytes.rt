@@ -2,8 +2,8 @@
 
 ghost use Rattle.std.specs.Prelude.{◌≡◌, ◌==◌, ◌≤◌, length};
 ghost use Rattle.std.specs.Bool.{OnTrue};
-ghost use Rattle.xr_text.specs.Byte.{is_white as spec_is_white, is_letter as spec_is_letter, is_digit as spec_is_digit, is_name_byte as spec_is_name_byte, is_number_byte as spec_is_number_byte, is_printable as spec_is_printable, begins};
-ghost use Rattle.xr_text.specs.Scan.{passes, begins_directive as spec_begins_directive};
+ghost use Rattle.xr_text.specs.Byte as spec;
+ghost use Rattle.xr_text.specs.Scan as scan;
 
 /// The bytes that a run goes on with.
 #[derive(Clone, Copy)]
@@ -18,7 +18,7 @@ pub enum Class {
 impl Class {
     #[inline(always)]
     pub fn has(self, byte: u8) -> bool
-        ensures { result ≡ passes self byte }
+        ensures { result ≡ scan.passes self byte }
     {
         match self {
             Class::Name => is_name_byte(byte),
@@ -32,7 +32,7 @@ impl Class {
 /// Space, tab, newline, carriage return or form feed.
 #[inline]
 pub fn is_white(byte: u8) -> bool
-    ensures { result ≡ spec_is_white byte }
+    ensures { result ≡ spec.is_white byte }
 {
     byte == b' ' || byte == b'\t' || byte == b'\n' || byte == b'\r' || byte == 12
 }
@@ -40,14 +40,14 @@ pub fn is_white(byte: u8) -> bool
 /// A letter or `_`.
 #[inline]
 pub fn is_letter(byte: u8) -> bool
-    ensures { result ≡ spec_is_letter byte }
+    ensures { result ≡ spec.is_letter byte }
 {
     (b'a' <= byte && byte <= b'z') || (b'A' <= byte && byte <= b'Z') || byte == b'_'
 }
 
 #[inline]
 pub fn is_digit(byte: u8) -> bool
-    ensures { result ≡ spec_is_digit byte }
+    ensures { result ≡ spec.is_digit byte }
 {
     b'0' <= byte && byte <= b'9'
 }
@@ -55,21 +55,21 @@ pub fn is_digit(byte: u8) -> bool
 /// A byte 33 to 126.
 #[inline]
 pub fn is_printable(byte: u8) -> bool
-    ensures { result ≡ spec_is_printable byte }
+    ensures { result ≡ spec.is_printable byte }
 {
     33 <= byte && byte <= 126
 }
 
 #[inline]
 fn is_name_byte(byte: u8) -> bool
-    ensures { result ≡ spec_is_name_byte byte }
+    ensures { result ≡ spec.is_name_byte byte }
 {
     is_letter(byte) || is_digit(byte) || byte == b'$'
 }
 
 #[inline]
 fn is_number_byte(byte: u8) -> bool
-    ensures { result ≡ spec_is_number_byte byte }
+    ensures { result ≡ spec.is_number_byte byte }
 {
     is_letter(byte) || is_digit(byte) || byte == b'\''
 }
@@ -77,7 +77,7 @@ fn is_number_byte(byte: u8) -> bool
 /// Whether the first byte is a star.
 #[inline]
 pub fn begins_star(bytes: &[u8]) -> bool
-    ensures { result ≡ begins (λ b. b == 42) bytes.now }
+    ensures { result ≡ spec.begins (λ b. b == 42) bytes.now }
 {
     match bytes {
         [b, ..] => *b == b'*',
@@ -88,7 +88,7 @@ pub fn begins_star(bytes: &[u8]) -> bool
 /// Whether a backquote stands here, before a letter or `_`.
 #[inline]
 pub fn begins_directive(bytes: &[u8]) -> bool
-    ensures value { result ≡ spec_begins_directive bytes.now }
+    ensures value { result ≡ scan.begins_directive bytes.now }
     ensures some { OnTrue result (1 ≤ length bytes.now) }
 {
     match bytes {
@@ -99,7 +99,7 @@ pub fn begins_directive(bytes: &[u8]) -> bool
 
 #[inline]
 fn begins_letter(bytes: &[u8]) -> bool
-    ensures { result ≡ begins spec_is_letter bytes.now }
+    ensures { result ≡ spec.begins spec.is_letter bytes.now }
 {
     match bytes {
         [b, ..] => is_letter(*b),
@@ -110,7 +110,7 @@ fn begins_letter(bytes: &[u8]) -> bool
 /// Whether the first byte is one of 33 to 126.
 #[inline]
 pub fn begins_printable(bytes: &[u8]) -> bool
-    ensures { result ≡ begins spec_is_printable bytes.now }
+    ensures { result ≡ spec.begins spec.is_printable bytes.now }
 {
     match bytes {
         [b, ..] => is_printable(*b),

@@ -1,7 +1,7 @@
 //! Directives.
 
-ghost use Rattle.std.specs.Prelude.{◌≡◌, ◌+◌, ◌<◌, ◌≤◌, ◌^◌, length, IfSome, MatchOption, Some, None};
-ghost use Rattle.xr_text.specs.Scan.{wire as wire_of, directive as directive_of, rest as behind};
+ghost use Rattle.std.specs.Prelude.{◌≡◌, ◌+◌, ◌<◌, ◌≤◌, ◌^◌, length, IfSome};
+ghost use Rattle.xr_text.specs.Scan.{wire as wire_of, directive as directive_of, IsBehind};
 ghost use Rattle.xr_text.specs.Tokens.{takes_line as spec_takes_line, stands_alone as spec_stands_alone};
 
 use crate::blank::skip_blanks;
@@ -11,7 +11,7 @@ use crate::ends::run;
 /// Behind a directive whose backquote stands before `bytes`, with the bytes and the place there. None where it isn't read.
 pub fn directive(bytes: &[u8], start: usize) -> Option<(&[u8], usize)>
     requires { start + length bytes.now < 2 ^ 64 }
-    ensures reads { MatchOption result (directive_of start bytes.now ≡ None) (λ r. directive_of start bytes.now ≡ Some (behind r.1 r.0.now)) }
+    ensures reads { IsBehind (directive_of start bytes.now) result }
     ensures fits { IfSome result (λ r. r.1 + length r.0.now ≡ start + length bytes.now) }
     ensures onward { IfSome result (λ r. start ≤ r.1) }
 {
@@ -46,7 +46,7 @@ fn stands_alone(word: &[u8]) -> bool
 #[tactic(auto, using(crate::proofs::Wires::wire_stands))]
 fn wire(bytes: &[u8], start: usize) -> Option<(&[u8], usize)>
     requires { start + length bytes.now < 2 ^ 64 }
-    ensures reads { MatchOption result (wire_of start bytes.now ≡ None) (λ r. wire_of start bytes.now ≡ Some (behind r.1 r.0.now)) }
+    ensures reads { IsBehind (wire_of start bytes.now) result }
     ensures fits { IfSome result (λ r. r.1 + length r.0.now ≡ start + length bytes.now) }
     ensures onward { IfSome result (λ r. start ≤ r.1) }
 {

@@ -1,7 +1,7 @@
 //! Where runs of bytes, comments and texts end. Each answer is the bytes behind, and their place.
 
-ghost use Rattle.std.specs.Prelude.{◌≡◌, ◌+◌, ◌<◌, ◌≤◌, ◌^◌, length, false, IfSome, MatchOption, Some, None};
-ghost use Rattle.xr_text.specs.Scan.{passes, after, after_close, after_quote, rest as behind};
+ghost use Rattle.std.specs.Prelude.{◌≡◌, ◌+◌, ◌<◌, ◌≤◌, ◌^◌, length, false, IfSome};
+ghost use Rattle.xr_text.specs.Scan.{passes, after, after_close, after_quote, rest as behind, IsBehind};
 
 use crate::bytes::Class;
 
@@ -28,7 +28,7 @@ pub fn run(bytes: &[u8], start: usize, class: Class) -> (&[u8], usize)
 /// Behind the first `*/`.
 pub fn close(bytes: &[u8], start: usize) -> Option<(&[u8], usize)>
     requires { start + length bytes.now < 2 ^ 64 }
-    ensures reads { MatchOption result (after_close false start bytes.now ≡ None) (λ r. after_close false start bytes.now ≡ Some (behind r.1 r.0.now)) }
+    ensures reads { IsBehind (after_close false start bytes.now) result }
     ensures fits { IfSome result (λ r. r.1 + length r.0.now ≡ start + length bytes.now) }
     ensures onward { IfSome result (λ r. start ≤ r.1) }
 {
@@ -49,7 +49,7 @@ pub fn close(bytes: &[u8], start: usize) -> Option<(&[u8], usize)>
 /// Behind the `"` that closes a text whose first `"` stands before `bytes`.
 pub fn unquote(bytes: &[u8], start: usize) -> Option<(&[u8], usize)>
     requires { start + length bytes.now < 2 ^ 64 }
-    ensures reads { MatchOption result (after_quote 34 start bytes.now ≡ None) (λ r. after_quote 34 start bytes.now ≡ Some (behind r.1 r.0.now)) }
+    ensures reads { IsBehind (after_quote 34 start bytes.now) result }
     ensures fits { IfSome result (λ r. r.1 + length r.0.now ≡ start + length bytes.now) }
     ensures onward { IfSome result (λ r. start ≤ r.1) }
 {

@@ -1,8 +1,8 @@
 //! The next token of some bytes.
 
-ghost use Rattle.std.specs.Prelude.{◌≡◌, ◌+◌, ◌<◌, ◌≤◌, ◌^◌, ℕ, length, IfOk, IfSome, MatchResult, MatchOption, None, false};
+ghost use Rattle.std.specs.Prelude.{◌≡◌, ◌+◌, ◌<◌, ◌^◌, length, IfOk, IfSome, MatchResult, MatchOption, None, false};
 ghost use Rattle.xr_text.specs.Left.{ended, first, refused};
-ghost use Rattle.xr_text.specs.Scan.{read as read_of, blank, begins_directive as spec_begins_directive, left, passes, tell_run, text_or, after_quote, after as after_run};
+ghost use Rattle.xr_text.specs.Scan as spec;
 ghost use Rattle.xr_text.specs.Scan.Step.{tell, refuse};
 
 use crate::blank::skip_blanks;
@@ -17,8 +17,9 @@ use crate::token::{Kind, LexErr, Token};
 pub fn next(bytes: &[u8], start: usize) -> Result<Option<(Token, &[u8])>, LexErr>
     requires { start + length bytes.now < 2 ^ 64 }
     ensures tells { MatchResult result
-        (λ o. MatchOption o (left start bytes.now ≡ ended) (λ r. left start bytes.now ≡ first r.0 (left r.0.end r.1.now)))
-        (λ e. left start bytes.now ≡ refused e) }
+        (λ o. MatchOption o (spec.left start bytes.now ≡ ended)
+        (λ r. spec.left start bytes.now ≡ first r.0 (spec.left r.0.end r.1.now)))
+        (λ e. spec.left start bytes.now ≡ refused e) }
     ensures fits { IfOk result (λ o. IfSome o (λ r. r.0.end + length r.1.now ≡ start + length bytes.now)) }
 {
     let mut rest = bytes;
@@ -41,11 +42,11 @@ pub fn next(bytes: &[u8], start: usize) -> Result<Option<(Token, &[u8])>, LexErr
 /// The token that begins here, where neither a blank nor a directive does, with the bytes behind it.
 fn read(rest: &[u8], at: usize) -> Result<Option<(Token, &[u8])>, LexErr>
     requires fits { at + length rest.now < 2 ^ 64 }
-    requires no_blank { blank at rest.now ≡ None }
-    requires no_directive { spec_begins_directive rest.now ≡ false }
+    requires no_blank { spec.blank at rest.now ≡ None }
+    requires no_directive { spec.begins_directive rest.now ≡ false }
     ensures tells { MatchResult result
-        (λ o. MatchOption o (left at rest.now ≡ ended) (λ r. left at rest.now ≡ first r.0 (left r.0.end r.1.now)))
-        (λ e. left at rest.now ≡ refused e) }
+        (λ o. MatchOption o (spec.left at rest.now ≡ ended) (λ r. spec.left at rest.now ≡ first r.0 (spec.left r.0.end r.1.now)))
+        (λ e. spec.left at rest.now ≡ refused e) }
     ensures fits { IfOk result (λ o. IfSome o (λ r. r.0.end + length r.1.now ≡ at + length rest.now)) }
 {
     if rest.is_empty() {
@@ -60,7 +61,9 @@ fn read(rest: &[u8], at: usize) -> Result<Option<(Token, &[u8])>, LexErr>
 /// The token that begins with a byte, with the bytes behind it.
 fn token(byte: u8, after: &[u8], at: usize) -> Result<(Token, &[u8]), LexErr>
     requires { at + 1 + length after.now < 2 ^ 64 }
-    ensures reads { MatchResult result (λ r. read_of at byte after.now ≡ tell r.0 r.1.now) (λ e. read_of at byte after.now ≡ refuse e) }
+    ensures reads { MatchResult result
+        (λ r. spec.read at byte after.now ≡ tell r.0 r.1.now)
+        (λ e. spec.read at byte after.now ≡ refuse e) }
     ensures fits { IfOk result (λ r. r.0.end + length r.1.now ≡ at + 1 + length after.now) }
 {
     if is_letter(byte) {
@@ -89,7 +92,7 @@ fn token(byte: u8, after: &[u8], at: usize) -> Result<(Token, &[u8]), LexErr>
 #[inline]
 fn run_token(kind: Kind, class: Class, after: &[u8], at: usize) -> (Token, &[u8])
     requires { at + 1 + length after.now < 2 ^ 64 }
-    ensures reads { tell_run kind at (after_run (passes class) (at + 1) after.now) ≡ tell result.0 result.1.now }
+    ensures reads { spec.tell_run kind at (spec.after (spec.passes class) (at + 1) after.now) ≡ tell result.0 result.1.now }
     ensures fits { result.0.end + length result.1.now ≡ at + 1 + length after.now }
 {
     let (rest, end) = run(after, at + 1, class);
@@ -105,8 +108,8 @@ fn run_token(kind: Kind, class: Class, after: &[u8], at: usize) -> (Token, &[u8]
 fn text(after: &[u8], at: usize) -> Result<(Token, &[u8]), LexErr>
     requires { at + 1 + length after.now < 2 ^ 64 }
     ensures reads { MatchResult result
-        (λ r. text_or at (after_quote 34 (at + 1) after.now) ≡ tell r.0 r.1.now)
-        (λ e. text_or at (after_quote 34 (at + 1) after.now) ≡ refuse e) }
+        (λ r. spec.text_or at (spec.after_quote 34 (at + 1) after.now) ≡ tell r.0 r.1.now)
+        (λ e. spec.text_or at (spec.after_quote 34 (at + 1) after.now) ≡ refuse e) }
     ensures fits { IfOk result (λ r. r.0.end + length r.1.now ≡ at + 1 + length after.now) }
 {
     match unquote(after, at + 1) {

@@ -1,9 +1,9 @@
 -- What scopes, variables and times keep as they grow.
-use Rattle.std.proofs.Common.{◌≡◌, ℕ, ◌+◌, ◌-◌, ◌<◌, ◌≤◌, ◌^◌, List, [], ◌∷◌, ◌++◌, Option, length, map, refl, sym, ap, ◌∙◌, arith, All, slice_index, subst, length-append}
+use Rattle.std.proofs.Common.{◌≡◌, ℕ, ◌+◌, ◌-◌, ◌<◌, ◌≤◌, ◌^◌, List, [], ◌∷◌, ◌++◌, Option, length, map, sym, ap, ◌∙◌, arith, All, slice_index, subst, length-append}
 use Rattle.std.proofs.lemmas.List.{length-map}
 use Rattle.std.proofs.lemmas.List.Elements.{All-push}
 use Rattle.xr_vcd_changes.specs.Held.{Change, track_of}
-use Rattle.xr_vcd.specs.Recording.{Recording, Path, IsVariable, IsRecording, paths_of}
+use Rattle.xr_vcd.specs.Recording.{Path, IsVariable, IsRecording, paths_of}
 use Rattle.xr_vcd.specs.Trees.{AreDeclared, AreTimes, IsEntered}
 use Rattle.xr_vcd.specs.declared.variable.Scope.{Scope}
 use Rattle.xr_vcd.specs.declared.variable.Variable.{Variable}

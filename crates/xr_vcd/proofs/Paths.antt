@@ -1,10 +1,13 @@
 -- The paths of scopes.
-use Rattle.std.proofs.Common.{◌≡◌, ℕ, zero, suc, ◌+◌, ◌-◌, ◌<◌, ◌≤◌, List, [], ◌∷◌, ◌++◌, length, refl, sym, ap, ◌∙◌, arith, slice_index_or, length-append}
+use Rattle.std.proofs.Common.{◌≡◌, ℕ, zero, suc, ◌+◌, ◌-◌, ◌<◌, ◌≤◌, Bool, true, false, List, [], ◌∷◌, ◌++◌, length, take, refl, sym, ap, ◌∙◌, arith, slice_index, slice_index_or, length-append}
 use Rattle.std.proofs.Math.ListN.{get_or-append}
-use Rattle.std.proofs.Math.Seq.{get_or-append_seam}
+use Rattle.std.proofs.Math.Seq.{get_or-append_seam, take-append_seam}
+use Rattle.std.proofs.lemmas.Option.{slice_get_within, get_or_from_slice_get}
+use Rattle.xr_vcd.specs.Declarations.{Declarations, RecordedName, StandsInnermost, Returns, open_path, scope_of, with_scope, left_scope, with_variable, variable}
 use Rattle.xr_vcd.specs.Recording.{Path, path_at, paths_from, paths_of, last_name}
 use Rattle.xr_vcd.specs.Trees.{IsTree}
 use Rattle.xr_vcd.specs.declared.variable.Scope.{Scope}
+use Rattle.xr_vcd.specs.declared.variable.Variable.{Variable}
 
 abbrev path_of : List Path → Scope → Path
 path_of ps s = path_at ps s.parent ++ s.name ∷ []
@@ -81,3 +84,25 @@ entered_path ss parent scope n text a b = rw (a, b) (paths_from-push ([] ∷ [])
 
 pub entered_number : (ss : List Scope) (n len : ℕ) → n ≡ len → len ≡ length ss → n + 1 ≡ length (paths_of ss)
 entered_number ss n len a b = omega (arith, a, b, length-paths_from ([] ∷ []) ss)
+
+-- the path of the scope that was entered last
+pub open_path-with_scope : (h : Declarations) (n : List ℕ) → open_path (with_scope h n) ≡ open_path h ++ n ∷ []
+open_path-with_scope h n =
+    let last : length (h.entered ++ length h.scopes ∷ []) - 1 ≡ length h.entered = omega (arith, length-append h.entered (length h.scopes ∷ [])) in
+    rw (last, get_or-append_seam h.entered (length h.scopes) [] 0) (get_or-append_seam h.scopes (open_path h ++ n ∷ []) [] [])
+
+pub entered_is : (old new : Declarations) (n : List ℕ) → new ≡ with_scope old n → open_path new ≡ open_path old ++ n ∷ []
+entered_is old new n is = ap open_path is ∙ open_path-with_scope old n
+
+pub left_is : (old new : Declarations) → new ≡ left_scope old → Returns old new
+left_is old new is = λ outer scope e.
+    let one : length old.entered - 1 ≡ length outer.entered = omega (arith, ap (λ (l : List ℕ). length l) e, length-append outer.entered (scope ∷ [])) in
+    let here : take (length old.entered - 1) old.entered ≡ outer.entered = rw (one, e) (take-append_seam outer.entered (scope ∷ [])) in
+    ap scope_of is ∙ ap (λ (l : List ℕ). slice_index l (length l - 1)) here
+
+pub listed_is : (old new : Declarations) (skipped : Bool) (number width : ℕ) (n : RecordedName) → new ≡ with_variable old skipped number width n → StandsInnermost old new
+listed_is old new true number width n is = λ v some. absurd (omega (arith, slice_get_within new.variables (length old.variables) v some, ap (λ (h : Declarations). length h.variables) is))
+listed_is old new false number width n is = λ v some.
+    let u : Variable = variable (scope_of old) n width in
+    let same : v ≡ u = sym (get_or_from_slice_get new.variables (length old.variables) v u some) ∙ ap (λ (h : Declarations). slice_index_or h.variables (length old.variables) u) is ∙ get_or-append_seam old.variables u [] u in
+    ap (λ (h : Declarations). path_at h.scopes v.scope) is ∙ ap (λ (x : Variable). path_at old.scopes x.scope) same

@@ -90,7 +90,7 @@ is_cut_scale t k = is_power (take k t) && is_unit (drop k t)
 abbrev pub is_scale : List ℕ → Bool
 is_scale t = is_cut_scale t 1 || is_cut_scale t 2 || is_cut_scale t 3
 
--- variables of these kinds are passed over with their changes
+-- variables of these kinds are skipped with their changes
 abbrev pub is_skipped : List ℕ → Bool
 is_skipped t = bytes_eq t (codes "real") || bytes_eq t (codes "realtime") || bytes_eq t (codes "event")
 

@@ -1,5 +1,5 @@
 -- What is declared: scopes, codes and variables.
-use Rattle.std.specs.Prelude.{ℕ, ◌-◌, List, [], ◌∷◌, ◌++◌, length, take, drop, Bool, true, false, cond, ◌==◌, Option, Some, None, slice_index}
+use Rattle.std.specs.Prelude.{◌≡◌, ℕ, ◌-◌, List, [], ◌∷◌, ◌++◌, length, take, drop, Bool, true, false, cond, ◌==◌, Option, Some, None, slice_index, slice_get}
 use Rattle.xr_vcd.specs.Bytes.{range_of, last_bracket}
 use Rattle.xr_vcd_codes.specs.Code.{Code, code, with_kind_at}
 use Rattle.xr_vcd.specs.Recording.{Path, path_at}
@@ -22,6 +22,10 @@ nothing = record { timescale = None; scopes = [] ∷ []; entered = []; codes = [
 -- The scope that declarations are in: the innermost one, or the place outside every scope.
 abbrev pub scope_of : Declarations → ℕ
 scope_of h = slice_index h.entered (length h.entered - 1)
+
+-- the names of the scopes that are open, the innermost last
+abbrev pub open_path : Declarations → Path
+open_path h = path_at h.scopes (scope_of h)
 
 abbrev pub with_scale : Declarations → List ℕ → Declarations
 with_scale h scale = record h { timescale = Some scale }
@@ -64,7 +68,15 @@ name_of t = name_at (range_of (drop (last_bracket t) t)) (last_bracket t) t
 abbrev pub variable : ℕ → RecordedName → ℕ → Variable
 variable scope n width = record { scope = scope; reference = n.reference; range = n.range; direct = n.direct; width = width }
 
--- `$var`: a variable that isn't passed over by its kind is listed.
+-- `$var`: a variable that isn't skipped by its kind is listed.
 abbrev pub with_variable : Declarations → Bool → ℕ → ℕ → RecordedName → Declarations
 with_variable h skipped number width n =
     cond skipped h (record h { variables = h.variables ++ variable (scope_of h) n width ∷ []; numbers = h.numbers ++ number ∷ [] })
+
+-- A variable that is listed behind those of the old declarations stands in the innermost scope that was open.
+abbrev pub StandsInnermost : Declarations → Declarations → Type 0
+StandsInnermost old new = (v : Variable) → slice_get new.variables (length old.variables) ≡ Some v → path_at new.scopes v.scope ≡ open_path old
+
+-- Behind `$upscope` the scope is open that was so where the one that is left was entered.
+abbrev pub Returns : Declarations → Declarations → Type 0
+Returns old new = (outer : Declarations) (scope : ℕ) → old.entered ≡ outer.entered ++ scope ∷ [] → scope_of new ≡ scope_of outer

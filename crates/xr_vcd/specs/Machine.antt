@@ -14,7 +14,7 @@ use Rattle.xr_vcd.specs.declared.refusal.VcdErr.{VcdErr}
 use Rattle.xr_vcd.specs.declared.refusal.VcdErr.TheVariants.{Syntax, Width, DumpOff, Truncated}
 
 -- Where the reading stands: before a declaration or in one, then before a change or in one. `Bool` in the states of a variable
--- says that its kind is passed over, and behind the declarations that a dump is open.
+-- says that it is skipped, and behind the declarations that a dump is open.
 pub data State : Type 0 where
   declaring : Declarations → State
   note : Declarations → State

@@ -1,5 +1,5 @@
 -- A recording: what a text says.
-use Rattle.std.specs.Prelude.{◌≡◌, ℕ, ◌-◌, ◌+◌, ◌<◌, ◌≤◌, ◌^◌, List, [], ◌∷◌, ◌++◌, length, Option, Some, None, slice_get, slice_index_or, All}
+use Rattle.std.specs.Prelude.{◌≡◌, ℕ, ◌-◌, ◌<◌, ◌≤◌, ◌^◌, List, [], ◌∷◌, ◌++◌, length, Option, Some, None, slice_get, slice_index_or, All}
 use Rattle.std.specs.List.Sorted.{IsStrictlyIncreasing}
 use Rattle.xr_cell.specs.declared.value.Value.{Value}
 use Rattle.xr_vcd_changes.specs.Held.{Change, bit_value}
@@ -15,7 +15,7 @@ Path = List (List ℕ)
 abbrev pub path_at : List Path → ℕ → Path
 path_at paths scope = slice_index_or paths scope []
 
--- What a text says: its timescale, the path of each scope, the variables that aren't passed over, the time of each moment, and
+-- What a text says: its timescale, the path of each scope, the variables that aren't skipped, the time of each moment, and
 -- for each variable the changes of its code, all in the order of the text.
 pub record Recording : Type 0 where
   pub timescale : Option (List ℕ)

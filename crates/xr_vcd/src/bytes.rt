@@ -170,7 +170,7 @@ pub fn drop(text: &[u8], count: usize) -> &[u8]
     }
 }
 
-/// Whether variables of this kind are passed over.
+/// Whether variables of this kind are skipped.
 pub fn is_skipped(text: &[u8]) -> bool
     ensures { result ≡ is_skipped text.now }
 {

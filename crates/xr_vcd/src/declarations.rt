@@ -40,7 +40,7 @@ impl<'a> Model for Declarations<'a> {
 impl<'a> Declarations<'a> {
     ghost use Rattle.std.specs.Prelude.{◌≡◌, ◌+◌, ◌<◌, ◌≤◌, ◌^◌, ◌==◌, [], ◌∷◌, ◌++◌, nat_lt, length, IfOk, OnOk, OnErr, IfSome, None, Some, Ok, cond};
     ghost use Rattle.xr_vcd_codes.specs.Code.{find};
-    ghost use Rattle.xr_vcd.specs.Declarations.{nothing, scope_of, with_scale, with_scope, left_scope, with_code, with_kind, with_variable};
+    ghost use Rattle.xr_vcd.specs.Declarations.{StandsInnermost, Returns, nothing, scope_of, open_path, with_scale, with_scope, left_scope, with_code, with_kind, with_variable};
     ghost use Rattle.xr_vcd.specs.Naming.{shown_name};
     ghost use Rattle.xr_vcd.specs.Reading.{Does};
     ghost use Rattle.xr_vcd.specs.Recording.{IsVariable};
@@ -80,7 +80,8 @@ impl<'a> Declarations<'a> {
 
     /// Enters a new scope. More than `LIMIT` are want of memory.
     pub fn enter(&mut self, name: &[u8]) -> Result<(), VcdErr>
-        ensures { Does result (self.new ≡ with_scope self.old name.now) }
+        ensures is { Does result (self.new ≡ with_scope self.old name.now) }
+        ensures innermost { OnOk result (open_path self.new ≡ open_path self.old ++ name.now ∷ []) }
     {
         let name = bytes_of(self.alloc, name)?;
         let parent = self.scope();
@@ -97,6 +98,7 @@ impl<'a> Declarations<'a> {
     pub fn leave(&mut self) -> bool
         ensures left { self.new ≡ left_scope self.old }
         ensures some { result ≡ nat_lt 0 (length self.old.entered) }
+        ensures outer { Returns self.old self.new }
     {
         match self.entered.pop() {
             Some(_) => true,
@@ -140,7 +142,8 @@ impl<'a> Declarations<'a> {
     ) -> Result<(), VcdErr>
         requires some { 1 ≤ width }
         requires wide { width ≤ 2 ^ 20 }
-        ensures { Does result (self.new ≡ with_variable self.old skipped number width (shown_name name.now)) }
+        ensures is { Does result (self.new ≡ with_variable self.old skipped number width (shown_name name.now)) }
+        ensures innermost { OnOk result (StandsInnermost self.old self.new) }
     {
         if skipped {
             return Ok(());

@@ -1,11 +1,9 @@
 -- What is held in a moment is what the last change in it or before gave.
-use Rattle.std.proofs.Common.{◌≡◌, ℕ, zero, suc, ◌-◌, ◌+◌, ◌<◌, ◌≤◌, true, false, List, [], ◌∷◌, ◌++◌, length, refl, sym, ap, ◌∙◌, arith, nat_le, All, get_or, replicate}
+use Rattle.std.proofs.Common.{◌≡◌, ℕ, suc, ◌-◌, ◌+◌, ◌<◌, ◌≤◌, true, false, List, [], ◌∷◌, ◌++◌, refl, ap, ◌∙◌, arith, nat_le, All, get_or}
 use Rattle.std.proofs.lemmas.Bool.Decides.{nat_tests}
 use Rattle.std.proofs.lemmas.List.{get_or-replicate, replicate-append-replicate}
-use Rattle.xr_cell.specs.declared.value.Value.{Value}
-use Rattle.xr_cell.specs.declared.value.Value.TheVariants.{X}
 use Rattle.xr_vcd_changes.specs.Held.{Change, held, unknown, extended, digit_value, bit_value}
-use Rattle.xr_vcd_changes.specs.Last.{IsLastChange, IsLastValue}
+use Rattle.xr_vcd_changes.specs.Last.{IsLastValue}
 
 le_is : (a b : ℕ) → a ≤ b → nat_le a b ≡ true
 le_is a b h = grind (arith, nat_tests)

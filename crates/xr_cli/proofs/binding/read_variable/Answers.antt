@@ -58,6 +58,6 @@ returns-clause-recorded c = λ u at.
       name = copied ∙ is;
       escaped = escaped ∙ sym (get_or-map (λ (n : Net). last_escaped n.path.parts) nets net item false below);
       once = search rules;
-      value = c.value-value.ensures;
+      value = c.value-value.ensures.is;
       known = search rules;
     }

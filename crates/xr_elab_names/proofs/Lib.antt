@@ -1,0 +1,3 @@
+-- Lemmas of xr_elab_names.
+pub mod SetLemmas
+pub mod Naming

@@ -1,0 +1,5 @@
+-- Definitions of xr_elab_names.
+pub mod Sets
+pub mod Scope
+pub mod Here
+pub mod Names

@@ -1,0 +1,34 @@
+-- The names of a module under way.
+use Rattle.std.specs.Prelude.{ℕ, Option, List, [], ◌∷◌, ◌++◌, bytes_eq, Ok, Err, if◌then◌else◌}
+use Rattle.std.specs.Borrow.{Bor}
+use Rattle.std.specs.Map.{lookup}
+use Rattle.xr_design.specs.declared.name.NamePart.{NamePart}
+use Rattle.xr_netlist_grammar.specs.declared.tree.Word.{Word}
+use Rattle.xr_elab_nets.specs.declared.fault.ElabErr.TheVariants.{BadName}
+use Rattle.xr_elab_nets.specs.Outcome.{Outcome}
+use Rattle.xr_elab_names.specs.Sets.{has}
+use Rattle.xr_elab_names.specs.declared.scope.Entry.{Entry}
+
+-- the instances that lead to the module, its declared names, and the names of its instances so far
+pub record Scope : Type 0 where
+  pub prefix : List NamePart
+  pub names : List (List ℕ × Entry)
+  pub instances : List (List ℕ)
+
+abbrev pub scope_of : List NamePart → List (List ℕ × Entry) → List (List ℕ) → Scope
+scope_of prefix names instances = record { prefix = prefix; names = names; instances = instances }
+
+abbrev pub entry_of : Scope → List ℕ → Option Entry
+entry_of s name = lookup (bytes_eq name) s.names
+
+abbrev pub with_name : List ℕ → Entry → Scope → Scope
+with_name name e s = record s { names = s.names ++ (name, e) ∷ [] }
+
+-- what the map has
+abbrev pub names_in : List (Bor (List ℕ) × Entry) → List (List ℕ × Entry)
+names_in [] = []
+names_in (e ∷ es) = (e.0.now, e.1) ∷ names_in es
+
+-- A module names each of its instances once.
+abbrev pub named_instance : Word → Scope → Outcome Scope
+named_instance w s = if has s.instances w.text then Err (BadName w.at) else Ok (record s { instances = s.instances ++ w.text ∷ [] })

@@ -1,0 +1,188 @@
+//! The declarations and the ports of a module (IEEE 1364-2005, clauses 4 and 12.3).
+
+ghost use Rattle.std.specs.Prelude.{◌≡◌, ◌≤◌, ◌+◌, ◌^◌, ◌==◌, [], None, IfOk};
+ghost use Rattle.xr_elab_nets.specs.Outcome.{Gives};
+ghost use Rattle.xr_elab_nets.specs.State.{net_count};
+ghost use Rattle.xr_elab_names.specs.Scope.{entry_of};
+ghost use Rattle.xr_elab_names.specs.Here.{here_of, introduced};
+ghost use Rattle.xr_elab_names.specs.Names as spec;
+
+use crate::name_set::NameSet;
+use crate::ports::PortNames;
+use crate::scope::{Entry, Scope};
+use std::alloc::Global;
+use xr_elab_nets::{ElabErr, Nets};
+use xr_netlist_grammar::{Declare, Item, NetKind, Word};
+
+/// A new name of the module, with nets of its own.
+pub fn introduce<'t>(
+    alloc: Global,
+    scope: &mut Scope<'t>,
+    nets: &mut Nets,
+    what: NetKind,
+    range: Option<(u32, u32)>,
+    word: &'t Word,
+) -> Result<Entry, ElabErr>
+    requires { entry_of scope.old word.now.text ≡ None }
+    ensures introduced { let here = here_of scope.old nets.old in
+        Gives (introduced what range word.now here) result (λ e. (e, here_of scope.new nets.new)) }
+    ensures few { IfOk result (λ e. e.base + net_count e.what e.range ≤ 2 ^ 20) }
+{
+    let base = nets.make(alloc, scope.prefix(), what, range, word)?;
+    let entry = Entry { what, range, base };
+    scope.add(word.text.as_slice(), entry)?;
+    Ok(entry)
+}
+
+/// A module's declarations in text order, and then its ports in theirs.
+pub fn open_module<'t>(
+    alloc: Global,
+    scope: &mut Scope<'t>,
+    nets: &mut Nets,
+    ports: &PortNames<'t>,
+    items: &'t [Item],
+) -> Result<(), ElabErr>
+    ensures { let here = here_of scope.old nets.old in
+        Gives (spec.opened ports.now items.now here) result (λ _. here_of scope.new nets.new) }
+{
+    declare_all(alloc, scope, nets, ports, items)?;
+    check_ports(alloc, scope, ports.ports())?;
+    Ok(())
+}
+
+fn declare_all<'t>(
+    alloc: Global,
+    scope: &mut Scope<'t>,
+    nets: &mut Nets,
+    ports: &PortNames<'_>,
+    items: &'t [Item],
+) -> Result<(), ElabErr>
+    ensures { let here = here_of scope.old nets.old in
+        Gives (spec.all_declared ports.now items.now here) result (λ _. here_of scope.new nets.new) }
+{
+    'items: for item in items {
+        if let Item::Declare(declare) = item {
+            declare_one(alloc, scope, nets, ports, declare)?;
+        }
+    }
+    Ok(())
+}
+
+/// A direction is for a port.
+fn declare_one<'t>(
+    alloc: Global,
+    scope: &mut Scope<'t>,
+    nets: &mut Nets,
+    ports: &PortNames<'_>,
+    declare: &'t Declare,
+) -> Result<(), ElabErr>
+    ensures { let here = here_of scope.old nets.old in
+        Gives (spec.declared ports.now declare.now here) result (λ _. here_of scope.new nets.new) }
+{
+    let name = &declare.name;
+    if is_directed(declare.what) && !ports.has(name.text.as_slice()) {
+        return Err(ElabErr::PortMismatch { at: name.at });
+    }
+    declare_name(alloc, scope, nets, declare)?;
+    Ok(())
+}
+
+/// A name is declared, or declared again.
+fn declare_name<'t>(
+    alloc: Global,
+    scope: &mut Scope<'t>,
+    nets: &mut Nets,
+    declare: &'t Declare,
+) -> Result<(), ElabErr>
+    ensures { let here = here_of scope.old nets.old in let known = entry_of scope.old declare.now.name.text in
+        Gives (spec.declared_again known declare.now here) result (λ _. here_of scope.new nets.new) }
+{
+    match scope.find(declare.name.text.as_slice()) {
+        Some(entry) => {
+            if !repeats(entry, declare) {
+                return Err(ElabErr::BadName {
+                    at: declare.name.at,
+                });
+            }
+            Ok(())
+        }
+        None => {
+            introduce(
+                alloc,
+                scope,
+                nets,
+                declare.what,
+                declare.range,
+                &declare.name,
+            )?;
+            Ok(())
+        }
+    }
+}
+
+/// Whether a second declaration changes nothing.
+fn repeats(entry: Entry, declare: &Declare) -> bool
+    ensures { result ≡ spec.repeats entry declare.now }
+{
+    let again = is_same_kind(entry.what, declare.what);
+    let as_wire = is_directed(entry.what) && is_same_kind(declare.what, NetKind::Wire);
+    (again || as_wire) && is_same_range(entry.range, declare.range)
+}
+
+fn is_directed(what: NetKind) -> bool
+    ensures { result ≡ spec.is_directed what }
+{
+    matches!(what, NetKind::Input | NetKind::Output)
+}
+
+fn kind_number(what: NetKind) -> u8
+    ensures { result ≡ spec.kind_number what }
+{
+    what as u8
+}
+
+fn is_same_kind(what: NetKind, other: NetKind) -> bool
+    ensures { result ≡ (spec.kind_number what == spec.kind_number other) }
+{
+    kind_number(what) == kind_number(other)
+}
+
+fn is_same_range(range: Option<(u32, u32)>, other: Option<(u32, u32)>) -> bool
+    ensures { result ≡ spec.same_range range other }
+{
+    match (range, other) {
+        (None, None) => true,
+        (Some(a), Some(b)) => a.0 == b.0 && a.1 == b.1,
+        _ => false,
+    }
+}
+
+/// Each port is named once and has a direction.
+fn check_ports<'t>(alloc: Global, scope: &Scope<'_>, ports: &'t [Word]) -> Result<(), ElabErr>
+    ensures { Gives (spec.ports_checked scope.now [] ports.now) result (λ _. scope.now) }
+{
+    let mut seen = NameSet::new(alloc);
+    'ports: for port in ports {
+        check_port(scope, &mut seen, port)?;
+    }
+    Ok(())
+}
+
+fn check_port<'t>(scope: &Scope<'_>, seen: &mut NameSet<'t>, port: &'t Word) -> Result<(), ElabErr>
+    ensures { Gives (spec.port_checked scope.now seen.old port.now) result (λ _. seen.new) }
+{
+    if seen.has(port.text.as_slice()) || !has_direction(scope, port) {
+        return Err(ElabErr::PortMismatch { at: port.at });
+    }
+    let _ = seen.add(port.text.as_slice())?;
+    Ok(())
+}
+
+fn has_direction(scope: &Scope<'_>, port: &Word) -> bool
+    ensures { result ≡ spec.has_direction (entry_of scope.now port.now.text) }
+{
+    match scope.find(port.text.as_slice()) {
+        Some(entry) => is_directed(entry.what),
+        None => false,
+    }
+}

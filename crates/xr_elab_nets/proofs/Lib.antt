@@ -1,0 +1,2 @@
+-- Lemmas of xr_elab_nets.
+pub mod Making

@@ -1,0 +1,15 @@
+-- When a binding fits a design.
+use Rattle.std.specs.Prelude.{◌<◌, ◌^◌, length, All}
+use Rattle.xr_design.specs.declared.design.Design.{Design}
+use Rattle.xr_match.specs.declared.binding.Binding.{Binding}
+use Rattle.xr_match.specs.declared.binding.Bound.{Bound}
+
+-- A bound variable has one or more bits, each a net of the design.
+pub record FitsBound (design : Design) (b : Bound) : Type 0 where
+  pub some : 0 < length b.bits
+  pub nets : All (λ net. net < length design.nets) b.bits
+
+-- Each bound variable fits, and there are fewer than 2^28, as in every recording.
+pub record FitsBinding (design : Design) (binding : Binding) : Type 0 where
+  pub each : All (FitsBound design) binding.bound
+  pub few : length binding.bound < 2 ^ 28

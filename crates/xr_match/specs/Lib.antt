@@ -1,0 +1,2 @@
+-- Definitions of xr_match: when a binding fits a design.
+pub mod Binding

@@ -1,0 +1,7 @@
+-- The bits so far show the same.
+use Rattle.std.proofs.Common.{◌≡◌, drop}
+use Rattle.xr_out.specs.Moments.{are_same}
+use Rattle.xr_out.proofs.moments.is_same.Given as goal
+
+abbrev pub invariant-bits : goal.invariant-bits
+invariant-bits l = are_same l.history l.step l.before l.bits ≡ are_same l.history l.step l.before (drop l.net-index l.bits)

@@ -1,0 +1,7 @@
+-- The letters so far and those of what is left are all.
+use Rattle.std.proofs.Common.{◌≡◌, ◌++◌, drop, map}
+use Rattle.xr_out.specs.Moments.{letter_at}
+use Rattle.xr_out.proofs.moments.put_letters.Given as goal
+
+abbrev pub invariant-bits : goal.invariant-bits
+invariant-bits l = l.text.items ++ map (letter_at l.history l.step) (drop l.net-index l.bits) ≡ l.fn.text.items ++ map (letter_at l.history l.step) l.bits

@@ -1,0 +1,7 @@
+-- Definitions of xr_out: the text of the repaired recording.
+pub mod Code
+pub mod Declarations
+pub mod Lines
+pub mod Moments
+pub mod Steps
+pub mod Text

@@ -1,0 +1,62 @@
+-- The moments of a recording's text (IEEE 1364-2005, clause 18).
+use Rattle.std.specs.Prelude.{ℕ, zero, suc, ◌+◌, ◌-◌, ◌*◌, ◌==◌, List, [], ◌∷◌, ◌++◌, Bool, codes, decimal, length, map, if◌then◌else◌}
+use Rattle.std.specs.List.{list_all}
+use Rattle.xr_cell.specs.Value.{letter_of}
+use Rattle.xr_design.specs.History.{HistoryView, held_in}
+use Rattle.xr_match.specs.declared.binding.Bound.{Bound}
+use Rattle.xr_out.specs.Code.{code_of}
+use Rattle.xr_out.specs.Lines.{line}
+
+-- the letter of the value that a net shows at a step
+abbrev pub letter_at : HistoryView → ℕ → ℕ → ℕ
+letter_at history step net = letter_of (held_in history (record { step = step; net = net })).shown
+
+abbrev pub letters : HistoryView → ℕ → Bound → List ℕ
+letters history step b = map (letter_at history step) b.bits
+
+-- A value: a bit and the code; a wider one is `b`, all bits, a space and the code.
+abbrev pub value_line : HistoryView → ℕ → ℕ → Bound → List ℕ
+value_line history step number b =
+    line (if length b.bits == 1 then letters history step b ++ code_of number else codes "b" ++ letters history step b ++ codes " " ++ code_of number)
+
+-- the values of the variables from one on
+abbrev pub value_lines : HistoryView → ℕ → ℕ → List Bound → List ℕ
+value_lines history step number [] = []
+value_lines history step number (b ∷ bs) = value_line history step number b ++ value_lines history step (number + 1) bs
+
+-- Whether each of these nets shows the same at two steps.
+abbrev pub are_same : HistoryView → ℕ → ℕ → List ℕ → Bool
+are_same history step before nets = list_all (λ net. letter_at history step net == letter_at history before net) nets
+
+-- A variable's value, where it is another than at a step before.
+abbrev pub change_line : HistoryView → ℕ → ℕ → ℕ → Bound → List ℕ
+change_line history step before number b = if are_same history step before b.bits then [] else value_line history step number b
+
+-- the values of those variables from one on that show another value than at a step before
+abbrev pub changed_lines : HistoryView → ℕ → ℕ → ℕ → List Bound → List ℕ
+changed_lines history step before number [] = []
+changed_lines history step before number (b ∷ bs) =
+    change_line history step before number b ++ changed_lines history step before (number + 1) bs
+
+-- The last round of a moment, as a step.
+abbrev pub last_step : ℕ → ℕ → ℕ
+last_step rounds moment = moment * rounds + (rounds - 1)
+
+abbrev pub time_line : ℕ → List ℕ
+time_line time = line (codes "#" ++ decimal time)
+
+-- every variable, as a dump
+abbrev pub dump_lines : HistoryView → ℕ → List Bound → List ℕ
+dump_lines history step bound = line (codes "$dumpvars") ++ value_lines history step 0 bound ++ line (codes "$end")
+
+-- A moment: at the first one every variable, at a later one each that differs from the moment before.
+abbrev pub moment_lines : HistoryView → ℕ → List Bound → ℕ → ℕ → List ℕ
+moment_lines history rounds bound zero time =
+    time_line time ++ dump_lines history (last_step rounds 0) bound
+moment_lines history rounds bound (suc moment) time =
+    time_line time ++ changed_lines history (last_step rounds (suc moment)) (last_step rounds moment) 0 bound
+
+-- the moments from one on
+abbrev pub lines_from : HistoryView → ℕ → List Bound → ℕ → List ℕ → List ℕ
+lines_from history rounds bound moment [] = []
+lines_from history rounds bound moment (time ∷ times) = moment_lines history rounds bound moment time ++ lines_from history rounds bound (moment + 1) times

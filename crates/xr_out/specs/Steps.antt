@@ -1,0 +1,20 @@
+-- Which steps and which bits a history has.
+use Rattle.std.specs.Prelude.{ℕ, ◌<◌, ◌^◌, length, All}
+use Rattle.xr_design.specs.History.{HistoryView, HasPlace}
+use Rattle.xr_match.specs.declared.binding.Bound.{Bound}
+use Rattle.xr_out.specs.Moments.{last_step}
+
+-- Each net has a place at the step.
+pub record HasStep (history : HistoryView) (step : ℕ) : Type 0 where
+  pub small : step < 2 ^ 32
+  pub places : (net : ℕ) → net < history.nets → HasPlace history (record { step = step; net = net })
+
+-- The bits are nets of the history, one or more.
+pub record HasBits (history : HistoryView) (b : Bound) : Type 0 where
+  pub some : 0 < length b.bits
+  pub nets : All (λ net. net < history.nets) b.bits
+
+-- The last step of each moment is there.
+pub record HasMoments (history : HistoryView) (moments rounds : ℕ) : Type 0 where
+  pub few : moments < 2 ^ 28
+  pub steps : (moment : ℕ) → moment < moments → HasStep history (last_step rounds moment)

@@ -1,0 +1,158 @@
+//! The moments of the text.
+
+ghost use Rattle.std.specs.Prelude.{◌≡◌, ◌≤◌, ◌<◌, ◌+◌, ◌*◌, ◌^◌, ◌++◌, ℕ, All, List, OnOk, drop, length, map};
+ghost use Rattle.xr_match.specs.declared.binding.Bound.{Bound as bound_variable};
+ghost use Rattle.xr_out.specs.Moments as spec;
+ghost use Rattle.xr_out.specs.Steps.{HasStep, HasBits};
+
+use crate::code::put_code;
+use crate::puts::{put, put_number};
+use xr_base::Memory;
+use xr_design::{History, Place};
+use xr_match::Bound;
+
+/// Puts a moment: at the first one every variable, at a later one each that differs from the moment before.
+pub fn put_moment(
+    text: &mut Vec<u8>,
+    bound: &[Bound],
+    history: &History,
+    rounds: u32,
+    moment: u32,
+    time: u64,
+) -> Result<(), Memory>
+    requires rounds { 0 < rounds }
+    requires steps { (earlier : ℕ) → earlier ≤ moment → HasStep history.now (spec.last_step rounds earlier) }
+    requires bits { All (HasBits history.now) bound.now }
+    ensures { OnOk result (text.new.items ≡ text.old.items ++ spec.moment_lines history.now rounds bound.now moment time) }
+{
+    put(text, b"#")?;
+    put_number(text, time)?;
+    put(text, b"\n")?;
+    let step = moment * rounds + (rounds - 1);
+    if moment == 0 {
+        put_dump(text, bound, history, step)
+    } else {
+        put_changed(text, bound, history, step, step - rounds)
+    }
+}
+
+fn put_dump(text: &mut Vec<u8>, bound: &[Bound], history: &History, step: u32) -> Result<(), Memory>
+    requires step { HasStep history.now step }
+    requires bits { All (HasBits history.now) bound.now }
+    ensures { OnOk result (text.new.items ≡ text.old.items ++ spec.dump_lines history.now step bound.now) }
+{
+    put(text, b"$dumpvars\n")?;
+    put_values(text, bound, history, step)?;
+    put(text, b"$end\n")
+}
+
+fn put_values(
+    text: &mut Vec<u8>,
+    bound: &[Bound],
+    history: &History,
+    step: u32,
+) -> Result<(), Memory>
+    requires step { HasStep history.now step }
+    requires bits { All (HasBits history.now) bound.now }
+    ensures { OnOk result (text.new.items ≡ text.old.items ++ spec.value_lines history.now step 0 bound.now) }
+{
+    'variables: for (number, variable) in bound.iter().enumerate() {
+        put_value(text, number, variable, history, step)?;
+    }
+    Ok(())
+}
+
+fn put_changed(
+    text: &mut Vec<u8>,
+    bound: &[Bound],
+    history: &History,
+    step: u32,
+    before: u32,
+) -> Result<(), Memory>
+    requires step { HasStep history.now step }
+    requires before { HasStep history.now before }
+    requires bits { All (HasBits history.now) bound.now }
+    ensures { OnOk result (text.new.items ≡ text.old.items ++ spec.changed_lines history.now step before 0 bound.now) }
+{
+    'variables: for (number, variable) in bound.iter().enumerate() {
+        put_change(text, number, variable, history, step, before)?;
+    }
+    Ok(())
+}
+
+fn put_change(
+    text: &mut Vec<u8>,
+    number: usize,
+    variable: &Bound,
+    history: &History,
+    step: u32,
+    before: u32,
+) -> Result<(), Memory>
+    requires step { HasStep history.now step }
+    requires before { HasStep history.now before }
+    requires bits { HasBits history.now variable.now }
+    ensures { OnOk result (text.new.items ≡ text.old.items ++ spec.change_line history.now step before number variable.now) }
+{
+    if is_same(variable.bits.as_slice(), history, step, before) {
+        return Ok(());
+    }
+    put_value(text, number, variable, history, step)
+}
+
+/// Whether each bit shows the same at two steps.
+fn is_same(bits: &[u32], history: &History, step: u32, before: u32) -> bool
+    requires step { HasStep history.now step }
+    requires before { HasStep history.now before }
+    requires bits { All (λ net. net < history.now.nets) bits.now }
+    ensures { result ≡ spec.are_same history.now step before bits.now }
+{
+    'bits: for net in bits {
+        if letter_at(history, step, *net) != letter_at(history, before, *net) {
+            return false;
+        }
+    }
+    true
+}
+
+fn letter_at(history: &History, step: u32, net: u32) -> u8
+    requires step { HasStep history.now step }
+    requires net { net < history.now.nets }
+    ensures { result ≡ spec.letter_at history.now step net }
+{
+    history.shown(Place { step, net }).letter()
+}
+
+// value = digit code | "b" digit { digit } " " code
+fn put_value(
+    text: &mut Vec<u8>,
+    number: usize,
+    variable: &Bound,
+    history: &History,
+    step: u32,
+) -> Result<(), Memory>
+    requires step { HasStep history.now step }
+    requires bits { HasBits history.now variable.now }
+    ensures { OnOk result (text.new.items ≡ text.old.items ++ spec.value_line history.now step number variable.now) }
+{
+    let bits = variable.bits.as_slice();
+    if bits.len() == 1 {
+        put_letters(text, bits, history, step)?;
+    } else {
+        put(text, b"b")?;
+        put_letters(text, bits, history, step)?;
+        put(text, b" ")?;
+    }
+    put_code(text, number)?;
+    put(text, b"\n")
+}
+
+fn put_letters(text: &mut Vec<u8>, bits: &[u32], history: &History, step: u32) -> Result<(), Memory>
+    requires step { HasStep history.now step }
+    requires bits { All (λ net. net < history.now.nets) bits.now }
+    ensures { OnOk result (text.new.items ≡ text.old.items ++ map (spec.letter_at history.now step) bits.now) }
+{
+    'bits: for net in bits {
+        text.push(letter_at(history, step, *net))?;
+    }
+    Ok(())
+}

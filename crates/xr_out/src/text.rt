@@ -1,0 +1,67 @@
+//! The text of the repaired recording.
+
+ghost use Rattle.std.specs.Prelude.{◌≡◌, ◌++◌, ◌<◌, ◌+◌, ◌*◌, All, OnOk, IfOk, length};
+ghost use Rattle.xr_match.specs.Binding.{FitsBinding};
+ghost use Rattle.xr_out.specs.Moments.{lines_from};
+ghost use Rattle.xr_out.specs.Steps.{HasBits, HasMoments};
+ghost use Rattle.xr_out.specs.Text as spec;
+
+use crate::declarations::put_declarations;
+use crate::moments::put_moment;
+use crate::puts::{put, put_section};
+use std::alloc::Global;
+use xr_base::Memory;
+use xr_design::{Bytes, Design, History, Stim};
+use xr_match::{Binding, Bound};
+
+/// The text of a recording with what the history shows: its variables, and at each moment the values at its last round.
+///
+/// Takes the text's bytes, and time linear in the text and in the places of bound bits at the moments' last rounds.
+#[tactic(auto, unfolding(crate::specs::Text::vcd_text))]
+pub fn vcd_text(
+    alloc: Global,
+    design: &Design,
+    bound: &Binding,
+    stim: &Stim,
+    history: &History,
+) -> Result<Vec<u8>, Memory>
+    requires binding { FitsBinding design.now bound.now }
+    requires steps { spec.HasSteps design.now stim.now history.now }
+    ensures { IfOk result (λ text. text.items ≡ spec.vcd_text design.now bound.now stim.now history.now) }
+{
+    let mut text = Vec::new(alloc);
+    put(&mut text, b"$version xrepair $end\n")?;
+    put_timescale(&mut text, &bound.timescale)?;
+    put_declarations(&mut text, design, bound.bound.as_slice())?;
+    put(&mut text, b"$enddefinitions $end\n")?;
+    put_moments(&mut text, bound.bound.as_slice(), stim, history)?;
+    Ok(text)
+}
+
+fn put_timescale(text: &mut Vec<u8>, timescale: &Option<Bytes>) -> Result<(), Memory>
+    ensures { OnOk result (text.new.items ≡ text.old.items ++ spec.timescale_line timescale.now) }
+{
+    let Some(scale) = timescale else {
+        return Ok(());
+    };
+    put_section(text, b"$timescale ", scale.as_slice())
+}
+
+fn put_moments(
+    text: &mut Vec<u8>,
+    bound: &[Bound],
+    stim: &Stim,
+    history: &History,
+) -> Result<(), Memory>
+    requires moments { HasMoments history.now (length stim.now.times) stim.now.rounds }
+    requires bits { All (HasBits history.now) bound.now }
+    ensures { OnOk result (text.new.items ≡ text.old.items ++ lines_from history.now stim.now.rounds bound.now 0 stim.now.times) }
+{
+    'moments: for (moment, time) in stim.times.as_slice().iter().enumerate() {
+        put_moment(text, bound, history, stim.rounds, moment as u32, *time)?;
+    }
+    Ok(())
+}
+
+#[cfg(test)]
+mod tests;
