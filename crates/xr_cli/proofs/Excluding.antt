@@ -4,8 +4,8 @@ use Rattle.std.specs.Prelude.{◌⊎◌}
 use Rattle.xr_shelf.specs.Shelf.{View, held}
 use Rattle.xr_shelf.specs.Sink.{SinkView}
 use Rattle.xr_design.specs.declared.design.Design.{Design}
-use Rattle.xr_netlist_grammar.specs.declared.refusal.ParseErr.{ParseErr}
-use Rattle.xr_vcd.specs.declared.refusal.VcdErr.{VcdErr}
+use Rattle.xr_netlist_grammar.specs.declared.fault.NetlistFault.{NetlistFault}
+use Rattle.xr_vcd.specs.declared.fault.RecordingFault.{RecordingFault}
 use Rattle.xr_vcd.specs.Recording.{Recording as Said}
 use Rattle.xr_cli.specs.Words.{Words, IsRepair, line_of_words, pieces_of}
 use Rattle.xr_design.specs.Job.{job_of}
@@ -41,7 +41,7 @@ one_words line a b first second = sym (from_line a) ∙ ap words_from (sym first
 
 -- ---- texts
 
-module _ (w : Words) (netlist recording : List ℕ) (fault : ParseErr) (faulty : IsFaultyNetlist netlist fault) where
+module _ (w : Words) (netlist recording : List ℕ) (fault : NetlistFault) (faulty : IsFaultyNetlist netlist fault) where
   no_netlist_is_no_form : IsNotBuilt w netlist recording → ⊥
   no_netlist_is_no_form (IsNotBuilt.long_netlist long) = let fits = faulty.netlist_fits in absurd (omega (arith, long, fits))
   no_netlist_is_no_form (IsNotBuilt.no_flat_netlist fits other) = tree_unrefused netlist other.tree fault other.is faulty.is
@@ -49,13 +49,13 @@ module _ (w : Words) (netlist recording : List ℕ) (fault : ParseErr) (faulty :
   no_netlist_is_no_form (IsNotBuilt.no_flat_recording design fits is short other) = tree_unrefused netlist is.tree fault is.is faulty.is
   no_netlist_is_no_form (IsNotBuilt.many_choices design r read many) = tree_unrefused netlist read.netlist_is.tree fault read.netlist_is.is faulty.is
 
-module _ (w : Words) (netlist recording : List ℕ) (fault : VcdErr) (faulty : IsFaultyRecording w netlist recording fault) where
+module _ (w : Words) (netlist recording : List ℕ) (fault : RecordingFault) (faulty : IsFaultyRecording w netlist recording fault) where
   no_recording_is_no_form : IsNotBuilt w netlist recording → ⊥
   no_recording_is_no_form (IsNotBuilt.long_netlist long) = let fits = faulty.netlist_fits in absurd (omega (arith, long, fits))
   no_recording_is_no_form (IsNotBuilt.no_flat_netlist fits other) = not_both_forms netlist w.top faulty.design faulty.netlist_is other
   no_recording_is_no_form (IsNotBuilt.long_recording design fits is long) = let short = faulty.recording_fits in absurd (omega (arith, long, short))
-  no_recording_is_no_form (IsNotBuilt.no_flat_recording design fits is short other) = said_without_fault recording other.said fault other.says faulty.is
-  no_recording_is_no_form (IsNotBuilt.many_choices design r read many) = said_without_fault recording read.recording_is.said fault read.recording_is.says faulty.is
+  no_recording_is_no_form (IsNotBuilt.no_flat_recording design fits is short other) = said_without_fault recording other.said faulty.is.refusal other.says faulty.is.is
+  no_recording_is_no_form (IsNotBuilt.many_choices design r read many) = said_without_fault recording read.recording_is.said faulty.is.refusal read.recording_is.says faulty.is.is
 
 -- At most 12 places choose.
 record Few (design : Design) (r : Bound) : Type 0 where
@@ -97,8 +97,8 @@ few_compared design r name recorded replayed is = record { order = is.order; sti
 -- What the row of a run says of its texts.
 data Told (w : Words) (netlist recording : List ℕ) (status : ℕ) : Type 0 where
   unread : ((status ≡ 3) ⊎ (status ≡ 20)) → Told w netlist recording status
-  no_netlist : ((status ≡ 5) ⊎ (status ≡ 20)) → (fault : ParseErr) → IsFaultyNetlist netlist fault → Told w netlist recording status
-  no_recording : ((status ≡ 7) ⊎ (status ≡ 20)) → (fault : VcdErr) → IsFaultyRecording w netlist recording fault → Told w netlist recording status
+  no_netlist : ((status ≡ 5) ⊎ (status ≡ 20)) → (fault : NetlistFault) → IsFaultyNetlist netlist fault → Told w netlist recording status
+  no_recording : ((status ≡ 7) ⊎ (status ≡ 20)) → (fault : RecordingFault) → IsFaultyRecording w netlist recording fault → Told w netlist recording status
   not_built : ((status ≡ 14) ⊎ (status ≡ 20)) → IsNotBuilt w netlist recording → Told w netlist recording status
   are_read : (design : Design) (r : Bound) → AreRead w netlist recording design r → Few design r → Told w netlist recording status
 
@@ -136,19 +136,19 @@ own_or_memory own status (inl is) = inl is
 own_or_memory own status (inr is) = inr (inr is)
 
 module _ (w : Words) (netlist recording : List ℕ) (status : ℕ) where
-  netlist_only : (fault : ParseErr) → IsFaultyNetlist netlist fault → Told w netlist recording status → EndsWith 5 status
+  netlist_only : (fault : NetlistFault) → IsFaultyNetlist netlist fault → Told w netlist recording status → EndsWith 5 status
   netlist_only fault faulty (Told.unread ended) = inr ended
   netlist_only fault faulty (Told.no_netlist ended other is) = own_or_memory 5 status ended
   netlist_only fault faulty (Told.no_recording ended other is) = absurd (tree_unrefused netlist is.netlist_is.tree fault is.netlist_is.is faulty.is)
   netlist_only fault faulty (Told.not_built ended is) = absurd (no_netlist_is_no_form w netlist recording fault faulty is)
   netlist_only fault faulty (Told.are_read design r read few) = absurd (tree_unrefused netlist read.netlist_is.tree fault read.netlist_is.is faulty.is)
 
-  recording_only : (fault : VcdErr) → IsFaultyRecording w netlist recording fault → Told w netlist recording status → EndsWith 7 status
+  recording_only : (fault : RecordingFault) → IsFaultyRecording w netlist recording fault → Told w netlist recording status → EndsWith 7 status
   recording_only fault faulty (Told.unread ended) = inr ended
   recording_only fault faulty (Told.no_netlist ended other is) = absurd (tree_unrefused netlist faulty.netlist_is.tree other faulty.netlist_is.is is.is)
   recording_only fault faulty (Told.no_recording ended other is) = own_or_memory 7 status ended
   recording_only fault faulty (Told.not_built ended is) = absurd (no_recording_is_no_form w netlist recording fault faulty is)
-  recording_only fault faulty (Told.are_read design r read few) = absurd (said_without_fault recording read.recording_is.said fault read.recording_is.says faulty.is)
+  recording_only fault faulty (Told.are_read design r read few) = absurd (said_without_fault recording read.recording_is.said faulty.is.refusal read.recording_is.says faulty.is.is)
 
   not_built_only : IsNotBuilt w netlist recording → Told w netlist recording status → EndsWith 14 status
   not_built_only form (Told.unread ended) = inr ended

@@ -15,9 +15,9 @@ use Rattle.xr_cli.specs.Refusal.{netlist_refusal, flat_refusal}
 module _ (text top : List ℕ) where
   pub refused : (fault : ParseErr) → IfSome (fault_in fault) (IsRefused text) → NetlistRefused text top (netlist_refusal fault)
   refused Memory is = tt
-  refused (Lex e) is = record { left = is.left; told = is.told; first = is.first }
-  refused (Unexpected at) is = record { left = is.left; told = is.told; first = is.first }
-  refused (OutOfProfile at) is = record { left = is.left; told = is.told; first = is.first }
+  refused (Lex e) is = is
+  refused (Unexpected at) is = is
+  refused (OutOfProfile at) is = is
 
   pub not_flat : (tree : Source) (fault : FlatErr) → IsTree text tree → (fault ≡ NotFlat → is_flat tree top ≡ false) → NetlistRefused text top (flat_refusal fault)
   not_flat tree FlatMemory is out = tt

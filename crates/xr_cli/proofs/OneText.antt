@@ -21,8 +21,10 @@ use Rattle.xr_vcd.specs.Words.{Word, words_of as recorded_words}
 use Rattle.xr_vcd.specs.Machine.{State, Next, step, then_run, run as run_recording}
 use Rattle.xr_vcd.specs.Faults.{Says, FirstFault, beginning, reach, reach_on, stops}
 use Rattle.xr_vcd.specs.Recording.{Recording as Said}
-use Rattle.xr_netlist_grammar.specs.Source.{IsTree}
-use Rattle.xr_cli.specs.NetlistText.{IsNetlistFault, IsNetlist, IsNoFlatNetlist}
+use Rattle.xr_netlist_grammar.specs.Source.{IsTree, IsRefused}
+use Rattle.xr_netlist_grammar.specs.Fault.{refusal_of}
+use Rattle.xr_netlist_grammar.specs.declared.fault.NetlistFault.{NetlistFault}
+use Rattle.xr_cli.specs.NetlistText.{IsNetlist, IsNoFlatNetlist}
 
 -- ---- netlists
 
@@ -39,10 +41,10 @@ stuck_nowhere words stop tree parsed ended front (t ∷ ts) split stuck =
     stuck (record { more = ts; tree = tree; parsed = subst (λ (l : List Tok). Text l tree) (split ∙ sym (append_assoc front (t ∷ []) ts)) parsed })
 
 -- A text of the grammar isn't refused.
-pub tree_unrefused : (text : List ℕ) (tree : Source) (fault : ParseErr) → IsTree text tree → IsNetlistFault text fault → ⊥
+pub tree_unrefused : (text : List ℕ) (tree : Source) (fault : NetlistFault) → IsTree text tree → IsRefused text fault → ⊥
 tree_unrefused text tree fault is refused =
     let same : refused.left ≡ is.left = one_left text refused.left is.left refused.told is.told in
-    let first : RefusesFirst (words_of text is.left).words (words_of text is.left).stop fault = subst (λ (l : Left). RefusesFirst (words_of text l).words (words_of text l).stop fault) same refused.first in
+    let first : RefusesFirst (words_of text is.left).words (words_of text is.left).stop (refusal_of fault) = subst (λ (l : Left). RefusesFirst (words_of text l).words (words_of text l).stop (refusal_of fault)) same refused.first in
     stuck_nowhere (words_of text is.left).words (words_of text is.left).stop tree is.parsed (ends (length text) is.left.fault is.whole) first.front first.rest first.split first.stuck
 
 same_tree : (a b : Source) (read : Result Source ParseErr) → read ≡ Ok a → read ≡ Ok b → a ≡ b

@@ -1,11 +1,15 @@
 -- What the phases before the first output refuse, as refusals of them all.
-use Rattle.std.proofs.Common.{◌≡◌, ℕ, suc, ◌+◌, ◌<◌, ◌≤◌, List, [], ◌∷◌, length, IsTrue, Bool, inr, refl, sym, subst, ◌∙◌, arith, Some, slice_get}
+use Rattle.std.proofs.Common.{◌≡◌, ◌≢◌, ℕ, suc, ◌+◌, ◌<◌, ◌≤◌, List, [], ◌∷◌, length, IsTrue, Bool, inr, refl, sym, subst, ◌∙◌, arith, Some, slice_get}
 use Rattle.std.specs.Prelude.{string_bytes}
 use Rattle.std.specs.List.{AllByRecursion}
 use Rattle.xr_shelf.specs.Shelf.{View, Later, Rose, held}
 use Rattle.xr_design.specs.declared.design.Design.{Design}
 use Rattle.xr_vcd.specs.declared.variable.Variable.{Variable as SaidVariable}
 use Rattle.xr_vcd.specs.Recording.{Recording as Said}
+use Rattle.xr_vcd.specs.Faults.{FirstFault}
+use Rattle.xr_vcd.specs.declared.refusal.VcdErr.{VcdErr}
+use Rattle.xr_vcd.specs.declared.refusal.VcdErr.TheVariants as vcd
+use Rattle.xr_cli.specs.Refusal.{recording_refusal}
 use Rattle.xr_cli.specs.Words.{Words, pieces_of}
 use Rattle.xr_cli.specs.NetlistText.{IsNetlist}
 use Rattle.xr_cli.specs.RecordingText.{IsRecording, IsRecorded, IsBound}
@@ -14,7 +18,7 @@ use Rattle.xr_cli.specs.declared.recording.Recording.{Recording as Bound}
 use Rattle.xr_cli.specs.declared.recording.Variable.{Variable}
 use Rattle.xr_cli.specs.declared.refusal.Refusal.{Refusal}
 use Rattle.xr_cli.specs.declared.refusal.Refusal.TheVariants.{Usage, Read, Write, Netlist, Recording, NotBuilt, Memory, Disagrees as Differs}
-use Rattle.xr_cli.proofs.Joins.{held_same}
+use Rattle.xr_cli.proofs.Joins.{held_same, rose_behind}
 
 -- The netlist's text is of its size, and stands for a design.
 pub record HasNetlist (told : Bool) (w : Words) (old : View) (design : Design) : Type 0 where
@@ -33,7 +37,7 @@ module _ (told : Bool) (w : Words) (old mid new : View) (design : Design) (first
   recording_unread (Read file) cause =
       let less = first.reads (string_bytes file) in
       let rose : Rose (mid.reads (string_bytes file)) (new.reads (string_bytes file)) = rw cause.0 cause.1 in
-      (inr cause.0, omega (arith, less, rose))
+      (inr (cause.0, λ t. record { design = design; netlist_fits = netlist.fits t; netlist_is = netlist.is t }), rose_behind (old.reads (string_bytes file)) (mid.reads (string_bytes file)) (new.reads (string_bytes file)) less rose)
   recording_unread NotBuilt cause = λ t. IsNotBuilt.long_recording design (netlist.fits t) (netlist.is t) (rw (← held_same old mid w.recording same) (cause t))
   recording_unread Memory cause = tt
   recording_unread Usage cause = absurd cause
@@ -94,3 +98,13 @@ bound_from design (u ∷ us) (v ∷ vs) said depth at long each =
 
 pub all_bound : (text : List ℕ) (scope : List (List ℕ)) (design : Design) (r : Bound) → IsRecording text scope design r → AllByRecursion (IsBound design) r.variables
 all_bound text scope design r is = bound_from design is.said.variables r.variables is.said (length scope) 0 is.flat.as_many (λ i u v within a b. (let e : i ≡ 0 + i = omega arith in subst (λ n. IsRecorded is.said (length scope) design n u v) e (is.flat.each i u v within a b)))
+
+-- a text that is none of the grammar is refused with its first fault
+pub fault_refused : (text : List ℕ) (scope : List (List ℕ)) (design : Design) (e : VcdErr) → (e ≢ vcd.Memory → FirstFault text e) → RecordingRefused text scope design (recording_refusal e)
+fault_refused text scope design vcd.Memory first = tt
+fault_refused text scope design (vcd.Syntax at) first = record { refusal = vcd.Syntax at; is = first (λ q. cc); says = refl }
+fault_refused text scope design (vcd.UnknownCode at) first = record { refusal = vcd.UnknownCode at; is = first (λ q. cc); says = refl }
+fault_refused text scope design (vcd.TimeBack at) first = record { refusal = vcd.TimeBack at; is = first (λ q. cc); says = refl }
+fault_refused text scope design (vcd.Width at) first = record { refusal = vcd.Width at; is = first (λ q. cc); says = refl }
+fault_refused text scope design (vcd.DumpOff at) first = record { refusal = vcd.DumpOff at; is = first (λ q. cc); says = refl }
+fault_refused text scope design (vcd.Truncated at) first = record { refusal = vcd.Truncated at; is = first (λ q. cc); says = refl }

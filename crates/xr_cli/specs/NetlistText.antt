@@ -1,21 +1,10 @@
 -- Which netlist texts are read, and the design that each stands for.
 use Rattle.std.specs.Prelude.{◌≡◌, ℕ, List, IsTrue, false}
-use Rattle.xr_text.specs.Left.{Left}
-use Rattle.xr_text.specs.Tokens.{Tokens}
-use Rattle.xr_netlist_grammar.specs.Lexemes.{words_of}
 use Rattle.xr_netlist_grammar.specs.Source.{IsTree}
-use Rattle.xr_netlist_grammar.specs.Refusal.{RefusesFirst}
-use Rattle.xr_netlist_grammar.specs.declared.refusal.ParseErr.{ParseErr}
 use Rattle.xr_netlist_grammar.specs.declared.tree.Source.{Source}
 use Rattle.xr_design.specs.declared.design.Design.{Design}
 use Rattle.xr_flat.specs.Netlist.{is_flat}
 use Rattle.xr_flat.specs.Design.{design_of}
-
--- A text is none of the grammar, for this cause.
-pub record IsNetlistFault (text : List ℕ) (fault : ParseErr) : Type 0 where
-  pub left : Left
-  pub told : Tokens 0 text left
-  pub first : RefusesFirst (words_of text left).words (words_of text left).stop fault
 
 -- A text stands for a design: its tree is one flat module named as the top, and the design is that of the module.
 pub record IsNetlist (text top : List ℕ) (design : Design) : Type 0 where

@@ -1,7 +1,7 @@
 -- What each phase of a run does. A phase names its own refusals and no other.
-use Rattle.std.specs.Prelude.{◌≡◌, ◌⊎◌, ℕ, ◌<◌, ◌≤◌, List, [], ◌∷◌, ◌++◌, length, map, Contains, Option, Some, None, Result, IfOk, IfErr, OnOk, IsTrue, Bool, Vec, codes, string_bytes}
+use Rattle.std.specs.Prelude.{◌≡◌, ◌⊎◌, ℕ, ◌<◌, ◌≤◌, List, [], ◌∷◌, ◌++◌, length, map, Contains, Option, Some, None, Result, IfOk, IfErr, OnOk, IfSome, IsSome, IsTrue, Bool, Vec, codes, string_bytes}
 use Rattle.std.specs.declared.alloc.Global.{Global}
-use Rattle.xr_shelf.specs.Shelf.{View, Later, Rose, OthersKept, held}
+use Rattle.xr_shelf.specs.Shelf.{View, Nothing, Later, SameCounts, Rose, OthersKept, held}
 use Rattle.xr_shelf.specs.Sink.{SinkView}
 use Rattle.xr_shelf.specs.Calls.{HoldsPart, Gained}
 use Rattle.xr_cli.specs.Words.{Words, pieces_of}
@@ -11,11 +11,15 @@ use Rattle.xr_design.specs.declared.design.Design.{Design}
 use Rattle.xr_cli.specs.Repair.{Decided, Disagrees, HasManyChoices}
 use Rattle.xr_cli.specs.declared.bit.Bit.{Bit}
 use Rattle.xr_cli.specs.declared.recording.Recording.{Recording as Said}
-use Rattle.xr_netlist_grammar.specs.declared.refusal.ParseErr.{ParseErr}
+use Rattle.xr_netlist_grammar.specs.declared.fault.NetlistFault.{NetlistFault}
+use Rattle.xr_netlist_grammar.specs.Source.{IsRefused}
 use Rattle.xr_vcd.specs.Faults.{FirstFault}
 use Rattle.xr_vcd.specs.declared.refusal.VcdErr.{VcdErr}
-use Rattle.xr_cli.specs.NetlistText.{IsNetlist, IsNetlistFault, IsNoFlatNetlist}
+use Rattle.xr_vcd.specs.declared.fault.RecordingFault.{RecordingFault}
+use Rattle.xr_vcd.specs.RecordingFault.{fault_of}
+use Rattle.xr_cli.specs.NetlistText.{IsNetlist, IsNoFlatNetlist}
 use Rattle.xr_cli.specs.RecordingText.{IsRecording, IsNoFlatRecording}
+use Rattle.xr_cli.specs.Refusal.{Cause, UsageCause, ReadCause, WriteCause, NotBuiltCause, MemoryCause, cause_of}
 use Rattle.xr_cli.specs.declared.refusal.Refusal.{Refusal}
 use Rattle.xr_cli.specs.declared.refusal.Refusal.TheVariants.{Read, Write, Netlist, Recording, NotBuilt, Memory, Disagrees as Differs}
 
@@ -25,6 +29,19 @@ netlist_limit = 67108864
 
 abbrev pub recording_limit : ℕ
 recording_limit = 268435456
+
+-- What a phase that is refused leaves. Only a fault of reading or writing raises a count of the shelf, and behind it no
+-- file is in hand; nor is one where the texts that were read are refused.
+abbrev pub LeftAt : View → View → Cause → Type 0
+LeftAt old new UsageCause = Unit {0}
+LeftAt old new ReadCause = new.hand ≡ Nothing
+LeftAt old new WriteCause = new.hand ≡ Nothing
+LeftAt old new MemoryCause = SameCounts old new
+LeftAt old new NotBuiltCause = SameCounts old new
+LeftAt old new _ = SameCounts old new × (new.hand ≡ Nothing)
+
+abbrev pub LeftBy : View → View → Refusal → Type 0
+LeftBy old new refusal = LeftAt old new (cause_of refusal)
 
 -- An input file read, of at most so many bytes.
 abbrev pub InputRefused : Bool → List ℕ → ℕ → View → View → Refusal → Type 0
@@ -38,7 +55,10 @@ pub record InputRead (told : Bool) (name : List ℕ) (limit : ℕ) (old new : Vi
   pub files : new.files ≡ old.files
   pub text : IfOk result (λ v. IsTrue told → v.items ≡ held old name)
   pub fits : IfOk result (λ v. length v.items ≤ limit)
+  pub kept : OnOk result (SameCounts old new)
+  pub closed : OnOk result (new.hand ≡ Nothing)
   pub refused : IfErr result (InputRefused told name limit old new)
+  pub left : IfErr result (LeftBy old new)
 
 -- A text behind those before it, with a newline between: the first stands alone.
 abbrev pub put_behind : List (List ℕ) → List ℕ → List ℕ → List ℕ
@@ -74,30 +94,43 @@ pub record NetlistsRead (told : Bool) (names : List (List ℕ)) (limit : ℕ) (o
   pub files : new.files ≡ old.files
   pub text : IfOk result (λ v. IsTrue told → v.items ≡ netlist_held old names)
   pub fits : IfOk result (λ v. length v.items ≤ limit)
+  pub kept : OnOk result (SameCounts old new)
+  pub closed : OnOk result (new.hand ≡ Nothing)
   pub refused : IfErr result (NetlistsRefused told names limit old new)
+  pub left : IfErr result (LeftBy old new)
 
--- One of the files read: its text, or none where it is longer than that.
-abbrev pub PartRefused : List ℕ → View → View → Refusal → Type 0
-PartRefused name old new (Read file) = (string_bytes file ≡ name) × Rose (old.reads name) (new.reads name)
-PartRefused name old new Memory = Unit {0}
-PartRefused name old new _ = ⊥
+-- A file read: its text, or none where it is longer than that.
+abbrev pub FileRefused : List ℕ → View → View → Refusal → Type 0
+FileRefused name old new (Read file) = (string_bytes file ≡ name) × Rose (old.reads name) (new.reads name)
+FileRefused name old new Memory = Unit {0}
+FileRefused name old new _ = ⊥
 
-pub record PartRead (told : Bool) (name : List ℕ) (limit : ℕ) (old new : View) (result : Result (Option (Vec ℕ Global)) Refusal) : Type 0 where
+pub record FileRead (told : Bool) (name : List ℕ) (limit : ℕ) (old new : View) (result : Result (Option (Vec ℕ Global)) Refusal) : Type 0 where
   pub later : Later old new
   pub files : new.files ≡ old.files
   pub text : IfOk result (λ part. IsTrue told → IsKept limit part (held old name))
-  pub refused : IfErr result (PartRefused name old new)
+  pub fits : IfOk result (λ part. IfSome part (λ v. length v.items ≤ limit))
+  pub kept : OnOk result (SameCounts old new)
+  pub closed : IfOk result (λ part. IsSome part → new.hand ≡ Nothing)
+  pub left : IfErr result (LeftBy old new)
+  pub refused : IfErr result (FileRefused name old new)
+
+-- This is the first fault of the recording's text.
+pub record HasRecordingFault (text : List ℕ) (fault : RecordingFault) : Type 0 where
+  pub refusal : VcdErr
+  pub is : FirstFault text refusal
+  pub says : fault_of refusal ≡ Some fault
 
 -- A netlist refused.
 abbrev pub NetlistRefused : List ℕ → List ℕ → Refusal → Type 0
-NetlistRefused text top (Netlist fault) = IsNetlistFault text fault
+NetlistRefused text top (Netlist fault) = IsRefused text fault
 NetlistRefused text top NotBuilt = IsNoFlatNetlist text top
 NetlistRefused text top Memory = Unit {0}
 NetlistRefused text top _ = ⊥
 
 -- A recording refused.
 abbrev pub RecordingRefused : List ℕ → List (List ℕ) → Design → Refusal → Type 0
-RecordingRefused text scope design (Recording fault) = FirstFault text fault
+RecordingRefused text scope design (Recording fault) = HasRecordingFault text fault
 RecordingRefused text scope design NotBuilt = IsNoFlatRecording text scope design
 RecordingRefused text scope design Memory = Unit {0}
 RecordingRefused text scope design _ = ⊥
@@ -121,17 +154,17 @@ pub record AreRead (w : Words) (netlist recording : List ℕ) (design : Design) 
   pub recording_is : IsRecording recording (pieces_of w.scope) design r
 
 -- The netlist is none of the grammar.
-pub record IsFaultyNetlist (netlist : List ℕ) (fault : ParseErr) : Type 0 where
+pub record IsFaultyNetlist (netlist : List ℕ) (fault : NetlistFault) : Type 0 where
   pub netlist_fits : length netlist ≤ netlist_limit
-  pub is : IsNetlistFault netlist fault
+  pub is : IsRefused netlist fault
 
 -- The recording is none of the grammar.
-pub record IsFaultyRecording (w : Words) (netlist recording : List ℕ) (fault : VcdErr) : Type 0 where
+pub record IsFaultyRecording (w : Words) (netlist recording : List ℕ) (fault : RecordingFault) : Type 0 where
   pub design : Design
   pub netlist_fits : length netlist ≤ netlist_limit
   pub netlist_is : IsNetlist netlist w.top design
   pub recording_fits : length recording ≤ recording_limit
-  pub is : FirstFault recording fault
+  pub is : HasRecordingFault recording fault
 
 -- What isn't built: a netlist that is too long or whose tree is no flat module named as the top; a recording that is too long or isn't one of one moment
 -- of its nets; more than 12 places that choose.
@@ -170,13 +203,20 @@ DecideRefused design r NotBuilt = HasManyChoices design r
 DecideRefused design r Memory = Unit {0}
 DecideRefused design r _ = ⊥
 
--- The name is that of an input file.
-abbrev pub IsInput : Words → List ℕ → Type 0
-IsInput w name = Contains w.netlists name ⊎ (name ≡ w.recording)
+-- The netlist's text stands for a design.
+pub record HasDesign (w : Words) (netlist : List ℕ) : Type 0 where
+  pub design : Design
+  pub netlist_fits : length netlist ≤ netlist_limit
+  pub netlist_is : IsNetlist netlist w.top design
+
+-- The input file of this name is the one to be read: one of the netlist, or the recording where the netlist stands for a
+-- design.
+abbrev pub IsReadNext : Bool → Words → View → List ℕ → Type 0
+IsReadNext told w old name = Contains w.netlists name ⊎ ((name ≡ w.recording) × (IsTrue told → HasDesign w (netlist_held old w.netlists)))
 
 -- All that comes before the first output: reading, comparing and deciding.
 abbrev pub PrepareRefused : Bool → Words → View → View → Refusal → Type 0
-PrepareRefused told w old new (Read file) = IsInput w (string_bytes file) × Rose (old.reads (string_bytes file)) (new.reads (string_bytes file))
+PrepareRefused told w old new (Read file) = IsReadNext told w old (string_bytes file) × Rose (old.reads (string_bytes file)) (new.reads (string_bytes file))
 PrepareRefused told w old new (Netlist fault) = IsTrue told → IsFaultyNetlist (netlist_held old w.netlists) fault
 PrepareRefused told w old new (Recording fault) = IsTrue told → IsFaultyRecording w (netlist_held old w.netlists) (held old w.recording) fault
 PrepareRefused told w old new (Differs name recorded replayed) = IsTrue told → Differing w (netlist_held old w.netlists) (held old w.recording) name recorded replayed
@@ -195,7 +235,10 @@ pub record OutputWritten (told : Bool) (name bytes : List ℕ) (old new : View) 
   pub others : OthersKept name old.files new.files
   pub whole : OnOk result (IsTrue told → new.files name ≡ Some bytes)
   pub part : IsTrue told → HoldsPart name bytes old.files new.files
+  pub kept : OnOk result (SameCounts old new)
+  pub closed : OnOk result (new.hand ≡ Nothing)
   pub refused : IfErr result (OutputRefused name old new)
+  pub left : IfErr result (LeftBy old new)
 
 -- What the sink is called where its faults are told.
 abbrev pub report_name : List ℕ
@@ -204,13 +247,14 @@ report_name = codes "report"
 -- The report printed.
 abbrev pub PrintRefused : SinkView → SinkView → Refusal → Type 0
 PrintRefused old new (Write file) = (string_bytes file ≡ report_name) × Rose old.faults new.faults
-PrintRefused old new Memory = Unit {0}
+PrintRefused old new Memory = new.faults ≡ old.faults
 PrintRefused old new _ = ⊥
 
 pub record Printed (told : Bool) (text : List ℕ) (old new : SinkView) (result : Result Unit Refusal) : Type 0 where
   pub later : old.faults ≤ new.faults
   pub whole : OnOk result (IsTrue told → new.bytes ≡ old.bytes ++ text)
   pub part : IsTrue told → Gained text old new
+  pub kept : OnOk result (new.faults ≡ old.faults)
   pub refused : IfErr result (PrintRefused old new)
 
 -- An output written and the report printed.
@@ -219,8 +263,19 @@ pub record Delivery (told sink_told : Bool) (name bytes report : List ℕ) (old 
   pub part : IsTrue told → HoldsPart name bytes old.files new.files
   pub gained : IsTrue sink_told → Gained report before after
 
-abbrev pub DeliveryRefused : List ℕ → View → View → SinkView → SinkView → Refusal → Type 0
-DeliveryRefused name old new before after (Write file) =
-    ((string_bytes file ≡ name) × Rose (old.writes name) (new.writes name)) ⊎ ((string_bytes file ≡ report_name) × Rose before.faults after.faults)
-DeliveryRefused name old new before after Memory = Unit {0}
-DeliveryRefused name old new before after _ = ⊥
+-- The output can't be written: its count rose, and nothing was printed.
+pub record OutputFails (name : List ℕ) (old new : View) (before after : SinkView) : Type 0 where
+  pub rose : Rose (old.writes name) (new.writes name)
+  pub unprinted : after ≡ before
+
+-- The report can't be printed: the sink's count rose and none of the shelf, and the output is whole.
+pub record ReportFails (told : Bool) (name bytes : List ℕ) (old new : View) (before after : SinkView) : Type 0 where
+  pub rose : Rose before.faults after.faults
+  pub kept : SameCounts old new
+  pub whole : IsTrue told → new.files name ≡ Some bytes
+
+abbrev pub DeliveryRefused : Bool → List ℕ → List ℕ → View → View → SinkView → SinkView → Refusal → Type 0
+DeliveryRefused told name bytes old new before after (Write file) =
+    ((string_bytes file ≡ name) × OutputFails name old new before after) ⊎ ((string_bytes file ≡ report_name) × ReportFails told name bytes old new before after)
+DeliveryRefused told name bytes old new before after Memory = after.faults ≡ before.faults
+DeliveryRefused told name bytes old new before after _ = ⊥

@@ -1,12 +1,11 @@
 -- Why a run is refused: its status and its line.
-use Rattle.std.specs.Prelude.{ℕ, List, [], ◌∷◌, ◌++◌, codes, decimal, string_bytes}
-use Rattle.xr_text.specs.Left.{place_of}
-use Rattle.xr_text.specs.declared.token.LexErr.{LexErr}
-use Rattle.xr_text.specs.declared.token.LexErr.TheVariants.{BadByte, OpenComment, OpenText, Directive}
+use Rattle.std.specs.Prelude.{ℕ, Option, Some, None, List, [], ◌∷◌, ◌++◌, codes, decimal, string_bytes}
 use Rattle.xr_netlist_grammar.specs.declared.refusal.ParseErr.{ParseErr}
-use Rattle.xr_netlist_grammar.specs.declared.refusal.ParseErr.TheVariants.{Lex, Unexpected, OutOfProfile, Memory as NetlistMemory}
+use Rattle.xr_netlist_grammar.specs.declared.fault.NetlistFault.{NetlistFault}
+use Rattle.xr_netlist_grammar.specs.Fault.{fault_at, fault_words, fault_in}
 use Rattle.xr_vcd.specs.declared.refusal.VcdErr.{VcdErr}
-use Rattle.xr_vcd.specs.declared.refusal.VcdErr.TheVariants.{Syntax, UnknownCode, TimeBack, Width, DumpOff, Truncated, Memory as RecordingMemory}
+use Rattle.xr_vcd.specs.declared.fault.RecordingFault.{RecordingFault}
+use Rattle.xr_vcd.specs.RecordingFault.{place_of, text_of as recording_words, fault_of}
 use Rattle.xr_flat.specs.declared.refusal.FlatErr.{FlatErr}
 use Rattle.xr_flat.specs.declared.refusal.FlatErr.TheVariants.{NotFlat, Memory as FlatMemory}
 use Rattle.xr_cell.specs.declared.value.Value.{Value}
@@ -60,47 +59,11 @@ write_text name = codes "refused: cannot write " ++ name
 abbrev pub fault_text : ℕ → List ℕ → List ℕ
 fault_text at word = decimal at ++ (codes ": " ++ word)
 
-abbrev pub token_word : LexErr → List ℕ
-token_word (BadByte at) = codes "bad byte"
-token_word (OpenComment at) = codes "open comment"
-token_word (OpenText at) = codes "open text"
-token_word (Directive at) = codes "directive"
+abbrev pub netlist_text : NetlistFault → List ℕ
+netlist_text fault = codes "refused: netlist at " ++ fault_text (fault_at fault) (fault_words fault)
 
-abbrev pub netlist_word : ParseErr → List ℕ
-netlist_word (Lex fault) = token_word fault
-netlist_word (Unexpected at) = codes "unexpected"
-netlist_word (OutOfProfile at) = codes "out of profile"
-netlist_word NetlistMemory = codes "memory"
-
-abbrev pub netlist_place : ParseErr → ℕ
-netlist_place (Lex fault) = place_of fault
-netlist_place (Unexpected at) = at
-netlist_place (OutOfProfile at) = at
-netlist_place NetlistMemory = 0
-
-abbrev pub netlist_text : ParseErr → List ℕ
-netlist_text fault = codes "refused: netlist at " ++ fault_text (netlist_place fault) (netlist_word fault)
-
-abbrev pub recording_word : VcdErr → List ℕ
-recording_word (Syntax at) = codes "syntax"
-recording_word (UnknownCode at) = codes "unknown code"
-recording_word (TimeBack at) = codes "time goes back"
-recording_word (Width at) = codes "width"
-recording_word (DumpOff at) = codes "dump off"
-recording_word (Truncated at) = codes "truncated"
-recording_word RecordingMemory = codes "memory"
-
-abbrev pub recording_place : VcdErr → ℕ
-recording_place (Syntax at) = at
-recording_place (UnknownCode at) = at
-recording_place (TimeBack at) = at
-recording_place (Width at) = at
-recording_place (DumpOff at) = at
-recording_place (Truncated at) = at
-recording_place RecordingMemory = 0
-
-abbrev pub recording_text : VcdErr → List ℕ
-recording_text fault = codes "refused: recording at " ++ fault_text (recording_place fault) (recording_word fault)
+abbrev pub recording_text : RecordingFault → List ℕ
+recording_text fault = codes "refused: recording at " ++ fault_text (place_of fault) (recording_words fault)
 
 abbrev pub disagrees_text : List ℕ → Value → Value → List ℕ
 disagrees_text name recorded replayed =
@@ -128,13 +91,19 @@ unread_refusal NotOfTheForm = NotBuilt
 unread_refusal NoRoom = Memory
 
 -- What a text that is none of the grammar comes to.
+abbrev pub netlist_fault_refusal : Option NetlistFault → Refusal
+netlist_fault_refusal (Some fault) = Netlist fault
+netlist_fault_refusal None = Memory
+
 abbrev pub netlist_refusal : ParseErr → Refusal
-netlist_refusal NetlistMemory = Memory
-netlist_refusal fault = Netlist fault
+netlist_refusal refusal = netlist_fault_refusal (fault_in refusal)
+
+abbrev pub recording_fault_refusal : Option RecordingFault → Refusal
+recording_fault_refusal (Some fault) = Recording fault
+recording_fault_refusal None = Memory
 
 abbrev pub recording_refusal : VcdErr → Refusal
-recording_refusal RecordingMemory = Memory
-recording_refusal fault = Recording fault
+recording_refusal refusal = recording_fault_refusal (fault_of refusal)
 
 -- What a tree that is no flat module comes to.
 abbrev pub flat_refusal : FlatErr → Refusal

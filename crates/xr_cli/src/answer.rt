@@ -1,16 +1,16 @@
 //! The phases of `repair` in their order, up to the refusal of one of them.
 
-ghost use Rattle.std.specs.Prelude.{◌≡◌, ◌++◌, IfErr, IfOk, OnOk, IsTrue, Some, map, string_bytes};
-ghost use Rattle.xr_shelf.specs.Shelf.{Later, held};
+ghost use Rattle.std.specs.Prelude.{◌≡◌, ◌++◌, ◌<◌, IfErr, IfOk, OnOk, IsTrue, Some, length};
+ghost use Rattle.xr_shelf.specs.Shelf.{Nothing, Later, SameCounts, held};
 ghost use Rattle.std.specs.List.{AllByRecursion};
 ghost use Rattle.xr_flat.specs.Design.{FitsOrder};
 ghost use Rattle.xr_cli.specs.RecordingText.{IsBound, NetsOnce};
 ghost use Rattle.xr_cli.specs.Words.{values_of};
-ghost use Rattle.xr_cli.specs.Phases.{Repaired, MadeTexts, DecideRefused, PrepareRefused, netlist_held, Delivery, DeliveryRefused};
+ghost use Rattle.xr_cli.specs.Phases.{Repaired, MadeTexts, DecideRefused, PrepareRefused, netlist_held, Delivery, DeliveryRefused, LeftBy};
 ghost use Rattle.xr_cli.specs.Rows.{Row, start_of};
 
+use crate::files::{print_report, read_input, read_netlists, write_output};
 use crate::netlist::read_netlist;
-use crate::phases::{print_report, read_input, read_netlists, write_output};
 use crate::recording::{Recording, read_recording};
 use crate::refusal::Refusal;
 use crate::repair::decide;
@@ -42,7 +42,8 @@ pub fn answer<S: Shelf, O: Sink>(
     shelf: &mut S,
     out: &mut O,
 ) -> Result<(), Refusal>
-    ensures { Row (start_of (map string_bytes words.now) S.told O.told (S.view shelf.old) (O.view out.old)) (S.view shelf.new) (O.view out.new) result }
+    ensures { Row (start_of words.now S.told O.told (S.view shelf.old) (O.view out.old))
+        (S.view shelf.new) (O.view out.new) result }
 {
     let Some(words) = read_words(words) else {
         return Err(Refusal::Usage);
@@ -56,10 +57,13 @@ pub fn answer<S: Shelf, O: Sink>(
 
 /// All that comes before the first output.
 fn prepare<S: Shelf>(alloc: Global, shelf: &mut S, words: Words<'_>) -> Result<Texts, Refusal>
+    requires { 0 < length (values_of words).netlists }
     ensures later { Later (S.view shelf.old) (S.view shelf.new) }
     ensures files { (S.view shelf.new).files ≡ (S.view shelf.old).files }
     ensures made { IfOk result (λ t. IsTrue S.told → Repaired (values_of words.entry) (netlist_held (S.view shelf.old) (values_of words.entry).netlists) (held (S.view shelf.old) words.entry.recording.now) t.vcd.items t.report.items) }
+    ensures kept { OnOk result (SameCounts (S.view shelf.old) (S.view shelf.new)) }
     ensures refused { IfErr result (PrepareRefused S.told (values_of words.entry) (S.view shelf.old) (S.view shelf.new)) }
+    ensures left { IfErr result (LeftBy (S.view shelf.old) (S.view shelf.new)) }
 {
     let scope = names_of(alloc, words.scope)?;
     let scope = scope.as_slice();
@@ -103,7 +107,11 @@ fn deliver<S: Shelf, O: Sink>(
     ensures delivery { Delivery S.told O.told name.now bytes.now report.now (S.view shelf.old) (S.view shelf.new) (O.view out.old) (O.view out.new) }
     ensures whole { OnOk result (IsTrue S.told → (S.view shelf.new).files name.now ≡ Some bytes.now) }
     ensures printed { OnOk result (IsTrue O.told → (O.view out.new).bytes ≡ (O.view out.old).bytes ++ report.now) }
-    ensures refused { IfErr result (DeliveryRefused name.now (S.view shelf.old) (S.view shelf.new) (O.view out.old) (O.view out.new)) }
+    ensures kept { OnOk result (SameCounts (S.view shelf.old) (S.view shelf.new)) }
+    ensures closed { OnOk result ((S.view shelf.new).hand ≡ Nothing) }
+    ensures faults { OnOk result ((O.view out.new).faults ≡ (O.view out.old).faults) }
+    ensures refused { IfErr result (DeliveryRefused S.told name.now bytes.now (S.view shelf.old) (S.view shelf.new) (O.view out.old) (O.view out.new)) }
+    ensures left { IfErr result (LeftBy (S.view shelf.old) (S.view shelf.new)) }
 {
     write_output(alloc, shelf, name, bytes)?;
     print_report(alloc, out, report)?;

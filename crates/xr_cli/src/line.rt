@@ -2,14 +2,13 @@
 
 ghost use Rattle.std.specs.Prelude.{◌≡◌, ◌++◌, IfOk, OnOk, decimal};
 ghost use Rattle.xr_cli.specs.Texts.{line};
-ghost use Rattle.xr_cli.specs.Refusal.{text_of, netlist_text, recording_text, fault_text, token_word, netlist_word as netlist_word_of, netlist_place as netlist_place_of, recording_word as recording_word_of, recording_place as recording_place_of, disagrees_text};
+ghost use Rattle.xr_cli.specs.Refusal.{text_of, netlist_text, recording_text, fault_text, disagrees_text};
 
 use crate::refusal::Refusal;
 use std::alloc::{AllocError, Global};
 use xr_cell::Value;
-use xr_netlist_grammar::ParseErr;
-use xr_text::LexErr;
-use xr_vcd::VcdErr;
+use xr_netlist_grammar::NetlistFault;
+use xr_vcd::RecordingFault;
 
 /// The line of a refusal, with its newline.
 pub fn line_of(alloc: Global, refusal: &Refusal) -> Result<Vec<u8>, AllocError>
@@ -54,26 +53,36 @@ fn put_both(text: &mut Vec<u8>, first: &[u8], second: &[u8]) -> Result<(), Alloc
     put(text, second)
 }
 
-fn put_netlist_fault(alloc: Global, text: &mut Vec<u8>, fault: ParseErr) -> Result<(), AllocError>
+fn put_netlist_fault(
+    alloc: Global,
+    text: &mut Vec<u8>,
+    fault: NetlistFault,
+) -> Result<(), AllocError>
     ensures { OnOk result (text.new.items ≡ text.old.items ++ netlist_text fault) }
 {
     put(text, b"refused: netlist at ")?;
-    put_fault(alloc, text, netlist_place(fault), netlist_word(fault))
+    let words = format!(in alloc; "{fault}")?;
+    put_fault(alloc, text, fault.at(), words.as_bytes())
 }
 
-fn put_recording_fault(alloc: Global, text: &mut Vec<u8>, fault: VcdErr) -> Result<(), AllocError>
+fn put_recording_fault(
+    alloc: Global,
+    text: &mut Vec<u8>,
+    fault: RecordingFault,
+) -> Result<(), AllocError>
     ensures { OnOk result (text.new.items ≡ text.old.items ++ recording_text fault) }
 {
     put(text, b"refused: recording at ")?;
-    put_fault(alloc, text, recording_place(fault), recording_word(fault))
+    let words = format!(in alloc; "{fault}")?;
+    put_fault(alloc, text, fault.at(), words.as_bytes())
 }
 
 /// A place and what is wrong there.
-fn put_fault(alloc: Global, text: &mut Vec<u8>, at: usize, word: &[u8]) -> Result<(), AllocError>
-    ensures { OnOk result (text.new.items ≡ text.old.items ++ fault_text at word.now) }
+fn put_fault(alloc: Global, text: &mut Vec<u8>, at: usize, words: &[u8]) -> Result<(), AllocError>
+    ensures { OnOk result (text.new.items ≡ text.old.items ++ fault_text at words.now) }
 {
     put_number(alloc, text, at)?;
-    put_both(text, b": ", word)
+    put_both(text, b": ", words)
 }
 
 fn put_number(alloc: Global, text: &mut Vec<u8>, number: usize) -> Result<(), AllocError>
@@ -95,65 +104,4 @@ fn put_disagreement(
     put_both(text, b" recorded ", &[recorded.letter()])?;
     put_both(text, b" replayed ", &[replayed.letter()])?;
     Ok(())
-}
-
-fn token_word(fault: LexErr) -> &'static [u8]
-    ensures { result.now ≡ token_word fault }
-{
-    match fault {
-        LexErr::BadByte { .. } => b"bad byte",
-        LexErr::OpenComment { .. } => b"open comment",
-        LexErr::OpenText { .. } => b"open text",
-        LexErr::Directive { .. } => b"directive",
-    }
-}
-
-fn netlist_word(fault: ParseErr) -> &'static [u8]
-    ensures { result.now ≡ netlist_word_of fault }
-{
-    match fault {
-        ParseErr::Lex(fault) => token_word(fault),
-        ParseErr::Unexpected { .. } => b"unexpected",
-        ParseErr::OutOfProfile { .. } => b"out of profile",
-        ParseErr::Memory => b"memory",
-    }
-}
-
-fn netlist_place(fault: ParseErr) -> usize
-    ensures { result ≡ netlist_place_of fault }
-{
-    match fault {
-        ParseErr::Lex(fault) => fault.at(),
-        ParseErr::Unexpected { at } => at,
-        ParseErr::OutOfProfile { at } => at,
-        ParseErr::Memory => 0,
-    }
-}
-
-fn recording_word(fault: VcdErr) -> &'static [u8]
-    ensures { result.now ≡ recording_word_of fault }
-{
-    match fault {
-        VcdErr::Syntax { .. } => b"syntax",
-        VcdErr::UnknownCode { .. } => b"unknown code",
-        VcdErr::TimeBack { .. } => b"time goes back",
-        VcdErr::Width { .. } => b"width",
-        VcdErr::DumpOff { .. } => b"dump off",
-        VcdErr::Truncated { .. } => b"truncated",
-        VcdErr::Memory => b"memory",
-    }
-}
-
-fn recording_place(fault: VcdErr) -> usize
-    ensures { result ≡ recording_place_of fault }
-{
-    match fault {
-        VcdErr::Syntax { at } => at,
-        VcdErr::UnknownCode { at } => at,
-        VcdErr::TimeBack { at } => at,
-        VcdErr::Width { at } => at,
-        VcdErr::DumpOff { at } => at,
-        VcdErr::Truncated { at } => at,
-        VcdErr::Memory => 0,
-    }
 }

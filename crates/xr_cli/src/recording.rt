@@ -10,7 +10,7 @@ use std::alloc::{AllocError, Global};
 use xr_base::Items;
 use xr_cell::Value;
 use xr_design::{Bytes, Design};
-use xr_vcd::{Recording as Said, read_vcd};
+use xr_vcd::{Recording as Recorded, read_vcd};
 
 /// A variable that is bound to a net, and its value at time 0.
 #[derive(Debug, Drop)]
@@ -42,19 +42,19 @@ pub fn read_recording(
     ensures recording { IfOk result (λ recording. IsRecording text.now scope.now design.now recording) }
     ensures refused { IfErr result (RecordingRefused text.now scope.now design.now) }
 {
-    let said = read_vcd(alloc, text)?;
-    let variables = bind_variables(alloc, &said, scope, design)?;
-    let timescale = timescale_of(alloc, &said)?;
+    let recorded = read_vcd(alloc, text)?;
+    let variables = bind_variables(alloc, &recorded, scope, design)?;
+    let timescale = timescale_of(alloc, &recorded)?;
     Ok(Recording {
         timescale,
         variables: Items::from_vec(variables),
     })
 }
 
-fn timescale_of(alloc: Global, said: &Said) -> Result<Option<Bytes>, AllocError>
-    ensures { IfOk result (λ timescale. timescale ≡ said.now.timescale) }
+fn timescale_of(alloc: Global, recorded: &Recorded) -> Result<Option<Bytes>, AllocError>
+    ensures { IfOk result (λ timescale. timescale ≡ recorded.now.timescale) }
 {
-    match said.timescale() {
+    match recorded.timescale() {
         Some(scale) => Ok(Some(Bytes::from_vec(scale.to_vec(alloc)?))),
         None => Ok(None),
     }

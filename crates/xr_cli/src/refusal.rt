@@ -9,8 +9,8 @@ use xr_base::Memory;
 use xr_cell::Value;
 use xr_design::Bytes;
 use xr_flat::FlatErr;
-use xr_netlist_grammar::ParseErr;
-use xr_vcd::VcdErr;
+use xr_netlist_grammar::{NetlistFault, ParseErr};
+use xr_vcd::{RecordingFault, VcdErr};
 
 /// Why a run is refused.
 #[derive(Debug, Drop)]
@@ -27,11 +27,11 @@ pub enum Refusal {
     },
     /// The netlist is none of the grammar.
     Netlist {
-        fault: ParseErr,
+        fault: NetlistFault,
     },
     /// The recording is none of the grammar.
     Recording {
-        fault: VcdErr,
+        fault: RecordingFault,
     },
     /// The recording and the replay differ at a variable, at time 0. The name is as it is written.
     Disagrees {
@@ -114,12 +114,12 @@ impl From<ParseErr> for Refusal {
     ghost use Rattle.std.specs.Prelude.{◌≡◌};
     ghost use Rattle.xr_cli.specs.Refusal.{netlist_refusal};
 
-    ghost from_gives = { λ fault refusal. refusal ≡ netlist_refusal fault };
+    ghost from_gives = { λ cause refusal. refusal ≡ netlist_refusal cause };
 
-    fn from(fault: ParseErr) -> Self {
-        match fault {
-            ParseErr::Memory => Refusal::Memory,
-            fault => Refusal::Netlist { fault },
+    fn from(cause: ParseErr) -> Self {
+        match cause.fault() {
+            Some(fault) => Refusal::Netlist { fault },
+            None => Refusal::Memory,
         }
     }
 }
@@ -128,12 +128,12 @@ impl From<VcdErr> for Refusal {
     ghost use Rattle.std.specs.Prelude.{◌≡◌};
     ghost use Rattle.xr_cli.specs.Refusal.{recording_refusal};
 
-    ghost from_gives = { λ fault refusal. refusal ≡ recording_refusal fault };
+    ghost from_gives = { λ cause refusal. refusal ≡ recording_refusal cause };
 
-    fn from(fault: VcdErr) -> Self {
-        match fault {
-            VcdErr::Memory => Refusal::Memory,
-            fault => Refusal::Recording { fault },
+    fn from(cause: VcdErr) -> Self {
+        match cause.fault() {
+            Some(fault) => Refusal::Recording { fault },
+            None => Refusal::Memory,
         }
     }
 }

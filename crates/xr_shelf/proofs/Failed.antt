@@ -41,7 +41,7 @@ same_trans a b c ab bc = record { reads = λ n. bc.reads n ∙ ab.reads n; write
 
 -- A count that rose behind one that didn't fall rose.
 pub rose_behind : (old mid new : ℕ) → old ≤ mid → Rose mid new → Rose old new
-rose_behind old mid new later rose = record { up = omega (arith, later, rose.up); end = rose.end }
+rose_behind old mid new later rose = record { up = omega (arith, later, rose.up); end = omega (arith, later, rose.end) }
 
 pub later_trans : (a b c : View) → Later a b → Later b c → Later a c
 later_trans a b c ab bc = record { reads = λ n. omega (arith, ab.reads n, bc.reads n); writes = λ n. omega (arith, ab.writes n, bc.writes n) }

@@ -3,10 +3,10 @@ use Rattle.std.specs.Prelude.{◌≡◌, ◌⊎◌, ℕ, ◌+◌, ◌^◌, ◌-�
 use Rattle.xr_shelf.specs.declared.fault.IoErr.{IoErr}
 use Rattle.xr_shelf.specs.declared.fault.IoErr.TheVariants.{Failed, Memory}
 
--- A count of faults, which is a number of 64 bits, rose, or stands at the end of its type.
+-- A count of faults, which was a number of 64 bits, rose, or stands at the end of its type.
 pub record Rose (before now : ℕ) : Type 0 where
   pub up : min (before + 1) (2 ^ 64 - 1) ≤ now
-  pub end : now ≤ 2 ^ 64 - 1
+  pub end : before ≤ 2 ^ 64 - 1
 
 -- The file in hand: none, an opened one or a created one, by its name.
 pub data Hand : Type 0 where

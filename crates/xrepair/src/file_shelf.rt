@@ -7,7 +7,7 @@ use std::fs;
 use std::fs::File;
 use std::io::{Read, Write};
 use std::rt::Files;
-use xr_shelf::{IoErr, Shelf};
+use xr_shelf::{FaultCount, IoErr, Shelf};
 
 /// The file in hand, with its name.
 #[derive(Drop)]
@@ -23,8 +23,8 @@ pub struct FileShelf<'a, R: Files<File = File>> {
     files: &'a R,
     alloc: Global,
     hand: InHand,
-    read_faults: u64,
-    write_faults: u64,
+    read_faults: FaultCount,
+    write_faults: FaultCount,
 }
 
 impl<'a, R: Files<File = File>> FileShelf<'a, R> {
@@ -38,8 +38,8 @@ impl<'a, R: Files<File = File>> FileShelf<'a, R> {
             files,
             alloc,
             hand: InHand::None,
-            read_faults: 0,
-            write_faults: 0,
+            read_faults: FaultCount::new(),
+            write_faults: FaultCount::new(),
         }
     }
 }
@@ -61,7 +61,7 @@ impl<'a, R: Files<File = File>> Shelf for FileShelf<'a, R> {
                 Ok(())
             }
             Err(_) => {
-                self.read_faults = self.read_faults.saturating_add(1);
+                self.read_faults.rise();
                 Err(IoErr::Failed)
             }
         }
@@ -74,7 +74,7 @@ impl<'a, R: Files<File = File>> Shelf for FileShelf<'a, R> {
         match file.read(buffer) {
             Ok(count) => Ok(count),
             Err(_) => {
-                self.read_faults = self.read_faults.saturating_add(1);
+                self.read_faults.rise();
                 Err(IoErr::Failed)
             }
         }
@@ -89,7 +89,7 @@ impl<'a, R: Files<File = File>> Shelf for FileShelf<'a, R> {
                 Ok(())
             }
             Err(_) => {
-                self.write_faults = self.write_faults.saturating_add(1);
+                self.write_faults.rise();
                 Err(IoErr::Failed)
             }
         }
@@ -103,7 +103,7 @@ impl<'a, R: Files<File = File>> Shelf for FileShelf<'a, R> {
         match file.write(bytes) {
             Ok(count) if count > 0 || bytes.is_empty() => Ok(count),
             _ => {
-                self.write_faults = self.write_faults.saturating_add(1);
+                self.write_faults.rise();
                 Err(IoErr::Failed)
             }
         }
@@ -130,7 +130,7 @@ mod tests {
         let mut shelf = FileShelf::new(&rt, rt.alloc());
         let gone = read_all(rt.alloc(), &mut shelf, name.as_str(), 100);
         assert!(rt; matches!(gone, Err(ReadErr::Fault)));
-        assert_eq!(rt; shelf.read_faults, 1);
+        assert_eq!(rt; shelf.read_faults.count(), 1);
         assert!(rt; write_all(&mut shelf, name.as_str(), b"#0\n").is_ok());
         let read = read_all(rt.alloc(), &mut shelf, name.as_str(), 100);
         assert!(rt; matches!(&read, Ok(text) if text.as_slice() == b"#0\n".as_slice()));

@@ -3,8 +3,6 @@
 
 mod file_shelf;
 mod out_sink;
-#[cfg(test)]
-mod tests;
 
 use file_shelf::FileShelf;
 use out_sink::OutSink;

@@ -3,13 +3,13 @@
 ghost use Rattle.std.specs.Prelude.{◌≡◌};
 
 use std::io::Write;
-use xr_shelf::{IoErr, Sink};
+use xr_shelf::{FaultCount, IoErr, Sink};
 
 /// A writer as a sink. It counts its faults, and tells no content.
 #[derive(Drop)]
 pub struct OutSink<W: Write + Drop> {
     writer: W,
-    faults: u64,
+    faults: FaultCount,
 }
 
 impl<W: Write + Drop> OutSink<W> {
@@ -17,7 +17,10 @@ impl<W: Write + Drop> OutSink<W> {
     pub fn new(writer: W) -> OutSink<W>
         ensures { result.faults ≡ 0 }
     {
-        OutSink { writer, faults: 0 }
+        OutSink {
+            writer,
+            faults: FaultCount::new(),
+        }
     }
 }
 
@@ -33,7 +36,7 @@ impl<W: Write + Drop> Sink for OutSink<W> {
         match self.writer.write(bytes) {
             Ok(count) if count > 0 || bytes.is_empty() => Ok(count),
             _ => {
-                self.faults = self.faults.saturating_add(1);
+                self.faults.rise();
                 Err(IoErr::Failed)
             }
         }
@@ -51,7 +54,7 @@ mod tests {
         let mut out = OutSink::new(Vec::new(rt.alloc()));
         assert!(rt; print_all(&mut out, b"unknown\n").is_ok());
         assert_eq!(rt; out.writer.as_slice(), b"unknown\n".as_slice());
-        assert_eq!(rt; out.faults, 0);
+        assert_eq!(rt; out.faults.count(), 0);
         Ok(())
     }
 }

@@ -5,7 +5,7 @@ use Rattle.xr_cli.specs.RecordingText.{IsRecording}
 use Rattle.xr_cli.specs.Phases.{RecordingRefused}
 use Rattle.xr_cli.specs.Words.{values_of, pieces_of}
 use Rattle.xr_cli.proofs.Flats.{names_distinct}
-use Rattle.xr_cli.proofs.Joins.{later_twice}
+use Rattle.xr_cli.proofs.Joins.{later_twice, same_twice, left_behind, left_quiet}
 use Rattle.xr_cli.proofs.Preparing.{has_netlist, recording_unread, recording_refused, decide_refused, all_bound}
 use Rattle.xr_cli.proofs.answer.prepare.Goals as goal
 
@@ -47,3 +47,26 @@ returns-in_err-texts-clause-refused g c =
 
 pub returns-clause-later : goal.returns-clause-later
 returns-clause-later g c = later_twice _ (g.S.Shelf.view c.read_netlists.new.shelf) _ c.in_ok-text.ensures.later c.in_ok-text-2.ensures.later
+
+pub returns-clause-kept : goal.returns-clause-kept
+returns-clause-kept g c = same_twice _ (g.S.Shelf.view c.read_netlists.new.shelf) _ c.in_ok-text.ensures.kept c.in_ok-text-2.ensures.kept
+
+pub returns-in_err-netlist-clause-left : goal.returns-in_err-netlist-clause-left
+returns-in_err-netlist-clause-left g c =
+    let is : c.from_residual-in_err-netlist.result ≡ Err c.in_err-netlist.field-0.0 = search rules in
+    rw is (left_quiet _ _ c.in_err-netlist.field-0.0 c.in_ok-text.ensures.kept c.in_ok-text.ensures.closed)
+
+pub returns-in_err-text-2-clause-left : goal.returns-in_err-text-2-clause-left
+returns-in_err-text-2-clause-left g c =
+    let is : c.from_residual-in_err-text-2.result ≡ Err c.in_err-text-2.field-0.0 = search rules in
+    rw is (left_behind _ (g.S.Shelf.view c.read_netlists.new.shelf) _ c.in_err-text-2.field-0.0 c.in_ok-text.ensures.kept c.in_err-text-2.ensures.left)
+
+pub returns-in_err-recording-clause-left : goal.returns-in_err-recording-clause-left
+returns-in_err-recording-clause-left g c =
+    let is : c.from_residual-in_err-recording.result ≡ Err c.in_err-recording.field-0.0 = search rules in
+    rw is (left_quiet _ _ c.in_err-recording.field-0.0 (same_twice _ (g.S.Shelf.view c.read_netlists.new.shelf) _ c.in_ok-text.ensures.kept c.in_ok-text-2.ensures.kept) c.in_ok-text-2.ensures.closed)
+
+pub returns-in_err-texts-clause-left : goal.returns-in_err-texts-clause-left
+returns-in_err-texts-clause-left g c =
+    let is : c.from_residual-in_err-texts.result ≡ Err c.in_err-texts.field-0.0 = search rules in
+    rw is (left_quiet _ _ c.in_err-texts.field-0.0 (same_twice _ (g.S.Shelf.view c.read_netlists.new.shelf) _ c.in_ok-text.ensures.kept c.in_ok-text-2.ensures.kept) c.in_ok-text-2.ensures.closed)

@@ -9,11 +9,13 @@ returns-in-Ok g c =
     let in_hand : hand_of c.args.self.now.hand ≡ Opened (string_bytes c.in-Open.name) = ap hand_of c.in-Open.is in
     record {
       later = search rules;
+      counts = search rules;
       files = search rules;
       hand = search rules;
       bound = search rules;
       bytes = search rules;
       end = search rules;
       idle = λ none. absurd (none _ in_hand);
+      err = search rules;
       fault = search rules;
     }

@@ -4,16 +4,16 @@ use Rattle.std.specs.Prelude.{string_bytes}
 use Rattle.std.proofs.lemmas.List.{length-take, take_all}
 use Rattle.xr_shelf.specs.Shelf.{held}
 use Rattle.xr_cli.specs.Phases.{IsKept, joined}
-use Rattle.xr_cli.proofs.Joins.{joined_more, later_twice, held_same, held_more, as_many}
-use Rattle.xr_cli.proofs.phases.read_netlists.Goals as goal
+use Rattle.xr_cli.proofs.Joins.{joined_more, later_twice, same_twice, closed_next, left_behind, held_same, held_more, as_many}
+use Rattle.xr_cli.proofs.files.read_netlists.Goals as goal
 
 pub files-preserved : goal.files-preserved
 files-preserved g c =
     let inv = c.files.invariant in
-    let step = c.read_part.ensures in
+    let step = c.read_file.ensures in
     let old = g.S.Shelf.view c.args.shelf.now in
     let mid = g.S.Shelf.view c.files.shelf in
-    let new = g.S.Shelf.view c.read_part.new.shelf in
+    let new = g.S.Shelf.view c.read_file.new.shelf in
     let names = c.args.names.now in
     let i = c.files.position in
     let item = c.index-names-position.result in
@@ -29,6 +29,8 @@ files-preserved g c =
           let kept = c.in_ok-text.ensures.joined before (joined before) (held old (string_bytes (get_or names i item))) many (λ z. rw z refl) (inv.2 told) part in
           rw (held_more old string_bytes names i item within, joined_more before (held old (string_bytes (get_or names i item)))) kept),
       c.in_ok-text.ensures.fits,
+      same_twice old mid new inv.4 c.in_ok-part.ensures.kept,
+      closed_next c.in_ok-text.text c.in_ok-part.part new.hand _ c.in_ok-text.ensures.both c.in_ok-part.ensures.closed,
     )
 
 pub returns-in-Some : goal.returns-in-Some
@@ -40,5 +42,8 @@ returns-in-Some g c =
       files = inv.1;
       text = λ told. (let kept = rw (c.in-Some.is, all) at (inv.2 told) in kept.0);
       fits = rw c.in-Some.is at inv.3;
+      kept = inv.4;
+      closed = (let closed = rw c.in-Some.is at inv.5 in closed (search rules));
+      left = tt;
       refused = tt;
     }

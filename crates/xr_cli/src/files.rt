@@ -1,7 +1,8 @@
-//! The phases that touch the shelf and the sink.
+//! The files that a run reads and writes, and the report that it prints.
 
-ghost use Rattle.std.specs.Prelude.{◌≡◌, ◌≤◌, ℕ, List, [], length, map, string_bytes, IfOk, IfSome};
-ghost use Rattle.xr_cli.specs.Phases.{InputRead, NetlistsRead, PartRead, IsKept, put_behind, OutputWritten, Printed};
+ghost use Rattle.std.specs.Prelude.{◌≡◌, ◌<◌, ◌≤◌, ℕ, List, [], length, map, string_bytes, IfOk, IfSome, IsSome};
+ghost use Rattle.xr_cli.specs.Phases.{InputRead, NetlistsRead, FileRead, IsKept, put_behind, OutputWritten, Printed};
+ghost use Rattle.xr_shelf.specs.Shelf.{Nothing, Later, CloseStep};
 
 use crate::refusal::Refusal;
 use std::alloc::{AllocError, Global};
@@ -16,30 +17,26 @@ pub fn read_input<S: Shelf>(
 ) -> Result<Vec<u8>, Refusal>
     ensures { InputRead S.told name.now limit (S.view shelf.old) (S.view shelf.new) result }
 {
-    match read_all(alloc, shelf, name, limit) {
-        Ok(text) => Ok(text),
-        Err(ReadErr::Fault) => {
-            let name = String::from_str(alloc, name)?;
-            Err(Refusal::Read { name })
-        }
-        Err(ReadErr::TooLong) => Err(Refusal::NotBuilt),
-        Err(ReadErr::Memory) => Err(Refusal::Memory),
+    match read_file(alloc, shelf, name, limit)? {
+        Some(text) => Ok(text),
+        None => Err(Refusal::NotBuilt),
     }
 }
 
-/// All bytes of the files of a netlist, in their order, with one newline between each two. A netlist of more than `limit` bytes isn't built. A file that
-/// can't be read counts before that.
+/// All bytes of the files of a netlist, in their order, with one newline between each two. A netlist of more than
+/// `limit` bytes isn't built. A file that can't be read counts before that.
 pub fn read_netlists<S: Shelf>(
     alloc: Global,
     shelf: &mut S,
     names: &[String],
     limit: usize,
 ) -> Result<Vec<u8>, Refusal>
+    requires { 0 < length names.now }
     ensures { NetlistsRead S.told (map string_bytes names.now) limit (S.view shelf.old) (S.view shelf.new) result }
 {
     let mut text = Some(Vec::new(alloc));
     'files: for (position, name) in names.iter().enumerate() {
-        let part = read_part(alloc, shelf, name, limit)?;
+        let part = read_file(alloc, shelf, name, limit)?;
         text = join(text, position, part, limit)?;
     }
     match text {
@@ -48,24 +45,36 @@ pub fn read_netlists<S: Shelf>(
     }
 }
 
-/// All bytes of one of the files, none where there are more than `limit`.
-fn read_part<S: Shelf>(
+/// All bytes of a file, none where there are more than `limit`.
+fn read_file<S: Shelf>(
     alloc: Global,
     shelf: &mut S,
     name: &str,
     limit: usize,
 ) -> Result<Option<Vec<u8>>, Refusal>
-    ensures { PartRead S.told name.now limit (S.view shelf.old) (S.view shelf.new) result }
+    ensures { FileRead S.told name.now limit (S.view shelf.old) (S.view shelf.new) result }
 {
+    let refusal = Refusal::Read {
+        name: String::from_str(alloc, name)?,
+    };
     match read_all(alloc, shelf, name, limit) {
         Ok(text) => Ok(Some(text)),
         Err(ReadErr::Fault) => {
-            let name = String::from_str(alloc, name)?;
-            Err(Refusal::Read { name })
+            give_up(shelf);
+            Err(refusal)
         }
         Err(ReadErr::TooLong) => Ok(None),
         Err(ReadErr::Memory) => Err(Refusal::Memory),
     }
+}
+
+/// Gives up the file in hand, where a fault is told already.
+fn give_up<S: Shelf>(shelf: &mut S)
+    ensures hand { (S.view shelf.new).hand ≡ Nothing }
+    ensures files { (S.view shelf.new).files ≡ (S.view shelf.old).files }
+    ensures later { Later (S.view shelf.old) (S.view shelf.new) }
+{
+    let _ = shelf.close_file();
 }
 
 /// A text with the next one behind it, none where there are more than `limit` bytes.
@@ -76,6 +85,7 @@ fn join(
     limit: usize,
 ) -> Result<Option<Vec<u8>>, AllocError>
     ensures fits { IfOk result (λ whole. IfSome whole (λ v. length v.items ≤ limit)) }
+    ensures both { IfOk result (λ whole. IfSome whole (λ v. IsSome part)) }
     ensures joined { IfOk result (λ whole. (before : List (List ℕ)) (so_far more : List ℕ) → length before ≡ position → (position ≡ 0 → so_far ≡ []) → IsKept limit text so_far → IsKept limit part more → IsKept limit whole (put_behind before so_far more)) }
 {
     let Some(mut text) = text else {
@@ -111,11 +121,14 @@ pub fn write_output<S: Shelf>(
 ) -> Result<(), Refusal>
     ensures { OutputWritten S.told name.now bytes.now (S.view shelf.old) (S.view shelf.new) result }
 {
+    let refusal = Refusal::Write {
+        name: String::from_str(alloc, name)?,
+    };
     match write_all(shelf, name, bytes) {
         Ok(()) => Ok(()),
         Err(WriteErr::Fault) => {
-            let name = String::from_str(alloc, name)?;
-            Err(Refusal::Write { name })
+            give_up(shelf);
+            Err(refusal)
         }
         Err(WriteErr::Memory) => Err(Refusal::Memory),
     }
@@ -125,12 +138,12 @@ pub fn write_output<S: Shelf>(
 pub fn print_report<O: Sink>(alloc: Global, out: &mut O, text: &[u8]) -> Result<(), Refusal>
     ensures { Printed O.told text.now (O.view out.old) (O.view out.new) result }
 {
+    let refusal = Refusal::Write {
+        name: String::from_str(alloc, "report")?,
+    };
     match print_all(out, text) {
         Ok(()) => Ok(()),
-        Err(WriteErr::Fault) => {
-            let name = String::from_str(alloc, "report")?;
-            Err(Refusal::Write { name })
-        }
+        Err(WriteErr::Fault) => Err(refusal),
         Err(WriteErr::Memory) => Err(Refusal::Memory),
     }
 }
