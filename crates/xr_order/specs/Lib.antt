@@ -1,0 +1,7 @@
+-- Definitions of xr_order: loops, and what the listing keeps.
+pub mod Loop
+pub mod Pending
+pub mod Popped
+pub mod Progress
+pub mod Readers
+pub mod Walk

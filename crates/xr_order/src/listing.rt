@@ -1,0 +1,36 @@
+//! The order of a design's nets.
+
+ghost use Rattle.std.specs.Prelude.{ℕ, List, IfOk, IfErr, length};
+ghost use Rattle.xr_design.specs.Job.{driver_in};
+ghost use Rattle.xr_design.specs.Order.{IsOrder};
+ghost use Rattle.xr_design.specs.Design.{FitsDesign};
+ghost use Rattle.xr_order.specs.Loop.{IsLoop, IsRefusal};
+
+use crate::progress::no_progress;
+use crate::readers::readers_of;
+use crate::refusal::OrderErr;
+use crate::walk::told_loop;
+use std::alloc::Global;
+use xr_base::Items;
+use xr_design::{Design, Order as NetOrder};
+
+/// The order of a design's nets: again and again the least net that isn't listed and whose arguments all are comes next.
+/// Takes some 60 bytes for each net and up to 48 for each argument, of which the order keeps eight for each net.
+pub fn order(alloc: Global, design: &Design) -> Result<NetOrder, OrderErr>
+    requires { FitsDesign design.now }
+    ensures order { IfOk result (λ order. IsOrder (driver_in design.now) (length design.now.nets) order) }
+    ensures refused { IfErr result (λ refusal. IsRefusal design.now refusal) }
+    ensures exact { (nets : List ℕ) → IsLoop (driver_in design.now) (length design.now.nets) nets → IfOk result (λ _. ⊥) }
+{
+    let readers = readers_of(alloc, design)?;
+    let mut progress = no_progress(alloc, design)?;
+    'nets: for _n in 0..design.nets.as_slice().len() {
+        if progress.list_next(design, &readers)?.is_none() {
+            let nets = told_loop(alloc, design, &progress)?;
+            return Err(OrderErr::Loop {
+                nets: Items::from_vec(nets),
+            });
+        }
+    }
+    Ok(NetOrder::new(alloc, progress.listed)?)
+}
