@@ -1,13 +1,12 @@
 //! A row as it is compared with 64 others at once: by its column's pairs of values it picks words of their index.
 
-ghost use Rattle.std.specs.Prelude.{◌≡◌, ◌+◌, ◌*◌, ◌/◌, ◌%◌, ◌<◌, ◌≤◌, ℕ, false, List, length, slice_index_or};
+ghost use Rattle.std.specs.Prelude.{◌≡◌, ◌<◌, ◌≤◌, length};
 ghost use Rattle.xr_cell.specs.declared.row.RawRow.{RawRow as a_row};
-ghost use Rattle.xr_cell.specs.declared.value.Value.TheVariants.{X};
-ghost use Rattle.xr_cell.specs.Symbol.{fits, output_of};
-ghost use Rattle.xr_cell.specs.Row.{row_at, symbol_at, is_edge_row};
+ghost use Rattle.xr_cell.specs.Row.{symbol_at, is_edge_row};
 ghost use Rattle.xr_cell.specs.Below.{any_below};
-ghost use Rattle.xr_cell.specs.Index.{value_of, IsMask, IsBlock};
+ghost use Rattle.xr_cell.specs.Index.{TellsRows};
 ghost use Rattle.xr_cell.specs.Meeting.{takes, meet_at, meet, meet_below, part_at, same_kind, is_conflict};
+ghost use Rattle.xr_cell.specs.Taken.{ArePairs, AreStates, AreOutputs};
 
 use crate::index::{Block, code, value_of};
 use crate::row::RawRow;
@@ -26,7 +25,7 @@ pub struct Probe {
 }
 
 impl Probe {
-    ghost use Rattle.xr_cell.specs.Probe.{IsProbe};
+    ghost use Rattle.xr_cell.specs.Probe.{IsProbe, Tells};
 
     pub fn of(row: &RawRow, inputs: usize) -> Probe
         requires { inputs ≤ 10 }
@@ -43,7 +42,7 @@ impl Probe {
 
     /// Which of 64 rows are in conflict with the row.
     pub fn conflicts(&self, block: &Block) -> u64
-        ensures { (inputs : ℕ) (row : a_row) (rows : List a_row) (base : ℕ) → IsProbe inputs row self.now → IsBlock rows base block.now → IsMask (λ i. is_conflict inputs row (row_at rows (base + i))) result }
+        ensures { Tells self.now block.now is_conflict result }
     {
         let word = self.of_kind(block) & self.parting(block);
         if word == 0 {
@@ -55,7 +54,7 @@ impl Probe {
 
     /// Which are of its kind.
     fn of_kind(&self, block: &Block) -> u64
-        ensures { (row : a_row) (rows : List a_row) (base : ℕ) → self.now.is_edge ≡ is_edge_row row → IsBlock rows base block.now → IsMask (λ i. same_kind row (row_at rows (base + i))) result }
+        ensures { (row : a_row) → self.now.is_edge ≡ is_edge_row row → TellsRows block.now (same_kind row) result }
     {
         if self.is_edge {
             block.edges
@@ -66,7 +65,7 @@ impl Probe {
 
     /// Which give another output at a state that both take.
     fn parting(&self, block: &Block) -> u64
-        ensures { (inputs : ℕ) (row : a_row) (rows : List a_row) (base : ℕ) → IsProbe inputs row self.now → IsBlock rows base block.now → IsMask (λ i. any_below 3 (part_at inputs row (row_at rows (base + i)))) result }
+        ensures { Tells self.now block.now (λ inputs row other. any_below 3 (part_at inputs row other)) result }
     {
         let mut word = 0;
         for state in 0..3 {
@@ -77,7 +76,7 @@ impl Probe {
 
     fn parting_at(&self, block: &Block, state: usize) -> u64
         requires { state < 3 }
-        ensures { (inputs : ℕ) (row : a_row) (rows : List a_row) (base : ℕ) → IsProbe inputs row self.now → IsBlock rows base block.now → IsMask (λ i. part_at inputs row (row_at rows (base + i)) state) result }
+        ensures { Tells self.now block.now (λ inputs row other. part_at inputs row other state) result }
     {
         if self.states[state] {
             block.masks[self.inputs * 9 + state * 4]
@@ -89,7 +88,7 @@ impl Probe {
 
     /// Which meet it in each column.
     fn meeting(&self, block: &Block) -> u64
-        ensures { (inputs : ℕ) (row : a_row) (rows : List a_row) (base : ℕ) → IsProbe inputs row self.now → IsBlock rows base block.now → IsMask (λ i. meet_below inputs row (row_at rows (base + i))) result }
+        ensures { Tells self.now block.now meet_below result }
     {
         let mut word = u64::MAX;
         for c in 0..self.inputs {
@@ -101,7 +100,7 @@ impl Probe {
     /// Which meet it in a column.
     fn meeting_at(&self, block: &Block, c: usize) -> u64
         requires { c < self.now.inputs }
-        ensures { (inputs : ℕ) (row : a_row) (rows : List a_row) (base : ℕ) → IsProbe inputs row self.now → IsBlock rows base block.now → IsMask (λ i. meet (symbol_at row c) (symbol_at (row_at rows (base + i)) c)) result }
+        ensures { Tells self.now block.now (λ _ row other. meet (symbol_at row c) (symbol_at other c)) result }
     {
         let mut word = 0;
         for pair in 0..9 {
@@ -114,7 +113,7 @@ impl Probe {
     fn taking(&self, block: &Block, c: usize, pair: usize) -> u64
         requires column { c < self.now.inputs }
         requires pair { pair < 9 }
-        ensures { (inputs : ℕ) (row : a_row) (rows : List a_row) (base : ℕ) → IsProbe inputs row self.now → IsBlock rows base block.now → IsMask (λ i. meet_at (symbol_at row c) (symbol_at (row_at rows (base + i)) c) pair) result }
+        ensures { Tells self.now block.now (λ _ row other. meet_at (symbol_at row c) (symbol_at other c) pair) result }
     {
         if self.takes[9 * c + pair] {
             block.masks[9 * c + pair]
@@ -128,7 +127,7 @@ impl Probe {
 fn taken_pairs(row: &RawRow, inputs: usize) -> [bool; 90]
     requires { inputs ≤ 10 }
     ensures long { length result ≡ 90 }
-    ensures taken { (p : ℕ) → p < 9 * inputs → slice_index_or result p false ≡ takes (symbol_at row.now (p / 9)) (p % 9) }
+    ensures taken { ArePairs inputs row.now result }
 {
     let mut pairs = [false; 90];
     for p in 0..9 * inputs {
@@ -149,7 +148,7 @@ fn takes(symbol: Symbol, pair: usize) -> bool
 
 /// Whether a state's symbol takes 0, 1 and x.
 fn taken_states(symbol: Symbol) -> [bool; 3]
-    ensures { (state : ℕ) → state < 3 → slice_index_or result state false ≡ fits symbol (value_of state) (value_of state) }
+    ensures { AreStates symbol result }
 {
     [
         symbol.fits(Value::Zero, Value::Zero),
@@ -160,7 +159,7 @@ fn taken_states(symbol: Symbol) -> [bool; 3]
 
 /// The output at the states 0, 1 and x.
 fn outputs_of(symbol: Symbol) -> [Value; 3]
-    ensures { (state : ℕ) → state < 3 → slice_index_or result state X ≡ output_of symbol (value_of state) }
+    ensures { AreOutputs symbol result }
 {
     [
         symbol.output(Value::Zero),

@@ -1,9 +1,9 @@
 //! Which rows a table may have: the refusals in their order, each by a pass over the rows.
 
-ghost use Rattle.std.specs.Prelude.{◌≡◌, ◌+◌, ◌<◌, ◌≤◌, length, count_by, MatchResult};
+ghost use Rattle.std.specs.Prelude.{◌≡◌, ◌+◌, ◌<◌, ◌≤◌, length, count_by};
 ghost use Rattle.std.specs.List.{list_all};
 ghost use Rattle.xr_cell.specs.Symbol.{is_edge};
-ghost use Rattle.xr_cell.specs.Refusal.{input_limit, has_state, has_length, is_entry, is_state, is_output, has_symbols, has_one_edge, AllRows, IsFirstBadRow, IsLegal, IsRefusal};
+ghost use Rattle.xr_cell.specs.Refusal.{input_limit, has_state, has_length, is_entry, is_state, is_output, has_symbols, has_one_edge, Checks, Judges};
 
 use crate::conflict::check_conflicts;
 use crate::refusal::UdpErr;
@@ -12,7 +12,7 @@ use crate::symbol::{Symbol, is_edge_letter, is_level_letter};
 
 /// The refusals but `Memory`, in their order.
 pub fn check_rows(sequential: bool, inputs: usize, rows: &[RawRow]) -> Result<(), UdpErr>
-    ensures { MatchResult result (λ _. IsLegal sequential inputs rows.now) (λ refusal. IsRefusal sequential inputs rows.now refusal) }
+    ensures { Judges sequential inputs rows.now result }
 {
     if inputs > input_limit(sequential) {
         return Err(UdpErr::TooManyInputs);
@@ -42,7 +42,7 @@ fn input_limit(sequential: bool) -> usize
 }
 
 fn check_lengths(rows: &[RawRow], sequential: bool, inputs: usize) -> Result<(), usize>
-    ensures { MatchResult result (λ _. AllRows (has_length sequential inputs) rows.now) (λ row. IsFirstBadRow (has_length sequential inputs) rows.now row) }
+    ensures { Checks (has_length sequential inputs) rows.now result }
 {
     for (i, row) in rows.iter().enumerate() {
         if !row.has_length(sequential, inputs) {
@@ -53,7 +53,7 @@ fn check_lengths(rows: &[RawRow], sequential: bool, inputs: usize) -> Result<(),
 }
 
 fn check_symbols(rows: &[RawRow], sequential: bool) -> Result<(), usize>
-    ensures { MatchResult result (λ _. AllRows (has_symbols sequential) rows.now) (λ row. IsFirstBadRow (has_symbols sequential) rows.now row) }
+    ensures { Checks (has_symbols sequential) rows.now result }
 {
     for (i, row) in rows.iter().enumerate() {
         if !row.has_symbols(sequential) {
@@ -64,7 +64,7 @@ fn check_symbols(rows: &[RawRow], sequential: bool) -> Result<(), usize>
 }
 
 fn check_edges(rows: &[RawRow]) -> Result<(), usize>
-    ensures { MatchResult result (λ _. AllRows has_one_edge rows.now) (λ row. IsFirstBadRow has_one_edge rows.now row) }
+    ensures { Checks has_one_edge rows.now result }
 {
     for (i, row) in rows.iter().enumerate() {
         if !row.has_one_edge() {

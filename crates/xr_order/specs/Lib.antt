@@ -1,4 +1,5 @@
 -- Definitions of xr_order: loops, and what the listing keeps.
+pub mod Held
 pub mod Loop
 pub mod Pending
 pub mod Popped

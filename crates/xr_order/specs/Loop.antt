@@ -43,7 +43,12 @@ pub record IsToldLoop (driver : ℕ → Driver) (width : ℕ) (nets : List ℕ) 
   pub again : first_unlisted driver listed (slice_index walk (length walk - 1)) ≡ Some (slice_index walk from)
   pub nets_ : nets ≡ drop from walk
 
+-- No list of the design's nets is a loop.
+abbrev pub HasNoLoop : Design → Type 0
+HasNoLoop design = (nets : List ℕ) → IsLoop (driver_in design) (length design.nets) nets → ⊥
+
 -- A design is refused for the loop that is told.
 abbrev pub IsRefusal : Design → OrderErr → Type 0
-IsRefusal design (Loop nets) = IsToldLoop (driver_in design) (length design.nets) nets × IsLoop (driver_in design) (length design.nets) nets
+IsRefusal design (Loop nets) =
+    IsToldLoop (driver_in design) (length design.nets) nets × IsLoop (driver_in design) (length design.nets) nets
 IsRefusal design Memory = Unit {0}

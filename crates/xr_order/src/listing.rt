@@ -1,10 +1,10 @@
 //! The order of a design's nets.
 
-ghost use Rattle.std.specs.Prelude.{ℕ, List, IfOk, IfErr, length};
+ghost use Rattle.std.specs.Prelude.{IfOk, IfErr, length};
 ghost use Rattle.xr_design.specs.Job.{driver_in};
 ghost use Rattle.xr_design.specs.Order.{IsOrder};
 ghost use Rattle.xr_design.specs.Design.{FitsDesign};
-ghost use Rattle.xr_order.specs.Loop.{IsLoop, IsRefusal};
+ghost use Rattle.xr_order.specs.Loop.{HasNoLoop, IsRefusal};
 
 use crate::progress::no_progress;
 use crate::readers::readers_of;
@@ -20,7 +20,7 @@ pub fn order(alloc: Global, design: &Design) -> Result<NetOrder, OrderErr>
     requires { FitsDesign design.now }
     ensures order { IfOk result (λ order. IsOrder (driver_in design.now) (length design.now.nets) order) }
     ensures refused { IfErr result (λ refusal. IsRefusal design.now refusal) }
-    ensures exact { (nets : List ℕ) → IsLoop (driver_in design.now) (length design.now.nets) nets → IfOk result (λ _. ⊥) }
+    ensures exact { IfOk result (λ _. HasNoLoop design.now) }
 {
     let readers = readers_of(alloc, design)?;
     let mut progress = no_progress(alloc, design)?;

@@ -1,14 +1,12 @@
 //! The nets that are listed so far, and those that can come next.
 
-ghost use Rattle.std.specs.Prelude.{◌≡◌, ◌<◌, ℕ, false, [], ◌++◌, ◌∷◌, IfOk, IfNone, MatchOption, length};
-ghost use Rattle.std.specs.BTreeSet.{contains};
-ghost use Rattle.std.specs.Ordering.{nat_cmp};
+ghost use Rattle.std.specs.Prelude.{◌≡◌, ◌<◌, [], IfOk, IfNone, length};
 ghost use Rattle.xr_design.specs.Job.{driver_in};
 ghost use Rattle.xr_design.specs.Order.{arguments_of_driver};
 ghost use Rattle.xr_design.specs.Design.{FitsDesign};
-ghost use Rattle.xr_order.specs.Progress.{first_open, can_come, IsSound, IsComplete, IsProgress, Offers};
+ghost use Rattle.xr_order.specs.Progress.{first_open, can_come};
+ghost use Rattle.xr_order.specs.Held.{InProgress, HasOnly, HasAll, HasAllBut, OffersNet, Lists, IsStuck};
 ghost use Rattle.xr_order.specs.Readers.{head_at, IsTableOf, AreReaders};
-ghost use Rattle.xr_order.specs.Pending.{Pending};
 
 use crate::arguments::first_open;
 use crate::readers::Readers;
@@ -28,7 +26,7 @@ pub struct Progress {
 /// Nothing is listed yet. Takes up to some 40 bytes for each net.
 pub fn no_progress(alloc: Global, design: &Design) -> Result<Progress, Memory>
     requires { FitsDesign design.now }
-    ensures progress { IfOk result (λ p. IsProgress (driver_in design.now) (length design.now.nets) p.listed.items p.flags.items (contains nat_cmp p.ready)) }
+    ensures progress { IfOk result (λ p. InProgress design.now p) }
     ensures none { IfOk result (λ p. p.listed.items ≡ []) }
 {
     let count = design.nets.as_slice().len();
@@ -49,10 +47,10 @@ impl Progress {
         requires design { FitsDesign design.now }
         requires table { IsTableOf (length design.now.nets) readers.now }
         requires readers { AreReaders (driver_in design.now) (length design.now.nets) readers.now }
-        requires progress { IsProgress (driver_in design.now) (length design.now.nets) self.old.listed.items self.old.flags.items (contains nat_cmp self.old.ready) }
-        ensures progress { IfOk result (λ _. IsProgress (driver_in design.now) (length design.now.nets) self.new.listed.items self.new.flags.items (contains nat_cmp self.new.ready)) }
-        ensures listed { IfOk result (λ next. MatchOption next (self.new.listed.items ≡ self.old.listed.items) (λ net. self.new.listed.items ≡ self.old.listed.items ++ net ∷ [])) }
-        ensures stuck { IfOk result (λ next. IfNone next ((net : ℕ) → net < length design.now.nets → can_come (driver_in design.now) self.new.flags.items net ≡ false)) }
+        requires progress { InProgress design.now self.old }
+        ensures progress { IfOk result (λ _. InProgress design.now self.new) }
+        ensures listed { IfOk result (λ next. Lists self.old self.new next) }
+        ensures stuck { IfOk result (λ next. IfNone next (IsStuck design.now self.new)) }
     {
         let Some(net) = self.ready.pop_first() else {
             return Ok(None);
@@ -69,10 +67,10 @@ impl Progress {
         requires long { length self.old.flags.items ≡ length design.now.nets }
         requires net { net < length design.now.nets }
         requires table { IsTableOf (length design.now.nets) readers.now }
-        requires sound { IsSound (driver_in design.now) (length design.now.nets) self.old.flags.items (contains nat_cmp self.old.ready) }
-        requires pending { Pending (driver_in design.now) (length design.now.nets) self.old.flags.items readers.now (head_at readers.now.heads.items net) (contains nat_cmp self.old.ready) }
-        ensures sound { IfOk result (λ _. IsSound (driver_in design.now) (length design.now.nets) self.old.flags.items (contains nat_cmp self.new.ready)) }
-        ensures complete { IfOk result (λ _. IsComplete (driver_in design.now) (length design.now.nets) self.old.flags.items (contains nat_cmp self.new.ready)) }
+        requires sound { HasOnly design.now self.old.flags.items self.old }
+        requires pending { HasAllBut design.now readers.now (head_at readers.now.heads.items net) self.old }
+        ensures sound { IfOk result (λ _. HasOnly design.now self.old.flags.items self.new) }
+        ensures complete { IfOk result (λ _. HasAll design.now self.old.flags.items self.new) }
         ensures same { IfOk result (λ _. self.new.listed.items ≡ self.old.listed.items) }
         ensures flags { IfOk result (λ _. self.new.flags.items ≡ self.old.flags.items) }
     {
@@ -90,7 +88,7 @@ impl Progress {
         requires design { FitsDesign design.now }
         requires long { length self.old.flags.items ≡ length design.now.nets }
         requires net { net < length design.now.nets }
-        ensures offered { IfOk result (λ _. Offers (can_come (driver_in design.now) self.old.flags.items) (contains nat_cmp self.old.ready) (contains nat_cmp self.new.ready) net) }
+        ensures offered { IfOk result (λ _. OffersNet design.now self.old self.new net) }
         ensures same { IfOk result (λ _. self.new.listed.items ≡ self.old.listed.items) }
         ensures flags { IfOk result (λ _. self.new.flags.items ≡ self.old.flags.items) }
     {

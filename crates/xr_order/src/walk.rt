@@ -1,12 +1,13 @@
 //! The loop of a design that has no order: a walk from net to argument that comes to a net again.
 
-ghost use Rattle.std.specs.Prelude.{◌≡◌, ◌<◌, ◌^◌, ℕ, false, Some, IfOk, length, drop};
+ghost use Rattle.std.specs.Prelude.{◌≡◌, ◌<◌, ◌^◌, false, Some, IfOk, length, drop};
 ghost use Rattle.std.specs.List.{count_by};
 ghost use Rattle.xr_design.specs.Job.{driver_in};
 ghost use Rattle.xr_design.specs.Order.{arguments_of_driver};
 ghost use Rattle.xr_design.specs.Design.{FitsDesign};
 ghost use Rattle.xr_order.specs.Loop.{IsToldLoop};
-ghost use Rattle.xr_order.specs.Progress.{IsListed, can_come, flag_at, first_open, IsLeastOpen};
+ghost use Rattle.xr_order.specs.Held.{AreListed, IsStuck};
+ghost use Rattle.xr_order.specs.Progress.{can_come, flag_at, first_open, IsLeastOpen};
 
 use crate::progress::{Progress, first_open_of};
 use std::alloc::{AllocError, Global};
@@ -16,9 +17,9 @@ use xr_design::Design;
 /// The loop that is told where no net can come behind the listed ones. Takes some 20 bytes for each net.
 pub fn told_loop(alloc: Global, design: &Design, progress: &Progress) -> Result<Vec<u32>, Memory>
     requires design { FitsDesign design.now }
-    requires listed { IsListed (driver_in design.now) (length design.now.nets) progress.now.listed.items progress.now.flags.items }
+    requires listed { AreListed design.now progress.now }
     requires open_ { length progress.now.listed.items < length design.now.nets }
-    requires stuck { (net : ℕ) → net < length design.now.nets → can_come (driver_in design.now) progress.now.flags.items net ≡ false }
+    requires stuck { IsStuck design.now progress.now }
     ensures { IfOk result (λ nets. IsToldLoop (driver_in design.now) (length design.now.nets) nets.items) }
 {
     let mut places = vec![in alloc; None; progress.flags.len()]?;

@@ -23,9 +23,6 @@ returns-then-is_none-clause-refused c =
     let told = subst (λ ns. IsToldLoop (driver_in c.args.design.now) (length c.args.design.now.nets) ns) (sym c.from_vec.ensures) c.in_ok-nets.ensures in
     (told, told_is_loop driver width c.from_vec.result (λ net lt. c.requires.arguments net lt) told)
 
-pub returns-then-is_none-clause-exact : goal.returns-then-is_none-clause-exact
-returns-then-is_none-clause-exact c = λ nets is. tt
-
 pub nets-preserved : goal.nets-preserved
 nets-preserved c =
     let more = listed_count c.in_ok-list_next.field-0 c.nets.progress.listed.items c.list_next.new.self.listed.items c.if-is_none.ensures c.in_ok-list_next.ensures.listed in

@@ -4,7 +4,7 @@ use Rattle.xr_cell.proofs.Probes.{kind_edge, kind_level}
 use Rattle.xr_cell.proofs.probe.Probe.of_kind.Goals as goal
 
 pub returns-then-self : goal.returns-then-self
-returns-then-self c = λ row rows base kind is. kind_edge row rows base c.args.block.now (sym kind ∙ c.if-self.true) is
+returns-then-self c = λ row kind rows base is. kind_edge row rows base c.args.block.now (sym kind ∙ c.if-self.true) is
 
 pub returns-else-self : goal.returns-else-self
-returns-else-self c = λ row rows base kind is. kind_level row rows base c.args.block.now (sym kind ∙ c.if-self.false) is
+returns-else-self c = λ row kind rows base is. kind_level row rows base c.args.block.now (sym kind ∙ c.if-self.false) is
