@@ -6,7 +6,7 @@ use Rattle.std.proofs.lemmas.List.{append-nil}
 use Rattle.xr_shelf.specs.declared.fault.IoErr.{IoErr}
 use Rattle.xr_shelf.specs.declared.fault.ReadErr.TheVariants.{TooLong, Fault as ReadFault, Memory as ReadMemory}
 use Rattle.xr_shelf.specs.Errors.{read_err}
-use Rattle.xr_shelf.specs.Shelf.{View, Later, Rose, SameCounts, Nothing, Opened, Created, held, OpenStep, ReadStep, CloseStep}
+use Rattle.xr_shelf.specs.Shelf.{View, Later, Rose, SameCounts, Opened, Created, held, OpenStep, ReadStep, CloseStep}
 use Rattle.xr_shelf.specs.Calls.{ReadAll}
 use Rattle.xr_shelf.proofs.Turns.{ReadTurn}
 use Rattle.xr_shelf.proofs.Fronts.{read_more}

@@ -1,5 +1,5 @@
 -- The turns of the loops that write and print.
-use Rattle.std.proofs.Common.{◌≡◌, ℕ, ◌+◌, List, ◌++◌, refl, take, drop, sym, ◌∙◌, ap, arith, length-drop, Option, Some, inr, Ok, Err, Bool, subst}
+use Rattle.std.proofs.Common.{◌≡◌, ℕ, ◌+◌, List, ◌++◌, take, drop, sym, ◌∙◌, ap, arith, length-drop, Option, Some, inr, Ok, Err, Bool, subst}
 use Rattle.std.proofs.Math.Seq.{take-add}
 use Rattle.xr_shelf.specs.declared.fault.IoErr.{IoErr}
 use Rattle.xr_shelf.specs.declared.fault.WriteErr.TheVariants.{Fault as WriteFault}

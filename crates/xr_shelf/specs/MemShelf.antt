@@ -3,6 +3,8 @@ use Rattle.std.specs.Prelude.{◌≡◌, ◌⊎◌, ◌↔◌, ℕ, List, [], �
 use Rattle.xr_shelf.specs.Shelf.{View, Hand, Nothing, Opened, Created}
 use Rattle.xr_shelf.specs.NamedFiles.{File, files_of, SetsFile}
 use Rattle.xr_shelf.specs.Plan.{PlanView, no_calls, FailsNext, called, counted, has_failed}
+use Rattle.xr_shelf.specs.InHand.{hand_of, unread_of}
+use Rattle.xr_shelf.specs.declared.in_hand.InHand.{InHand}
 use Rattle.xr_shelf.specs.declared.fault.IoErr.{IoErr}
 use Rattle.xr_shelf.specs.declared.fault.IoErr.TheVariants.{Failed, Memory}
 
@@ -16,6 +18,18 @@ pub record MemShelfView : Type 0 where
   pub plan : PlanView
   pub read_faults : ℕ
   pub write_faults : ℕ
+
+-- What is seen of its parts.
+abbrev pub seen_of : ℕ → List File → InHand → PlanView → ℕ → ℕ → MemShelfView
+seen_of piece files hand plan read_faults write_faults = record {
+  piece = piece;
+  files = files;
+  hand = hand_of hand;
+  unread = unread_of hand;
+  plan = plan;
+  read_faults = read_faults;
+  write_faults = write_faults;
+}
 
 -- No file, none in hand, no call, no fault.
 abbrev pub empty_shelf : ℕ → MemShelfView

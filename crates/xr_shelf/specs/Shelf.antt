@@ -110,6 +110,10 @@ pub record WriteStep (told : Bool) (name : List ℕ) (old new : View) (bytes : L
   pub err : OnErr result (IsTrue told → new.files name ≡ old.files name)
   pub fault : IsErrOf result Failed → Rose (old.writes name) (new.writes name)
 
+-- `write` with a created file in hand.
+abbrev pub Writes : Bool → View → View → List ℕ → Result ℕ IoErr → Type 0
+Writes told old new bytes result = (name : List ℕ) → old.hand ≡ Created name → WriteStep told name old new bytes result
+
 -- `close_file`: no file is in hand afterwards, whatever it answers.
 pub record CloseStep (old new : View) (result : Result Unit IoErr) : Type 0 where
   pub later : Later old new

@@ -1,7 +1,7 @@
 //! A shelf in memory, whose calls can be set to fail.
 
 ghost use Rattle.std.specs.Prelude.{◌≡◌, ◌≤◌, ℕ, List, true, OnOk, OnErr, option_copied};
-ghost use Rattle.xr_shelf.specs.Shelf.{Created as CreatedFile, OpenStep, ReadStep, CreateStep, WriteStep, CloseStep};
+ghost use Rattle.xr_shelf.specs.Shelf.{Created as CreatedFile, OpenStep, ReadStep, CreateStep, Writes, CloseStep};
 ghost use Rattle.xr_shelf.specs.NamedFiles.{files_of};
 ghost use Rattle.xr_shelf.specs.Plan.{with_fault};
 ghost use Rattle.xr_shelf.specs.MemShelf.{empty_shelf, with_plan, shelf_of, PutsFile, MemOpen, MemRead, MemCreate, MemWrite, MemClose};
@@ -31,12 +31,11 @@ pub struct MemShelf {
 
 impl Model for MemShelf {
     ghost use Rattle.std.specs.Prelude.{◌≤◌};
-    ghost use Rattle.xr_shelf.specs.InHand.{hand_of, unread_of};
-    ghost use Rattle.xr_shelf.specs.MemShelf.{MemShelfView};
+    ghost use Rattle.xr_shelf.specs.MemShelf.{MemShelfView, seen_of};
 
     ghost Value = { MemShelfView };
 
-    ghost view = { λ s. record { piece = s.piece; files = s.files; hand = hand_of s.hand; unread = unread_of s.hand; plan = s.plan; read_faults = s.read_faults; write_faults = s.write_faults } };
+    ghost view = { λ s. seen_of s.piece s.files s.hand s.plan s.read_faults s.write_faults };
 
     ghost invariant = { λ s. 1 ≤ s.piece };
 }
@@ -157,7 +156,7 @@ impl Shelf for MemShelf {
 
     fn write(&mut self, bytes: &[u8]) -> Result<usize, IoErr>
         requires { (name : List ℕ) × (self.old.hand ≡ CreatedFile name) }
-        ensures step { (name : List ℕ) → self.old.hand ≡ CreatedFile name → WriteStep true name (shelf_of self.old) (shelf_of self.new) bytes.now result }
+        ensures step { Writes true (shelf_of self.old) (shelf_of self.new) bytes.now result }
         ensures exact { MemWrite self.old self.new bytes.now result }
     {
         let InHand::Created(name) = &self.hand else {

@@ -1,8 +1,7 @@
 //! Files in memory, by name.
 
-ghost use Rattle.std.specs.Prelude.{◌≡◌, ◌++◌, [], OnOk, OnErr, option_copied};
-ghost use Rattle.xr_shelf.specs.Shelf.{bytes_of};
-ghost use Rattle.xr_shelf.specs.NamedFiles.{files_of, SetsFile, SameFiles};
+ghost use Rattle.std.specs.Prelude.{◌≡◌, [], OnOk, OnErr, option_copied};
+ghost use Rattle.xr_shelf.specs.NamedFiles.{files_of, SetsFile, AppendsFile, SameFiles};
 
 use std::alloc::Global;
 use std::collections::BTreeMap;
@@ -58,7 +57,7 @@ impl NamedFiles {
 
     /// Adds bytes behind those of a file, which it makes where there is none.
     pub fn append(&mut self, name: &str, bytes: &[u8]) -> Result<(), Memory>
-        ensures ok { OnOk result (SetsFile name.now (bytes_of (files_of self.old name.now) ++ bytes.now) (files_of self.old) (files_of self.new)) }
+        ensures ok { OnOk result (AppendsFile name.now bytes.now (files_of self.old) (files_of self.new)) }
         ensures err { OnErr result (SameFiles (files_of self.old) (files_of self.new)) }
     {
         match self.files.get_mut(name) {

@@ -1,7 +1,7 @@
 //! A shelf of named files, and whole files read from it and written to it.
 
 ghost use Rattle.std.specs.Prelude.{◌≡◌, List, ℕ, Bool};
-ghost use Rattle.xr_shelf.specs.Shelf.{View, Created, OpenStep, ReadStep, CreateStep, WriteStep, CloseStep};
+ghost use Rattle.xr_shelf.specs.Shelf.{View, Created, OpenStep, ReadStep, CreateStep, Writes, CloseStep};
 ghost use Rattle.xr_shelf.specs.Calls.{ReadAll, WriteAll};
 
 use crate::fault::{IoErr, ReadErr, WriteErr};
@@ -36,7 +36,7 @@ pub trait Shelf {
     /// Writes the first of the bytes behind the created file, and says how many.
     fn write(&mut self, bytes: &[u8]) -> Result<usize, IoErr>
         requires { (name : List ℕ) × ((view self.old).hand ≡ Created name) }
-        ensures { (name : List ℕ) → (view self.old).hand ≡ Created name → WriteStep told name (view self.old) (view self.new) bytes.now result };
+        ensures { Writes told (view self.old) (view self.new) bytes.now result };
 
     /// Gives up the file in hand.
     fn close_file(&mut self) -> Result<(), IoErr>

@@ -6,6 +6,7 @@ use Rattle.xr_vcd.specs.Bytes.{is_code, rest_of, front_of}
 use Rattle.xr_vcd.specs.Declarations.{Declarations}
 use Rattle.xr_vcd.specs.Recording.{Recording}
 use Rattle.xr_vcd.specs.Words.{Word}
+use Rattle.xr_vcd_codes.specs.Code.{find}
 use Rattle.xr_vcd_codes.specs.declared.codes.Found.{Found}
 use Rattle.xr_vcd.specs.declared.refusal.VcdErr.{VcdErr}
 use Rattle.xr_vcd.specs.declared.refusal.VcdErr.TheVariants.{Syntax, UnknownCode, TimeBack, Width}
@@ -67,9 +68,29 @@ abbrev pub real_on : Option Found → Body → ℕ → Word → Result Body VcdE
 real_on None b at t = Err (undeclared t.text t.at)
 real_on (Some found) b at t = cond found.skipped (Ok b) (Err (Syntax at))
 
+-- The same with the code looked up.
+abbrev pub scalar_in : Body → Word → Result Body VcdErr
+scalar_in b t = scalar_on (find b.declared.codes (rest_of t.text)) b t
+
+abbrev pub vector_in : Body → ℕ → List ℕ → Word → Result Body VcdErr
+vector_in b at digits t = vector_on (find b.declared.codes t.text) b at digits t
+
+abbrev pub real_in : Body → ℕ → Word → Result Body VcdErr
+real_in b at t = real_on (find b.declared.codes t.text) b at t
+
+-- What declarations, times and the changes of each code say.
+abbrev pub recorded : Declarations → List ℕ → List (List Change) → Recording
+recorded h times tracks = record {
+  timescale = h.timescale;
+  scopes = h.scopes;
+  variables = h.variables;
+  times = times;
+  changes = map (track_of tracks) h.numbers;
+}
+
 -- What stands in the text so far, and what the whole text says, where it ends here.
 abbrev pub recorded_so_far : Body → Recording
-recorded_so_far b = record { timescale = b.declared.timescale; scopes = b.declared.scopes; variables = b.declared.variables; times = b.times; changes = map (track_of b.tracks) b.declared.numbers }
+recorded_so_far b = recorded b.declared b.times b.tracks
 
 abbrev pub recording_of : Body → Recording
 recording_of b = recorded_so_far (with_moment b)

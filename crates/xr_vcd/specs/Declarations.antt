@@ -15,6 +15,16 @@ pub record Declarations : Type 0 where
   pub variables : List Variable
   pub numbers : List ℕ
 
+abbrev pub declared_of : Option (List ℕ) → List Path → List ℕ → List Code → List Variable → List ℕ → Declarations
+declared_of timescale scopes entered codes variables numbers = record {
+  timescale = timescale;
+  scopes = scopes;
+  entered = entered;
+  codes = codes;
+  variables = variables;
+  numbers = numbers;
+}
+
 -- Nothing is declared, and there is the place outside every scope.
 abbrev pub nothing : Declarations
 nothing = record { timescale = None; scopes = [] ∷ []; entered = []; codes = []; variables = []; numbers = [] }
@@ -68,10 +78,14 @@ name_of t = name_at (range_of (drop (last_bracket t) t)) (last_bracket t) t
 abbrev pub variable : ℕ → RecordedName → ℕ → Variable
 variable scope n width = record { scope = scope; reference = n.reference; range = n.range; direct = n.direct; width = width }
 
+-- A variable behind the others, and the number of its code.
+abbrev pub with_listed : Declarations → Variable → ℕ → Declarations
+with_listed h v number = record h { variables = h.variables ++ v ∷ []; numbers = h.numbers ++ number ∷ [] }
+
 -- `$var`: a variable that isn't skipped by its kind is listed.
 abbrev pub with_variable : Declarations → Bool → ℕ → ℕ → RecordedName → Declarations
 with_variable h skipped number width n =
-    cond skipped h (record h { variables = h.variables ++ variable (scope_of h) n width ∷ []; numbers = h.numbers ++ number ∷ [] })
+    cond skipped h (with_listed h (variable (scope_of h) n width) number)
 
 -- A variable that is listed behind those of the old declarations stands in the innermost scope that was open.
 abbrev pub StandsInnermost : Declarations → Declarations → Type 0

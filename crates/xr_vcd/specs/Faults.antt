@@ -1,11 +1,12 @@
 -- What a text says, and its first fault.
-use Rattle.std.specs.Prelude.{◌≡◌, ℕ, List, [], ◌∷◌, ◌++◌, length, Ok, Err}
+use Rattle.std.specs.Prelude.{◌≡◌, ℕ, List, [], ◌∷◌, ◌++◌, length, Result, Ok, Err, MatchResult}
 use Rattle.xr_vcd.specs.Declarations.{nothing}
 use Rattle.xr_vcd.specs.Machine.{State, Next, step, finish, run}
 use Rattle.xr_vcd.specs.Machine.State.{declaring}
 use Rattle.xr_vcd.specs.Recording.{Recording}
 use Rattle.xr_vcd.specs.Words.{Word, words_of}
 use Rattle.xr_vcd.specs.declared.refusal.VcdErr.{VcdErr}
+use Rattle.xr_vcd.specs.declared.refusal.VcdErr.TheVariants.{Memory}
 
 -- At the beginning nothing is declared.
 abbrev pub beginning : State
@@ -14,6 +15,10 @@ beginning = declaring nothing
 -- The whole text says this recording.
 abbrev pub Says : List ℕ → Recording → Type 0
 Says text r = run beginning (words_of text) (length text) ≡ Ok r
+
+-- A text that says a recording is read, or refused for want of memory alone.
+abbrev pub IsRead : List ℕ → Result Recording VcdErr → Type 0
+IsRead text result = (r : Recording) → Says text r → MatchResult result (λ recording. recording ≡ r) (λ refusal. refusal ≡ Memory)
 
 abbrev pub reach_on : Next → (State → Next) → Next
 reach_on (Ok s) next = next s

@@ -1,7 +1,7 @@
 -- Reading word by word. A state has what was read so far, and says what may stand next.
 use Rattle.std.specs.Prelude.{ℕ, List, [], ◌∷◌, ◌++◌, length, Bool, true, false, cond, ◌==◌, ◌&&◌, nat_le, nat_lt, Option, Some, None, Result, Ok, Err}
 use Rattle.xr_vcd.specs.Bytes.{is_end, is_code, are_values, are_digits, number_from, time_of, range_of, is_power, is_unit, is_scale, is_skipped, rest_of}
-use Rattle.xr_vcd.specs.Changes.{Body, start, time_on, scalar_on, vector_on, real_on, recording_of}
+use Rattle.xr_vcd.specs.Changes.{Body, start, time_on, scalar_in, vector_in, real_in, recording_of}
 use Rattle.xr_vcd_codes.specs.Code.{find}
 use Rattle.xr_vcd.specs.Declarations.{Declarations, name, name_of, with_scale, with_scope, left_scope, with_code, with_kind, with_variable}
 use Rattle.xr_vcd.specs.Kinds.{kind_of}
@@ -98,7 +98,7 @@ to_body dump (Err e) = Err e
 
 -- Before a change. In a dump stand changes alone.
 abbrev pub body_on : Kind → Body → Bool → Word → Next
-body_on kind.Scalar b dump t = to_body dump (scalar_on (find b.declared.codes (rest_of t.text)) b t)
+body_on kind.Scalar b dump t = to_body dump (scalar_in b t)
 body_on kind.Vector b dump t = needs (are_values (rest_of t.text)) t (vector b dump t.at (rest_of t.text))
 body_on kind.Real b dump t = Ok (real b dump t.at)
 body_on kind.Time b dump t = cond dump (Err (Syntax t.at)) (to_body dump (time_on (time_of (rest_of t.text)) b t.at))
@@ -128,8 +128,8 @@ step (var_end h skipped number width reference range) t = needs (is_end t.text) 
 step (definitions_end h) t = needs (is_end t.text) t (body (start h) false)
 step (body b dump) t = body_on (kind_of t.text) b dump t
 step (body_note b) t = Ok (cond (is_end t.text) (body b false) (body_note b))
-step (vector b dump at digits) t = to_body dump (vector_on (find b.declared.codes t.text) b at digits t)
-step (real b dump at) t = to_body dump (real_on (find b.declared.codes t.text) b at t)
+step (vector b dump at digits) t = to_body dump (vector_in b at digits t)
+step (real b dump at) t = to_body dump (real_in b at t)
 
 -- The text may end before a change that is in no dump; elsewhere more must come.
 abbrev pub finish : State → ℕ → Result Recording VcdErr

@@ -1,9 +1,14 @@
 -- What the functions that read do with the words that are left.
-use Rattle.std.specs.Prelude.{◌≡◌, ◌≢◌, ◌<◌, ℕ, List, [], ◌∷◌, length, Option, Some, None, Result, Ok, Err}
+use Rattle.std.specs.Prelude.{◌≡◌, ◌≢◌, ◌<◌, ℕ, Bool, List, [], ◌∷◌, length, Option, Some, None, Result, Ok, Err}
+use Rattle.xr_vcd.specs.Bytes.{are_values, rest_of}
+use Rattle.xr_vcd.specs.Declarations.{Declarations, with_variable}
 use Rattle.xr_vcd.specs.Changes.{Body}
-use Rattle.xr_vcd.specs.Machine.{State, Next, run, then_run}
+use Rattle.xr_vcd.specs.Machine.{State, Next, needs, run, then_run}
+use Rattle.xr_vcd.specs.Machine.State.{body, declaring, var_code, var_reference, var_width, vector}
+use Rattle.xr_vcd.specs.Naming.{shown_name}
 use Rattle.xr_vcd.specs.Recording.{Recording}
-use Rattle.xr_vcd.specs.Words.{Left, word}
+use Rattle.xr_vcd.specs.Words.{Left, Word, word}
+use Rattle.xr_vcd.specs.declared.ranges.RecordedName.{RecordedName}
 use Rattle.xr_vcd.specs.declared.refusal.VcdErr.{VcdErr}
 use Rattle.xr_vcd.specs.declared.refusal.VcdErr.TheVariants.{Memory, Truncated}
 use denote.Ref.{Bor}
@@ -42,6 +47,21 @@ Reads s old (Err e) next new = Refuses (goes s old) e
 abbrev pub ReadsOn : {X : Type 0} → Next → Left → Result X VcdErr → (X → State) → Left → Type 0
 ReadsOn s old (Ok x) next new = goes_on s old ≡ goes (next x) new
 ReadsOn s old (Err e) next new = Refuses (goes_on s old) e
+
+-- In any declarations, the width of a variable is read, or refused.
+abbrev pub ReadsWidth : Left → Result ℕ VcdErr → Left → Type 0
+ReadsWidth old result new =
+    (h : Declarations) (var : ℕ) (skipped : Bool) → Reads (var_width h var skipped) old result (λ width. var_code h var skipped width) new
+
+-- So is its name, with which the variable is declared.
+abbrev pub ReadsName : Left → Result RecordedName VcdErr → Left → Type 0
+ReadsName old result new =
+    (h : Declarations) (skipped : Bool) (number width : ℕ) → Reads (var_reference h skipped number width) old result (λ n. declaring (with_variable h skipped number width (shown_name n))) new
+
+-- Digits were read, whose word this is, and with the code in the next one they changed the body, in a dump or outside.
+abbrev pub ReadsVector : Word → Body → Left → Result Unit VcdErr → Body → Left → Type 0
+ReadsVector t before old result after new =
+    (dump : Bool) → ReadsOn (needs (are_values (rest_of t.text)) t (vector before dump t.at (rest_of t.text))) old result (λ _. body after dump) new
 
 -- On Ok fewer words are left.
 abbrev pub Shortens : {X : Type 0} → Left → Result X VcdErr → Left → Type 0

@@ -1,8 +1,8 @@
 -- A recording: what a text says.
-use Rattle.std.specs.Prelude.{◌≡◌, ℕ, ◌-◌, ◌<◌, ◌≤◌, ◌^◌, List, [], ◌∷◌, ◌++◌, length, Option, Some, None, slice_get, slice_index_or, All}
+use Rattle.std.specs.Prelude.{◌≡◌, ℕ, ◌-◌, ◌<◌, ◌≤◌, ◌^◌, List, [], ◌∷◌, ◌++◌, length, Option, Some, None, map, slice_get, slice_index_or, All}
 use Rattle.std.specs.List.Sorted.{IsStrictlyIncreasing}
 use Rattle.xr_cell.specs.declared.value.Value.{Value}
-use Rattle.xr_vcd_changes.specs.Held.{Change, bit_value}
+use Rattle.xr_vcd_changes.specs.Held.{Change, bit_value, track_of}
 use Rattle.xr_vcd_changes.specs.Last.{IsLastValue}
 use Rattle.xr_vcd.specs.declared.variable.Variable.{Variable}
 use Rattle.xr_vcd.specs.declared.variable.Scope.{Scope}
@@ -65,6 +65,20 @@ paths_from paths (s ∷ ss) = paths_from (paths ++ (path_at paths s.parent ++ s.
 abbrev pub paths_of : List Scope → List Path
 paths_of ss = paths_from ([] ∷ []) ss
 
+-- What is seen of a recording's parts: its scopes as they are stored, and the number of each variable's code.
+abbrev pub seen_of : Option (List ℕ) → List Scope → List Variable → List ℕ → List (List Change) → List ℕ → Recording
+seen_of timescale scopes variables times tracks numbers = record {
+  timescale = timescale;
+  scopes = paths_of scopes;
+  variables = variables;
+  times = times;
+  changes = map (track_of tracks) numbers;
+}
+
 -- The name of a scope: the last of its path.
 abbrev pub last_name : Path → List ℕ
 last_name path = slice_index_or path (length path - 1) []
+
+-- A scope's path is that of the scope that it is in, and its own name.
+abbrev pub IsWithin : List Path → ℕ → ℕ → Type 0
+IsWithin paths scope parent = path_at paths scope ≡ path_at paths parent ++ last_name (path_at paths scope) ∷ []

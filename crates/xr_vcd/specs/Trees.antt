@@ -22,6 +22,10 @@ pub record AreDeclared (scopes : List Scope) (variables : List Variable) (number
   pub scopes_ : length scopes + 1 < 2 ^ 28
   pub variables_ : length variables < 2 ^ 28
 
+-- What is declared, and the scopes that are entered.
+abbrev pub AreHeld : List Scope → List Variable → List ℕ → List ℕ → Type 0
+AreHeld scopes variables numbers entered = AreDeclared scopes variables numbers × IsEntered scopes entered
+
 -- The times of a recording's moments.
 pub record AreTimes (times : List ℕ) : Type 0 where
   pub some : 0 < length times

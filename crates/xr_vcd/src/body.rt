@@ -47,7 +47,7 @@ fn open_tracks(alloc: Global, count: usize) -> Result<Changes, Memory>
 impl<'a> Body<'a> {
     ghost use Rattle.std.specs.Prelude.{◌≡◌, ◌≤◌, ◌+◌, ◌<◌, ◌^◌, ℕ, Bool, false, List, [], ◌∷◌, length, IfOk, IfSome, OnOk, replicate};
     ghost use Rattle.xr_vcd.specs.Bytes.{time_of, rest_of};
-    ghost use Rattle.xr_vcd.specs.Changes.{start, time_on, scalar_on, vector_on, real_on, changed, recorded_so_far, with_moment, undeclared};
+    ghost use Rattle.xr_vcd.specs.Changes.{start, time_on, scalar_in, vector_in, real_in, changed, recorded_so_far, with_moment, undeclared};
     ghost use Rattle.xr_vcd_codes.specs.Code.{find};
     ghost use Rattle.xr_vcd.specs.Reading.{Gives, Does};
     ghost use Rattle.xr_vcd.specs.Words.{word};
@@ -134,7 +134,7 @@ impl<'a> Body<'a> {
 
     /// A digit and a code in one word: a change of the variables that are listed.
     pub fn add_scalar(&mut self, at: usize, text: &[u8]) -> Result<(), VcdErr>
-        ensures { Gives result self.new (scalar_on (find self.old.declared.codes (rest_of text.now)) self.old (word at text.now)) }
+        ensures { Gives result self.new (scalar_in self.old (word at text.now)) }
     {
         let code = rest_of(text);
         match self.find(code) {
@@ -156,7 +156,7 @@ impl<'a> Body<'a> {
         code_at: usize,
         code: &[u8],
     ) -> Result<(), VcdErr>
-        ensures { Gives result self.new (vector_on (find self.old.declared.codes code.now) self.old at digits.now (word code_at code.now)) }
+        ensures { Gives result self.new (vector_in self.old at digits.now (word code_at code.now)) }
     {
         let found = match self.find(code) {
             None => return Err(undeclared(code, code_at)),
@@ -174,7 +174,7 @@ impl<'a> Body<'a> {
 
     /// A real number, whose word stands at `at`, and a code that some skipped variable has: nothing changes.
     pub fn skip_real(&self, at: usize, code_at: usize, code: &[u8]) -> Result<(), VcdErr>
-        ensures { Gives result self.now (real_on (find self.now.declared.codes code.now) self.now at (word code_at code.now)) }
+        ensures { Gives result self.now (real_in self.now at (word code_at code.now)) }
     {
         match self.find(code) {
             None => Err(undeclared(code, code_at)),

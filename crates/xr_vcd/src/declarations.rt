@@ -26,21 +26,21 @@ pub struct Declarations<'a> {
 }
 
 impl<'a> Model for Declarations<'a> {
-    ghost use Rattle.xr_vcd.specs.Declarations.{Declarations};
+    ghost use Rattle.xr_vcd.specs.Declarations.{Declarations, declared_of};
     ghost use Rattle.xr_vcd.specs.Recording.{paths_of};
-    ghost use Rattle.xr_vcd.specs.Trees.{AreDeclared, IsEntered};
+    ghost use Rattle.xr_vcd.specs.Trees.{AreHeld};
 
     ghost Value = { Declarations };
 
-    ghost view = { λ h. record { timescale = h.timescale; scopes = paths_of h.scopes.items; entered = h.entered.items; codes = h.codes; variables = h.variables.items; numbers = h.numbers.items } };
+    ghost view = { λ h. declared_of h.timescale (paths_of h.scopes.items) h.entered.items h.codes h.variables.items h.numbers.items };
 
-    ghost invariant = { λ h. AreDeclared h.scopes.items h.variables.items h.numbers.items × IsEntered h.scopes.items h.entered.items };
+    ghost invariant = { λ h. AreHeld h.scopes.items h.variables.items h.numbers.items h.entered.items };
 }
 
 impl<'a> Declarations<'a> {
     ghost use Rattle.std.specs.Prelude.{◌≡◌, ◌+◌, ◌<◌, ◌≤◌, ◌^◌, ◌==◌, [], ◌∷◌, ◌++◌, nat_lt, length, IfOk, OnOk, OnErr, IfSome, None, Some, Ok, cond};
     ghost use Rattle.xr_vcd_codes.specs.Code.{find};
-    ghost use Rattle.xr_vcd.specs.Declarations.{StandsInnermost, Returns, nothing, scope_of, open_path, with_scale, with_scope, left_scope, with_code, with_kind, with_variable};
+    ghost use Rattle.xr_vcd.specs.Declarations.{StandsInnermost, Returns, nothing, scope_of, open_path, with_scale, with_scope, left_scope, with_code, with_kind, with_listed, with_variable};
     ghost use Rattle.xr_vcd.specs.Naming.{shown_name};
     ghost use Rattle.xr_vcd.specs.Reading.{Does};
     ghost use Rattle.xr_vcd.specs.Recording.{IsVariable};
@@ -167,7 +167,7 @@ impl<'a> Declarations<'a> {
     fn list(&mut self, variable: Variable, number: u32) -> Result<(), VcdErr>
         requires variable { IsVariable (length self.old.scopes) variable }
         requires few { length self.old.variables + 1 < 2 ^ 28 }
-        ensures { Does result (self.new ≡ record self.old { variables = self.old.variables ++ variable ∷ []; numbers = self.old.numbers ++ number ∷ [] }) }
+        ensures { Does result (self.new ≡ with_listed self.old variable number) }
     {
         let count = self.numbers.len();
         self.numbers.push(number)?;

@@ -1,11 +1,10 @@
 //! Reading a whole text.
 
-ghost use Rattle.std.specs.Prelude.{◌≡◌, ◌≢◌, false, ◌≤◌, ◌^◌, length, IfOk, IfErr, MatchResult};
+ghost use Rattle.std.specs.Prelude.{◌≢◌, false, ◌≤◌, ◌^◌, length, IfOk, IfErr};
 ghost use Rattle.xr_vcd.specs.Changes.{start};
-ghost use Rattle.xr_vcd.specs.Faults.{Says, FirstFault, beginning};
+ghost use Rattle.xr_vcd.specs.Faults.{Says, FirstFault, IsRead, beginning};
 ghost use Rattle.xr_vcd.specs.Machine.State.{body as in_body};
 ghost use Rattle.xr_vcd.specs.Reading.{Answers, goes};
-ghost use Rattle.xr_vcd.specs.Recording.{Recording};
 ghost use Rattle.xr_vcd.specs.Words.{left_of};
 ghost use Rattle.xr_vcd.specs.declared.refusal.VcdErr.TheVariants.{Memory as OutOfMemory};
 
@@ -23,12 +22,9 @@ use std::alloc::Global;
 /// declarations take.
 pub fn read_vcd(alloc: Global, bytes: &[u8]) -> Result<Recording, VcdErr>
     requires { length bytes.now ≤ 2 ^ 28 }
-
     ensures says { IfOk result (λ recording. Says bytes.now recording) }
     ensures first { IfErr result (λ refusal. refusal ≢ OutOfMemory → FirstFault bytes.now refusal) }
-
-    // A text that says a recording is refused for want of memory alone.
-    ensures only { (r : Recording) → Says bytes.now r → MatchResult result (λ recording. recording ≡ r) (λ refusal. refusal ≡ OutOfMemory) }
+    ensures only { IsRead bytes.now result }
 {
     read_text(alloc, bytes)
 }

@@ -1,10 +1,8 @@
 //! Reading the changes.
 
-ghost use Rattle.std.specs.Prelude.{◌≡◌, ◌<◌, Bool, false, [], length, OnOk};
-ghost use Rattle.xr_vcd.specs.Bytes.{are_values, rest_of};
-ghost use Rattle.xr_vcd.specs.Machine.{needs};
-ghost use Rattle.xr_vcd.specs.Machine.State.{body, vector};
-ghost use Rattle.xr_vcd.specs.Reading.{Reads, ReadsOn};
+ghost use Rattle.std.specs.Prelude.{◌≡◌, ◌<◌, false, [], length, OnOk};
+ghost use Rattle.xr_vcd.specs.Machine.State.{body};
+ghost use Rattle.xr_vcd.specs.Reading.{Reads, ReadsVector};
 ghost use Rattle.xr_vcd.specs.Words.{word};
 
 use crate::body::Body;
@@ -69,7 +67,7 @@ fn read_vector(
     words: &mut Words<'_>,
     changed: &mut Body<'_>,
 ) -> Result<(), VcdErr>
-    ensures reads { (dump : Bool) → ReadsOn (needs (are_values (rest_of text.now)) (word at text.now) (vector changed.old dump at (rest_of text.now))) words.old result (λ _. body changed.new dump) words.new }
+    ensures reads { ReadsVector (word at text.now) changed.old words.old result changed.new words.new }
     ensures few { OnOk result (length words.new.words < length words.old.words) }
 {
     let digits = rest_of(text);

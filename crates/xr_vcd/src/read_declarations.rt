@@ -7,7 +7,7 @@ ghost use Rattle.xr_vcd.specs.Declarations.{Declarations, with_variable};
 ghost use Rattle.xr_vcd.specs.Machine.{upscope_on, code_on};
 ghost use Rattle.xr_vcd.specs.Machine.State.{definitions_end, note, scale, scope_kind, scale_end, var_kind, var_width, var_code, var_reference, body, body_note, declaring};
 ghost use Rattle.xr_vcd.specs.Naming.{shown_name};
-ghost use Rattle.xr_vcd.specs.Reading.{Reads, ReadsOn, Shortens};
+ghost use Rattle.xr_vcd.specs.Reading.{Reads, ReadsName, ReadsOn, ReadsWidth, Shortens};
 
 use crate::bytes::{
     are_digits, is_code, is_end, is_power, is_scale, is_skipped, is_unit, value_within,
@@ -160,7 +160,7 @@ fn read_var<'a>(
 
 /// Reads a width, 1 to 2^20.
 fn read_width(words: &mut Words<'_>) -> Result<u32, VcdErr>
-    ensures reads { (h : Declarations) → (var : ℕ) → (skipped : Bool) → Reads (var_width h var skipped) words.old result (λ width. var_code h var skipped width) words.new }
+    ensures reads { ReadsWidth words.old result words.new }
     ensures some { IfOk result (λ width. 1 ≤ width) }
     ensures wide { IfOk result (λ width. width ≤ 2 ^ 20) }
     ensures shortens { Shortens words.old result words.new }
@@ -204,7 +204,7 @@ fn read_code<'a>(
 
 // name = reference [ range ] "$end"
 fn read_name<'a>(words: &mut Words<'a>) -> Result<RecordedName<'a>, VcdErr>
-    ensures reads { (h : Declarations) → (skipped : Bool) → (number width : ℕ) → Reads (var_reference h skipped number width) words.old result (λ name. declaring (with_variable h skipped number width (shown_name name))) words.new }
+    ensures reads { ReadsName words.old result words.new }
     ensures shortens { Shortens words.old result words.new }
 {
     let (reference_at, reference) = words.need()?;

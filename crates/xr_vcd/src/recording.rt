@@ -22,28 +22,26 @@ pub struct Recording {
 }
 
 impl Model for Recording {
-    ghost use Rattle.std.specs.Prelude.{map};
-    ghost use Rattle.xr_vcd_changes.specs.Held.{track_of};
-    ghost use Rattle.xr_vcd.specs.Recording.{Recording, paths_of};
+    ghost use Rattle.xr_vcd.specs.Recording.{Recording, seen_of};
     ghost use Rattle.xr_vcd.specs.Trees.{AreDeclared, AreTimes};
 
     ghost Value = { Recording };
 
-    ghost view = { λ r. record { timescale = r.timescale; scopes = paths_of r.scopes.items; variables = r.variables.items; times = r.times.items; changes = map (track_of r.changes.tracks) r.numbers.items } };
+    ghost view = { λ r. seen_of r.timescale r.scopes.items r.variables.items r.times.items r.changes.tracks r.numbers.items };
 
     ghost invariant = { λ r. AreDeclared r.scopes.items r.variables.items r.numbers.items × AreTimes r.times.items };
 }
 
 impl Recording {
-    ghost use Rattle.std.specs.Prelude.{◌≡◌, ◌+◌, ◌<◌, ◌≤◌, ◌^◌, [], ◌∷◌, ◌++◌, length, map, option_map, slice_index_or};
-    ghost use Rattle.xr_vcd_changes.specs.Held.{track_of};
-    ghost use Rattle.xr_vcd.specs.Recording.{IsRecording, IsValueAt, path_at, last_name, value_at, width_at};
+    ghost use Rattle.std.specs.Prelude.{◌≡◌, ◌+◌, ◌<◌, ◌≤◌, ◌^◌, [], ◌∷◌, ◌++◌, length, option_map, slice_index_or};
+    ghost use Rattle.xr_vcd.specs.Changes.{recorded};
+    ghost use Rattle.xr_vcd.specs.Recording.{IsRecording, IsValueAt, IsWithin, path_at, last_name, value_at, width_at};
     ghost use Rattle.xr_vcd.specs.Trees.{AreTimes};
 
     /// The recording of these declarations, times and changes. Takes no memory.
     pub(crate) fn new(declared: Declarations<'_>, times: Vec<u64>, changes: Changes) -> Recording
         requires { AreTimes times.items }
-        ensures { result ≡ record { timescale = declared.entry.timescale; scopes = declared.entry.scopes; variables = declared.entry.variables; times = times.items; changes = map (track_of changes.tracks) declared.entry.numbers } }
+        ensures { result ≡ recorded declared.entry times.items changes.tracks }
     {
         let Declarations {
             alloc: _,
@@ -89,7 +87,7 @@ impl Recording {
         requires some { 0 < scope }
         requires known { scope < length self.now.scopes }
         ensures before { result < scope }
-        ensures path { path_at self.now.scopes scope ≡ path_at self.now.scopes result ++ last_name (path_at self.now.scopes scope) ∷ [] }
+        ensures path { IsWithin self.now.scopes scope result }
     {
         self.scopes[scope as usize - 1].parent
     }

@@ -48,3 +48,7 @@ track_of tracks code = slice_index_or tracks code []
 -- with a change of the code behind those that it had
 abbrev pub with_change : List (List Change) → ℕ → Change → List (List Change)
 with_change tracks code c = slice_set tracks code (track_of tracks code ++ c ∷ [])
+
+-- the same for a history, whose last moment is then that of the change
+abbrev pub with_last : History → ℕ → Change → History
+with_last h code c = record { moment = c.moment; tracks = with_change h.tracks code c }

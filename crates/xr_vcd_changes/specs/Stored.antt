@@ -1,6 +1,6 @@
 -- How changes are stored: entries with the number of their text.
-use Rattle.std.specs.Prelude.{◌≡◌, ℕ, ◌<◌, ◌≤◌, List, [], map, length, slice_index_or, true, nat_le, All}
-use Rattle.std.specs.List.Sorted.{IsNonDecreasingBy}
+use Rattle.std.specs.Prelude.{◌≡◌, ℕ, ◌<◌, ◌≤◌, Bool, List, [], map, length, slice_index_or, true, false, nat_le, All}
+use Rattle.std.specs.List.Sorted.{IsNonDecreasingBy, IsPartitionPoint}
 use Rattle.xr_vcd_changes.specs.Held.{Change, History, change}
 use Rattle.xr_vcd_changes.specs.declared.track.Entry.{Entry}
 
@@ -27,3 +27,11 @@ shown moment texts tracks = record { moment = moment; tracks = map (changes_of t
 pub record IsBefore (moment : ℕ) (entries : List Entry) (count : ℕ) : Type 0 where
   pub within : count ≤ length entries
   pub each : (k : ℕ) (d : Entry) → k < count → nat_le (slice_index_or entries k d).moment moment ≡ true
+
+abbrev pub comes_up_to : ℕ → Entry → Bool
+comes_up_to moment entry = nat_le entry.moment moment
+
+-- The first entries, so many, come in the moment or before it, and no other does.
+abbrev pub ComeUpTo : ℕ → List Entry → ℕ → Type 0
+ComeUpTo moment entries count =
+    IsPartitionPoint (λ (e : Entry). comes_up_to moment e ≡ true) (λ (e : Entry). comes_up_to moment e ≡ false) entries count

@@ -2,7 +2,7 @@
 
 ghost use Rattle.std.specs.Prelude.{◌≡◌, ℕ, ◌+◌, ◌<◌, ◌≤◌, ◌^◌, [], ◌∷◌, ◌++◌, List, length, IfOk, OnOk, OnErr, slice_index, slice_index_or};
 ghost use Rattle.xr_vcd_changes.specs.Last.{IsLastValue};
-ghost use Rattle.xr_vcd_changes.specs.Held.{bit_value, change, digit_value, extended, fill_of, held, track_of, unknown, with_change};
+ghost use Rattle.xr_vcd_changes.specs.Held.{bit_value, change, digit_value, extended, fill_of, held, track_of, unknown, with_last};
 
 use crate::digits::Digits;
 use crate::track::{Entry, Track};
@@ -57,7 +57,7 @@ impl Changes {
     pub fn add(&mut self, code: usize, moment: u32, digits: &[u8]) -> Result<(), Memory>
         requires code { code < length self.old.tracks }
         requires ascends { self.old.moment ≤ moment }
-        ensures added { OnOk result (self.new ≡ record { moment = moment; tracks = with_change self.old.tracks code (change moment digits.now) }) }
+        ensures added { OnOk result (self.new ≡ with_last self.old code (change moment digits.now)) }
         ensures moment { self.new.moment ≤ moment }
         ensures codes { length self.new.tracks ≡ length self.old.tracks }
     {

@@ -1,8 +1,8 @@
 //! The changes of one code.
 
 ghost use Rattle.std.specs.Prelude.{◌≡◌, ℕ, ◌<◌, ◌≤◌, [], ◌∷◌, ◌++◌, length, nat_le, OnOk, OnErr, true, false, slice_index_or};
-ghost use Rattle.std.specs.List.Sorted.{IsNonDecreasingBy, IsPartitionPoint};
-ghost use Rattle.xr_vcd_changes.specs.Stored.{IsBefore};
+ghost use Rattle.std.specs.List.Sorted.{IsNonDecreasingBy};
+ghost use Rattle.xr_vcd_changes.specs.Stored.{IsBefore, ComeUpTo};
 
 use std::alloc::Global;
 use std::marker::Model;
@@ -56,7 +56,7 @@ impl Track {
     pub fn count(&self, moment: u32) -> usize
         requires { IsNonDecreasingBy (λ (e : Entry). e.moment) self.now }
         ensures bound { result ≤ length self.now }
-        ensures split { IsPartitionPoint (λ (e : Entry). nat_le e.moment moment ≡ true) (λ (e : Entry). nat_le e.moment moment ≡ false) self.now result }
+        ensures split { ComeUpTo moment self.now result }
     {
         self.entries.as_slice().partition_point(
             |e: &Entry| -> bool
@@ -69,7 +69,7 @@ impl Track {
     pub fn count_near(&self, moment: u32, hint: usize) -> usize
         requires { IsNonDecreasingBy (λ (e : Entry). e.moment) self.now }
         ensures bound { result ≤ length self.now }
-        ensures split { IsPartitionPoint (λ (e : Entry). nat_le e.moment moment ≡ true) (λ (e : Entry). nat_le e.moment moment ≡ false) self.now result }
+        ensures split { ComeUpTo moment self.now result }
     {
         if self.is_before(moment, hint) {
             count_on(self.entries.as_slice(), moment, hint)
@@ -105,7 +105,7 @@ fn count_on(entries: &[Entry], moment: u32, from: usize) -> usize
     requires sorted { IsNonDecreasingBy (λ (e : Entry). e.moment) entries.now }
     requires from { IsBefore moment entries.now from }
     ensures bound { result ≤ length entries.now }
-    ensures split { IsPartitionPoint (λ (e : Entry). nat_le e.moment moment ≡ true) (λ (e : Entry). nat_le e.moment moment ≡ false) entries.now result }
+    ensures split { ComeUpTo moment entries.now result }
 {
     let mut count = from;
     'entries: while count < entries.len() && entries[count].moment <= moment {
