@@ -1,0 +1,2 @@
+-- Lemmas of xr_elab_bits.
+pub mod Running

@@ -1,0 +1,58 @@
+//! What drives a net.
+
+ghost use Rattle.std.specs.Prelude.{◌≡◌, ◌≤◌, ◌+◌, ◌^◌, length};
+ghost use Rattle.xr_elab_nets.specs.Outcome.{Gives};
+ghost use Rattle.xr_elab_bits.specs.Drive as spec;
+
+use crate::run::Lane;
+use crate::runs::Runs;
+use xr_design::{Driver, Pin};
+use xr_elab_nets::{ElabErr, Nets};
+
+/// Gives the bits on the left those on the right, from left to right. Takes no memory.
+pub fn drive(nets: &mut Nets, left: &Runs, right: &Runs) -> Result<(), ElabErr>
+    ensures { Gives (spec.all_driven left.now right.now nets.old) result (λ _. nets.new) }
+{
+    let mut left = left.lanes();
+    let mut right = right.lanes();
+    'lanes: while let Some(lane) = left.take() {
+        let Some(bit) = right.take() else {
+            return Ok(());
+        };
+        drive_lane(nets, lane, bit)?;
+    }
+    Ok(())
+}
+
+/// Gives the nets from the first on the bits, whatever they have. Takes no memory.
+pub fn feed(nets: &mut Nets, first: u32, lanes: &Runs)
+    requires { first + length lanes.now ≤ 2 ^ 20 }
+    ensures { nets.new ≡ spec.fed first lanes.now nets.old }
+{
+    let mut net = first;
+    let mut left = lanes.lanes();
+    'lanes: while let Some(lane) = left.take() {
+        nets.set(net, driver_from(lane.pin));
+        net += 1;
+    }
+}
+
+fn drive_lane(nets: &mut Nets, left: Lane, right: Lane) -> Result<(), ElabErr>
+    ensures { Gives (spec.driven_lane left right nets.old) result (λ _. nets.new) }
+{
+    match left.pin {
+        Pin::Net(net) => nets.drive(left.at, net, driver_from(right.pin)),
+        Pin::Bit(_) | Pin::Dead => Err(ElabErr::BadName { at: left.at }),
+    }
+}
+
+/// The driver of a net that takes what a pin has.
+fn driver_from(pin: Pin) -> Driver
+    ensures { result ≡ spec.driver_from pin }
+{
+    match pin {
+        Pin::Net(net) => Driver::Copy(net),
+        Pin::Bit(bit) => Driver::Constant(bit),
+        Pin::Dead => Driver::Undriven,
+    }
+}
