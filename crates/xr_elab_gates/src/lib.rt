@@ -7,3 +7,6 @@ mod terminals;
 
 pub use assigns::{add_assign, add_value};
 pub use gates::add_gate;
+
+#[cfg(test)]
+mod tests;
