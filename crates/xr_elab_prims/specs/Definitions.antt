@@ -1,5 +1,5 @@
 -- The definitions of a text: modules and primitives, which share their names (IEEE 1364-2005, clauses 8.1 and 12).
-use Rattle.std.specs.Prelude.{◌≡◌, ℕ, Bool, false, nat_lt, Option, Some, None, List, [], ◌∷◌, ◌++◌, map, position, bytes_eq, option_copied, Ok, Err, is_some, if◌then◌else◌}
+use Rattle.std.specs.Prelude.{◌≡◌, ◌<◌, ℕ, Bool, false, nat_lt, Option, Some, None, List, [], ◌∷◌, ◌++◌, map, length, position, bytes_eq, option_copied, Ok, Err, is_some, if◌then◌else◌}
 use Rattle.std.specs.Borrow.{Bor}
 use Rattle.std.specs.Map.{lookup}
 use Rattle.std.specs.Option.{option_or, option_map}
@@ -66,6 +66,11 @@ definition_in ms ps name =
 
 abbrev pub definition_of : Source → List ℕ → Option Definition
 definition_of s name = definition_in s.modules s.primitives name
+
+-- A definition stands at a position of the text.
+abbrev pub IsThere : Source → Definition → Type 0
+IsThere s (definition.Module k) = k < length s.modules
+IsThere s (definition.Primitive k) = k < length s.primitives
 
 -- what a map of names has
 abbrev pub numbers_in : List (Bor (List ℕ) × Definition) → List (List ℕ × Definition)
