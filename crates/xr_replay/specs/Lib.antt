@@ -1,0 +1,5 @@
+-- Definitions of xr_replay: faults of a recording, and what the replay keeps as it goes.
+pub mod Fault
+pub mod Filled
+pub mod Forced
+pub mod Read
