@@ -1,4 +1,6 @@
 -- Lemmas of xr_replay.
+pub mod Compares
+pub mod Faults
 pub mod Forces
 pub mod Places
 pub mod Replays

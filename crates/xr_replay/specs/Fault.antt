@@ -54,22 +54,29 @@ pub record HasNoFault (j : Job) (recording : Recording) (binding : Binding) (mom
 abbrev pub IsFaultless : Job → Recording → Binding → Type 0
 IsFaultless j recording binding = (moment : ℕ) → moment < j.moments → HasNoFault j recording binding moment
 
--- In a moment the net is the first in the order that isn't settled, with the value that it keeps and the one that the
--- update gives.
+-- The net isn't settled in a moment, with the value that it keeps there and the one that the update gives.
+pub record Unsettles (j : Job) (moment net : ℕ) (driver : Driver) (kept next : Value) : Type 0 where
+  pub unsettled : IsSettledAt j (last_step j moment) net driver → ⊥
+  pub kept_is : kept ≡ kept_at j (at j (last_step j moment) net)
+  pub next_is : next ≡ kept_after j (last_step j moment) net driver
+
+-- It is the first in the order that isn't.
 pub record IsFirstUnsettled (j : Job) (moment net : ℕ) (kept next : Value) : Type 0 where
   pub within : net < j.width
   pub before : (other : ℕ) → other < j.width → position_of j.order other < position_of j.order net → IsSettledAt j (last_step j moment) other (j.driver other)
-  pub unsettled : IsSettledAt j (last_step j moment) net (j.driver net) → ⊥
-  pub kept_is : kept ≡ kept_at j (at j (last_step j moment) net)
-  pub next_is : next ≡ kept_after j (last_step j moment) net (j.driver net)
+  pub unsettles : Unsettles j moment net (j.driver net) kept next
 
--- The bit is the first of the variable's that doesn't agree, with the value recorded and the one replayed.
-pub record IsFirstBit (j : Job) (recording : Recording) (moment : ℕ) (b : Bound) (bit : ℕ) (value shown : Value) : Type 0 where
+-- The bit doesn't agree, with the value recorded and the one replayed.
+pub record BitDiffers (j : Job) (recording : Recording) (moment : ℕ) (b : Bound) (bit : ℕ) (recorded replayed : Value) : Type 0 where
+  pub recorded_is : recorded ≡ value_at recording b.variable bit moment
+  pub replayed_is : replayed ≡ shown_bit j moment b bit
+  pub differs : BitAgrees j recording moment b bit → ⊥
+
+-- It is the first of the variable's that doesn't.
+pub record IsFirstBit (j : Job) (recording : Recording) (moment : ℕ) (b : Bound) (bit : ℕ) (recorded replayed : Value) : Type 0 where
   pub within : bit < length b.bits
   pub before : (other : ℕ) → other < bit → BitAgrees j recording moment b other
-  pub value_is : value ≡ value_at recording b.variable bit moment
-  pub shown_is : shown ≡ shown_bit j moment b bit
-  pub differs : value ≡ shown → ⊥
+  pub differs : BitDiffers j recording moment b bit recorded replayed
 
 abbrev pub no_variable : Bound
 no_variable = record { variable = 0; bits = []; path = []; range = None }
@@ -78,12 +85,12 @@ abbrev pub bound_at : Binding → ℕ → Bound
 bound_at binding place = slice_index_or binding.bound place no_variable
 
 -- In a moment the variable is the first bound one that doesn't agree, and the bit its first.
-pub record IsFirstDisagreement (j : Job) (recording : Recording) (binding : Binding) (moment variable bit : ℕ) (value shown : Value) : Type 0 where
+pub record IsFirstDisagreement (j : Job) (recording : Recording) (binding : Binding) (moment variable bit : ℕ) (recorded replayed : Value) : Type 0 where
   pub place : ℕ
   pub within : place < length binding.bound
   pub before : (other : ℕ) → other < place → VariableAgrees j recording moment (bound_at binding other)
   pub variable_is : (bound_at binding place).variable ≡ variable
-  pub first : IsFirstBit j recording moment (bound_at binding place) bit value shown
+  pub first : IsFirstBit j recording moment (bound_at binding place) bit recorded replayed
 
 -- What a fault says is so in its moment: the first unsettled register, or the first disagreement where the moment is
 -- settled.
@@ -100,3 +107,33 @@ pub record IsFirstFault (j : Job) (recording : Recording) (binding : Binding) (d
   pub within : moment_of differ < j.moments
   pub before : (moment : ℕ) → moment < moment_of differ → HasNoFault j recording binding moment
   pub fault : IsFault j recording binding differ
+
+-- A fault of the moment.
+pub record IsFaultIn (j : Job) (recording : Recording) (binding : Binding) (moment : ℕ) (differ : Differ) : Type 0 where
+  pub moment_is : moment_of differ ≡ moment
+  pub fault : IsFault j recording binding differ
+
+-- The fault is that the net isn't settled in the moment.
+abbrev pub IsUnsettledAt : Job → ℕ → ℕ → Driver → Differ → Type 0
+IsUnsettledAt j moment net driver (Unsettled other when kept next) = (other ≡ net) × (when ≡ moment) × Unsettles j moment net driver kept next
+IsUnsettledAt j moment net driver (Disagrees variable bit when recorded replayed) = ⊥
+
+-- The fault is the first net that isn't.
+abbrev pub IsUnsettledIn : Job → ℕ → Differ → Type 0
+IsUnsettledIn j moment (Unsettled net when kept next) = (when ≡ moment) × IsFirstUnsettled j moment net kept next
+IsUnsettledIn j moment (Disagrees variable bit when recorded replayed) = ⊥
+
+-- The fault is that the bit doesn't agree in the moment.
+abbrev pub IsBitFault : Job → Recording → ℕ → Bound → ℕ → Differ → Type 0
+IsBitFault j recording moment b bit (Unsettled net when kept next) = ⊥
+IsBitFault j recording moment b bit (Disagrees variable other when recorded replayed) = (variable ≡ b.variable) × (other ≡ bit) × (when ≡ moment) × BitDiffers j recording moment b bit recorded replayed
+
+-- The fault is the first bit that doesn't.
+abbrev pub IsVariableFault : Job → Recording → ℕ → Bound → Differ → Type 0
+IsVariableFault j recording moment b (Unsettled net when kept next) = ⊥
+IsVariableFault j recording moment b (Disagrees variable bit when recorded replayed) = (variable ≡ b.variable) × (when ≡ moment) × IsFirstBit j recording moment b bit recorded replayed
+
+-- The fault is that of the first variable that doesn't agree.
+abbrev pub IsDisagreementIn : Job → Recording → Binding → ℕ → Differ → Type 0
+IsDisagreementIn j recording binding moment (Unsettled net when kept next) = ⊥
+IsDisagreementIn j recording binding moment (Disagrees variable bit when recorded replayed) = (when ≡ moment) × IsFirstDisagreement j recording binding moment variable bit recorded replayed

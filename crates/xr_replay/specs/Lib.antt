@@ -3,3 +3,4 @@ pub mod Fault
 pub mod Filled
 pub mod Forced
 pub mod Read
+pub mod Sides

@@ -2,12 +2,17 @@
 //! Start at `replay` and `compare`.
 #![tactic(auto)]
 
+mod moments;
 mod differ;
 mod driven;
 mod forced;
 mod pins;
+mod recorded;
 mod register;
+mod settled;
+mod sides;
 mod steps;
 
+pub use moments::compare;
 pub use differ::Differ;
 pub use steps::replay;
