@@ -2,10 +2,10 @@
 //! Start at `replay` and `compare`.
 #![tactic(auto)]
 
-mod moments;
 mod differ;
 mod driven;
 mod forced;
+mod moments;
 mod pins;
 mod recorded;
 mod register;
@@ -13,6 +13,6 @@ mod settled;
 mod sides;
 mod steps;
 
-pub use moments::compare;
 pub use differ::Differ;
+pub use moments::compare;
 pub use steps::replay;

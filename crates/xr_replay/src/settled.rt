@@ -1,6 +1,6 @@
 //! Whether a moment has come to rest.
 
-ghost use Rattle.std.specs.Prelude.{◌≡◌, ◌<◌, IfErr, IfOk};
+ghost use Rattle.std.specs.Prelude.{◌≡◌, ◌<◌, IfErr, IfOk, slice_index};
 ghost use Rattle.xr_design.specs.Settled.{IsSettled, IsSettledAt, last_step};
 ghost use Rattle.xr_replay.specs.Fault.{IsUnsettledAt, IsUnsettledIn};
 ghost use Rattle.xr_replay.specs.Sides.{AreSides, job_beside};
@@ -20,10 +20,19 @@ pub fn check_settled(sides: &Sides<'_>, moment: u32) -> Result<(), Differ>
     ensures fault { IfErr result (IsUnsettledIn (job_beside sides.now) moment) }
 {
     'positions: for position in 0..sides.circuit.design.nets.as_slice().len() {
-        let net = sides.circuit.order.net(position as u32);
+        let net = net_at(sides, position as u32);
         check_net(sides, moment, net)?;
     }
     Ok(())
+}
+
+/// The net at a position of the order.
+fn net_at(sides: &Sides<'_>, position: u32) -> u32
+    requires sides { AreSides sides.now }
+    requires position { position < (job_beside sides.now).width }
+    ensures { result ≡ slice_index (job_beside sides.now).order position }
+{
+    sides.circuit.order.net(position)
 }
 
 fn check_net(sides: &Sides<'_>, moment: u32, net: u32) -> Result<(), Differ>

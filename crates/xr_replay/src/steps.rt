@@ -1,19 +1,20 @@
 //! The replay of a design: what a simulator of four values shows at each place, and what its registers keep.
 
-ghost use Rattle.std.specs.Prelude.{◌≡◌, ◌+◌, ◌*◌, ◌<◌, IfOk, length};
+ghost use Rattle.std.specs.Prelude.{◌≡◌, ◌+◌, ◌*◌, ◌<◌, IfOk, length, unwrap_or};
 ghost use Rattle.xr_design.specs.Circuit.{job_in, CircuitFits, FitsCircuit};
 ghost use Rattle.xr_design.specs.Force.{AreEvents, forced_by};
 ghost use Rattle.xr_design.specs.Handed.{HasPlaces, IsReplayUnder};
 ghost use Rattle.xr_design.specs.Job.{job_of};
 ghost use Rattle.xr_replay.specs.Filled.{IsFilled};
 ghost use Rattle.xr_replay.specs.Forced.{HasForced, HasTaken};
+ghost use Rattle.xr_replay.specs.Read.{kept_by};
 
 use crate::driven::{driven_value, kept_value};
 use crate::forced::take_events;
 use std::alloc::Global;
 use xr_base::Memory;
 use xr_cell::Value;
-use xr_design::{Circuit, Design, Event, Forces, History, Order, Place, Stim, driver_at};
+use xr_design::{Circuit, Design, Driver, Event, Forces, History, Order, Place, Stim, driver_at};
 
 /// What each place shows and keeps under forces. Takes a byte for each place and one for each net.
 pub fn replay(
@@ -97,6 +98,14 @@ fn fill_place(
     let net = circuit.order.net(position);
     let driver = driver_at(circuit, net as usize);
     let value = driven_value(circuit, history, step, net, driver);
-    let shown = forced[net as usize].unwrap_or(value);
-    history.set(Place { step, net }, shown, kept_value(driver, value));
+    let (shown, kept) = place_values(forced[net as usize], driver, value);
+    history.set(Place { step, net }, shown, kept);
+}
+
+/// What a place shows and keeps where its driver gives a value.
+fn place_values(forced: Option<Value>, driver: &Driver, value: Value) -> (Value, Value)
+    ensures shown { result.0 ≡ unwrap_or forced value }
+    ensures kept { result.1 ≡ kept_by driver.now value }
+{
+    (forced.unwrap_or(value), kept_value(driver, value))
 }

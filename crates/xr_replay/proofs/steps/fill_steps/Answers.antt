@@ -1,11 +1,10 @@
 -- All steps are filled in the end.
-use Rattle.std.proofs.Common.{◌≡◌, ◌+◌, ◌*◌, ℕ, length, ap, ◌∙◌, sym, arith, subst}
+use Rattle.std.proofs.Common.{◌≡◌, ◌*◌, length, ap, arith, subst}
 use Rattle.std.proofs.Math.Nat.{mul_comm}
 use Rattle.xr_design.specs.Circuit.{job_in}
 use Rattle.xr_design.specs.Force.{forced_by}
 use Rattle.xr_design.specs.Job.{places_of}
 use Rattle.xr_replay.specs.Filled.{IsFilled}
-use Rattle.xr_replay.specs.Forced.{AreOrdered}
 use Rattle.xr_replay.proofs.Forces.{in_order}
 use Rattle.xr_replay.proofs.Writing.{filled_all}
 use Rattle.xr_replay.proofs.steps.fill_steps.Goals as goal
