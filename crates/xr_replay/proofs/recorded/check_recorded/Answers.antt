@@ -1,0 +1,11 @@
+-- All variables agree in the end.
+use Rattle.std.proofs.Common.{length, ap, arith}
+use Rattle.std.proofs.lemmas.List.Elements.{All-from_get_or}
+use Rattle.xr_replay.specs.Fault.{VariableAgrees, no_variable}
+use Rattle.xr_replay.specs.Sides.{job_beside}
+use Rattle.xr_replay.proofs.recorded.check_recorded.Goals as goal
+
+pub returns-clause-agrees : goal.returns-clause-agrees
+returns-clause-agrees c =
+    let same = ap length c.as_slice-variable-items.ensures in
+    All-from_get_or (VariableAgrees (job_beside c.args.sides.now) c.args.sides.now.recording.now c.args.moment) c.args.bound.now.bound no_variable (λ i less. c.variables.invariant i (omega (arith, same, less)))

@@ -1,0 +1,10 @@
+-- The first bit that doesn't agree comes first.
+use Rattle.std.proofs.Common.{ℕ, below_more}
+use Rattle.xr_replay.specs.Fault.{BitAgrees}
+use Rattle.xr_replay.specs.Sides.{job_beside}
+use Rattle.xr_replay.proofs.recorded.check_variable.Goals as goal
+
+pub bits-preserved : goal.bits-preserved
+bits-preserved c =
+    let P : ℕ → Type 0 = BitAgrees (job_beside c.args.sides.now) c.args.sides.now.recording.now c.args.moment c.args.variable.now in
+    below_more P c.bits.bit c.bits.invariant c.in_ok-check_bit.ensures.agrees

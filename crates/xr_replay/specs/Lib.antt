@@ -1,0 +1,6 @@
+-- Definitions of xr_replay: faults of a recording, and what the replay keeps as it goes.
+pub mod Fault
+pub mod Filled
+pub mod Forced
+pub mod Read
+pub mod Sides

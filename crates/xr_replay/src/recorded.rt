@@ -1,0 +1,69 @@
+//! Whether a recording agrees with the replay in a moment.
+
+ghost use Rattle.std.specs.Prelude.{◌≡◌, ◌<◌, All, IfErr, IfOk, length};
+ghost use Rattle.xr_match.specs.Binding.{FitsBinding, FitsBound};
+ghost use Rattle.xr_replay.specs.Fault.{Agrees, BitAgrees, IsBitFault, IsBoundIn, IsDisagreementIn, IsVariableFault, VariableAgrees};
+ghost use Rattle.xr_replay.specs.Sides.{AreSides, job_beside};
+
+use crate::differ::Differ;
+use crate::pins::net_value;
+use crate::sides::{Sides, last_step_of};
+use xr_match::{Binding, Bound};
+
+/// Whether each bound variable agrees in a moment, else the first bit of the first variable that doesn't. Takes no memory.
+pub fn check_recorded(sides: &Sides<'_>, bound: &Binding, moment: u32) -> Result<(), Differ>
+    requires sides { AreSides sides.now }
+    requires bound { FitsBinding sides.now.circuit.design.now bound.now }
+    requires recorded { All (IsBoundIn sides.now.recording.now) bound.now.bound }
+    requires moment { moment < (job_beside sides.now).moments }
+    ensures agrees { IfOk result (λ _. Agrees (job_beside sides.now) sides.now.recording.now bound.now moment) }
+    ensures fault { IfErr result (IsDisagreementIn (job_beside sides.now) sides.now.recording.now bound.now moment) }
+{
+    'variables: for variable in bound.bound.as_slice() {
+        check_variable(sides, variable, moment)?;
+    }
+    Ok(())
+}
+
+fn check_variable(sides: &Sides<'_>, variable: &Bound, moment: u32) -> Result<(), Differ>
+    requires sides { AreSides sides.now }
+    requires bound { FitsBound sides.now.circuit.design.now variable.now }
+    requires recorded { IsBoundIn sides.now.recording.now variable.now }
+    requires moment { moment < (job_beside sides.now).moments }
+    ensures agrees { IfOk result (λ _. VariableAgrees (job_beside sides.now) sides.now.recording.now moment variable.now) }
+    ensures fault { IfErr result (IsVariableFault (job_beside sides.now) sides.now.recording.now moment variable.now) }
+{
+    'bits: for bit in 0..sides.recording.width(variable.variable) {
+        check_bit(sides, variable, bit, moment)?;
+    }
+    Ok(())
+}
+
+fn check_bit(sides: &Sides<'_>, variable: &Bound, bit: u32, moment: u32) -> Result<(), Differ>
+    requires sides { AreSides sides.now }
+    requires bound { FitsBound sides.now.circuit.design.now variable.now }
+    requires recorded { IsBoundIn sides.now.recording.now variable.now }
+    requires bit { bit < length variable.now.bits }
+    requires moment { moment < (job_beside sides.now).moments }
+    ensures agrees { IfOk result (λ _. BitAgrees (job_beside sides.now) sides.now.recording.now moment variable.now bit) }
+    ensures fault { IfErr result (IsBitFault (job_beside sides.now) sides.now.recording.now moment variable.now bit) }
+{
+    let net = variable.bits.as_slice()[bit as usize];
+    let recorded = sides.recording.value(variable.variable, bit, moment);
+    let replayed = net_value(
+        &sides.circuit,
+        sides.history,
+        last_step_of(sides, moment),
+        net,
+    );
+    if recorded == replayed {
+        return Ok(());
+    }
+    Err(Differ::Disagrees {
+        variable: variable.variable,
+        bit,
+        moment,
+        recorded,
+        replayed,
+    })
+}

@@ -1,0 +1,76 @@
+//! Whether a moment has come to rest.
+
+ghost use Rattle.std.specs.Prelude.{◌≡◌, ◌<◌, IfErr, IfOk, slice_index};
+ghost use Rattle.xr_design.specs.Settled.{IsSettled, IsSettledAt, last_step};
+ghost use Rattle.xr_replay.specs.Fault.{IsUnsettledAt, IsUnsettledIn};
+ghost use Rattle.xr_replay.specs.Sides.{AreSides, job_beside};
+
+use crate::differ::Differ;
+use crate::pins::net_kept;
+use crate::register::updated_value;
+use crate::sides::{Sides, last_step_of};
+use xr_design::{Driver, Latching, driver_at};
+
+/// Whether each register is settled at the last step of a moment, else the first in the order of the nets that isn't.
+/// Takes no memory.
+pub fn check_settled(sides: &Sides<'_>, moment: u32) -> Result<(), Differ>
+    requires sides { AreSides sides.now }
+    requires moment { moment < (job_beside sides.now).moments }
+    ensures settled { IfOk result (λ _. IsSettled (job_beside sides.now) moment) }
+    ensures fault { IfErr result (IsUnsettledIn (job_beside sides.now) moment) }
+{
+    'positions: for position in 0..sides.circuit.design.nets.as_slice().len() {
+        let net = net_at(sides, position as u32);
+        check_net(sides, moment, net)?;
+    }
+    Ok(())
+}
+
+/// The net at a position of the order.
+fn net_at(sides: &Sides<'_>, position: u32) -> u32
+    requires sides { AreSides sides.now }
+    requires position { position < (job_beside sides.now).width }
+    ensures { result ≡ slice_index (job_beside sides.now).order position }
+{
+    sides.circuit.order.net(position)
+}
+
+fn check_net(sides: &Sides<'_>, moment: u32, net: u32) -> Result<(), Differ>
+    requires sides { AreSides sides.now }
+    requires moment { moment < (job_beside sides.now).moments }
+    requires net { net < (job_beside sides.now).width }
+    ensures settled { IfOk result (λ _. IsSettledAt (job_beside sides.now) (last_step (job_beside sides.now) moment) net ((job_beside sides.now).driver net)) }
+    ensures fault { IfErr result (IsUnsettledAt (job_beside sides.now) moment net ((job_beside sides.now).driver net)) }
+{
+    match driver_at(&sides.circuit, net as usize) {
+        Driver::Register(latching) => check_register(sides, moment, net, latching),
+        _ => Ok(()),
+    }
+}
+
+fn check_register(
+    sides: &Sides<'_>,
+    moment: u32,
+    net: u32,
+    latching: &Latching,
+) -> Result<(), Differ>
+    requires sides { AreSides sides.now }
+    requires moment { moment < (job_beside sides.now).moments }
+    requires net { net < (job_beside sides.now).width }
+    requires register { (job_beside sides.now).driver net ≡ Driver.Register latching.now }
+    ensures settled { IfOk result (λ _. IsSettledAt (job_beside sides.now) (last_step (job_beside sides.now) moment) net (Driver.Register latching.now)) }
+    ensures fault { IfErr result (IsUnsettledAt (job_beside sides.now) moment net (Driver.Register latching.now)) }
+{
+    let step = last_step_of(sides, moment);
+    let kept = net_kept(&sides.circuit, sides.history, step, net);
+    let next = updated_value(&sides.circuit, sides.history, step + 1, latching, kept);
+    if next == kept {
+        return Ok(());
+    }
+    Err(Differ::Unsettled {
+        net,
+        moment,
+        kept,
+        next,
+    })
+}
