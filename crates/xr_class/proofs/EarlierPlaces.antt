@@ -1,5 +1,5 @@
 -- The argument places stand before the place.
-use Rattle.std.proofs.Common.{◌≡◌, ℕ, ◌<◌, ◌≤◌, ◌^◌, List, arith, filter}
+use Rattle.std.proofs.Common.{◌≡◌, ℕ, ◌<◌, ◌^◌, List, arith, filter}
 use Rattle.std.specs.List.{AllByRecursion}
 use Rattle.xr_cell.specs.declared.value.Value.{Value}
 use Rattle.xr_cell.specs.Value.{is_unknown}
@@ -10,7 +10,7 @@ use Rattle.xr_design.proofs.Rules.{arguments_below}
 use Rattle.xr_model.specs.Places.{among, places_where}
 use Rattle.xr_model.proofs.AssignmentNumbers.{along}
 use Rattle.xr_model.proofs.PlacesWhere.{picked_same}
-use Rattle.xr_class.specs.Uncertain.{is_uncertain, uncertain_places}
+use Rattle.xr_class.specs.Arguments.{is_uncertain, uncertain_places}
 use Rattle.xr_class.proofs.RisingPlaces.{all_below, all_filter, among_filter}
 
 -- So what holds of all places before it holds of them, and they are few.

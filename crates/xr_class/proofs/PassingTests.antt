@@ -1,24 +1,23 @@
 -- A test passes for every assignment where it passes for each number.
-use Rattle.std.proofs.Common.{◌≡◌, ℕ, ◌^◌, ◌<◌, ◌&&◌, Bool, true, false, List, length, not, refl, sym, ap, ◌∙◌, arith, Contains}
-use Rattle.std.specs.List.{AllByRecursion}
+use Rattle.std.proofs.Common.{◌≡◌, ℕ, ◌^◌, ◌<◌, Bool, true, false, List, length, not, refl, sym, ap, ◌∙◌}
 use Rattle.std.proofs.lemmas.Bool.{and_from}
 use Rattle.xr_cell.specs.declared.value.Value.{Value}
 use Rattle.xr_cell.specs.declared.value.Value.TheVariants.{Zero, One, X, Z}
 use Rattle.xr_cell.specs.Value.{is_unknown}
 use Rattle.xr_design.specs.Fits.{Fits}
 use Rattle.xr_design.specs.Job.{Job, places_of}
-use Rattle.xr_design.specs.Rule.{rule, arguments}
+use Rattle.xr_design.specs.Rule.{arguments}
 use Rattle.xr_design.specs.World.{decided}
 use Rattle.xr_design.proofs.Rules.{AgreeOn, rule_reads, arguments_below}
 use Rattle.xr_model.specs.Assignment.{assigned}
-use Rattle.xr_model.specs.Class.{is_bit, flipped}
+use Rattle.xr_model.specs.Class.{is_bit}
 use Rattle.xr_model.specs.Mask.{masked, mask_of}
 use Rattle.xr_model.specs.Places.{among}
 use Rattle.xr_model.proofs.AssignmentNumbers.{mask_small, masked_agrees}
 use Rattle.xr_model.proofs.Assignments.{every_passes, passes_every}
 use Rattle.xr_model.proofs.Classes.{all_at}
 use Rattle.xr_model.proofs.PlacesWhere.{picked_in, all_among, among_all}
-use Rattle.xr_class.specs.Uncertain.{is_uncertain, uncertain_places}
+use Rattle.xr_class.specs.Arguments.{is_uncertain, uncertain_places}
 use Rattle.xr_class.specs.Test.{test_of, passes, ReadsOnly}
 use Rattle.xr_class.specs.declared.test.Test.{Test}
 use Rattle.xr_class.specs.declared.test.Test.TheVariants.{Bit, Unknown, Known, Copies}

@@ -1,10 +1,10 @@
 -- Nets whose places stand before a place.
-use Rattle.std.proofs.Common.{◌≡◌, ℕ, ◌-◌, ◌<◌, ◌≤◌, ◌==◌, false, List, [], ◌∷◌, arith}
+use Rattle.std.proofs.Common.{◌≡◌, ℕ, ◌-◌, ◌<◌, ◌==◌, false, List, [], ◌∷◌, arith}
 use Rattle.std.specs.List.{AllByRecursion}
 use Rattle.xr_design.specs.Circuit.{IsSpot, Reach}
 use Rattle.xr_design.specs.declared.circuit.Spot.{Spot}
 use Rattle.xr_design.specs.Fits.{Fits, StandsBefore}
-use Rattle.xr_design.specs.Job.{Job, at}
+use Rattle.xr_design.specs.Job.{Job}
 use Rattle.xr_design.specs.Order.{position_of}
 use Rattle.xr_design.proofs.Rules.{position_in, back_one}
 

@@ -4,7 +4,6 @@ use Rattle.std.proofs.lemmas.Bool.{ne_eqb}
 use Rattle.xr_cell.specs.declared.value.Value.{Value}
 use Rattle.xr_design.specs.Fits.{Fits}
 use Rattle.xr_design.specs.Job.{Job, at, step_of, places_of}
-use Rattle.xr_design.specs.Order.{position_of}
 use Rattle.xr_design.proofs.OrderLemmas.{position_is}
 use Rattle.xr_design.proofs.Rules.{spot}
 use Rattle.xr_model.specs.Class.{are_equal, before, carries_on, keeps}

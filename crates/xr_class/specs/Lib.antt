@@ -1,3 +1,4 @@
 -- Definitions of what code finds of classes.
-pub mod Uncertain
+pub mod Arguments
+pub mod Keeps
 pub mod Test

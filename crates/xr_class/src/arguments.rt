@@ -8,7 +8,7 @@ ghost use Rattle.xr_design.specs.Circuit.{job_in, CircuitFits};
 ghost use Rattle.xr_design.specs.Job.{places_of};
 ghost use Rattle.xr_model.specs.Assignment.{argument_places};
 ghost use Rattle.xr_model.specs.Places.{among, places_where};
-ghost use Rattle.xr_class.specs.Uncertain.{uncertain_places, IsLeastFrom};
+ghost use Rattle.xr_class.specs.Arguments.{uncertain_places, IsLeastFrom, IsLeastWith};
 
 use crate::ruled::ruled_arguments;
 use std::marker::Model;
@@ -60,7 +60,7 @@ impl ArgumentsByNumber {
     }
 }
 
-/// The argument places of a place, in place order and without doubles: those before it whose bits its rule reads. Takes no
+/// The argument places of a place, in place order and without doubles: those before it whose bits its rule reads. No
 /// memory.
 pub fn argument_places<C: Source>(
     circuit: &Circuit<'_>,
@@ -134,7 +134,7 @@ fn least_from(places: &[usize], bound: usize) -> Option<usize>
 
 /// What is found of the places so far, and then of one more.
 fn lesser(found: Option<usize>, place: usize, bound: usize) -> Option<usize>
-    ensures { (places : List ℕ) → IsLeastFrom places bound found → IsLeastFrom (places ++ place ∷ []) bound result }
+    ensures { IsLeastWith place bound found result }
 {
     if place < bound {
         return found;

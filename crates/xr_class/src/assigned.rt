@@ -3,9 +3,9 @@
 ghost use Rattle.std.specs.Prelude.{◌≡◌, ℕ, ◌<◌};
 ghost use Rattle.xr_design.specs.Circuit.{job_in, CircuitFits};
 ghost use Rattle.xr_design.specs.Job.{places_of};
-ghost use Rattle.xr_design.specs.Rule.{rule};
-ghost use Rattle.xr_model.specs.Assignment.{argument_places, assigned};
+ghost use Rattle.xr_model.specs.Assignment.{assigned};
 ghost use Rattle.xr_model.specs.Mask.{masked};
+ghost use Rattle.xr_class.specs.Test.{numbered_value};
 
 use crate::arguments::argument_places;
 use xr_cell::Value;
@@ -62,7 +62,7 @@ pub fn rule_value<C: Source>(circuit: &Circuit<'_>, certain: &C, place: usize, n
     requires fits { CircuitFits circuit.now }
     requires within { place < places_of (job_in circuit.now) }
     requires certain { (k : ℕ) → k < place → C.has certain.now k }
-    ensures { result ≡ rule (job_in circuit.now) (C.reads certain.now) (masked (argument_places (job_in circuit.now) (C.reads certain.now) place) number) place }
+    ensures { result ≡ numbered_value (job_in circuit.now) (C.reads certain.now) place number }
 {
     let arguments = argument_places(circuit, certain, place);
     let bits = Numbered {

@@ -6,8 +6,9 @@ ghost use Rattle.xr_cell.specs.declared.value.Value.{Value as AnyValue};
 ghost use Rattle.xr_design.specs.Circuit.{job_in, CircuitFits};
 ghost use Rattle.xr_design.specs.Job.{places_of};
 ghost use Rattle.xr_design.specs.Rule.{arguments};
-ghost use Rattle.xr_model.specs.Class.{class_by, class_of, carried_or_line, is_carried_from};
-ghost use Rattle.xr_class.specs.Uncertain.{uncertain_places, AreCarriers};
+ghost use Rattle.xr_model.specs.Class.{class_of, is_carried_from};
+ghost use Rattle.xr_class.specs.Arguments.{uncertain_places};
+ghost use Rattle.xr_class.specs.Keeps.{AreCarriers, class_here, copy_or_line};
 
 use crate::arguments::uncertain_places;
 use crate::earlier::Earlier;
@@ -42,7 +43,7 @@ fn first_class<E: Earlier>(
     requires carriers { AreCarriers (job_in circuit.now) (E.reads earlier.now) (E.carries earlier.now) place }
     requires few { length uncertain.now ≤ 13 }
     requires uncertain { uncertain.now ≡ uncertain_places (job_in circuit.now) (E.reads earlier.now) place }
-    ensures { result ≡ class_by (job_in circuit.now) (E.reads earlier.now) (class_of (job_in circuit.now) (E.reads earlier.now)) place }
+    ensures { result ≡ class_here (job_in circuit.now) (E.reads earlier.now) place }
 {
     if passes_every(circuit, earlier, place, uncertain, Test::Bit(false)) {
         ClassByNumber::Local(false)
@@ -69,7 +70,7 @@ fn carried_or_line<C: Source>(
     requires certain { (k : ℕ) → k < place → C.has certain.now k }
     requires few { length uncertain.now ≤ 13 }
     requires uncertain { uncertain.now ≡ uncertain_places (job_in circuit.now) (C.reads certain.now) place }
-    ensures { result ≡ carried_or_line (job_in circuit.now) (C.reads certain.now) place (arguments (job_in circuit.now) (C.reads certain.now) place) }
+    ensures { result ≡ copy_or_line (job_in circuit.now) (C.reads certain.now) place }
 {
     let ruled = ruled_arguments(circuit, certain, place);
     'rest: for from in ruled.as_slice() {

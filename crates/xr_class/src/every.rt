@@ -7,16 +7,16 @@ ghost use Rattle.xr_design.specs.Job.{places_of};
 ghost use Rattle.xr_model.specs.Assignment.{assigned};
 ghost use Rattle.xr_model.specs.Class.{is_bit, flipped};
 ghost use Rattle.xr_model.specs.Mask.{masked};
-ghost use Rattle.xr_class.specs.Uncertain.{uncertain_places};
-ghost use Rattle.xr_class.specs.Test.{test_of, passes, ReadsOnly};
+ghost use Rattle.xr_class.specs.Arguments.{uncertain_places};
+ghost use Rattle.xr_class.specs.Test.{passes, passes_number, ReadsOnly};
 
 use crate::assigned::{Assigned, Numbered};
 use crate::test::Test;
 use xr_cell::Value;
 use xr_design::{BitSource, Circuit, Source, rule_value};
 
-/// Whether a test passes for every assignment of a place, given its argument places that aren't certain. Tries them all, and
-/// stops at the first that fails. Takes no memory.
+/// Whether a test passes for every assignment of a place, given its uncertain argument places. Tries them all, and stops
+/// at the first that fails. Takes no memory.
 pub fn passes_every<C: Source>(
     circuit: &Circuit<'_>,
     certain: &C,
@@ -54,7 +54,7 @@ fn passes_at<C: Source>(
     requires within { place < places_of (job_in circuit.now) }
     requires certain { (k : ℕ) → k < place → C.has certain.now k }
     requires reads { ReadsOnly (job_in circuit.now) (C.reads certain.now) place test }
-    ensures { result ≡ test_of (job_in circuit.now) (C.reads certain.now) place test (assigned (C.reads certain.now) (masked places.now number)) }
+    ensures { result ≡ passes_number (job_in circuit.now) (C.reads certain.now) place test places.now number }
 {
     let bits = Assigned {
         certain,

@@ -9,7 +9,8 @@ ghost use Rattle.xr_design.specs.Job.{at, places_of};
 ghost use Rattle.xr_design.specs.Order.{arguments_of_driver, net_pins};
 ghost use Rattle.xr_design.specs.Register.{has_uncertain_clock};
 ghost use Rattle.xr_model.specs.Class.{are_equal, before, class_of, is_never_unknown, keeps, passes_on, passes_on_of};
-ghost use Rattle.xr_class.specs.Uncertain.{uncertain_places, AreCarriers};
+ghost use Rattle.xr_class.specs.Arguments.{uncertain_places};
+ghost use Rattle.xr_class.specs.Keeps.{AreCarriers, Standing, cell_passes, driver_passes, net_keeps, nets_keep, place_passes, register_passes};
 
 use crate::earlier::Earlier;
 use crate::every::passes_every;
@@ -21,7 +22,7 @@ use xr_design::{
     width_of,
 };
 
-/// Whether the place of a later step passes its net's bit on, given its argument places that aren't certain. Takes no memory.
+/// Whether a place passes its net's bit on, given its argument places that aren't certain. Takes no memory.
 pub fn passes_on<E: Earlier>(
     circuit: &Circuit<'_>,
     earlier: &E,
@@ -34,7 +35,7 @@ pub fn passes_on<E: Earlier>(
     requires carriers { AreCarriers (job_in circuit.now) (E.reads earlier.now) (E.carries earlier.now) place }
     requires few { length uncertain.now ≤ 13 }
     requires uncertain { uncertain.now ≡ uncertain_places (job_in circuit.now) (E.reads earlier.now) place }
-    ensures { result ≡ passes_on (job_in circuit.now) (E.reads earlier.now) (class_of (job_in circuit.now) (E.reads earlier.now)) place }
+    ensures { result ≡ place_passes (job_in circuit.now) (E.reads earlier.now) place }
 {
     let spot = spot_of(circuit, place);
     driver_passes(
@@ -58,12 +59,12 @@ fn driver_passes<E: Earlier>(
     requires fits { CircuitFits circuit.now }
     requires spot { IsSpot (job_in circuit.now) place spot }
     requires driver { FitsDriver (job_in circuit.now).udps (job_in circuit.now).width driver.now }
-    requires before { AllByRecursion (StandsBefore (job_in circuit.now) spot.position) (arguments_of_driver driver.now) }
+    requires before { Standing (job_in circuit.now) spot (arguments_of_driver driver.now) }
     requires certain { (k : ℕ) → k < place → E.has earlier.now k }
     requires carriers { AreCarriers (job_in circuit.now) (E.reads earlier.now) (E.carries earlier.now) place }
     requires few { length uncertain.now ≤ 13 }
     requires uncertain { uncertain.now ≡ uncertain_places (job_in circuit.now) (E.reads earlier.now) place }
-    ensures { result ≡ passes_on_of (job_in circuit.now) (E.reads earlier.now) (class_of (job_in circuit.now) (E.reads earlier.now)) place spot.step spot.net driver.now }
+    ensures { result ≡ driver_passes (job_in circuit.now) (E.reads earlier.now) place spot.step spot.net driver.now }
 {
     match driver {
         Driver::Input => {
@@ -102,12 +103,12 @@ fn cell_passes<E: Earlier>(
 ) -> bool
     requires fits { CircuitFits circuit.now }
     requires spot { IsSpot (job_in circuit.now) place spot }
-    requires before { AllByRecursion (StandsBefore (job_in circuit.now) spot.position) (net_pins pins.now) }
+    requires before { Standing (job_in circuit.now) spot (net_pins pins.now) }
     requires certain { (k : ℕ) → k < place → E.has earlier.now k }
     requires carriers { AreCarriers (job_in circuit.now) (E.reads earlier.now) (E.carries earlier.now) place }
     requires few { length uncertain.now ≤ 13 }
     requires uncertain { uncertain.now ≡ uncertain_places (job_in circuit.now) (E.reads earlier.now) place }
-    ensures { result ≡ (not (spot.step == 0) && list_all (keeps (job_in circuit.now) (E.reads earlier.now) (class_of (job_in circuit.now) (E.reads earlier.now)) spot.step) (net_pins pins.now) && is_never_unknown (job_in circuit.now) (E.reads earlier.now) place) }
+    ensures { result ≡ cell_passes (job_in circuit.now) (E.reads earlier.now) place spot.step pins.now }
 {
     if spot.step == 0 {
         return false;
@@ -130,7 +131,7 @@ fn register_passes<E: Earlier>(
     requires register { FitsRegister (job_in circuit.now).udps (job_in circuit.now).width latching.now }
     requires certain { (k : ℕ) → k < place → E.has earlier.now k }
     requires carriers { AreCarriers (job_in circuit.now) (E.reads earlier.now) (E.carries earlier.now) place }
-    ensures { result ≡ (nat_lt 1 spot.step && not (has_uncertain_clock (job_in circuit.now) (E.reads earlier.now) spot.step latching.now) && list_all (keeps (job_in circuit.now) (E.reads earlier.now) (class_of (job_in circuit.now) (E.reads earlier.now)) (spot.step - 1)) (net_pins latching.now.pins)) }
+    ensures { result ≡ register_passes (job_in circuit.now) (E.reads earlier.now) spot.step latching.now }
 {
     if spot.step <= 1 {
         return false;
@@ -160,7 +161,7 @@ fn pins_keep<E: Earlier>(
     requires carriers { AreCarriers (job_in circuit.now) (E.reads earlier.now) (E.carries earlier.now) place }
     requires nets { AllByRecursion (Reach (job_in circuit.now) (λ k. k < place) step) (net_pins pins.now) }
     requires small { step * (job_in circuit.now).width + (job_in circuit.now).width ≤ 2 ^ 27 }
-    ensures { result ≡ list_all (keeps (job_in circuit.now) (E.reads earlier.now) (class_of (job_in circuit.now) (E.reads earlier.now)) step) (net_pins pins.now) }
+    ensures { result ≡ nets_keep (job_in circuit.now) (E.reads earlier.now) step (net_pins pins.now) }
 {
     match pins {
         [] => true,
@@ -183,7 +184,7 @@ pub fn net_keeps<E: Earlier>(
     requires carriers { AreCarriers (job_in circuit.now) (E.reads earlier.now) (E.carries earlier.now) place }
     requires net { Reach (job_in circuit.now) (λ k. k < place) step net }
     requires small { step * (job_in circuit.now).width + (job_in circuit.now).width ≤ 2 ^ 27 }
-    ensures { result ≡ keeps (job_in circuit.now) (E.reads earlier.now) (class_of (job_in circuit.now) (E.reads earlier.now)) step net }
+    ensures { result ≡ net_keeps (job_in circuit.now) (E.reads earlier.now) step net }
 {
     if step == 0 {
         return false;

@@ -9,6 +9,7 @@ ghost use Rattle.xr_design.specs.Job.{at, places_of};
 ghost use Rattle.xr_design.specs.Order.{net_pins, arguments_of_driver};
 ghost use Rattle.xr_design.specs.Register.{looks_before};
 ghost use Rattle.xr_design.specs.Rule.{arguments, arguments_of, born_arguments, places_at, old_places, register_arguments};
+ghost use Rattle.xr_class.specs.Arguments.{looked_places};
 
 use crate::arguments::ArgumentsByNumber;
 use xr_design::{
@@ -157,7 +158,7 @@ fn looked_at(
     requires spot { IsSpot (job_in circuit.now) place spot }
     requires later { 0 < spot.step }
     requires register { FitsRegister (job_in circuit.now).udps (job_in circuit.now).width latching.now }
-    ensures { result ≡ old_places (job_in circuit.now) spot.step latching.now.pins ++ (places_at (job_in circuit.now) (spot.step - 1) latching.now.pins ++ at (job_in circuit.now) (spot.step - 1) spot.net ∷ []) }
+    ensures { result ≡ looked_places (job_in circuit.now) spot.step spot.net latching.now }
 {
     let pins = latching.pins.as_slice();
     let mut arguments = old_arguments(circuit, spot.step, pins);

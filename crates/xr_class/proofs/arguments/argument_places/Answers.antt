@@ -1,5 +1,5 @@
 -- The argument places stand before the place.
-use Rattle.std.proofs.Common.{◌≡◌, ◌∙◌, ap, sym}
+use Rattle.std.proofs.Common.{◌∙◌, ap}
 use Rattle.xr_design.specs.Circuit.{job_in}
 use Rattle.xr_design.proofs.Rules.{arguments_below}
 use Rattle.xr_model.specs.Places.{among, places_where}

@@ -1,8 +1,8 @@
 -- What is found comes next, and there is room for it.
-use Rattle.std.proofs.Common.{◌≡◌, ◌+◌, ◌<◌, ◌≤◌, ◌^◌, ◌++◌, ◌∷◌, [], ap, sym, ◌∙◌, arith, length, length-append}
+use Rattle.std.proofs.Common.{◌+◌, ◌<◌, ◌^◌, ◌++◌, ◌∷◌, [], ap, sym, ◌∙◌, arith, length, length-append}
 use Rattle.xr_model.specs.Places.{among, places_where}
 use Rattle.xr_model.proofs.PlacesWhere.{all_among}
-use Rattle.xr_class.specs.Uncertain.{IsLeast}
+use Rattle.xr_class.specs.Arguments.{IsLeast}
 use Rattle.xr_class.proofs.RisingPlaces.{found, both_end, few_picked, none_after}
 use Rattle.xr_class.proofs.arguments.ascending.Goals as goal
 

@@ -1,7 +1,7 @@
 -- One more place is looked at.
-use Rattle.std.proofs.Common.{◌≡◌, ◌+◌, ◌<◌, arith, take, ◌++◌, ◌∷◌, [], slice_index_or, sym, subst}
+use Rattle.std.proofs.Common.{take, sym, subst}
 use Rattle.std.proofs.lemmas.List.{take_more}
-use Rattle.xr_class.specs.Uncertain.{IsLeastFrom}
+use Rattle.xr_class.specs.Arguments.{IsLeastFrom}
 use Rattle.xr_class.proofs.arguments.least_from.Goals as goal
 
 pub places-preserved : goal.places-preserved

@@ -1,5 +1,5 @@
 -- No more are kept than there are.
-use Rattle.std.proofs.Common.{◌≡◌, ℕ, ◌<◌, ◌≤◌, arith, length, take, filter}
+use Rattle.std.proofs.Common.{ℕ, arith, take}
 use Rattle.std.proofs.lemmas.List.{length-take-le}
 use Rattle.std.proofs.lemmas.List.Sums.{length-filter, count_by-le-length}
 use Rattle.xr_cell.specs.Value.{is_unknown}

@@ -1,5 +1,5 @@
 -- The argument places stand before the place.
-use Rattle.std.proofs.Common.{◌≡◌, ◌∙◌, ap, sym, filter}
+use Rattle.std.proofs.Common.{◌≡◌, ◌∙◌, ap, filter}
 use Rattle.xr_cell.specs.Value.{is_unknown}
 use Rattle.xr_design.specs.Circuit.{job_in}
 use Rattle.xr_model.specs.Places.{among, places_where}

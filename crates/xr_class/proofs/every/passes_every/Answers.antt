@@ -1,5 +1,5 @@
 -- The numbers below the end stand for all assignments.
-use Rattle.std.proofs.Common.{◌≡◌, ◌<◌, ◌^◌, ℕ, true, false, sym, ◌∙◌, arith, length}
+use Rattle.std.proofs.Common.{◌≡◌, ◌<◌, ◌^◌, ℕ, true, false, sym, arith, length}
 use Rattle.std.proofs.lemmas.Nat.{one_shl}
 use Rattle.xr_design.specs.Circuit.{job_in}
 use Rattle.xr_model.specs.Assignment.{assigned}

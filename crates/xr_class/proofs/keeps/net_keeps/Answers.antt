@@ -1,9 +1,9 @@
 -- What is known of earlier places tells whether the class of a place carries on.
-use Rattle.std.proofs.Common.{◌≡◌, ◌∙◌, ◌-◌, ◌+◌, ◌*◌, sym, ap, false, refl}
-use Rattle.xr_design.specs.Job.{Job, at}
+use Rattle.std.proofs.Common.{◌≡◌, ◌∙◌, ◌-◌, sym, ap, false, refl}
+use Rattle.xr_design.specs.Job.{at}
 use Rattle.xr_design.specs.Circuit.{job_in}
 use Rattle.xr_design.specs.Order.{position_of}
-use Rattle.xr_model.specs.Class.{are_equal, carries_on, before, class_of}
+use Rattle.xr_model.specs.Class.{are_equal, carries_on, class_of}
 use Rattle.xr_class.proofs.StepBefore.{keeps_is, before_at, one_back}
 use Rattle.xr_class.proofs.keeps.net_keeps.Goals as goal
 

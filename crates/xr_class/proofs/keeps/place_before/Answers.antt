@@ -1,5 +1,4 @@
 -- At a later step it is one width before.
-use Rattle.std.proofs.Common.{◌≡◌, ◌<◌, ◌≤◌, sym, ◌∙◌, arith}
 use Rattle.xr_design.specs.Circuit.{job_in}
 use Rattle.xr_class.proofs.StepBefore.{before_first, before_later}
 use Rattle.xr_class.proofs.keeps.place_before.Goals as goal

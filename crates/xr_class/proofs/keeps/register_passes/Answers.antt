@@ -1,5 +1,5 @@
 -- The nets of the pins stand before the place, one step before.
-use Rattle.std.proofs.Common.{◌<◌, length, arith}
+use Rattle.std.proofs.Common.{◌<◌, arith}
 use Rattle.std.proofs.lemmas.Grind.{common_steps}
 use Rattle.xr_design.specs.Circuit.{job_in}
 use Rattle.xr_design.specs.Order.{net_pins}
