@@ -1,0 +1,71 @@
+-- Few pins have few nets.
+use Rattle.std.proofs.Common.{◌≡◌, ℕ, ◌+◌, ◌-◌, ◌*◌, ◌≤◌, ◌^◌, Bool, cond, not, List, [], ◌∷◌, length, count_by, refl, arith}
+use Rattle.std.proofs.lemmas.List.{length-map}
+use Rattle.std.proofs.lemmas.List.Recursion.{is_count_by}
+use Rattle.std.proofs.Math.Nat.{mul-le-mul_right}
+use Rattle.xr_design.specs.declared.design.Pin.{Pin}
+use Rattle.xr_design.specs.declared.design.Pin.TheVariants.{Net, Bit, Dead}
+use Rattle.xr_design.specs.declared.design.Table.{Table}
+use Rattle.xr_design.specs.declared.design.Table.TheVariants.{Gate, Udp}
+use Rattle.xr_cell.specs.declared.gate.Gate.{Gate as AGate}
+use Rattle.xr_cell.specs.declared.gate.Gate.TheVariants.{And, Nand, Or, Nor, Xor, Xnor, Buf, Not}
+use Rattle.xr_cell.specs.Gate.{FitsGate}
+use Rattle.xr_cell.specs.Table.{Table as Primitive}
+use Rattle.xr_design.specs.Fits.{is_dead, FitsTable}
+use Rattle.xr_design.specs.Job.{Job, at}
+use Rattle.xr_design.specs.Order.{net_pins}
+use Rattle.xr_design.specs.Rule.{places_at}
+
+abbrev live : Pin → Bool
+live pin = not (is_dead pin)
+
+abbrev count_live : List Pin → ℕ
+count_live [] = 0
+count_live (pin ∷ pins) = cond (live pin) (1 + count_live pins) (count_live pins)
+
+nets_counted : (pins : List Pin) → length (net_pins pins) ≤ count_live pins
+nets_counted [] = omega arith
+nets_counted (Net net ∷ pins) = let ih = nets_counted pins in omega (arith, ih)
+nets_counted (Bit bit ∷ pins) = let ih = nets_counted pins in omega (arith, ih)
+nets_counted (Dead ∷ pins) = let ih = nets_counted pins in omega (arith, ih)
+
+-- A net pin is live.
+pub nets_live : (pins : List Pin) → length (net_pins pins) ≤ count_by (λ pin. not (is_dead pin)) pins
+nets_live pins =
+    let counted = nets_counted pins in
+    let same : count_live pins ≡ count_by live pins = is_count_by count_live live refl (λ x xs. refl) pins in
+    omega (arith, counted, same)
+
+nets_pins : (pins : List Pin) → length (net_pins pins) ≤ length pins
+nets_pins [] = omega arith
+nets_pins (Net net ∷ pins) = let ih = nets_pins pins in omega (arith, ih)
+nets_pins (Bit bit ∷ pins) = let ih = nets_pins pins in omega (arith, ih)
+nets_pins (Dead ∷ pins) = let ih = nets_pins pins in omega (arith, ih)
+
+gate_few : (gate : AGate) (n : ℕ) → FitsGate gate n → n ≤ 10
+gate_few And n fits = fits.1
+gate_few Nand n fits = fits.1
+gate_few Or n fits = fits.1
+gate_few Nor n fits = fits.1
+gate_few Xor n fits = fits.1
+gate_few Xnor n fits = fits.1
+gate_few Buf n fits = omega arith
+gate_few Not n fits = omega arith
+
+table_few : (udps : List Primitive) (table : Table) (n : ℕ) → FitsTable udps table n → n ≤ 10
+table_few udps (Gate gate) n fits = gate_few gate n fits
+table_few udps (Udp number) n fits = fits.few
+
+-- A cell has at most 10 pins.
+pub cell_few : (udps : List Primitive) (table : Table) (pins : List Pin) → FitsTable udps table (length pins)
+    → length (net_pins pins) ≤ 13
+cell_few udps table pins fits =
+    let few = table_few udps table (length pins) fits in
+    let nets = nets_pins pins in
+    omega (arith, few, nets)
+
+pub places_long : (j : Job) (step : ℕ) (pins : List Pin) → length (places_at j step pins) ≡ length (net_pins pins)
+places_long j step pins = length-map (net_pins pins) (at j step)
+
+pub room_back : (w step back : ℕ) → step * w + w ≤ 2 ^ 27 → (step - back) * w + w ≤ 2 ^ 27
+room_back w step back small = let low : (step - back) * w ≤ step * w = mul-le-mul_right w (omega arith) in omega (arith, low, small)

@@ -1,0 +1,7 @@
+-- Lemmas on the classes of places.
+mod EarlierPlaces
+mod FewNets
+mod PassingTests
+mod RisingPlaces
+mod StepBefore
+mod Reached

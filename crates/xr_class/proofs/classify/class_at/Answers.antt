@@ -1,0 +1,8 @@
+-- The class of a place is that which the classes of all places give.
+use Rattle.std.proofs.Common.{◌∙◌, sym}
+use Rattle.xr_design.specs.Circuit.{job_in}
+use Rattle.xr_model.proofs.ClassFromClasses.{class_is}
+use Rattle.xr_class.proofs.classify.class_at.Goals as goal
+
+pub returns : goal.returns
+returns g c = c.first_class.ensures ∙ sym (class_is (job_in c.args.circuit.now) c.requires.fits.fits_job (g.E.Source.reads c.args.earlier.now) c.args.place c.requires.within)

@@ -1,0 +1,53 @@
+-- Nets that keep and places that pass their net's bit on, by the classes of the places before.
+use Rattle.std.specs.Prelude.{◌≡◌, ℕ, ◌-◌, ◌<◌, ◌==◌, ◌&&◌, Bool, List, not, nat_lt}
+use Rattle.std.specs.List.{AllByRecursion, list_all}
+use Rattle.xr_cell.specs.declared.value.Value.{Value}
+use Rattle.xr_design.specs.declared.design.Driver.{Driver}
+use Rattle.xr_design.specs.declared.design.Latching.{Latching}
+use Rattle.xr_design.specs.declared.design.Pin.{Pin}
+use Rattle.xr_design.specs.declared.circuit.Spot.{Spot}
+use Rattle.xr_design.specs.Fits.{StandsBefore}
+use Rattle.xr_design.specs.Job.{Job}
+use Rattle.xr_design.specs.Order.{net_pins}
+use Rattle.xr_design.specs.Register.{has_uncertain_clock}
+use Rattle.xr_design.specs.Rule.{arguments}
+use Rattle.xr_model.specs.Class.{before, carried_or_line, carries_on, class_by, class_of, is_never_unknown, keeps, passes_on, passes_on_of}
+use Rattle.xr_model.specs.declared.class.ClassByNumber.{ClassByNumber}
+
+-- Bits say of each place before a place whether its class is Carried from the step before, as it is.
+abbrev pub AreCarriers : Job → (ℕ → Value) → (ℕ → Bool) → ℕ → Type 0
+AreCarriers j certain bits place = (k : ℕ) → k < place → bits k ≡ carries_on (class_of j certain k) (before j k)
+
+-- Nets stand before a spot in the order.
+abbrev pub Standing : Job → Spot → List ℕ → Type 0
+Standing j spot nets = AllByRecursion (StandsBefore j spot.position) nets
+
+-- A net keeps at a step, where the class of each place is its own; nets all do.
+abbrev pub net_keeps : Job → (ℕ → Value) → ℕ → ℕ → Bool
+net_keeps j certain step net = keeps j certain (class_of j certain) step net
+
+abbrev pub nets_keep : Job → (ℕ → Value) → ℕ → List ℕ → Bool
+nets_keep j certain step nets = list_all (net_keeps j certain step) nets
+
+-- A place of a driver passes its net's bit on: so for a cell, and so for a register.
+abbrev pub driver_passes : Job → (ℕ → Value) → ℕ → ℕ → ℕ → Driver → Bool
+driver_passes j certain place step net driver = passes_on_of j certain (class_of j certain) place step net driver
+
+abbrev pub cell_passes : Job → (ℕ → Value) → ℕ → ℕ → List Pin → Bool
+cell_passes j certain place step pins =
+    not (step == 0) && nets_keep j certain step (net_pins pins) && is_never_unknown j certain place
+
+abbrev pub register_passes : Job → (ℕ → Value) → ℕ → Latching → Bool
+register_passes j certain step latching =
+    nat_lt 1 step && not (has_uncertain_clock j certain step latching)
+    && nets_keep j certain (step - 1) (net_pins latching.pins)
+
+abbrev pub place_passes : Job → (ℕ → Value) → ℕ → Bool
+place_passes j certain place = passes_on j certain (class_of j certain) place
+
+-- The class by the classes of the places before, and what it is where no earlier kind applies.
+abbrev pub class_here : Job → (ℕ → Value) → ℕ → ClassByNumber
+class_here j certain place = class_by j certain (class_of j certain) place
+
+abbrev pub copy_or_line : Job → (ℕ → Value) → ℕ → ClassByNumber
+copy_or_line j certain place = carried_or_line j certain place (arguments j certain place)

@@ -1,0 +1,217 @@
+//! Which nets keep at a step, and which places pass their net's bit on.
+
+ghost use Rattle.std.specs.Prelude.{◌≡◌, ℕ, ◌+◌, ◌-◌, ◌*◌, ◌^◌, ◌<◌, ◌≤◌, ◌%◌, ◌==◌, ◌&&◌, length, not, nat_lt};
+ghost use Rattle.std.specs.List.{AllByRecursion, list_all};
+ghost use Rattle.xr_cell.specs.declared.value.Value.{Value as AnyValue};
+ghost use Rattle.xr_design.specs.Circuit.{job_in, CircuitFits, IsSpot, Reach};
+ghost use Rattle.xr_design.specs.Fits.{FitsDriver, FitsRegister, StandsBefore};
+ghost use Rattle.xr_design.specs.Job.{at, places_of};
+ghost use Rattle.xr_design.specs.Order.{arguments_of_driver, net_pins};
+ghost use Rattle.xr_design.specs.Register.{has_uncertain_clock};
+ghost use Rattle.xr_model.specs.Class.{are_equal, before, class_of, is_never_unknown, keeps, passes_on, passes_on_of};
+ghost use Rattle.xr_class.specs.Arguments.{uncertain_places};
+ghost use Rattle.xr_class.specs.Keeps.{AreCarriers, Standing, cell_passes, driver_passes, net_keeps, nets_keep, place_passes, register_passes};
+
+use crate::earlier::Earlier;
+use crate::every::passes_every;
+use crate::ruled::place_of;
+use crate::test::Test;
+use xr_cell::Value;
+use xr_design::{
+    Circuit, Driver, Latching, Pin, Spot, clock_is_uncertain, driver_at, recorded_at, spot_of,
+    width_of,
+};
+
+/// Whether a place passes its net's bit on, given its argument places that aren't certain. Takes no memory.
+pub fn passes_on<E: Earlier>(
+    circuit: &Circuit<'_>,
+    earlier: &E,
+    place: usize,
+    uncertain: &[usize],
+) -> bool
+    requires fits { CircuitFits circuit.now }
+    requires within { place < places_of (job_in circuit.now) }
+    requires certain { (k : ℕ) → k < place → E.has earlier.now k }
+    requires carriers { AreCarriers (job_in circuit.now) (E.reads earlier.now) (E.carries earlier.now) place }
+    requires few { length uncertain.now ≤ 13 }
+    requires uncertain { uncertain.now ≡ uncertain_places (job_in circuit.now) (E.reads earlier.now) place }
+    ensures { result ≡ place_passes (job_in circuit.now) (E.reads earlier.now) place }
+{
+    let spot = spot_of(circuit, place);
+    driver_passes(
+        circuit,
+        earlier,
+        place,
+        uncertain,
+        spot,
+        driver_at(circuit, spot.net),
+    )
+}
+
+fn driver_passes<E: Earlier>(
+    circuit: &Circuit<'_>,
+    earlier: &E,
+    place: usize,
+    uncertain: &[usize],
+    spot: Spot,
+    driver: &Driver,
+) -> bool
+    requires fits { CircuitFits circuit.now }
+    requires spot { IsSpot (job_in circuit.now) place spot }
+    requires driver { FitsDriver (job_in circuit.now).udps (job_in circuit.now).width driver.now }
+    requires before { Standing (job_in circuit.now) spot (arguments_of_driver driver.now) }
+    requires certain { (k : ℕ) → k < place → E.has earlier.now k }
+    requires carriers { AreCarriers (job_in circuit.now) (E.reads earlier.now) (E.carries earlier.now) place }
+    requires few { length uncertain.now ≤ 13 }
+    requires uncertain { uncertain.now ≡ uncertain_places (job_in circuit.now) (E.reads earlier.now) place }
+    ensures { result ≡ driver_passes (job_in circuit.now) (E.reads earlier.now) place spot.step spot.net driver.now }
+{
+    match driver {
+        Driver::Input => {
+            let unknown = !recorded_at(circuit, spot.step, spot.net).is_known();
+            is_later_round(circuit, spot) && unknown
+        }
+        Driver::Undriven => is_later_round(circuit, spot),
+        Driver::Constant(_) => false,
+        Driver::Copy(net) => net_keeps(circuit, earlier, place, spot.step, *net),
+        Driver::Cell(_, pins) => cell_passes(
+            circuit,
+            earlier,
+            place,
+            uncertain,
+            spot,
+            pins.as_slice(),
+        ),
+        Driver::Register(latching) => register_passes(circuit, earlier, place, spot, latching),
+    }
+}
+
+fn is_later_round(circuit: &Circuit<'_>, spot: Spot) -> bool
+    requires { CircuitFits circuit.now }
+    ensures { result ≡ not (spot.step % (job_in circuit.now).rounds == 0) }
+{
+    spot.step % circuit.stim.rounds as usize != 0
+}
+
+fn cell_passes<E: Earlier>(
+    circuit: &Circuit<'_>,
+    earlier: &E,
+    place: usize,
+    uncertain: &[usize],
+    spot: Spot,
+    pins: &[Pin],
+) -> bool
+    requires fits { CircuitFits circuit.now }
+    requires spot { IsSpot (job_in circuit.now) place spot }
+    requires before { Standing (job_in circuit.now) spot (net_pins pins.now) }
+    requires certain { (k : ℕ) → k < place → E.has earlier.now k }
+    requires carriers { AreCarriers (job_in circuit.now) (E.reads earlier.now) (E.carries earlier.now) place }
+    requires few { length uncertain.now ≤ 13 }
+    requires uncertain { uncertain.now ≡ uncertain_places (job_in circuit.now) (E.reads earlier.now) place }
+    ensures { result ≡ cell_passes (job_in circuit.now) (E.reads earlier.now) place spot.step pins.now }
+{
+    if spot.step == 0 {
+        return false;
+    }
+    if !pins_keep(circuit, earlier, place, spot.step, pins) {
+        return false;
+    }
+    passes_every(circuit, earlier, place, uncertain, Test::Known)
+}
+
+fn register_passes<E: Earlier>(
+    circuit: &Circuit<'_>,
+    earlier: &E,
+    place: usize,
+    spot: Spot,
+    latching: &Latching,
+) -> bool
+    requires fits { CircuitFits circuit.now }
+    requires spot { IsSpot (job_in circuit.now) place spot }
+    requires register { FitsRegister (job_in circuit.now).udps (job_in circuit.now).width latching.now }
+    requires certain { (k : ℕ) → k < place → E.has earlier.now k }
+    requires carriers { AreCarriers (job_in circuit.now) (E.reads earlier.now) (E.carries earlier.now) place }
+    ensures { result ≡ register_passes (job_in circuit.now) (E.reads earlier.now) spot.step latching.now }
+{
+    if spot.step <= 1 {
+        return false;
+    }
+    if clock_is_uncertain(circuit, earlier, spot.step, latching) {
+        return false;
+    }
+    pins_keep(
+        circuit,
+        earlier,
+        place,
+        spot.step - 1,
+        latching.pins.as_slice(),
+    )
+}
+
+/// Whether the nets of pins all keep at a step.
+fn pins_keep<E: Earlier>(
+    circuit: &Circuit<'_>,
+    earlier: &E,
+    place: usize,
+    step: usize,
+    pins: &[Pin],
+) -> bool
+    requires fits { CircuitFits circuit.now }
+    requires certain { (k : ℕ) → k < place → E.has earlier.now k }
+    requires carriers { AreCarriers (job_in circuit.now) (E.reads earlier.now) (E.carries earlier.now) place }
+    requires nets { AllByRecursion (Reach (job_in circuit.now) (λ k. k < place) step) (net_pins pins.now) }
+    requires small { step * (job_in circuit.now).width + (job_in circuit.now).width ≤ 2 ^ 27 }
+    ensures { result ≡ nets_keep (job_in circuit.now) (E.reads earlier.now) step (net_pins pins.now) }
+{
+    match pins {
+        [] => true,
+        [Pin::Net(net), rest @ ..] => net_keeps(circuit, earlier, place, step, *net)
+            && pins_keep(circuit, earlier, place, step, rest),
+        [_, rest @ ..] => pins_keep(circuit, earlier, place, step, rest),
+    }
+}
+
+/// Whether a net keeps at a step, where its place stands before another. Takes no memory.
+pub fn net_keeps<E: Earlier>(
+    circuit: &Circuit<'_>,
+    earlier: &E,
+    place: usize,
+    step: usize,
+    net: u32,
+) -> bool
+    requires fits { CircuitFits circuit.now }
+    requires certain { (k : ℕ) → k < place → E.has earlier.now k }
+    requires carriers { AreCarriers (job_in circuit.now) (E.reads earlier.now) (E.carries earlier.now) place }
+    requires net { Reach (job_in circuit.now) (λ k. k < place) step net }
+    requires small { step * (job_in circuit.now).width + (job_in circuit.now).width ≤ 2 ^ 27 }
+    ensures { result ≡ net_keeps (job_in circuit.now) (E.reads earlier.now) step net }
+{
+    if step == 0 {
+        return false;
+    }
+    let here = place_of(circuit, step, net);
+    let value = earlier.value(here);
+    let value_before = earlier.value(here - width_of(circuit));
+    are_equal(value, value_before) || earlier.carries_on(here)
+}
+
+fn are_equal(x: Value, y: Value) -> bool
+    ensures { result ≡ are_equal x y }
+{
+    match x {
+        Value::Zero => matches!(y, Value::Zero),
+        Value::One => matches!(y, Value::One),
+        Value::X => false,
+        Value::Z => false,
+    }
+}
+
+/// The place of the same net a step before. Takes no memory.
+pub fn place_before(circuit: &Circuit<'_>, place: usize) -> usize
+    requires fits { CircuitFits circuit.now }
+    requires within { place < places_of (job_in circuit.now) }
+    ensures { result ≡ before (job_in circuit.now) place }
+{
+    let width = width_of(circuit);
+    if place < width { place } else { place - width }
+}

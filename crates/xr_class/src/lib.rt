@@ -1,0 +1,21 @@
+//! The class of a place, from what is known of the places before it: how a waveform gets what it has there. No memory.
+//!
+//! The plain way: all assignments of the arguments that aren't certain are tried, at most 2^13. Start at `class_at`.
+#![tactic(auto)]
+
+mod arguments;
+mod assigned;
+mod classify;
+mod earlier;
+mod every;
+mod keeps;
+mod ruled;
+mod test;
+
+pub use arguments::{ArgumentsByNumber, argument_places, uncertain_places};
+pub use assigned::{Assigned, Numbered, rule_value};
+pub use classify::class_at;
+pub use earlier::Earlier;
+pub use every::passes_every;
+pub use keeps::{net_keeps, place_before};
+pub use test::Test;
