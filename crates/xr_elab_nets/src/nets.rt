@@ -36,7 +36,7 @@ impl Model for Nets {
 }
 
 impl Nets {
-    ghost use Rattle.std.specs.Prelude.{◌≡◌, ◌≤◌, ◌+◌, ◌^◌, IfOk};
+    ghost use Rattle.std.specs.Prelude.{◌≡◌, ◌≤◌, ◌+◌, ◌^◌, IfOk, length};
     ghost use Rattle.xr_elab_nets.specs.Outcome.{Gives};
     ghost use Rattle.xr_elab_nets.specs.State as spec;
 
@@ -71,6 +71,14 @@ impl Nets {
         push_names(alloc, &mut self.names, prefix, range, count, word)?;
         push_drivers(&mut self.drivers, prefix, what, count)?;
         Ok(base as u32)
+    }
+
+    /// How many nets there are.
+    pub fn count(&self) -> usize
+        ensures count { result ≡ length self.now.names }
+        ensures few { result ≤ 2 ^ 20 }
+    {
+        self.names.len()
     }
 
     /// Whether a net has a driver. A number that is no net has one.
