@@ -1,0 +1,7 @@
+-- Lemmas of xr_elab_tree.
+pub mod Steps
+pub mod Lists
+pub mod Knowing
+pub mod Nets
+pub mod Naming
+pub mod Names

@@ -1,0 +1,3 @@
+-- Definitions of xr_elab_tree.
+pub mod Library
+pub mod Sound
