@@ -1,6 +1,6 @@
 -- The bits of an expression (IEEE 1364-2005, clauses 3.5, 4.2 and 5.1).
 use Rattle.std.specs.Prelude.{ℕ, ◌+◌, ◌-◌, Bool, ◌&&◌, nat_le, Option, Some, None, List, [], ◌∷◌, ◌++◌, Ok, Err, if◌then◌else◌}
-use Rattle.xr_netlist_grammar.specs.Trees.{Range}
+use Rattle.xr_netlist_grammar.specs.Trees.{Range, whole_part, expr_of}
 use Rattle.xr_netlist_grammar.specs.declared.tree.Word.{Word}
 use Rattle.xr_netlist_grammar.specs.declared.tree.Part.{Part}
 use Rattle.xr_netlist_grammar.specs.declared.tree.PartKind.{PartKind}
@@ -90,3 +90,7 @@ lanes_of role before (p ∷ ps) here = after (part_lanes role before p here) (λ
 -- The bits of an expression from left to right.
 abbrev pub bits_of : Role → Expr → Here → Outcome (List Lane × Here)
 bits_of role e here = lanes_of role [] e.parts here
+
+-- a name by itself
+abbrev pub whole_name : Word → Expr
+whole_name w = expr_of w.at (whole_part w ∷ [])

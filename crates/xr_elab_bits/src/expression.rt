@@ -1,7 +1,6 @@
 //! The bits of an expression (IEEE 1364-2005, clauses 3.5, 4.2 and 5.1).
 
 ghost use Rattle.std.specs.Prelude.{◌≡◌, ◌≤◌, ◌+◌, ◌^◌, [], None, Some, IfOk, IfSome, MatchOption};
-ghost use Rattle.xr_netlist_grammar.specs.Trees.{whole_part};
 ghost use Rattle.xr_elab_nets.specs.Outcome.{Gives};
 ghost use Rattle.xr_elab_nets.specs.State.{net_count};
 ghost use Rattle.xr_elab_nets.specs.Ranges.{width_of as spec_width_of};
@@ -42,7 +41,7 @@ pub fn bits_of<'t>(
     Ok(runs)
 }
 
-/// The bits of a plain name.
+/// The bits of a name by itself, from left to right.
 pub fn name_bits<'t>(
     alloc: Global,
     scope: &mut Scope<'t>,
@@ -51,7 +50,7 @@ pub fn name_bits<'t>(
     word: &'t Word,
 ) -> Result<Runs, ElabErr>
     ensures { let here = here_of scope.old nets.old in
-        Gives (spec.part_lanes role [] (whole_part word.now) here) result (λ runs. (runs, here_of scope.new nets.new)) }
+        Gives (spec.bits_of role (spec.whole_name word.now) here) result (λ runs. (runs, here_of scope.new nets.new)) }
 {
     let mut runs = Runs::new(alloc);
     push_whole(alloc, scope, nets, &mut runs, role, word.at, word)?;

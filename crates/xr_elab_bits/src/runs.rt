@@ -85,10 +85,7 @@ impl Runs {
         })
     }
 
-    #[tactic(
-        auto,
-        using(crate::proofs::Running::lanes_more, crate::proofs::Running::runs_more)
-    )]
+    #[tactic(auto, using(crate::proofs::Running::lanes_more, crate::proofs::Running::runs_more))]
     fn push(&mut self, run: Run) -> Result<(), AllocError>
         requires { AreFew run.count run.bits }
         ensures { OnOk result (self.new ≡ self.old ++ run_lanes run) }
@@ -121,10 +118,7 @@ impl Runs {
     }
 
     /// The one bit, where there is exactly one.
-    #[tactic(
-        auto,
-        using(crate::proofs::Running::single_one, crate::proofs::Running::single_other)
-    )]
+    #[tactic(auto, using(crate::proofs::Running::single_one, crate::proofs::Running::single_other))]
     pub fn single(&self) -> Option<Lane>
         ensures { result ≡ single self.now }
     {

@@ -1,72 +1,46 @@
-//! Tests of expressions and of what they drive.
+//! Tests of expressions.
 
 use super::*;
-use crate::driving::{drive, feed};
 use std::test::Fail;
 use xr_base::Items;
 
-fn word(alloc: Global, text: &[u8], at: usize) -> Result<Word, Fail> {
-    Ok(Word {
-        text: Items::from_vec(text.to_vec(alloc)?),
-        escaped: false,
-        at,
-    })
-}
-
-/// `{a[2:1], 3'b110, b}`
-fn joined(alloc: Global) -> Result<Expr, Fail> {
+#[test]
+fn literal_has_its_bits(rt: HostRuntime) -> Result<(), Fail> {
+    let alloc = rt.alloc();
     let mut parts = Vec::new(alloc);
     parts.push(Part {
-        at: 1,
-        what: PartKind::Slice(word(alloc, b"a", 1)?, 2, 1),
-    })?;
-    parts.push(Part {
-        at: 9,
+        at: 7,
         what: PartKind::Literal(3, 6),
     })?;
-    parts.push(Part {
-        at: 16,
-        what: PartKind::Whole(word(alloc, b"b", 16)?),
-    })?;
-    Ok(Expr {
-        at: 0,
+    let expr = Expr {
+        at: 7,
         parts: Items::from_vec(parts),
-    })
+    };
+    let mut nets = Nets::new(alloc);
+    let mut scope = Scope::new(alloc, Items::from_vec(Vec::new(alloc)));
+    let bits = bits_of(alloc, &mut scope, &mut nets, Role::Taken, &expr)?;
+    assert!(rt; bits.has_width(3));
+    Ok(())
 }
 
 #[test]
-fn bits_are_told_and_driven(rt: HostRuntime) -> Result<(), Fail> {
+fn name_is_a_wire(rt: HostRuntime) -> Result<(), Fail> {
     let alloc = rt.alloc();
+    let word = Word {
+        text: Items::from_vec(b"a".to_vec(alloc)?),
+        escaped: false,
+        at: 7,
+    };
     let mut nets = Nets::new(alloc);
     let mut scope = Scope::new(alloc, Items::from_vec(Vec::new(alloc)));
-    let a = word(alloc, b"a", 0)?;
-    let right = joined(alloc)?;
-    let c = word(alloc, b"c", 40)?;
-    introduce(
-        alloc,
-        &mut scope,
-        &mut nets,
-        NetKind::Wire,
-        Some((3, 0)),
-        &a,
-    )
-        .ok()
-        .ok_or("a")?;
-    let taken = bits_of(alloc, &mut scope, &mut nets, Role::Taken, &right)
-        .ok()
-        .ok_or("right")?;
-    assert!(rt; taken.has_width(6));
-    assert!(rt; taken.single().is_none());
-    let c = name_bits(alloc, &mut scope, &mut nets, Role::Driven, &c)
-        .ok()
-        .ok_or("c")?;
-    assert!(rt; c.single().is_some_and(|lane| lane.at == 40));
-    assert!(rt; !c.same_width(&taken));
-    let left = Runs::of_nets(alloc, 0, 0, 4)?;
-    assert!(rt; drive(&mut nets, &left, &taken).is_ok());
-    assert!(rt; nets.has_driver(3) && !nets.has_driver(5));
-    assert!(rt; drive(&mut nets, &left, &taken).is_err());
-    feed(&mut nets, 5, &c);
-    assert!(rt; nets.has_driver(5));
+    let bits = name_bits(alloc, &mut scope, &mut nets, Role::Driven, &word)?;
+    assert!(rt; bits.has_width(1));
+    Ok(())
+}
+
+#[test]
+fn nets_are_counted(rt: HostRuntime) -> Result<(), Fail> {
+    let bits = Runs::of_nets(rt.alloc(), 7, 4, 9)?;
+    assert!(rt; bits.has_width(9));
     Ok(())
 }

@@ -1,0 +1,76 @@
+//! Continuous assignments (IEEE 1364-2005, clause 6.1).
+
+ghost use Rattle.std.specs.Prelude.{◌≡◌};
+ghost use Rattle.xr_elab_nets.specs.Outcome.{Gives};
+ghost use Rattle.xr_elab_names.specs.Here.{here_of};
+ghost use Rattle.xr_elab_gates.specs.Assigns as spec;
+
+use std::alloc::Global;
+use xr_elab_bits::{Role, Runs, bits_of, drive, name_bits};
+use xr_elab_names::Scope;
+use xr_elab_nets::{ElabErr, Nets};
+use xr_netlist_grammar::{Declare, Expr};
+
+/// An assignment: the bits on the left take those on the right. Takes memory for the parts of both sides, and for the
+/// implicit wires.
+pub fn add_assign<'t>(
+    alloc: Global,
+    scope: &mut Scope<'t>,
+    nets: &mut Nets,
+    left: &'t Expr,
+    right: &'t Expr,
+) -> Result<(), ElabErr>
+    ensures { let here = here_of scope.old nets.old in
+        Gives (spec.assign_item left.now right.now here) result (λ _. here_of scope.new nets.new) }
+{
+    let bits = bits_of(alloc, scope, nets, Role::Driven, left)?;
+    assign(alloc, scope, nets, &bits, right)?;
+    Ok(())
+}
+
+/// The `=` of a declaration, where it has one: an assignment to the whole name.
+pub fn add_value<'t>(
+    alloc: Global,
+    scope: &mut Scope<'t>,
+    nets: &mut Nets,
+    declare: &'t Declare,
+) -> Result<(), ElabErr>
+    ensures { let here = here_of scope.old nets.old in
+        Gives (spec.value_item declare.now here) result (λ _. here_of scope.new nets.new) }
+{
+    match &declare.value {
+        None => Ok(()),
+        Some(right) => {
+            let bits = name_bits(alloc, scope, nets, Role::Driven, &declare.name)?;
+            assign(alloc, scope, nets, &bits, right)?;
+            Ok(())
+        }
+    }
+}
+
+/// The bits on the left take those of the expression on the right.
+fn assign<'t>(
+    alloc: Global,
+    scope: &mut Scope<'t>,
+    nets: &mut Nets,
+    left: &Runs,
+    right: &'t Expr,
+) -> Result<(), ElabErr>
+    ensures { let here = here_of scope.old nets.old in
+        Gives (spec.assigned left.now right.now here) result (λ _. here_of scope.new nets.new) }
+{
+    let bits = bits_of(alloc, scope, nets, Role::Taken, right)?;
+    drive_equal(nets, right.at, left, &bits)?;
+    Ok(())
+}
+
+/// Bits drive as many others. `at` is where those on the right stand.
+fn drive_equal(nets: &mut Nets, at: usize, left: &Runs, right: &Runs) -> Result<(), ElabErr>
+    ensures { Gives (spec.drives at left.now right.now nets.old) result (λ _. nets.new) }
+{
+    if !left.same_width(right) {
+        return Err(ElabErr::Width { at });
+    }
+    drive(nets, left, right)?;
+    Ok(())
+}

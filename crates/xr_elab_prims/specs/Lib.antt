@@ -1,0 +1,6 @@
+-- Definitions of xr_elab_prims.
+pub mod Definitions
+pub mod Names
+pub mod Ports
+pub mod Built
+pub mod Pins
