@@ -5,3 +5,8 @@ pub mod Knowing
 pub mod Nets
 pub mod Naming
 pub mod Names
+pub mod Bits
+pub mod Driving
+pub mod Terminals
+pub mod Gates
+pub mod Tables
