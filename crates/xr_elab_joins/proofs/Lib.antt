@@ -1,0 +1,1 @@
+-- Lemmas of xr_elab_joins.
