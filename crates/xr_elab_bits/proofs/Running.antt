@@ -1,12 +1,12 @@
 -- Runs of bits, taken apart and put together.
-use Rattle.std.proofs.Common.{◌≡◌, ◌≢◌, ℕ, zero, suc, ◌+◌, ◌-◌, ◌<◌, ◌≤◌, List, [], ◌∷◌, ◌++◌, Some, None, refl, sym, ◌∙◌, ap, append_assoc, length, length-append, take, get_or, arith}
+use Rattle.std.proofs.Common.{◌≡◌, ◌≢◌, ℕ, zero, suc, ◌+◌, ◌-◌, ◌<◌, List, [], ◌∷◌, ◌++◌, Some, None, refl, sym, ◌∙◌, ap, append_assoc, length, length-append, take, get_or, arith}
 use Rattle.std.proofs.lemmas.List.{append-nil, take_more}
 use Rattle.xr_elab_bits.specs.declared.run.Lane.{Lane}
 use Rattle.xr_elab_bits.specs.declared.run.Bits.{Bits}
 use Rattle.xr_elab_bits.specs.declared.run.Bits.TheVariants.{Nets, Literal, Dead}
 use Rattle.xr_elab_bits.specs.declared.run.Run.{Run}
-use Rattle.xr_elab_bits.specs.Lanes.{lane, lanes_in, literal_lanes, dead_lanes, single}
-use Rattle.xr_elab_bits.specs.Runs.{run, bits_lanes, run_lanes, runs_lanes, AreFew, AreRuns, leftmost, behind}
+use Rattle.xr_elab_bits.specs.Lanes.{lane, single}
+use Rattle.xr_elab_bits.specs.Runs.{bits_lanes, run_lanes, runs_lanes, AreFew, AreRuns, leftmost, behind}
 
 -- the leftmost bit, and those behind it
 pub leftmost_is : (at count : ℕ) (bits : Bits) → 0 < count → bits_lanes at count bits ≡ lane at (leftmost count bits) ∷ bits_lanes at (count - 1) (behind bits)

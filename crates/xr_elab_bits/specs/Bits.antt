@@ -1,5 +1,5 @@
 -- The bits of an expression (IEEE 1364-2005, clauses 3.5, 4.2 and 5.1).
-use Rattle.std.specs.Prelude.{ℕ, ◌+◌, ◌-◌, Bool, ◌&&◌, nat_le, Option, Some, None, List, [], ◌∷◌, ◌++◌, Ok, Err, if◌then◌else◌}
+use Rattle.std.specs.Prelude.{ℕ, ◌+◌, ◌-◌, ◌&&◌, nat_le, Option, Some, None, List, [], ◌∷◌, ◌++◌, Ok, Err, if◌then◌else◌}
 use Rattle.xr_netlist_grammar.specs.Trees.{Range, whole_part, expr_of}
 use Rattle.xr_netlist_grammar.specs.declared.tree.Word.{Word}
 use Rattle.xr_netlist_grammar.specs.declared.tree.Part.{Part}
@@ -16,7 +16,7 @@ use Rattle.xr_elab_names.specs.declared.scope.Entry.{Entry}
 use Rattle.xr_elab_names.specs.Scope.{Scope, entry_of}
 use Rattle.xr_elab_names.specs.Here.{Here, introduced}
 use Rattle.xr_elab_bits.specs.declared.expression.Role.{Role}
-use Rattle.xr_elab_bits.specs.declared.expression.Role.TheVariants.{Driven, Taken, Terminal}
+use Rattle.xr_elab_bits.specs.declared.expression.Role.TheVariants.{Driven, Terminal}
 use Rattle.xr_elab_bits.specs.declared.run.Lane.{Lane}
 use Rattle.xr_elab_bits.specs.Lanes.{lane, lanes_in, literal_lanes}
 
@@ -54,7 +54,9 @@ net_range _ range = range
 abbrev pub between : ℕ → Range → ℕ → ℕ → Option (ℕ × ℕ)
 between base None i j = None
 between base (Some r) i j =
-    if within r i && within r j && nat_le (offset r i) (offset r j) then Some (base + offset r i, offset r j - offset r i + 1) else None
+    if within r i && within r j && nat_le (offset r i) (offset r j)
+    then Some (base + offset r i, offset r j - offset r i + 1)
+    else None
 
 -- A select takes a declared name and bits of its range, in its direction.
 abbrev pub select_lanes : List Lane → ℕ → Word → ℕ → ℕ → Scope → Outcome (List Lane)
@@ -72,11 +74,15 @@ literal_bits _ before at size value = Ok (before ++ literal_lanes at size value)
 
 -- ---- expressions
 
+-- bits that make nothing new
+abbrev pub bits_here : Outcome (List Lane) → Here → Outcome (List Lane × Here)
+bits_here ls here = after ls (λ bits. Ok (bits, here))
+
 abbrev pub part_kind_lanes : Role → List Lane → ℕ → PartKind → Here → Outcome (List Lane × Here)
 part_kind_lanes role before at (Whole w) here = whole_lanes role before at w here
-part_kind_lanes role before at (Bit w i) here = after (select_lanes before at w i i here.scope) (λ ls. Ok (ls, here))
-part_kind_lanes role before at (Slice w i j) here = after (select_lanes before at w i j here.scope) (λ ls. Ok (ls, here))
-part_kind_lanes role before at (Literal size value) here = after (literal_bits role before at size value) (λ ls. Ok (ls, here))
+part_kind_lanes role before at (Bit w i) here = bits_here (select_lanes before at w i i here.scope) here
+part_kind_lanes role before at (Slice w i j) here = bits_here (select_lanes before at w i j here.scope) here
+part_kind_lanes role before at (Literal size value) here = bits_here (literal_bits role before at size value) here
 
 -- The bits of a part, behind those before.
 abbrev pub part_lanes : Role → List Lane → Part → Here → Outcome (List Lane × Here)

@@ -1,6 +1,7 @@
 //! What drives a net.
 
-ghost use Rattle.std.specs.Prelude.{◌≡◌, ◌≤◌, ◌+◌, ◌^◌, length};
+ghost use Rattle.std.specs.Prelude.{◌≡◌, ◌≢◌, ◌≤◌, ◌+◌, ◌^◌, IfErr, length};
+ghost use Rattle.xr_elab_nets.specs.declared.fault.ElabErr.TheVariants.{Memory as OutOfMemory};
 ghost use Rattle.xr_elab_nets.specs.Outcome.{Gives};
 ghost use Rattle.xr_elab_bits.specs.Drive as spec;
 
@@ -11,7 +12,8 @@ use xr_elab_nets::{ElabErr, Nets};
 
 /// Gives the bits on the left those on the right, from left to right. Takes no memory.
 pub fn drive(nets: &mut Nets, left: &Runs, right: &Runs) -> Result<(), ElabErr>
-    ensures { Gives (spec.all_driven left.now right.now nets.old) result (λ _. nets.new) }
+    ensures driven { Gives (spec.all_driven left.now right.now nets.old) result (λ _. nets.new) }
+    ensures no_memory { IfErr result (λ e. e ≢ OutOfMemory) }
 {
     let mut left = left.lanes();
     let mut right = right.lanes();
@@ -38,10 +40,15 @@ pub fn feed(nets: &mut Nets, first: u32, lanes: &Runs)
 }
 
 fn drive_lane(nets: &mut Nets, left: Lane, right: Lane) -> Result<(), ElabErr>
-    ensures { Gives (spec.driven_lane left right nets.old) result (λ _. nets.new) }
+    ensures driven { Gives (spec.driven_lane left right nets.old) result (λ _. nets.new) }
+    ensures no_memory { IfErr result (λ e. e ≢ OutOfMemory) }
 {
     match left.pin {
-        Pin::Net(net) => nets.drive(left.at, net, driver_from(right.pin)),
+        Pin::Net(net) if nets.has_driver(net) => Err(ElabErr::TwoDrivers { net, at: left.at }),
+        Pin::Net(net) => {
+            nets.set(net, driver_from(right.pin));
+            Ok(())
+        }
         Pin::Bit(_) | Pin::Dead => Err(ElabErr::BadName { at: left.at }),
     }
 }

@@ -47,7 +47,9 @@ connected_gate gate outputs inputs here =
 abbrev pub logic_gate : Gate → ℕ → List Expr → Here → Outcome Here
 logic_gate gate at terminals here =
     let count = output_count gate (length terminals) in
-    if takes gate (length terminals) then connected_gate gate (take count terminals) (drop count terminals) here else Err (PortMismatch at)
+    if takes gate (length terminals)
+    then connected_gate gate (take count terminals) (drop count terminals) here
+    else Err (PortMismatch at)
 
 -- A pullup or a pulldown has one terminal, which is always 1 or always 0.
 abbrev pub pull : Bool → ℕ → List Expr → Here → Outcome Here

@@ -2,3 +2,4 @@
 pub mod Terminals
 pub mod Gates
 pub mod Assigns
+pub mod Primitives

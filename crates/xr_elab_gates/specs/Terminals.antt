@@ -2,7 +2,7 @@
 use Rattle.std.specs.Prelude.{ℕ, Option, Some, None, List, [], ◌∷◌, ◌++◌, Ok}
 use Rattle.xr_netlist_grammar.specs.declared.tree.Expr.{Expr}
 use Rattle.xr_design.specs.declared.design.Pin.{Pin}
-use Rattle.xr_design.specs.declared.design.Pin.TheVariants.{Net, Bit, Dead}
+use Rattle.xr_design.specs.declared.design.Pin.TheVariants.{Net}
 use Rattle.xr_design.specs.declared.design.Driver.TheVariants.{Undriven}
 use Rattle.xr_elab_nets.specs.declared.fault.ElabErr.TheVariants.{PortMismatch, Width}
 use Rattle.xr_elab_nets.specs.Outcome.{Outcome, after, or_refuse}
@@ -29,7 +29,8 @@ abbrev pub single_pin : Option Lane → Option Pin
 single_pin None = None
 single_pin (Some l) = Some l.pin
 
--- An output terminal is a single net bit without a driver. It is taken at once, and its driver comes when the pins are known.
+-- An output terminal is a single net bit without a driver. It is taken at once, and its driver comes when the pins are
+-- known.
 abbrev pub one_net : Expr → Here → Outcome (ℕ × Here)
 one_net e here =
     after (bits_of Terminal e here) (λ b.

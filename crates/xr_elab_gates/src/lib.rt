@@ -3,10 +3,12 @@
 
 mod assigns;
 mod gates;
+mod primitives;
 mod terminals;
 
 pub use assigns::{add_assign, add_value};
 pub use gates::add_gate;
+pub use primitives::add_udp;
 
 #[cfg(test)]
 mod tests;

@@ -1,0 +1,141 @@
+//! Instances of primitives (IEEE 1364-2005, clause 8.6).
+
+ghost use Rattle.std.specs.Prelude.{◌≡◌, ◌≤◌, ◌<◌, ◌+◌, [], IfOk, length};
+ghost use Rattle.xr_cell.specs.Refusal.{input_limit};
+ghost use Rattle.xr_design.specs.Job.{primitive_of};
+ghost use Rattle.xr_elab_nets.specs.Outcome.{Gives};
+ghost use Rattle.xr_elab_names.specs.Here.{here_of};
+ghost use Rattle.xr_elab_gates.specs.Primitives as spec;
+
+use crate::terminals::{input_pin, output_net};
+use std::alloc::Global;
+use xr_base::Items;
+use xr_cell::Udp;
+use xr_design::{Driver, Latching, Pin, Table};
+use xr_elab_names::Scope;
+use xr_elab_nets::{ElabErr, Nets};
+use xr_elab_prims::{Clocks, live_count};
+use xr_netlist_grammar::{Connection, Connections, Expr, InstanceItem};
+
+/// The most live pins of a register.
+const MOST_LIVE: usize = 6;
+
+/// An instance of the primitive at a position: its output takes it. Takes memory for the driver, for the implicit wires,
+/// and for clock pins that come for the first time.
+pub fn add_udp<'t>(
+    alloc: Global,
+    scope: &mut Scope<'t>,
+    nets: &mut Nets,
+    clocks: &mut Clocks<'_>,
+    number: u32,
+    udp: &Udp,
+    item: &'t InstanceItem,
+) -> Result<(), ElabErr>
+    requires within { number < length clocks.old }
+    requires udp { udp.now ≡ primitive_of clocks.old number }
+    requires few { udp.now.inputs ≤ input_limit udp.now.sequential }
+
+    ensures added { let here = here_of scope.old nets.old in
+        Gives (spec.udp_item number udp.now item.now here) result (λ _. here_of scope.new nets.new) }
+    ensures same { clocks.new ≡ clocks.old }
+{
+    let at = item.definition.at;
+    let Connections::Positional(connections) = &item.connections else {
+        return Err(ElabErr::PortMismatch { at });
+    };
+    let connections = connections.as_slice();
+    if !are_there(connections) || connections.len() != udp.inputs() + 1 {
+        return Err(ElabErr::PortMismatch { at });
+    }
+    let (net, pins) = connect_terminals(alloc, scope, nets, at, connections)?;
+    nets.set(net, udp_driver(clocks, number, udp, at, pins)?);
+    Ok(())
+}
+
+fn are_there(connections: &[Connection]) -> bool
+    ensures { result ≡ spec.are_there connections.now }
+{
+    connections
+        .iter()
+        .all(|connection| connection.value.is_some())
+}
+
+/// The net of the output terminal, and the pins of the input terminals.
+fn connect_terminals<'t>(
+    alloc: Global,
+    scope: &mut Scope<'t>,
+    nets: &mut Nets,
+    at: usize,
+    connections: &'t [Connection],
+) -> Result<(u32, Vec<Pin>), ElabErr>
+    ensures terminals { let here = here_of scope.old nets.old in
+        Gives (spec.connected_terminals at connections.now here) result
+        (λ t. ((t.0, t.1.items), here_of scope.new nets.new)) }
+    ensures count { IfOk result (λ t. length t.1.items + 1 ≡ length connections.now) }
+{
+    let [output, inputs @ ..] = connections else {
+        return Err(ElabErr::PortMismatch { at });
+    };
+    let net = output_net(alloc, scope, nets, terminal_of(output, at)?)?;
+    let pins = connect_pins(alloc, scope, nets, at, inputs)?;
+    Ok((net, pins))
+}
+
+/// The pins of the input terminals.
+fn connect_pins<'t>(
+    alloc: Global,
+    scope: &mut Scope<'t>,
+    nets: &mut Nets,
+    at: usize,
+    inputs: &'t [Connection],
+) -> Result<Vec<Pin>, ElabErr>
+    ensures pins { let here = here_of scope.old nets.old in
+        Gives (spec.connected_pins at [] inputs.now here) result (λ pins. (pins.items, here_of scope.new nets.new)) }
+    ensures count { IfOk result (λ pins. length pins.items ≡ length inputs.now) }
+{
+    let mut pins = Vec::new(alloc);
+    'inputs: for input in inputs {
+        pins.push(input_pin(alloc, scope, nets, terminal_of(input, at)?)?)?;
+    }
+    Ok(pins)
+}
+
+/// What is connected.
+fn terminal_of(connection: &Connection, at: usize) -> Result<&Expr, ElabErr>
+    ensures { Gives (spec.terminal_of at connection.now) result (λ e. e.now) }
+{
+    match &connection.value {
+        Some(expr) => Ok(expr),
+        None => Err(ElabErr::PortMismatch { at }),
+    }
+}
+
+/// What an instance drives its output by.
+fn udp_driver(
+    clocks: &mut Clocks<'_>,
+    number: u32,
+    udp: &Udp,
+    at: usize,
+    pins: Vec<Pin>,
+) -> Result<Driver, ElabErr>
+    requires within { number < length clocks.old }
+    requires udp { udp.now ≡ primitive_of clocks.old number }
+    requires few { udp.now.inputs ≤ input_limit udp.now.sequential }
+    requires inputs { length pins.items ≡ udp.now.inputs }
+    ensures driver { Gives (spec.udp_driver number udp.now at pins.items) result (λ driver. driver) }
+    ensures same { clocks.new ≡ clocks.old }
+{
+    if !udp.sequential() {
+        return Ok(Driver::Cell(Table::Udp(number), Items::from_vec(pins)));
+    }
+    if live_count(&pins) > MOST_LIVE {
+        return Err(ElabErr::TooManyLive { at });
+    }
+    let clocks = clocks.clocks(number, &pins)?;
+    Ok(Driver::Register(Latching {
+        udp: number,
+        pins: Items::from_vec(pins),
+        clocks,
+        start: udp.start(),
+    }))
+}
