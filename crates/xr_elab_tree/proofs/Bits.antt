@@ -1,5 +1,5 @@
 -- The bits of an expression are nets that are there.
-use Rattle.std.proofs.Common.{◌≡◌, ℕ, zero, suc, ◌+◌, ◌-◌, ◌<◌, ◌≤◌, Bool, true, false, ◌&&◌, nat_le, cond, List, [], ◌∷◌, ◌++◌, length, refl, sym, ◌∙◌, ap, subst, arith, Option, Some, None, IfOk, IfSome, Ok, Err, if◌then◌else◌, leb-true}
+use Rattle.std.proofs.Common.{◌≡◌, ℕ, zero, suc, ◌+◌, ◌<◌, ◌≤◌, Bool, true, false, ◌&&◌, nat_le, List, [], ◌∷◌, length, refl, arith, Option, Some, None, IfOk, IfSome, if◌then◌else◌, leb-true}
 use Rattle.std.specs.List.{AllByRecursion}
 use Rattle.std.proofs.lemmas.Bool.{and_parts}
 use Rattle.std.proofs.lemmas.Bool.Decides.{nat_tests}
@@ -16,17 +16,17 @@ use Rattle.xr_netlist_grammar.specs.declared.tree.NetKind.TheVariants as kind
 use Rattle.xr_design.specs.declared.design.Pin.{Pin}
 use Rattle.xr_design.specs.declared.design.Pin.TheVariants as pin
 use Rattle.xr_elab_nets.specs.declared.fault.ElabErr.TheVariants.{BadName}
-use Rattle.xr_elab_nets.specs.Outcome.{Outcome, after, or_refuse}
+use Rattle.xr_elab_nets.specs.Outcome.{Outcome, or_refuse}
 use Rattle.xr_elab_nets.specs.Ranges.{width_of, offset, within}
 use Rattle.xr_elab_nets.specs.State.{net_count}
 use Rattle.xr_elab_names.specs.declared.scope.Entry.{Entry}
-use Rattle.xr_elab_names.specs.Scope.{Scope, entry_of}
-use Rattle.xr_elab_names.specs.Here.{Here, introduced}
+use Rattle.xr_elab_names.specs.Scope.{entry_of}
+use Rattle.xr_elab_names.specs.Here.{Here}
 use Rattle.xr_elab_bits.specs.declared.expression.Role.{Role}
 use Rattle.xr_elab_bits.specs.declared.expression.Role.TheVariants.{Driven, Taken, Terminal}
 use Rattle.xr_elab_bits.specs.declared.run.Lane.{Lane}
-use Rattle.xr_elab_bits.specs.Lanes.{lane, lanes_in, literal_lanes}
-use Rattle.xr_elab_bits.specs.Bits.{known_or_wire, reg_lanes, name_lanes, whole_lanes, net_range, between, select_lanes, literal_bits, part_kind_lanes, part_lanes, lanes_of, bits_of}
+use Rattle.xr_elab_bits.specs.Lanes.{lanes_in, literal_lanes}
+use Rattle.xr_elab_bits.specs.Bits.{known_or_wire, name_lanes, whole_lanes, net_range, between, select_lanes, literal_bits, part_kind_lanes, part_lanes, lanes_of, bits_of}
 use Rattle.xr_elab_tree.specs.Sound.{Within, IsMade, StandsWell, Knows}
 use Rattle.xr_elab_tree.proofs.Steps.{also, there_or, weaker, Stays, stays_same, stays_both}
 use Rattle.xr_elab_tree.proofs.Lists.{all_append, all_by, all_more}

@@ -1,5 +1,5 @@
 -- What drives a net is a net that is there, or a constant.
-use Rattle.std.proofs.Common.{◌≡◌, ℕ, ◌+◌, ◌==◌, List, [], ◌∷◌, length, refl, sym, subst, IfOk, Ok, Err}
+use Rattle.std.proofs.Common.{ℕ, ◌+◌, ◌==◌, List, [], ◌∷◌, length, sym, subst, IfOk}
 use Rattle.xr_cell.specs.Table.{Table}
 use Rattle.xr_design.specs.declared.design.Pin.{Pin}
 use Rattle.xr_design.specs.declared.design.Pin.TheVariants.{Net, Bit, Dead}

@@ -1,5 +1,5 @@
 -- Gates, pullups and pulldowns fit.
-use Rattle.std.proofs.Common.{◌≡◌, ℕ, zero, suc, ◌+◌, ◌-◌, ◌<◌, ◌≤◌, Bool, true, false, ◌&&◌, nat_le, List, [], ◌∷◌, length, take, drop, refl, sym, subst, arith, IfOk, Ok, Err, leb-true, length-drop}
+use Rattle.std.proofs.Common.{◌≡◌, ℕ, zero, suc, ◌+◌, ◌-◌, ◌≤◌, Bool, true, false, ◌&&◌, nat_le, List, [], ◌∷◌, length, take, drop, subst, arith, IfOk, leb-true, length-drop}
 use Rattle.std.specs.List.{AllByRecursion}
 use Rattle.std.proofs.lemmas.Bool.{and_parts}
 use Rattle.xr_cell.specs.Table.{Table}
@@ -14,16 +14,15 @@ use Rattle.xr_netlist_grammar.specs.declared.tree.GateItem.{GateItem}
 use Rattle.xr_design.specs.declared.design.Pin.{Pin}
 use Rattle.xr_design.specs.declared.design.Driver.{Driver}
 use Rattle.xr_design.specs.declared.design.Driver.TheVariants.{Constant}
-use Rattle.xr_elab_nets.specs.Outcome.{Outcome}
 use Rattle.xr_elab_nets.specs.State.{State, with_driver}
 use Rattle.xr_elab_names.specs.Here.{Here}
-use Rattle.xr_elab_gates.specs.Terminals.{with_state, one_net, output_nets, input_pins}
+use Rattle.xr_elab_gates.specs.Terminals.{one_net, output_nets, input_pins}
 use Rattle.xr_elab_gates.specs.Gates.{output_count, takes, cell, each_with, connected_gate, logic_gate, pull, gate_of, gate_item}
 use Rattle.xr_elab_tree.specs.Sound.{Within, DriverFits, IsSound, StandsWell}
 use Rattle.xr_elab_tree.proofs.Steps.{also, chosen, Stays, stays_both, stays_driven, Drives, drives_same, drives_both}
 use Rattle.xr_elab_tree.proofs.Lists.{all_by}
 use Rattle.xr_elab_tree.proofs.Nets.{constant_fits, with_driver_drives}
-use Rattle.xr_elab_tree.proofs.Terminals.{FitPins, pins_fit, AreExprs, HasPins, StaysWith, net_stays, outputs_stay, inputs_stay}
+use Rattle.xr_elab_tree.proofs.Terminals.{FitPins, pins_fit, AreExprs, net_stays, outputs_stay, inputs_stay}
 
 all_take : {A : Type 0} (P : A → Type 0) (n : ℕ) (xs : List A) → AllByRecursion P xs → AllByRecursion P (take n xs)
 all_take P zero xs h = tt

@@ -1,15 +1,13 @@
 -- What a scope knows when nets are made elsewhere.
-use Rattle.std.proofs.Common.{◌≡◌, ℕ, ◌+◌, ◌<◌, ◌≤◌, ltb, Bool, true, false, List, [], ◌∷◌, ◌++◌, length, map, refl, sym, ◌∙◌, ap, subst, arith, Option, Some, None, is_some, ltb-true, ltb-false}
-use Rattle.std.specs.List.{list_all}
+use Rattle.std.proofs.Common.{◌≡◌, ℕ, ◌<◌, ◌≤◌, ltb, Bool, true, false, List, [], ◌∷◌, ◌++◌, length, refl, sym, ◌∙◌, ap, subst, arith, is_some, ltb-true, ltb-false}
 use Rattle.std.proofs.lemmas.List.{map-append, append_cancel_left, append_assoc}
-use Rattle.xr_design.specs.Design.{is_part, spelling_of}
+use Rattle.xr_design.specs.Design.{spelling_of}
 use Rattle.xr_design.specs.declared.name.Name.{Name}
 use Rattle.xr_design.specs.declared.name.NamePart.{NamePart}
-use Rattle.xr_elab_nets.specs.State.{net_count}
 use Rattle.xr_elab_names.specs.declared.scope.Entry.{Entry}
 use Rattle.xr_elab_names.specs.Sets.{has}
 use Rattle.xr_elab_names.specs.Scope.{Scope, entry_of}
-use Rattle.xr_elab_tree.specs.Sound.{name_at, texts_at, part_texts, Within, Under, IsMade, Knows, Grows}
+use Rattle.xr_elab_tree.specs.Sound.{texts_at, part_texts, Within, Under, IsMade, Knows, Grows}
 
 pub made_more : (e : Entry) (n m : ℕ) → n ≤ m → IsMade n e → IsMade m e
 made_more e n m more made = omega arith
@@ -20,11 +18,11 @@ pub knows_more : (kind : List (List ℕ) → Type 0) (c : Scope) (old new : List
     → ((texts : List (List ℕ)) (text next : List ℕ) (rest : List (List ℕ)) → kind texts → texts ≡ part_texts c.prefix ++ text ∷ next ∷ rest → has c.instances text ≡ true)
     → Knows c new
 knows_more kind c old new knows g own below = record {
-    parts = knows.parts;
-    nets = λ name e found. made_more e (length old) (length new) g.longer (knows.nets name e found);
-    own = λ net text within is. own_by net text within is (ltb net (length old)) refl;
-    below = λ net text next rest within is. below_by net text next rest within is (ltb net (length old)) refl;
-  }
+  parts = knows.parts;
+  nets = λ name e found. made_more e (length old) (length new) g.longer (knows.nets name e found);
+  own = λ net text within is. own_by net text within is (ltb net (length old)) refl;
+  below = λ net text next rest within is. below_by net text next rest within is (ltb net (length old)) refl;
+}
   where
     own_by : (net : ℕ) (text : List ℕ) → net < length new → texts_at new net ≡ part_texts c.prefix ++ text ∷ [] → (o : Bool) → ltb net (length old) ≡ o → is_some (entry_of c text) ≡ true
     own_by net text within is true at =

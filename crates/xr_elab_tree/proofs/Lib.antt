@@ -10,3 +10,12 @@ pub mod Driving
 pub mod Terminals
 pub mod Gates
 pub mod Tables
+pub mod Primitives
+pub mod Joining
+pub mod Items
+pub mod Fitting
+pub mod Relating
+pub mod Outcomes
+pub mod Staying
+pub mod Keeping
+pub mod WorkedTexts

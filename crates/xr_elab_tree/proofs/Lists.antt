@@ -1,5 +1,5 @@
 -- Lists of names, and the bits of a range.
-use Rattle.std.proofs.Common.{◌≡◌, ℕ, zero, suc, ◌+◌, ◌-◌, ◌<◌, ◌≤◌, ◌^◌, ltb, Bool, true, false, List, [], ◌∷◌, ◌++◌, length, refl, sym, ◌∙◌, ap, subst, arith, get_or, slice_set, length-append, length-set, add-one, Option, Some, None, if◌then◌else◌, nat_le, ltb-true, ltb-false, leb-true, leb-false}
+use Rattle.std.proofs.Common.{◌≡◌, ℕ, zero, suc, ◌+◌, ◌-◌, ◌<◌, ◌≤◌, ◌^◌, ltb, Bool, true, false, List, [], ◌∷◌, ◌++◌, length, refl, sym, ◌∙◌, ap, subst, arith, get_or, slice_set, length-append, add-one, Some, None, if◌then◌else◌, nat_le, ltb-true, ltb-false, leb-true, leb-false}
 use Rattle.std.specs.List.{All, AllByRecursion}
 use Rattle.std.proofs.lemmas.List.{get_or_append_left, get_or-append_right, get_or_at}
 use Rattle.xr_netlist_grammar.specs.Trees.{Range}
@@ -7,7 +7,7 @@ use Rattle.xr_netlist_grammar.specs.Whole.{IsRange}
 use Rattle.xr_design.specs.Design.{FitsIndex, spelling_of, no_name}
 use Rattle.xr_design.specs.declared.name.Name.{Name}
 use Rattle.xr_elab_nets.specs.Ranges.{upto, width_of, bit_at}
-use Rattle.xr_elab_tree.specs.Sound.{name_at, texts_at, Grows}
+use Rattle.xr_elab_tree.specs.Sound.{name_at, Grows}
 
 -- ---- elements
 

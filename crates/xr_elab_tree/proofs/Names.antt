@@ -1,5 +1,5 @@
 -- Declarations and ports keep what elaboration needs.
-use Rattle.std.proofs.Common.{◌≡◌, ℕ, ◌+◌, ◌<◌, ◌≤◌, ◌^◌, Bool, true, false, not, ◌&&◌, List, [], ◌∷◌, ◌++◌, length, refl, sym, ◌∙◌, ap, subst, arith, Option, Some, None, IfOk, Ok, Err, length-append}
+use Rattle.std.proofs.Common.{◌≡◌, ℕ, ◌+◌, ◌≤◌, not, ◌&&◌, List, [], ◌∷◌, ◌++◌, length, refl, sym, subst, arith, Option, Some, None, IfOk}
 use Rattle.std.specs.List.{AllByRecursion}
 use Rattle.xr_cell.specs.Table.{Table}
 use Rattle.xr_netlist_grammar.specs.Trees.{Range}
@@ -9,17 +9,16 @@ use Rattle.xr_netlist_grammar.specs.declared.tree.NetKind.{NetKind}
 use Rattle.xr_netlist_grammar.specs.declared.tree.Declare.{Declare}
 use Rattle.xr_netlist_grammar.specs.declared.tree.Item.{Item}
 use Rattle.xr_netlist_grammar.specs.declared.tree.Item.TheVariants as item
-use Rattle.xr_elab_nets.specs.Outcome.{Outcome}
 use Rattle.xr_elab_nets.specs.Ranges.{bit_at}
-use Rattle.xr_elab_nets.specs.State.{State, net_count, name_of, made, with_nets}
+use Rattle.xr_elab_nets.specs.State.{State, net_count, made, with_nets}
 use Rattle.xr_elab_names.specs.declared.scope.Entry.{Entry}
-use Rattle.xr_elab_names.specs.Sets.{has, is_among}
-use Rattle.xr_elab_names.specs.Scope.{Scope, entry_of, with_name}
+use Rattle.xr_elab_names.specs.Sets.{is_among}
+use Rattle.xr_elab_names.specs.Scope.{entry_of, with_name}
 use Rattle.xr_elab_names.specs.Here.{Here, here_of, entry, introduced}
 use Rattle.xr_elab_names.specs.Names.{is_directed, repeats, declared_again, declared, all_declared, ports_checked, opened}
-use Rattle.xr_elab_tree.specs.Sound.{part_texts, Within, IsMade, StandsWell, Knows, Grows, Keeps}
+use Rattle.xr_elab_tree.specs.Sound.{part_texts, Within, IsMade, StandsWell, Grows}
 use Rattle.xr_elab_tree.proofs.Steps.{also, chosen, any_ok, still, Stays, stays_same, grows_more}
-use Rattle.xr_elab_tree.proofs.Lists.{length_upto, all_upto, grows_append}
+use Rattle.xr_elab_tree.proofs.Lists.{all_upto, grows_append}
 use Rattle.xr_elab_tree.proofs.Nets.{AreMade, made_are, made_sound, texts_of_name, count_made}
 use Rattle.xr_elab_tree.proofs.Naming.{Is, new_of, knows_named}
 

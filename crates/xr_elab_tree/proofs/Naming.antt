@@ -1,6 +1,5 @@
 -- What a scope knows behind a new name, and behind a new instance.
-use Rattle.std.proofs.Common.{◌≡◌, ◌⊎◌, inl, inr, ℕ, ◌+◌, ◌<◌, ◌≤◌, ltb, Bool, true, false, true≢false, cond, ◌||◌, List, [], ◌∷◌, ◌++◌, length, refl, sym, ◌∙◌, ap, subst, arith, Option, Some, None, is_some, bytes_eq, ltb-true, ltb-false}
-use Rattle.std.specs.List.{list_all, list_any}
+use Rattle.std.proofs.Common.{◌≡◌, ◌⊎◌, inl, inr, ℕ, ◌<◌, ltb, Bool, true, false, true≢false, cond, ◌||◌, List, [], ◌∷◌, ◌++◌, length, refl, sym, ◌∙◌, ap, subst, Option, Some, None, is_some, bytes_eq, ltb-true, ltb-false}
 use Rattle.std.specs.Map.{lookup}
 use Rattle.std.proofs.lemmas.List.{append_cancel_left}
 use Rattle.std.proofs.lemmas.List.Folds.{list_any-append}
@@ -9,11 +8,11 @@ use Rattle.xr_netlist_grammar.specs.Whole.{IsName}
 use Rattle.xr_netlist_grammar.specs.declared.tree.Word.{Word}
 use Rattle.xr_design.specs.Design.{spelling_of}
 use Rattle.xr_design.specs.declared.name.Name.{Name}
-use Rattle.xr_elab_nets.specs.State.{net_count, part_of}
+use Rattle.xr_elab_nets.specs.State.{part_of}
 use Rattle.xr_elab_names.specs.declared.scope.Entry.{Entry}
 use Rattle.xr_elab_names.specs.Sets.{has}
 use Rattle.xr_elab_names.specs.Scope.{Scope, scope_of, entry_of, with_name}
-use Rattle.xr_elab_tree.specs.Sound.{name_at, texts_at, part_texts, IsMade, Knows, Grows}
+use Rattle.xr_elab_tree.specs.Sound.{texts_at, part_texts, IsMade, Knows, Grows}
 use Rattle.xr_elab_tree.proofs.Knowing.{texts_behind, two_not_one, first_same, made_more}
 use Rattle.xr_elab_tree.proofs.Nets.{IsNew, parts_more}
 
@@ -63,11 +62,11 @@ Is name texts = texts ≡ name
 
 pub knows_named : (c : Scope) (name : List ℕ) (e : Entry) (old new : List Name) → Knows c old → Grows (Is (part_texts c.prefix ++ name ∷ [])) old new → IsMade (length new) e → Knows (with_name name e c) new
 knows_named c name e old new knows g made = record {
-    parts = knows.parts;
-    nets = λ q f found. nets_by f q (found_in c.names name e q f found) (λ is. knows.nets q f is);
-    own = λ net text within is. own_by net text within is (ltb net (length old)) refl;
-    below = λ net text next rest within is. below_by net text next rest within is (ltb net (length old)) refl;
-  }
+  parts = knows.parts;
+  nets = λ q f found. nets_by f q (found_in c.names name e q f found) (λ is. knows.nets q f is);
+  own = λ net text within is. own_by net text within is (ltb net (length old)) refl;
+  below = λ net text next rest within is. below_by net text next rest within is (ltb net (length old)) refl;
+}
   where
     nets_by : (f : Entry) (q : List ℕ) → (entry_of c q ≡ Some f) ⊎ (e ≡ f) → (entry_of c q ≡ Some f → IsMade (length old) f) → IsMade (length new) f
     nets_by f q (inl is) known = made_more f (length old) (length new) g.longer (known is)
@@ -112,11 +111,11 @@ knows_instance c name names knows = record { parts = knows.parts; nets = knows.n
 -- The module of a new instance knows nothing yet, and nothing stands in it.
 pub knows_fresh : (c : Scope) (w : Word) (names : List Name) → Knows c names → IsName w → has c.instances w.text ≡ false → Knows (scope_of (c.prefix ++ part_of w ∷ []) [] []) names
 knows_fresh c w names knows name new = record {
-    parts = parts_more c.prefix w knows.parts name;
-    nets = λ q e found. absurd (none_found e found);
-    own = λ net text within is. absurd (none net text [] within is);
-    below = λ net text next rest within is. absurd (none net text (next ∷ rest) within is);
-  }
+  parts = parts_more c.prefix w knows.parts name;
+  nets = λ q e found. absurd (none_found e found);
+  own = λ net text within is. absurd (none net text [] within is);
+  below = λ net text next rest within is. absurd (none net text (next ∷ rest) within is);
+}
   where
     none_found : (e : Entry) → None ≡ Some e → ⊥
     none_found e is = cc

@@ -1,5 +1,5 @@
 -- Nets that are made fit, and so do their drivers.
-use Rattle.std.proofs.Common.{◌≡◌, ℕ, ◌+◌, ◌<◌, ◌≤◌, ◌^◌, Bool, true, false, ◌&&◌, List, [], ◌∷◌, ◌++◌, length, map, refl, sym, ◌∙◌, ap, ap₂, subst, arith, Option, Some, None, nat_le, length-append, length-set, leb-true, IfOk, Ok, Err, slice_set}
+use Rattle.std.proofs.Common.{◌≡◌, ℕ, ◌+◌, ◌<◌, ◌≤◌, ◌^◌, Bool, true, false, ◌&&◌, List, [], ◌∷◌, ◌++◌, length, refl, sym, ◌∙◌, ap, ap₂, arith, Option, Some, None, nat_le, length-append, length-set, leb-true, IfOk}
 use Rattle.std.specs.List.{AllByRecursion, list_all}
 use Rattle.std.proofs.lemmas.List.{map-append}
 use Rattle.std.proofs.lemmas.List.Folds.{list_all-append}
@@ -11,18 +11,15 @@ use Rattle.xr_netlist_grammar.specs.declared.tree.NetKind.{NetKind}
 use Rattle.xr_netlist_grammar.specs.declared.tree.NetKind.TheVariants as kind
 use Rattle.xr_design.specs.Design.{FitsName, Spelling, is_part, has_parts, no_name, spelling_of}
 use Rattle.xr_design.specs.Fits.{FitsDriver}
-use Rattle.xr_design.specs.Order.{arguments_of_driver}
 use Rattle.xr_design.specs.declared.design.Driver.{Driver}
 use Rattle.xr_design.specs.declared.design.Driver.TheVariants.{Input, Undriven, Constant, Copy, Cell, Register}
-use Rattle.xr_design.specs.declared.design.Latching.{Latching}
 use Rattle.xr_design.specs.declared.name.Name.{Name}
 use Rattle.xr_design.specs.declared.name.NamePart.{NamePart}
-use Rattle.xr_elab_nets.specs.Outcome.{Outcome}
 use Rattle.xr_elab_nets.specs.Ranges.{upto, width_of, bit_at}
 use Rattle.xr_elab_nets.specs.State.{State, net_count, first_driver, part_of, name_of, with_nets, made, has_driver, with_driver, driven}
-use Rattle.xr_elab_tree.specs.Sound.{name_at, texts_at, part_texts, Within, DriverFits, MaybeFits, IsSound, Grows}
+use Rattle.xr_elab_tree.specs.Sound.{texts_at, part_texts, Within, DriverFits, MaybeFits, IsSound}
 use Rattle.xr_elab_tree.proofs.Steps.{chosen, Drives}
-use Rattle.xr_elab_tree.proofs.Lists.{all_append, all_upto, all_set, all_more, length_upto, at_upto, grows_append, AreApart, distinct_append, distinct_upto, bits_apart, bits_fit}
+use Rattle.xr_elab_tree.proofs.Lists.{all_append, all_upto, all_set, all_more, length_upto, at_upto, AreApart, distinct_append, distinct_upto, bits_apart, bits_fit}
 
 -- ---- drivers
 
@@ -132,14 +129,14 @@ count_made prefix what range w s = length-append s.names _ ∙ ap (λ (n : ℕ).
 pub made_sound : (tables : List Table) (prefix : List NamePart) (what : NetKind) (range : Range) (w : Word) (s : State) → IsSound tables s → list_all is_part prefix ≡ true → IsName w → IsRange range
     → IsNew prefix w s.names → length s.names + net_count what range ≤ 2 ^ 20 → IsSound tables (with_nets prefix what range w s)
 made_sound tables prefix what range w s sound parts name fits new few = record {
-    as_many = length-append s.drivers _ ∙ ap₂ ◌+◌ sound.as_many (length_upto _ (net_count what range)) ∙ sym many;
-    few = (let many = many in omega (arith, many, few));
-    drivers = all_append _ s.drivers _ (all_more _ _ (maybe_more tables _ _ (let many = many in omega (arith, many))) s.drivers sound.drivers) (all_upto _ _ (net_count what range) (λ k less. first_fits tables _ prefix what));
-    names = all_append FitsName s.names _ sound.names (new_fit prefix what range w parts name fits);
-    distinct = distinct_append s.names _ sound.distinct
+  as_many = length-append s.drivers _ ∙ ap₂ ◌+◌ sound.as_many (length_upto _ (net_count what range)) ∙ sym many;
+  few = (let many = many in omega (arith, many, few));
+  drivers = all_append _ s.drivers _ (all_more _ _ (maybe_more tables _ _ (let many = many in omega (arith, many))) s.drivers sound.drivers) (all_upto _ _ (net_count what range) (λ k less. first_fits tables _ prefix what));
+  names = all_append FitsName s.names _ sound.names (new_fit prefix what range w parts name fits);
+  distinct = distinct_append s.names _ sound.distinct
       (distinct_upto _ (net_count what range) (λ k j k_in j_in same. bits_apart range k j (count_below what range k k_in) (count_below what range j j_in) (index_same prefix w _ _ same)))
       (new_apart prefix what range w s.names new);
-  }
+}
   where
     many : length (with_nets prefix what range w s).names ≡ length s.names + net_count what range
     many = count_made prefix what range w s

@@ -1,5 +1,5 @@
 -- What holds after one step holds after several.
-use Rattle.std.proofs.Common.{◌≡◌, ℕ, ◌<◌, ◌≤◌, ltb, Bool, true, false, List, [], length, refl, sym, ◌∙◌, ap, subst, arith, Result, Ok, Err, IfOk, IfSome, Option, Some, None, if◌then◌else◌, ltb-true, ltb-false}
+use Rattle.std.proofs.Common.{◌≡◌, ℕ, ◌<◌, ◌≤◌, ltb, Bool, true, false, List, [], length, refl, sym, ◌∙◌, subst, arith, Ok, Err, IfOk, IfSome, Option, Some, None, if◌then◌else◌, ltb-true, ltb-false}
 use Rattle.xr_cell.specs.Table.{Table}
 use Rattle.xr_design.specs.Design.{spelling_of}
 use Rattle.xr_design.specs.declared.name.Name.{Name}
@@ -7,9 +7,8 @@ use Rattle.xr_design.specs.declared.name.NamePart.{NamePart}
 use Rattle.xr_elab_nets.specs.declared.fault.ElabErr.{ElabErr}
 use Rattle.xr_elab_nets.specs.Outcome.{Outcome, after, or_refuse}
 use Rattle.xr_elab_nets.specs.State.{State}
-use Rattle.xr_elab_names.specs.Scope.{Scope}
 use Rattle.xr_elab_names.specs.Here.{Here, here_of}
-use Rattle.xr_elab_tree.specs.Sound.{name_at, texts_at, Within, Under, IsSound, Knows, StandsWell, Grows, Keeps}
+use Rattle.xr_elab_tree.specs.Sound.{texts_at, Within, Under, IsSound, Knows, StandsWell, Grows, Keeps}
 
 -- ---- outcomes
 
@@ -42,10 +41,10 @@ grows_same kind names = record { longer = omega arith; same = λ net old. refl; 
 
 pub grows_both : (kind : List (List ℕ) → Type 0) (a b c : List Name) → Grows kind a b → Grows kind b c → Grows kind a c
 grows_both kind a b c g h = record {
-    longer = omega (arith, g.longer, h.longer);
-    same = λ net old. h.same net (omega (arith, g.longer)) ∙ g.same net old;
-    made = λ net new within. by net new within (ltb net (length b)) refl;
-  }
+  longer = omega (arith, g.longer, h.longer);
+  same = λ net old. h.same net (omega (arith, g.longer)) ∙ g.same net old;
+  made = λ net new within. by net new within (ltb net (length b)) refl;
+}
   where
     by : (net : ℕ) → length a ≤ net → net < length c → (o : Bool) → ltb net (length b) ≡ o → kind (texts_at c net)
     by net new within true is =

@@ -1,5 +1,5 @@
 -- The tables that primitives are built to.
-use Rattle.std.proofs.Common.{◌≡◌, ℕ, suc, ◌+◌, ◌<◌, ◌≤◌, Bool, true, false, List, [], ◌∷◌, length, refl, sym, ap, subst, arith, Ok}
+use Rattle.std.proofs.Common.{◌≡◌, ℕ, suc, ◌≤◌, Bool, true, false, List, [], ◌∷◌, length, refl, sym, ap, subst, arith, Ok}
 use Rattle.std.specs.List.{AllByRecursion}
 use Rattle.xr_cell.specs.declared.value.Value.{Value}
 use Rattle.xr_cell.specs.declared.value.Value.TheVariants.{Zero, One, X, Z}
@@ -11,7 +11,7 @@ use Rattle.xr_netlist_grammar.specs.declared.tree.PrimKind.{PrimKind}
 use Rattle.xr_netlist_grammar.specs.declared.tree.PrimKind.TheVariants.{Output, Input, Reg, Initial}
 use Rattle.xr_netlist_grammar.specs.declared.tree.PrimDeclare.{PrimDeclare}
 use Rattle.xr_netlist_grammar.specs.declared.tree.Primitive.{Primitive}
-use Rattle.xr_elab_prims.specs.Built.{start_or, start_in, inputs_of, table_in, IsBuilt, AreBuilt}
+use Rattle.xr_elab_prims.specs.Built.{start_or, start_in, inputs_of, IsBuilt, AreBuilt}
 
 -- A table has at most 10 inputs, and doesn't start at z.
 pub record TableFits (t : Table) : Type 0 where

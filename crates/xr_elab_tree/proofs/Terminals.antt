@@ -1,5 +1,5 @@
 -- The terminals of gates and primitives, and assignments.
-use Rattle.std.proofs.Common.{◌≡◌, ℕ, ◌+◌, ◌<◌, ◌≤◌, Bool, List, [], ◌∷◌, ◌++◌, length, refl, sym, ◌∙◌, subst, arith, Option, Some, None, IfOk, IfSome, Ok, Err, length-append}
+use Rattle.std.proofs.Common.{◌≡◌, ℕ, ◌+◌, ◌<◌, ◌≤◌, Bool, List, [], ◌∷◌, ◌++◌, length, ◌∙◌, arith, Option, Some, None, IfOk, IfSome, length-append}
 use Rattle.std.specs.List.{AllByRecursion}
 use Rattle.xr_cell.specs.Table.{Table}
 use Rattle.xr_netlist_grammar.specs.Whole.{IsName, IsExpr, IsValue, IsDeclare}
@@ -13,8 +13,8 @@ use Rattle.xr_design.specs.declared.design.Pin.TheVariants as pin
 use Rattle.xr_design.specs.declared.design.Driver.TheVariants.{Undriven}
 use Rattle.xr_elab_nets.specs.declared.fault.ElabErr.TheVariants.{PortMismatch, Width}
 use Rattle.xr_elab_nets.specs.Outcome.{Outcome, or_refuse}
-use Rattle.xr_elab_nets.specs.State.{State, driven}
-use Rattle.xr_elab_names.specs.Here.{Here, here_of}
+use Rattle.xr_elab_nets.specs.State.{driven}
+use Rattle.xr_elab_names.specs.Here.{Here}
 use Rattle.xr_elab_bits.specs.declared.run.Lane.{Lane}
 use Rattle.xr_elab_bits.specs.declared.expression.Role.TheVariants.{Driven, Taken, Terminal}
 use Rattle.xr_elab_bits.specs.Lanes.{single}
@@ -25,7 +25,7 @@ use Rattle.xr_elab_tree.specs.Sound.{Within, StandsWell}
 use Rattle.xr_elab_tree.proofs.Steps.{also, there_or, any_ok, weaker, Stays, stays_same, stays_both, still, stays_driven}
 use Rattle.xr_elab_tree.proofs.Lists.{all_append, all_more}
 use Rattle.xr_elab_tree.proofs.Nets.{undriven_fits, driven_drives}
-use Rattle.xr_elab_tree.proofs.Bits.{FitsPin, pin_more, FitLanes, lanes_more, AreParts, HasBits, bits_stay, parts_of}
+use Rattle.xr_elab_tree.proofs.Bits.{FitsPin, pin_more, FitLanes, AreParts, bits_stay, parts_of}
 use Rattle.xr_elab_tree.proofs.Driving.{drives_drive}
 
 -- ---- pins

@@ -1,5 +1,5 @@
 -- The definitions that instances name.
-use Rattle.std.specs.Prelude.{ℕ, Bool, false, [], List, slice_index_or}
+use Rattle.std.specs.Prelude.{ℕ, false, [], List, slice_index_or}
 use Rattle.xr_cell.specs.Table.{Table}
 use Rattle.xr_netlist_grammar.specs.declared.tree.Word.{Word}
 use Rattle.xr_netlist_grammar.specs.declared.tree.Module.{Module}

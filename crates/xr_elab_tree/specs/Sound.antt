@@ -53,7 +53,8 @@ pub record IsSound (tables : List Table) (s : State) : Type 0 where
   pub few : length s.names ≤ 2 ^ 20
   pub drivers : AllByRecursion (MaybeFits tables (length s.names)) s.drivers
   pub names : AllByRecursion FitsName s.names
-  pub distinct : (net other : ℕ) → net < length s.names → other < length s.names → spelling_of (name_at s.names net) ≡ spelling_of (name_at s.names other) → net ≡ other
+  pub distinct : (net other : ℕ) → net < length s.names → other < length s.names
+      → spelling_of (name_at s.names net) ≡ spelling_of (name_at s.names other) → net ≡ other
 
 -- ---- scopes
 
@@ -61,12 +62,15 @@ pub record IsSound (tables : List Table) (s : State) : Type 0 where
 abbrev pub IsMade : ℕ → Entry → Type 0
 IsMade width e = e.base + net_count e.what e.range ≤ width
 
--- The scope knows each net of its module by a name, and each net below it by an instance; the nets of its names are there.
+-- The scope knows each net of its module by a name, and each net below it by an instance. The nets of its names are
+-- there.
 pub record Knows (c : Scope) (names : List Name) : Type 0 where
   pub parts : list_all is_part c.prefix ≡ true
   pub nets : (name : List ℕ) (e : Entry) → entry_of c name ≡ Some e → IsMade (length names) e
-  pub own : (net : ℕ) (text : List ℕ) → net < length names → texts_at names net ≡ part_texts c.prefix ++ text ∷ [] → is_some (entry_of c text) ≡ true
-  pub below : (net : ℕ) (text next : List ℕ) (rest : List (List ℕ)) → net < length names → texts_at names net ≡ part_texts c.prefix ++ text ∷ next ∷ rest → has c.instances text ≡ true
+  pub own : (net : ℕ) (text : List ℕ) → net < length names
+      → texts_at names net ≡ part_texts c.prefix ++ text ∷ [] → is_some (entry_of c text) ≡ true
+  pub below : (net : ℕ) (text next : List ℕ) (rest : List (List ℕ)) → net < length names
+      → texts_at names net ≡ part_texts c.prefix ++ text ∷ next ∷ rest → has c.instances text ≡ true
 
 -- Elaboration stands well.
 pub record StandsWell (tables : List Table) (here : Here) : Type 0 where
