@@ -6,7 +6,7 @@ use std::test::Fail;
 use xr_base::Items;
 use xr_design::Driver;
 use xr_elab_names::{PortNames, Scope};
-use xr_elab_nets::Nets;
+use xr_elab_nets::{ElabErr, Nets};
 use xr_netlist_grammar::{
     Connection, Connections, Declare, Expr, InstanceItem, Item, Module, NetKind, Part, PartKind,
     Word,
@@ -58,6 +58,19 @@ fn child(alloc: Global) -> Result<Module, AllocError> {
     })
 }
 
+/// The nets behind an instance of the child.
+fn nets_joined<'t>(
+    alloc: Global,
+    child: &'t Module,
+    instance: &'t InstanceItem,
+) -> Result<Nets, ElabErr> {
+    let ports = PortNames::new(alloc, child.ports.as_slice())?;
+    let mut scope = Scope::new(alloc, Items::from_vec(Vec::new(alloc)));
+    let mut nets = Nets::new(alloc);
+    let _inner = join(alloc, &mut scope, &mut nets, &ports, child, instance)?;
+    Ok(nets)
+}
+
 #[test]
 fn ports_are_connected(rt: HostRuntime) -> Result<(), Fail> {
     let alloc = rt.alloc();
@@ -68,13 +81,9 @@ fn ports_are_connected(rt: HostRuntime) -> Result<(), Fail> {
         name: Some(word(alloc, b"u")?),
         connections: Connections::Positional(Items::from_vec(list)),
     };
-    let ports = PortNames::new(alloc, module.ports.as_slice())?;
-    let mut scope = Scope::new(alloc, Items::from_vec(Vec::new(alloc)));
-    let mut nets = Nets::new(alloc);
-    match join(alloc, &mut scope, &mut nets, &ports, &module, &instance) {
-        Ok(inner) => assert_eq!(rt; inner.prefix().len(), 1),
-        Err(_) => panic!(rt; "refused"),
-    }
+    let Ok(nets) = nets_joined(alloc, &module, &instance) else {
+        panic!(rt; "refused");
+    };
     let design = nets.into_design(alloc, Vec::new(alloc))?;
     let nets = design.nets.as_slice();
     assert_eq!(rt; nets.len(), 4);

@@ -1,17 +1,22 @@
 -- The primitives are built, or one is refused.
-use Rattle.std.proofs.Common.{◌≡◌, ◌≢◌, ℕ, ◌+◌, ◌<◌, Bool, true, false, List, [], ◌∷◌, ◌++◌, length, take, drop, get_or, Result, Ok, Err, IfOk, IfErr, refl, sym, ap, subst, ◌∙◌, arith, add-one, inl, inr, ◌⊎◌}
+use Rattle.std.proofs.Common.{◌≡◌, ◌≢◌, ℕ, ◌+◌, ◌<◌, true, false, List, [], ◌∷◌, ◌++◌, length, take, drop, get_or, zero, suc, slice_get, Some, Result, Ok, Err, IfOk, IfErr, refl, sym, ap, subst, ◌∙◌, add-one, inl, inr}
 use Rattle.std.proofs.lemmas.List.{take_more, take-append-drop}
 use Rattle.std.proofs.Math.Seq.{drop-cons}
 use Rattle.std.specs.Result.{IsErrAnd}
 use Rattle.xr_cell.specs.declared.refusal.UdpErr.{UdpErr}
+use Rattle.xr_cell.specs.declared.value.Value.{Value}
+use Rattle.xr_cell.specs.declared.value.Value.TheVariants.{Zero, One, X, Z}
 use Rattle.xr_cell.specs.Table.{Table}
+use Rattle.xr_netlist_grammar.specs.declared.tree.PrimKind.{PrimKind}
+use Rattle.xr_netlist_grammar.specs.declared.tree.PrimKind.TheVariants.{Output, Input, Reg, Initial}
+use Rattle.xr_netlist_grammar.specs.declared.tree.PrimDeclare.{PrimDeclare}
 use Rattle.xr_netlist_grammar.specs.declared.tree.Primitive.{Primitive}
 use Rattle.xr_netlist_grammar.specs.Trees.{is_sequential}
 use Rattle.xr_elab_nets.specs.declared.fault.ElabErr.{ElabErr}
 use Rattle.xr_elab_nets.specs.declared.fault.ElabErr.TheVariants.{NoModule, TwoModules, SelfInstance, TooDeep, PortMismatch, Width, BadName, TwoDrivers, TooManyNets, TooManyLive, Udp, Memory}
 use Rattle.xr_elab_nets.specs.Outcome.{Outcome}
 use Rattle.xr_elab_prims.specs.Ports.{matches_ports}
-use Rattle.xr_elab_prims.specs.Built.{inputs_of, table_in, IsRefused, IsBuilt, AreBuilt, IsAnswer}
+use Rattle.xr_elab_prims.specs.Built.{inputs_of, table_in, IsRefused, IsBuilt, AreBuilt, IsAnswer, AreTables, start_or, start_in}
 use Rattle.xr_elab_prims.proofs.FaultLemmas.{legal_or_refused, fault_once}
 
 -- ---- one outcome
@@ -148,3 +153,47 @@ no_tables ps (Err f) e seen is = tt
 
 pub stopped_answer : {B : Type 0} (ps : List Primitive) (result : Result B ElabErr) (e : ElabErr) (seen : B → List Table) → IsErrAnd result (λ f. f ≡ e) → (e ≢ Memory → AreBuilt ps (Err e)) → IsAnswer ps result seen
 stopped_answer ps result e seen is refused = answered ps result seen (no_tables ps result e seen is) (stopped ps result e is refused)
+
+-- ---- the tables by position
+
+never_z : (rest : Value) (what : PrimKind) → (rest ≡ Z → ⊥) → start_or what rest ≡ Z → ⊥
+never_z rest Output h is = h is
+never_z rest Input h is = h is
+never_z rest Reg h is = h is
+never_z rest (Initial Zero) h is = absurd cc
+never_z rest (Initial One) h is = absurd cc
+never_z rest (Initial X) h is = absurd cc
+never_z rest (Initial Z) h is = absurd cc
+
+start_never_z : (ds : List PrimDeclare) → start_in ds ≡ Z → ⊥
+start_never_z [] is = absurd cc
+start_never_z (d ∷ ds) is = never_z (start_in ds) d.what (start_never_z ds) is
+
+pub as_long : (ps : List Primitive) (tables : List Table) → AreBuilt ps (Ok tables) → length tables ≡ length ps
+as_long [] [] built = refl
+as_long [] (t ∷ ts) built = absurd built
+as_long (p ∷ ps) [] built = absurd built
+as_long (p ∷ ps) (t ∷ ts) built = ap suc (as_long ps ts built.1)
+
+pub built_at : (ps : List Primitive) (tables : List Table) (k : ℕ) (p : Primitive) (table : Table) → AreBuilt ps (Ok tables) → slice_get ps k ≡ Some p → slice_get tables k ≡ Some table → IsBuilt p (Ok table)
+built_at [] [] k p table built at here = absurd cc
+built_at [] (t ∷ ts) k p table built at here = absurd built
+built_at (q ∷ ps) [] k p table built at here = absurd built
+built_at (q ∷ ps) (t ∷ ts) zero p table built at here =
+    let one : q ≡ p = cc in
+    let two : t ≡ table = cc in
+    subst (λ (x : Primitive). IsBuilt x (Ok table)) one (subst (λ (u : Table). IsBuilt q (Ok u)) two built.0)
+built_at (q ∷ ps) (t ∷ ts) (suc k) p table built at here = built_at ps ts k p table built.1 at here
+
+start_at : (ps : List Primitive) (tables : List Table) (k : ℕ) (table : Table) → AreBuilt ps (Ok tables) → slice_get tables k ≡ Some table → table.start ≡ Z → ⊥
+start_at [] [] k table built here is = absurd cc
+start_at [] (t ∷ ts) k table built here is = absurd built
+start_at (q ∷ ps) [] k table built here is = absurd built
+start_at (q ∷ ps) (t ∷ ts) zero table built here is =
+    let same : t ≡ table = cc in
+    start_never_z q.declarations (ap (λ (u : Table). u.start) (sym built.0.0 ∙ same) ∙ is)
+start_at (q ∷ ps) (t ∷ ts) (suc k) table built here is = start_at ps ts k table built.1 here is
+
+-- The tables are those of the primitives.
+pub are_tables : (ps : List Primitive) (tables : List Table) → AreBuilt ps (Ok tables) → AreTables ps tables
+are_tables ps tables built = record { long = as_long ps tables built; each = λ k p table at here. built_at ps tables k p table built at here; start = λ k table here is. start_at ps tables k table built here is }

@@ -1,19 +1,20 @@
 -- The map of the definitions' names means what the names define.
-use Rattle.std.proofs.Common.{◌≡◌, ℕ, ◌+◌, ◌<◌, ◌≤◌, Bool, true, false, cond, List, [], ◌∷◌, ◌++◌, length, Option, Some, None, refl, sym, ap, ◌∙◌, bytes_eq, Bor, if◌then◌else◌, is_some, position, arith, nat_lt, ◌==◌, inl, inr, length-append, not, take, get_or, subst}
+use Rattle.std.proofs.Common.{◌≡◌, ℕ, ◌+◌, ◌<◌, ◌≤◌, Bool, true, false, cond, List, [], ◌∷◌, ◌++◌, length, Option, Some, None, refl, sym, ap, ◌∙◌, bytes_eq, Bor, if◌then◌else◌, is_some, position, arith, nat_lt, ◌==◌, inl, inr, length-append, not, take, get_or, subst, IfSome}
 use Rattle.std.proofs.lemmas.List.{length-take-le, take_more}
 use Rattle.std.specs.Map.{lookup}
 use Rattle.std.specs.Option.{option_or, option_map}
 use Rattle.std.specs.List.{position_or_len}
 use Rattle.std.proofs.lemmas.List.Folds.{position_or_len_push}
 use Rattle.std.proofs.lemmas.List.Sums.{prefix_len-le-length}
-use Rattle.std.proofs.lemmas.Bool.{cases_lt, lt-ltb, le-ltb}
+use Rattle.std.proofs.lemmas.Bool.{cases_lt, lt-ltb, le-ltb, ltb-true}
 use Rattle.std.proofs.lemmas.Bool.Decides.{nat_tests}
 use Rattle.indexmap.specs.IndexMap.{insert_entry}
 use Rattle.xr_netlist_grammar.specs.declared.tree.Module.{Module}
 use Rattle.xr_netlist_grammar.specs.declared.tree.Primitive.{Primitive}
+use Rattle.xr_netlist_grammar.specs.declared.tree.Source.{Source}
 use Rattle.xr_elab_prims.specs.declared.definitions.Definition.{Definition}
 use Rattle.xr_elab_prims.specs.declared.definitions.Definition.TheVariants as definition
-use Rattle.xr_elab_prims.specs.Definitions.{numbers_in, with_number, definition_in, Finds}
+use Rattle.xr_elab_prims.specs.Definitions.{numbers_in, with_number, definition_in, Finds, definition_of, IsThere}
 use Rattle.xr_elab_prims.proofs.NameLemmas.{bytes_same}
 
 -- ---- the map
@@ -172,3 +173,25 @@ number_new numbers old name d is absent =
 
 pub number_known : (old : List (List ℕ × Definition)) (name : List ℕ) (d : Definition) → is_some (lookup (bytes_eq name) old) ≡ true → old ≡ with_number name d old
 number_known old name d there = sym (ap (λ (b : Bool). if b then old else (old ++ (name, d) ∷ [])) there)
+
+-- ---- a definition is there
+
+within_by : (t : Bool) (k n : ℕ) → nat_lt k n ≡ t → IfSome (cond t (Some k) None) (λ (i : ℕ). i < n)
+within_by true k n less = ltb-true k n less
+within_by false k n less = tt
+
+position_within : {X : Type 0} (p : X → Bool) (xs : List X) → IfSome (position p xs) (λ (i : ℕ). i < length xs)
+position_within p xs = within_by (nat_lt (position_or_len p xs) (length xs)) (position_or_len p xs) (length xs) refl
+
+there_by : (s : Source) (m p : Option ℕ) → IfSome m (λ (k : ℕ). k < length s.modules) → IfSome p (λ (k : ℕ). k < length s.primitives)
+    → IfSome (option_or (option_map definition.Module m) (option_map definition.Primitive p)) (λ (d : Definition). IsThere s d)
+there_by s (Some k) p one two = one
+there_by s None (Some k) one two = two
+there_by s None None one two = tt
+
+pub there : (s : Source) (name : List ℕ) → IfSome (definition_of s name) (λ (d : Definition). IsThere s d)
+there s name = there_by s _ _ (position_within (λ (m : Module). bytes_eq name m.name.text) s.modules) (position_within (λ (p : Primitive). bytes_eq name p.name.text) s.primitives)
+
+pub found_there : (s : Source) (name : List ℕ) (found : Option Definition) (numbers : List (List ℕ × Definition)) → Finds numbers s.modules s.primitives → found ≡ lookup (bytes_eq name) numbers
+    → IfSome found (λ (d : Definition). IsThere s d)
+found_there s name found numbers finds is = subst (λ (o : Option Definition). IfSome o (λ (d : Definition). IsThere s d)) (sym (is ∙ finds.same name)) (there s name)

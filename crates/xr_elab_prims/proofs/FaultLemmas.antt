@@ -1,12 +1,12 @@
 -- A table has one refusal, and a legal one has none.
-use Rattle.std.proofs.Common.{◌≡◌, ◌≢◌, ℕ, ◌+◌, ◌<◌, ◌≤◌, Bool, true, false, List, length, refl, sym, ap, subst, ◌∙◌, arith, inl, inr, ◌⊎◌}
+use Rattle.std.proofs.Common.{◌≡◌, ◌≢◌, ℕ, ◌+◌, ◌<◌, ◌≤◌, Bool, true, List, length, refl, sym, ap, subst, ◌∙◌, arith, inl, inr, ◌⊎◌}
 use Rattle.std.proofs.lemmas.Bool.{cases_lt}
 use Rattle.xr_cell.specs.declared.row.RawRow.{RawRow}
 use Rattle.xr_cell.specs.declared.refusal.UdpErr.{UdpErr}
 use Rattle.xr_cell.specs.declared.refusal.UdpErr.TheVariants.{TooManyInputs, RowLength, BadSymbol, TwoEdges, Conflict, Memory}
 use Rattle.xr_cell.specs.Row.{row_at}
-use Rattle.xr_cell.specs.Conflict.{NoConflict, IsFirstConflict, NoneFrom}
-use Rattle.xr_cell.specs.Refusal.{input_limit, has_length, has_symbols, has_one_edge, AllRows, IsFirstBad, IsFirstBadRow, AreRows, IsLegal, IsRefusal}
+use Rattle.xr_cell.specs.Conflict.{NoConflict, IsFirstConflict}
+use Rattle.xr_cell.specs.Refusal.{input_limit, has_length, has_symbols, has_one_edge, AllRows, IsFirstBadRow, IsLegal, IsRefusal}
 
 module _ (test : RawRow → Bool) (rows : List RawRow) where
   all_or_bad : (row : ℕ) → AllRows test rows → IsFirstBadRow test rows row → ⊥

@@ -1,5 +1,5 @@
 -- The declarations of a primitive, one by one.
-use Rattle.std.proofs.Common.{◌≡◌, ℕ, ◌+◌, ◌-◌, ◌≤◌, ◌<◌, Bool, true, false, List, [], ◌∷◌, ◌++◌, length, take, get_or, refl, sym, ap, ◌∙◌, if◌then◌else◌, arith, not, ◌&&◌, map}
+use Rattle.std.proofs.Common.{◌≡◌, ℕ, ◌+◌, ◌-◌, ◌≤◌, ◌<◌, Bool, true, false, List, [], ◌∷◌, ◌++◌, length, take, get_or, refl, sym, ap, ◌∙◌, if◌then◌else◌, arith}
 use Rattle.std.proofs.lemmas.List.{take_more}
 use Rattle.xr_netlist_grammar.specs.declared.tree.PrimKind.{PrimKind}
 use Rattle.xr_netlist_grammar.specs.declared.tree.PrimKind.TheVariants.{Output, Input, Reg, Initial}
@@ -8,7 +8,7 @@ use Rattle.xr_netlist_grammar.specs.declared.tree.Primitive.{Primitive}
 use Rattle.xr_netlist_grammar.specs.declared.tree.Word.{Word}
 use Rattle.xr_netlist_grammar.specs.Trees.{is_reg, prim_declare}
 use Rattle.xr_elab_prims.specs.Names.{names_of}
-use Rattle.xr_elab_prims.specs.Ports.{is_output, is_input, is_start, declared_as, declared, with_declared, Declared, matches_ports, ports_match}
+use Rattle.xr_elab_prims.specs.Ports.{is_output, is_input, is_start, declared_as, declared, by_kind, with_declared, Declared, matches_ports, ports_match}
 
 kept_by : (b : Bool) (name : List ℕ) (names more rest : List (List ℕ)) → names ≡ rest ++ more → (if b then name ∷ names else names) ≡ (if b then name ∷ rest else rest) ++ more
 kept_by true name names more rest is = ap (λ (l : List (List ℕ)). name ∷ l) is
@@ -24,11 +24,8 @@ as_before : (names : List (List ℕ)) → names ++ [] ≡ names
 as_before [] = refl
 as_before (n ∷ ns) = ap (λ (l : List (List ℕ)). n ∷ l) (as_before ns)
 
-abbrev parts : (outputs inputs regs starts : List (List ℕ)) → Declared
-parts outputs inputs regs starts = record { outputs = outputs; inputs = inputs; regs = regs; starts = starts }
-
-same_parts : (os is rs ss os' is' rs' ss' : List (List ℕ)) → os ≡ os' → is ≡ is' → rs ≡ rs' → ss ≡ ss' → parts os is rs ss ≡ parts os' is' rs' ss'
-same_parts os is rs ss os' is' rs' ss' o i r s = λ k. parts (o k) (i k) (r k) (s k)
+same_parts : (os is rs ss os' is' rs' ss' : List (List ℕ)) → os ≡ os' → is ≡ is' → rs ≡ rs' → ss ≡ ss' → by_kind os is rs ss ≡ by_kind os' is' rs' ss'
+same_parts os is rs ss os' is' rs' ss' o i r s = λ k. by_kind (o k) (i k) (r k) (s k)
 
 one_more : (ds : List PrimDeclare) (what : PrimKind) (name : Word) → declared (ds ++ prim_declare what name ∷ []) ≡ with_declared what name.text (declared ds)
 one_more ds Output name = same_parts _ _ _ _ _ _ _ _ (as_more is_output ds _) (as_more is_input ds _ ∙ as_before _) (as_more is_reg ds _ ∙ as_before _) (as_more is_start ds _ ∙ as_before _)

@@ -1,5 +1,5 @@
 -- The definitions of a text: modules and primitives, which share their names (IEEE 1364-2005, clauses 8.1 and 12).
-use Rattle.std.specs.Prelude.{◌≡◌, ℕ, Bool, false, nat_lt, Option, Some, None, List, [], ◌∷◌, ◌++◌, map, position, bytes_eq, option_copied, Ok, Err, is_some, if◌then◌else◌}
+use Rattle.std.specs.Prelude.{◌≡◌, ◌<◌, ℕ, Bool, false, nat_lt, Option, Some, None, List, [], ◌∷◌, ◌++◌, map, length, position, bytes_eq, option_copied, Ok, Err, is_some, if◌then◌else◌}
 use Rattle.std.specs.Borrow.{Bor}
 use Rattle.std.specs.Map.{lookup}
 use Rattle.std.specs.Option.{option_or, option_map}
@@ -19,7 +19,8 @@ primitive_names ps = map (λ (p : Primitive). p.name.text) ps
 -- A module's name stands behind those of the primitives before it, and ahead of the names behind it.
 abbrev pub placed : Module → (List Primitive → List (List ℕ)) → List Primitive → List (List ℕ)
 placed m behind [] = m.name.text ∷ behind []
-placed m behind (p ∷ ps) = if nat_lt p.name.at m.name.at then p.name.text ∷ placed m behind ps else m.name.text ∷ behind (p ∷ ps)
+placed m behind (p ∷ ps) =
+    if nat_lt p.name.at m.name.at then p.name.text ∷ placed m behind ps else m.name.text ∷ behind (p ∷ ps)
 
 -- The names of all definitions in text order.
 abbrev pub names_in_order : List Module → List Primitive → List (List ℕ)
@@ -29,6 +30,11 @@ names_in_order (m ∷ ms) ps = placed m (names_in_order ms) ps
 -- the names that are still to come
 abbrev pub names_left : InOrder → List (List ℕ)
 names_left o = names_in_order o.modules.now o.primitives.now
+
+-- the name of the next definition, and what is left
+abbrev pub TakesName : InOrder → Option (Bor (List ℕ)) → InOrder → Type 0
+TakesName old None new = names_left old ≡ []
+TakesName old (Some name) new = names_left old ≡ name.now ∷ names_left new
 
 -- whether the first of the primitives stands before a byte
 abbrev pub starts_before : List Primitive → ℕ → Bool
@@ -60,6 +66,11 @@ definition_in ms ps name =
 
 abbrev pub definition_of : Source → List ℕ → Option Definition
 definition_of s name = definition_in s.modules s.primitives name
+
+-- A definition stands at a position of the text.
+abbrev pub IsThere : Source → Definition → Type 0
+IsThere s (definition.Module k) = k < length s.modules
+IsThere s (definition.Primitive k) = k < length s.primitives
 
 -- what a map of names has
 abbrev pub numbers_in : List (Bor (List ℕ) × Definition) → List (List ℕ × Definition)

@@ -29,6 +29,10 @@ pub record AreClocks (table : Table) (pins : List Pin) (clocks : ℕ) : Type 0 w
 abbrev pub same_key : ℕ × ℕ → ℕ × ℕ → Bool
 same_key a b = (a.0 == b.0) && (a.1 == b.1)
 
+-- the clock pins of a primitive, with these dead pins
+abbrev pub mask_of : List Table → ℕ × ℕ → ℕ
+mask_of udps key = clock_bits (primitive_of udps key.0) key.1 (primitive_of udps key.0).inputs
+
 -- What is kept for a primitive and dead pins are its clock pins.
 pub record AreMasks (udps : List Table) (masks : List ((ℕ × ℕ) × ℕ)) : Type 0 where
-  pub each : (key : ℕ × ℕ) (mask : ℕ) → lookup (same_key key) masks ≡ Some mask → mask ≡ clock_bits (primitive_of udps key.0) key.1 (primitive_of udps key.0).inputs
+  pub each : (key : ℕ × ℕ) (mask : ℕ) → lookup (same_key key) masks ≡ Some mask → mask ≡ mask_of udps key

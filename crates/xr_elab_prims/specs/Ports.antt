@@ -31,8 +31,12 @@ pub record Declared : Type 0 where
   pub regs : List (List ℕ)
   pub starts : List (List ℕ)
 
+abbrev pub by_kind : (outputs inputs regs starts : List (List ℕ)) → Declared
+by_kind outputs inputs regs starts = record { outputs = outputs; inputs = inputs; regs = regs; starts = starts }
+
 abbrev pub declared : List PrimDeclare → Declared
-declared ds = record { outputs = declared_as is_output ds; inputs = declared_as is_input ds; regs = declared_as is_reg ds; starts = declared_as is_start ds }
+declared ds =
+    by_kind (declared_as is_output ds) (declared_as is_input ds) (declared_as is_reg ds) (declared_as is_start ds)
 
 -- one declaration more
 abbrev pub with_declared : PrimKind → List ℕ → Declared → Declared
@@ -41,10 +45,14 @@ with_declared Input name d = record d { inputs = d.inputs ++ name ∷ [] }
 with_declared Reg name d = record d { regs = d.regs ++ name ∷ [] }
 with_declared (Initial value) name d = record d { starts = d.starts ++ name ∷ [] }
 
--- The first port is declared once as the output, and no other is. `reg` and a start are for it, at most once each, and a
--- start comes only with `reg`.
+-- A start comes only with `reg`.
+abbrev pub has_reg_for_start : Declared → Bool
+has_reg_for_start d = is_nothing d.starts || not (is_nothing d.regs)
+
+-- The first port is declared once as the output, and no other is. `reg` and a start are for it, at most once each.
 abbrev pub first_matches : List ℕ → Declared → Bool
-first_matches first d = is_alone first d.outputs && is_at_most first d.regs && is_at_most first d.starts && (is_nothing d.starts || not (is_nothing d.regs))
+first_matches first d =
+    is_alone first d.outputs && is_at_most first d.regs && is_at_most first d.starts && has_reg_for_start d
 
 -- Each other port is declared once as an input, and nothing else is.
 abbrev pub others_match : List (List ℕ) → Declared → Bool
@@ -53,7 +61,8 @@ others_match others d = are_distinct d.inputs && are_among others d.inputs && ar
 -- There is an input at least, the ports have distinct names, and each is declared as it must be.
 abbrev pub ports_match : List (List ℕ) → Declared → Bool
 ports_match [] d = false
-ports_match (first ∷ others) d = not (is_nothing others) && are_distinct (first ∷ others) && first_matches first d && others_match others d
+ports_match (first ∷ others) d =
+    not (is_nothing others) && are_distinct (first ∷ others) && first_matches first d && others_match others d
 
 abbrev pub matches_ports : Primitive → Bool
 matches_ports p = ports_match (names_of p.ports) (declared p.declarations)

@@ -13,10 +13,11 @@ use xr_cell::{Udp, UdpErr, Value};
 use xr_elab_nets::ElabErr;
 use xr_netlist_grammar::{PrimDeclare, PrimKind, Primitive};
 
-/// The tables of the primitives, in their order, or the first refusal. Takes what `Udp::build` takes for each, and a few
-/// words for each port while it is looked at.
+/// The tables of the primitives, in their order, or the first refusal. Takes what `Udp::build` takes for each, and a
+/// few words for each port while it is looked at.
 pub fn build_primitives(alloc: Global, primitives: &[Primitive]) -> Result<Vec<Udp>, ElabErr>
     ensures built { IfOk result (λ udps. spec.AreBuilt primitives.now (Ok udps.items)) }
+    ensures tables { IfOk result (λ udps. spec.AreTables primitives.now udps.items) }
     ensures refused { IfErr result (λ e. e ≢ OutOfMemory → spec.AreBuilt primitives.now (Err e)) }
     ensures exact { spec.IsAnswer primitives.now result (λ udps. udps.items) }
 {

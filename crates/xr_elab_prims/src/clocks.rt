@@ -51,8 +51,8 @@ impl<'u> Clocks<'u> {
         }
     }
 
-    /// The clock pins of an instance of the primitive at a position. Bit i stands for pin i. They are worked out where these
-    /// dead pins come for the first time, by `Udp::is_clock` for each pin; then a place in a map is taken.
+    /// The clock pins of an instance of the primitive at a position. Bit i stands for pin i. They are worked out where
+    /// these dead pins come for the first time, by `Udp::is_clock` for each pin; then a place in a map is taken.
     pub fn clocks(&mut self, number: u32, pins: &[Pin]) -> Result<u16, AllocError>
         requires within { number < length self.old }
         requires kind { (primitive_of self.old number).sequential ≡ true }

@@ -37,9 +37,9 @@ impl<'t> Model for Definitions<'t> {
 }
 
 impl<'t> Definitions<'t> {
-    ghost use Rattle.std.specs.Prelude.{◌≡◌};
+    ghost use Rattle.std.specs.Prelude.{◌≡◌, IfSome};
     ghost use Rattle.xr_elab_nets.specs.Outcome.{Gives};
-    ghost use Rattle.xr_elab_prims.specs.Definitions.{all_named, definition_of};
+    ghost use Rattle.xr_elab_prims.specs.Definitions.{all_named, definition_of, IsThere};
 
     /// The definitions of a text, no two of one name. Takes a place in a map for each.
     pub fn new(alloc: Global, source: &'t Source) -> Result<Definitions<'t>, ElabErr>
@@ -69,7 +69,8 @@ impl<'t> Definitions<'t> {
 
     /// What a name defines. Takes no memory.
     pub fn find(&self, name: &[u8]) -> Option<Definition>
-        ensures { result ≡ definition_of self.now name.now }
+        ensures found { result ≡ definition_of self.now name.now }
+        ensures there { IfSome result (λ d. IsThere self.now d) }
     {
         self.numbers.find(name)
     }

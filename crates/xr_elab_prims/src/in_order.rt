@@ -1,6 +1,6 @@
 //! The definitions of a text in text order.
 
-ghost use Rattle.std.specs.Prelude.{◌≡◌, ◌∷◌, [], IfOk, MatchOption, option_copied};
+ghost use Rattle.std.specs.Prelude.{◌≡◌, IfOk, option_copied};
 ghost use Rattle.xr_elab_prims.specs.Definitions as spec;
 
 use std::alloc::{AllocError, Global};
@@ -37,7 +37,7 @@ pub(crate) fn repeated_name<'t>(
 impl<'t> InOrder<'t> {
     /// The name of the next definition.
     fn next(&mut self) -> Option<&'t [u8]>
-        ensures { MatchOption result (spec.names_left self.old ≡ []) (λ name. spec.names_left self.old ≡ name.now ∷ spec.names_left self.new) }
+        ensures { spec.TakesName self.old result self.new }
     {
         let [module, modules @ ..] = self.modules else {
             return self.next_primitive();

@@ -12,3 +12,6 @@ mod ports;
 pub use built::build_primitives;
 pub use clocks::{Clocks, live_count};
 pub use definitions::{Definition, Definitions};
+
+#[cfg(test)]
+mod tests;

@@ -20,11 +20,12 @@ struct Declared<'t> {
 
 impl<'t> Model for Declared<'t> {
     ghost use Rattle.xr_elab_prims.specs.Names.{texts};
-    ghost use Rattle.xr_elab_prims.specs.Ports.{Declared};
+    ghost use Rattle.xr_elab_prims.specs.Ports.{Declared, by_kind};
 
     ghost Value = { Declared };
 
-    ghost view = { λ d. record { outputs = texts d.outputs.items; inputs = texts d.inputs.items; regs = texts d.regs.items; starts = texts d.starts.items } };
+    ghost view = { λ d.
+        by_kind (texts d.outputs.items) (texts d.inputs.items) (texts d.regs.items) (texts d.starts.items) };
 }
 
 /// Whether the ports match. Takes a few words and a place in a set for each port and each declaration.
@@ -53,7 +54,14 @@ fn first_matches(first: &[u8], declared: &Declared<'_>) -> bool
     is_alone(first, declared.outputs.as_slice())
         && is_at_most(first, declared.regs.as_slice())
         && is_at_most(first, declared.starts.as_slice())
-        && (declared.starts.is_empty() || !declared.regs.is_empty())
+        && has_reg_for_start(declared)
+}
+
+/// Whether a start comes only with `reg`.
+fn has_reg_for_start(declared: &Declared<'_>) -> bool
+    ensures { result ≡ spec.has_reg_for_start declared.now }
+{
+    declared.starts.is_empty() || !declared.regs.is_empty()
 }
 
 fn others_match(

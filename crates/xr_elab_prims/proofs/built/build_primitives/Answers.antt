@@ -1,11 +1,10 @@
 -- One primitive more, or the first refusal.
-use Rattle.std.proofs.Common.{◌≡◌, ◌≢◌, ◌∙◌, ◌+◌, ◌++◌, ◌∷◌, [], List, take, Ok, Err, sym, ap, subst}
+use Rattle.std.proofs.Common.{◌+◌, List, take, Ok, sym, subst}
 use Rattle.std.proofs.lemmas.List.{take_all}
 use Rattle.xr_cell.specs.Table.{Table}
 use Rattle.xr_netlist_grammar.specs.declared.tree.Primitive.{Primitive}
-use Rattle.xr_elab_nets.specs.declared.fault.ElabErr.TheVariants.{Memory}
 use Rattle.xr_elab_prims.specs.Built.{AreBuilt}
-use Rattle.xr_elab_prims.proofs.BuiltLemmas.{answered, built_more, stops_at, stopped, stopped_answer}
+use Rattle.xr_elab_prims.proofs.BuiltLemmas.{answered, are_tables, built_more, stops_at, stopped, stopped_answer}
 use Rattle.xr_elab_prims.proofs.built.build_primitives.Goals as goal
 
 pub returns-in_err-build_primitive-clause-refused : goal.returns-in_err-build_primitive-clause-refused
@@ -25,6 +24,11 @@ primitives-preserved c =
     subst (λ (l : List Table). AreBuilt (take (c.primitives.primitive-index + 1) c.args.primitives.now) (Ok l)) (sym c.in_ok-push.ensures.items)
     (built_more c.args.primitives.now c.primitives.primitive-index c.primitive-item.result c.primitives.udps.items c.in_ok-build_primitive.field-0 c.primitives-test.true c.primitive-item.is c.primitives.invariant
     c.in_ok-build_primitive.ensures.built)
+
+pub returns-clause-tables : goal.returns-clause-tables
+returns-clause-tables c =
+    are_tables c.args.primitives.now c.primitives.udps.items
+    (subst (λ (l : List Primitive). AreBuilt l (Ok c.primitives.udps.items)) (take_all c.primitives.primitive-index c.args.primitives.now c.primitives-test.false) c.primitives.invariant)
 
 pub returns-clause-exact : goal.returns-clause-exact
 returns-clause-exact c =

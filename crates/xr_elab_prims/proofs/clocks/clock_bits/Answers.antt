@@ -1,6 +1,5 @@
 -- One bit more has room.
-use Rattle.std.proofs.Common.{◌<◌, ◌+◌, ◌^◌, ℕ, sym, subst, arith, if◌then◌else◌}
-use Rattle.xr_cell.specs.Clock.{is_clock}
+use Rattle.std.proofs.Common.{◌<◌, ◌^◌, ℕ, sym, subst, arith}
 use Rattle.xr_elab_prims.proofs.PinLemmas.{bits_small, bit_fits}
 use Rattle.xr_elab_prims.proofs.clocks.clock_bits.Goals as goal
 

@@ -1,5 +1,5 @@
 -- One pin more.
-use Rattle.std.proofs.Common.{◌≡◌, ◌<◌, ◌+◌, ◌^◌, ◌∙◌, ℕ, Bool, sym, ap, subst, take, arith, if◌then◌else◌}
+use Rattle.std.proofs.Common.{◌<◌, ◌+◌, ◌^◌, ◌∙◌, ℕ, Bool, sym, ap, subst, take, arith, if◌then◌else◌}
 use Rattle.xr_design.specs.Fits.{dead_pins}
 use Rattle.xr_elab_prims.proofs.PinLemmas.{dead_small_at, dead_more_at, bit_fits}
 use Rattle.xr_elab_prims.proofs.clocks.dead_pins.Goals as goal

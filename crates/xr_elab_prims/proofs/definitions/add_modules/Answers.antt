@@ -1,5 +1,4 @@
 -- One module more.
-use Rattle.std.proofs.Common.{subst}
 use Rattle.xr_elab_prims.proofs.DefinitionLemmas.{finds_module_at}
 use Rattle.xr_elab_prims.proofs.definitions.add_modules.Goals as goal
 

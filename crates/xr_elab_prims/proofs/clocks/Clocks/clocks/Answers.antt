@@ -1,10 +1,8 @@
 -- What is kept, and what is found anew.
-use Rattle.std.proofs.Common.{◌≡◌, ◌∙◌, ◌<◌, ℕ, List, length, Some, sym, ap, subst}
-use Rattle.std.specs.Map.{lookup}
+use Rattle.std.proofs.Common.{◌<◌, ℕ, List, length, sym, subst}
 use Rattle.xr_cell.specs.Table.{Table}
-use Rattle.xr_design.specs.Fits.{dead_pins}
 use Rattle.xr_design.specs.Job.{primitive_of}
-use Rattle.xr_elab_prims.specs.Pins.{clock_bits, clocks_of, AreClocks, same_key}
+use Rattle.xr_elab_prims.specs.Pins.{AreClocks}
 use Rattle.xr_elab_prims.proofs.PinLemmas.{kept, masks_more, clocks_fit, bits_of_inputs, fit_anew}
 use Rattle.xr_elab_prims.proofs.clocks.Clocks.clocks.Goals as goal
 

@@ -1,8 +1,8 @@
 -- The map means the list.
-use Rattle.std.proofs.Common.{◌≡◌, ◌∙◌, List, ℕ, Bool, true, false, sym, ap, bytes_eq, is_some}
+use Rattle.std.proofs.Common.{◌≡◌, ◌∙◌, List, ℕ, true, false, sym, ap, bytes_eq, is_some}
 use Rattle.std.specs.Map.{lookup}
 use Rattle.xr_elab_prims.specs.declared.definitions.Definition.{Definition}
-use Rattle.xr_elab_prims.specs.Definitions.{numbers_in, with_number}
+use Rattle.xr_elab_prims.specs.Definitions.{numbers_in}
 use Rattle.xr_elab_prims.proofs.DefinitionLemmas.{found_is, inserted_is, number_new, number_known}
 use Rattle.xr_elab_prims.proofs.definitions.Numbers.add.Goals as goal
 
