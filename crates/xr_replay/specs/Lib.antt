@@ -2,5 +2,6 @@
 pub mod Fault
 pub mod Filled
 pub mod Forced
+pub mod Noted
 pub mod Read
 pub mod Sides

@@ -2,17 +2,18 @@
 //! Start at `replay` and `compare`.
 #![tactic(auto)]
 
+mod moments;
 mod differ;
 mod driven;
 mod forced;
-mod moments;
 mod pins;
 mod recorded;
 mod register;
 mod settled;
 mod sides;
 mod steps;
+mod unmoved;
 
-pub use differ::Differ;
 pub use moments::compare;
+pub use differ::Differ;
 pub use steps::replay;

@@ -1,10 +1,14 @@
 -- The events so far are taken.
-use Rattle.std.proofs.Common.{◌-◌, length}
+use Rattle.std.proofs.Common.{◌≡◌, ◌≤◌, ◌-◌, length}
 use Rattle.xr_replay.specs.Forced.{HasTaken}
 use Rattle.xr_replay.proofs.forced.take_events.Given as goal
 
 abbrev pub invariant-events : goal.invariant-events
-invariant-events l = HasTaken (length l.initial.values) l.events l.step l.next l.values
+invariant-events l = record {
+  taken : HasTaken (length l.initial.values) l.events l.step l.next l.values;
+  grows : l.taken ≤ l.next;
+  same : l.next ≡ l.taken → l.values ≡ l.initial.values;
+}
 
 abbrev pub decreases-events : goal.decreases-events
 decreases-events l = length l.events - l.next

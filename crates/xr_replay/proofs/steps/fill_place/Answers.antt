@@ -1,28 +1,40 @@
--- The place has what the replay has.
-use Rattle.std.proofs.Common.{◌≡◌, ◌<◌, ◌+◌, ◌*◌, ◌∙◌, None, ℕ, sym, ap, subst, slice_index_or}
+-- A net whose driver reads what hasn't changed stays.
+use Rattle.std.proofs.Common.{◌≡◌, ◌∙◌, ap, slice_index}
 use Rattle.xr_design.specs.Circuit.{job_in}
-use Rattle.xr_design.specs.declared.place.Place.{Place}
-use Rattle.xr_design.specs.Fits.{place_at}
 use Rattle.xr_design.specs.Force.{forced_by}
-use Rattle.xr_design.specs.History.{HasPlace}
-use Rattle.xr_replay.proofs.Places.{place_at_position}
-use Rattle.xr_replay.proofs.Writing.{filled_place, index_within, place_within, step_there, net_at, net_within}
+use Rattle.xr_design.specs.Replay.{Held}
+use Rattle.xr_replay.proofs.Repeats.{nets_within, noted_still, place_stays}
+use Rattle.xr_replay.proofs.Writing.{net_within}
 use Rattle.xr_replay.proofs.steps.fill_place.Goals as goal
 
-pub set-requires : goal.set-requires
-set-requires c =
+pub may_repeat-requires : goal.may_repeat-requires
+may_repeat-requires c =
     let j = job_in c.args.circuit.now in
-    let number = c.args.step * j.width + c.args.position in
-    let step : ℕ = c.args.step in
-    let at : place_at j number ≡ record { step = c.args.step; net = c.net-net.result } = place_at_position j c.args.step c.args.position c.requires.position ∙ ap (λ (net : ℕ). let p : Place = record { step = step; net = net } in p) (sym c.net-net.ensures) in
-    subst (HasPlace c.args.history.now) at (index_within j c.requires.fits.fits_job c.args.history.now number c.requires.filled.places (place_within j c.args.step c.args.position c.requires.step c.requires.position))
+    let fits = c.requires.fits.fits_job in
+    let low = net_within j fits c.args.position c.requires.position in
+    let net = slice_index j.order c.args.position in
+    let driver : c.driver_at-driver.result.now ≡ j.driver net = c.driver_at-driver.ensures ∙ ap j.driver c.net-net.ensures in
+    let nets = nets_within j c.args.position (j.driver net) (fits.pins net low) (fits.arguments c.args.position c.requires.position) in
+    rw (c.requires.noted.long, driver) nets
 
-pub returns : goal.returns
-returns c =
+pub repeat_place-requires-clause-later : goal.repeat_place-requires-clause-later
+repeat_place-requires-clause-later c =
     let j = job_in c.args.circuit.now in
-    let net = c.net-net.result in
-    let given = slice_index_or c.args.forced.now c.net-net.result None in
-    let inside : c.net-net.result < j.width = rw c.net-net.ensures (net_within j c.requires.fits.fits_job c.args.position c.requires.position) in
-    let forced : forced_by j c.args.events.now (c.args.step * j.width + c.args.position) ≡ given =
-    rw (step_there j c.args.step c.args.position c.requires.position, net_at j c.args.step c.args.position c.requires.position, ← c.net-net.ensures) (sym (c.requires.forced.value c.net-net.result inside)) in
-    filled_place j c.requires.fits.fits_job (forced_by j c.args.events.now) c.args.history.now c.set.new.self c.args.step c.args.position c.net-net.result given c.driven_value-value.result c.driver_at-driver.result.now c.requires.step c.requires.position c.net-net.ensures c.driver_at-driver.ensures c.requires.filled forced c.driven_value-value.ensures (rw (← c.place_values-shown.ensures.shown, ← c.place_values-shown.ensures.kept) c.set.ensures)
+    (place_stays j c.requires.fits.fits_job (forced_by j c.args.events.now) c.args.step c.args.position c.net-net.result c.args.changed.now c.driver_at-driver.result.now c.args.same c.requires.step c.requires.position c.net-net.ensures c.driver_at-driver.ensures c.requires.same c.requires.noted c.requires.before (c.may_repeat.ensures.same c.if-may_repeat.true) (c.may_repeat.ensures.unmoved c.if-may_repeat.true)).0
+
+pub repeat_place-requires-clause-stays : goal.repeat_place-requires-clause-stays
+repeat_place-requires-clause-stays c =
+    let j = job_in c.args.circuit.now in
+    (place_stays j c.requires.fits.fits_job (forced_by j c.args.events.now) c.args.step c.args.position c.net-net.result c.args.changed.now c.driver_at-driver.result.now c.args.same c.requires.step c.requires.position c.net-net.ensures c.driver_at-driver.ensures c.requires.same c.requires.noted c.requires.before (c.may_repeat.ensures.same c.if-may_repeat.true) (c.may_repeat.ensures.unmoved c.if-may_repeat.true)).1
+
+pub returns-then-may_repeat-clause-noted : goal.returns-then-may_repeat-clause-noted
+returns-then-may_repeat-clause-noted c =
+    let j = job_in c.args.circuit.now in
+    let stays = place_stays j c.requires.fits.fits_job (forced_by j c.args.events.now) c.args.step c.args.position c.net-net.result c.args.changed.now c.driver_at-driver.result.now c.args.same c.requires.step c.requires.position c.net-net.ensures c.driver_at-driver.ensures c.requires.same c.requires.noted c.requires.before (c.may_repeat.ensures.same c.if-may_repeat.true) (c.may_repeat.ensures.unmoved c.if-may_repeat.true) in
+    noted_still j c.requires.fits.fits_job (forced_by j c.args.events.now) c.args.step c.args.position c.args.changed.now c.requires.position (ap (λ (held : Held). held.shown) stays.1) c.requires.noted
+
+pub returns-then-may_repeat-clause-still : goal.returns-then-may_repeat-clause-still
+returns-then-may_repeat-clause-still c = λ no.
+    (let j = job_in c.args.circuit.now in
+    let stays = place_stays j c.requires.fits.fits_job (forced_by j c.args.events.now) c.args.step c.args.position c.net-net.result c.args.changed.now c.driver_at-driver.result.now c.args.same c.requires.step c.requires.position c.net-net.ensures c.driver_at-driver.ensures c.requires.same c.requires.noted c.requires.before (c.may_repeat.ensures.same c.if-may_repeat.true) (c.may_repeat.ensures.unmoved c.if-may_repeat.true) in
+    (stays.0, ap (λ (held : Held). held.shown) stays.1))

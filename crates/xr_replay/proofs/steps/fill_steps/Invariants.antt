@@ -1,13 +1,17 @@
--- The steps so far are filled, and the events up to the one before are taken.
-use Rattle.std.proofs.Common.{◌*◌}
+-- The steps so far are filled, the events up to the one before are taken, and changes are noted.
+use Rattle.std.proofs.Common.{◌≡◌, ◌<◌, ◌-◌, ◌*◌, true}
 use Rattle.xr_design.specs.Circuit.{job_in}
 use Rattle.xr_design.specs.Force.{forced_by}
 use Rattle.xr_replay.specs.Filled.{IsFilled}
-use Rattle.xr_replay.specs.Forced.{HasTaken}
+use Rattle.xr_replay.specs.Forced.{HasForced, HasTaken}
+use Rattle.xr_replay.specs.Noted.{AreStill, HasNoted}
 use Rattle.xr_replay.proofs.steps.fill_steps.Given as goal
 
 abbrev pub invariant-steps : goal.invariant-steps
 invariant-steps l = record {
   filled : IsFilled (job_in l.circuit) (forced_by (job_in l.circuit) l.events) (l.step * (job_in l.circuit).width) l.history;
   taken : HasTaken (job_in l.circuit).width l.events l.step l.taken l.forced;
+  before : 0 < l.step → HasForced (job_in l.circuit).width l.events (l.step - 1) l.forced;
+  noted : HasNoted (job_in l.circuit) (forced_by (job_in l.circuit) l.events) (l.step - 1) (job_in l.circuit).width l.changed;
+  still : l.still ≡ true → AreStill (job_in l.circuit) (forced_by (job_in l.circuit) l.events) (l.step - 1);
 }

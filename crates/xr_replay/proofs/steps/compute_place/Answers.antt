@@ -1,0 +1,28 @@
+-- The place has what the replay has.
+use Rattle.std.proofs.Common.{◌≡◌, ◌<◌, ◌+◌, ◌*◌, ◌∙◌, None, ℕ, refl, sym, ap, subst, slice_index_or}
+use Rattle.xr_design.specs.Circuit.{job_in}
+use Rattle.xr_design.specs.declared.place.Place.{Place}
+use Rattle.xr_design.specs.Fits.{place_at}
+use Rattle.xr_design.specs.Force.{forced_at, forced_by}
+use Rattle.xr_design.specs.History.{HasPlace}
+use Rattle.xr_replay.proofs.Places.{place_at_position}
+use Rattle.xr_replay.proofs.Writing.{filled_place, index_within, place_within, step_there, net_at, net_within}
+use Rattle.xr_replay.proofs.steps.compute_place.Goals as goal
+
+pub set-requires : goal.set-requires
+set-requires c =
+    let j = job_in c.args.circuit.now in
+    let number = c.args.step * j.width + c.args.position in
+    let step : ℕ = c.args.step in
+    let at : place_at j number ≡ record { step = c.args.step; net = c.net-net.result } = place_at_position j c.args.step c.args.position c.requires.position ∙ ap (λ (net : ℕ). let p : Place = record { step = step; net = net } in p) (sym c.net-net.ensures) in
+    subst (HasPlace c.args.history.now) at (index_within j c.requires.fits.fits_job c.args.history.now number c.requires.filled.places (place_within j c.args.step c.args.position c.requires.step c.requires.position))
+
+pub returns : goal.returns
+returns c =
+    let j = job_in c.args.circuit.now in
+    let net = c.net-net.result in
+    let given = slice_index_or c.args.forced.now c.net-net.result None in
+    let inside : c.net-net.result < j.width = rw c.net-net.ensures (net_within j c.requires.fits.fits_job c.args.position c.requires.position) in
+    let forced : forced_by j c.args.events.now (c.args.step * j.width + c.args.position) ≡ given =
+    rw (step_there j c.args.step c.args.position c.requires.position, net_at j c.args.step c.args.position c.requires.position, ← c.net-net.ensures) (sym (c.requires.forced.value c.net-net.result inside)) in
+    filled_place j c.requires.fits.fits_job (forced_by j c.args.events.now) c.args.history.now c.set.new.self c.args.step c.args.position c.net-net.result given c.driven_value-value.result c.driver_at-driver.result.now c.requires.step c.requires.position c.net-net.ensures c.driver_at-driver.ensures c.requires.filled forced c.driven_value-value.ensures (rw (← c.place_values-shown.ensures.shown, ← c.place_values-shown.ensures.kept) c.set.ensures)
