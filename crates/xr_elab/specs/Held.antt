@@ -1,0 +1,31 @@
+-- What is held of a text while it is elaborated.
+use Rattle.std.specs.Prelude.{◌≡◌, ℕ, ◌<◌, ◌≤◌, ◌^◌, List, length, map}
+use Rattle.xr_cell.specs.Table.{Table}
+use Rattle.xr_cell.specs.Refusal.{input_limit}
+use Rattle.xr_design.specs.Job.{primitive_of}
+use Rattle.xr_netlist_grammar.specs.declared.tree.InstanceItem.{InstanceItem}
+use Rattle.xr_netlist_grammar.specs.declared.tree.Module.{Module}
+use Rattle.xr_netlist_grammar.specs.declared.tree.Source.{Source}
+use Rattle.xr_netlist_grammar.specs.declared.tree.Word.{Word}
+use Rattle.xr_elab.specs.Quiet.{IsTable, Passes}
+
+abbrev pub ports_of : List Module → List (List Word)
+ports_of ms = map (λ (m : Module). m.ports) ms
+
+-- There is a table for each primitive, with no more inputs than its kind takes, and there are fewer than 2^32.
+pub record AreTables (source : Source) (tables : List Table) : Type 0 where
+  pub each : length tables ≡ length source.primitives
+  pub few : length tables < 2 ^ 32
+  pub inputs : (k : ℕ) → k < length tables → (primitive_of tables k).inputs ≤ input_limit (primitive_of tables k).sequential
+
+-- The ports are those of the modules, in their order; the levels are right; and the tables are those of the primitives.
+pub record Holds (source : Source) (tables : List Table) (ports : List (List Word)) (levels : List ℕ) : Type 0 where
+  pub ports_ : ports ≡ ports_of source.modules
+  pub levels_ : IsTable source levels
+  pub tables_ : AreTables source tables
+
+-- An instance of the module at a position is passed over, by some table of levels.
+pub record PassesOver (source : Source) (path : List ℕ) (room k : ℕ) (i : InstanceItem) : Type 0 where
+  pub levels : List ℕ
+  pub table : IsTable source levels
+  pub passes : Passes levels path room k i

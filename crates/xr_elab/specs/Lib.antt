@@ -1,0 +1,3 @@
+-- Definitions of xr_elab.
+pub mod Quiet
+pub mod Held

@@ -1,0 +1,110 @@
+//! The design of a tree.
+
+ghost use Rattle.std.specs.Prelude.{◌≡◌, ◌≢◌, ◌<◌, ◌≤◌, ◌^◌, [], None, Ok, Err, IfOk, IfErr, length};
+ghost use Rattle.xr_netlist_grammar.specs.Whole.{IsWhole};
+ghost use Rattle.xr_design.specs.Design.{FitsDesign};
+ghost use Rattle.xr_elab_nets.specs.declared.fault.ElabErr.TheVariants.{Memory as OutOfMemory};
+ghost use Rattle.xr_elab_nets.specs.Outcome.{Gives};
+ghost use Rattle.xr_elab_nets.specs.State.{finished};
+ghost use Rattle.xr_elab_prims.specs.Built.{AreBuilt};
+ghost use Rattle.xr_elab_prims.specs.Definitions.{definition_of, repeated};
+ghost use Rattle.xr_elab_tree.specs.Elaborate as spec;
+ghost use Rattle.xr_elab_tree.specs.Library.{library_of};
+ghost use Rattle.xr_elab_tree.specs.Text.{Elaborates, IsAnswer};
+ghost use Rattle.xr_elab.specs.Held.{AreTables};
+
+use crate::instances::{add_items, copy_of, extended};
+use crate::library::Library;
+use std::alloc::Global;
+use xr_base::Items;
+use xr_cell::Udp;
+use xr_design::Design;
+use xr_elab_names::{Scope, open_module};
+use xr_elab_nets::{ElabErr, Nets};
+use xr_elab_prims::{Clocks, Definition, Definitions, build_primitives};
+use xr_netlist_grammar::Source;
+
+/// How many modules a path may have.
+const MOST_MODULES: usize = 32;
+
+/// The design of a text's tree, with the module named `top` as its top, or the first reason why there is none: first the
+/// names of all definitions, then the primitives, then the top. Takes some 250 bytes for each net, and the memory of names,
+/// ports and levels for each definition.
+#[tactic(auto, using(crate::proofs::Answering::answer_by, crate::proofs::Answering::fits))]
+pub fn elaborate(alloc: Global, source: &Source, top: &str) -> Result<Design, ElabErr>
+    requires whole { IsWhole source.now }
+    requires few { length source.now.primitives < 2 ^ 32 }
+    ensures design { IfOk result (λ design. Elaborates source.now top.now (Ok design)) }
+    ensures refused { IfErr result (λ e. e ≢ OutOfMemory → Elaborates source.now top.now (Err e)) }
+    ensures exact { IsAnswer source.now top.now result }
+    ensures fits { IfOk result FitsDesign }
+{
+    find_design(alloc, source, top)
+}
+
+fn find_design(alloc: Global, source: &Source, top: &str) -> Result<Design, ElabErr>
+    requires { length source.now.primitives < 2 ^ 32 }
+    ensures design { IfOk result (λ design. Elaborates source.now top.now (Ok design)) }
+    ensures refused { IfErr result (λ e. e ≢ OutOfMemory → Elaborates source.now top.now (Err e)) }
+{
+    let definitions = Definitions::new(alloc, source)?;
+    let udps = build_primitives(alloc, source.primitives.as_slice())?;
+    let nets = make_nets(alloc, source, definitions, &udps, top)?;
+    Ok(nets.into_design(alloc, udps)?)
+}
+
+/// The nets of the top and of all below it.
+#[tactic(auto, using(crate::proofs::Bodies::design_is))]
+fn make_nets(
+    alloc: Global,
+    source: &Source,
+    definitions: Definitions<'_>,
+    udps: &[Udp],
+    top: &str,
+) -> Result<Nets, ElabErr>
+    requires source { definitions ≡ source.now }
+    requires tables { AreTables source.now udps.now }
+    ensures { Gives (spec.design_of (library_of source.now udps.now) top.now) result (λ nets. finished udps.now nets) }
+{
+    let library = Library::new(alloc, source, definitions, udps)?;
+    let k = find_top(alloc, &library, top.as_bytes())?;
+    let nets = fill_top(alloc, &library, k)?;
+    Ok(nets)
+}
+
+/// The top is a module.
+fn find_top(alloc: Global, library: &Library<'_>, name: &[u8]) -> Result<usize, ElabErr>
+    ensures top { Gives (spec.top_of (definition_of library.now.source name.now) name.now) result (λ k. k) }
+    ensures within { IfOk result (λ k. k < length library.now.source.modules) }
+{
+    match library.find(name) {
+        Some(Definition::Module(k)) => Ok(k),
+        _ => Err(ElabErr::NoModule {
+            name: copy_of(alloc, name)?,
+        }),
+    }
+}
+
+/// The nets of the module at a position, as the top.
+fn fill_top(alloc: Global, library: &Library<'_>, k: usize) -> Result<Nets, ElabErr>
+    requires { k < length library.now.source.modules }
+    ensures { Gives (spec.whole library.now k) result (λ nets. finished library.now.tables nets) }
+{
+    let mut nets = Nets::new(alloc);
+    let mut scope = Scope::new(alloc, Items::from_vec(Vec::new(alloc)));
+    let mut clocks = Clocks::new(alloc, library.udps());
+    let items = library.module(k).items.as_slice();
+    open_module(alloc, &mut scope, &mut nets, library.ports(k), items)?;
+    let path = extended(alloc, &[], k)?;
+    add_items(
+        alloc,
+        library,
+        &mut clocks,
+        path.as_slice(),
+        MOST_MODULES,
+        &mut scope,
+        &mut nets,
+        items,
+    )?;
+    Ok(nets)
+}

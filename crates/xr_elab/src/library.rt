@@ -1,0 +1,141 @@
+//! What the instances of a text name.
+
+ghost use Rattle.std.specs.Prelude.{◌≡◌, ◌<◌, IfOk, length};
+ghost use Rattle.xr_design.specs.Job.{primitive_of};
+ghost use Rattle.xr_elab.specs.Held.{ports_of as spec_ports_of};
+
+use crate::levels::levels_of;
+use crate::quiet::{MOST_LEVEL, are_from, connects_nothing, level_at};
+use std::alloc::{AllocError, Global};
+use std::marker::Model;
+use xr_cell::Udp;
+use xr_elab_names::PortNames;
+use xr_elab_prims::{Definition, Definitions};
+use xr_netlist_grammar::{InstanceItem, Module, Source};
+
+/// The definitions of a text, the tables of its primitives, and what is worked out once for each module: its ports, and a
+/// level where it makes no net.
+#[derive(Drop)]
+pub struct Library<'t> {
+    source: &'t Source,
+    definitions: Definitions<'t>,
+    udps: &'t [Udp],
+    ports: Vec<PortNames<'t>>,
+    levels: Vec<u32>,
+}
+
+impl<'t> Model for Library<'t> {
+    ghost use Rattle.std.specs.Prelude.{◌≡◌};
+    ghost use Rattle.xr_elab_tree.specs.Library.{Library, library_of};
+    ghost use Rattle.xr_elab.specs.Held.{Holds};
+
+    ghost Value = { Library };
+
+    ghost view = { λ l. library_of l.source.now l.udps.now };
+
+    ghost invariant = { λ l. (l.definitions ≡ l.source.now) × Holds l.source.now l.udps.now l.ports.items l.levels.items };
+}
+
+impl<'t> Library<'t> {
+    ghost use Rattle.std.specs.Prelude.{◌≡◌, ◌<◌, ◌≤◌, ◌^◌, IfOk, IfSome, IsTrue, length};
+    ghost use Rattle.xr_cell.specs.Refusal.{input_limit};
+    ghost use Rattle.xr_design.specs.Job.{primitive_of};
+    ghost use Rattle.xr_elab_prims.specs.Definitions.{definition_of, IsThere};
+    ghost use Rattle.xr_elab_tree.specs.Library.{library_of, module_of};
+    ghost use Rattle.xr_elab.specs.Held.{AreTables, PassesOver};
+
+    /// The library of a text whose names are in order, with the tables of its primitives.
+    pub fn new(
+        alloc: Global,
+        source: &'t Source,
+        definitions: Definitions<'t>,
+        udps: &'t [Udp],
+    ) -> Result<Library<'t>, AllocError>
+        requires source { definitions ≡ source.now }
+        requires tables { AreTables source.now udps.now }
+        ensures { IfOk result (λ l. l ≡ library_of source.now udps.now) }
+    {
+        let modules = source.modules.as_slice();
+        let ports = ports_of(alloc, modules)?;
+        let levels = levels_of(alloc, &definitions, modules)?;
+        Ok(Library {
+            source,
+            definitions,
+            udps,
+            ports,
+            levels,
+        })
+    }
+
+    /// What a name defines. Takes no memory.
+    pub fn find(&self, name: &[u8]) -> Option<Definition>
+        ensures found { result ≡ definition_of self.now.source name.now }
+        ensures there { IfSome result (λ d. IsThere self.now.source d) }
+    {
+        self.definitions.find(name)
+    }
+
+    /// The tables of the primitives, in their order.
+    pub fn udps(&self) -> &'t [Udp]
+        ensures { result.now ≡ self.now.tables }
+    {
+        self.udps
+    }
+
+    /// The table of the primitive at a position. Takes no memory.
+    pub fn udp(&self, k: usize) -> &'t Udp
+        requires { k < length self.now.source.primitives }
+        ensures table { result.now ≡ primitive_of self.now.tables k }
+        ensures few { result.now.inputs ≤ input_limit result.now.sequential }
+        ensures within { k < length self.now.tables }
+        ensures tables { length self.now.tables < 2 ^ 32 }
+    {
+        udp_at(self.udps, k)
+    }
+
+    /// The module at a position. Takes no memory.
+    pub fn module(&self, k: usize) -> &'t Module
+        requires { k < length self.now.source.modules }
+        ensures { result.now ≡ module_of self.now k }
+    {
+        &self.source.modules.as_slice()[k]
+    }
+
+    /// The ports of the module at a position. Takes no memory.
+    pub fn ports(&self, k: usize) -> &PortNames<'t>
+        requires { k < length self.now.source.modules }
+        ensures { result.now ≡ (module_of self.now k).ports }
+    {
+        &self.ports[k]
+    }
+
+    /// Whether depth and path allow that an instance of a module that makes no net is passed over. The path may have `room`
+    /// modules more. Takes no memory.
+    pub fn passes_over(&self, path: &[usize], room: usize, k: usize, item: &InstanceItem) -> bool
+        ensures { IsTrue result → PassesOver self.now.source path.now room k item.now }
+    {
+        let level = level_at(&self.levels, k);
+        level <= MOST_LEVEL
+            && level as usize <= room
+            && are_from(&self.levels, level + 1, path)
+            && connects_nothing(&item.connections)
+    }
+}
+
+/// The ports of each module, in the order of the text.
+fn ports_of<'t>(alloc: Global, modules: &'t [Module]) -> Result<Vec<PortNames<'t>>, AllocError>
+    ensures { IfOk result (λ ports. ports.items ≡ spec_ports_of modules.now) }
+{
+    let mut ports = Vec::new(alloc);
+    'modules: for unit in modules {
+        ports.push(PortNames::new(alloc, unit.ports.as_slice())?)?;
+    }
+    Ok(ports)
+}
+
+fn udp_at(udps: &[Udp], k: usize) -> &Udp
+    requires { k < length udps.now }
+    ensures { result.now ≡ primitive_of udps.now k }
+{
+    &udps[k]
+}
