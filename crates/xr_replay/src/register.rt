@@ -51,7 +51,12 @@ fn old_values(
     if step == 1 && matches!(circuit.stim.start, StartRule::Cold) {
         [Value::X; 10]
     } else {
-        pin_values(circuit, history, step.saturating_sub(2), latching.pins.as_slice())
+        pin_values(
+            circuit,
+            history,
+            step.saturating_sub(2),
+            latching.pins.as_slice(),
+        )
     }
 }
 

@@ -75,7 +75,16 @@ fn fill_steps(
         let before = taken;
         taken = take_events(events, before, step as u32, forced);
         let same = is_same(step as u32, before, taken);
-        still = next_step(circuit, events, forced, changed, history, step as u32, same, still);
+        still = next_step(
+            circuit,
+            events,
+            forced,
+            changed,
+            history,
+            step as u32,
+            same,
+            still,
+        );
     }
 }
 
