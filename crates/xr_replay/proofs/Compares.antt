@@ -1,5 +1,5 @@
 -- A history that is the replay, read at the last step of a moment.
-use Rattle.std.proofs.Common.{◌≡◌, ℕ, ◌+◌, ◌-◌, ◌*◌, ◌<◌, ◌≤◌, ◌==◌, None, false, refl, sym, ap, ◌∙◌, arith, slice_index_or}
+use Rattle.std.proofs.Common.{◌≡◌, ℕ, ◌+◌, ◌*◌, ◌<◌, ◌≤◌, ◌==◌, None, false, refl, ap, ◌∙◌, arith, slice_index_or}
 use Rattle.std.proofs.Math.Nat.{mul-le-mul_right, mul_comm}
 use Rattle.std.proofs.lemmas.Grind.{common_steps}
 use Rattle.xr_cell.specs.declared.value.Value.{Value}

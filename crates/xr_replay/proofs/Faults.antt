@@ -1,7 +1,6 @@
 -- First faults: what is checked in turn leads to them, and there is at most one.
-use Rattle.std.proofs.Common.{◌≡◌, ◌↔◌, ℕ, true, false, Result, Ok, Err, IfOk, IfErr, IsOk, ◌+◌, ◌<◌, ◌≤◌, All, length, slice_index, slice_index_or, refl, sym, ap, ◌∙◌, arith, subst, ⊎_elim}
-use Rattle.std.proofs.lemmas.Bool.{cases_eq, cases_lt}
-use Rattle.xr_cell.specs.declared.value.Value.{Value}
+use Rattle.std.proofs.Common.{◌≡◌, ◌↔◌, ℕ, true, false, Result, Ok, Err, IfOk, IfErr, IsOk, ◌<◌, length, slice_index, refl, sym, ap, ◌∙◌, arith, subst, ⊎_elim}
+use Rattle.std.proofs.lemmas.Bool.{cases_lt}
 use Rattle.xr_design.specs.Fits.{Fits}
 use Rattle.xr_design.specs.Job.{Job, at}
 use Rattle.xr_design.specs.Order.{position_of}
@@ -14,7 +13,7 @@ use Rattle.xr_match.specs.declared.binding.Bound.{Bound}
 use Rattle.xr_vcd.specs.Recording.{Recording, value_at}
 use Rattle.xr_replay.specs.declared.differ.Differ.{Differ}
 use Rattle.xr_replay.specs.declared.differ.Differ.TheVariants.{Unsettled, Disagrees}
-use Rattle.xr_replay.specs.Fault.{Agrees, BitAgrees, HasNoFault, IsBitFault, IsDisagreementIn, IsFault, IsFaultIn, IsFaultless, IsFirstBit, IsFirstDisagreement, IsFirstFault, IsFirstUnsettled, IsUnsettledAt, IsUnsettledIn, IsVariableFault, VariableAgrees, Unsettles, bound_at, kept_after, moment_of, no_variable, shown_bit}
+use Rattle.xr_replay.specs.Fault.{BitAgrees, HasNoFault, IsBitFault, IsDisagreementIn, IsFault, IsFaultIn, IsFaultless, IsFirstBit, IsFirstDisagreement, IsFirstFault, IsFirstUnsettled, IsUnsettledAt, IsUnsettledIn, IsVariableFault, VariableAgrees, bound_at, kept_after, moment_of, no_variable, shown_bit}
 use Rattle.xr_replay.proofs.Places.{net_there}
 use Rattle.xr_replay.proofs.Writing.{net_within}
 
@@ -32,12 +31,14 @@ first_unsettled j fits moment position net (Unsettled other when kept next) with
     let all = fits.all in
     let inside : net < j.width = rw net_is (net_within j fits position within) in
     let here : position_of j.order net ≡ position = rw net_is (position_is j.order position fits.ordering (omega (arith, all, within))) in
-    let P : ℕ → Type 0 = λ n. IsSettledAt j (last_step j moment) n (j.driver n) in
-    (fault.1, rw fault.0 record {
-      within = inside;
-      before = λ n low less. subst P (net_there j fits n low) (settled (position_of j.order n) (rw here at less));
-      unsettles = fault.2;
-    })
+    let P : ℕ → Type 0 = λ n. IsSettledAt j (last_step j moment) n (j.driver n) in (
+      fault.1,
+      rw fault.0 record {
+        within = inside;
+        before = λ n low less. subst P (net_there j fits n low) (settled (position_of j.order n) (rw here at less));
+        unsettles = fault.2;
+      },
+    )
 first_unsettled j fits moment position net (Disagrees variable bit when recorded replayed) within net_is settled fault = absurd fault
 
 pub first_bit : (j : Job) (recording : Recording) (moment : ℕ) (b : Bound) (bit : ℕ) (differ : Differ) → bit < length b.bits → ((other : ℕ) → other < bit → BitAgrees j recording moment b other) → IsBitFault j recording moment b bit differ → IsVariableFault j recording moment b differ
@@ -48,14 +49,16 @@ first_bit j recording moment b bit (Disagrees variable other when recorded repla
 pub first_variable : (j : Job) (recording : Recording) (binding : Binding) (moment place : ℕ) (b : Bound) (differ : Differ) → place < length binding.bound → b ≡ bound_at binding place → ((other : ℕ) → other < place → VariableAgrees j recording moment (bound_at binding other)) → IsVariableFault j recording moment b differ → IsDisagreementIn j recording binding moment differ
 first_variable j recording binding moment place b (Unsettled net when kept next) within is before fault = absurd fault
 first_variable j recording binding moment place b (Disagrees variable bit when recorded replayed) within is before fault =
-    let P : Bound → Type 0 = λ v. IsFirstBit j recording moment v bit recorded replayed in
-    (fault.1, record {
-      place = place;
-      within = within;
-      before = before;
-      variable_is = sym (fault.0 ∙ ap (λ (v : Bound). v.variable) is);
-      first = subst P is fault.2;
-    })
+    let P : Bound → Type 0 = λ v. IsFirstBit j recording moment v bit recorded replayed in (
+      fault.1,
+      record {
+        place = place;
+        within = within;
+        before = before;
+        variable_is = sym (fault.0 ∙ ap (λ (v : Bound). v.variable) is);
+        first = subst P is fault.2;
+      },
+    )
 
 -- A register that isn't settled comes first in its moment, and a bit only where the moment is settled.
 pub unsettled_fault : (j : Job) (recording : Recording) (binding : Binding) (moment : ℕ) (differ : Differ) → IsUnsettledIn j moment differ → IsFaultIn j recording binding moment differ

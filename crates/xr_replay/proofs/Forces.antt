@@ -1,5 +1,5 @@
 -- Events in order, and the values to which they force the nets.
-use Rattle.std.proofs.Common.{◌≡◌, ◌≢◌, ◌-◌, ℕ, zero, suc, ◌+◌, ◌<◌, ◌≤◌, ◌==◌, ◌&&◌, Bool, true, false, cond, Option, None, Some, List, [], ◌∷◌, ◌++◌, length, take, find, reverse, set, slice_index_or, nat_le, nat_lt, refl, sym, ap, ◌∙◌, arith, subst, add-zero, length-set, get_or-set_other, get_or-set_same, below_more, replicate, map, ◌*◌, ⊎_elim}
+use Rattle.std.proofs.Common.{◌≡◌, ◌≢◌, ◌-◌, ℕ, zero, suc, ◌+◌, ◌<◌, ◌≤◌, ◌==◌, ◌&&◌, Bool, true, false, cond, Option, None, Some, List, [], ◌∷◌, length, take, find, reverse, set, slice_index_or, nat_le, nat_lt, refl, sym, ap, ◌∙◌, arith, subst, add-zero, length-set, get_or-set_other, get_or-set_same, below_more, replicate, map, ◌*◌, ⊎_elim}
 use Rattle.std.specs.Prelude.{option_and_then}
 use Rattle.std.specs.List.{AllByRecursion}
 use Rattle.std.proofs.lemmas.Bool.{cases_eq, cases_lt}
@@ -10,7 +10,6 @@ use Rattle.std.proofs.Math.Nat.{mul-le-mul_right}
 use Rattle.xr_design.specs.Filling.{IsPlace}
 use Rattle.xr_design.specs.Fits.{Fits}
 use Rattle.xr_design.specs.Job.{Job, number_of}
-use Rattle.xr_design.specs.Order.{position_of}
 use Rattle.xr_design.proofs.Rules.{position_in}
 use Rattle.xr_cell.specs.declared.value.Value.{Value}
 use Rattle.xr_design.specs.Force.{AreEvents, forced_at, is_up_to, place_of}

@@ -1,18 +1,17 @@
 -- Places by step and net, and by number.
-use Rattle.std.proofs.Common.{◌≡◌, ℕ, ◌+◌, ◌-◌, ◌*◌, ◌/◌, ◌%◌, ◌<◌, ◌≤◌, List, [], ◌∷◌, length, map, refl, sym, ap, ◌∙◌, arith, slice_index}
+use Rattle.std.proofs.Common.{◌≡◌, ℕ, ◌+◌, ◌*◌, ◌<◌, ◌≤◌, List, [], ◌∷◌, refl, ap, ◌∙◌, arith, slice_index}
 use Rattle.std.proofs.lemmas.Nat.{div-mul-add, mod-mul-add}
 use Rattle.std.proofs.Math.Nat.{mul-le-mul_right, mul_comm}
 use Rattle.std.specs.List.{AllByRecursion}
-use Rattle.xr_cell.specs.declared.value.Value.{Value}
 use Rattle.xr_design.specs.declared.design.Pin.{Pin}
 use Rattle.xr_design.specs.declared.design.Pin.TheVariants.{Net, Bit, Dead}
 use Rattle.xr_design.specs.declared.place.Place.{Place}
 use Rattle.xr_design.specs.Fits.{Fits, place_at}
 use Rattle.xr_design.specs.Handed.{HasPlaces, held_of, shown_of}
 use Rattle.xr_design.specs.History.{HistoryView, held_in}
-use Rattle.xr_design.specs.Job.{Job, at, places_of}
+use Rattle.xr_design.specs.Job.{Job, at}
 use Rattle.xr_design.specs.Order.{position_of, net_pins}
-use Rattle.xr_design.specs.Register.{pin_of, pins_at}
+use Rattle.xr_design.specs.Register.{pins_at}
 use Rattle.xr_design.proofs.OrderLemmas.{net_at_position}
 use Rattle.xr_design.proofs.Rules.{position_in}
 use Rattle.xr_replay.specs.Read.{HasStep, pins_in, shown_in}

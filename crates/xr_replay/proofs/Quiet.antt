@@ -1,27 +1,25 @@
 -- A net that reads what it read one step before shows and keeps what it did there.
-use Rattle.std.proofs.Common.{◌≡◌, ℕ, zero, suc, ◌+◌, ◌-◌, ◌*◌, ◌/◌, ◌%◌, ◌<◌, ◌≤◌, ◌==◌, ◌&&◌, Bool, true, false, Option, List, [], ◌∷◌, length, map, nat_lt, slice_index, unwrap_or, if◌then◌else◌, refl, sym, ap, ◌∙◌, arith, subst}
+use Rattle.std.proofs.Common.{◌≡◌, ℕ, ◌-◌, ◌*◌, ◌/◌, ◌<◌, ◌==◌, ◌&&◌, Bool, true, false, Option, List, [], ◌∷◌, nat_lt, slice_index, unwrap_or, refl, sym, ap, ◌∙◌, arith}
 use Rattle.std.proofs.lemmas.Grind.{common_steps}
 use Rattle.std.specs.List.{AllByRecursion}
 use Rattle.xr_cell.specs.declared.value.Value.{Value}
-use Rattle.xr_cell.specs.Next.{next}
 use Rattle.xr_cell.proofs.Nexts.{next_idle}
 use Rattle.xr_design.specs.declared.design.Pin.{Pin}
 use Rattle.xr_design.specs.declared.design.Pin.TheVariants.{Net, Bit, Dead}
 use Rattle.xr_design.specs.declared.design.Driver.{Driver}
 use Rattle.xr_design.specs.declared.design.Driver.TheVariants.{Input, Undriven, Constant, Copy, Cell, Register}
 use Rattle.xr_design.specs.declared.design.Latching.{Latching}
-use Rattle.xr_design.specs.declared.stim.StartRule.{StartRule}
 use Rattle.xr_design.specs.Fits.{Fits, FitsDriver, StandsBefore}
-use Rattle.xr_design.specs.Job.{Job, at, step_of, net_of, places_of, primitive_of}
+use Rattle.xr_design.specs.Job.{Job, at, primitive_of}
 use Rattle.xr_design.specs.Order.{arguments_of_driver, net_pins, position_of}
-use Rattle.xr_design.specs.Register.{early_pins, is_cold, looks_before, old_pins, new_pins, pin_of, pins_at, updated}
+use Rattle.xr_design.specs.Register.{is_cold, looks_before, old_pins, pins_at, updated}
 use Rattle.xr_design.specs.Replay.{Held, driven, held_at, kept, register_kept, table_of}
 use Rattle.xr_replay.specs.Filled.{replayed}
-use Rattle.xr_replay.specs.Noted.{AreStill, HasNoted, IsStillAt, StaysForced, are_unmoved, is_pin_unmoved, is_unmoved}
+use Rattle.xr_replay.specs.Noted.{AreStill, HasNoted, IsStillAt, StaysForced, are_unmoved, is_unmoved}
 use Rattle.xr_replay.specs.Read.{kept_by}
 use Rattle.xr_replay.proofs.Places.{net_there}
 use Rattle.xr_replay.proofs.Replays.{all_by, kept_driven, pins_same, replayed_is}
-use Rattle.xr_replay.proofs.Writing.{net_at, net_within, place_within, step_there}
+use Rattle.xr_replay.proofs.Writing.{net_at, place_within, step_there}
 use Rattle.xr_design.proofs.Rules.{position_in}
 
 -- What a driver reads is what it read one step before.

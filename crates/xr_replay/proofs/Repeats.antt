@@ -1,6 +1,6 @@
 -- Places that have what they had one step before, and what is noted of the nets.
-use Rattle.std.proofs.Common.{◌≡◌, ◌≢◌, ◌⊎◌, ℕ, zero, suc, ◌+◌, ◌-◌, ◌*◌, ◌/◌, ◌%◌, ◌<◌, ◌≤◌, ◌==◌, Bool, true, false, not, Option, List, length, set, slice_index, slice_index_or, refl, sym, ap, ◌∙◌, arith, subst, length-set, get_or-set_other, get_or-set_same, ⊎_elim, inl, inr}
-use Rattle.std.proofs.lemmas.Bool.{cases_eq, cases_lt}
+use Rattle.std.proofs.Common.{◌≡◌, ◌≢◌, ℕ, zero, suc, ◌+◌, ◌-◌, ◌*◌, ◌/◌, ◌%◌, ◌<◌, ◌==◌, Bool, true, not, Option, List, length, set, slice_index, refl, sym, ap, ◌∙◌, arith, subst, length-set, get_or-set_other, get_or-set_same, ⊎_elim}
+use Rattle.std.proofs.lemmas.Bool.{cases_eq}
 use Rattle.std.proofs.lemmas.Grind.{common_steps}
 use Rattle.std.proofs.Math.Nat.{mod-lt}
 use Rattle.std.proofs.lemmas.Nat.{div-mul-add}
@@ -8,21 +8,21 @@ use Rattle.xr_cell.specs.declared.value.Value.{Value}
 use Rattle.std.specs.List.{AllByRecursion}
 use Rattle.xr_design.specs.declared.design.Driver.{Driver}
 use Rattle.xr_design.specs.declared.design.Driver.TheVariants.{Input, Undriven, Constant, Copy, Cell, Register}
-use Rattle.xr_design.specs.Fits.{Fits, FitsDriver, StandsBefore, place_at}
+use Rattle.xr_design.specs.Fits.{Fits, FitsDriver, StandsBefore}
 use Rattle.xr_design.specs.Force.{forced_at, forced_by}
 use Rattle.xr_design.specs.declared.force.Event.{Event}
 use Rattle.xr_replay.specs.Forced.{HasForced}
-use Rattle.xr_design.specs.Handed.{HasPlaces, held_of, shown_of}
+use Rattle.xr_design.specs.Handed.{held_of, shown_of}
 use Rattle.xr_design.specs.History.{HistoryView, index_in}
 use Rattle.xr_design.specs.Job.{Job, at, net_of, places_of}
 use Rattle.xr_design.specs.Order.{arguments_of_driver, net_pins, position_of}
 use Rattle.xr_design.specs.Replay.{Held}
 use Rattle.xr_design.proofs.OrderLemmas.{position_is}
-use Rattle.xr_design.proofs.Rules.{position_in, spot}
+use Rattle.xr_design.proofs.Rules.{position_in}
 use Rattle.xr_replay.specs.Filled.{IsFilled, replayed}
 use Rattle.xr_replay.specs.Noted.{AreStill, HasNoted, IsStillAt, IsStillNet, Stays, StaysForced, is_unmoved, nets_of, stays_in_moment}
-use Rattle.xr_replay.proofs.Places.{net_there, place_at_position}
-use Rattle.xr_replay.proofs.Quiet.{ReadsSame, StillBefore, reads_still, reads_unmoved, stays}
+use Rattle.xr_replay.proofs.Places.{net_there}
+use Rattle.xr_replay.proofs.Quiet.{StillBefore, reads_still, reads_unmoved, stays}
 use Rattle.xr_replay.proofs.Replays.{all_by}
 use Rattle.xr_replay.proofs.Writing.{IsWritten, filled_more, net_at, net_within, place_within, step_there}
 

@@ -1,6 +1,5 @@
 -- The replay under forces, place by place.
-use Rattle.std.proofs.Common.{◌≡◌, ℕ, zero, suc, ◌+◌, ◌-◌, ◌*◌, ◌%◌, ◌<◌, ◌≤◌, ◌==◌, Bool, true, false, Option, List, [], ◌∷◌, ◌++◌, length, map, slice_index_or, unwrap_or, if◌then◌else◌, refl, sym, ap, ◌∙◌, arith, add-one, length-append, subst, ⊎_elim}
-use Rattle.std.proofs.lemmas.Bool.{cases_eq}
+use Rattle.std.proofs.Common.{◌≡◌, ℕ, zero, suc, ◌+◌, ◌-◌, ◌*◌, ◌%◌, ◌<◌, ◌==◌, Bool, true, false, Option, List, [], ◌∷◌, ◌++◌, length, map, slice_index_or, if◌then◌else◌, refl, sym, ap, ◌∙◌, arith, add-one, length-append, subst}
 use Rattle.std.proofs.Math.ListN.{get_or-append}
 use Rattle.std.proofs.Math.Seq.{get_or-append_seam}
 use Rattle.std.specs.List.{AllByRecursion}
@@ -13,10 +12,10 @@ use Rattle.xr_design.specs.declared.design.Latching.{Latching}
 use Rattle.xr_design.specs.Fits.{Fits, FitsDriver, StandsBefore}
 use Rattle.xr_design.specs.Job.{Job, at, step_of, net_of, places_of}
 use Rattle.xr_design.specs.Order.{arguments_of_driver, net_pins, position_of}
-use Rattle.xr_design.specs.Register.{pins_at, updated, pin_of}
+use Rattle.xr_design.specs.Register.{pin_of}
 use Rattle.xr_design.specs.Replay.{Held, blank, driven, kept, held_at, replay_under, register_kept, table_of}
 use Rattle.xr_design.proofs.Prefix.{prefix}
-use Rattle.xr_design.proofs.Rules.{Spot, spot, position_in, back_one, old_below, new_below, agree_on, updated_reads}
+use Rattle.xr_design.proofs.Rules.{spot, position_in, back_one, old_below, new_below, agree_on, updated_reads}
 use Rattle.xr_replay.specs.Filled.{replayed}
 use Rattle.xr_replay.specs.Read.{kept_by}
 

@@ -1,20 +1,19 @@
 -- A place more of a history is written.
-use Rattle.std.proofs.Common.{◌≡◌, ◌≢◌, ℕ, ◌+◌, ◌*◌, ◌/◌, ◌%◌, ◌<◌, ◌≤◌, Option, List, length, set, slice_index, slice_index_or, unwrap_or, refl, sym, ap, ◌∙◌, arith, subst, length-set, get_or-set_other, get_or-set_same, below_more}
+use Rattle.std.proofs.Common.{◌≡◌, ◌≢◌, ℕ, ◌+◌, ◌*◌, ◌/◌, ◌%◌, ◌<◌, ◌≤◌, Option, length, set, slice_index, unwrap_or, refl, sym, ap, ◌∙◌, arith, length-set, get_or-set_other, get_or-set_same, below_more}
 use Rattle.std.proofs.lemmas.Nat.{div-mul-add, mod-mul-add}
 use Rattle.std.proofs.Math.Nat.{mul-le-mul_right, mul_comm}
 use Rattle.xr_cell.specs.declared.value.Value.{Value}
 use Rattle.xr_design.specs.declared.design.Driver.{Driver}
-use Rattle.xr_design.specs.declared.place.Place.{Place}
 use Rattle.xr_design.specs.Fits.{Fits, place_at}
 use Rattle.xr_design.specs.Handed.{HasPlaces, IsReplayUnder, held_of}
 use Rattle.xr_design.specs.History.{HistoryView, HasPlace, index_in}
 use Rattle.xr_design.specs.Job.{Job, step_of, net_of, places_of}
-use Rattle.xr_design.specs.Replay.{Held, blank, driven, held_at}
+use Rattle.xr_design.specs.Replay.{Held, driven, held_at}
 use Rattle.xr_design.proofs.Numbers.{is_place_at}
 use Rattle.xr_design.proofs.Rules.{spot}
 use Rattle.xr_replay.specs.Filled.{IsFilled, replayed}
 use Rattle.xr_replay.specs.Read.{kept_by}
-use Rattle.xr_replay.proofs.Places.{place_at_position, has_step}
+use Rattle.xr_replay.proofs.Places.{has_step}
 use Rattle.xr_replay.proofs.Replays.{kept_driven, held_local, replayed_is}
 
 -- where a place stands in a history

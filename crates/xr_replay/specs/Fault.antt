@@ -1,5 +1,5 @@
 -- The faults of a recording beside the replay of its inputs: by moment, unsettled registers before values that differ.
-use Rattle.std.specs.Prelude.{◌≡◌, ℕ, ◌+◌, ◌<◌, None, [], All, length, slice_index, slice_index_or}
+use Rattle.std.specs.Prelude.{◌≡◌, ℕ, ◌+◌, ◌<◌, Err, None, Result, [], All, length, slice_index, slice_index_or}
 use Rattle.xr_cell.specs.declared.value.Value.{Value}
 use Rattle.xr_cell.specs.declared.value.Value.TheVariants.{X}
 use Rattle.xr_design.specs.Job.{Job, at}
@@ -137,3 +137,7 @@ IsVariableFault j recording moment b (Disagrees variable bit when recorded repla
 abbrev pub IsDisagreementIn : Job → Recording → Binding → ℕ → Differ → Type 0
 IsDisagreementIn j recording binding moment (Unsettled net when kept next) = ⊥
 IsDisagreementIn j recording binding moment (Disagrees variable bit when recorded replayed) = (when ≡ moment) × IsFirstDisagreement j recording binding moment variable bit recorded replayed
+
+-- The answer is each first fault that there is.
+abbrev pub TellsFirst : Job → Recording → Binding → Result (Unit {0}) Differ → Type 0
+TellsFirst j recording binding result = (differ : Differ) → IsFirstFault j recording binding differ → result ≡ Err differ

@@ -2,6 +2,8 @@
 pub mod Fault
 pub mod Filled
 pub mod Forced
+pub mod Going
 pub mod Noted
 pub mod Read
+pub mod Seen
 pub mod Sides

@@ -1,5 +1,5 @@
 -- Nets that show what they showed one step before.
-use Rattle.std.specs.Prelude.{◌≡◌, ℕ, ◌+◌, ◌-◌, ◌%◌, ◌<◌, ◌==◌, ◌&&◌, Bool, true, false, Option, List, [], ◌∷◌, length, nat_lt, not, slice_index}
+use Rattle.std.specs.Prelude.{◌≡◌, ℕ, ◌-◌, ◌%◌, ◌<◌, ◌==◌, ◌&&◌, Bool, true, false, Option, List, [], ◌∷◌, length, nat_lt, not, slice_index}
 use Rattle.xr_cell.specs.declared.value.Value.{Value}
 use Rattle.xr_design.specs.Job.{Job, at}
 use Rattle.xr_design.specs.Order.{net_pins, position_of}

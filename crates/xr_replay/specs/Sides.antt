@@ -1,12 +1,18 @@
 -- The two sides of a comparison: the replay of a circuit, and a recording of it.
-use Rattle.std.specs.Prelude.{◌≡◌}
+use Rattle.std.specs.Prelude.{◌≡◌, ℕ}
 use Rattle.xr_design.specs.Circuit.{CircuitFits, job_in}
 use Rattle.xr_design.specs.Handed.{IsReplay}
 use Rattle.xr_design.specs.Job.{Job}
+use Rattle.xr_design.specs.Settled.{IsSettledAt, last_step}
+use Rattle.xr_design.specs.declared.design.Driver.{Driver}
 use Rattle.xr_replay.specs.declared.sides.Sides.{Sides}
 
 abbrev pub job_beside : Sides → Job
 job_beside sides = job_in sides.circuit
+
+-- A driver is settled at the last step of a moment.
+abbrev pub SettlesIn : Sides → ℕ → ℕ → Driver → Type 0
+SettlesIn sides moment net driver = IsSettledAt (job_beside sides) (last_step (job_beside sides) moment) net driver
 
 -- The circuit fits, the history is its replay, and the recording has its times.
 pub record AreSides (sides : Sides) : Type 0 where

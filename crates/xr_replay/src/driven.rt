@@ -4,11 +4,11 @@ ghost use Rattle.std.specs.Prelude.{◌≡◌, ◌+◌, ◌*◌, ◌<◌, length
 ghost use Rattle.std.specs.List.{AllByRecursion};
 ghost use Rattle.xr_design.specs.Circuit.{job_in, CircuitFits};
 ghost use Rattle.xr_design.specs.Fits.{FitsDriver, FitsRegister, FitsTable};
-ghost use Rattle.xr_design.specs.Handed.{HasPlaces, held_of, shown_of};
+ghost use Rattle.xr_design.specs.Handed.{HasPlaces, held_of};
 ghost use Rattle.xr_design.specs.Order.{arguments_of_driver, net_pins};
-ghost use Rattle.xr_design.specs.Register.{pins_at};
 ghost use Rattle.xr_design.specs.Replay as spec;
 ghost use Rattle.xr_replay.specs.Read.{kept_by};
+ghost use Rattle.xr_replay.specs.Seen.{seen_kept, seen_table};
 
 use crate::pins::{net_kept, net_value, pin_values};
 use crate::register::updated_value;
@@ -55,7 +55,7 @@ fn cell_value(
     requires nets { AllByRecursion (λ a. a < (job_in circuit.now).width) (net_pins pins.now) }
     requires places { HasPlaces (job_in circuit.now) history.now }
     requires step { step < (job_in circuit.now).moments * (job_in circuit.now).rounds }
-    ensures { result ≡ spec.table_of (job_in circuit.now).udps table (pins_at (job_in circuit.now) (shown_of (job_in circuit.now) history.now) step pins.now) }
+    ensures { result ≡ seen_table circuit.now history.now step table pins.now }
 {
     let values = pin_values(circuit, history, step, pins);
     table_value(circuit, table, &values[..pins.len()])
@@ -73,7 +73,7 @@ fn register_value(
     requires places { HasPlaces (job_in circuit.now) history.now }
     requires step { step < (job_in circuit.now).moments * (job_in circuit.now).rounds }
     requires net { net < (job_in circuit.now).width }
-    ensures { result ≡ spec.register_kept (job_in circuit.now) (held_of (job_in circuit.now) history.now) step net latching.now }
+    ensures { result ≡ seen_kept circuit.now history.now step net latching.now }
 {
     if step == 0 {
         return start_at(circuit, net as usize);

@@ -2,10 +2,10 @@
 //! Start at `replay` and `compare`.
 #![tactic(auto)]
 
-mod moments;
 mod differ;
 mod driven;
 mod forced;
+mod moments;
 mod pins;
 mod recorded;
 mod register;
@@ -14,6 +14,6 @@ mod sides;
 mod steps;
 mod unmoved;
 
-pub use moments::compare;
 pub use differ::Differ;
+pub use moments::compare;
 pub use steps::replay;

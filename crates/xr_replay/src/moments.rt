@@ -6,9 +6,8 @@ ghost use Rattle.xr_design.specs.Handed.{IsReplay};
 ghost use Rattle.xr_design.specs.Job.{job_of};
 ghost use Rattle.xr_design.specs.Settled.{IsSettled};
 ghost use Rattle.xr_match.specs.Binding.{FitsBinding};
-ghost use Rattle.xr_replay.specs.Fault.{Agrees, HasNoFault, IsBoundIn, IsFaultIn, IsFaultless, IsFirstFault};
+ghost use Rattle.xr_replay.specs.Fault.{Agrees, HasNoFault, IsBoundIn, IsFaultIn, IsFaultless, IsFirstFault, TellsFirst};
 ghost use Rattle.xr_replay.specs.Sides.{AreSides, job_beside};
-ghost use Rattle.xr_replay.specs.declared.differ.Differ.{Differ as AnyDiffer};
 
 use crate::differ::Differ;
 use crate::recorded::check_recorded;
@@ -35,7 +34,7 @@ pub fn compare(
     requires recorded { All (IsBoundIn recording.now) bound.now.bound }
     ensures agrees { IsOk result ↔ IsFaultless (job_of design.now order.now stim.now) recording.now bound.now }
     ensures differs { IfErr result (IsFirstFault (job_of design.now order.now stim.now) recording.now bound.now) }
-    ensures exact { (differ : AnyDiffer) → IsFirstFault (job_of design.now order.now stim.now) recording.now bound.now differ → result ≡ Err differ }
+    ensures exact { TellsFirst (job_of design.now order.now stim.now) recording.now bound.now result }
 {
     let sides = Sides {
         circuit: Circuit {

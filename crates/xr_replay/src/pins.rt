@@ -6,7 +6,8 @@ ghost use Rattle.xr_design.specs.Circuit.{job_in, CircuitFits};
 ghost use Rattle.xr_design.specs.Handed.{HasPlaces, held_of, shown_of};
 ghost use Rattle.xr_design.specs.Job.{at};
 ghost use Rattle.xr_design.specs.Order.{net_pins};
-ghost use Rattle.xr_design.specs.Register.{pin_of, pins_at};
+ghost use Rattle.xr_design.specs.Register.{pin_of};
+ghost use Rattle.xr_replay.specs.Seen.{seen_pins};
 ghost use Rattle.xr_replay.specs.Read.{HasNets, HasStep, pins_in, shown_in};
 
 use xr_cell::Value;
@@ -20,7 +21,7 @@ pub fn pin_values(circuit: &Circuit<'_>, history: &History, step: u32, pins: &[P
     requires places { HasPlaces (job_in circuit.now) history.now }
     requires step { step < (job_in circuit.now).moments * (job_in circuit.now).rounds }
     ensures long { length result ≡ 10 }
-    ensures values { take (length pins.now) result ≡ pins_at (job_in circuit.now) (shown_of (job_in circuit.now) history.now) step pins.now }
+    ensures values { take (length pins.now) result ≡ seen_pins circuit.now history.now step pins.now }
 {
     pins_shown(history, step, pins)
 }

@@ -4,8 +4,8 @@ ghost use Rattle.std.specs.Prelude.{◌≡◌, ◌+◌, ◌*◌, ◌<◌, ◌≤
 ghost use Rattle.xr_cell.specs.declared.value.Value.{Value as AnyValue};
 ghost use Rattle.xr_design.specs.Circuit.{job_in, CircuitFits};
 ghost use Rattle.xr_design.specs.Fits.{FitsRegister};
-ghost use Rattle.xr_design.specs.Handed.{HasPlaces, shown_of};
-ghost use Rattle.xr_design.specs.Register as spec;
+ghost use Rattle.xr_design.specs.Handed.{HasPlaces};
+ghost use Rattle.xr_replay.specs.Seen.{seen_new, seen_old, seen_update};
 
 use crate::pins::pin_values;
 use xr_cell::Value;
@@ -24,7 +24,7 @@ pub fn updated_value(
     requires places { HasPlaces (job_in circuit.now) history.now }
     requires later { 0 < step }
     requires step { step ≤ (job_in circuit.now).moments * (job_in circuit.now).rounds }
-    ensures { result ≡ spec.updated (job_in circuit.now) (shown_of (job_in circuit.now) history.now) kept step latching.now }
+    ensures { result ≡ seen_update circuit.now history.now kept step latching.now }
 {
     let old = old_values(circuit, history, step, latching);
     let new = new_values(circuit, history, step, latching);
@@ -46,12 +46,17 @@ fn old_values(
     requires later { 0 < step }
     requires step { step ≤ (job_in circuit.now).moments * (job_in circuit.now).rounds }
     ensures long { length result ≡ 10 }
-    ensures values { take (length latching.now.pins) result ≡ spec.old_pins (job_in circuit.now) (shown_of (job_in circuit.now) history.now) step latching.now.pins }
+    ensures values { take (length latching.now.pins) result ≡ seen_old circuit.now history.now step latching.now.pins }
 {
     if step == 1 && matches!(circuit.stim.start, StartRule::Cold) {
         [Value::X; 10]
     } else {
-        pin_values(circuit, history, step.saturating_sub(2), latching.pins.as_slice())
+        pin_values(
+            circuit,
+            history,
+            step.saturating_sub(2),
+            latching.pins.as_slice(),
+        )
     }
 }
 
@@ -68,7 +73,7 @@ fn new_values(
     requires later { 0 < step }
     requires step { step ≤ (job_in circuit.now).moments * (job_in circuit.now).rounds }
     ensures long { length result ≡ 10 }
-    ensures values { take (length latching.now.pins) result ≡ spec.new_pins (job_in circuit.now) (shown_of (job_in circuit.now) history.now) step latching.now.pins }
+    ensures values { take (length latching.now.pins) result ≡ seen_new circuit.now history.now step latching.now.pins }
 {
     pin_values(circuit, history, step - 1, latching.pins.as_slice())
 }

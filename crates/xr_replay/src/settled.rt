@@ -1,9 +1,9 @@
 //! Whether a moment has come to rest.
 
 ghost use Rattle.std.specs.Prelude.{◌≡◌, ◌<◌, IfErr, IfOk, slice_index};
-ghost use Rattle.xr_design.specs.Settled.{IsSettled, IsSettledAt, last_step};
+ghost use Rattle.xr_design.specs.Settled.{IsSettled};
 ghost use Rattle.xr_replay.specs.Fault.{IsUnsettledAt, IsUnsettledIn};
-ghost use Rattle.xr_replay.specs.Sides.{AreSides, job_beside};
+ghost use Rattle.xr_replay.specs.Sides.{AreSides, SettlesIn, job_beside};
 
 use crate::differ::Differ;
 use crate::pins::net_kept;
@@ -39,7 +39,7 @@ fn check_net(sides: &Sides<'_>, moment: u32, net: u32) -> Result<(), Differ>
     requires sides { AreSides sides.now }
     requires moment { moment < (job_beside sides.now).moments }
     requires net { net < (job_beside sides.now).width }
-    ensures settled { IfOk result (λ _. IsSettledAt (job_beside sides.now) (last_step (job_beside sides.now) moment) net ((job_beside sides.now).driver net)) }
+    ensures settled { IfOk result (λ _. SettlesIn sides.now moment net ((job_beside sides.now).driver net)) }
     ensures fault { IfErr result (IsUnsettledAt (job_beside sides.now) moment net ((job_beside sides.now).driver net)) }
 {
     match driver_at(&sides.circuit, net as usize) {
@@ -58,7 +58,7 @@ fn check_register(
     requires moment { moment < (job_beside sides.now).moments }
     requires net { net < (job_beside sides.now).width }
     requires register { (job_beside sides.now).driver net ≡ Driver.Register latching.now }
-    ensures settled { IfOk result (λ _. IsSettledAt (job_beside sides.now) (last_step (job_beside sides.now) moment) net (Driver.Register latching.now)) }
+    ensures settled { IfOk result (λ _. SettlesIn sides.now moment net (Driver.Register latching.now)) }
     ensures fault { IfErr result (IsUnsettledAt (job_beside sides.now) moment net (Driver.Register latching.now)) }
 {
     let step = last_step_of(sides, moment);

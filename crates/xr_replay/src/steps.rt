@@ -8,10 +8,10 @@ ghost use Rattle.xr_design.specs.Circuit.{job_in, CircuitFits, FitsCircuit};
 ghost use Rattle.xr_design.specs.Force.{AreEvents, forced_by};
 ghost use Rattle.xr_design.specs.Handed.{HasPlaces, IsReplayUnder};
 ghost use Rattle.xr_design.specs.Job.{job_of};
-ghost use Rattle.xr_replay.specs.Filled.{IsFilled};
 ghost use Rattle.xr_replay.specs.Forced.{HasForced, HasTaken};
 ghost use Rattle.xr_replay.specs.Noted as spec;
-ghost use Rattle.xr_replay.specs.Noted.{AreStill, HasNoted, IsStillNet, Stays, StaysForced};
+ghost use Rattle.xr_replay.specs.Going.{FilledBefore, FilledTo, FilledWith, ForcedAsBefore, IsReplayOf, NotedIn, NotedTo, StaysAt, StillAt, StillIn};
+ghost use Rattle.xr_replay.specs.Noted.{StaysForced};
 ghost use Rattle.xr_replay.specs.Read.{kept_by};
 
 use crate::driven::{driven_value, kept_value};
@@ -33,7 +33,7 @@ pub fn replay(
 ) -> Result<History, Memory>
     requires fits { FitsCircuit design.now order.now stim.now }
     requires forces { AreEvents (job_of design.now order.now stim.now) forces.now }
-    ensures { IfOk result (λ history. IsReplayUnder (job_of design.now order.now stim.now) (forced_by (job_of design.now order.now stim.now) forces.now) history) }
+    ensures { IfOk result (IsReplayOf design.now order.now stim.now forces.now) }
 {
     let circuit = Circuit {
         design,
@@ -75,7 +75,16 @@ fn fill_steps(
         let before = taken;
         taken = take_events(events, before, step as u32, forced);
         let same = is_same(step as u32, before, taken);
-        still = next_step(circuit, events, forced, changed, history, step as u32, same, still);
+        still = next_step(
+            circuit,
+            events,
+            forced,
+            changed,
+            history,
+            step as u32,
+            same,
+            still,
+        );
     }
 }
 
@@ -101,13 +110,13 @@ fn next_step(
     requires fits { CircuitFits circuit.now }
     requires step { step < (job_in circuit.now).moments * (job_in circuit.now).rounds }
     requires forced { HasForced (job_in circuit.now).width events.now step forced.now }
-    requires same { same ≡ true → (0 < step) × StaysForced (job_in circuit.now) (forced_by (job_in circuit.now) events.now) step }
-    requires still { still ≡ true → AreStill (job_in circuit.now) (forced_by (job_in circuit.now) events.now) (step - 1) }
-    requires noted { HasNoted (job_in circuit.now) (forced_by (job_in circuit.now) events.now) (step - 1) (job_in circuit.now).width changed.old }
-    requires filled { IsFilled (job_in circuit.now) (forced_by (job_in circuit.now) events.now) (step * (job_in circuit.now).width) history.old }
-    ensures filled { IsFilled (job_in circuit.now) (forced_by (job_in circuit.now) events.now) ((step + 1) * (job_in circuit.now).width) history.new }
-    ensures noted { HasNoted (job_in circuit.now) (forced_by (job_in circuit.now) events.now) step (job_in circuit.now).width changed.new }
-    ensures still { result ≡ true → AreStill (job_in circuit.now) (forced_by (job_in circuit.now) events.now) step }
+    requires same { same ≡ true → ForcedAsBefore circuit.now events.now step }
+    requires still { still ≡ true → StillIn circuit.now events.now (step - 1) }
+    requires noted { NotedIn circuit.now events.now (step - 1) changed.old }
+    requires filled { FilledBefore circuit.now events.now step history.old }
+    ensures filled { FilledBefore circuit.now events.now (step + 1) history.new }
+    ensures noted { NotedIn circuit.now events.now step changed.new }
+    ensures still { result ≡ true → StillIn circuit.now events.now step }
 {
     if is_quiet(circuit, step, same, still) {
         repeat_step(circuit, events, history, step);
@@ -141,10 +150,10 @@ fn repeat_step(circuit: &Circuit<'_>, events: &[Event], history: &mut History, s
     requires step { step < (job_in circuit.now).moments * (job_in circuit.now).rounds }
     requires forced { StaysForced (job_in circuit.now) (forced_by (job_in circuit.now) events.now) step }
     requires moment { spec.stays_in_moment (job_in circuit.now) step ≡ true }
-    requires still { AreStill (job_in circuit.now) (forced_by (job_in circuit.now) events.now) (step - 1) }
-    requires filled { IsFilled (job_in circuit.now) (forced_by (job_in circuit.now) events.now) (step * (job_in circuit.now).width) history.old }
-    ensures filled { IsFilled (job_in circuit.now) (forced_by (job_in circuit.now) events.now) ((step + 1) * (job_in circuit.now).width) history.new }
-    ensures still { AreStill (job_in circuit.now) (forced_by (job_in circuit.now) events.now) step }
+    requires still { StillIn circuit.now events.now (step - 1) }
+    requires filled { FilledBefore circuit.now events.now step history.old }
+    ensures filled { FilledBefore circuit.now events.now (step + 1) history.new }
+    ensures still { StillIn circuit.now events.now step }
 {
     'positions: for position in 0..circuit.design.nets.as_slice().len() {
         repeat_place(circuit, events, history, step, position as u32);
@@ -164,12 +173,12 @@ fn fill_step(
     requires fits { CircuitFits circuit.now }
     requires step { step < (job_in circuit.now).moments * (job_in circuit.now).rounds }
     requires forced { HasForced (job_in circuit.now).width events.now step forced.now }
-    requires same { same ≡ true → (0 < step) × StaysForced (job_in circuit.now) (forced_by (job_in circuit.now) events.now) step }
-    requires noted { HasNoted (job_in circuit.now) (forced_by (job_in circuit.now) events.now) (step - 1) (job_in circuit.now).width changed.old }
-    requires filled { IsFilled (job_in circuit.now) (forced_by (job_in circuit.now) events.now) (step * (job_in circuit.now).width) history.old }
-    ensures filled { IsFilled (job_in circuit.now) (forced_by (job_in circuit.now) events.now) ((step + 1) * (job_in circuit.now).width) history.new }
-    ensures noted { HasNoted (job_in circuit.now) (forced_by (job_in circuit.now) events.now) step (job_in circuit.now).width changed.new }
-    ensures still { result ≡ true → AreStill (job_in circuit.now) (forced_by (job_in circuit.now) events.now) step }
+    requires same { same ≡ true → ForcedAsBefore circuit.now events.now step }
+    requires noted { NotedIn circuit.now events.now (step - 1) changed.old }
+    requires filled { FilledBefore circuit.now events.now step history.old }
+    ensures filled { FilledBefore circuit.now events.now (step + 1) history.new }
+    ensures noted { NotedIn circuit.now events.now step changed.new }
+    ensures still { result ≡ true → StillIn circuit.now events.now step }
 {
     let mut still = true;
     'positions: for position in 0..circuit.design.nets.as_slice().len() {
@@ -202,14 +211,14 @@ fn fill_place(
     requires step { step < (job_in circuit.now).moments * (job_in circuit.now).rounds }
     requires position { position < (job_in circuit.now).width }
     requires forced { HasForced (job_in circuit.now).width events.now step forced.now }
-    requires same { same ≡ true → (0 < step) × StaysForced (job_in circuit.now) (forced_by (job_in circuit.now) events.now) step }
-    requires before { HasNoted (job_in circuit.now) (forced_by (job_in circuit.now) events.now) (step - 1) (job_in circuit.now).width changed.old }
-    requires noted { HasNoted (job_in circuit.now) (forced_by (job_in circuit.now) events.now) step position changed.old }
-    requires filled { IsFilled (job_in circuit.now) (forced_by (job_in circuit.now) events.now) (step * (job_in circuit.now).width + position) history.old }
-    ensures filled { IsFilled (job_in circuit.now) (forced_by (job_in circuit.now) events.now) (step * (job_in circuit.now).width + position + 1) history.new }
-    ensures before { HasNoted (job_in circuit.now) (forced_by (job_in circuit.now) events.now) (step - 1) (job_in circuit.now).width changed.new }
-    ensures noted { HasNoted (job_in circuit.now) (forced_by (job_in circuit.now) events.now) step (position + 1) changed.new }
-    ensures still { result ≡ false → IsStillNet (job_in circuit.now) (forced_by (job_in circuit.now) events.now) step (slice_index circuit.now.order.now position) }
+    requires same { same ≡ true → ForcedAsBefore circuit.now events.now step }
+    requires before { NotedIn circuit.now events.now (step - 1) changed.old }
+    requires noted { NotedTo circuit.now events.now step position changed.old }
+    requires filled { FilledTo circuit.now events.now step position history.old }
+    ensures filled { FilledWith circuit.now events.now step position history.new }
+    ensures before { NotedIn circuit.now events.now (step - 1) changed.new }
+    ensures noted { NotedTo circuit.now events.now step (position + 1) changed.new }
+    ensures still { result ≡ false → StillAt circuit.now events.now step position }
 {
     let net = circuit.order.net(position);
     let driver = driver_at(circuit, net as usize);
@@ -233,12 +242,12 @@ fn note_place(
     requires fits { CircuitFits circuit.now }
     requires step { step < (job_in circuit.now).moments * (job_in circuit.now).rounds }
     requires position { position < (job_in circuit.now).width }
-    requires before { HasNoted (job_in circuit.now) (forced_by (job_in circuit.now) events.now) (step - 1) (job_in circuit.now).width changed.old }
-    requires noted { HasNoted (job_in circuit.now) (forced_by (job_in circuit.now) events.now) step position changed.old }
-    requires filled { IsFilled (job_in circuit.now) (forced_by (job_in circuit.now) events.now) (step * (job_in circuit.now).width + position + 1) history.now }
-    ensures before { HasNoted (job_in circuit.now) (forced_by (job_in circuit.now) events.now) (step - 1) (job_in circuit.now).width changed.new }
-    ensures noted { HasNoted (job_in circuit.now) (forced_by (job_in circuit.now) events.now) step (position + 1) changed.new }
-    ensures still { result ≡ false → IsStillNet (job_in circuit.now) (forced_by (job_in circuit.now) events.now) step (slice_index circuit.now.order.now position) }
+    requires before { NotedIn circuit.now events.now (step - 1) changed.old }
+    requires noted { NotedTo circuit.now events.now step position changed.old }
+    requires filled { FilledWith circuit.now events.now step position history.now }
+    ensures before { NotedIn circuit.now events.now (step - 1) changed.new }
+    ensures noted { NotedTo circuit.now events.now step (position + 1) changed.new }
+    ensures still { result ≡ false → StillAt circuit.now events.now step position }
 {
     if !moves_at(circuit, events, history, step, position) {
         return false;
@@ -259,8 +268,8 @@ fn moves_at(
     requires fits { CircuitFits circuit.now }
     requires step { step < (job_in circuit.now).moments * (job_in circuit.now).rounds }
     requires position { position < (job_in circuit.now).width }
-    requires filled { IsFilled (job_in circuit.now) (forced_by (job_in circuit.now) events.now) (step * (job_in circuit.now).width + position + 1) history.now }
-    ensures { result ≡ false → IsStillNet (job_in circuit.now) (forced_by (job_in circuit.now) events.now) step (slice_index circuit.now.order.now position) }
+    requires filled { FilledWith circuit.now events.now step position history.now }
+    ensures { result ≡ false → StillAt circuit.now events.now step position }
 {
     if step == 0 {
         return true;
@@ -283,9 +292,9 @@ fn repeat_place(
     requires later { 0 < step }
     requires step { step < (job_in circuit.now).moments * (job_in circuit.now).rounds }
     requires position { position < (job_in circuit.now).width }
-    requires stays { Stays (job_in circuit.now) (forced_by (job_in circuit.now) events.now) step (slice_index circuit.now.order.now position) }
-    requires filled { IsFilled (job_in circuit.now) (forced_by (job_in circuit.now) events.now) (step * (job_in circuit.now).width + position) history.old }
-    ensures { IsFilled (job_in circuit.now) (forced_by (job_in circuit.now) events.now) (step * (job_in circuit.now).width + position + 1) history.new }
+    requires stays { StaysAt circuit.now events.now step position }
+    requires filled { FilledTo circuit.now events.now step position history.old }
+    ensures { FilledWith circuit.now events.now step position history.new }
 {
     let net = circuit.order.net(position);
     let shown = net_value(circuit, history, step - 1, net);
@@ -306,8 +315,8 @@ fn compute_place(
     requires step { step < (job_in circuit.now).moments * (job_in circuit.now).rounds }
     requires position { position < (job_in circuit.now).width }
     requires forced { HasForced (job_in circuit.now).width events.now step forced.now }
-    requires filled { IsFilled (job_in circuit.now) (forced_by (job_in circuit.now) events.now) (step * (job_in circuit.now).width + position) history.old }
-    ensures { IsFilled (job_in circuit.now) (forced_by (job_in circuit.now) events.now) (step * (job_in circuit.now).width + position + 1) history.new }
+    requires filled { FilledTo circuit.now events.now step position history.old }
+    ensures { FilledWith circuit.now events.now step position history.new }
 {
     let net = circuit.order.net(position);
     let driver = driver_at(circuit, net as usize);

@@ -1,5 +1,5 @@
 -- The first moment with a fault has the first fault.
-use Rattle.std.proofs.Common.{◌≡◌, ◌<◌, ℕ, Err, rules, length, ap, arith, below_more}
+use Rattle.std.proofs.Common.{◌≡◌, ℕ, Err, rules, length, ap, arith, below_more}
 use Rattle.xr_replay.specs.Fault.{HasNoFault}
 use Rattle.xr_replay.specs.Sides.{job_beside}
 use Rattle.xr_replay.proofs.Faults.{first_fault}

@@ -1,5 +1,5 @@
 -- A net of a step by its place.
-use Rattle.std.proofs.Common.{◌<◌, ◌+◌, ◌*◌, ◌∙◌, sym, ap, arith}
+use Rattle.std.proofs.Common.{◌<◌, ◌∙◌, sym, ap, arith}
 use Rattle.xr_design.specs.Replay.{Held}
 use Rattle.xr_design.specs.Circuit.{job_in}
 use Rattle.xr_replay.proofs.Places.{has_step, held_at_net}

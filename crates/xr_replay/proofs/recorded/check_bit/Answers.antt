@@ -1,5 +1,5 @@
 -- What the history shows is what the replay shows.
-use Rattle.std.proofs.Common.{◌≡◌, ◌≢◌, ◌<◌, ◌∙◌, sym, refl, rules, ap, slice_index}
+use Rattle.std.proofs.Common.{◌≡◌, ◌≢◌, ◌<◌, ◌∙◌, sym, refl, rules, slice_index}
 use Rattle.std.proofs.lemmas.List.Elements.{All-get_or}
 use Rattle.xr_design.specs.Handed.{shown_of}
 use Rattle.xr_design.specs.Job.{at}
@@ -26,9 +26,13 @@ returns-clause-fault c =
     let within : net < j.width = All-get_or (λ n. n < j.width) c.args.variable.now.bits c.args.bit 0 c.requires.bit c.requires.bound.nets in
     let read : c.net_value-replayed.result ≡ shown_of j c.args.sides.now.history.now (at j c.last_step_of.result net) = rw (← c.as_slice.ensures) c.net_value-replayed.ensures in
     let replayed = shown_last j sides.fits.fits_job c.args.sides.now.history.now c.last_step_of.result c.args.moment net c.net_value-replayed.result sides.history c.requires.moment within c.last_step_of.ensures read in
-    let differ : c.value-recorded.result ≢ c.net_value-replayed.result = search rules in
-    (refl, refl, refl, record {
-      recorded_is = c.value-recorded.ensures.is;
-      replayed_is = replayed;
-      differs = λ agrees. differ (c.value-recorded.ensures.is ∙ agrees ∙ sym replayed);
-    })
+    let differ : c.value-recorded.result ≢ c.net_value-replayed.result = search rules in (
+      refl,
+      refl,
+      refl,
+      record {
+        recorded_is = c.value-recorded.ensures.is;
+        replayed_is = replayed;
+        differs = λ agrees. differ (c.value-recorded.ensures.is ∙ agrees ∙ sym replayed);
+      },
+    )

@@ -1,9 +1,8 @@
 -- All variables agree in the end.
-use Rattle.std.proofs.Common.{◌≡◌, ◌<◌, ℕ, Err, rules, length, ap, arith}
+use Rattle.std.proofs.Common.{length, ap, arith}
 use Rattle.std.proofs.lemmas.List.Elements.{All-from_get_or}
 use Rattle.xr_replay.specs.Fault.{VariableAgrees, no_variable}
 use Rattle.xr_replay.specs.Sides.{job_beside}
-use Rattle.xr_replay.proofs.Faults.{first_variable}
 use Rattle.xr_replay.proofs.recorded.check_recorded.Goals as goal
 
 pub returns-clause-agrees : goal.returns-clause-agrees

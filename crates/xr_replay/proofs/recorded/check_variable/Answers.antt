@@ -1,8 +1,7 @@
 -- The first bit that doesn't agree comes first.
-use Rattle.std.proofs.Common.{◌≡◌, ◌<◌, ℕ, Err, rules, length, arith, below_more}
+use Rattle.std.proofs.Common.{ℕ, below_more}
 use Rattle.xr_replay.specs.Fault.{BitAgrees}
 use Rattle.xr_replay.specs.Sides.{job_beside}
-use Rattle.xr_replay.proofs.Faults.{first_bit}
 use Rattle.xr_replay.proofs.recorded.check_variable.Goals as goal
 
 pub bits-preserved : goal.bits-preserved

@@ -21,9 +21,12 @@ returns-clause-fault c =
     let history = c.args.sides.now.history.now in
     let kept = kept_last j sides.fits.fits_job history c.last_step_of-step.result c.args.moment c.args.net c.net_kept-kept.result sides.history c.requires.moment c.requires.net c.last_step_of-step.ensures c.net_kept-kept.ensures in
     let next = next_last j sides.fits.fits_job history c.last_step_of-step.result c.args.moment c.args.net c.args.latching.now c.net_kept-kept.result c.updated_value-next.result sides.history c.requires.moment c.requires.net c.requires.register c.last_step_of-step.ensures kept c.updated_value-next.ensures in
-    let differ : c.updated_value-next.result ≢ c.net_kept-kept.result = search rules in
-    (refl, refl, record {
-      unsettled = λ settled. differ (next ∙ settled ∙ sym kept);
-      kept_is = kept;
-      next_is = next;
-    })
+    let differ : c.updated_value-next.result ≢ c.net_kept-kept.result = search rules in (
+      refl,
+      refl,
+      record {
+        unsettled = λ settled. differ (next ∙ settled ∙ sym kept);
+        kept_is = kept;
+        next_is = next;
+      },
+    )

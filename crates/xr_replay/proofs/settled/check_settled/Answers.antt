@@ -1,5 +1,5 @@
 -- The first net that isn't settled comes first in the order.
-use Rattle.std.proofs.Common.{◌≡◌, ◌<◌, ◌≤◌, ℕ, Err, rules, length, ap, arith, subst, below_more, slice_index}
+use Rattle.std.proofs.Common.{◌≡◌, ◌<◌, ℕ, Err, rules, length, ap, arith, subst, below_more, slice_index}
 use Rattle.xr_design.specs.Settled.{last_step, IsSettledAt}
 use Rattle.xr_replay.specs.Sides.{job_beside}
 use Rattle.xr_replay.proofs.Faults.{all_settled, first_unsettled}

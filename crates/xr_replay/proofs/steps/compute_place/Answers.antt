@@ -1,9 +1,9 @@
 -- The place has what the replay has.
-use Rattle.std.proofs.Common.{◌≡◌, ◌<◌, ◌+◌, ◌*◌, ◌∙◌, None, ℕ, refl, sym, ap, subst, slice_index_or}
+use Rattle.std.proofs.Common.{◌≡◌, ◌<◌, ◌+◌, ◌*◌, ◌∙◌, None, ℕ, sym, ap, subst, slice_index_or}
 use Rattle.xr_design.specs.Circuit.{job_in}
 use Rattle.xr_design.specs.declared.place.Place.{Place}
 use Rattle.xr_design.specs.Fits.{place_at}
-use Rattle.xr_design.specs.Force.{forced_at, forced_by}
+use Rattle.xr_design.specs.Force.{forced_by}
 use Rattle.xr_design.specs.History.{HasPlace}
 use Rattle.xr_replay.proofs.Places.{place_at_position}
 use Rattle.xr_replay.proofs.Writing.{filled_place, index_within, place_within, step_there, net_at, net_within}

@@ -1,11 +1,11 @@
 -- All steps are filled in the end.
-use Rattle.std.proofs.Common.{◌≡◌, ◌+◌, ◌-◌, ◌*◌, ◌<◌, ℕ, true, length, ap, ◌∙◌, sym, arith, subst}
+use Rattle.std.proofs.Common.{◌≡◌, ◌+◌, ◌-◌, ◌*◌, ℕ, length, ap, arith, subst}
 use Rattle.std.proofs.Math.Nat.{mul_comm}
 use Rattle.xr_design.specs.Circuit.{job_in}
 use Rattle.xr_design.specs.Force.{forced_by}
 use Rattle.xr_design.specs.Job.{places_of}
 use Rattle.xr_replay.specs.Filled.{IsFilled}
-use Rattle.xr_replay.specs.Forced.{AreOrdered, HasForced}
+use Rattle.xr_replay.specs.Forced.{HasForced}
 use Rattle.xr_replay.specs.Noted.{AreStill, HasNoted}
 use Rattle.xr_replay.proofs.Forces.{in_order, taken_later}
 use Rattle.xr_replay.proofs.Repeats.{stays_forced}

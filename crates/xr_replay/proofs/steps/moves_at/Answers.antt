@@ -1,5 +1,5 @@
 -- A net that reads the same at both steps is still.
-use Rattle.std.proofs.Common.{◌≡◌, ◌<◌, false, rules, arith}
+use Rattle.std.proofs.Common.{◌≡◌, ◌<◌, rules, arith}
 use Rattle.xr_design.specs.Circuit.{job_in}
 use Rattle.xr_design.specs.Force.{forced_by}
 use Rattle.xr_replay.proofs.Repeats.{still_read}

@@ -1,5 +1,4 @@
 -- What is noted where a net changes, and where it doesn't.
-use Rattle.std.proofs.Common.{◌≡◌, false}
 use Rattle.xr_design.specs.Circuit.{job_in}
 use Rattle.xr_design.specs.Force.{forced_by}
 use Rattle.xr_replay.proofs.Repeats.{noted_before, noted_change, noted_still}

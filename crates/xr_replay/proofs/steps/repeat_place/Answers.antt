@@ -1,12 +1,12 @@
 -- The place has what the replay has one step before, which is what it has here.
-use Rattle.std.proofs.Common.{◌≡◌, ◌<◌, ◌+◌, ◌-◌, ◌*◌, ◌∙◌, ℕ, sym, ap, subst, arith, slice_index}
+use Rattle.std.proofs.Common.{◌≡◌, ◌+◌, ◌*◌, ◌∙◌, ℕ, sym, ap, subst}
 use Rattle.xr_design.specs.Circuit.{job_in}
 use Rattle.xr_design.specs.declared.place.Place.{Place}
 use Rattle.xr_design.specs.Fits.{place_at}
 use Rattle.xr_design.specs.Force.{forced_by}
 use Rattle.xr_design.specs.History.{HasPlace}
 use Rattle.xr_replay.proofs.Places.{place_at_position}
-use Rattle.xr_replay.proofs.Writing.{index_within, net_within, place_within}
+use Rattle.xr_replay.proofs.Writing.{index_within, place_within}
 use Rattle.xr_replay.proofs.Repeats.{repeated_place}
 use Rattle.xr_replay.proofs.steps.repeat_place.Goals as goal
 

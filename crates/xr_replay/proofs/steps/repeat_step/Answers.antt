@@ -1,5 +1,5 @@
 -- Each net of a quiet step stays.
-use Rattle.std.proofs.Common.{◌≡◌, ◌+◌, ◌-◌, ◌*◌, ◌<◌, ℕ, length, ap, arith, subst}
+use Rattle.std.proofs.Common.{◌≡◌, ◌+◌, ◌*◌, ◌<◌, ℕ, length, ap, arith, subst}
 use Rattle.xr_design.specs.Circuit.{job_in}
 use Rattle.xr_design.specs.Force.{forced_by}
 use Rattle.xr_design.proofs.Rules.{position_in}

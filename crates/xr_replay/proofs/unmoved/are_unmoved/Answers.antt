@@ -1,5 +1,5 @@
 -- A pin's net is noted, as those of all pins are.
-use Rattle.std.proofs.Common.{◌<◌, length, arith}
+use Rattle.std.proofs.Common.{◌<◌, length}
 use Rattle.xr_design.proofs.Pins.{net_pins_one}
 use Rattle.xr_replay.proofs.unmoved.are_unmoved.Goals as goal
 
