@@ -1,0 +1,5 @@
+-- Lemmas on waves.
+mod KeptBytes
+mod LineGrowth
+mod NextClass
+mod WaveGrowth

@@ -1,0 +1,110 @@
+-- A Line place that is written by its line.
+use Rattle.std.proofs.Common.{◌≡◌, Bool, true, false, Some, None, List, [], ◌∷◌, length, refl, sym, ◌∙◌, ap, subst, if◌then◌else◌}
+use Rattle.std.specs.Prelude.{nat_lt, ℤ}
+use Rattle.xr_design.specs.declared.place.Place.{Place}
+use Rattle.xr_design.specs.declared.waveform.Written.{Written}
+use Rattle.xr_design.specs.Job.{Job, number_of, places_of}
+use Rattle.xr_design.specs.Waveform.{written_at}
+use Rattle.xr_design.proofs.Numbers.{number_of_place_at}
+use Rattle.xr_model.specs.Growth.{NextHolds, NextLines, NextSaid}
+use Rattle.xr_model.specs.Sound.{IsOptimistic}
+use Rattle.xr_model.specs.Stated.{body_at}
+use Rattle.xr_model.specs.Yields.{line_of, written_by}
+use Rattle.xr_model.specs.declared.class.Class.TheVariants as seen
+use Rattle.xr_model.specs.declared.class.ClassByNumber.{ClassByNumber}
+use Rattle.xr_model.specs.declared.class.ClassByNumber.TheVariants.{Local, Free, Carried, Line}
+use Rattle.xr_model.specs.declared.line.Body.TheVariants as body
+use Rattle.xr_model.specs.declared.line.Line.{Line as ALine}
+use Rattle.xr_model.proofs.LinesByPlace.{body_one}
+use Rattle.xr_model.proofs.WaveInvariant.{yields_grown}
+use Rattle.xr_wave.specs.Contents.{Contents, IsWave, class_in, class_or_done, job, next_number, shown_in}
+use Rattle.xr_wave.specs.Token.{BudgetToken, IsLineNext, LineAgrees, LineHolds, LineYields, PairToken, SettledToken, body_of, budget_line, pair_line, settled_line, written_by_line}
+use Rattle.xr_wave.specs.declared.token.How.{How}
+use Rattle.xr_wave.specs.declared.token.How.TheVariants.{Enumerated, Refuted}
+
+line_by : (j : Job) (b : Bool) (class : ClassByNumber)
+    → class_or_done j (if b then Some class else None) ≡ seen.Line → class ≡ Line
+line_by j false class is = cc
+line_by j true (Local bit) is = cc
+line_by j true Free is = cc
+line_by j true (Carried from inverted) is = cc
+line_by j true Line is = refl
+
+-- The class of the next place by number.
+pub line_class : (c : Contents) → IsLineNext c → class_in c (next_number c) ≡ Line
+line_class c is = line_by (job c) (nat_lt (length c.written) (places_of (job c))) (class_in c (next_number c)) is
+
+-- What a line says is what the next place gets.
+pub line_said : (c : Contents) (x : Written) (line : ALine) → IsWave c → IsLineNext c → LineHolds c line
+    → x ≡ written_by_line c line → NextSaid (job c) c.limit (shown_in c) c.written x (line ∷ [])
+line_said c x line wave is holds x_is = record {
+  within = holds.within;
+  lines = subst (NextLines (job c) c.limit c.written (line ∷ [])) (sym class)
+      (record { line = line; one = refl; place = holds.place_is; holds = holds.holds });
+  as_said = x_is ∙ sym (ap (λ cl. written_by (written_at c.written) cl
+      (body_at (job c) (line ∷ []) (length c.written)) (shown_in c (length c.written))) class
+      ∙ ap (λ b. line_of b (shown_in c (length c.written))) (body_one (job c) line (length c.written) number));
+}
+  where
+    class : class_in c (next_number c) ≡ Line
+    class = line_class c is
+
+    number : number_of (job c) line.place ≡ length c.written
+    number = ap (number_of (job c)) holds.place_is ∙ number_of_place_at (job c) (length c.written)
+        wave.fits.fits_job.ordering wave.fits.fits_job.all holds.within
+
+pub line_next : (c : Contents) (x : Written) (line : ALine) → IsWave c → IsLineNext c → LineHolds c line
+    → x ≡ written_by_line c line → LineAgrees c line
+    → NextHolds (job c) c.limit (shown_in c) c.written x (line ∷ [])
+line_next c x line wave is holds x_is agrees = record {
+  said = line_said c x line wave is holds x_is;
+  honest = subst (λ (w : Written). IsOptimistic w.mark w.value (shown_in c (length c.written)) → ⊥) (sym x_is) agrees;
+}
+
+-- Also where it contradicts the history, the lines yield the waveform with it.
+pub line_yields : (c : Contents) (line : ALine) → IsWave c → IsLineNext c → LineHolds c line → LineYields c line
+line_yields c line wave is holds =
+    yields_grown (job c) c.limit wave.fits.fits_job (shown_in c) c.written c.lines (written_by_line c line) (line ∷ [])
+    wave.holds.yields (line_said c (written_by_line c line) line wave is holds refl)
+
+-- Tokens that become the same line are the same.
+how_same : (a b : How) → body_of a ≡ body_of b → a ≡ b
+how_same (Enumerated bit) (Enumerated other) same = cc
+how_same (Enumerated bit) (Refuted other log) same = cc
+how_same (Refuted bit log) (Enumerated other) same = cc
+how_same (Refuted bit log) (Refuted other more) same = cc
+
+pub settled_same : (a b : SettledToken) → settled_line a ≡ settled_line b → a ≡ b
+settled_same a b same =
+    ap (λ (p : Place). token p a.how) (ap (λ (line : ALine). line.place) same)
+    ∙ ap (λ (h : How). token b.place h) (how_same a.how b.how (ap (λ (line : ALine). line.body) same))
+  where
+    token : Place → How → SettledToken
+    token p h = record { place = p; how = h }
+
+zero_same : (a b x y : List Place) → body.Pair a b ≡ body.Pair x y → a ≡ x
+zero_same a b x y same = cc
+
+one_same : (a b x y : List Place) → body.Pair a b ≡ body.Pair x y → b ≡ y
+one_same a b x y same = cc
+
+pub pair_same : (a b : PairToken) → pair_line a ≡ pair_line b → a ≡ b
+pair_same a b same =
+    let bodies : body.Pair a.zero a.one ≡ body.Pair b.zero b.one = ap (λ (line : ALine). line.body) same in
+    ap (λ (p : Place). token p a.zero a.one) (ap (λ (line : ALine). line.place) same)
+    ∙ ap (λ (z : List Place). token b.place z a.one) (zero_same a.zero a.one b.zero b.one bodies)
+    ∙ ap (λ (o : List Place). token b.place b.zero o) (one_same a.zero a.one b.zero b.one bodies)
+  where
+    token : Place → List Place → List Place → PairToken
+    token p z o = record { place = p; zero = z; one = o }
+
+log_same : (a b : List (List ℤ)) → body.Undecided a ≡ body.Undecided b → a ≡ b
+log_same a b same = cc
+
+pub budget_same : (a b : BudgetToken) → budget_line a ≡ budget_line b → a ≡ b
+budget_same a b same =
+    ap (λ (p : Place). token p a.log) (ap (λ (line : ALine). line.place) same)
+    ∙ ap (λ (l : List (List ℤ)). token b.place l) (log_same a.log b.log (ap (λ (line : ALine). line.body) same))
+  where
+    token : Place → List (List ℤ) → BudgetToken
+    token p l = record { place = p; log = l }

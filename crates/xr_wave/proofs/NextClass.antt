@@ -1,0 +1,130 @@
+-- The class of the next place, and the places that it names.
+use Rattle.std.proofs.Common.{◌≡◌, ℕ, ◌*◌, ◌<◌, ◌≤◌, Bool, true, false, Option, Some, None, List, [], ◌∷◌, ◌++◌, length, map, refl, sym, ◌∙◌, arith, subst, ⊎_elim, if◌then◌else◌, IfSome}
+use Rattle.std.specs.Prelude.{nat_lt}
+use Rattle.std.specs.List.{AllByRecursion}
+use Rattle.std.proofs.lemmas.Bool.{ltb-true, lt-ltb}
+use Rattle.std.proofs.lemmas.List.{length-map}
+use Rattle.xr_cell.specs.declared.value.Value.{Value}
+use Rattle.xr_design.specs.declared.place.Place.{Place}
+use Rattle.xr_design.specs.declared.waveform.Written.{Written}
+use Rattle.xr_design.specs.Filling.{IsPlace}
+use Rattle.xr_design.specs.Fits.{Fits}
+use Rattle.xr_design.specs.Handed.{HasPlaces, IsHandedIn, IsReplay, IsBlank}
+use Rattle.xr_design.specs.History.{HistoryView, HasPlace}
+use Rattle.xr_design.specs.Job.{Job, number_of, places_of}
+use Rattle.xr_design.specs.Rule.{arguments}
+use Rattle.xr_design.specs.Waveform.{certain}
+use Rattle.xr_design.proofs.Reaching.{step_small}
+use Rattle.xr_design.proofs.Rules.{position_in}
+use Rattle.xr_model.specs.Class.{before, carries_on, class_of}
+use Rattle.xr_model.specs.declared.class.ClassByNumber.{ClassByNumber}
+use Rattle.xr_model.specs.declared.class.ClassByNumber.TheVariants.{Local, Free, Carried, Line}
+use Rattle.xr_model.specs.Assignment.{argument_places}
+use Rattle.xr_model.specs.Places.{among}
+use Rattle.xr_model.proofs.AssignmentNumbers.{along}
+use Rattle.xr_model.proofs.PlacesWhere.{picked_below}
+use Rattle.xr_model.proofs.Roots.{carried_below}
+use Rattle.xr_class.specs.Keeps.{AreCarriers}
+use Rattle.xr_wave.specs.Byte.{carries_in, carries_of_byte, written_of_byte}
+use Rattle.xr_wave.specs.Contents.{FromWithin, next_class}
+use Rattle.xr_wave.proofs.KeptBytes.{carriers_grown}
+
+by_test : (b : Bool) (there class : ClassByNumber) → (if b then Some there else None) ≡ Some class
+    → (b ≡ true) × (there ≡ class)
+by_test true there class is = (refl, cc)
+by_test false there class is = cc
+
+-- Where there is one, there is a next place.
+pub next_some : (j : Job) (written : List Written) (class : ClassByNumber) → next_class j written ≡ Some class
+    → (length written < places_of j) × (class_of j (certain written) (length written) ≡ class)
+next_some j written class is =
+    let parts = by_test (nat_lt (length written) (places_of j)) (class_of j (certain written) (length written)) class is in
+    (ltb-true (length written) (places_of j) parts.0, parts.1)
+
+-- Where there is a next place, there is one.
+pub some_next : (j : Job) (written : List Written) → length written < places_of j
+    → next_class j written ≡ Some (class_of j (certain written) (length written))
+some_next j written within = rw (lt-ltb (length written) (places_of j) within) refl
+
+from_below : (j : Job) → Fits j → (c : ℕ → Value) (place : ℕ) → place < places_of j → (class : ClassByNumber)
+    → class_of j c place ≡ class → FromWithin place class
+from_below j fits c place within (Local bit) is = tt
+from_below j fits c place within Free is = tt
+from_below j fits c place within (Carried from inverted) is = carried_below j fits c place from inverted within is
+from_below j fits c place within Line is = tt
+
+pub next_from : (j : Job) → Fits j → (written : List Written) (class : ClassByNumber)
+    → next_class j written ≡ Some class → FromWithin (length written) class
+next_from j fits written class is =
+    let parts = next_some j written class is in
+    from_below j fits (certain written) (length written) parts.0 class parts.1
+
+further : (m n : ℕ) → m ≤ n → (class : ClassByNumber) → FromWithin m class → FromWithin n class
+further m n up (Local bit) within = tt
+further m n up Free within = tt
+further m n up (Carried from inverted) within = omega arith
+further m n up Line within = tt
+
+pub next_from_job : (j : Job) → Fits j → (written : List Written) (class : ClassByNumber)
+    → next_class j written ≡ Some class → FromWithin (places_of j) class
+next_from_job j fits written class is =
+    let parts = next_some j written class is in
+    let within = parts.0 in
+    further (length written) (places_of j) (omega (arith, within)) class (next_from j fits written class is)
+
+-- What is said of the class of the next place, over bytes.
+pub next_carries : (j : Job) (bytes : List ℕ) (carries : Bool) → length bytes < places_of j
+    → IfSome (next_class j (map written_of_byte bytes)) (λ class. carries ≡ carries_on class (before j (length bytes)))
+    → carries ≡ carries_on (class_of j (certain (map written_of_byte bytes)) (length bytes)) (before j (length bytes))
+next_carries j bytes carries within says =
+    let long : length (map written_of_byte bytes) ≡ length bytes = length-map bytes written_of_byte in
+    let some = some_next j (map written_of_byte bytes) (omega (arith, long, within)) in
+    subst (λ n. carries ≡ carries_on (class_of j (certain (map written_of_byte bytes)) n) (before j (length bytes))) long
+    (rw some at says)
+
+-- A history that is handed in has each place of the job.
+pub handed_places : (j : Job) (history : HistoryView) → IsHandedIn j history → HasPlaces j history
+handed_places j history handed = ⊎_elim (λ (is : IsReplay j history). is.places) (λ (is : IsBlank j history). is.places) handed
+
+pub has_place : (j : Job) (history : HistoryView) (place : Place) → HasPlaces j history → IsPlace j place
+    → HasPlace history place
+has_place j history place has is =
+    let nets = has.nets in
+    let all = has.all in
+    let net = is.net in
+    let room = step_small j.width place.step (j.moments * j.rounds) is.step in
+    record { net = omega (arith, nets, net); step = rw nets (omega (arith, all, net, room)) }
+
+-- The number of a place of the job is below the count.
+pub number_within : (j : Job) → Fits j → (place : Place) → IsPlace j place → number_of j place < places_of j
+number_within j fits place is =
+    let room = step_small j.width place.step (j.moments * j.rounds) is.step in
+    let low = position_in j fits place.net is.net in
+    omega (arith, room, low)
+
+-- A carried place is carried from one of the job.
+pub class_from_job : (j : Job) → Fits j → (c : ℕ → Value) (place : ℕ) → place < places_of j
+    → FromWithin (places_of j) (class_of j c place)
+class_from_job j fits c place within =
+    further place (places_of j) (omega arith) (class_of j c place)
+    (from_below j fits c place within (class_of j c place) refl)
+
+-- The argument places of a place are places of the job.
+pub arguments_within : (j : Job) (c : ℕ → Value) (place : ℕ) → place < places_of j
+    → AllByRecursion (λ k. k < places_of j) (argument_places j c place)
+arguments_within j c place within =
+    along (λ k. k < place) (λ k. k < places_of j) (argument_places j c place) (λ k less. omega arith)
+    (picked_below (among (arguments j c place)) place)
+
+-- Bytes with one more, of which it is told whether its place carries on.
+pub carriers_pushed : (j : Job) → Fits j → (bytes : List ℕ) (byte : ℕ) (next : Option ClassByNumber) (carries : Bool)
+    → length bytes < places_of j
+    → AreCarriers j (certain (map written_of_byte bytes)) (carries_in bytes) (length bytes)
+    → next ≡ next_class j (map written_of_byte bytes)
+    → IfSome next (λ class. carries ≡ carries_on class (before j (length bytes))) → carries_of_byte byte ≡ carries
+    → (all : List ℕ) → all ≡ bytes ++ byte ∷ []
+    → AreCarriers j (certain (map written_of_byte all)) (carries_in all) (length all)
+carriers_pushed j fits bytes byte next carries within carriers next_is says byte_is all all_is =
+    subst (λ (bs : List ℕ). AreCarriers j (certain (map written_of_byte bs)) (carries_in bs) (length bs)) (sym all_is)
+    (carriers_grown j fits bytes byte within carriers
+    (byte_is ∙ next_carries j bytes carries within (rw next_is at says)))

@@ -1,0 +1,14 @@
+-- A place is carried from one that is written.
+use Rattle.std.proofs.Common.{◌≡◌, ◌∙◌, Some, sym, ap}
+use Rattle.xr_model.specs.declared.class.ClassByNumber.{ClassByNumber}
+use Rattle.xr_model.specs.declared.class.ClassByNumber.TheVariants.{Carried}
+use Rattle.xr_wave.specs.Contents.{job, next_class}
+use Rattle.xr_wave.proofs.NextClass.{next_from}
+use Rattle.xr_wave.proofs.advance.next_written.Goals as goal
+
+pub written-requires : goal.written-requires
+written-requires c =
+    let wave = c.args.wave.now in
+    let is : next_class (job wave) wave.written ≡ Some (Carried c.in-Some-Carried.from c.in-Some-Carried.inverted) =
+    sym c.next_class.ensures.class ∙ c.in-Some-Carried.is ∙ ap (λ (class : ClassByNumber). Some class) c.in-Some-Carried.field-0-is in
+    next_from (job wave) c.next_class.ensures.wave.fits.fits_job wave.written (Carried c.in-Some-Carried.from c.in-Some-Carried.inverted) is

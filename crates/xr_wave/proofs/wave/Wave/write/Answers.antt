@@ -1,0 +1,30 @@
+-- The wave stays a wave.
+use Rattle.std.proofs.Common.{◌≡◌, ◌<◌, ◌∙◌, ◌++◌, ◌∷◌, [], length, map, ap, sym, subst, arith, append-nil}
+use Rattle.std.proofs.lemmas.List.{length-map}
+use Rattle.xr_design.specs.Circuit.{job_in}
+use Rattle.xr_design.specs.Job.{places_of}
+use Rattle.xr_wave.specs.Byte.{written_of_byte}
+use Rattle.xr_wave.specs.Contents.{Contents, IsWave, job}
+use Rattle.xr_wave.proofs.WaveGrowth.{wave_next}
+use Rattle.xr_wave.proofs.wave.Wave.write.Goals as goal
+
+pub push_place-behind-requires-clause-within : goal.push_place-behind-requires-clause-within
+push_place-behind-requires-clause-within c =
+    let long = length-map c.self.inside.bytes.items written_of_byte in
+    let less : length (map written_of_byte c.self.inside.bytes.items) < places_of (job_in c.self.inside.circuit) =
+    subst (λ (v : Contents). length v.written < places_of (job v)) (sym c.self.view_is) c.requires.next.said.within in
+    omega (arith, long, less)
+
+pub invariant_of-self : goal.invariant_of-self
+invariant_of-self c =
+    let right : IsWave c.args.self = subst IsWave c.self.view_is c.self.invariant.right in
+    let written : map written_of_byte c.push_place-behind.new.bytes.items ≡ c.args.self.written ++ c.args.written ∷ [] =
+    c.push_place-behind.ensures.written ∙ ap (λ (v : Contents). v.written ++ c.args.written ∷ []) c.self.view_is in
+    let lines : c.self.inside.lines.items ≡ c.args.self.lines ++ [] =
+    ap (λ (v : Contents). v.lines) c.self.view_is ∙ sym (append-nil c.args.self.lines) in
+    record {
+      right = subst (λ (u : Contents). IsWave (record u { written = map written_of_byte c.push_place-behind.new.bytes.items; lines = c.self.inside.lines.items })) (sym c.self.view_is)
+          (wave_next c.args.self c.args.written [] right c.requires.next _ _ written lines);
+      kept = c.push_place-behind.ensures.kept;
+      room = c.push_place-behind.ensures.room;
+    }

@@ -1,0 +1,38 @@
+-- What the next place gets where its class isn't Line.
+use Rattle.std.specs.Prelude.{◌≡◌, ◌++◌, ◌∷◌, [], None}
+use Rattle.xr_design.specs.declared.waveform.Written.{Written}
+use Rattle.xr_design.specs.Fits.{place_at}
+use Rattle.xr_design.specs.Waveform.{certain_by, written_at}
+use Rattle.xr_model.specs.Sound.{IsOptimistic}
+use Rattle.xr_model.specs.Yields.{written_by}
+use Rattle.xr_model.specs.declared.class.Class.{Class}
+use Rattle.xr_model.specs.declared.class.Class.TheVariants.{Done, Local, Free, Carried, Line}
+use Rattle.xr_wave.specs.declared.advance.Optimistic.{Optimistic}
+use Rattle.xr_wave.specs.Contents.{Contents, class_in, job, next_number, shown_in}
+
+-- Its class says what it is.
+abbrev pub IsPlain : Class → Type 0
+IsPlain Done = ⊥
+IsPlain (Local bit) = Unit {0}
+IsPlain Free = Unit {0}
+IsPlain (Carried from inverted) = Unit {0}
+IsPlain Line = ⊥
+
+-- So it is written, without a line.
+abbrev pub plain_written : Contents → Written
+plain_written c =
+    written_by (written_at c.written) (class_in c (next_number c)) None (shown_in c (next_number c))
+
+abbrev pub with_written : Contents → Written → Contents
+with_written c written = record c { written = c.written ++ written ∷ [] }
+
+-- What stands there contradicts what the history knows.
+abbrev pub Contradicts : Contents → Written → Type 0
+Contradicts c written = IsOptimistic written.mark written.value (shown_in c (next_number c))
+
+-- What is told then: the place, what the history shows there, what is found, x where that isn't certain, and the lines.
+pub record Told (c : Contents) (written : Written) (told : Optimistic) : Type 0 where
+  pub place_is : told.place ≡ place_at (job c) (next_number c)
+  pub replayed_is : told.replayed ≡ shown_in c (next_number c)
+  pub found_is : told.found ≡ certain_by written.mark written.value
+  pub lines_are : told.lines.items ≡ c.lines

@@ -1,0 +1,26 @@
+-- A place of a waveform in a byte.
+use Rattle.std.specs.Prelude.{ℕ, ◌/◌, ◌%◌, ◌==◌, Bool, List, slice_index_or, if◌then◌else◌}
+use Rattle.xr_design.specs.declared.waveform.Mark.{Mark}
+use Rattle.xr_design.specs.declared.waveform.Mark.TheVariants.{Certain, Unknown, Undecided}
+use Rattle.xr_design.specs.declared.waveform.Written.{Written}
+use Rattle.xr_design.specs.History.{value_of_bits}
+
+-- Its value is in the low two bits, its mark in the next two, and behind them a bit says whether its class is Carried
+-- from the step before, as it is.
+abbrev pub mark_of_bits : ℕ → Mark
+mark_of_bits bits = if bits == 0 then Certain else if bits == 1 then Unknown else Undecided
+
+abbrev pub two_bits_of_mark : Mark → ℕ
+two_bits_of_mark Certain = 0
+two_bits_of_mark Unknown = 1
+two_bits_of_mark Undecided = 2
+
+abbrev pub written_of_byte : ℕ → Written
+written_of_byte byte = record { value = value_of_bits (byte % 4); mark = mark_of_bits (byte / 4 % 4) }
+
+abbrev pub carries_of_byte : ℕ → Bool
+carries_of_byte byte = byte / 16 % 2 == 1
+
+-- Which places carry on.
+abbrev pub carries_in : List ℕ → ℕ → Bool
+carries_in bytes place = carries_of_byte (slice_index_or bytes place 0)

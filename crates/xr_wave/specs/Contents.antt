@@ -1,0 +1,110 @@
+-- What a wave holds, and what is always true of it.
+use Rattle.std.specs.Prelude.{ℕ, ◌<◌, ◌≤◌, Option, None, Some, List, [], length, nat_lt, if◌then◌else◌}
+use Rattle.xr_cell.specs.declared.value.Value.{Value}
+use Rattle.xr_design.specs.declared.design.Design.{Design}
+use Rattle.xr_design.specs.declared.stim.Stim.{Stim}
+use Rattle.xr_design.specs.declared.place.Place.{Place}
+use Rattle.xr_design.specs.declared.waveform.Written.{Written}
+use Rattle.xr_design.specs.Circuit.{FitsCircuit}
+use Rattle.xr_design.specs.Filling.{IsPlace}
+use Rattle.xr_design.specs.Fits.{place_at}
+use Rattle.xr_design.specs.Handed.{IsHandedIn, shown_of}
+use Rattle.xr_design.specs.History.{HistoryView}
+use Rattle.xr_design.specs.Job.{Job, job_of, number_of, places_of}
+use Rattle.xr_design.specs.Rule.{rule}
+use Rattle.xr_design.specs.Waveform.{certain, written_at}
+use Rattle.xr_model.specs.Assignment.{argument_places}
+use Rattle.xr_model.specs.Class.{class_of, class_seen}
+use Rattle.xr_model.specs.Growth.{Holds}
+use Rattle.xr_model.specs.Mask.{masked}
+use Rattle.xr_model.specs.declared.class.Class.{Class}
+use Rattle.xr_model.specs.declared.class.Class.TheVariants as seen
+use Rattle.xr_model.specs.declared.class.ClassByNumber.{ClassByNumber}
+use Rattle.xr_model.specs.declared.class.ClassByNumber.TheVariants.{Local, Free, Carried, Line}
+use Rattle.xr_model.specs.declared.line.Line.{Line as ALine}
+
+-- The circuit, the history that was handed in, how long the log of a licence is, the waveform of the places that are
+-- written, and the lines.
+pub record Contents : Type 0 where
+  pub design : Design
+  pub order : List ℕ
+  pub stim : Stim
+  pub history : HistoryView
+  pub limit : ℕ
+  pub written : List Written
+  pub lines : List ALine
+
+abbrev pub job : Contents → Job
+job c = job_of c.design c.order c.stim
+
+-- Nothing is written yet.
+abbrev pub nothing_written : Design → List ℕ → Stim → HistoryView → ℕ → Contents
+nothing_written design order stim history limit = record {
+  design = design;
+  order = order;
+  stim = stim;
+  history = history;
+  limit = limit;
+  written = [];
+  lines = [];
+}
+
+-- What the history shows at the place of a number.
+abbrev pub shown_in : Contents → ℕ → Value
+shown_in c = shown_of (job c) c.history
+
+-- It is of a circuit that fits and a history of its job; it is sound, and its lines yield it.
+pub record IsWave (c : Contents) : Type 0 where
+  pub fits : FitsCircuit c.design c.order c.stim
+  pub handed : IsHandedIn (job c) c.history
+  pub holds : Holds (job c) c.limit (shown_in c) c.written c.lines
+
+-- The number of the next place, and the class of a place.
+abbrev pub next_number : Contents → ℕ
+next_number c = length c.written
+
+abbrev pub class_in : Contents → ℕ → ClassByNumber
+class_in c place = class_of (job c) (certain c.written) place
+
+-- The argument places of a place, and what its rule gives where they have the bits of a number.
+abbrev pub arguments_in : Contents → ℕ → List ℕ
+arguments_in c place = argument_places (job c) (certain c.written) place
+
+abbrev pub rule_in : Contents → ℕ → ℕ → Value
+rule_in c place number = rule (job c) (certain c.written) (masked (arguments_in c place) number) place
+
+-- The class of the next place, if there is one.
+abbrev pub next_class : Job → List Written → Option ClassByNumber
+next_class j written =
+    if nat_lt (length written) (places_of j) then Some (class_of j (certain written) (length written)) else None
+
+-- They, as callers see them.
+abbrev pub next_place : Job → List Written → Option Place
+next_place j written = if nat_lt (length written) (places_of j) then Some (place_at j (length written)) else None
+
+abbrev pub class_or_done : Job → Option ClassByNumber → Class
+class_or_done j None = seen.Done
+class_or_done j (Some class) = class_seen j class
+
+abbrev pub next_seen : Contents → Class
+next_seen c = class_or_done (job c) (next_class (job c) c.written)
+
+-- The place that a class is carried from is below a number.
+abbrev pub FromWithin : ℕ → ClassByNumber → Type 0
+FromWithin n (Local bit) = Unit {0}
+FromWithin n Free = Unit {0}
+FromWithin n (Carried from inverted) = from < n
+FromWithin n Line = Unit {0}
+
+-- A place of the job that is written, and what is written there.
+pub record IsWritten (c : Contents) (place : Place) : Type 0 where
+  pub within : IsPlace (job c) place
+  pub written : number_of (job c) place < length c.written
+
+abbrev pub written_of : Contents → Place → Written
+written_of c place = written_at c.written (number_of (job c) place)
+
+-- A place of the job that is written, or the next one.
+pub record IsReached (c : Contents) (place : Place) : Type 0 where
+  pub within : IsPlace (job c) place
+  pub reached : number_of (job c) place ≤ length c.written

@@ -1,0 +1,6 @@
+-- Definitions of waves.
+pub mod Byte
+pub mod Contents
+pub mod Kept
+pub mod Advance
+pub mod Token

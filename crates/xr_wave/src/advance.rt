@@ -1,0 +1,142 @@
+//! Writing the places whose class says what they are.
+
+ghost use Rattle.std.specs.Prelude.{◌≡◌, ◌↔◌, ◌<◌, IsTrue, IsErr, IfOk, IfErr, length};
+ghost use Rattle.xr_design.specs.declared.waveform.Mark.TheVariants.{Certain};
+ghost use Rattle.xr_design.specs.Waveform.{written_at};
+ghost use Rattle.xr_model.specs.Sound.{IsOptimistic};
+ghost use Rattle.xr_model.specs.Yields.{carried_of, certain_bit, flipped_value};
+ghost use Rattle.xr_wave.specs.Advance.{Contradicts, IsPlain, Told, plain_written, with_written};
+ghost use Rattle.xr_wave.specs.Contents.{next_number, next_seen, shown_in};
+ghost use Rattle.xr_wave.specs.Token.{HasNext};
+
+use crate::bytes::value_if_certain;
+use crate::wave::Wave;
+use xr_cell::Value;
+use xr_design::{Mark, Place, Written};
+use xr_model::{ClassByNumber, Line};
+
+/// A place that the history knows and that is found otherwise.
+#[derive(Debug, Drop)]
+pub struct Optimistic {
+    pub place: Place,
+    /// What the history shows there.
+    pub replayed: Value,
+    /// What is found, x for an unknown place.
+    pub found: Value,
+    /// The lines so far.
+    pub lines: Vec<Line>,
+}
+
+impl<'a> Wave<'a> {
+    /// Writes the next place, whose class says what it is; or gives the wave up where the history knows the place
+    /// otherwise. Takes no memory.
+    pub fn advance(self) -> Result<Wave<'a>, Optimistic>
+        requires plain { IsPlain (next_seen self) }
+        ensures ok { IfOk result (λ w. w ≡ with_written self.entry (plain_written self.entry)) }
+        ensures optimistic { IsErr result ↔ Contradicts self.entry (plain_written self.entry) }
+        ensures told { IfErr result (λ o. Told self.entry (plain_written self.entry) o) }
+    {
+        let shown = self.shown_next();
+        let written = next_written(&self, shown);
+        if is_optimistic(written, shown) {
+            return Err(told(self, written, shown));
+        }
+        Ok(self.write(written))
+    }
+}
+
+/// Gives a wave up over its next place.
+pub(crate) fn told(wave: Wave<'_>, written: Written, replayed: Value) -> Optimistic
+    requires within { HasNext wave }
+    requires replayed { replayed ≡ shown_in wave (next_number wave) }
+    ensures { Told wave.entry written result }
+{
+    Optimistic {
+        place: wave.place_behind(),
+        replayed,
+        found: value_if_certain(written),
+        lines: wave.into_lines(),
+    }
+}
+
+/// What the class of the next place says that it is.
+fn next_written(wave: &Wave<'_>, shown: Value) -> Written
+    requires plain { IsPlain (next_seen wave.now) }
+    requires shown { shown ≡ shown_in wave.now (next_number wave.now) }
+    ensures { result ≡ plain_written wave.now }
+{
+    match wave.next_class() {
+        Some(ClassByNumber::Local(bit)) => certain_written(bit),
+        Some(ClassByNumber::Free) => Written {
+            value: shown,
+            mark: Mark::Unknown,
+        },
+        Some(ClassByNumber::Carried(from, inverted)) => {
+            carried_written(inverted, wave.written(from), shown)
+        }
+        Some(ClassByNumber::Line) => unreachable!(),
+        None => unreachable!(),
+    }
+}
+
+/// A certain place with a bit.
+pub(crate) fn certain_written(bit: bool) -> Written
+    ensures { result ≡ certain_bit bit }
+{
+    Written {
+        value: Value::from_bit(bit),
+        mark: Mark::Certain,
+    }
+}
+
+fn carried_written(inverted: bool, from: Written, shown: Value) -> Written
+    ensures { result ≡ carried_of inverted from.mark from.value shown }
+{
+    match from.mark {
+        Mark::Certain => Written {
+            value: value_flipped(inverted, from.value),
+            mark: Mark::Certain,
+        },
+        Mark::Unknown => Written {
+            value: shown,
+            mark: Mark::Unknown,
+        },
+        Mark::Undecided => Written {
+            value: shown,
+            mark: Mark::Undecided,
+        },
+    }
+}
+
+fn value_flipped(inverted: bool, value: Value) -> Value
+    ensures { result ≡ flipped_value inverted value }
+{
+    match value {
+        Value::Zero => Value::from_bit(inverted),
+        Value::One => Value::from_bit(!inverted),
+        Value::X => Value::X,
+        Value::Z => Value::Z,
+    }
+}
+
+/// Whether what is written contradicts what the history shows.
+pub(crate) fn is_optimistic(written: Written, shown: Value) -> bool
+    ensures { IsTrue result ↔ IsOptimistic written.mark written.value shown }
+{
+    match written.mark {
+        Mark::Certain => differs_from(written.value, shown),
+        Mark::Unknown => shown.is_known(),
+        Mark::Undecided => false,
+    }
+}
+
+fn differs_from(value: Value, shown: Value) -> bool
+    ensures { IsTrue result ↔ IsOptimistic Certain value shown }
+{
+    match shown {
+        Value::Zero => value != Value::Zero,
+        Value::One => value != Value::One,
+        Value::X => false,
+        Value::Z => false,
+    }
+}

@@ -1,0 +1,83 @@
+//! A place of a waveform in a byte.
+
+ghost use Rattle.std.specs.Prelude.{◌≡◌, ◌≤◌};
+ghost use Rattle.xr_design.specs.History.{two_bits, value_of_bits};
+ghost use Rattle.xr_wave.specs.Byte.{carries_of_byte, mark_of_bits, two_bits_of_mark, written_of_byte};
+
+use xr_cell::Value;
+use xr_design::{Mark, Written};
+
+/// What stands at the place of a byte.
+pub fn written_in(byte: u8) -> Written
+    ensures { result ≡ written_of_byte byte }
+{
+    Written {
+        value: value_of(byte % 4),
+        mark: mark_of(byte / 4 % 4),
+    }
+}
+
+/// Whether its class carries on from the step before.
+pub fn carries_on(byte: u8) -> bool
+    ensures { result ≡ carries_of_byte byte }
+{
+    byte / 16 % 2 == 1
+}
+
+/// The byte of a place.
+pub fn byte_of(written: Written, carries: bool) -> u8
+    ensures written { written_of_byte result ≡ written }
+    ensures carries { carries_of_byte result ≡ carries }
+{
+    let value = bits_of_value(written.value);
+    let mark = bits_of_mark(written.mark);
+    if carries {
+        value + 4 * mark + 16
+    } else {
+        value + 4 * mark
+    }
+}
+
+fn value_of(bits: u8) -> Value
+    ensures { result ≡ value_of_bits bits }
+{
+    match bits {
+        0 => Value::Zero,
+        1 => Value::One,
+        2 => Value::X,
+        _ => Value::Z,
+    }
+}
+
+fn mark_of(bits: u8) -> Mark
+    ensures { result ≡ mark_of_bits bits }
+{
+    match bits {
+        0 => Mark::Certain,
+        1 => Mark::Unknown,
+        _ => Mark::Undecided,
+    }
+}
+
+fn bits_of_value(value: Value) -> u8
+    ensures bits { result ≡ two_bits value }
+    ensures few { result ≤ 3 }
+{
+    match value {
+        Value::Zero => 0,
+        Value::One => 1,
+        Value::X => 2,
+        Value::Z => 3,
+    }
+}
+
+fn bits_of_mark(mark: Mark) -> u8
+    ensures bits { result ≡ two_bits_of_mark mark }
+    ensures few { result ≤ 3 }
+{
+    match mark {
+        Mark::Certain => 0,
+        Mark::Unknown => 1,
+        Mark::Undecided => 2,
+    }
+}

@@ -1,0 +1,19 @@
+//! Waveforms that are true: each place is written with its justification, or not at all. A byte a place.
+//!
+//! Start at specs/Contents.antt, then at `Wave`.
+#![tactic(auto)]
+
+mod advance;
+mod arguments;
+mod byte;
+mod bytes;
+mod places;
+mod settle;
+mod source;
+mod token;
+mod wave;
+
+pub use advance::Optimistic;
+pub use arguments::Arguments;
+pub use token::{Budget, How, Pair, Settled};
+pub use wave::Wave;
