@@ -12,14 +12,14 @@ use Rattle.xr_design.specs.declared.design.Net.{Net}
 use Rattle.xr_design.specs.declared.design.Driver.{Driver}
 use Rattle.xr_design.specs.declared.design.Driver.TheVariants.{Undriven}
 use Rattle.xr_design.specs.declared.name.Name.{Name}
-use Rattle.xr_elab_nets.specs.Outcome.{Outcome}
+use Rattle.xr_elab_nets.specs.Outcome.{Outcome, after}
 use Rattle.xr_elab_nets.specs.State.{State, nothing_made, net_of, finished}
 use Rattle.xr_elab_names.specs.declared.scope.Entry.{Entry}
 use Rattle.xr_elab_names.specs.Names.{opened}
 use Rattle.xr_elab_prims.specs.Built.{AreBuilt}
 use Rattle.xr_elab_prims.specs.Definitions.{definition_of}
 use Rattle.xr_elab_tree.specs.Library.{Library, library_of, module_of}
-use Rattle.xr_elab_tree.specs.Elaborate.{at_top, body, whole, top_of, design_of}
+use Rattle.xr_elab_tree.specs.Elaborate.{at_top, body, top_of, design_of}
 use Rattle.xr_elab_tree.specs.Sound.{name_at, DriverFits, MaybeFits, IsSound, StandsWell}
 use Rattle.xr_elab_tree.proofs.Steps.{also, any_ok}
 use Rattle.xr_elab_tree.proofs.Lists.{all_at}
@@ -97,16 +97,17 @@ top_well tables = record {
   knows = record { parts = refl; nets = λ name e found. absurd (none_known e found); own = λ net text within is. absurd (omega arith); below = λ net text next rest within is. absurd (omega arith) };
 }
 
-whole_fits : (l : Library) (k : ℕ) → LibraryFits l → IfOk (whole l k) FitsDesign
-whole_fits l k fits =
+top_fits : (l : Library) (room k : ℕ) → LibraryFits l
+    → IfOk (after (opened (module_of l k).ports (module_of l k).items at_top) (λ here. after (body l room (k ∷ []) (module_of l k).items here) (λ done. Ok (finished l.tables done.state)))) FitsDesign
+top_fits l room k fits =
     also _ _ (opened (module_of l k).ports (module_of l k).items at_top) _ (opened_stays l.tables (module_of l k).ports (module_of l k).items at_top (top_well l.tables) (module_items l k fits.whole)) (λ here stays.
-    also _ _ (body l 32 (k ∷ []) (module_of l k).items here) _ ((body_stays l 32 fits).stays (k ∷ []) (module_of l k).items here stays.well (module_items l k fits.whole)) (λ done kept.
+    also _ _ (body l room (k ∷ []) (module_of l k).items here) _ ((body_stays l room fits).stays (k ∷ []) (module_of l k).items here stays.well (module_items l k fits.whole)) (λ done kept.
     finished_fits l.tables done.state kept.well.sound))
 
 -- The design of a library fits.
 pub design_fits : (l : Library) (top : List ℕ) → LibraryFits l → IfOk (design_of l top) FitsDesign
 unfolding design_of
-design_fits l top fits = also (λ _. Unit {0}) _ (top_of (definition_of l.source top) top) _ (any_ok _) (λ k _. whole_fits l k fits)
+design_fits l top fits = also (λ _. Unit {0}) _ (top_of (definition_of l.source top) top) _ (any_ok _) (λ k _. top_fits l _ k fits)
 
 -- The tree of a text with the tables of its primitives is a library.
 pub library_fits : (source : Source) (tables : List Table) → IsWhole source → AreBuilt source.primitives (Ok tables) → LibraryFits (library_of source tables)

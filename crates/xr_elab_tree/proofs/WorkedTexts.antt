@@ -1,51 +1,52 @@
 -- What the definition computes.
 use Rattle.std.proofs.Common.{refl}
 use Rattle.xr_cell.specs.Clock.{is_clock, acts_at}
+use Rattle.xr_cell.specs.Symbol.{is_edge, fits}
 use Rattle.xr_cell.specs.Table.{change}
 use Rattle.xr_elab_nets.specs.State.{made}
 use Rattle.xr_elab_tree.specs.Elaborate.{body, design_of}
 use Rattle.xr_elab_tree.specs.Worked as worked
 
-pub instance_names_are : worked.InstanceNames
+pub computes_instance_names : worked.InstanceNames
 unfolding design_of body made
-instance_names_are = refl
+computes_instance_names = refl
 
-pub instance_drivers_are : worked.InstanceDrivers
+pub computes_instance_drivers : worked.InstanceDrivers
 unfolding design_of body made
-instance_drivers_are = refl
+computes_instance_drivers = refl
 
-pub no_top_are : worked.NoTop
+pub computes_no_top : worked.NoTop
 unfolding design_of body made
-no_top_are = refl
+computes_no_top = refl
 
-pub primitive_top_are : worked.PrimitiveTop
+pub computes_primitive_top : worked.PrimitiveTop
 unfolding design_of body made
-primitive_top_are = refl
+computes_primitive_top = refl
 
-pub of_itself_are : worked.OfItself
+pub computes_of_itself : worked.OfItself
 unfolding design_of body made
-of_itself_are = refl
+computes_of_itself = refl
 
-pub driven_twice_are : worked.DrivenTwice
+pub computes_driven_twice : worked.DrivenTwice
 unfolding design_of body made
-driven_twice_are = refl
+computes_driven_twice = refl
 
-pub register_terminal_are : worked.RegisterTerminal
+pub computes_register_terminal : worked.RegisterTerminal
 unfolding design_of body made
-register_terminal_are = refl
+computes_register_terminal = refl
 
-pub constants_are : worked.Constants
+pub computes_constants : worked.Constants
 unfolding design_of body made
-constants_are = refl
+computes_constants = refl
 
-pub widths_differ_are : worked.WidthsDiffer
+pub computes_widths_differ : worked.WidthsDiffer
 unfolding design_of body made
-widths_differ_are = refl
+computes_widths_differ = refl
 
-pub primitive_cell_are : worked.PrimitiveCell
+pub computes_primitive_cell : worked.PrimitiveCell
 unfolding design_of body made
-primitive_cell_are = refl
+computes_primitive_cell = refl
 
-pub primitive_register_are : worked.PrimitiveRegister
-unfolding design_of body made is_clock acts_at change
-primitive_register_are = refl
+pub computes_primitive_register : worked.PrimitiveRegister
+unfolding design_of body made is_clock acts_at change is_edge fits
+computes_primitive_register = refl

@@ -1,6 +1,7 @@
 -- The definition worked by hand on small texts.
 use Rattle.std.specs.Prelude.{◌≡◌, ℕ, true, false, Option, Some, None, List, [], ◌∷◌, Ok, Err, codes, map}
 use Rattle.xr_cell.specs.declared.gate.Gate.TheVariants.{And, Buf, Not}
+use Rattle.xr_cell.specs.declared.symbol.Symbol.TheVariants.{Single}
 use Rattle.xr_cell.specs.declared.value.Value.TheVariants.{X, One}
 use Rattle.xr_cell.specs.Table.{Table, table_of}
 use Rattle.xr_netlist_grammar.specs.declared.tree.Word.{Word}
@@ -13,7 +14,7 @@ use Rattle.xr_netlist_grammar.specs.declared.tree.Item.TheVariants as item
 use Rattle.xr_netlist_grammar.specs.declared.tree.Module.{Module}
 use Rattle.xr_netlist_grammar.specs.declared.tree.Primitive.{Primitive}
 use Rattle.xr_netlist_grammar.specs.declared.tree.Source.{Source}
-use Rattle.xr_netlist_grammar.specs.Trees.{whole_part, bit_part, literal_part, expr_of, declares, gate_of, instance_of, connection_of, named_of}
+use Rattle.xr_netlist_grammar.specs.Trees.{whole_part, bit_part, literal_part, expr_of, declares, gate_of, row_of, instance_of, connection_of, named_of}
 use Rattle.xr_design.specs.Design.{Spelling, spelling_of}
 use Rattle.xr_design.specs.declared.design.Design.{Design}
 use Rattle.xr_design.specs.declared.design.Net.{Net}
@@ -52,12 +53,12 @@ source_of modules = record { modules = modules; primitives = no_rows (codes "p")
 abbrev pub made_of : Table → List Module → List ℕ → Outcome Design
 made_of table modules top = design_of (library_of (source_of modules) (table ∷ [])) top
 
--- a combinational primitive of two inputs, and a sequential one that starts at 1
+-- a combinational primitive of two inputs, and a sequential one that takes 1 as the second rises: a row `? r : ? : 1`
 abbrev pub gate_table : Table
 gate_table = table_of false 2 [] X
 
-abbrev pub latch_table : Table
-latch_table = table_of true 2 [] One
+abbrev pub rise_table : Table
+rise_table = table_of true 2 (row_of (Single 63 ∷ Single 114 ∷ []) (Some (Single 63)) (Single 49) ∷ []) One
 
 -- the drivers of a design's nets, and their names
 abbrev pub drivers : Outcome Design → Outcome (List Driver)
@@ -183,10 +184,10 @@ abbrev pub PrimitiveCell : Type 0
 PrimitiveCell = alone gate_table [] (instance_of_p ∷ [])
     ≡ Ok (driver.Cell (table.Udp 0) (pin.Net 1 ∷ pin.Net 2 ∷ []) ∷ driver.Undriven ∷ driver.Undriven ∷ [])
 
--- the same of a sequential one
+-- The same of a sequential one: its second pin is a clock, and it starts at 1.
 abbrev pub PrimitiveRegister : Type 0
-PrimitiveRegister = alone latch_table [] (instance_of_p ∷ [])
-    ≡ Ok (driver.Register (record { udp = 0; pins = pin.Net 1 ∷ pin.Net 2 ∷ []; clocks = 0; start = One })
+PrimitiveRegister = alone rise_table [] (instance_of_p ∷ [])
+    ≡ Ok (driver.Register (record { udp = 0; pins = pin.Net 1 ∷ pin.Net 2 ∷ []; clocks = 2; start = One })
     ∷ driver.Undriven
     ∷ driver.Undriven
     ∷ [])
