@@ -1,5 +1,5 @@
 -- The part of a name's nets that begins with an index.
-use Rattle.std.proofs.Common.{◌≡◌, ℕ, zero, suc, ◌<◌, Bool, true, false, List, [], ◌∷◌, length, get_or, drop, refl, sym, ap, ◌∙◌, arith, if◌then◌else◌, All}
+use Rattle.std.proofs.Common.{◌≡◌, ℕ, zero, suc, ◌<◌, Bool, true, false, List, [], ◌∷◌, length, get_or, drop, refl, sym, ap, arith, if◌then◌else◌, All}
 use Rattle.std.proofs.lemmas.List.Elements.{All-nil}
 use Rattle.xr_design.specs.declared.design.Design.{Design}
 use Rattle.xr_match.specs.Bits.{has_index, from_index, AreApart}

@@ -1,5 +1,5 @@
 -- What holds a net is a bit of a variable of the recording.
-use Rattle.std.proofs.Common.{◌≡◌, ℕ, zero, suc, ◌+◌, ◌<◌, ◌==◌, Bool, true, false, cond, List, [], ◌∷◌, Option, None, Some, length, get_or, refl, sym, ap, subst, ◌∙◌, arith, All, option_map, ◌≤◌, ◌^◌, slice_get}
+use Rattle.std.proofs.Common.{◌≡◌, ℕ, suc, ◌+◌, ◌<◌, ◌==◌, Bool, true, false, cond, List, [], ◌∷◌, Option, None, Some, length, get_or, refl, sym, ap, subst, ◌∙◌, arith, All, option_map, ◌≤◌, ◌^◌, slice_get}
 use Rattle.std.proofs.lemmas.Option.{get_or_from_slice_get}
 use Rattle.xr_match.specs.Binding.{FitsBound}
 use Rattle.xr_vcd.specs.declared.variable.Variable.{Variable}

@@ -1,5 +1,5 @@
 -- What a map of nets by their keys has.
-use Rattle.std.proofs.Common.{◌≡◌, ◌≢◌, ℕ, zero, suc, ◌+◌, ◌<◌, ◌≤◌, Bool, true, false, cond, List, [], ◌∷◌, ◌++◌, Option, None, Some, length, get_or, map, refl, sym, ap, subst, ◌∙◌, arith, bytes_eq, if◌then◌else◌, All, Decides, ◌⊎◌, inl, inr, ⊎_elim}
+use Rattle.std.proofs.Common.{◌≡◌, ℕ, zero, suc, ◌<◌, ◌≤◌, Bool, true, false, cond, List, [], ◌∷◌, ◌++◌, Option, None, Some, length, get_or, refl, sym, ap, subst, ◌∙◌, arith, bytes_eq, if◌then◌else◌, All, ⊎_elim}
 use Rattle.std.specs.Prelude.{Vec}
 use Rattle.std.specs.declared.alloc.Global.{Global}
 use Rattle.std.specs.List.{AllPairs}
@@ -7,16 +7,16 @@ use Rattle.std.specs.Map.{lookup, set_value}
 use Rattle.std.proofs.lemmas.Bool.{cases_lt}
 use Rattle.std.proofs.lemmas.Bool.Decides.{Decides-eqb}
 use Rattle.std.proofs.lemmas.List.{append-nil, get_or-map}
-use Rattle.std.proofs.lemmas.List.Elements.{All-nil, All-push}
+use Rattle.std.proofs.lemmas.List.Elements.{All-push}
 use Rattle.std.proofs.lemmas.List.Quantifiers.{all_pairs_push}
 use Rattle.std.proofs.lemmas.Slice.Eq.{bytes_eq-Decides}
 use Rattle.xr_design.specs.Design.{FitsDesign, Spelling, spelling_of, name_in, no_name}
 use Rattle.xr_design.specs.declared.design.Design.{Design}
 use Rattle.xr_design.specs.declared.design.Net.{Net}
 use Rattle.xr_design.specs.declared.name.Name.{Name}
-use Rattle.xr_match.specs.Naming.{Texts, texts_of, index_of}
+use Rattle.xr_match.specs.Naming.{texts_of, index_of}
 use Rattle.xr_match.specs.Bits.{AreApart, is_index, has_index}
-use Rattle.xr_match.specs.Keys.{key_of, are_solid, keyed_below, Entries, listed, nets_at, Lists}
+use Rattle.xr_match.specs.Keys.{key_of, keyed_below, Entries, listed, nets_at, Lists}
 use Rattle.xr_match.proofs.NameLemmas.{same_key, net_solid}
 
 abbrev pub is_key : List ℕ → Vec ℕ Global → Bool

@@ -1,5 +1,5 @@
 -- A design of one input `a` fits.
-use Rattle.std.proofs.Common.{◌≡◌, ◌<◌, ℕ, zero, suc, List, [], ◌∷◌, None, false, length, refl, sym, subst, arith, lit≤}
+use Rattle.std.proofs.Common.{◌≡◌, ◌<◌, ℕ, zero, suc, [], ◌∷◌, None, false, refl, sym, subst, arith, lit≤}
 use Rattle.std.specs.List.{AllByRecursion}
 use Rattle.xr_design.specs.Design.{FitsDesign, FitsName, name_in}
 use Rattle.xr_design.specs.Fits.{FitsDriver}

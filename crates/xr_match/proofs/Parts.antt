@@ -1,5 +1,5 @@
 -- The bits of a variable are a part of the nets of its name.
-use Rattle.std.proofs.Common.{◌≡◌, ℕ, ◌-◌, ◌==◌, Bool, true, false, ◌&&◌, List, [], ◌∷◌, ◌++◌, Option, None, Some, length, take, drop, map, refl, sym, ap, subst, ◌∙◌, bytes_eq, if◌then◌else◌, append_assoc, ◌⊎◌, inl, inr}
+use Rattle.std.proofs.Common.{◌≡◌, ℕ, ◌==◌, Bool, true, false, List, [], ◌∷◌, ◌++◌, Option, None, Some, length, take, drop, map, refl, sym, ap, subst, ◌∙◌, bytes_eq, if◌then◌else◌, append_assoc, inl, inr}
 use Rattle.std.proofs.lemmas.List.{append-nil, take-append-drop}
 use Rattle.std.proofs.lemmas.Slice.Eq.{bytes_eq-Decides}
 use Rattle.xr_design.specs.declared.design.Design.{Design}

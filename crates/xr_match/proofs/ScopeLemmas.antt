@@ -7,10 +7,10 @@ use Rattle.std.proofs.lemmas.Bool.{cases_lt}
 use Rattle.std.proofs.lemmas.Bool.Decides.{nat_tests}
 use Rattle.std.proofs.lemmas.List.{get_or_append_left}
 use Rattle.xr_design.specs.declared.design.Design.{Design}
-use Rattle.xr_vcd.specs.Recording.{path_at, last_name}
+use Rattle.xr_vcd.specs.Recording.{path_at}
 use Rattle.xr_match.specs.Keys.{IsKey, key_of}
 use Rattle.xr_match.specs.Naming.{Texts, names_eq}
-use Rattle.xr_match.specs.Scopes.{Keeps, KeepsAll, IsAbove, IsBelow, IsIdle, is_top, standing_below}
+use Rattle.xr_match.specs.Scopes.{Keeps, KeepsAll, IsAbove, IsBelow, is_top, standing_below}
 use Rattle.xr_match.specs.Telling.{Standing, Apart, Above, Within, standing_of, has_scope, bare}
 use Rattle.xr_match.specs.declared.scopes.ScopeKey.{ScopeKey}
 use Rattle.xr_match.specs.declared.scopes.ScopeKey.TheVariants as kept

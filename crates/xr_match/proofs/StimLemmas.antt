@@ -8,7 +8,6 @@ use Rattle.std.proofs.lemmas.List.Elements.{All-nil, All-push, All-append}
 use Rattle.xr_cell.specs.Value.{read}
 use Rattle.xr_cell.specs.declared.value.Value.{Value}
 use Rattle.xr_cell.specs.declared.value.Value.TheVariants.{Zero, One, X, Z}
-use Rattle.xr_design.specs.Design.{FitsDesign}
 use Rattle.xr_design.specs.Fits.{FitsDriver}
 use Rattle.xr_design.specs.Job.{driver_in}
 use Rattle.xr_design.specs.declared.design.Design.{Design}

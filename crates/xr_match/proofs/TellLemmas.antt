@@ -1,5 +1,5 @@
 -- What a variable comes to: bits are nets of the design, as many as it is wide.
-use Rattle.std.proofs.Common.{◌≡◌, ℕ, zero, suc, ◌+◌, ◌-◌, ◌<◌, ◌≤◌, ◌^◌, ◌==◌, Bool, true, false, ◌&&◌, List, [], ◌∷◌, ◌++◌, Option, None, Some, length, get_or, take, map, refl, sym, ap, subst, ◌∙◌, arith, if◌then◌else◌, All, slice_get, length-append}
+use Rattle.std.proofs.Common.{◌≡◌, ℕ, zero, suc, ◌-◌, ◌<◌, ◌≤◌, ◌^◌, ◌==◌, Bool, true, false, ◌&&◌, List, [], ◌∷◌, ◌++◌, Option, None, Some, length, get_or, take, map, refl, sym, ap, subst, ◌∙◌, arith, if◌then◌else◌, All, slice_get, length-append}
 use Rattle.std.proofs.lemmas.Bool.Decides.{Decides-eqb}
 use Rattle.std.proofs.lemmas.List.Elements.{All-nil, All-push, All-take, All-append}
 use Rattle.std.proofs.lemmas.List.{append-nil}
@@ -9,11 +9,11 @@ use Rattle.xr_vcd.specs.Bytes.{without_range}
 use Rattle.xr_vcd.specs.Recording.{Recording, IsRecording, IsVariable, path_at, width_of}
 use Rattle.xr_vcd.specs.declared.variable.Variable.{Variable}
 use Rattle.xr_match.specs.Binding.{FitsBound}
-use Rattle.xr_match.specs.Bits.{from_index, ends_at, bits_if, whole_of, part_of, bits_of, matched_by, has_index}
+use Rattle.xr_match.specs.Bits.{from_index, ends_at, bits_if, bits_of, matched_by, has_index}
 use Rattle.xr_match.specs.Bounds.{IsOf, bound_of, bound_by, bound_in, bound_below, bounds_of}
 use Rattle.xr_match.specs.Holding.{FitsHeld}
 use Rattle.xr_match.specs.Naming.{Texts, texts_of, names_eq, named_below, nets_of}
-use Rattle.xr_match.specs.Telling.{Standing, Apart, Above, Within, standing_of, bare, tried, as_recorded, or_else, told_below, told, matched}
+use Rattle.xr_match.specs.Telling.{Standing, Apart, Above, Within, standing_of, bare, tried, as_recorded, or_else, told, matched}
 use Rattle.xr_match.specs.declared.binding.Bound.{Bound}
 use Rattle.xr_match.specs.declared.bits.Matched.{Matched}
 use Rattle.xr_match.specs.declared.bits.Matched.TheVariants.{Nothing, Differs, Bits}

@@ -20,8 +20,8 @@ fn bytes(alloc: Global, text: &[u8]) -> Result<Bytes, AllocError>
 /// An input `a`.
 fn one_input(alloc: Global) -> Result<Design, AllocError>
     ensures { IfOk result (λ design. design.nets ≡ record {
-        path = record { parts = record { text = 97 ∷ []; escaped = false } ∷ []; bit = None };
-        driver = Driver.Input;
+      path = record { parts = record { text = 97 ∷ []; escaped = false } ∷ []; bit = None };
+      driver = Driver.Input;
     } ∷ []) }
 {
     let mut parts = Vec::new(alloc);

@@ -1,8 +1,7 @@
 -- The binding, field by field.
-use Rattle.std.proofs.Common.{◌≡◌, ◌<◌, ◌≤◌, ◌^◌, ℕ, List, true, length, All, get_or, sym, ap, subst, ◌∙◌, arith}
+use Rattle.std.proofs.Common.{◌≡◌, List, true, length, All, sym, ap, subst, ◌∙◌, arith}
 use Rattle.xr_vcd.specs.Recording.{IsRecording}
-use Rattle.xr_match.specs.Binding.{FitsBinding}
-use Rattle.xr_match.specs.Bounds.{IsOf, bounds_of}
+use Rattle.xr_match.specs.Bounds.{bounds_of}
 use Rattle.xr_match.specs.Holding.{FitsHeld}
 use Rattle.xr_match.specs.Refusal.{AllBound, NoneDiffers}
 use Rattle.xr_match.specs.Telling.{Under, has_scope}

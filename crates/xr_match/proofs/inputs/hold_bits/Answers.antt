@@ -1,5 +1,5 @@
 -- One bit more.
-use Rattle.std.proofs.Common.{◌≡◌, ◌+◌, ℕ, None, Option, take, get_or, rules, sym, ap, ◌∙◌}
+use Rattle.std.proofs.Common.{None, Option, take, get_or, rules, sym, ap, ◌∙◌}
 use Rattle.xr_match.specs.Holding.{given_at, holder_in, or_next}
 use Rattle.xr_match.specs.declared.inputs.Holder.{Holder}
 use Rattle.xr_match.proofs.HoldLemmas.{bits_more, next_assoc}

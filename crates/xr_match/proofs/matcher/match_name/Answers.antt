@@ -3,7 +3,7 @@ use Rattle.std.proofs.Common.{◌≡◌, List, [], ◌∷◌, ◌++◌, ℕ, tru
 use Rattle.xr_design.specs.declared.design.Design.{Design}
 use Rattle.xr_match.specs.Bits.{matched_by}
 use Rattle.xr_match.specs.Keys.{IsKey, is_solid}
-use Rattle.xr_match.specs.Naming.{Texts, nets_of}
+use Rattle.xr_match.specs.Naming.{nets_of}
 use Rattle.xr_match.specs.Telling.{bare}
 use Rattle.xr_match.proofs.SolidLemmas.{spaced_none, key_more}
 use Rattle.xr_match.proofs.matcher.match_name.Goals as goal

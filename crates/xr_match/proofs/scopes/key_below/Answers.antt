@@ -1,5 +1,5 @@
 -- By what is kept of the scope above.
-use Rattle.std.proofs.Common.{◌≡◌, List, ℕ, map, IfOk, sym, subst}
+use Rattle.std.proofs.Common.{List, ℕ, map, sym, subst}
 use Rattle.xr_match.specs.Keys.{IsKey}
 use Rattle.xr_match.specs.Telling.{bare}
 use Rattle.xr_match.proofs.ScopeLemmas.{within_more}

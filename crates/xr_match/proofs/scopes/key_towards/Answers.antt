@@ -1,5 +1,5 @@
 -- The next name of the scope path.
-use Rattle.std.proofs.Common.{◌≡◌, ◌<◌, [], ◌∷◌, true, List, ℕ, get_or, length, bytes_eq, sym, ap, ◌∙◌, arith}
+use Rattle.std.proofs.Common.{◌≡◌, [], true, List, ℕ, get_or, bytes_eq, sym, ap, ◌∙◌}
 use Rattle.std.proofs.lemmas.Bool.{not-false}
 use Rattle.xr_match.proofs.ScopeLemmas.{towards, text_at}
 use Rattle.xr_match.proofs.scopes.key_towards.Goals as goal

@@ -1,5 +1,5 @@
 -- One scope more.
-use Rattle.std.proofs.Common.{◌≡◌, ◌∷◌, [], ◌++◌, ◌+◌, ℕ, List, sym, ap, subst, ◌∙◌, add-one, rules}
+use Rattle.std.proofs.Common.{◌≡◌, ◌∷◌, [], ◌++◌, ◌+◌, ℕ, List, sym, ap, subst, ◌∙◌, add-one}
 use Rattle.xr_vcd.specs.Recording.{path_at}
 use Rattle.xr_match.specs.Scopes.{KeepsAll}
 use Rattle.xr_match.specs.declared.scopes.ScopeKey.{ScopeKey}

@@ -1,6 +1,5 @@
 -- The rows so far, and a row in which a net that is no held input has x.
 use Rattle.std.proofs.Common.{◌≡◌, ℕ, [], ◌<◌, length, slice_index_or}
-use Rattle.xr_cell.specs.declared.value.Value.TheVariants.{X}
 use Rattle.xr_match.specs.StimOf as spec
 use Rattle.xr_match.proofs.stimulus.rows_of.Given as goal
 

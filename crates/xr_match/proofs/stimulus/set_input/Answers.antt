@@ -1,5 +1,5 @@
 -- One net of the row has its value.
-use Rattle.std.proofs.Common.{◌≡◌, get_or, set, ap, ◌∙◌}
+use Rattle.std.proofs.Common.{get_or, set, ap, ◌∙◌}
 use Rattle.xr_cell.specs.declared.value.Value.{Value}
 use Rattle.xr_cell.specs.declared.value.Value.TheVariants.{X}
 use Rattle.xr_match.proofs.StimLemmas.{set_one}

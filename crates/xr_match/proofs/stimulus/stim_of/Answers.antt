@@ -1,11 +1,10 @@
 -- The stimulus, field by field.
-use Rattle.std.proofs.Common.{◌≡◌, ◌<◌, ℕ, List, Option, length, All, sym, ap, subst, refl, ◌∙◌, arith}
+use Rattle.std.proofs.Common.{List, Option, All, sym, subst}
 use Rattle.xr_match.specs.Holding.{FitsHeld, Holds}
 use Rattle.xr_match.specs.StimOf as spec
 use Rattle.xr_match.specs.declared.binding.Bound.{Bound}
 use Rattle.xr_match.specs.declared.inputs.Holder.{Holder}
-use Rattle.xr_match.proofs.HolderLemmas.{are_holders, input_rows, start_rows, held_fit}
-use Rattle.xr_match.proofs.StimLemmas.{start_no_float}
+use Rattle.xr_match.proofs.HolderLemmas.{are_holders, held_fit}
 use Rattle.xr_match.proofs.stimulus.stim_of.Goals as goal
 
 pub holders_of-requires : goal.holders_of-requires

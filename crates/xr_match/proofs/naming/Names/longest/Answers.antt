@@ -1,5 +1,5 @@
 -- No net has a longer key.
-use Rattle.std.proofs.Common.{◌≡◌, ap, sym, ◌∙◌, subst}
+use Rattle.std.proofs.Common.{ap, sym, ◌∙◌}
 use Rattle.xr_design.specs.declared.design.Design.{Design}
 use Rattle.xr_match.specs.Naming.{nets_of}
 use Rattle.xr_match.proofs.NameLemmas.{too_long}

@@ -1,5 +1,4 @@
 -- The nets so far by their keys.
-use Rattle.std.proofs.Common.{◌<◌}
 use Rattle.xr_match.specs.Keys.{Lists}
 use Rattle.xr_match.proofs.naming.Names.new.Given as goal
 
