@@ -1,2 +1,13 @@
--- Definitions of xr_match: when a binding fits a design.
+-- Definitions of xr_match: which variables of a recording name which nets, what keeps them from being bound, and the stimulus.
 pub mod Binding
+pub mod Bits
+pub mod Bounds
+pub mod Holding
+pub mod Keys
+pub mod Naming
+pub mod Refusal
+pub mod Scopes
+pub mod StimOf
+pub mod Telling
+pub mod Words
+pub mod Laws

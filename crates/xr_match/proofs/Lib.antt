@@ -1,0 +1,13 @@
+-- Lemmas of xr_match.
+pub mod NameLemmas
+pub mod BitLemmas
+pub mod HoldLemmas
+pub mod KeyLemmas
+pub mod SolidLemmas
+pub mod ScopeLemmas
+pub mod TellLemmas
+pub mod StimLemmas
+pub mod HolderLemmas
+pub mod Written
+pub mod Parts
+pub mod OneInput

@@ -1,0 +1,11 @@
+-- What the inputs so far made of the row.
+use Rattle.std.proofs.Common.{◌≡◌, ℕ, length, slice_index_or, take}
+use Rattle.xr_cell.specs.declared.value.Value.TheVariants.{X}
+use Rattle.xr_match.specs.StimOf as spec
+use Rattle.xr_match.proofs.stimulus.set_inputs.Given as goal
+
+abbrev pub invariant-inputs : goal.invariant-inputs
+invariant-inputs l = record {
+  long : length l.row ≡ length l.initial.row;
+  set : (net : ℕ) → slice_index_or l.row net X ≡ spec.set_from l.recording l.moment (take l.input-index l.inputs) net (slice_index_or l.initial.row net X);
+}

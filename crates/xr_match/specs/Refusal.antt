@@ -1,0 +1,98 @@
+-- What keeps the variables of a recording from being bound, and what a binding is.
+use Rattle.std.specs.Prelude.{◌≡◌, ℕ, ◌*◌, ◌^◌, ◌<◌, ◌≤◌, true, false, List, length}
+use Rattle.xr_design.specs.declared.design.Design.{Design}
+use Rattle.xr_vcd.specs.Recording.{Recording}
+use Rattle.xr_match.specs.Naming.{Texts}
+use Rattle.xr_match.specs.Telling.{has_scope}
+use Rattle.xr_match.specs.Bounds.{bounds_of, differs_at}
+use Rattle.xr_match.specs.Holding.{IsUnbound}
+use Rattle.xr_match.specs.declared.binding.Binding.{Binding}
+use Rattle.xr_match.specs.declared.binding.Bound.{Bound}
+use Rattle.xr_match.specs.declared.refusal.BindErr.{BindErr}
+use Rattle.xr_match.specs.declared.refusal.BindErr.TheVariants.{NoScope, RangeDiffers, MissingInput, TooLarge, Memory}
+
+-- No variable with a lower number differs.
+abbrev pub NoneDiffers : Design → Texts → Recording → ℕ → Type 0
+NoneDiffers design scope recording count = (number : ℕ) → number < count → differs_at design scope recording number ≡ false
+
+abbrev pub AllBound : Design → List Bound → ℕ → Type 0
+AllBound design bound count = (net : ℕ) → net < count → IsUnbound design bound net → ⊥
+
+-- the places of a replay
+abbrev pub place_count : Design → Recording → ℕ → ℕ
+place_count design recording rounds = length design.nets * (length recording.times * rounds)
+
+-- The scope is there, and no variable differs.
+pub record Matches (design : Design) (scope : Texts) (recording : Recording) : Type 0 where
+  pub there : has_scope scope recording.scopes ≡ true
+  pub none : NoneDiffers design scope recording (length recording.variables)
+
+-- Each variable that matched is bound, each input is a bit of one, and there are at most 2^27 places.
+pub record IsBinding (design : Design) (recording : Recording) (scope : Texts) (rounds : ℕ) (binding : Binding) : Type 0 where
+  pub matches : Matches design scope recording
+  pub bound : binding.bound ≡ bounds_of design scope recording
+  pub inputs : AllBound design (bounds_of design scope recording) (length design.nets)
+  pub places : place_count design recording rounds ≤ 2 ^ 27
+  pub timescale : binding.timescale ≡ recording.timescale
+
+-- The first variable that differs.
+pub record IsFirst (design : Design) (scope : Texts) (recording : Recording) (variable : ℕ) : Type 0 where
+  pub before : NoneDiffers design scope recording variable
+  pub known : variable < length recording.variables
+  pub differs : differs_at design scope recording variable ≡ true
+
+-- The first variable that differs, where the scope is there.
+pub record IsDiffering (design : Design) (recording : Recording) (scope : Texts) (variable : ℕ) : Type 0 where
+  pub there : has_scope scope recording.scopes ≡ true
+  pub first : IsFirst design scope recording variable
+
+-- The least input that isn't bound.
+pub record IsLeast (design : Design) (bound : List Bound) (net : ℕ) : Type 0 where
+  pub before : AllBound design bound net
+  pub unbound : IsUnbound design bound net
+
+abbrev pub IsFirstMissing : Design → List Bound → BindErr → Type 0
+IsFirstMissing design bound NoScope = ⊥
+IsFirstMissing design bound (RangeDiffers variable) = ⊥
+IsFirstMissing design bound (MissingInput net) = IsLeast design bound net
+IsFirstMissing design bound (TooLarge places) = ⊥
+IsFirstMissing design bound Memory = ⊥
+
+-- The least input that isn't bound, where no variable differs.
+pub record IsMissing (design : Design) (recording : Recording) (scope : Texts) (net : ℕ) : Type 0 where
+  pub matches : Matches design scope recording
+  pub least : IsLeast design (bounds_of design scope recording) net
+
+-- more than 2^27 places: so many
+pub record IsMany (design : Design) (recording : Recording) (rounds places : ℕ) : Type 0 where
+  pub count : places ≡ place_count design recording rounds
+  pub many : 2 ^ 27 < places
+
+abbrev pub HasMany : Design → Recording → ℕ → BindErr → Type 0
+HasMany design recording rounds NoScope = ⊥
+HasMany design recording rounds (RangeDiffers variable) = ⊥
+HasMany design recording rounds (MissingInput net) = ⊥
+HasMany design recording rounds (TooLarge places) = IsMany design recording rounds places
+HasMany design recording rounds Memory = ⊥
+
+-- More than 2^27 places, where no variable differs and each input is bound.
+pub record IsTooLarge (design : Design) (recording : Recording) (scope : Texts) (rounds places : ℕ) : Type 0 where
+  pub matches : Matches design scope recording
+  pub inputs : AllBound design (bounds_of design scope recording) (length design.nets)
+  pub many : IsMany design recording rounds places
+
+-- The first variable that differs, as a refusal names it.
+abbrev pub IsFirstDiffering : Design → Texts → Recording → BindErr → Type 0
+IsFirstDiffering design scope recording NoScope = ⊥
+IsFirstDiffering design scope recording (RangeDiffers variable) = IsFirst design scope recording variable
+IsFirstDiffering design scope recording (MissingInput net) = ⊥
+IsFirstDiffering design scope recording (TooLarge places) = ⊥
+IsFirstDiffering design scope recording Memory = ⊥
+
+-- Each refusal by its cause; want of memory is none of the recording's.
+abbrev pub IsRefusal : Design → Recording → Texts → ℕ → BindErr → Type 0
+IsRefusal design recording scope rounds NoScope = has_scope scope recording.scopes ≡ false
+IsRefusal design recording scope rounds (RangeDiffers variable) = IsDiffering design recording scope variable
+IsRefusal design recording scope rounds (MissingInput net) = IsMissing design recording scope net
+IsRefusal design recording scope rounds (TooLarge places) = IsTooLarge design recording scope rounds places
+IsRefusal design recording scope rounds Memory = ⊥

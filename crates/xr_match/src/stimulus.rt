@@ -1,0 +1,213 @@
+//! The stimulus of a recording whose variables are bound.
+
+ghost use Rattle.std.specs.Prelude.{◌≡◌, ◌≢◌, ◌<◌, ◌≤◌, ◌^◌, ◌++◌, ℕ, [], ◌∷◌, All, OnOk, IfOk, IfSome, length, slice_index_or};
+ghost use Rattle.xr_cell.specs.declared.value.Value.TheVariants.{X};
+ghost use Rattle.xr_design.specs.Design.{FitsDesign};
+ghost use Rattle.xr_design.specs.Job.{driver_in};
+ghost use Rattle.xr_design.specs.Stim.{FitsStim};
+ghost use Rattle.xr_match.specs.Binding.{FitsBinding};
+ghost use Rattle.xr_match.specs.Bounds.{IsOf};
+ghost use Rattle.xr_match.specs.Holding.{IsHolder};
+ghost use Rattle.xr_match.specs.Refusal.{place_count};
+ghost use Rattle.xr_match.specs.StimOf as spec;
+
+use crate::binding::Binding;
+use crate::inputs::{Holder, holders_of};
+use std::alloc::Global;
+use xr_base::{Items, Memory};
+use xr_cell::Value;
+use xr_design::{Design, Driver, StartRule, Stim};
+use xr_vcd::Recording;
+
+/// An input of the design and what holds it.
+#[derive(Clone, Copy)]
+pub struct Held {
+    pub net: u32,
+    pub holder: Holder,
+}
+
+/// The stimulus of a recording whose variables are bound, for a replay of so many rounds: the recorded values of the inputs, and
+/// what the registers start with by this rule. Takes a byte for each net in each moment.
+pub fn stim_of(
+    alloc: Global,
+    design: &Design,
+    recording: &Recording,
+    bound: &Binding,
+    rounds: u32,
+    start: StartRule,
+) -> Result<Stim, Memory>
+    requires design { FitsDesign design.now }
+    requires fits { FitsBinding design.now bound.now }
+    requires variables { All (IsOf recording.now) bound.now.bound }
+    requires round { 1 ≤ rounds }
+    requires rounds { rounds ≤ 16 }
+    requires places { place_count design.now recording.now rounds ≤ 2 ^ 27 }
+    ensures stim { IfOk result (spec.IsStimOf design.now recording.now bound.now.bound rounds start) }
+    ensures fits { IfOk result (FitsStim design.now) }
+{
+    let times = recording.times().to_vec(alloc)?;
+    let holders = holders_of(alloc, design, bound.bound.as_slice())?;
+    let inputs = rows_of(alloc, design, recording, holders.as_slice())?;
+    let starts = starts_of(alloc, design, recording, holders.as_slice(), start)?;
+    Ok(Stim {
+        times: Items::from_vec(times),
+        rounds,
+        inputs: Items::from_vec(inputs),
+        start,
+        starts: Items::from_vec(starts),
+    })
+}
+
+/// For each moment the value of each input, and x for any other net.
+fn rows_of(
+    alloc: Global,
+    design: &Design,
+    recording: &Recording,
+    holders: &[Option<Holder>],
+) -> Result<Vec<Items<Value>>, Memory>
+    requires few { length design.now.nets ≤ 2 ^ 20 }
+    requires long { length holders.now ≡ length design.now.nets }
+    requires held { spec.AreHolders recording.now holders.now }
+    ensures as_many { IfOk result (λ rows. length rows.items ≡ length recording.now.times) }
+    ensures rows { IfOk result (λ rows. spec.AreRows design.now recording.now holders.now rows.items) }
+{
+    let inputs = inputs_of(alloc, design, holders)?;
+    let mut row = vec![in alloc; Value::X; design.nets.as_slice().len()]?;
+    let mut rows = Vec::new(alloc);
+    'moments: for moment in 0..recording.times().len() as u32 {
+        set_inputs(row.as_mut_slice(), recording, inputs.as_slice(), moment);
+        let values = Vec::from_slice(alloc, &row)?;
+        rows.push(Items::from_vec(values))?;
+    }
+    Ok(rows)
+}
+
+/// The inputs that a variable holds, each with that.
+fn inputs_of(
+    alloc: Global,
+    design: &Design,
+    holders: &[Option<Holder>],
+) -> Result<Vec<Held>, Memory>
+    requires few { length design.now.nets ≤ 2 ^ 20 }
+    requires long { length holders.now ≡ length design.now.nets }
+    ensures { IfOk result (λ inputs. inputs.items ≡ spec.inputs_below design.now holders.now (length design.now.nets)) }
+{
+    let mut inputs = Vec::new(alloc);
+    'nets: for (net, holder) in holders.iter().enumerate() {
+        put_input(&mut inputs, design, net as u32, *holder)?;
+    }
+    Ok(inputs)
+}
+
+fn put_input(
+    inputs: &mut Vec<Held>,
+    design: &Design,
+    net: u32,
+    holder: Option<Holder>,
+) -> Result<(), Memory>
+    requires { net < length design.now.nets }
+    ensures { OnOk result (inputs.new.items ≡ inputs.old.items ++ spec.input_at net holder (driver_in design.now net)) }
+{
+    match holder {
+        None => Ok(()),
+        Some(holder) => put_held(inputs, design, net, holder),
+    }
+}
+
+fn put_held(inputs: &mut Vec<Held>, design: &Design, net: u32, holder: Holder) -> Result<(), Memory>
+    requires { net < length design.now.nets }
+    ensures { let more = spec.input_held net holder (driver_in design.now net) in
+        OnOk result (inputs.new.items ≡ inputs.old.items ++ more) }
+{
+    match &design.nets.as_slice()[net as usize].driver {
+        Driver::Input => {
+            inputs.push(Held { net, holder })?;
+            Ok(())
+        }
+        _ => Ok(()),
+    }
+}
+
+/// Sets the inputs to their values in a moment.
+fn set_inputs(row: &mut [Value], recording: &Recording, inputs: &[Held], moment: u32)
+    requires moment { moment < length recording.now.times }
+    requires fits { All (spec.FitsHolder recording.now (length row.old)) inputs.now }
+    ensures long { length row.new ≡ length row.old }
+    ensures set { spec.Sets recording.now moment inputs.now row.old row.new }
+{
+    'inputs: for input in inputs {
+        set_input(row, recording, *input, moment);
+    }
+}
+
+fn set_input(row: &mut [Value], recording: &Recording, input: Held, moment: u32)
+    requires moment { moment < length recording.now.times }
+    requires fits { spec.FitsHolder recording.now (length row.old) input }
+    ensures long { length row.new ≡ length row.old }
+    ensures set { spec.Sets recording.now moment (input ∷ []) row.old row.new }
+{
+    let holder = input.holder;
+    row[input.net as usize] = recording.value(holder.variable, holder.bit, moment);
+}
+
+/// What each net starts with.
+fn starts_of(
+    alloc: Global,
+    design: &Design,
+    recording: &Recording,
+    holders: &[Option<Holder>],
+    rule: StartRule,
+) -> Result<Vec<Value>, Memory>
+    requires few { length design.now.nets ≤ 2 ^ 20 }
+    requires long { length holders.now ≡ length design.now.nets }
+    requires held { spec.AreHolders recording.now holders.now }
+    requires moment { 0 < length recording.now.times }
+    ensures { IfOk result (λ starts.
+        spec.IsRow design.now (spec.start_in design.now recording.now holders.now rule) starts.items) }
+{
+    let mut starts = Vec::new(alloc);
+    'nets: for (net, holder) in holders.iter().enumerate() {
+        starts.push(start_of(design, recording, net as u32, *holder, rule))?;
+    }
+    Ok(starts)
+}
+
+fn start_of(
+    design: &Design,
+    recording: &Recording,
+    net: u32,
+    holder: Option<Holder>,
+    rule: StartRule,
+) -> Value
+    requires net { net < length design.now.nets }
+    requires held { IfSome holder (IsHolder recording.now) }
+    requires moment { 0 < length recording.now.times }
+    ensures { result ≡ spec.start_of recording.now holder rule (driver_in design.now net) }
+{
+    match &design.nets.as_slice()[net as usize].driver {
+        Driver::Register(latching) => start_by(recording, holder, latching.start, rule),
+        _ => Value::X,
+    }
+}
+
+fn start_by(recording: &Recording, holder: Option<Holder>, own: Value, rule: StartRule) -> Value
+    requires held { IfSome holder (IsHolder recording.now) }
+    requires moment { 0 < length recording.now.times }
+    ensures { result ≡ spec.start_by recording.now holder own rule }
+{
+    match rule {
+        StartRule::Cold => own,
+        StartRule::Recorded => recorded_start(recording, holder, own),
+    }
+}
+
+fn recorded_start(recording: &Recording, holder: Option<Holder>, own: Value) -> Value
+    requires held { IfSome holder (IsHolder recording.now) }
+    requires moment { 0 < length recording.now.times }
+    ensures { result ≡ spec.start_by recording.now holder own StartRule.Recorded }
+{
+    match holder {
+        None => own,
+        Some(holder) => recording.value(holder.variable, holder.bit, 0).read(),
+    }
+}
