@@ -16,13 +16,18 @@ ports_of ms = map (λ (m : Module). m.ports) ms
 pub record AreTables (source : Source) (tables : List Table) : Type 0 where
   pub each : length tables ≡ length source.primitives
   pub few : length tables < 2 ^ 32
-  pub inputs : (k : ℕ) → k < length tables → (primitive_of tables k).inputs ≤ input_limit (primitive_of tables k).sequential
+  pub inputs : (k : ℕ) → k < length tables
+      → (primitive_of tables k).inputs ≤ input_limit (primitive_of tables k).sequential
 
 -- The ports are those of the modules, in their order; the levels are right; and the tables are those of the primitives.
 pub record Holds (source : Source) (tables : List Table) (ports : List (List Word)) (levels : List ℕ) : Type 0 where
   pub ports_ : ports ≡ ports_of source.modules
   pub levels_ : IsTable source levels
   pub tables_ : AreTables source tables
+
+-- The definitions are those of the text.
+abbrev pub IsHeld : Source → Source → List Table → List (List Word) → List ℕ → Type 0
+IsHeld source defined tables ports levels = (defined ≡ source) × Holds source tables ports levels
 
 -- An instance of the module at a position is passed over, by some table of levels.
 pub record PassesOver (source : Source) (path : List ℕ) (room k : ℕ) (i : InstanceItem) : Type 0 where

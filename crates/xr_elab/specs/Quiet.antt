@@ -40,9 +40,15 @@ abbrev pub with_named : List (List ℕ) → Option Word → List (List ℕ)
 with_named names (Some w) = names ++ w.text ∷ []
 with_named names None = names
 
+abbrev pub is_instance_below : Source → List ℕ → ℕ → InstanceItem → Bool
+is_instance_below source levels level i = is_below levels level (definition_of source i.definition.text)
+
 abbrev pub is_quiet_instance : Source → List ℕ → ℕ → List (List ℕ) → InstanceItem → Bool
 is_quiet_instance source levels level names i =
-    is_below levels level (definition_of source i.definition.text) && is_new names i.name && connects_nothing i.connections
+    is_instance_below source levels level i && is_new names i.name && connects_nothing i.connections
+
+abbrev pub IsQuietInstance : Source → List ℕ → ℕ → List (List ℕ) → InstanceItem → Type 0
+IsQuietInstance source levels level names i = is_quiet_instance source levels level names i ≡ true
 
 abbrev pub is_reg_net : NetKind → Bool
 is_reg_net Reg = true
@@ -52,11 +58,15 @@ is_reg_net _ = false
 abbrev pub is_quiet_declare : Declare → Bool
 is_quiet_declare d = is_reg_net d.what && not (is_some d.range) && not (is_some d.value)
 
--- An item declares a `reg`, or is an instance that connects nothing, of a module of a lower level, with a name of its own.
+-- An item declares a `reg`, or is an instance that connects nothing, of a module of a lower level, with a name of its
+-- own.
 abbrev pub is_quiet_item : Source → List ℕ → ℕ → List (List ℕ) → Item → Bool
 is_quiet_item source levels level names (item.Declare d) = is_quiet_declare d
 is_quiet_item source levels level names (item.Instance i) = is_quiet_instance source levels level names i
 is_quiet_item source levels level names _ = false
+
+abbrev pub IsQuietItem : Source → List ℕ → ℕ → List (List ℕ) → Item → Type 0
+IsQuietItem source levels level names i = is_quiet_item source levels level names i ≡ true
 
 abbrev pub with_item : List (List ℕ) → Item → List (List ℕ)
 with_item names (item.Instance i) = with_named names i.name
@@ -64,7 +74,11 @@ with_item names _ = names
 
 abbrev pub are_quiet : Source → List ℕ → ℕ → List (List ℕ) → List Item → Bool
 are_quiet source levels level names [] = true
-are_quiet source levels level names (i ∷ is) = is_quiet_item source levels level names i && are_quiet source levels level (with_item names i) is
+are_quiet source levels level names (i ∷ is) =
+    is_quiet_item source levels level names i && are_quiet source levels level (with_item names i) is
+
+abbrev pub AreQuiet : Source → List ℕ → ℕ → List (List ℕ) → List Item → Type 0
+AreQuiet source levels level names is = are_quiet source levels level names is ≡ true
 
 -- A module of that level: it has no ports, and its items are quiet.
 pub record IsQuiet (source : Source) (levels : List ℕ) (level : ℕ) (m : Module) : Type 0 where
@@ -74,7 +88,8 @@ pub record IsQuiet (source : Source) (levels : List ℕ) (level : ℕ) (m : Modu
 
 -- Each module that has a level is quiet at it.
 pub record IsTable (source : Source) (levels : List ℕ) : Type 0 where
-  pub right : (k : ℕ) (m : Module) → slice_get source.modules k ≡ Some m → level_at levels k ≤ 32 → IsQuiet source levels (level_at levels k) m
+  pub right : (k : ℕ) (m : Module) → slice_get source.modules k ≡ Some m → level_at levels k ≤ 32
+      → IsQuiet source levels (level_at levels k) m
 
 -- No module has a level.
 pub record HasNone (levels : List ℕ) : Type 0 where

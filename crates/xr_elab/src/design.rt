@@ -27,9 +27,9 @@ use xr_netlist_grammar::Source;
 /// How many modules a path may have.
 const MOST_MODULES: usize = 32;
 
-/// The design of a text's tree, with the module named `top` as its top, or the first reason why there is none: first the
-/// names of all definitions, then the primitives, then the top. Takes some 250 bytes for each net, and the memory of names,
-/// ports and levels for each definition.
+/// The design of a text's tree, with the module named `top` as its top, or the first reason why there is none: first
+/// the names of all definitions, then the primitives, then the top. Takes some 400 bytes for each net, and for each
+/// definition the memory of its name, its ports and its level.
 #[tactic(auto, using(crate::proofs::Answering::answer_by, crate::proofs::Answering::fits))]
 pub fn elaborate(alloc: Global, source: &Source, top: &str) -> Result<Design, ElabErr>
     requires whole { IsWhole source.now }

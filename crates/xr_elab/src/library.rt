@@ -13,8 +13,8 @@ use xr_elab_names::PortNames;
 use xr_elab_prims::{Definition, Definitions};
 use xr_netlist_grammar::{InstanceItem, Module, Source};
 
-/// The definitions of a text, the tables of its primitives, and what is worked out once for each module: its ports, and a
-/// level where it makes no net.
+/// The definitions of a text, the tables of its primitives, and what is worked out once for each module: its ports, and
+/// a level where it makes no net.
 #[derive(Drop)]
 pub struct Library<'t> {
     source: &'t Source,
@@ -25,15 +25,14 @@ pub struct Library<'t> {
 }
 
 impl<'t> Model for Library<'t> {
-    ghost use Rattle.std.specs.Prelude.{◌≡◌};
     ghost use Rattle.xr_elab_tree.specs.Library.{Library, library_of};
-    ghost use Rattle.xr_elab.specs.Held.{Holds};
+    ghost use Rattle.xr_elab.specs.Held.{IsHeld};
 
     ghost Value = { Library };
 
     ghost view = { λ l. library_of l.source.now l.udps.now };
 
-    ghost invariant = { λ l. (l.definitions ≡ l.source.now) × Holds l.source.now l.udps.now l.ports.items l.levels.items };
+    ghost invariant = { λ l. IsHeld l.source.now l.definitions l.udps.now l.ports.items l.levels.items };
 }
 
 impl<'t> Library<'t> {
@@ -109,8 +108,8 @@ impl<'t> Library<'t> {
         &self.ports[k]
     }
 
-    /// Whether depth and path allow that an instance of a module that makes no net is passed over. The path may have `room`
-    /// modules more. Takes no memory.
+    /// Whether depth and path allow that an instance of a module that makes no net is passed over. The path may have
+    /// `room` modules more. Takes no memory.
     pub fn passes_over(&self, path: &[usize], room: usize, k: usize, item: &InstanceItem) -> bool
         ensures { IsTrue result → PassesOver self.now.source path.now room k item.now }
     {

@@ -1,8 +1,8 @@
 //! Whether a module makes no net.
 
 ghost use Rattle.std.specs.Prelude.{◌≡◌, [], true, IfOk, IsTrue};
-ghost use Rattle.xr_elab_prims.specs.Definitions.{definition_of};
 ghost use Rattle.xr_elab.specs.Quiet as spec;
+ghost use Rattle.xr_elab.specs.Quiet.{IsQuietItem, IsQuietInstance};
 
 use std::alloc::{AllocError, Global};
 use xr_elab_names::NameSet;
@@ -21,7 +21,7 @@ pub fn is_quiet(
     unit: &Module,
 ) -> Result<bool, AllocError>
     ensures ports { IfOk result (λ quiet. IsTrue quiet → unit.now.ports ≡ []) }
-    ensures items { IfOk result (λ quiet. IsTrue quiet → spec.are_quiet definitions.now levels.now level [] unit.now.items ≡ true) }
+    ensures items { IfOk result (λ quiet. IsTrue quiet → spec.AreQuiet definitions.now levels.now level [] unit.now.items) }
 {
     match unit.ports.as_slice() {
         [] => are_quiet(alloc, definitions, levels, level, unit.items.as_slice()),
@@ -29,8 +29,8 @@ pub fn is_quiet(
     }
 }
 
-/// Whether each item declares a `reg`, or is an instance that connects nothing, of a module of a lower level, with a name of
-/// its own.
+/// Whether each item declares a `reg`, or is an instance that connects nothing, of a module of a lower level, with a name
+/// of its own.
 fn are_quiet(
     alloc: Global,
     definitions: &Definitions<'_>,
@@ -38,7 +38,7 @@ fn are_quiet(
     level: u32,
     items: &[Item],
 ) -> Result<bool, AllocError>
-    ensures { IfOk result (λ quiet. IsTrue quiet → spec.are_quiet definitions.now levels.now level [] items.now ≡ true) }
+    ensures { IfOk result (λ quiet. IsTrue quiet → spec.AreQuiet definitions.now levels.now level [] items.now) }
 {
     let mut names = NameSet::new(alloc);
     'items: for item in items {
@@ -57,7 +57,7 @@ fn note_item<'t>(
     level: u32,
     item: &'t Item,
 ) -> Result<bool, AllocError>
-    ensures quiet { IfOk result (λ quiet. IsTrue quiet → spec.is_quiet_item definitions.now levels.now level names.old item.now ≡ true) }
+    ensures quiet { IfOk result (λ quiet. IsTrue quiet → IsQuietItem definitions.now levels.now level names.old item.now) }
     ensures names { IfOk result (λ quiet. IsTrue quiet → names.new ≡ spec.with_item names.old item.now) }
 {
     match item {
@@ -81,7 +81,7 @@ fn note_instance<'t>(
     level: u32,
     instance: &'t InstanceItem,
 ) -> Result<bool, AllocError>
-    ensures quiet { IfOk result (λ quiet. IsTrue quiet → spec.is_quiet_instance definitions.now levels.now level names.old instance.now ≡ true) }
+    ensures quiet { IfOk result (λ quiet. IsTrue quiet → IsQuietInstance definitions.now levels.now level names.old instance.now) }
     ensures names { IfOk result (λ quiet. IsTrue quiet → names.new ≡ spec.with_named names.old instance.now.name) }
 {
     match &instance.name {
@@ -98,7 +98,7 @@ fn is_below(
     level: u32,
     instance: &InstanceItem,
 ) -> bool
-    ensures { result ≡ spec.is_below levels.now level (definition_of definitions.now instance.now.definition.text) }
+    ensures { result ≡ spec.is_instance_below definitions.now levels.now level instance.now }
 {
     match definitions.find(instance.definition.text.as_slice()) {
         Some(Definition::Module(k)) => level_at(levels, k) < level,
