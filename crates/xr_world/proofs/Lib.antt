@@ -1,0 +1,3 @@
+-- Lemmas on whole worlds.
+mod Filled
+mod Reading
