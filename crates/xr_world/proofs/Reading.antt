@@ -1,32 +1,13 @@
 -- Reading a filling in place order.
-use Rattle.std.proofs.Common.{◌≡◌, ℕ, suc, ◌+◌, ◌-◌, ◌*◌, ◌^◌, ◌<◌, ◌≤◌, ◌==◌, ◌||◌, Bool, true, false, List, [], ◌∷◌, length, map, take, drop, get_or, refl, sym, ap, subst, arith}
+use Rattle.std.proofs.Common.{◌≡◌, ℕ, suc, ◌+◌, ◌-◌, ◌<◌, ◌≤◌, ◌==◌, false, List, [], ◌∷◌, length, map, take, drop, get_or, refl, sym, ap, subst, arith}
 use Rattle.std.proofs.Math.Seq.{take-length}
 use Rattle.std.proofs.lemmas.Bool.{ne_eqb}
 use Rattle.std.specs.List.{AllByRecursion}
 use Rattle.std.specs.List.Sorted.{IsStrictlyIncreasing}
 use Rattle.xr_design.specs.declared.place.Place.{Place}
-use Rattle.xr_design.specs.Filling.{IsPlace, IsFilling, bit_of}
-use Rattle.xr_design.specs.Fits.{Fits}
-use Rattle.xr_design.specs.Job.{Job, number_of, places_of}
-use Rattle.xr_design.proofs.Reaching.{step_small}
-use Rattle.xr_design.proofs.Rules.{position_in}
+use Rattle.xr_design.specs.Filling.{IsFilling, bit_of}
+use Rattle.xr_design.specs.Job.{Job, number_of}
 use Rattle.xr_world.specs.Left.{Decides, IsLeft}
-
--- The number of a place of the job is below the count.
-pub number_below : (j : Job) → Fits j → (place : Place) → IsPlace j place → number_of j place < places_of j
-number_below j fits place is =
-    let room = step_small j.width place.step (j.moments * j.rounds) is.step in
-    let low = position_in j fits place.net is.net in
-    omega (arith, room, low)
-
--- So is that of the first place that is left.
-pub first_net : (j : Job) → Fits j → (from : ℕ) (left : List Place) (d : Place) → 0 < length left → IsLeft j from left → (get_or left 0 d).net < length j.order
-first_net j fits from [] d some is = absurd (omega arith)
-first_net j fits from (first ∷ rest) d some is = let net = is.places.0.net in omega (arith, net, fits.all)
-
-pub first_few : (j : Job) → Fits j → (from : ℕ) (left : List Place) (d : Place) → 0 < length left → IsLeft j from left → number_of j (get_or left 0 d) ≤ 2 ^ 27
-first_few j fits from [] d some is = absurd (omega arith)
-first_few j fits from (first ∷ rest) d some is = let low = number_below j fits first is.places.0 in omega (arith, low, fits.few_places)
 
 -- All of a filling is left at its start.
 all_from_start : (j : Job) (filling : List Place) → AllByRecursion (λ p. 0 ≤ number_of j p) filling

@@ -1,5 +1,6 @@
 -- What a whole world shows: the bit of each written place of a wave.
-use Rattle.std.specs.Prelude.{◌≡◌, ℕ, ◌+◌, ◌*◌, ◌<◌, ◌≤◌, ◌^◌, Bool, List, length}
+use Rattle.std.specs.Prelude.{◌≡◌, ℕ, ◌+◌, ◌*◌, ◌<◌, Bool, List, length, map, slice_index}
+use Rattle.std.specs.List.{range_with_len}
 use Rattle.xr_design.specs.declared.place.Place.{Place}
 use Rattle.xr_design.specs.Filling.{bit_of}
 use Rattle.xr_design.specs.Job.{number_of}
@@ -8,34 +9,31 @@ use Rattle.xr_design.specs.Waveform.{certain}
 use Rattle.xr_design.specs.World.{bit_at, world, world_bit}
 use Rattle.xr_wave.specs.Contents.{Contents, IsWritten, job}
 
--- How many nets there are, their order within a step, and the bits in place order.
+-- The position of each net within a step, and the bits in place order.
 pub record WorldView : Type 0 where
-  pub width : ℕ
-  pub order : List ℕ
+  pub positions : List ℕ
   pub bits : List Bool
-
--- Its order lists all nets, and it has bits for at most 2^27 places.
-pub record IsWhole (w : WorldView) : Type 0 where
-  pub width_is : w.width ≡ length w.order
-  pub few : length w.bits ≤ 2 ^ 27
 
 -- The number of a place, and its bit.
 abbrev pub number_in : WorldView → Place → ℕ
-number_in w place = place.step * w.width + position_of w.order place.net
+number_in w place = place.step * length w.positions + slice_index w.positions place.net
 
 abbrev pub bit_in : WorldView → Place → Bool
 bit_in w place = bit_at w.bits (number_in w place)
 
 -- The place is one of those that have a bit.
 pub record HasPlace (w : WorldView) (place : Place) : Type 0 where
-  pub net : place.net < w.width
+  pub net : place.net < length w.positions
   pub written : number_in w place < length w.bits
+
+-- The positions of all nets of an order.
+abbrev pub positions_in : List ℕ → List ℕ
+positions_in order = map (position_of order) (range_with_len 0 (length order))
 
 -- The world of a filling over the written places of a wave.
 abbrev pub filled : Contents → List Place → WorldView
 filled c filling = record {
-  width = (job c).width;
-  order = c.order;
+  positions = positions_in c.order;
   bits = world (job c) (certain c.written) (bit_of (job c) filling) (length c.written);
 }
 

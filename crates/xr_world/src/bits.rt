@@ -1,6 +1,6 @@
 //! The bits of a world, place by place.
 
-ghost use Rattle.std.specs.Prelude.{◌≡◌, ℕ, ◌<◌, ◌≤◌, ◌^◌, IfOk, length};
+ghost use Rattle.std.specs.Prelude.{◌≡◌, ℕ, ◌<◌, IfOk, length};
 ghost use Rattle.xr_design.specs.Filling.{IsFilling, bit_of};
 ghost use Rattle.xr_design.specs.Waveform.{certain};
 ghost use Rattle.xr_design.specs.World.{bit_at, decided, world};
@@ -32,8 +32,7 @@ impl<'b> BitSource for Bits<'b> {
 /// The bits of the written places in the world of a filling, in place order.
 pub fn bits_of(alloc: Global, wave: &Wave<'_>, filling: &[Place]) -> Result<Vec<bool>, Memory>
     requires { IsFilling (job wave.now) filling.now }
-    ensures few { IfOk result (λ bits. length bits.items ≤ 2 ^ 27) }
-    ensures bits { IfOk result (λ bits. bits.items ≡ world (job wave.now) (certain wave.now.written) (bit_of (job wave.now) filling.now) (length wave.now.written)) }
+    ensures { IfOk result (λ bits. bits.items ≡ world (job wave.now) (certain wave.now.written) (bit_of (job wave.now) filling.now) (length wave.now.written)) }
 {
     let circuit = wave.circuit();
     let count = wave.count();

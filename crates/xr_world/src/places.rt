@@ -1,15 +1,17 @@
 //! The numbers of places.
 
-ghost use Rattle.std.specs.Prelude.{◌≡◌, ◌+◌, ◌*◌, ◌<◌, ◌≤◌, ◌^◌, length};
-ghost use Rattle.xr_design.specs.Order.{position_of};
+ghost use Rattle.std.specs.Prelude.{◌≡◌};
+ghost use Rattle.xr_design.specs.Circuit.{job_in, CircuitFits};
+ghost use Rattle.xr_design.specs.Filling.{IsPlace};
+ghost use Rattle.xr_design.specs.Job.{number_of};
 
-use xr_design::{Order, Place};
+use xr_design::{Circuit, Place, width_of};
 
-/// The number of a place, where a step has so many nets.
-pub fn number_at(order: &Order, width: usize, place: Place) -> usize
-    requires net { place.net < length order.now }
-    requires few { place.step * width + position_of order.now place.net ≤ 2 ^ 27 }
-    ensures { result ≡ place.step * width + position_of order.now place.net }
+/// The number of a place.
+pub fn number_of(circuit: &Circuit<'_>, place: Place) -> usize
+    requires fits { CircuitFits circuit.now }
+    requires within { IsPlace (job_in circuit.now) place }
+    ensures { result ≡ number_of (job_in circuit.now) place }
 {
-    place.step as usize * width + order.position(place.net) as usize
+    place.step as usize * width_of(circuit) + circuit.order.position(place.net) as usize
 }

@@ -1,6 +1,5 @@
 -- The bits so far are the world's, and what is left of the filling decides from here on.
-use Rattle.std.proofs.Common.{◌≡◌, ◌≤◌, length}
-use Rattle.xr_design.specs.Circuit.{job_in}
+use Rattle.std.proofs.Common.{◌≡◌}
 use Rattle.xr_design.specs.Filling.{bit_of}
 use Rattle.xr_design.specs.Waveform.{certain}
 use Rattle.xr_design.specs.World.{world}

@@ -1,25 +1,20 @@
 -- The first place that is left has the number, or all that is left is behind it.
-use Rattle.std.proofs.Common.{◌≡◌, ◌∙◌, sym}
+use Rattle.std.proofs.Common.{◌∙◌, sym}
 use Rattle.xr_design.specs.Circuit.{job_in}
-use Rattle.xr_world.proofs.Reading.{first_few, behind_left, still_left, none_at}
+use Rattle.xr_world.proofs.Reading.{behind_left, still_left, none_at}
 use Rattle.xr_world.proofs.left.next_bit.Goals as goal
 
-pub number_at-requires-clause-few : goal.number_at-requires-clause-few
-number_at-requires-clause-few c =
-    let j = job_in c.args.circuit.now in
-    rw c.width_of.ensures (first_few j c.requires.fits.fits_job c.args.place c.args.left.now _ c.in-len1-up.len_at_least c.requires.left)
-
-pub returns-then-number_at-place-clause-left : goal.returns-then-number_at-place-clause-left
-returns-then-number_at-place-clause-left c =
+pub returns-then-number_of-place-clause-left : goal.returns-then-number_of-place-clause-left
+returns-then-number_of-place-clause-left c =
     behind_left (job_in c.args.circuit.now) c.args.place c.args.left.now c.in-len1-up.len_at_least c.requires.left
 
-pub returns-else-number_at-place-clause-left : goal.returns-else-number_at-place-clause-left
-returns-else-number_at-place-clause-left c =
+pub returns-else-number_of-place-clause-left : goal.returns-else-number_of-place-clause-left
+returns-else-number_of-place-clause-left c =
     let j = job_in c.args.circuit.now in
-    still_left j c.args.place c.args.left.now _ (λ is. c.if-number_at-place.false (c.number_at.ensures ∙ rw c.width_of.ensures is)) c.requires.left
+    still_left j c.args.place c.args.left.now _ (λ is. c.if-number_of-place.false (c.number_of.ensures ∙ is)) c.requires.left
 
-pub returns-else-number_at-place-clause-bit : goal.returns-else-number_at-place-clause-bit
-returns-else-number_at-place-clause-bit c =
+pub returns-else-number_of-place-clause-bit : goal.returns-else-number_of-place-clause-bit
+returns-else-number_of-place-clause-bit c =
     let j = job_in c.args.circuit.now in
     sym (none_at j c.args.place c.args.left.now
-    (still_left j c.args.place c.args.left.now _ (λ is. c.if-number_at-place.false (c.number_at.ensures ∙ rw c.width_of.ensures is)) c.requires.left))
+    (still_left j c.args.place c.args.left.now _ (λ is. c.if-number_of-place.false (c.number_of.ensures ∙ is)) c.requires.left))
