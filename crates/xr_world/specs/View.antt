@@ -30,11 +30,15 @@ pub record HasPlace (w : WorldView) (place : Place) : Type 0 where
 abbrev pub positions_in : List ℕ → List ℕ
 positions_in order = map (position_of order) (range_with_len 0 (length order))
 
--- The world of a filling over the written places of a wave.
+-- The bits of the written places of a wave, in the world of a filling.
+abbrev pub written_bits : Contents → List Place → List Bool
+written_bits c filling = world (job c) (certain c.written) (bit_of (job c) filling) (length c.written)
+
+-- That world over these places.
 abbrev pub filled : Contents → List Place → WorldView
 filled c filling = record {
   positions = positions_in c.order;
-  bits = world (job c) (certain c.written) (bit_of (job c) filling) (length c.written);
+  bits = written_bits c filling;
 }
 
 -- A world has every written place.

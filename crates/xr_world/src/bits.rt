@@ -1,10 +1,10 @@
 //! The bits of a world, place by place.
 
-ghost use Rattle.std.specs.Prelude.{◌≡◌, ℕ, ◌<◌, IfOk, length};
-ghost use Rattle.xr_design.specs.Filling.{IsFilling, bit_of};
-ghost use Rattle.xr_design.specs.Waveform.{certain};
-ghost use Rattle.xr_design.specs.World.{bit_at, decided, world};
+ghost use Rattle.std.specs.Prelude.{◌≡◌, ◌<◌, IfOk, length};
+ghost use Rattle.xr_design.specs.Filling.{IsFilling};
+ghost use Rattle.xr_design.specs.World.{bit_at, decided};
 ghost use Rattle.xr_wave.specs.Contents.{job};
+ghost use Rattle.xr_world.specs.View.{written_bits};
 
 use crate::left::next_bit;
 use std::alloc::Global;
@@ -32,7 +32,7 @@ impl<'b> BitSource for Bits<'b> {
 /// The bits of the written places in the world of a filling, in place order.
 pub fn bits_of(alloc: Global, wave: &Wave<'_>, filling: &[Place]) -> Result<Vec<bool>, Memory>
     requires { IsFilling (job wave.now) filling.now }
-    ensures { IfOk result (λ bits. bits.items ≡ world (job wave.now) (certain wave.now.written) (bit_of (job wave.now) filling.now) (length wave.now.written)) }
+    ensures { IfOk result (λ bits. bits.items ≡ written_bits wave.now filling.now) }
 {
     let circuit = wave.circuit();
     let count = wave.count();
