@@ -11,7 +11,7 @@ use Rattle.xr_design.specs.Waveform.{certain}
 use Rattle.xr_design.specs.World.{decided, bit_at, world}
 use Rattle.xr_design.proofs.Worlds.{world_length, world_prefix}
 use Rattle.xr_wave.specs.Contents.{Contents, job}
-use Rattle.xr_world.specs.View.{WorldView, HasWritten, GivesBits, filled, number_in, positions_in}
+use Rattle.xr_world.specs.View.{WorldView, HasWritten, GivesBits, filled, number_in, positions_in, written_bits}
 
 -- A world with the bit of its next place.
 pub world_grown : (j : Job) (c : ℕ → Value) (f : ℕ → Bool) (n : ℕ) (bits : List Bool) (value : Value) (bit : Bool) → bits ≡ world j c f n → value ≡ rule j c (bit_at bits) n → bit ≡ f n → bits ++ decided value bit ∷ [] ≡ world j c f (n + 1)
@@ -19,7 +19,7 @@ unfolding world
 world_grown j c f n bits value bit before ruled read = rw (ruled, read, before, add-one) refl
 
 -- It is made of the positions and the bits.
-pub made : (c : Contents) (filling : List Place) (positions : List ℕ) (bits : List Bool) → positions ≡ positions_in c.order → bits ≡ world (job c) (certain c.written) (bit_of (job c) filling) (length c.written) → record { positions = positions; bits = bits } ≡ filled c filling
+pub made : (c : Contents) (filling : List Place) (positions : List ℕ) (bits : List Bool) → positions ≡ positions_in c.order → bits ≡ written_bits c filling → record { positions = positions; bits = bits } ≡ filled c filling
 made c filling positions bits positions_are bits_are = rw (positions_are, bits_are) refl
 
 -- The number of a place by the positions of all nets.

@@ -1,5 +1,5 @@
 -- Reading a filling in place order.
-use Rattle.std.proofs.Common.{◌≡◌, ℕ, suc, ◌+◌, ◌-◌, ◌<◌, ◌≤◌, ◌==◌, false, List, [], ◌∷◌, length, map, take, drop, get_or, refl, sym, ap, subst, arith}
+use Rattle.std.proofs.Common.{◌≡◌, ℕ, suc, ◌+◌, ◌-◌, ◌<◌, ◌≤◌, ◌==◌, false, List, [], ◌∷◌, length, map, take, drop, get_or, refl, sym, subst, arith}
 use Rattle.std.proofs.Math.Seq.{take-length}
 use Rattle.std.proofs.lemmas.Bool.{ne_eqb}
 use Rattle.std.specs.List.{AllByRecursion}
@@ -7,7 +7,7 @@ use Rattle.std.specs.List.Sorted.{IsStrictlyIncreasing}
 use Rattle.xr_design.specs.declared.place.Place.{Place}
 use Rattle.xr_design.specs.Filling.{IsFilling, bit_of}
 use Rattle.xr_design.specs.Job.{Job, number_of}
-use Rattle.xr_world.specs.Left.{Decides, IsLeft}
+use Rattle.xr_world.specs.Left.{IsLeft}
 
 -- All of a filling is left at its start.
 all_from_start : (j : Job) (filling : List Place) → AllByRecursion (λ p. 0 ≤ number_of j p) filling
@@ -29,7 +29,7 @@ rest_above j first (second ∷ rest) n ascending low =
     let less : number_of j first < number_of j second = ascending 0 (omega arith) in
     (omega (arith, less, low), rest_above j second rest n (rest_ascends (number_of j first) (map (number_of j) (second ∷ rest)) ascending) (omega (arith, less, low)))
 
--- Where the first is at the number, the others are left behind it, and decide.
+-- The others are left behind the number.
 pub rest_left : (j : Job) (n : ℕ) (first : Place) (rest : List Place) → IsLeft j n (first ∷ rest) → IsLeft j (n + 1) rest
 rest_left j n first rest is = record {
   places = is.places.1;
@@ -44,13 +44,6 @@ tail_is first rest = let long : length (first ∷ rest) - 1 ≡ length rest = om
 pub behind_left : (j : Job) (n : ℕ) (left : List Place) → 0 < length left → IsLeft j n left → IsLeft j (n + 1) (take (length left - 1) (drop 1 left))
 behind_left j n [] some is = absurd (omega arith)
 behind_left j n (first ∷ rest) some is = subst (IsLeft j (n + 1)) (sym (tail_is first rest)) (rest_left j n first rest is)
-
-pub behind_decides : (j : Job) (n : ℕ) (left : List Place) (d : Place) → 0 < length left → number_of j (get_or left 0 d) ≡ n → Decides j (n + 1) (take (length left - 1) (drop 1 left)) left
-behind_decides j n [] d some is place later = absurd (omega arith)
-behind_decides j n (first ∷ rest) d some is place later =
-    let other : (number_of j first == place) ≡ false = ne_eqb (number_of j first) place (λ same. omega (arith, same, is, later)) in
-    let whole : bit_of j (take (length (first ∷ rest) - 1) rest) place ≡ bit_of j rest place = ap (λ places. bit_of j places place) (tail_is first rest) in
-    rw other whole
 
 -- Where it isn't, all are left behind the number, and none is at it.
 pub still_left : (j : Job) (n : ℕ) (left : List Place) (d : Place) → (number_of j (get_or left 0 d) ≡ n → ⊥) → IsLeft j n left → IsLeft j (n + 1) left

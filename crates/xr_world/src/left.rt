@@ -9,6 +9,7 @@ use crate::places::number_of;
 use xr_design::{Circuit, Place};
 
 /// The filling's bit at the place of a number, and what is left behind it.
+#[tactic(auto, using(crate::proofs::Reading::behind_left))]
 pub fn next_bit<'f>(circuit: &Circuit<'_>, left: &'f [Place], place: usize) -> (bool, &'f [Place])
     requires fits { CircuitFits circuit.now }
     requires left { IsLeft (job_in circuit.now) place left.now }

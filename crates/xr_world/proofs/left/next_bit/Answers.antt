@@ -1,12 +1,8 @@
--- The first place that is left has the number, or all that is left is behind it.
+-- Where the first place that is left hasn't the number, all that is left is behind it.
 use Rattle.std.proofs.Common.{◌∙◌, sym}
 use Rattle.xr_design.specs.Circuit.{job_in}
-use Rattle.xr_world.proofs.Reading.{behind_left, still_left, none_at}
+use Rattle.xr_world.proofs.Reading.{still_left, none_at}
 use Rattle.xr_world.proofs.left.next_bit.Goals as goal
-
-pub returns-then-number_of-place-clause-left : goal.returns-then-number_of-place-clause-left
-returns-then-number_of-place-clause-left c =
-    behind_left (job_in c.args.circuit.now) c.args.place c.args.left.now c.in-len1-up.len_at_least c.requires.left
 
 pub returns-else-number_of-place-clause-left : goal.returns-else-number_of-place-clause-left
 returns-else-number_of-place-clause-left c =
@@ -16,5 +12,4 @@ returns-else-number_of-place-clause-left c =
 pub returns-else-number_of-place-clause-bit : goal.returns-else-number_of-place-clause-bit
 returns-else-number_of-place-clause-bit c =
     let j = job_in c.args.circuit.now in
-    sym (none_at j c.args.place c.args.left.now
-    (still_left j c.args.place c.args.left.now _ (λ is. c.if-number_of-place.false (c.number_of.ensures ∙ is)) c.requires.left))
+    sym (none_at j c.args.place c.args.left.now (returns-else-number_of-place-clause-left c))
