@@ -1,3 +1,4 @@
 -- Lemmas on whole worlds.
 mod Filled
+mod Floating
 mod Reading
