@@ -1,17 +1,13 @@
 -- A net without a driver, in one moment of one round, fits; and its one place.
-use Rattle.std.proofs.Common.{◌≡◌, ℕ, zero, suc, ◌+◌, ◌*◌, ◌<◌, ◌≤◌, ◌^◌, List, [], ◌∷◌, length, replicate, get_or, slice_index_or, refl, sym, subst, arith, inr}
+use Rattle.std.proofs.Common.{◌≡◌, ℕ, zero, suc, ◌*◌, ◌<◌, List, [], ◌∷◌, length, slice_index_or, refl, sym, subst, arith}
 use Rattle.xr_cell.specs.declared.value.Value.TheVariants.{X, Z}
 use Rattle.xr_design.specs.Circuit.{FitsCircuit}
-use Rattle.xr_design.specs.Filling.{IsPlace, IsFilling}
-use Rattle.xr_design.specs.Handed.{IsHandedIn}
-use Rattle.xr_design.specs.History.{HistoryView}
+use Rattle.xr_design.specs.Filling.{IsPlace}
 use Rattle.xr_design.specs.Job.{Job, job_of, number_of}
 use Rattle.xr_design.specs.Order.{IsOrdering}
-use Rattle.xr_design.specs.Replay.{blank}
 use Rattle.xr_design.specs.declared.design.Design.{Design}
 use Rattle.xr_design.specs.declared.design.Net.{Net}
 use Rattle.xr_design.specs.declared.design.Driver.TheVariants.{Undriven}
-use Rattle.xr_design.specs.declared.place.Place.{Place}
 use Rattle.xr_design.specs.declared.stim.Stim.{Stim}
 use Rattle.xr_wave.specs.Contents.{Contents, IsWritten, job}
 
@@ -19,7 +15,7 @@ use Rattle.xr_wave.specs.Contents.{Contents, IsWritten, job}
 only : (n : ℕ) → n < 1 → n ≡ 0
 only n less = omega arith
 
-pub one_ordered : IsOrdering (0 ∷ [])
+one_ordered : IsOrdering (0 ∷ [])
 one_ordered = record {
   below = λ p less. rw (only p less) (omega arith);
   each = λ net less. (0, omega arith, rw (only net less) refl);
@@ -54,33 +50,9 @@ floating_fits design stim net undriven nets times rounds inputs starts = record 
     none zero floats = cc
     none (suc n) floats = cc
 
--- A blank history may be handed in.
-blank_at : (n i : ℕ) → get_or (replicate n blank) i blank ≡ blank
-blank_at zero i = refl
-blank_at (suc n) zero = refl
-blank_at (suc n) (suc i) = blank_at n i
-
-blanks : (n : ℕ) → length (replicate n blank) ≡ n
-blanks zero = refl
-blanks (suc n) = let ih = blanks n in omega (arith, ih)
-
-pub blank_handed : (design : Design) (order : List ℕ) (stim : Stim) (history : HistoryView)
-    → history ≡ record { nets = length design.nets; places = replicate (length design.nets * (length stim.times * stim.rounds)) blank }
-    → IsHandedIn (job_of design order stim) history
-blank_handed design order stim history is = subst (IsHandedIn (job_of design order stim)) (sym is) (inr (record {
-  places = record { nets = refl; all = blanks (length design.nets * (length stim.times * stim.rounds)) };
-  held = λ place less. blank_at (length design.nets * (length stim.times * stim.rounds)) _;
-}))
-
--- The one place is one of the job's, and alone a filling.
-pub one_place : (j : Job) → j.width ≡ 1 → j.moments * j.rounds ≡ 1 → IsPlace j (record { step = 0; net = 0 })
+-- The one place is one of the job's.
+one_place : (j : Job) → j.width ≡ 1 → j.moments * j.rounds ≡ 1 → IsPlace j (record { step = 0; net = 0 })
 one_place j width steps = record { step = omega (arith, steps); net = omega (arith, width) }
-
-pub one_filling : (j : Job) (place : Place) → IsPlace j place → IsFilling j (place ∷ [])
-one_filling j place is = record { places = (is, tt); ascending = λ k less. absurd (omega arith) }
-
-pub no_filling : (j : Job) → IsFilling j []
-no_filling j = record { places = tt; ascending = λ k less. absurd (omega arith) }
 
 -- It is written.
 pub one_written : (c : Contents) (design : Design) (order : List ℕ) (stim : Stim) → job c ≡ job_of design order stim
