@@ -1,6 +1,7 @@
 -- The world of a filling over the written places of a wave.
-use Rattle.std.proofs.Common.{◌≡◌, ℕ, ◌+◌, ◌<◌, ◌++◌, ◌∷◌, [], Bool, List, length, get_or, refl, sym, ap, ◌∙◌, subst, arith, add-one}
-use Rattle.std.proofs.lemmas.List.FromFn.{length-map-range_with_len, get_or-map-range_with_len}
+use Rattle.std.proofs.Common.{◌≡◌, ℕ, ◌+◌, ◌<◌, ◌++◌, ◌∷◌, [], Bool, List, length, map, get_or, refl, sym, ap, ◌∙◌, subst, arith, add-one}
+use Rattle.std.proofs.lemmas.List.FromFn.{length-map-range_with_len, get_or-map-range_with_len, map-range_with_len_more}
+use Rattle.std.specs.List.{range_with_len}
 use Rattle.xr_cell.specs.declared.value.Value.{Value}
 use Rattle.xr_design.specs.declared.place.Place.{Place}
 use Rattle.xr_design.specs.Filling.{bit_of}
@@ -19,6 +20,11 @@ pub world_grown : (j : Job) (c : ℕ → Value) (f : ℕ → Bool) (n : ℕ) (bi
     → bits ++ decided value bit ∷ [] ≡ world j c f (n + 1)
 unfolding world
 world_grown j c f n bits value bit before ruled read = rw (ruled, read, before, add-one) refl
+
+-- A net more has its position.
+pub positions_more : (order : List ℕ) (n : ℕ)
+    → map (position_of order) (range_with_len 0 (n + 1)) ≡ map (position_of order) (range_with_len 0 n) ++ position_of order n ∷ []
+positions_more order n = map-range_with_len_more (position_of order) 0 n n (omega arith)
 
 -- It is made of the positions and the bits.
 pub made : (c : Contents) (filling : List Place) (positions : List ℕ) (bits : List Bool)

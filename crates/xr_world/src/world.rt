@@ -51,6 +51,7 @@ impl World {
     }
 }
 
+#[tactic(auto, using(crate::proofs::Filled::positions_more))]
 fn positions_of(alloc: Global, order: &Order, width: usize) -> Result<Vec<u32>, Memory>
     requires width { width ≡ length order.now }
     requires few { width ≤ 2 ^ 20 }
