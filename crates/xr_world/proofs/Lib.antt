@@ -1,0 +1,4 @@
+-- Lemmas on whole worlds.
+mod Filled
+mod Floating
+mod Reading

@@ -1,0 +1,3 @@
+-- Definitions of whole worlds.
+pub mod View
+pub mod Left
