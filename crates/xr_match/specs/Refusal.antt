@@ -1,10 +1,11 @@
 -- What keeps the variables of a recording from being bound, and what a binding is.
-use Rattle.std.specs.Prelude.{◌≡◌, ℕ, ◌*◌, ◌^◌, ◌<◌, ◌≤◌, true, false, List, length}
+use Rattle.std.specs.Prelude.{◌≡◌, ℕ, ◌*◌, ◌^◌, ◌<◌, ◌≤◌, true, false, List, Some, length}
 use Rattle.xr_design.specs.declared.design.Design.{Design}
 use Rattle.xr_vcd.specs.Recording.{Recording}
+use Rattle.xr_vcd.specs.declared.variable.Variable.{Variable}
 use Rattle.xr_match.specs.Naming.{Texts}
 use Rattle.xr_match.specs.Telling.{has_scope}
-use Rattle.xr_match.specs.Bounds.{bounds_of, differs_at}
+use Rattle.xr_match.specs.Bounds.{bounds_of, differs_at, differs_in}
 use Rattle.xr_match.specs.Holding.{IsUnbound}
 use Rattle.xr_match.specs.declared.binding.Binding.{Binding}
 use Rattle.xr_match.specs.declared.binding.Bound.{Bound}
@@ -34,6 +35,10 @@ pub record IsBinding (design : Design) (recording : Recording) (scope : Texts) (
   pub inputs : AllBound design (bounds_of design scope recording) (length design.nets)
   pub places : place_count design recording rounds ≤ 2 ^ 27
   pub timescale : binding.timescale ≡ recording.timescale
+
+-- The refusal is that this variable differs.
+abbrev pub RefusesAt : Design → Texts → Recording → ℕ → Variable → BindErr → Type 0
+RefusesAt design scope recording number v e = (e ≡ RangeDiffers number) × (differs_in design scope recording (Some v) ≡ true)
 
 -- The first variable that differs.
 pub record IsFirst (design : Design) (scope : Texts) (recording : Recording) (variable : ℕ) : Type 0 where

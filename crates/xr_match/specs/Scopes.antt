@@ -1,7 +1,8 @@
 -- What is kept of the scopes of a recording.
 use Rattle.std.specs.Prelude.{◌≡◌, ◌<◌, ℕ, Bool, false, List, [], ◌∷◌, ◌++◌, length, drop, map, slice_index_or, ◌==◌}
+use Rattle.xr_design.specs.Design.{FitsDesign}
 use Rattle.xr_design.specs.declared.design.Design.{Design}
-use Rattle.xr_vcd.specs.Recording.{path_at}
+use Rattle.xr_vcd.specs.Recording.{Recording, path_at}
 use Rattle.xr_match.specs.Keys.{IsKey}
 use Rattle.xr_match.specs.Naming.{Texts, nets_of}
 use Rattle.xr_match.specs.Telling.{Standing, Apart, Above, Within, standing_of, bare}
@@ -48,6 +49,10 @@ Keeps design scope (Within names) (kept.Within key) = IsKey (map bare names) key
 pub record KeepsAll (design : Design) (scope : Texts) (paths : List Texts) (keys : List ScopeKey) (count : ℕ) : Type 0 where
   pub as_many : length keys ≡ count
   pub each : (number : ℕ) (d : ScopeKey) → number < count → Keeps design scope (standing_of scope (path_at paths number)) (slice_index_or keys number d)
+
+-- The design fits, the recording's first scope has no names, and something is kept of each of its scopes.
+abbrev pub KeepsRecording : Design → Texts → Recording → List ScopeKey → Type 0
+KeepsRecording design scope recording keys = FitsDesign design × (path_at recording.scopes 0 ≡ []) × KeepsAll design scope recording.scopes keys (length recording.scopes)
 
 -- what is kept of the scope path itself
 abbrev pub is_top : ScopeKey → Bool

@@ -25,17 +25,14 @@ pub struct Matcher<'a> {
 }
 
 impl<'a> Model for Matcher<'a> {
-    ghost use Rattle.std.specs.Prelude.{◌≡◌, [], length};
-    ghost use Rattle.xr_design.specs.Design.{FitsDesign};
-    ghost use Rattle.xr_vcd.specs.Recording.{path_at};
-    ghost use Rattle.xr_match.specs.Scopes.{KeepsAll};
+    ghost use Rattle.xr_match.specs.Scopes.{KeepsRecording};
     ghost use Rattle.xr_match.specs.Telling.{Under};
 
     ghost Value = { Under };
 
     ghost view = { λ m. record { design = m.names; recording = m.recording.now; scope = m.scope.now } };
 
-    ghost invariant = { λ m. FitsDesign m.names × (path_at m.recording.now.scopes 0 ≡ []) × KeepsAll m.names m.scope.now m.recording.now.scopes m.keys.items (length m.recording.now.scopes) };
+    ghost invariant = { λ m. KeepsRecording m.names m.scope.now m.recording.now m.keys.items };
 }
 
 impl<'a> Matcher<'a> {

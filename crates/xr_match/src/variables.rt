@@ -1,10 +1,10 @@
 //! The variables of a recording that are bound, in its order.
 
-ghost use Rattle.std.specs.Prelude.{◌≡◌, ◌≢◌, ◌<◌, ◌≤◌, ◌^◌, ◌++◌, [], true, false, Some, All, OnOk, IfOk, IfErr, length};
+ghost use Rattle.std.specs.Prelude.{◌≡◌, ◌≢◌, ◌<◌, ◌≤◌, ◌^◌, ◌++◌, [], false, Some, All, OnOk, IfOk, IfErr, length};
 ghost use Rattle.xr_vcd.specs.Recording.{IsRecording, IsVariable, path_at};
 ghost use Rattle.xr_match.specs.Bounds.{bound_in, bounds_of, differs_in, ends_of};
-ghost use Rattle.xr_match.specs.Refusal.{IsFirstDiffering, NoneDiffers};
-ghost use Rattle.xr_match.specs.declared.refusal.BindErr.TheVariants.{RangeDiffers, Memory as OutOfMemory};
+ghost use Rattle.xr_match.specs.Refusal.{IsFirstDiffering, NoneDiffers, RefusesAt};
+ghost use Rattle.xr_match.specs.declared.refusal.BindErr.TheVariants.{Memory as OutOfMemory};
 
 use crate::binding::Bound;
 use crate::bits::{Matched, index_of};
@@ -41,11 +41,13 @@ fn bind_variable(
 ) -> Result<(), BindErr>
     requires { IsVariable (length matcher.now.recording.scopes) variable.now }
     ensures bound { let under = matcher.now in
-        OnOk result (bound.new.items ≡ bound.old.items ++ bound_in under.design under.scope under.recording number (Some variable.now)) }
+        OnOk result (bound.new.items
+            ≡ bound.old.items ++ bound_in under.design under.scope under.recording number (Some variable.now)) }
     ensures none { let under = matcher.now in
         OnOk result (differs_in under.design under.scope under.recording (Some variable.now) ≡ false) }
     ensures differs { let under = matcher.now in
-        IfErr result (λ e. e ≢ OutOfMemory → (e ≡ RangeDiffers number) × (differs_in under.design under.scope under.recording (Some variable.now) ≡ true)) }
+        IfErr result (λ e.
+            e ≢ OutOfMemory → RefusesAt under.design under.scope under.recording number variable.now e) }
 {
     match matcher.matched(alloc, variable)? {
         Matched::Nothing => Ok(()),

@@ -11,7 +11,7 @@ use Rattle.xr_design.specs.declared.design.Driver.{Driver}
 use Rattle.xr_design.specs.declared.design.Driver.TheVariants.{Input, Undriven, Constant, Copy, Cell, Register}
 use Rattle.xr_match.specs.declared.binding.Binding.{Binding}
 use Rattle.xr_match.specs.declared.binding.Bound.{Bound}
-use Rattle.xr_vcd.specs.Recording.{Recording, value_at, width_at}
+use Rattle.xr_vcd.specs.Recording.{Recording, value_at}
 use Rattle.xr_replay.specs.declared.differ.Differ.{Differ}
 use Rattle.xr_replay.specs.declared.differ.Differ.TheVariants.{Unsettled, Disagrees}
 
@@ -23,11 +23,6 @@ kept_after j step net (Constant bit) = X
 kept_after j step net (Copy argument) = X
 kept_after j step net (Cell table pins) = X
 kept_after j step net (Register latching) = updated j (shown_at j) (kept_at j (at j step net)) (step + 1) latching
-
--- A bound variable is one of the recording's, and has as many bits as that is wide.
-pub record IsBoundIn (recording : Recording) (b : Bound) : Type 0 where
-  pub variable : b.variable < length recording.variables
-  pub width : width_at recording b.variable ≡ length b.bits
 
 -- what the replay shows of a bit of a bound variable at the last step of a moment
 abbrev pub shown_bit : Job → ℕ → Bound → ℕ → Value

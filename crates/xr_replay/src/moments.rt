@@ -4,9 +4,9 @@ ghost use Rattle.std.specs.Prelude.{◌≡◌, ◌+◌, ◌*◌, ◌<◌, ◌↔
 ghost use Rattle.xr_design.specs.Circuit.{FitsCircuit};
 ghost use Rattle.xr_design.specs.Handed.{IsReplay};
 ghost use Rattle.xr_design.specs.Job.{job_of};
-ghost use Rattle.xr_design.specs.Settled.{IsSettled};
 ghost use Rattle.xr_match.specs.Binding.{FitsBinding};
-ghost use Rattle.xr_replay.specs.Fault.{Agrees, HasNoFault, IsBoundIn, IsFaultIn, IsFaultless, IsFirstFault, TellsFirst};
+ghost use Rattle.xr_match.specs.Bounds.{IsOf};
+ghost use Rattle.xr_replay.specs.Fault.{HasNoFault, IsFaultIn, IsFaultless, IsFirstFault, TellsFirst};
 ghost use Rattle.xr_replay.specs.Sides.{AreSides, job_beside};
 
 use crate::differ::Differ;
@@ -31,7 +31,7 @@ pub fn compare(
     requires history { IsReplay (job_of design.now order.now stim.now) history.now }
     requires times { recording.now.times ≡ stim.now.times }
     requires bound { FitsBinding design.now bound.now }
-    requires recorded { All (IsBoundIn recording.now) bound.now.bound }
+    requires recorded { All (IsOf recording.now) bound.now.bound }
     ensures agrees { IsOk result ↔ IsFaultless (job_of design.now order.now stim.now) recording.now bound.now }
     ensures differs { IfErr result (IsFirstFault (job_of design.now order.now stim.now) recording.now bound.now) }
     ensures exact { TellsFirst (job_of design.now order.now stim.now) recording.now bound.now result }
@@ -51,7 +51,7 @@ pub fn compare(
 fn check_moments(sides: &Sides<'_>, bound: &Binding) -> Result<(), Differ>
     requires sides { AreSides sides.now }
     requires bound { FitsBinding sides.now.circuit.design.now bound.now }
-    requires recorded { All (IsBoundIn sides.now.recording.now) bound.now.bound }
+    requires recorded { All (IsOf sides.now.recording.now) bound.now.bound }
     ensures agrees { IfOk result (λ _. IsFaultless (job_beside sides.now) sides.now.recording.now bound.now) }
     ensures differs { IfErr result (IsFirstFault (job_beside sides.now) sides.now.recording.now bound.now) }
 {
@@ -64,7 +64,7 @@ fn check_moments(sides: &Sides<'_>, bound: &Binding) -> Result<(), Differ>
 fn check_moment(sides: &Sides<'_>, bound: &Binding, moment: u32) -> Result<(), Differ>
     requires sides { AreSides sides.now }
     requires bound { FitsBinding sides.now.circuit.design.now bound.now }
-    requires recorded { All (IsBoundIn sides.now.recording.now) bound.now.bound }
+    requires recorded { All (IsOf sides.now.recording.now) bound.now.bound }
     requires moment { moment < (job_beside sides.now).moments }
     ensures none { IfOk result (λ _. HasNoFault (job_beside sides.now) sides.now.recording.now bound.now moment) }
     ensures fault { IfErr result (IsFaultIn (job_beside sides.now) sides.now.recording.now bound.now moment) }

@@ -2,7 +2,8 @@
 
 ghost use Rattle.std.specs.Prelude.{◌≡◌, ◌<◌, All, IfErr, IfOk, length};
 ghost use Rattle.xr_match.specs.Binding.{FitsBinding, FitsBound};
-ghost use Rattle.xr_replay.specs.Fault.{Agrees, BitAgrees, IsBitFault, IsBoundIn, IsDisagreementIn, IsVariableFault, VariableAgrees};
+ghost use Rattle.xr_match.specs.Bounds.{IsOf};
+ghost use Rattle.xr_replay.specs.Fault.{Agrees, BitAgrees, IsBitFault, IsDisagreementIn, IsVariableFault, VariableAgrees};
 ghost use Rattle.xr_replay.specs.Sides.{AreSides, job_beside};
 
 use crate::differ::Differ;
@@ -14,7 +15,7 @@ use xr_match::{Binding, Bound};
 pub fn check_recorded(sides: &Sides<'_>, bound: &Binding, moment: u32) -> Result<(), Differ>
     requires sides { AreSides sides.now }
     requires bound { FitsBinding sides.now.circuit.design.now bound.now }
-    requires recorded { All (IsBoundIn sides.now.recording.now) bound.now.bound }
+    requires recorded { All (IsOf sides.now.recording.now) bound.now.bound }
     requires moment { moment < (job_beside sides.now).moments }
     ensures agrees { IfOk result (λ _. Agrees (job_beside sides.now) sides.now.recording.now bound.now moment) }
     ensures fault { IfErr result (IsDisagreementIn (job_beside sides.now) sides.now.recording.now bound.now moment) }
@@ -28,7 +29,7 @@ pub fn check_recorded(sides: &Sides<'_>, bound: &Binding, moment: u32) -> Result
 fn check_variable(sides: &Sides<'_>, variable: &Bound, moment: u32) -> Result<(), Differ>
     requires sides { AreSides sides.now }
     requires bound { FitsBound sides.now.circuit.design.now variable.now }
-    requires recorded { IsBoundIn sides.now.recording.now variable.now }
+    requires recorded { IsOf sides.now.recording.now variable.now }
     requires moment { moment < (job_beside sides.now).moments }
     ensures agrees { IfOk result (λ _. VariableAgrees (job_beside sides.now) sides.now.recording.now moment variable.now) }
     ensures fault { IfErr result (IsVariableFault (job_beside sides.now) sides.now.recording.now moment variable.now) }
@@ -42,7 +43,7 @@ fn check_variable(sides: &Sides<'_>, variable: &Bound, moment: u32) -> Result<()
 fn check_bit(sides: &Sides<'_>, variable: &Bound, bit: u32, moment: u32) -> Result<(), Differ>
     requires sides { AreSides sides.now }
     requires bound { FitsBound sides.now.circuit.design.now variable.now }
-    requires recorded { IsBoundIn sides.now.recording.now variable.now }
+    requires recorded { IsOf sides.now.recording.now variable.now }
     requires bit { bit < length variable.now.bits }
     requires moment { moment < (job_beside sides.now).moments }
     ensures agrees { IfOk result (λ _. BitAgrees (job_beside sides.now) sides.now.recording.now moment variable.now bit) }
