@@ -1,0 +1,2 @@
+//! The query of a cone as clauses, and what its answers are worth.
+#![tactic(auto)]

@@ -1,0 +1,3 @@
+-- Definitions of the nodes of cones.
+pub mod Nodes
+pub mod Traced

@@ -1,0 +1,51 @@
+-- When nodes are the cone of a place of a wave, and what their bits then are.
+use Rattle.std.specs.Prelude.{◌≡◌, ℕ, ◌<◌, Bool, false, List, [], length, map, slice_index}
+use Rattle.xr_design.specs.declared.place.Place.{Place}
+use Rattle.xr_design.specs.Filling.{IsFilling}
+use Rattle.xr_design.specs.Fits.{place_at}
+use Rattle.xr_design.specs.Waveform.{certain}
+use Rattle.xr_model.specs.Cone.{cone, is_carried, sources}
+use Rattle.xr_model.specs.Laws.{InReach, world_over}
+use Rattle.xr_model.specs.Line.{IsOfSources}
+use Rattle.xr_model.specs.Node.{IsBody}
+use Rattle.xr_wave.specs.Contents.{Contents, IsWave, class_in, job}
+use Rattle.xr_cone_nodes.specs.declared.node.Node.{Node}
+use Rattle.xr_cone_nodes.specs.Nodes.{body_at, by_sources, chosen, place_of_node, root_bit, sources_of}
+
+-- The places of the cone of a place of a wave, in place order, by their numbers.
+abbrev pub cone_in : Contents → ℕ → List ℕ
+cone_in c root = cone (job c) (certain c.written) root
+
+-- Its sources.
+abbrev pub sources_in : Contents → ℕ → List ℕ
+sources_in c root = sources (job c) (certain c.written) root
+
+-- The world of a filling over a wave.
+abbrev pub world_in : Contents → List Place → ℕ → Bool
+world_in c filling = world_over (job c) c.written filling
+
+-- Nodes are the cone of a place of a wave that is written, or of the next one, and isn't carried: they are its places,
+-- each with the body that its class and its rule say.
+pub record IsConeOf (c : Contents) (root : ℕ) (nodes : List Node) : Type 0 where
+  pub wave : IsWave c
+  pub reach : InReach (job c) c.written root
+  pub free : is_carried (class_in c root) ≡ false
+  pub places : map place_of_node nodes ≡ map (place_at (job c)) (cone_in c root)
+  pub bodies : (position : ℕ) → position < length nodes
+      → IsBody (job c) (certain c.written) (cone_in c root) (slice_index (cone_in c root) position)
+        (body_at nodes position)
+
+-- The sources of the nodes are those of the cone.
+abbrev pub SourcesLaw : Type 0
+SourcesLaw = (c : Contents) (root : ℕ) (nodes : List Node) → IsConeOf c root nodes
+    → sources_of nodes ≡ map (place_at (job c)) (sources_in c root)
+
+-- Bits for the sources choose a filling that lists sources alone, and the root has its bit in the world of that filling.
+pub record IsChosen (c : Contents) (root : ℕ) (nodes : List Node) (bits : ℕ → Bool) : Type 0 where
+  pub filling : IsFilling (job c) (chosen (sources_of nodes) bits)
+  pub alone : IsOfSources (job c) c.written root (chosen (sources_of nodes) bits)
+  pub world : world_in c (chosen (sources_of nodes) bits) root ≡ root_bit (by_sources nodes bits) nodes
+
+abbrev pub ChosenLaw : Type 0
+ChosenLaw = (c : Contents) (root : ℕ) (nodes : List Node) (bits : ℕ → Bool) → IsConeOf c root nodes
+    → IsChosen c root nodes bits
