@@ -7,7 +7,7 @@ ghost use Rattle.xr_design.specs.Fits.{place_at};
 ghost use Rattle.xr_design.specs.Handed.{IsHandedIn};
 ghost use Rattle.xr_design.specs.Job.{job_of, number_of, places_of};
 ghost use Rattle.xr_design.specs.Waveform.{written_at};
-ghost use Rattle.xr_model.specs.Class.{class_seen};
+ghost use Rattle.xr_model.specs.Class.{before, carries_on, class_seen};
 ghost use Rattle.xr_model.specs.Growth.{NextHolds};
 ghost use Rattle.xr_model.specs.Sound.{Sound};
 ghost use Rattle.xr_model.specs.Yields.{Yields};
@@ -16,7 +16,7 @@ ghost use Rattle.xr_wave.specs.Contents.{Contents, FromWithin, IsReached, IsWave
 ghost use Rattle.xr_wave.specs.Token.{HasNext, IsLineNext, LineAgrees, LineHolds, with_line, written_by_line};
 
 use crate::arguments::{Arguments, places_of_numbers};
-use crate::byte::written_in;
+use crate::byte::{carries_on, written_in};
 use crate::bytes::{Bytes, class_behind, push_place};
 use crate::places::{number_of, place_of};
 use std::alloc::Global;
@@ -151,10 +151,19 @@ impl<'a> Wave<'a> {
         ensures { result ≡ class_seen (job self.now) (class_in self.now (number_of (job self.now) place)) }
     {
         let number = number_of(&self.circuit, place);
+        seen_class(&self.circuit, self.class_by_number(number))
+    }
+
+    /// The class of the place of a number, of one that is written or of the next one. Takes no memory.
+    pub fn class_by_number(&self, number: usize) -> ClassByNumber
+        requires reached { number ≤ length self.now.written }
+        requires within { number < places_of (job self.now) }
+        ensures { result ≡ class_in self.now number }
+    {
         let bytes = Bytes {
             bytes: self.bytes.as_slice(),
         };
-        seen_class(&self.circuit, class_at(&self.circuit, &bytes, number))
+        class_at(&self.circuit, &bytes, number)
     }
 
     /// The argument places of a place that is written, or of the next one, in place order and without doubles. Takes no
@@ -232,6 +241,14 @@ impl<'a> Wave<'a> {
         ensures { result ≡ written_at self.now.written number }
     {
         written_in(self.bytes[number])
+    }
+
+    /// Whether the class of the place of a number is Carried from the step before, as it is.
+    pub(crate) fn is_carried_on(&self, number: usize) -> bool
+        requires { number < length self.now.written }
+        ensures { result ≡ carries_on (class_in self.now number) (before (job self.now) number) }
+    {
+        carries_on(self.bytes[number])
     }
 
     /// The class of the next place, by number.
