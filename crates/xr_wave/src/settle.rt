@@ -1,10 +1,10 @@
 //! Writing the Line places: each spends one token, and appends one line.
 
-ghost use Rattle.std.specs.Prelude.{◌≡◌, IfOk, IfErr};
+ghost use Rattle.std.specs.Prelude.{◌≡◌, ◌↔◌, IsTrue, IfOk, IfErr};
 ghost use Rattle.xr_wave.specs.Advance.{Told};
-ghost use Rattle.xr_wave.specs.Token.{IsLineNext, LineAgrees, LineContradicts, LineHolds, LineYields, budget_line, pair_line, settled_line, with_line, written_by_line};
+ghost use Rattle.xr_wave.specs.Token.{HasNext, IsLineNext, LineAgrees, LineContradicts, LineHolds, LineYields, budget_line, pair_line, settled_line, with_line, written_by_line};
 
-use crate::advance::{Optimistic, certain_written, told};
+use crate::advance::{Optimistic, certain_written, is_optimistic, told};
 use crate::token::{Budget, Pair, Settled};
 use crate::wave::Wave;
 use xr_base::Memory;
@@ -59,6 +59,22 @@ impl<'a> Wave<'a> {
             Ok(wave) => Ok(wave),
             Err((wave, line)) => Err((wave, Budget::from_line(line))),
         }
+    }
+
+    /// Whether a token contradicts what the history knows at the next place. Takes no memory.
+    pub fn contradicts_settled(&self, proof: &Settled) -> bool
+        requires { HasNext self.now }
+        ensures { IsTrue result ↔ LineContradicts self.now (settled_line proof.now) }
+    {
+        is_optimistic(certain_written(proof.value()), self.shown_next())
+    }
+
+    /// Whether a token contradicts what the history knows at the next place. Takes no memory.
+    pub fn contradicts_pair(&self, proof: &Pair) -> bool
+        requires { HasNext self.now }
+        ensures { IsTrue result ↔ LineContradicts self.now (pair_line proof.now) }
+    {
+        self.shown_next().is_known()
     }
 
     /// Gives the wave up over its next place, which the history knows otherwise. Takes no memory.
