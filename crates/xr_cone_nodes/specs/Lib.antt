@@ -1,3 +1,4 @@
 -- Definitions of the nodes of cones.
+pub mod Lanes
 pub mod Nodes
 pub mod Traced

@@ -3,9 +3,11 @@ use Rattle.std.specs.Prelude.{◌≡◌, ℕ, zero, suc, ◌+◌, ◌-◌, ◌<�
 use Rattle.std.specs.List.{AllByRecursion, list_any}
 use Rattle.std.specs.List.Sorted.{IsStrictlyIncreasing}
 use Rattle.xr_cell.specs.declared.value.Value.{Value}
+use Rattle.xr_cell.specs.declared.value.Value.TheVariants.{X}
 use Rattle.xr_cell.specs.Value.{is_unknown}
 use Rattle.xr_design.specs.declared.place.Place.{Place}
-use Rattle.xr_design.specs.World.{bit_at}
+use Rattle.xr_design.specs.World.{bit_at, decided}
+use Rattle.xr_model.specs.Mask.{mask_of}
 use Rattle.xr_model.specs.Node.{NodeBody, carried, ruled, node_bit}
 use Rattle.xr_cone_nodes.specs.declared.node.Node.{Node}
 use Rattle.xr_cone_nodes.specs.declared.node.NodeBody.{NodeBody as Body}
@@ -31,7 +33,7 @@ pub record IsTable (position : ℕ) (arguments : List ℕ) (values : List Value)
   pub few : length arguments ≤ 13
   pub ascending : IsStrictlyIncreasing arguments
   pub before : AllByRecursion (λ argument. argument < position) arguments
-  pub values : length values ≡ 2 ^ length arguments
+  pub long : length values ≡ 2 ^ length arguments
 
 -- A body reads nodes before its position alone.
 abbrev pub StandsAt : ℕ → Body → Type 0
@@ -43,6 +45,10 @@ pub record AreNodes (nodes : List Node) : Type 0 where
   pub some : 0 < length nodes
   pub few : length nodes ≤ 2 ^ 27
   pub each : (position : ℕ) → position < length nodes → StandsAt position (node_at nodes position).body
+
+-- The bit that a table gives: the value whose number the arguments have, or the filling's bit where that is x.
+abbrev pub table_bit : List ℕ → List Value → (ℕ → Bool) → Bool → Bool
+table_bit arguments values bits filling = decided (slice_index_or values (mask_of arguments bits) X) filling
 
 -- A source is a node whose table has x.
 abbrev pub is_source_body : Body → Bool
@@ -91,8 +97,10 @@ nothing position = false
 pub record ConeView : Type 0 where
   pub nodes : List Node
 
--- What is kept beside the nodes: the sources, and the bit of the root where no source is given 1.
-pub record IsKept (nodes : List Node) (sources : List Place) (base : Bool) : Type 0 where
+-- What is kept beside the nodes: which of them are sources, the sources, and the bit of the root where no source is
+-- given 1.
+pub record IsKept (nodes : List Node) (births : List Bool) (sources : List Place) (base : Bool) : Type 0 where
   pub are_nodes : AreNodes nodes
-  pub sources : sources ≡ sources_of nodes
-  pub base : base ≡ root_bit nothing nodes
+  pub are_births : births ≡ map is_source_node nodes
+  pub are_sources : sources ≡ sources_of nodes
+  pub is_base : base ≡ root_bit nothing nodes

@@ -1,5 +1,5 @@
 -- When nodes are the cone of a place of a wave, and what their bits then are.
-use Rattle.std.specs.Prelude.{◌≡◌, ℕ, ◌<◌, Bool, false, List, [], length, map, slice_index}
+use Rattle.std.specs.Prelude.{◌≡◌, ℕ, ◌<◌, Bool, false, List, length, map, slice_index}
 use Rattle.xr_design.specs.declared.place.Place.{Place}
 use Rattle.xr_design.specs.Filling.{IsFilling}
 use Rattle.xr_design.specs.Fits.{place_at}
@@ -33,7 +33,7 @@ pub record IsConeOf (c : Contents) (root : ℕ) (nodes : List Node) : Type 0 whe
   pub places : map place_of_node nodes ≡ map (place_at (job c)) (cone_in c root)
   pub bodies : (position : ℕ) → position < length nodes
       → IsBody (job c) (certain c.written) (cone_in c root) (slice_index (cone_in c root) position)
-        (body_at nodes position)
+      (body_at nodes position)
 
 -- The sources of the nodes are those of the cone.
 abbrev pub SourcesLaw : Type 0

@@ -1,16 +1,22 @@
 //! Cones as nodes in place order, with their sources.
 
-ghost use Rattle.std.specs.Prelude.{◌≡◌};
-ghost use Rattle.xr_cone_nodes.specs.Nodes.{AreNodes, nothing, root_bit, sources_of};
+ghost use Rattle.std.specs.Prelude.{◌≡◌, IfOk, length, map};
+ghost use Rattle.xr_cone_nodes.specs.Lanes.{HasLanes, root_in_lane};
+ghost use Rattle.xr_cone_nodes.specs.Nodes.{AreNodes, is_source_node, nothing, root_bit, sources_of};
 
+use crate::evaluate::root_word;
+use crate::lanes::in_lane;
 use crate::node::Node;
+use std::alloc::Global;
 use std::marker::Model;
+use xr_base::Memory;
 use xr_design::Place;
 
 /// The nodes of a cone, the place that it is of being the last.
 #[derive(Debug, Drop)]
 pub struct Cone {
     nodes: Vec<Node>,
+    births: Vec<bool>,
     sources: Vec<Place>,
     base: bool,
 }
@@ -22,10 +28,27 @@ impl Model for Cone {
 
     ghost view = { λ cone. record { nodes = cone.nodes.items } };
 
-    ghost invariant = { λ cone. IsKept cone.nodes.items cone.sources.items cone.base };
+    ghost invariant = { λ cone. IsKept cone.nodes.items cone.births.items cone.sources.items cone.base };
 }
 
 impl Cone {
+    /// The cone of nodes each of which reads those before it alone. Takes 9 bytes a node, of which it keeps one, and 8 a
+    /// source.
+    pub fn new(alloc: Global, nodes: Vec<Node>) -> Result<Cone, Memory>
+        requires { AreNodes nodes.items }
+        ensures { IfOk result (λ cone. cone.nodes ≡ nodes.items) }
+    {
+        let births = births_of(alloc, &nodes)?;
+        let sources = sources_in(alloc, &nodes)?;
+        let base = base_of(alloc, &nodes, &births)?;
+        Ok(Cone {
+            nodes,
+            births,
+            sources,
+            base,
+        })
+    }
+
     /// The nodes, in place order. Takes no memory.
     pub fn nodes(&self) -> &[Node]
         ensures nodes { result.now ≡ self.now.nodes }
@@ -47,4 +70,39 @@ impl Cone {
     {
         self.base
     }
+
+    pub(crate) fn root_word(&self, given: &[u64], words: &mut [u64]) -> u64
+        requires { length words.old ≡ length self.now.nodes }
+        ensures { HasLanes result (root_in_lane self.now.nodes given.now) }
+    {
+        root_word(self.nodes.as_slice(), self.births.as_slice(), given, words)
+    }
+}
+
+fn births_of(alloc: Global, nodes: &[Node]) -> Result<Vec<bool>, Memory>
+    ensures { IfOk result (λ births. births.items ≡ map is_source_node nodes.now) }
+{
+    let births = nodes.iter().map(|node| node.is_source()).collect(alloc)?;
+    Ok(births)
+}
+
+fn sources_in(alloc: Global, nodes: &[Node]) -> Result<Vec<Place>, Memory>
+    ensures { IfOk result (λ sources. sources.items ≡ sources_of nodes.now) }
+{
+    let sources = nodes
+        .iter()
+        .filter(|node| node.is_source())
+        .map(|node| node.place)
+        .collect(alloc)?;
+    Ok(sources)
+}
+
+fn base_of(alloc: Global, nodes: &[Node], births: &[bool]) -> Result<bool, Memory>
+    requires nodes { AreNodes nodes.now }
+    requires births { births.now ≡ map is_source_node nodes.now }
+    ensures { IfOk result (λ base. base ≡ root_bit nothing nodes.now) }
+{
+    let mut words = vec![in alloc; 0; nodes.len()]?;
+    let word = root_word(nodes, births, &[], words.as_mut_slice());
+    Ok(in_lane(word, 0))
 }

@@ -4,7 +4,11 @@
 #![tactic(auto)]
 
 mod cone;
+mod evaluate;
+mod lanes;
 mod node;
+mod words;
 
 pub use cone::Cone;
 pub use node::{Node, NodeBody};
+pub use words::Words;

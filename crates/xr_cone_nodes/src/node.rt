@@ -1,5 +1,9 @@
 //! Nodes: the places of a cone, by their positions in place order.
 
+ghost use Rattle.std.specs.Prelude.{◌≡◌};
+ghost use Rattle.std.specs.List.{list_any};
+ghost use Rattle.xr_cell.specs.Value.{is_unknown};
+
 use xr_base::Items;
 use xr_cell::Value;
 use xr_design::Place;
@@ -25,4 +29,26 @@ pub enum NodeBody {
 pub struct Node {
     pub place: Place,
     pub body: NodeBody,
+}
+
+impl Node {
+    ghost use Rattle.xr_cone_nodes.specs.Nodes.{is_source_node};
+
+    /// Whether it is a source: its table has x somewhere. Takes no memory.
+    pub fn is_source(&self) -> bool
+        ensures { result ≡ is_source_node self.now }
+    {
+        match &self.body {
+            NodeBody::Carried { .. } => false,
+            NodeBody::Rule { values, .. } => any_unknown(values.as_slice()),
+        }
+    }
+}
+
+fn any_unknown(values: &[Value]) -> bool
+    ensures { result ≡ list_any is_unknown values.now }
+{
+    values
+        .iter()
+        .any(|value| matches!(*value, Value::X | Value::Z))
 }

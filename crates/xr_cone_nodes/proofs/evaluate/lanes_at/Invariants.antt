@@ -1,0 +1,5 @@
+use Rattle.xr_cone_nodes.proofs.LaneWords.{AgreesSoFar}
+use Rattle.xr_cone_nodes.proofs.evaluate.lanes_at.Given as goal
+
+abbrev pub invariant-arguments : goal.invariant-arguments
+invariant-arguments l = AgreesSoFar l.arguments l.words l.number l.lanes l.rest l.argument-index

@@ -1,0 +1,117 @@
+//! The words of nodes: in each of 64 lanes the bit of each node, from the bits that the sources are given there.
+
+ghost use Rattle.std.specs.Prelude.{◌≡◌, ◌+◌, ◌<◌, ◌≤◌, ◌^◌, ◌&&◌, ◌==◌, length, map, slice_index, if◌then◌else◌};
+ghost use Rattle.std.specs.List.{AllByRecursion};
+ghost use Rattle.xr_design.specs.World.{decided};
+ghost use Rattle.xr_model.specs.Class.{flipped};
+ghost use Rattle.xr_model.specs.Mask.{mask_of};
+ghost use Rattle.xr_model.specs.Node.{node_bit};
+ghost use Rattle.xr_cone_nodes.specs.Lanes.{AreWords, HasLanes, in_lane, lane_of, root_in_lane};
+ghost use Rattle.xr_cone_nodes.specs.Nodes.{AreNodes, IsTable, StandsAt, body_of, is_source_node, table_bit};
+
+use crate::node::{Node, NodeBody};
+use xr_cell::Value;
+
+/// The word of the root, where source i has given[i], or 0 where there is no such word.
+pub fn root_word(nodes: &[Node], births: &[bool], given: &[u64], words: &mut [u64]) -> u64
+    requires nodes { AreNodes nodes.now }
+    requires births { births.now ≡ map is_source_node nodes.now }
+    requires room { length words.old ≡ length nodes.now }
+    ensures { HasLanes result (root_in_lane nodes.now given.now) }
+{
+    evaluate(nodes, births, given, words);
+    words[nodes.len() - 1]
+}
+
+/// The words of all nodes.
+fn evaluate(nodes: &[Node], births: &[bool], given: &[u64], words: &mut [u64])
+    requires nodes { AreNodes nodes.now }
+    requires births { births.now ≡ map is_source_node nodes.now }
+    requires room { length words.old ≡ length nodes.now }
+    ensures { AreWords nodes.now given.now words.new (length nodes.now) }
+{
+    let mut sources = 0;
+    'nodes: for position in 0..nodes.len() {
+        let own = word_at(given, sources);
+        words[position] = node_word(&nodes[position].body, &words[..position], own);
+        sources = counted(sources, births[position]);
+    }
+}
+
+fn counted(sources: usize, is_source: bool) -> usize
+    requires { sources < 2 ^ 27 }
+    ensures { result ≡ sources + (if is_source then 1 else 0) }
+{
+    if is_source { sources + 1 } else { sources }
+}
+
+fn word_at(words: &[u64], position: usize) -> u64
+    ensures { result ≡ slice_index words.now position }
+{
+    if position < words.len() {
+        words[position]
+    } else {
+        0
+    }
+}
+
+/// The word of a node, from the words of the nodes before it and the one that it is given if it is a source.
+fn node_word(body: &NodeBody, words: &[u64], own: u64) -> u64
+    requires { StandsAt (length words.now) body.now }
+    ensures { HasLanes result (λ lane. node_bit (lane_of words.now lane) (in_lane own lane) (body_of body.now)) }
+{
+    match body {
+        NodeBody::Carried { node, inverted } => turned(words[*node as usize], *inverted),
+        NodeBody::Rule { arguments, values } => {
+            rule_word(arguments.as_slice(), values.as_slice(), words, own)
+        }
+    }
+}
+
+fn turned(word: u64, inverted: bool) -> u64
+    ensures { HasLanes result (λ lane. flipped inverted (in_lane word lane)) }
+{
+    if inverted { !word } else { word }
+}
+
+/// The word of a table: in each lane the value whose number the arguments have there.
+fn rule_word(arguments: &[u32], values: &[Value], words: &[u64], own: u64) -> u64
+    requires { IsTable (length words.now) arguments.now values.now }
+    ensures { HasLanes result (λ lane. table_bit arguments.now values.now (lane_of words.now lane) (in_lane own lane)) }
+{
+    let mut word = 0;
+    'values: for (number, value) in values.iter().enumerate() {
+        word |= part_word(*value, arguments, number, words, own);
+    }
+    word
+}
+
+/// What one value of the table adds.
+fn part_word(value: Value, arguments: &[u32], number: usize, words: &[u64], own: u64) -> u64
+    requires before { AllByRecursion (λ argument. argument < length words.now) arguments.now }
+    requires small { number < 2 ^ length arguments.now }
+    ensures { HasLanes result
+        (λ lane. (mask_of arguments.now (lane_of words.now lane) == number) && decided value (in_lane own lane)) }
+{
+    match value {
+        Value::Zero => 0,
+        Value::One => lanes_at(arguments, number, words),
+        Value::X => lanes_at(arguments, number, words) & own,
+        Value::Z => lanes_at(arguments, number, words) & own,
+    }
+}
+
+/// The lanes in which the arguments have the bits of a number.
+fn lanes_at(arguments: &[u32], number: usize, words: &[u64]) -> u64
+    requires before { AllByRecursion (λ argument. argument < length words.now) arguments.now }
+    requires small { number < 2 ^ length arguments.now }
+    ensures { HasLanes result (λ lane. mask_of arguments.now (lane_of words.now lane) == number) }
+{
+    let mut lanes = u64::MAX;
+    let mut rest = number;
+    'arguments: for argument in arguments {
+        lanes &= turned(words[*argument as usize], rest % 2 == 0);
+        rest /= 2;
+    }
+    lanes
+}
