@@ -10,7 +10,7 @@ use Rattle.xr_model.specs.Line.{IsOfSources}
 use Rattle.xr_model.specs.Node.{IsBody}
 use Rattle.xr_wave.specs.Contents.{Contents, IsWave, class_in, job}
 use Rattle.xr_cone_nodes.specs.declared.node.Node.{Node}
-use Rattle.xr_cone_nodes.specs.Nodes.{body_at, by_sources, chosen, place_of_node, root_bit, sources_of}
+use Rattle.xr_cone_nodes.specs.Nodes.{AreNodes, body_at, by_sources, chosen, place_of_node, root_bit, sources_of}
 
 -- The places of the cone of a place of a wave, in place order, by their numbers.
 abbrev pub cone_in : Contents → ℕ → List ℕ
@@ -28,6 +28,7 @@ world_in c filling = world_over (job c) c.written filling
 -- each with the body that its class and its rule say.
 pub record IsConeOf (c : Contents) (root : ℕ) (nodes : List Node) : Type 0 where
   pub wave : IsWave c
+  pub are_nodes : AreNodes nodes
   pub reach : InReach (job c) c.written root
   pub free : is_carried (class_in c root) ≡ false
   pub places : map place_of_node nodes ≡ map (place_at (job c)) (cone_in c root)
