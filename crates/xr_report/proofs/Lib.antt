@@ -1,0 +1,5 @@
+-- Lemmas of the report.
+mod Counting
+mod Floating
+mod Growing
+mod Reach

@@ -1,0 +1,74 @@
+-- Places of a wave that its history has too.
+use Rattle.std.proofs.Common.{◌≡◌, ℕ, ◌+◌, ◌-◌, ◌*◌, ◌<◌, length, sym, ap, ◌∙◌, subst, arith, ⊎_elim}
+use Rattle.xr_design.specs.Filling.{IsPlace}
+use Rattle.xr_design.specs.Fits.{Fits, place_at}
+use Rattle.xr_design.specs.Handed.{HasPlaces, IsHandedIn, IsReplay, IsBlank}
+use Rattle.xr_design.specs.History.{HistoryView, HasPlace}
+use Rattle.xr_design.specs.Job.{Job, number_of, places_of}
+use Rattle.xr_design.specs.Settled.{last_step}
+use Rattle.xr_design.specs.declared.place.Place.{Place}
+use Rattle.xr_design.proofs.Numbers.{is_place_at, number_of_place_at}
+use Rattle.xr_design.proofs.Reaching.{step_small}
+use Rattle.xr_design.proofs.Rules.{position_in}
+use Rattle.xr_report.specs.Finished.{HasMoments, IsFinished, IsThere}
+use Rattle.xr_wave.specs.Contents.{Contents, IsWave, job}
+
+-- A history that is handed in has each place of the job.
+handed_places : (j : Job) (history : HistoryView) → IsHandedIn j history → HasPlaces j history
+handed_places j history handed = ⊎_elim (λ (is : IsReplay j history). is.places) (λ (is : IsBlank j history). is.places) handed
+
+has_place : (j : Job) (history : HistoryView) (place : Place) → HasPlaces j history → IsPlace j place → HasPlace history place
+has_place j history place has is =
+    let nets = has.nets in
+    let all = has.all in
+    let net = is.net in
+    let room = step_small j.width place.step (j.moments * j.rounds) is.step in
+    record { net = omega (arith, nets, net); step = rw nets (omega (arith, all, net, room)) }
+
+-- The number of a place of the job is below the count.
+number_within : (j : Job) → Fits j → (place : Place) → IsPlace j place → number_of j place < places_of j
+number_within j fits place is =
+    let room = step_small j.width place.step (j.moments * j.rounds) is.step in
+    let low = position_in j fits place.net is.net in
+    omega (arith, room, low)
+
+there : (c : Contents) → IsWave c → (place : Place) → IsPlace (job c) place → number_of (job c) place < length c.written
+    → IsThere c place
+there c wave place is less = record {
+  written = record { within = is; written = less };
+  history = has_place (job c) c.history place (handed_places (job c) c.history wave.handed) is;
+}
+
+-- The place of a number that is written is there.
+there_at : (c : Contents) → IsWave c → (number : ℕ) → number < length c.written → IsThere c (place_at (job c) number)
+there_at c wave number less =
+    let j = job c in
+    let fits = wave.fits.fits_job in
+    let room = wave.holds.sound.within in
+    let within : number < places_of j = omega (arith, room, less) in
+    there c wave (place_at j number) (is_place_at j number fits.ordering fits.all within)
+    (rw (number_of_place_at j number fits.ordering fits.all within) less)
+
+-- So is the place that has the number in the same job.
+pub there_as : (c : Contents) → IsWave c → (j : Job) → j ≡ job c → (number : ℕ) → number < length c.written
+    → (place : Place) → place ≡ place_at j number → (place ≡ place_at (job c) number) × IsThere c place
+there_as c wave j same number less place is =
+    let at : place ≡ place_at (job c) number = is ∙ ap (λ (i : Job). place_at i number) same in
+    (at, subst (IsThere c) (sym at) (there_at c wave number less))
+
+-- The last step of a moment is one of the job's.
+last_within : (j : Job) → Fits j → (moment : ℕ) → moment < j.moments → last_step j moment < j.moments * j.rounds
+last_within j fits moment less =
+    let room = step_small j.rounds moment j.moments less in
+    let some = fits.some_round in
+    omega (arith, room, some)
+
+-- In a finished wave each net's place at the last step of each moment is there.
+pub moments_there : (c : Contents) → IsWave c → IsFinished c → HasMoments c
+moments_there c wave finished = λ moment less net within.
+    let j = job c in
+    let fits = wave.fits.fits_job in
+    let place : Place = record { step = last_step j moment; net = net } in
+    let is : IsPlace j place = record { step = last_within j fits moment less; net = within } in
+    let low = number_within j fits place is in
+    there c wave place is (omega (arith, finished, low))

@@ -1,0 +1,6 @@
+-- Definitions of the report of a repair.
+pub mod Bits
+pub mod Counts
+pub mod Finished
+pub mod Head
+pub mod Lines

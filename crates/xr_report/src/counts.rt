@@ -1,0 +1,78 @@
+//! How many places of a wave have which end.
+
+ghost use Rattle.std.specs.Prelude.{◌≡◌, ◌<◌, ◌^◌, length};
+ghost use Rattle.xr_design.specs.Circuit.{job_in, CircuitFits};
+ghost use Rattle.xr_design.specs.Fits.{place_at};
+ghost use Rattle.xr_design.specs.Job.{places_of};
+ghost use Rattle.xr_report.specs.Counts.{counts_of, total, with_place};
+
+use xr_cell::Value;
+use xr_design::{Circuit, Mark, Place, spot_of};
+use xr_wave::Wave;
+
+/// How many written places have which end.
+#[derive(Clone, Copy, Debug, PartialEq, Eq)]
+pub struct Counts {
+    /// Certain places that the history knows.
+    pub known: u32,
+    /// Certain places that the history doesn't know.
+    pub repaired: u32,
+    /// Unknown places.
+    pub unknown: u32,
+    /// Undecided places.
+    pub undecided: u32,
+}
+
+impl Counts {
+    /// Counts a place with this mark, at which the history shows this value.
+    fn add(&mut self, mark: Mark, shown: Value)
+        requires { total self.old < 2 ^ 31 }
+        ensures { self.new ≡ with_place self.old mark shown }
+    {
+        match mark {
+            Mark::Certain => {
+                if shown.is_known() {
+                    self.known += 1;
+                } else {
+                    self.repaired += 1;
+                }
+            }
+            Mark::Unknown => self.unknown += 1,
+            Mark::Undecided => self.undecided += 1,
+        }
+    }
+}
+
+/// How many written places of a wave have which end. Takes no memory, and time linear in the places.
+pub fn counts_of(wave: &Wave<'_>) -> Counts
+    ensures counts { result ≡ counts_of wave.now }
+    ensures all { total result ≡ length wave.now.written }
+{
+    let circuit = wave.circuit();
+    let history = wave.replayed();
+    let count = wave.count();
+    let mut counts = Counts {
+        known: 0,
+        repaired: 0,
+        unknown: 0,
+        undecided: 0,
+    };
+    'places: for number in 0..count {
+        let place = place_of(&circuit, number);
+        counts.add(wave.mark(place), history.shown(place));
+    }
+    counts
+}
+
+/// The place of a number.
+fn place_of(circuit: &Circuit<'_>, number: usize) -> Place
+    requires fits { CircuitFits circuit.now }
+    requires within { number < places_of (job_in circuit.now) }
+    ensures { result ≡ place_at (job_in circuit.now) number }
+{
+    let spot = spot_of(circuit, number);
+    Place {
+        step: spot.step as u32,
+        net: spot.net as u32,
+    }
+}
