@@ -1,0 +1,3 @@
+-- Definitions of choices by numbers.
+pub mod Choices
+pub mod Halves

@@ -1,0 +1,45 @@
+//! Choices of bits for some arguments, by numbers.
+
+ghost use Rattle.std.specs.Prelude.{◌≡◌, ◌<◌};
+
+/// Bits for some arguments: bit k of `care` says whether argument k is chosen, bit k of `bits` is its bit.
+#[derive(Clone, Copy, Debug, PartialEq, Eq)]
+pub struct Choice {
+    pub care: u16,
+    pub bits: u16,
+}
+
+impl Choice {
+    ghost use Rattle.xr_cone_choices.specs.Choices.{IsAmong, bits_in, chosen_in};
+    ghost use Rattle.xr_cone_choices.specs.Halves.{with_argument};
+
+    /// Whether an argument is chosen. Takes no memory.
+    pub fn has(&self, argument: usize) -> bool
+        requires { argument < 16 }
+        ensures { result ≡ chosen_in self.now argument }
+    {
+        (self.care >> argument) % 2 == 1
+    }
+
+    /// The bit of an argument, 0 where it isn't chosen. Takes no memory.
+    pub fn bit(&self, argument: usize) -> bool
+        requires { argument < 16 }
+        ensures { result ≡ bits_in self.now argument }
+    {
+        (self.bits >> argument) % 2 == 1
+    }
+
+    /// The choice of the same bits and a bit for the next argument. Takes no memory.
+    #[tactic(auto, using(crate::proofs::ChoiceBits::power_small))]
+    pub(crate) fn with_argument(self, count: usize, last: bool) -> Choice
+        requires few { count < 13 }
+        requires among { IsAmong count self }
+        ensures { result ≡ with_argument count last self }
+    {
+        let next: u16 = 1 << count;
+        Choice {
+            care: self.care + next,
+            bits: if last { self.bits + next } else { self.bits },
+        }
+    }
+}

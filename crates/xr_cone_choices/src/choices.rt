@@ -1,0 +1,99 @@
+//! The minimal choices of a table.
+
+ghost use Rattle.std.specs.Prelude.{◌≡◌, ◌≤◌, ◌^◌, ◌∷◌, [], ◌↔◌, IfOk, IsTrue, length};
+ghost use Rattle.std.specs.List.{Contains};
+ghost use Rattle.xr_cell.specs.Value.{bit_value};
+ghost use Rattle.xr_cone_choices.specs.Choices.{AreChoices, AreMinimalChoices, HasTable, IsTable, nothing_chosen};
+
+use crate::choice::Choice;
+use crate::halves::{both_of, split_last};
+use crate::joined::add_alone;
+use std::alloc::Global;
+use xr_base::Memory;
+use xr_cell::Value;
+
+/// The minimal choices of arguments' bits that force a bit in a table, each once. The value at number i is that of the
+/// bits of i. Takes four bytes for each choice of the table and of its halves on the way, and a byte for each value, in
+/// steps that double.
+pub fn minimal_choices(alloc: Global, values: &[Value], bit: bool) -> Result<Vec<Choice>, Memory>
+    requires { HasTable values.now }
+    ensures { IfOk result (λ choices. AreMinimalChoices values.now bit choices.items) }
+{
+    choices_of(alloc, values, count_of(values), bit)
+}
+
+/// How many arguments a table has.
+fn count_of(values: &[Value]) -> usize
+    requires { HasTable values.now }
+    ensures { IsTable result values.now }
+{
+    'counts: for count in 0..13 {
+        if values.len() == 1 << count {
+            return count;
+        }
+    }
+    13
+}
+
+/// The choices that force the bit in both halves, and behind them those of each half alone.
+fn choices_of(
+    alloc: Global,
+    values: &[Value],
+    count: usize,
+    bit: bool,
+) -> Result<Vec<Choice>, Memory>
+    requires { IsTable count values.now }
+    ensures { IfOk result (λ choices. AreChoices values.now count bit choices.items) }
+{
+    if !has_bit(values, bit) {
+        return Ok(Vec::new(alloc));
+    }
+    if count == 0 {
+        return of_nothing(alloc);
+    }
+    let last = count - 1;
+    let (low, high) = split_last(values, last);
+    let both = both_of(alloc, low, high, bit)?;
+    let mut choices = choices_of(alloc, &both, last, bit)?;
+    let zeros = choices_of(alloc, low, last, bit)?;
+    add_alone(&mut choices, &zeros, high, last, bit, false)?;
+    let ones = choices_of(alloc, high, last, bit)?;
+    add_alone(&mut choices, &ones, low, last, bit, true)?;
+    Ok(choices)
+}
+
+/// The one choice of no arguments.
+fn of_nothing(alloc: Global) -> Result<Vec<Choice>, Memory>
+    ensures { IfOk result (λ choices. choices.items ≡ nothing_chosen ∷ []) }
+{
+    let mut choices = Vec::new(alloc);
+    choices.push(Choice { care: 0, bits: 0 })?;
+    Ok(choices)
+}
+
+/// Whether some value is the bit.
+fn has_bit(values: &[Value], bit: bool) -> bool
+    ensures { IsTrue result ↔ Contains values.now (bit_value bit) }
+{
+    values.contains(&Value::from_bit(bit))
+}
+
+#[cfg(test)]
+mod tests {
+    use super::*;
+    use std::test::Fail;
+
+    #[test]
+    fn choices_of_and_and_parity(rt: HostRuntime) -> Result<(), Fail> {
+        let (zero, one) = (Value::Zero, Value::One);
+        let and = minimal_choices(rt.alloc(), &[zero, zero, zero, one], false)?;
+        let parity = [zero, one, one, zero, one, zero, zero, one];
+        let odd = minimal_choices(rt.alloc(), &parity, true)?;
+        let first = Choice { care: 1, bits: 0 };
+        let second = Choice { care: 2, bits: 0 };
+        assert_eq!(rt; and.as_slice(), [first, second].as_slice());
+        assert_eq!(rt; odd.len(), 4);
+        assert!(rt; odd.iter().all(|choice| choice.care == 7));
+        Ok(())
+    }
+}
