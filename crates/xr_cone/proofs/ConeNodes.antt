@@ -1,0 +1,338 @@
+-- Nodes that are made of the places of a cone, the least first.
+use Rattle.std.proofs.Common.{◌≡◌, ℕ, zero, suc, ◌+◌, ◌<◌, ◌≤◌, ◌^◌, ◌==◌, Bool, true, false, Result, Ok, Err, IfOk, List, [], ◌∷◌, ◌++◌, length, map, reverse, slice_index, slice_index_or, if◌then◌else◌, refl, sym, ap, ◌∙◌, subst, arith, ◌⊎◌, inl, inr, ⊎_elim, append_assoc, length-append}
+use Rattle.std.specs.List.{AllByRecursion}
+use Rattle.std.specs.List.Sorted.{IsStrictlyIncreasing}
+use Rattle.std.proofs.Math.ListN.{get_or-append}
+use Rattle.std.proofs.Math.Seq.{get_or-append_seam}
+use Rattle.std.proofs.lemmas.Bool.{cases_eq, eq-eqb}
+use Rattle.std.proofs.lemmas.List.{append-nil, length-map, map-append, reverse-append}
+use Rattle.xr_cell.specs.declared.value.Value.{Value}
+use Rattle.xr_design.specs.declared.place.Place.{Place}
+use Rattle.xr_design.specs.Fits.{Fits, place_at}
+use Rattle.xr_design.specs.Job.{Job, places_of}
+use Rattle.xr_design.specs.Waveform.{certain}
+use Rattle.xr_model.specs.Cone.{cone, essentials, in_cone, is_carried, is_essential, supports}
+use Rattle.xr_model.specs.Laws.{InReach}
+use Rattle.xr_model.specs.Node.{IsBody}
+use Rattle.xr_model.specs.Places.{among, places_where}
+use Rattle.xr_model.specs.declared.class.ClassByNumber.{ClassByNumber}
+use Rattle.xr_model.specs.declared.class.ClassByNumber.TheVariants as class
+use Rattle.xr_model.proofs.Cones.{cone_closed, cone_self, cone_within, supports_below}
+use Rattle.xr_model.proofs.PlacesWhere.{all_among, among_all, contains_among, in_picked, or_left, or_right, picked_in, picked_rises}
+use Rattle.xr_model.proofs.TracedCones.{values_are}
+use Rattle.xr_wave.specs.Contents.{Contents, IsWave, class_in, job}
+use Rattle.xr_cone_nodes.specs.Nodes.{AreNodes, StandsAt, body_at, body_of, no_node, node_at, place_of_node}
+use Rattle.xr_cone_nodes.specs.Traced.{IsConeOf}
+use Rattle.xr_cone_nodes.specs.declared.node.Node.{Node}
+use Rattle.xr_cone_nodes.specs.declared.node.NodeBody.{NodeBody as Body}
+use Rattle.xr_cone_nodes.specs.declared.node.NodeBody.TheVariants as node
+use Rattle.xr_cone.specs.Placed.{IsPlaced}
+use Rattle.xr_cone.specs.Traced.{AreTraced, IsBodyOf, IsTraced, place_in, places_in, supports_in}
+use Rattle.xr_cone.specs.declared.traced.Traced.{Traced}
+use Rattle.xr_cone.specs.declared.traced.TracedBody.{TracedBody}
+use Rattle.xr_cone.specs.declared.traced.TracedBody.TheVariants.{Carried, Rule}
+use Rattle.xr_cone.proofs.RisingLists.{front_increases, positions_increase, stands_before}
+use Rattle.xr_cone.proofs.TracedBodies.{supports_are}
+
+-- What is made so far of a cone: its first places, with their nodes, and those that are left, the greatest first.
+pub record IsMade (j : Job) (c : ℕ → Value) (root : ℕ) (places : List ℕ) (rest : List Traced)
+    (nodes : List Node) : Type 0 where
+  pub parts : places ++ reverse (places_in rest) ≡ cone j c root
+  pub each : AllByRecursion (IsTraced j c) rest
+  pub named : map place_of_node nodes ≡ map (place_at j) places
+  pub bodies : (position : ℕ) → position < length nodes
+      → IsBody j c (cone j c root) (slice_index (cone j c root) position) (body_at nodes position)
+  pub stands : (position : ℕ) → position < length nodes → StandsAt position (node_at nodes position).body
+
+pub made_begins : (j : Job) (c : ℕ → Value) (root : ℕ) (places : List ℕ) (rest : List Traced) (nodes : List Node)
+    → AreTraced j c root rest → places ≡ [] → nodes ≡ [] → IsMade j c root places rest nodes
+made_begins j c root places rest nodes traced none none_too =
+    subst (λ ps. IsMade j c root ps rest nodes) (sym none)
+    (subst (λ ns. IsMade j c root [] rest ns) (sym none_too) (record {
+      parts = traced.places;
+      each = traced.each;
+      named = refl;
+      bodies = λ position less. absurd (omega arith);
+      stands = λ position less. absurd (omega arith);
+    }))
+
+all_split : {A : Type 0} (P : A → Type 0) (xs : List A) (x : A) → AllByRecursion P (xs ++ x ∷ [])
+    → AllByRecursion P xs × P x
+all_split P [] x all = (tt, all.0)
+all_split P (y ∷ ys) x all = (let rest = all_split P ys x all.1 in ((all.0, rest.0), rest.1))
+
+-- The last of those that are left comes next.
+next_parts : (places : List ℕ) (left : List Traced) (t : Traced)
+    → places ++ reverse (places_in (left ++ t ∷ [])) ≡ places ++ t.place ∷ reverse (places_in left)
+next_parts places left t =
+    ap (λ xs. places ++ xs) (ap reverse (map-append place_in left (t ∷ []))
+    ∙ reverse-append (places_in left) (t.place ∷ []))
+
+-- The places before it, when it comes next.
+pub record IsNext (j : Job) (c : ℕ → Value) (root : ℕ) (places : List ℕ) (t : Traced) (left : List Traced) : Type 0 where
+  pub parts : places ++ t.place ∷ reverse (places_in left) ≡ cone j c root
+  pub traced : IsTraced j c t
+  pub each : AllByRecursion (IsTraced j c) left
+
+pub made_next : (j : Job) (c : ℕ → Value) (root : ℕ) (places : List ℕ) (rest left : List Traced) (t : Traced)
+    (nodes : List Node) → IsMade j c root places rest nodes → rest ≡ left ++ t ∷ []
+    → IsNext j c root places t left
+made_next j c root places rest left t nodes made rest_is =
+    let all : AllByRecursion (IsTraced j c) (left ++ t ∷ []) = rw rest_is at made.each in
+    let split = all_split (IsTraced j c) left t all in
+    record {
+      parts = sym (ap (λ ts. places ++ reverse (places_in ts)) rest_is ∙ next_parts places left t) ∙ made.parts;
+      traced = split.1;
+      each = split.0;
+    }
+
+cone_rises : (j : Job) (c : ℕ → Value) (root : ℕ) → IsStrictlyIncreasing (cone j c root)
+cone_rises j c root = picked_rises (in_cone j c root) (root + 1)
+
+pub next_rises : (j : Job) (c : ℕ → Value) (root : ℕ) (places : List ℕ) (t : Traced) (left : List Traced)
+    → IsNext j c root places t left → IsStrictlyIncreasing places
+next_rises j c root places t left next =
+    front_increases places (t.place ∷ reverse (places_in left))
+    (subst IsStrictlyIncreasing (sym next.parts) (cone_rises j c root))
+
+few_picked : (test : ℕ → Bool) (n : ℕ) → length (places_where test n) ≤ n
+few_picked test zero = omega arith
+few_picked test (suc n) = one (test n) (few_picked test n)
+  where
+    one : (b : Bool) → length (places_where test n) ≤ n
+        → length (if b then places_where test n ++ n ∷ [] else places_where test n) ≤ suc n
+    one true up = let long = length-append (places_where test n) (n ∷ []) in omega (arith, long, up)
+    one false up = omega (arith, up)
+
+pub next_few : (j : Job) → Fits j → (c : ℕ → Value) (root : ℕ) (places : List ℕ) (t : Traced) (left : List Traced)
+    → root < places_of j → IsNext j c root places t left → length places < 2 ^ 27
+next_few j fits c root places t left within next =
+    let few = few_picked (in_cone j c root) (root + 1) in
+    let most = fits.few_places in
+    let whole = ap length next.parts in
+    let long = length-append places (t.place ∷ reverse (places_in left)) in
+    omega (arith, few, most, whole, long, within)
+
+in_here : (xs : List ℕ) (p : ℕ) (ys : List ℕ) → among (xs ++ p ∷ ys) p ≡ true
+in_here [] p ys = or_left (p == p) (among ys p) (eq-eqb p p refl)
+in_here (x ∷ xs) p ys = or_right (x == p) (among (xs ++ p ∷ ys) p) (in_here xs p ys)
+
+-- Its supports stand before it.
+pub next_supports : (j : Job) → Fits j → (c : ℕ → Value) (root : ℕ) (places : List ℕ) (t : Traced) (left : List Traced)
+    → root < places_of j → IsNext j c root places t left
+    → AllByRecursion (λ k. among places k ≡ true) (supports_in t.body)
+next_supports j fits c root places t left within next =
+    subst (AllByRecursion (λ k. among places k ≡ true)) (sym (supports_are j c t.place t.body next.traced))
+    (among_all _ (supports j c t.place) before)
+  where
+    whole : List ℕ
+    whole = places ++ t.place ∷ reverse (places_in left)
+
+    of_cone : in_cone j c root t.place ≡ true
+    of_cone = (in_picked (in_cone j c root) (root + 1) t.place
+        (subst (λ xs. among xs t.place ≡ true) next.parts (in_here places t.place (reverse (places_in left))))).1
+
+    before : (k : ℕ) → among (supports j c t.place) k ≡ true → among places k ≡ true
+    before k at =
+        let up = cone_within j fits c root t.place within of_cone in
+        let low : k < t.place = all_among (λ i. i < t.place) (supports j c t.place) k
+        (supports_below j fits c t.place (omega (arith, up, within))) at in
+        let inside = cone_closed j fits c root t.place k within of_cone at in
+        let there : among (cone j c root) k ≡ true = picked_in (in_cone j c root) (root + 1) k (omega (arith, low, up)) inside in
+        stands_before places t.place (reverse (places_in left)) k
+        (subst IsStrictlyIncreasing (sym next.parts) (cone_rises j c root))
+        (subst (λ xs. among xs k ≡ true) (sym next.parts) there) low
+
+front_index : (xs ys : List ℕ) (i : ℕ) → i < length xs → slice_index (xs ++ ys) i ≡ slice_index xs i
+front_index xs ys i less = get_or-append xs ys 0 i less
+
+front_map : (xs ys positions : List ℕ) → AllByRecursion (λ p. p < length xs) positions
+    → map (slice_index (xs ++ ys)) positions ≡ map (slice_index xs) positions
+front_map xs ys [] within = refl
+front_map xs ys (p ∷ ps) within = rw (front_index xs ys p within.0, front_map xs ys ps within.1) refl
+
+all_up : (a b : ℕ) (xs : List ℕ) → a ≤ b → AllByRecursion (λ p. p < a) xs → AllByRecursion (λ p. p < b) xs
+all_up a b [] up all = tt
+all_up a b (x ∷ xs) up all = ((let less = all.0 in omega (arith, less, up)), all_up a b xs up all.1)
+
+-- A body by positions among the first places of the cone is that of the place.
+placed_body : (j : Job) → Fits j → (c : ℕ → Value) (place : ℕ) (places others : List ℕ) (body : TracedBody)
+    (made : Body) → place < places_of j → IsBodyOf j c place body → IsPlaced places body made
+    → IsBody j c (places ++ others) place (body_of made)
+placed_body j fits c place places others (Carried from inverted) (node.Carried position flips) within is placed =
+    let long = length-append places others in
+    let low = placed.within in
+    record {
+      within = omega (arith, long, low);
+      class = is ∙ ap (λ f. class.Carried f inverted) (sym (front_index places others position low ∙ placed.place))
+          ∙ ap (λ b. class.Carried (slice_index (places ++ others) position) b) (sym placed.same);
+    }
+placed_body j fits c place places others (Carried from inverted) (node.Rule positions kept) within is placed = absurd placed
+placed_body j fits c place places others (Rule arguments values) (node.Carried position flips) within is placed = absurd placed
+placed_body j fits c place places others (Rule arguments values) (node.Rule positions kept) within is placed =
+    let long = length-append places others in
+    record {
+      free = is.free;
+      within = all_up (length places) (length (places ++ others)) positions (omega (arith, long)) placed.within;
+      are_essential = front_map places others positions placed.within ∙ placed.are_places ∙ is.are_essential;
+      are_values = values_are j fits c place kept within (λ number less. rw (placed.same, ← is.are_essential)
+          (is.is_table.are_values number (rw is.are_essential less)));
+    }
+
+essentials_rise : (j : Job) (c : ℕ → Value) (place : ℕ) → IsStrictlyIncreasing (essentials j c place)
+unfolding essentials
+essentials_rise j c place = picked_rises (is_essential j c place) place
+
+-- It stands before its place.
+placed_stands : (j : Job) (c : ℕ → Value) (place : ℕ) (places : List ℕ) (body : TracedBody) (made : Body)
+    → IsStrictlyIncreasing places → IsBodyOf j c place body → IsPlaced places body made → StandsAt (length places) made
+placed_stands j c place places (Carried from inverted) (node.Carried position flips) rises is placed = placed.within
+placed_stands j c place places (Carried from inverted) (node.Rule positions kept) rises is placed = absurd placed
+placed_stands j c place places (Rule arguments values) (node.Carried position flips) rises is placed = absurd placed
+placed_stands j c place places (Rule arguments values) (node.Rule positions kept) rises is placed =
+    let same : length positions ≡ length arguments = sym (length-map positions (slice_index places))
+    ∙ ap length placed.are_places in
+    let few = is.few in
+    record {
+      few = omega (arith, same, few);
+      ascending = positions_increase places positions rises placed.within
+          (subst IsStrictlyIncreasing (sym (placed.are_places ∙ is.are_essential)) (essentials_rise j c place));
+      before = placed.within;
+      long = ap length placed.same ∙ is.is_table.long ∙ ap (λ n. 2 ^ n) (sym same);
+    }
+
+pub next_within : (j : Job) → Fits j → (c : ℕ → Value) (root : ℕ) (places : List ℕ) (t : Traced) (left : List Traced)
+    → root < places_of j → IsNext j c root places t left → t.place < places_of j
+next_within j fits c root places t left within next =
+    let low = (in_picked (in_cone j c root) (root + 1) t.place
+    (subst (λ xs. among xs t.place ≡ true) next.parts (in_here places t.place (reverse (places_in left))))).0 in
+    omega (arith, low, within)
+
+length_named : (j : Job) (places : List ℕ) (nodes : List Node) → map place_of_node nodes ≡ map (place_at j) places
+    → length nodes ≡ length places
+length_named j places nodes named =
+    sym (length-map nodes place_of_node) ∙ ap length named ∙ length-map places (place_at j)
+
+last_or_before : (n k : ℕ) → k < n + 1 → (k ≡ n) ⊎ (k < n)
+last_or_before n k less = ⊎_elim (λ (e : k ≡ n). inl e) (λ (e : k ≡ n → ⊥). inr (omega arith)) (cases_eq k n)
+
+pushed : (j : Job) → Fits j → (c : ℕ → Value) (root : ℕ) (places : List ℕ) (rest left : List Traced) (t : Traced)
+    (nodes : List Node) (body : Body) → root < places_of j → IsMade j c root places rest nodes
+    → IsNext j c root places t left → IsPlaced places t.body body
+    → IsMade j c root (places ++ t.place ∷ []) left (nodes ++ record { place = place_at j t.place; body = body } ∷ [])
+pushed j fits c root places rest left t nodes body within made next placed = record {
+  parts = append_assoc places (t.place ∷ []) (reverse (places_in left)) ∙ next.parts;
+  each = next.each;
+  named = map-append place_of_node nodes (last ∷ []) ∙ ap (λ xs. xs ++ place_at j t.place ∷ []) made.named
+      ∙ sym (map-append (place_at j) places (t.place ∷ []));
+  bodies = λ position less. ⊎_elim (last_body position) (old_body position)
+      (last_or_before (length nodes) position (more position less));
+  stands = λ position less. ⊎_elim (last_stands position) (old_stands position)
+      (last_or_before (length nodes) position (more position less));
+}
+  where
+    last : Node
+    last = record { place = place_at j t.place; body = body }
+
+    whole : List ℕ
+    whole = cone j c root
+
+    more : (position : ℕ) → position < length (nodes ++ last ∷ []) → position < length nodes + 1
+    more position less = let long = length-append nodes (last ∷ []) in omega (arith, less, long)
+
+    same : length nodes ≡ length places
+    same = length_named j places nodes made.named
+
+    last_at : (position : ℕ) → position ≡ length nodes → node_at (nodes ++ last ∷ []) position ≡ last
+    last_at position e = ap (node_at (nodes ++ last ∷ [])) e ∙ get_or-append_seam nodes last [] no_node
+
+    old_at : (position : ℕ) → position < length nodes → node_at (nodes ++ last ∷ []) position ≡ node_at nodes position
+    old_at position less = get_or-append nodes (last ∷ []) no_node position less
+
+    place_here : (position : ℕ) → position ≡ length nodes → slice_index whole position ≡ t.place
+    place_here position e = ap (slice_index whole) (e ∙ same) ∙ ap (λ xs. slice_index xs (length places)) (sym next.parts)
+        ∙ get_or-append_seam places t.place (reverse (places_in left)) 0
+
+    is_body : IsBody j c whole t.place (body_of body)
+    is_body = subst (λ xs. IsBody j c xs t.place (body_of body)) next.parts
+        (placed_body j fits c t.place places (t.place ∷ reverse (places_in left)) t.body body
+        (next_within j fits c root places t left within next) next.traced placed)
+
+    last_body : (position : ℕ) → position ≡ length nodes
+        → IsBody j c whole (slice_index whole position) (body_at (nodes ++ last ∷ []) position)
+    last_body position e = subst (λ b. IsBody j c whole (slice_index whole position) b)
+        (sym (ap (λ (n : Node). body_of n.body) (last_at position e)))
+        (subst (λ p. IsBody j c whole p (body_of body)) (sym (place_here position e)) is_body)
+
+    old_body : (position : ℕ) → position < length nodes
+        → IsBody j c whole (slice_index whole position) (body_at (nodes ++ last ∷ []) position)
+    old_body position less = subst (λ b. IsBody j c whole (slice_index whole position) b)
+        (sym (ap (λ (n : Node). body_of n.body) (old_at position less))) (made.bodies position less)
+
+    last_stands : (position : ℕ) → position ≡ length nodes → StandsAt position (node_at (nodes ++ last ∷ []) position).body
+    last_stands position e = subst (λ (n : Node). StandsAt position n.body) (sym (last_at position e))
+        (subst (λ p. StandsAt p body) (sym (e ∙ same))
+        (placed_stands j c t.place places t.body body (next_rises j c root places t left next) next.traced placed))
+
+    old_stands : (position : ℕ) → position < length nodes → StandsAt position (node_at (nodes ++ last ∷ []) position).body
+    old_stands position less = subst (λ (n : Node). StandsAt position n.body) (sym (old_at position less))
+        (made.stands position less)
+
+-- The next place with its node.
+pub made_more : (j : Job) → Fits j → (c : ℕ → Value) (root : ℕ) (places all : List ℕ) (rest left : List Traced)
+    (t : Traced) (nodes every : List Node) (place : Place) (body : Body) → root < places_of j
+    → IsMade j c root places rest nodes → IsNext j c root places t left → IsPlaced places t.body body
+    → place ≡ place_at j t.place → every ≡ nodes ++ record { place = place; body = body } ∷ []
+    → all ≡ places ++ t.place ∷ [] → IsMade j c root all left every
+made_more j fits c root places all rest left t nodes every place body within made next placed place_is every_is all_is =
+    subst (λ ps. IsMade j c root ps left every) (sym all_is)
+    (subst (λ ns. IsMade j c root (places ++ t.place ∷ []) left ns)
+    (sym (every_is ∙ ap (λ (p : Place). nodes ++ record { place = p; body = body } ∷ []) place_is))
+    (pushed j fits c root places rest left t nodes body within made next placed))
+
+-- Where none is left, the nodes are the cone.
+pub made_ends : (c : Contents) (root : ℕ) (places : List ℕ) (rest : List Traced) (nodes : List Node) → IsWave c
+    → InReach (job c) c.written root → class_in c root ≡ class.Line
+    → IsMade (job c) (certain c.written) root places rest nodes → rest ≡ [] → IsConeOf c root nodes
+made_ends c root places rest nodes wave reach line made none = record {
+  wave = wave;
+  are_nodes = record { some = some; few = few; each = made.stands };
+  reach = reach;
+  free = ap is_carried line;
+  places = made.named ∙ ap (map (place_at j)) all;
+  bodies = made.bodies;
+}
+  where
+    j : Job
+    j = job c
+
+    known : ℕ → Value
+    known = certain c.written
+
+    all : places ≡ cone j known root
+    all = sym (append-nil places) ∙ sym (ap (λ ts. places ++ reverse (places_in ts)) none) ∙ made.parts
+
+    same : length nodes ≡ length (cone j known root)
+    same = length_named j places nodes made.named ∙ ap length all
+
+    some : 0 < length nodes
+    some = (let inside = cone_self j wave.fits.fits_job known root reach.within in
+        let there = contains_among (cone j known root) root
+        (picked_in (in_cone j known root) (root + 1) root (omega arith) inside) in
+        let less = there.1 in omega (arith, less, same))
+
+    few : length nodes ≤ 2 ^ 27
+    few = (let up = few_picked (in_cone j known root) (root + 1) in
+        let within = reach.within in
+        let most = wave.fits.fits_job.few_places in
+        omega (arith, up, within, most, same))
+
+pub ends_ok : {T E : Type 0} (nodes_in : T → List Node) (c : Contents) (root : ℕ) (result : Result T E)
+    (nodes : List Node) → IfOk result (λ cone. nodes_in cone ≡ nodes) → IsConeOf c root nodes
+    → IfOk result (λ cone. IsConeOf c root (nodes_in cone))
+ends_ok nodes_in c root (Ok cone) nodes same is = subst (IsConeOf c root) (sym same) is
+ends_ok nodes_in c root (Err e) nodes same is = tt
+
+pub none_left : (rest : List Traced) → length rest ≡ 0 → rest ≡ []
+none_left [] none = refl
+none_left (t ∷ ts) none = absurd (omega arith)

@@ -1,0 +1,10 @@
+-- The positions of the arguments so far.
+use Rattle.std.proofs.Common.{◌≡◌, ◌<◌, length, map, take, slice_index}
+use Rattle.std.specs.List.{AllByRecursion}
+use Rattle.xr_cone.proofs.nodes.positions_of.Given as goal
+
+abbrev pub invariant-arguments : goal.invariant-arguments
+invariant-arguments l = record {
+  within : AllByRecursion (λ p. p < length l.places) l.positions.items;
+  are_places : map (slice_index l.places) l.positions.items ≡ take l.argument-index l.arguments;
+}

@@ -1,0 +1,32 @@
+-- The table that is cut down is that over the essential arguments.
+use Rattle.std.proofs.Common.{◌≡◌, ◌∙◌, List, ap, sym, subst}
+use Rattle.xr_cell.specs.declared.value.Value.{Value}
+use Rattle.xr_class.specs.Arguments.{uncertain_places}
+use Rattle.xr_design.specs.Circuit.{job_in}
+use Rattle.xr_design.specs.Fits.{Fits}
+use Rattle.xr_design.specs.Job.{Job}
+use Rattle.xr_design.specs.Waveform.{certain}
+use Rattle.xr_wave.specs.Contents.{job}
+use Rattle.xr_cone.specs.Table.{IsTableOver}
+use Rattle.xr_cone.proofs.EssentialBits.{cut_is_table}
+use Rattle.xr_cone.proofs.traced.trace_rule.Goals as goal
+
+pub returns : goal.returns
+returns c =
+    let j = job c.args.wave.now in
+    let known = certain c.args.wave.now.written in
+    let place = c.args.place in
+    let places = c.as_slice-places.result.now in
+    let kept = c.as_slice.result.now in
+    let fits : Fits j = subst Fits c.circuit.ensures.job c.circuit.ensures.fits.fits_job in
+    let are : places ≡ uncertain_places j known place = c.as_slice-places.ensures.places
+    ∙ c.uncertain_places-uncertain.ensures ∙ ap (λ (k : Job). uncertain_places k known place) c.circuit.ensures.job in
+    let whole : IsTableOver j known place places c.as_slice-2.result.now =
+    subst (IsTableOver j known place places) (sym c.as_slice-2.ensures.value) c.in_ok-essential.ensures.table in
+    record {
+      free = c.requires.free;
+      few = rw (← c.as_slice.ensures.places) c.as_slice.ensures.few;
+      are_essential = c.in_ok-essential.ensures.places;
+      is_table = rw (← c.as_slice.ensures.places, c.from_vec.ensures) (cut_is_table j fits known place places kept
+          c.as_slice-2.result.now c.in_ok-values.values.items c.requires.reach.within are whole c.in_ok-values.ensures);
+    }

@@ -1,0 +1,13 @@
+-- The first places of the cone have their nodes.
+use Rattle.std.proofs.Common.{vec_len}
+use Rattle.xr_design.specs.Waveform.{certain}
+use Rattle.xr_wave.specs.Contents.{job}
+use Rattle.xr_cone.proofs.ConeNodes.{IsMade}
+use Rattle.xr_cone.proofs.tracing.trace_root.Given as goal
+
+abbrev pub invariant-rest : goal.invariant-rest
+invariant-rest l =
+    IsMade (job l.wave) (certain l.wave.written) l.root l.places.items l.rest.items l.nodes.items
+
+abbrev pub decreases-rest : goal.decreases-rest
+decreases-rest l = vec_len l.rest

@@ -1,0 +1,5 @@
+-- Definitions of what code finds of a cone.
+pub mod Placed
+pub mod Reached
+pub mod Table
+pub mod Traced

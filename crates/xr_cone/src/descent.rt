@@ -1,0 +1,51 @@
+//! The places of a cone, from its root downwards.
+
+ghost use Rattle.std.specs.Prelude.{IfOk, OnOk};
+ghost use Rattle.xr_design.specs.Waveform.{certain};
+ghost use Rattle.xr_model.specs.Laws.{InReach};
+ghost use Rattle.xr_wave.specs.Contents.{job};
+ghost use Rattle.xr_cone.specs.Reached.{AddsAll};
+ghost use Rattle.xr_cone.specs.Traced.{AreTraced, supports_in};
+
+use crate::reached::Reached;
+use crate::traced::{Traced, TracedBody, trace_place};
+use std::alloc::Global;
+use xr_base::Memory;
+use xr_wave::Wave;
+
+/// The places of a cone, the greatest first: all that reach a place stand behind it, so once it is the greatest that is
+/// still to be looked at, nothing more will reach it.
+pub fn trace_places(alloc: Global, wave: &Wave<'_>, root: usize) -> Result<Vec<Traced>, Memory>
+    requires { InReach (job wave.now) wave.now.written root }
+    ensures { IfOk result (λ traced. AreTraced (job wave.now) (certain wave.now.written) root traced.items) }
+{
+    let _circuit = wave.circuit();
+    let mut room = Vec::with_capacity(alloc, 8192)?;
+    let mut reached = Reached::new(alloc);
+    let mut traced = Vec::new(alloc);
+    reached.insert(root)?;
+    'places: while let Some(place) = reached.take_greatest() {
+        let body = trace_place(alloc, wave, place, &mut room)?;
+        insert_supports(&mut reached, &body)?;
+        traced.push(Traced { place, body })?;
+    }
+    Ok(traced)
+}
+
+fn insert_supports(reached: &mut Reached, body: &TracedBody) -> Result<(), Memory>
+    ensures { OnOk result (AddsAll reached.old (supports_in body.now) reached.new) }
+{
+    match body {
+        TracedBody::Carried(from, _) => reached.insert(*from),
+        TracedBody::Rule(arguments, _) => insert_all(reached, arguments.as_slice()),
+    }
+}
+
+fn insert_all(reached: &mut Reached, places: &[usize]) -> Result<(), Memory>
+    ensures { OnOk result (AddsAll reached.old places.now reached.new) }
+{
+    'places: for place in places {
+        reached.insert(*place)?;
+    }
+    Ok(())
+}

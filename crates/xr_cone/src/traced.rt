@@ -1,0 +1,67 @@
+//! What a place of a cone rests on.
+
+ghost use Rattle.std.specs.Prelude.{◌≡◌, false, IfOk};
+ghost use Rattle.xr_design.specs.Waveform.{certain};
+ghost use Rattle.xr_model.specs.Cone.{is_carried};
+ghost use Rattle.xr_model.specs.Laws.{InReach};
+ghost use Rattle.xr_wave.specs.Contents.{class_in, job};
+ghost use Rattle.xr_cone.specs.Traced.{IsBodyOf};
+
+use crate::table::{cut_table, essential_places};
+use std::alloc::Global;
+use xr_base::{Items, Memory};
+use xr_cell::Value;
+use xr_class::{ArgumentsByNumber, uncertain_places};
+use xr_model::ClassByNumber;
+use xr_wave::Wave;
+
+/// What a place rests on, by the numbers of places.
+#[derive(Debug, Drop)]
+pub enum TracedBody {
+    /// The place that it is carried from, or its complement where the second is true.
+    Carried(usize, bool),
+    /// Its essential arguments in place order, and its table over them.
+    Rule(ArgumentsByNumber, Items<Value>),
+}
+
+/// A place of a cone by number, and what it rests on.
+#[derive(Debug, Drop)]
+pub struct Traced {
+    pub place: usize,
+    pub body: TracedBody,
+}
+
+/// What a place that is written, or the next one, rests on. Works in a room that is lent.
+pub fn trace_place(
+    alloc: Global,
+    wave: &Wave<'_>,
+    place: usize,
+    room: &mut Vec<Value>,
+) -> Result<TracedBody, Memory>
+    requires { InReach (job wave.now) wave.now.written place }
+    ensures { IfOk result (IsBodyOf (job wave.now) (certain wave.now.written) place) }
+{
+    match wave.class_by_number(place) {
+        ClassByNumber::Carried(from, inverted) => Ok(TracedBody::Carried(from, inverted)),
+        ClassByNumber::Local(_) => trace_rule(alloc, wave, place, room),
+        ClassByNumber::Free => trace_rule(alloc, wave, place, room),
+        ClassByNumber::Line => trace_rule(alloc, wave, place, room),
+    }
+}
+
+fn trace_rule(
+    alloc: Global,
+    wave: &Wave<'_>,
+    place: usize,
+    room: &mut Vec<Value>,
+) -> Result<TracedBody, Memory>
+    requires reach { InReach (job wave.now) wave.now.written place }
+    requires free { is_carried (class_in wave.now place) ≡ false }
+    ensures { IfOk result (IsBodyOf (job wave.now) (certain wave.now.written) place) }
+{
+    let uncertain = uncertain_places(&wave.circuit(), wave, place);
+    let places = uncertain.as_slice();
+    let essential = essential_places(wave, place, places, room)?;
+    let values = cut_table(alloc, places, essential.as_slice(), room.as_slice())?;
+    Ok(TracedBody::Rule(essential, Items::from_vec(values)))
+}

@@ -1,0 +1,58 @@
+//! The cone of a place of a wave.
+
+ghost use Rattle.std.specs.Prelude.{◌≡◌, IfOk};
+ghost use Rattle.xr_design.specs.Job.{number_of};
+ghost use Rattle.xr_model.specs.Laws.{InReach};
+ghost use Rattle.xr_model.specs.declared.class.ClassByNumber.TheVariants as class;
+ghost use Rattle.xr_wave.specs.Contents.{IsReached, class_in, job, next_number};
+ghost use Rattle.xr_wave.specs.Token.{IsLineNext};
+ghost use Rattle.xr_cone_nodes.specs.Traced.{IsConeOf};
+
+use crate::descent::trace_places;
+use crate::nodes::place_body;
+use crate::places::{number_of, place_of};
+use crate::traced::Traced;
+use std::alloc::Global;
+use xr_base::Memory;
+use xr_cone_nodes::{Cone, Node};
+use xr_design::Place;
+use xr_wave::Wave;
+
+/// The cone of the next place, a Line place. Takes time and memory for the places of the cone alone.
+pub fn trace(alloc: Global, wave: &Wave<'_>) -> Result<Cone, Memory>
+    requires { IsLineNext wave.now }
+    ensures { IfOk result (λ cone. IsConeOf wave.now (next_number wave.now) cone.nodes) }
+{
+    trace_root(alloc, wave, wave.count())
+}
+
+/// The cone of a place that is written, or of the next one, whose class is Line: the same as when it was the next place.
+pub fn trace_at(alloc: Global, wave: &Wave<'_>, place: Place) -> Result<Cone, Memory>
+    requires reached { IsReached wave.now place }
+    requires line { class_in wave.now (number_of (job wave.now) place) ≡ class.Line }
+    ensures { IfOk result (λ cone. IsConeOf wave.now (number_of (job wave.now) place) cone.nodes) }
+{
+    trace_root(alloc, wave, number_of(&wave.circuit(), place))
+}
+
+fn trace_root(alloc: Global, wave: &Wave<'_>, root: usize) -> Result<Cone, Memory>
+    requires reach { InReach (job wave.now) wave.now.written root }
+    requires line { class_in wave.now root ≡ class.Line }
+    ensures { IfOk result (λ cone. IsConeOf wave.now root cone.nodes) }
+{
+    let circuit = wave.circuit();
+    let reached = root <= wave.count();
+    prove!(reached);
+    let mut rest = trace_places(alloc, wave, root)?;
+    let mut places = Vec::with_capacity(alloc, rest.len())?;
+    let mut nodes = Vec::with_capacity(alloc, rest.len())?;
+    'rest: while let Some(Traced { place, body }) = rest.pop() {
+        let body = place_body(alloc, places.as_slice(), body)?;
+        nodes.push(Node {
+            place: place_of(&circuit, place),
+            body,
+        })?;
+        places.push(place)?;
+    }
+    Cone::new(alloc, nodes)
+}
