@@ -1,6 +1,6 @@
 -- Elements that pass a test, their positions, and choices among them.
 use Rattle.std.proofs.Common.{◌≡◌, ℕ, zero, suc, ◌+◌, ◌<◌, ◌&&◌, Bool, true, false, cond, List, [], ◌∷◌, ◌++◌, filter, length, map, take, refl, sym, ap, ◌∙◌, arith, length-append, if◌then◌else◌, slice_index_or, subst, ⊎_elim, add-one, append-nil}
-use Rattle.std.proofs.lemmas.List.{take-append-le, length-map, map-append}
+use Rattle.std.proofs.lemmas.List.{length-take-le, take_more, take-append-le, length-map, map-append}
 use Rattle.std.proofs.Math.Seq.{take-length}
 use Rattle.std.proofs.lemmas.Bool.{cases_eq}
 use Rattle.std.proofs.Math.ListN.{get_or-append}
@@ -85,7 +85,7 @@ take_places t (suc n) p less = step (t n) (take_places t n) less
         take-append-le p xs (n ∷ []) (omega (arith, inner)) ∙ ih p inner
         ∙ ap (places_where t) (sym (get_or-append xs (n ∷ []) 0 p inner)))) (cases_eq p (length xs))
 
-chosen_append : (xs : List Place) (y : Place) (bits : ℕ → Bool)
+pub chosen_append : (xs : List Place) (y : Place) (bits : ℕ → Bool)
     → chosen (xs ++ y ∷ []) bits ≡ chosen xs bits ++ (if bits (length xs) then y ∷ [] else [])
 chosen_append [] y bits = refl
 chosen_append (x ∷ xs) y bits = step (bits 0) (subst (λ k. chosen (xs ++ y ∷ []) (λ k. bits (k + 1))
@@ -121,3 +121,13 @@ chosen_places f t bits (suc n) = step (t n) (bits (length xs)) refl (chosen_plac
     step true true is ih = push true is ih ∙ sym (map-append f ys (n ∷ []))
     step true false is ih = push false is ih ∙ append-nil (map f ys)
     step false b is ih = ih
+
+-- One place more of which some are chosen.
+pub chosen_more : (places : List Place) (bits : ℕ → Bool) (i : ℕ) (d : Place) → i < length places
+    → chosen (take (i + 1) places) bits
+    ≡ chosen (take i places) bits ++ (if bits i then slice_index_or places i d ∷ [] else [])
+chosen_more places bits i d less =
+    let short : length (take i places) ≡ i = length-take-le i places (omega (arith, less)) in
+    ap (λ xs. chosen xs bits) (take_more places i d less)
+    ∙ chosen_append (take i places) (slice_index_or places i d) bits
+    ∙ ap (λ n. chosen (take i places) bits ++ (if bits n then slice_index_or places i d ∷ [] else [])) short

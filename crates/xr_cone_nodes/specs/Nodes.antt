@@ -1,5 +1,6 @@
 -- Nodes by position, and their bits.
-use Rattle.std.specs.Prelude.{◌≡◌, ℕ, zero, suc, ◌+◌, ◌-◌, ◌<◌, ◌≤◌, ◌^◌, Bool, false, List, [], ◌∷◌, ◌++◌, filter, length, map, slice_index_or, take, if◌then◌else◌}
+use Rattle.std.specs.Prelude.{◌≡◌, ℕ, zero, suc, ◌+◌, ◌-◌, ◌<◌, ◌≤◌, ◌^◌, ◌==◌, ◌&&◌, Bool, false, List, [], ◌∷◌, ◌++◌, filter, length, map, slice_index_or, take, if◌then◌else◌}
+use Rattle.std.specs.Int as int
 use Rattle.std.specs.List.{AllByRecursion, list_any}
 use Rattle.std.specs.List.Sorted.{IsStrictlyIncreasing}
 use Rattle.xr_cell.specs.declared.value.Value.{Value}
@@ -92,6 +93,21 @@ chosen (first ∷ places) bits =
 -- Nothing is chosen.
 abbrev pub nothing : ℕ → Bool
 nothing position = false
+
+-- A source by its number. Past the last, any place.
+abbrev pub source_at : List Node → ℕ → Place
+source_at nodes source = slice_index_or (sources_of nodes) source no_node.place
+
+-- Whether a filling lists a place.
+abbrev pub is_same_place : Place → Place → Bool
+is_same_place place other = (place.step == other.step) && (place.net == other.net)
+
+abbrev pub is_listed : List Place → Place → Bool
+is_listed filling place = list_any (is_same_place place) filling
+
+-- The bits that a number gives the sources: bit i is that of source i.
+abbrev pub number_bits : ℕ → ℕ → Bool
+number_bits number source = int.bit_at number source == 1
 
 -- What callers see of a cone.
 pub record ConeView : Type 0 where

@@ -1,16 +1,16 @@
 -- When nodes are the cone of a place of a wave, and what their bits then are.
-use Rattle.std.specs.Prelude.{◌≡◌, ℕ, ◌<◌, Bool, false, List, length, map, slice_index}
+use Rattle.std.specs.Prelude.{◌≡◌, ℕ, ◌<◌, ◌≤◌, ◌^◌, Bool, false, List, length, map, slice_index}
 use Rattle.xr_design.specs.declared.place.Place.{Place}
 use Rattle.xr_design.specs.Filling.{IsFilling}
 use Rattle.xr_design.specs.Fits.{place_at}
 use Rattle.xr_design.specs.Waveform.{certain}
-use Rattle.xr_model.specs.Cone.{cone, is_carried, sources}
+use Rattle.xr_model.specs.Cone.{cone, denied_value, is_carried, sources}
 use Rattle.xr_model.specs.Laws.{InReach, world_over}
-use Rattle.xr_model.specs.Line.{IsOfSources}
+use Rattle.xr_model.specs.Line.{IsEnumerated, IsOfSources}
 use Rattle.xr_model.specs.Node.{IsBody}
 use Rattle.xr_wave.specs.Contents.{Contents, IsWave, class_in, job}
 use Rattle.xr_cone_nodes.specs.declared.node.Node.{Node}
-use Rattle.xr_cone_nodes.specs.Nodes.{AreNodes, body_at, by_sources, chosen, place_of_node, root_bit, sources_of}
+use Rattle.xr_cone_nodes.specs.Nodes.{AreNodes, body_at, by_sources, chosen, is_listed, nothing, number_bits, place_of_node, root_bit, source_at, sources_of}
 
 -- The places of the cone of a place of a wave, in place order, by their numbers.
 abbrev pub cone_in : Contents → ℕ → List ℕ
@@ -50,3 +50,32 @@ pub record IsChosen (c : Contents) (root : ℕ) (nodes : List Node) (bits : ℕ 
 abbrev pub ChosenLaw : Type 0
 ChosenLaw = (c : Contents) (root : ℕ) (nodes : List Node) (bits : ℕ → Bool) → IsConeOf c root nodes
     → IsChosen c root nodes bits
+
+-- The bit of the root where no source is given 1 is the one that the query of the place denies.
+abbrev pub BaseLaw : Type 0
+BaseLaw = (c : Contents) (root : ℕ) (nodes : List Node) → IsConeOf c root nodes
+    → root_bit nothing nodes ≡ denied_value (job c) (certain c.written) root
+
+-- Each source has its bit in a filling: 1 where the filling lists it.
+abbrev pub AreListed : List Node → List Place → (ℕ → Bool) → Type 0
+AreListed nodes filling bits =
+    (source : ℕ) → source < length (sources_of nodes) → bits source ≡ is_listed filling (source_at nodes source)
+
+-- Such bits make the root's bit in the world of the filling.
+abbrev pub ListedLaw : Type 0
+ListedLaw = (c : Contents) (root : ℕ) (nodes : List Node) (filling : List Place) (bits : ℕ → Bool)
+    → IsConeOf c root nodes → IsFilling (job c) filling → AreListed nodes filling bits
+    → root_bit (by_sources nodes bits) nodes ≡ world_in c filling root
+
+-- Numbers stand for all fillings of the sources: where each gives the root one bit, every filling of at most 12 sources
+-- does.
+abbrev pub EnumeratedLaw : Type 0
+EnumeratedLaw = (c : Contents) (root : ℕ) (nodes : List Node) (bit : Bool) → IsConeOf c root nodes
+    → length (sources_of nodes) ≤ 12
+    → ((number : ℕ) → number < 2 ^ length (sources_of nodes)
+    → root_bit (by_sources nodes (number_bits number)) nodes ≡ bit) → IsEnumerated (job c) c.written root bit
+
+-- A bit is that of a place in the world of a filling, whichever place of a wave the nodes are the cone of.
+abbrev pub IsWorldBit : List Node → List Place → Bool → Type 0
+IsWorldBit nodes filling bit = (c : Contents) (root : ℕ) → IsConeOf c root nodes → IsFilling (job c) filling
+    → bit ≡ world_in c filling root

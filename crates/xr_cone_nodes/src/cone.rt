@@ -1,16 +1,18 @@
 //! Cones as nodes in place order, with their sources.
 
-ghost use Rattle.std.specs.Prelude.{◌≡◌, IfOk, length, map};
-ghost use Rattle.xr_cone_nodes.specs.Lanes.{HasLanes, root_in_lane};
-ghost use Rattle.xr_cone_nodes.specs.Nodes.{AreNodes, is_source_node, nothing, root_bit, sources_of};
+ghost use Rattle.std.specs.Prelude.{◌≡◌, ◌<◌, IfOk, length, map};
+ghost use Rattle.xr_cone_nodes.specs.Lanes.{HasLanes, lane_of, root_in_lane};
+ghost use Rattle.xr_cone_nodes.specs.Nodes.{AreNodes, chosen, is_source_node, nothing, root_bit, sources_of};
+ghost use Rattle.xr_cone_nodes.specs.Traced.{IsWorldBit};
 
 use crate::evaluate::root_word;
-use crate::lanes::in_lane;
+use crate::lanes::{chosen_places, in_lane};
+use crate::listed::listed_words;
 use crate::node::Node;
 use std::alloc::Global;
 use std::marker::Model;
-use xr_base::Memory;
-use xr_design::Place;
+use xr_base::{Items, Memory};
+use xr_design::{Filling, Place};
 
 /// The nodes of a cone, the place that it is of being the last.
 #[derive(Debug, Drop)]
@@ -71,6 +73,25 @@ impl Cone {
         self.base
     }
 
+    /// The bit of the place in the world of a filling. Takes 8 bytes a node and a source, and a set of the filling's places.
+    pub fn value(&self, alloc: Global, filling: &Filling) -> Result<bool, Memory>
+        ensures world { IfOk result (IsWorldBit self.now.nodes filling.now) }
+    {
+        let given = listed_words(alloc, filling.as_slice(), self.sources())?;
+        let mut words = vec![in alloc; 0; self.nodes.len()]?;
+        let word = self.root_word(&given, words.as_mut_slice());
+        Ok(in_lane(word, 0))
+    }
+
+    /// The filling that lists the sources whose words have a 1 in a lane. Takes 8 bytes for each of them.
+    pub fn chosen(&self, alloc: Global, given: &[u64], lane: u32) -> Result<Filling, Memory>
+        requires { lane < 64 }
+        ensures { IfOk result (λ filling. filling ≡ chosen (sources_of self.now.nodes) (lane_of given.now lane)) }
+    {
+        let places = chosen_places(alloc, self.sources(), given, lane)?;
+        Ok(Items::from_vec(places))
+    }
+
     pub(crate) fn root_word(&self, given: &[u64], words: &mut [u64]) -> u64
         requires { length words.old ≡ length self.now.nodes }
         ensures { HasLanes result (root_in_lane self.now.nodes given.now) }
@@ -106,3 +127,6 @@ fn base_of(alloc: Global, nodes: &[Node], births: &[bool]) -> Result<bool, Memor
     let word = root_word(nodes, births, &[], words.as_mut_slice());
     Ok(in_lane(word, 0))
 }
+
+#[cfg(test)]
+mod tests;

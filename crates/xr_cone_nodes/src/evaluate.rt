@@ -1,14 +1,14 @@
 //! The words of nodes: in each of 64 lanes the bit of each node, from the bits that the sources are given there.
 
-ghost use Rattle.std.specs.Prelude.{◌≡◌, ◌+◌, ◌<◌, ◌≤◌, ◌^◌, ◌&&◌, ◌==◌, length, map, slice_index, if◌then◌else◌};
+ghost use Rattle.std.specs.Prelude.{◌≡◌, ◌+◌, ◌<◌, ◌≤◌, ◌^◌, ◌&&◌, ◌==◌, length, map, if◌then◌else◌};
 ghost use Rattle.std.specs.List.{AllByRecursion};
 ghost use Rattle.xr_design.specs.World.{decided};
-ghost use Rattle.xr_model.specs.Class.{flipped};
 ghost use Rattle.xr_model.specs.Mask.{mask_of};
 ghost use Rattle.xr_model.specs.Node.{node_bit};
 ghost use Rattle.xr_cone_nodes.specs.Lanes.{AreWords, HasLanes, in_lane, lane_of, root_in_lane};
 ghost use Rattle.xr_cone_nodes.specs.Nodes.{AreNodes, IsTable, StandsAt, body_of, is_source_node, table_bit};
 
+use crate::lanes::{turned, word_at};
 use crate::node::{Node, NodeBody};
 use xr_cell::Value;
 
@@ -45,16 +45,6 @@ fn counted(sources: usize, is_source: bool) -> usize
     if is_source { sources + 1 } else { sources }
 }
 
-fn word_at(words: &[u64], position: usize) -> u64
-    ensures { result ≡ slice_index words.now position }
-{
-    if position < words.len() {
-        words[position]
-    } else {
-        0
-    }
-}
-
 /// The word of a node, from the words of the nodes before it and the one that it is given if it is a source.
 fn node_word(body: &NodeBody, words: &[u64], own: u64) -> u64
     requires { StandsAt (length words.now) body.now }
@@ -66,12 +56,6 @@ fn node_word(body: &NodeBody, words: &[u64], own: u64) -> u64
             rule_word(arguments.as_slice(), values.as_slice(), words, own)
         }
     }
-}
-
-fn turned(word: u64, inverted: bool) -> u64
-    ensures { HasLanes result (λ lane. flipped inverted (in_lane word lane)) }
-{
-    if inverted { !word } else { word }
 }
 
 /// The word of a table: in each lane the value whose number the arguments have there.

@@ -6,9 +6,15 @@
 mod cone;
 mod evaluate;
 mod lanes;
+mod laws;
+mod listed;
 mod node;
 mod words;
 
 pub use cone::Cone;
+pub use lanes::{in_lane, turned};
+pub use laws::{
+    bits_make_fillings, fillings_make_bits, numbers_make_fillings, sources_are_of_the_cone,
+};
 pub use node::{Node, NodeBody};
 pub use words::Words;

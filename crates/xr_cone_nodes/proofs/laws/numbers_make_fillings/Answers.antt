@@ -1,0 +1,5 @@
+use Rattle.xr_cone_nodes.proofs.ConeLaws.{enumerated_law}
+use Rattle.xr_cone_nodes.proofs.laws.numbers_make_fillings.Goals as goal
+
+pub returns : goal.returns
+returns c = enumerated_law
