@@ -33,7 +33,9 @@ count_more test c n =
 pub counts_more : (c : Contents) (n : ℕ)
     → counts_below c (n + 1) ≡ with_place (counts_below c n) (written_at c.written n).mark (shown_in c n)
 counts_more c n =
-    rw (count_more is_known_place c n, count_more is_repaired c n, count_more (λ mark shown. is_unknown_mark mark) c n, count_more (λ mark shown. is_undecided mark) c n) refl
+    let unknown = count_more (λ mark shown. is_unknown_mark mark) c n in
+    let undecided = count_more (λ mark shown. is_undecided mark) c n in
+    rw (count_more is_known_place c n, count_more is_repaired c n, unknown, undecided) refl
 
 -- With the place of a number the counts so far become those with it.
 pub counted : (c : Contents) → IsWave c → (number : ℕ) → number < length c.written
@@ -47,12 +49,14 @@ counted c wave number less place counts grown mark shown place_is counts_are mar
     let within : number < places_of j = omega (arith, room, less) in
     let number_is : number_of j place ≡ number =
     ap (number_of j) place_is ∙ number_of_place_at j number fits.ordering fits.all within in
-    let mark_at : mark ≡ (written_at c.written number).mark = mark_is ∙ ap (λ n. (written_at c.written n).mark) number_is in
+    let mark_at : mark ≡ (written_at c.written number).mark =
+    mark_is ∙ ap (λ n. (written_at c.written n).mark) number_is in
     let shown_at : shown ≡ shown_in c number = shown_is ∙ ap (λ p. (held_in c.history p).shown) place_is in
     rw (grown_is, counts_are, mark_at, shown_at) (sym (counts_more c number))
 
 -- A place more is counted once.
-pub total_more : (counts : Counts) (mark : Mark) (shown : Value) → total (with_place counts mark shown) ≡ total counts + 1
+pub total_more : (counts : Counts) (mark : Mark) (shown : Value)
+    → total (with_place counts mark shown) ≡ total counts + 1
 total_more counts Certain Zero = omega arith
 total_more counts Certain One = omega arith
 total_more counts Certain X = omega arith

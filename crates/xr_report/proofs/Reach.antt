@@ -10,14 +10,16 @@ use Rattle.xr_design.specs.declared.place.Place.{Place}
 use Rattle.xr_design.proofs.Numbers.{is_place_at, number_of_place_at}
 use Rattle.xr_design.proofs.Reaching.{step_small}
 use Rattle.xr_design.proofs.Rules.{position_in}
-use Rattle.xr_report.specs.Finished.{HasMoments, IsFinished, IsThere}
-use Rattle.xr_wave.specs.Contents.{Contents, IsWave, job}
+use Rattle.xr_report.specs.Finished.{HasMoments, IsFinished}
+use Rattle.xr_wave.specs.Contents.{Contents, IsWave, IsWritten, job}
 
 -- A history that is handed in has each place of the job.
 handed_places : (j : Job) (history : HistoryView) → IsHandedIn j history → HasPlaces j history
-handed_places j history handed = ⊎_elim (λ (is : IsReplay j history). is.places) (λ (is : IsBlank j history). is.places) handed
+handed_places j history handed =
+    ⊎_elim (λ (is : IsReplay j history). is.places) (λ (is : IsBlank j history). is.places) handed
 
-has_place : (j : Job) (history : HistoryView) (place : Place) → HasPlaces j history → IsPlace j place → HasPlace history place
+has_place : (j : Job) (history : HistoryView) (place : Place) → HasPlaces j history → IsPlace j place
+    → HasPlace history place
 has_place j history place has is =
     let nets = has.nets in
     let all = has.all in
@@ -31,6 +33,11 @@ number_within j fits place is =
     let room = step_small j.width place.step (j.moments * j.rounds) is.step in
     let low = position_in j fits place.net is.net in
     omega (arith, room, low)
+
+-- A place is written, and the history has it.
+pub record IsThere (c : Contents) (place : Place) : Type 0 where
+  pub written : IsWritten c place
+  pub history : HasPlace c.history place
 
 there : (c : Contents) → IsWave c → (place : Place) → IsPlace (job c) place → number_of (job c) place < length c.written
     → IsThere c place
@@ -63,12 +70,19 @@ last_within j fits moment less =
     let some = fits.some_round in
     omega (arith, room, some)
 
--- In a finished wave each net's place at the last step of each moment is there.
-pub moments_there : (c : Contents) → IsWave c → IsFinished c → HasMoments c
-moments_there c wave finished = λ moment less net within.
+net_there : (c : Contents) → IsWave c → IsFinished c → (moment net : ℕ) → moment < length c.stim.times
+    → net < length c.design.nets → IsThere c (record { step = last_step (job c) moment; net = net })
+net_there c wave finished moment net less within =
     let j = job c in
     let fits = wave.fits.fits_job in
     let place : Place = record { step = last_step j moment; net = net } in
     let is : IsPlace j place = record { step = last_within j fits moment less; net = within } in
     let low = number_within j fits place is in
     there c wave place is (omega (arith, finished, low))
+
+-- In a finished wave each net's place at the last step of each moment is there.
+pub moments_there : (c : Contents) → IsWave c → IsFinished c → HasMoments c
+moments_there c wave finished = λ moment less. record {
+  written = λ net within. (net_there c wave finished moment net less within).written;
+  history = λ net within. (net_there c wave finished moment net less within).history;
+}

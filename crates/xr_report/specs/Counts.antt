@@ -34,7 +34,8 @@ is_repaired mark shown = is_certain mark && is_unknown shown
 
 -- How many of the first n places pass a test of the mark and of what the history shows.
 abbrev pub count_where : (Mark → Value → Bool) → Contents → ℕ → ℕ
-count_where test c n = count_by (λ place. test (written_at c.written place).mark (shown_in c place)) (range_with_len 0 n)
+count_where test c n =
+    count_by (λ place. test (written_at c.written place).mark (shown_in c place)) (range_with_len 0 n)
 
 -- The counts of the first n places.
 abbrev pub counts_below : Contents → ℕ → Counts

@@ -4,7 +4,7 @@ ghost use Rattle.std.specs.Prelude.{◌≡◌, ◌+◌, ◌-◌, ◌*◌, ◌<�
 ghost use Rattle.std.specs.List.{flat_map};
 ghost use Rattle.xr_match.specs.Binding.{FitsBinding, FitsBound};
 ghost use Rattle.xr_report.specs.Bits as spec;
-ghost use Rattle.xr_report.specs.Finished.{HasMoments, HasStep, IsFinished, IsThere};
+ghost use Rattle.xr_report.specs.Finished.{HasMoments, HasStep, IsFinished};
 
 use crate::puts::{put, put_number};
 use std::alloc::Global;
@@ -14,8 +14,8 @@ use xr_design::{Mark, Place, Stim};
 use xr_match::{Binding, Bound};
 use xr_wave::Wave;
 
-/// The lines of a report, moment by moment: one for each bit of a bound variable whose recorded value, which the history
-/// shows at the moment's last round, is x or z, with what the wave has there.
+/// The lines of a report, moment by moment: one for each bit of a bound variable whose recorded value is x or z, with
+/// what the wave has at the moment's last round. The recorded value is what the history shows there.
 ///
 /// Takes the text's bytes and those of one name at a time, and time linear in the text and in the bits of all moments.
 #[tactic(auto, unfolding(crate::specs::Bits::bit_lines))]
@@ -103,7 +103,8 @@ fn put_bit(
     place: Place,
     time: u64,
 ) -> Result<(), Memory>
-    requires { IsThere wave.now place }
+    requires step { HasStep wave.now place.step }
+    requires net { place.net < length wave.now.design.nets }
     ensures { OnOk result (text.new.items ≡ text.old.items ++ spec.bit_line wave.now time place) }
 {
     let recorded = wave.replayed().shown(place);
@@ -122,7 +123,8 @@ fn put_told(
     time: u64,
     recorded: Value,
 ) -> Result<(), Memory>
-    requires place { IsThere wave.now place }
+    requires step { HasStep wave.now place.step }
+    requires net { place.net < length wave.now.design.nets }
     requires recorded { recorded ≡ spec.recorded_in wave.now place }
     ensures { OnOk result (text.new.items ≡ text.old.items ++ spec.told_line wave.now time place) }
 {

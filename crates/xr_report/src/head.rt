@@ -10,8 +10,8 @@ use std::alloc::Global;
 use xr_base::Memory;
 use xr_wave::Wave;
 
-/// The first three lines of a report: how many places, moments and rounds a moment there are, how many places have which
-/// end, and how many `force` statements, as given, and lines of the certificate.
+/// The first three lines of a report: how many places and moments there are, and how many rounds a moment has; how many
+/// places have which end; how many `force` statements there are, as given, and lines of the certificate.
 ///
 /// Takes the text's bytes, and time linear in the places.
 #[tactic(auto, unfolding(crate::specs::Head::head_lines))]

@@ -6,4 +6,5 @@ use Rattle.xr_report.proofs.bits.put_moment.Given as goal
 
 abbrev pub invariant-variables : goal.invariant-variables
 invariant-variables l =
-    l.text.items ++ flat_map (variable_lines l.wave l.step l.time) (drop l.variable-index l.bound) ≡ l.fn.text.items ++ flat_map (variable_lines l.wave l.step l.time) l.bound
+    l.text.items ++ flat_map (variable_lines l.wave l.step l.time) (drop l.variable-index l.bound)
+    ≡ l.fn.text.items ++ flat_map (variable_lines l.wave l.step l.time) l.bound

@@ -5,4 +5,5 @@ use Rattle.xr_report.proofs.bits.put_moments.Given as goal
 
 abbrev pub invariant-moments : goal.invariant-moments
 invariant-moments l =
-    l.text.items ++ lines_from l.wave l.bound l.moment (drop l.moment l.wave.stim.times) ≡ l.fn.text.items ++ lines_from l.wave l.bound 0 l.wave.stim.times
+    l.text.items ++ lines_from l.wave l.bound l.moment (drop l.moment l.wave.stim.times)
+    ≡ l.fn.text.items ++ lines_from l.wave l.bound 0 l.wave.stim.times

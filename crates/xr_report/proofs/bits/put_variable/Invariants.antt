@@ -6,4 +6,5 @@ use Rattle.xr_report.proofs.bits.put_variable.Given as goal
 
 abbrev pub invariant-bits : goal.invariant-bits
 invariant-bits l =
-    l.text.items ++ flat_map (net_line l.wave l.step l.time) (drop l.net-index l.bits) ≡ l.fn.text.items ++ flat_map (net_line l.wave l.step l.time) l.bits
+    l.text.items ++ flat_map (net_line l.wave l.step l.time) (drop l.net-index l.bits)
+    ≡ l.fn.text.items ++ flat_map (net_line l.wave l.step l.time) l.bits

@@ -32,5 +32,6 @@ places-preserved c =
     record {
       counts = counted c.args.wave.now c.count-count.ensures.wave c.places.number less _ _ _ _ _ place
           c.places.invariant.counts c.mark.ensures (c.shown.ensures ∙ rw c.replayed-history.ensures refl) c.add.ensures;
-      all = rw c.add.ensures (total_more c.places.counts c.mark.result c.shown.result ∙ ap (λ n. n + 1) c.places.invariant.all);
+      all = rw c.add.ensures
+          (total_more c.places.counts c.mark.result c.shown.result ∙ ap (λ n. n + 1) c.places.invariant.all);
     }
