@@ -1,5 +1,5 @@
 -- A net without a driver, in one moment of one round, fits.
-use Rattle.std.proofs.Common.{◌≡◌, ℕ, zero, suc, ◌<◌, List, [], ◌∷◌, length, slice_index_or, refl, arith}
+use Rattle.std.proofs.Common.{◌≡◌, ℕ, zero, suc, ◌<◌, [], ◌∷◌, slice_index_or, refl, arith}
 use Rattle.xr_cell.specs.declared.value.Value.TheVariants.{X, Z}
 use Rattle.xr_design.specs.Circuit.{FitsCircuit}
 use Rattle.xr_design.specs.Order.{IsOrdering}

@@ -1,5 +1,5 @@
 -- The place of each number is there, and is counted.
-use Rattle.std.proofs.Common.{◌≡◌, ◌+◌, ◌<◌, ◌∙◌, length, refl, ap, arith}
+use Rattle.std.proofs.Common.{◌+◌, ◌<◌, ◌∙◌, length, refl, ap, arith}
 use Rattle.xr_report.proofs.Counting.{counted, total_more}
 use Rattle.xr_report.proofs.Reach.{there_as}
 use Rattle.xr_report.proofs.counts.counts_of.Goals as goal
