@@ -4,3 +4,4 @@ pub mod Contents
 pub mod Kept
 pub mod Advance
 pub mod Token
+pub mod Pairs

@@ -10,6 +10,7 @@ mod bytes;
 mod places;
 mod settle;
 mod source;
+mod stated;
 mod token;
 mod wave;
 
