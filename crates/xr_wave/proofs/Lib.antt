@@ -3,5 +3,6 @@ mod FoundLines
 mod KeptBytes
 mod LineGrowth
 mod NextClass
+mod ShownPlaces
 mod WaveGrowth
 mod Ways

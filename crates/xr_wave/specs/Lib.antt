@@ -5,3 +5,4 @@ pub mod Kept
 pub mod Advance
 pub mod Token
 pub mod Pairs
+pub mod Shown

@@ -9,6 +9,7 @@ mod byte;
 mod bytes;
 mod places;
 mod settle;
+mod shown;
 mod source;
 mod stated;
 mod token;
