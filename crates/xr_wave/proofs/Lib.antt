@@ -3,6 +3,7 @@ mod FoundLines
 mod KeptBytes
 mod LineGrowth
 mod NextClass
+mod OneWave
 mod ShownPlaces
 mod WaveGrowth
 mod Ways
