@@ -18,8 +18,8 @@ use Rattle.xr_design.proofs.Numbers.{is_place_at, number_of_place_at}
 use Rattle.xr_design.proofs.OrderLemmas.{net_at_position}
 use Rattle.xr_design.proofs.Reaching.{step_small}
 use Rattle.xr_design.proofs.Rules.{position_in}
-use Rattle.xr_wave.specs.Contents.{Contents, IsWave, job, written_of}
-use Rattle.xr_wave.specs.Shown.{IsFinished, ShowsBelow, ShowsWave, held_from}
+use Rattle.xr_wave.specs.Contents.{Contents, IsFinished, IsWave, job, written_of}
+use Rattle.xr_wave.specs.Shown.{ShowsBelow, ShowsWave, held_from}
 use Rattle.xr_wave.proofs.NextClass.{has_place}
 
 -- The place at a position of a step.

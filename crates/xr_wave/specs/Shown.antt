@@ -1,17 +1,12 @@
--- A finished wave, and the history that shows what its waveform shows.
-use Rattle.std.specs.Prelude.{◌≡◌, ℕ, ◌<◌, length}
+-- The history that shows what the waveform of a finished wave shows.
+use Rattle.std.specs.Prelude.{◌≡◌, ℕ, ◌<◌}
 use Rattle.xr_cell.specs.declared.value.Value.TheVariants.{X}
 use Rattle.xr_design.specs.declared.place.Place.{Place}
 use Rattle.xr_design.specs.Handed.{HasPlaces, held_of}
 use Rattle.xr_design.specs.History.{HistoryView, held_in}
-use Rattle.xr_design.specs.Job.{places_of}
 use Rattle.xr_design.specs.Replay.{Held}
 use Rattle.xr_design.specs.Waveform.{written_at}
 use Rattle.xr_wave.specs.Contents.{Contents, IsWritten, job, written_of}
-
--- Every place is written.
-abbrev pub IsFinished : Contents → Type 0
-IsFinished c = length c.written ≡ places_of (job c)
 
 -- A history has the places of the job. Where one is written it shows what the waveform shows, and keeps x.
 pub record ShowsWave (c : Contents) (history : HistoryView) : Type 0 where

@@ -1,8 +1,8 @@
 //! The history of a finished wave: what its waveform shows.
 
 ghost use Rattle.std.specs.Prelude.{◌≡◌, ◌+◌, ◌*◌, ◌<◌, ◌≤◌, IfOk, length};
-ghost use Rattle.xr_wave.specs.Contents.{IsWave, job};
-ghost use Rattle.xr_wave.specs.Shown.{IsFinished, ShowsBelow, ShowsWave};
+ghost use Rattle.xr_wave.specs.Contents.{IsFinished, IsWave, job};
+ghost use Rattle.xr_wave.specs.Shown.{ShowsBelow, ShowsWave};
 
 use crate::wave::Wave;
 use std::alloc::Global;
