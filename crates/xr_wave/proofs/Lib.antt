@@ -2,6 +2,7 @@
 mod FoundLines
 mod KeptBytes
 mod LineGrowth
+mod Nevers
 mod NextClass
 mod OneWave
 mod ShownPlaces

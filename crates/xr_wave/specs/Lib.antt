@@ -7,3 +7,4 @@ pub mod Token
 pub mod Pairs
 pub mod Shown
 pub mod Laws
+pub mod Never
