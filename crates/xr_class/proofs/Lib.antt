@@ -1,6 +1,7 @@
 -- Lemmas on the classes of places.
 mod EarlierPlaces
 mod FewNets
+mod MixedClasses
 mod PassingTests
 mod QuickClasses
 mod RisingPlaces

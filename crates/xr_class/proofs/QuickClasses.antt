@@ -55,7 +55,8 @@ settled_is j fits c place within none =
     ) (by_value (rule j c (assigned c (masked [] 0)) place) _)
   where
     by_value : (v : Value) (other : ClassByNumber)
-        → (if is_bit v false then Local false else if is_bit v true then Local true else if is_unknown v then Free else other)
+        → (if is_bit v false then Local false else if is_bit v true then Local true
+        else if is_unknown v then Free else other)
         ≡ settled_of v
     by_value Zero other = refl
     by_value One other = refl

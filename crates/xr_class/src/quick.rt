@@ -1,5 +1,5 @@
-//! The class of a place that needs no trying: of a copy, whose argument says all, and of a place whose arguments are all
-//! certain.
+//! The class of a place that needs no trying: of a copy, whose argument says all, and of a place whose arguments are
+//! all certain.
 
 ghost use Rattle.std.specs.Prelude.{◌≡◌, ℕ, ◌<◌, []};
 ghost use Rattle.xr_cell.specs.declared.value.Value.{Value as AnyValue};
