@@ -23,8 +23,8 @@ struct Root {
 }
 
 impl<'a> Wave<'a> {
-    /// Two fillings of a written place that is unknown, and none of any other: the world of the first gives 0 there, that
-    /// of the second 1. Takes eight bytes for each place that they list.
+    /// Two fillings of a written place that is unknown, and none of any other: the world of the first gives 0 there,
+    /// that of the second 1. Takes eight bytes for each place that they list.
     pub fn pair_of(&self, alloc: Global, place: Place) -> Result<Option<(Filling, Filling)>, Memory>
         requires { IsWritten self.now place }
         ensures unknown { IfOk result (λ pair. IsSome pair ↔ IsUnknown self.now place) }
