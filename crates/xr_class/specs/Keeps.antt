@@ -1,18 +1,21 @@
 -- Nets that keep and places that pass their net's bit on, by the classes of the places before.
-use Rattle.std.specs.Prelude.{◌≡◌, ℕ, ◌-◌, ◌<◌, ◌==◌, ◌&&◌, Bool, List, not, nat_lt}
-use Rattle.std.specs.List.{AllByRecursion, list_all}
+use Rattle.std.specs.Prelude.{◌≡◌, ℕ, ◌-◌, ◌<◌, ◌==◌, ◌&&◌, Bool, true, false, List, not, nat_lt, if◌then◌else◌}
+use Rattle.std.specs.List.{AllByRecursion, list_all, list_any}
 use Rattle.xr_cell.specs.declared.value.Value.{Value}
 use Rattle.xr_design.specs.declared.design.Driver.{Driver}
 use Rattle.xr_design.specs.declared.design.Latching.{Latching}
 use Rattle.xr_design.specs.declared.design.Pin.{Pin}
+use Rattle.xr_design.specs.declared.design.Table.{Table}
+use Rattle.xr_design.specs.declared.design.Table.TheVariants.{Gate, Udp}
 use Rattle.xr_design.specs.declared.circuit.Spot.{Spot}
-use Rattle.xr_design.specs.Fits.{StandsBefore}
+use Rattle.xr_design.specs.Fits.{StandsBefore, is_dead}
 use Rattle.xr_design.specs.Job.{Job}
 use Rattle.xr_design.specs.Order.{net_pins}
 use Rattle.xr_design.specs.Register.{has_uncertain_clock}
 use Rattle.xr_design.specs.Rule.{arguments}
-use Rattle.xr_model.specs.Class.{before, carried_or_line, carries_on, class_by, class_of, is_never_unknown, keeps, passes_on, passes_on_of}
+use Rattle.xr_model.specs.Class.{before, carried_or_line, carries_on, class_by, class_of, is_free, is_local, is_never_unknown, keeps, passes_on, passes_on_of}
 use Rattle.xr_model.specs.declared.class.ClassByNumber.{ClassByNumber}
+use Rattle.xr_model.specs.declared.class.ClassByNumber.TheVariants.{Carried}
 
 -- Bits say of each place before a place whether its class is Carried from the step before, as it is.
 abbrev pub AreCarriers : Job → (ℕ → Value) → (ℕ → Bool) → ℕ → Type 0
@@ -51,3 +54,18 @@ class_here j certain place = class_by j certain (class_of j certain) place
 
 abbrev pub copy_or_line : Job → (ℕ → Value) → ℕ → ClassByNumber
 copy_or_line j certain place = carried_or_line j certain place (arguments j certain place)
+
+abbrev pub later_class : Job → (ℕ → Value) → ℕ → ClassByNumber
+later_class j certain place =
+    if place_passes j certain place then Carried (before j place) false else copy_or_line j certain place
+
+-- A place is neither local nor free.
+pub record IsMixed (j : Job) (certain : ℕ → Value) (place : ℕ) : Type 0 where
+  pub not_zero : is_local j certain place false ≡ false
+  pub not_one : is_local j certain place true ≡ false
+  pub not_free : is_free j certain place ≡ false
+
+-- Whether a cell's place reads its filling: at a gate with a dead pin, and at any primitive.
+abbrev pub cell_chooses : Table → List Pin → Bool
+cell_chooses (Gate gate) pins = list_any is_dead pins
+cell_chooses (Udp number) pins = true

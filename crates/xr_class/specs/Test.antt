@@ -1,5 +1,5 @@
 -- What a place's rule gives for bits by number, and tests of what it gives for every assignment.
-use Rattle.std.specs.Prelude.{ℕ, Bool, List, not, Contains}
+use Rattle.std.specs.Prelude.{ℕ, ◌&&◌, ◌||◌, Bool, true, false, List, not, Contains}
 use Rattle.xr_cell.specs.declared.value.Value.{Value}
 use Rattle.xr_cell.specs.Value.{is_unknown}
 use Rattle.xr_design.specs.Job.{Job}
@@ -35,3 +35,12 @@ ReadsOnly j certain place (Bit bit) = Unit {0}
 ReadsOnly j certain place Unknown = Unit {0}
 ReadsOnly j certain place Known = Unit {0}
 ReadsOnly j certain place (Copies from inverted) = Contains (arguments j certain place) from
+
+-- What the rule gives for the assignment that chooses a number's bits for some places.
+abbrev pub value_by_number : Job → (ℕ → Value) → ℕ → List ℕ → ℕ → Value
+value_by_number j certain place places number = rule j certain (assigned certain (masked places number)) place
+
+-- Of two values one is 0, 1 or x and the other isn't.
+abbrev pub differ : Value → Value → Bool
+differ x y =
+    not ((is_bit x false && is_bit y false) || (is_bit x true && is_bit y true) || (is_unknown x && is_unknown y))

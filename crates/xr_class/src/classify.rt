@@ -8,15 +8,16 @@ ghost use Rattle.xr_design.specs.Job.{places_of};
 ghost use Rattle.xr_design.specs.Rule.{arguments};
 ghost use Rattle.xr_model.specs.Class.{class_of, is_carried_from};
 ghost use Rattle.xr_class.specs.Arguments.{uncertain_places};
-ghost use Rattle.xr_class.specs.Keeps.{AreCarriers, class_here, copy_or_line};
+ghost use Rattle.xr_class.specs.Keeps.{AreCarriers, class_here, copy_or_line, later_class};
 
 use crate::arguments::uncertain_places;
 use crate::earlier::Earlier;
-use crate::every::passes_every;
+use crate::every::{is_mixed, passes_every};
 use crate::keeps::{passes_on, place_before};
+use crate::quick::{copied_class, settled_class};
 use crate::ruled::ruled_arguments;
 use crate::test::Test;
-use xr_design::{Circuit, Source};
+use xr_design::{Circuit, Driver, Source, driver_at, spot_of};
 use xr_model::ClassByNumber;
 
 /// The class of a place, from what is known of the places before it: the first that applies. Takes no memory.
@@ -27,8 +28,28 @@ pub fn class_at<E: Earlier>(circuit: &Circuit<'_>, earlier: &E, place: usize) ->
     requires carriers { AreCarriers (job_in circuit.now) (E.reads earlier.now) (E.carries earlier.now) place }
     ensures { result ≡ class_of (job_in circuit.now) (E.reads earlier.now) place }
 {
+    let spot = spot_of(circuit, place);
+    match driver_at(circuit, spot.net) {
+        Driver::Copy(net) => copied_class(circuit, earlier, place, spot, *net),
+        _ => tried_class(circuit, earlier, place),
+    }
+}
+
+/// The class by what the rule gives.
+fn tried_class<E: Earlier>(circuit: &Circuit<'_>, earlier: &E, place: usize) -> ClassByNumber
+    requires fits { CircuitFits circuit.now }
+    requires within { place < places_of (job_in circuit.now) }
+    requires certain { (k : ℕ) → k < place → E.has earlier.now k }
+    requires carriers { AreCarriers (job_in circuit.now) (E.reads earlier.now) (E.carries earlier.now) place }
+    ensures { result ≡ class_here (job_in circuit.now) (E.reads earlier.now) place }
+{
     let uncertain = uncertain_places(circuit, earlier, place);
-    first_class(circuit, earlier, place, uncertain.as_slice())
+    let places = uncertain.as_slice();
+    if places.is_empty() {
+        settled_class(circuit, earlier, place)
+    } else {
+        first_class(circuit, earlier, place, places)
+    }
 }
 
 fn first_class<E: Earlier>(
@@ -45,13 +66,35 @@ fn first_class<E: Earlier>(
     requires uncertain { uncertain.now ≡ uncertain_places (job_in circuit.now) (E.reads earlier.now) place }
     ensures { result ≡ class_here (job_in circuit.now) (E.reads earlier.now) place }
 {
-    if passes_every(circuit, earlier, place, uncertain, Test::Bit(false)) {
+    if is_mixed(circuit, earlier, place, uncertain) {
+        later_class(circuit, earlier, place, uncertain)
+    } else if passes_every(circuit, earlier, place, uncertain, Test::Bit(false)) {
         ClassByNumber::Local(false)
     } else if passes_every(circuit, earlier, place, uncertain, Test::Bit(true)) {
         ClassByNumber::Local(true)
     } else if passes_every(circuit, earlier, place, uncertain, Test::Unknown) {
         ClassByNumber::Free
-    } else if passes_on(circuit, earlier, place, uncertain) {
+    } else {
+        later_class(circuit, earlier, place, uncertain)
+    }
+}
+
+/// The class of a place that is neither local nor free.
+fn later_class<E: Earlier>(
+    circuit: &Circuit<'_>,
+    earlier: &E,
+    place: usize,
+    uncertain: &[usize],
+) -> ClassByNumber
+    requires fits { CircuitFits circuit.now }
+    requires within { place < places_of (job_in circuit.now) }
+    requires certain { (k : ℕ) → k < place → E.has earlier.now k }
+    requires carriers { AreCarriers (job_in circuit.now) (E.reads earlier.now) (E.carries earlier.now) place }
+    requires few { length uncertain.now ≤ 13 }
+    requires uncertain { uncertain.now ≡ uncertain_places (job_in circuit.now) (E.reads earlier.now) place }
+    ensures { result ≡ later_class (job_in circuit.now) (E.reads earlier.now) place }
+{
+    if passes_on(circuit, earlier, place, uncertain) {
         ClassByNumber::Carried(place_before(circuit, place), false)
     } else {
         carried_or_line(circuit, earlier, place, uncertain)

@@ -1,16 +1,17 @@
 //! Which nets keep at a step, and which places pass their net's bit on.
 
 ghost use Rattle.std.specs.Prelude.{◌≡◌, ℕ, ◌+◌, ◌-◌, ◌*◌, ◌^◌, ◌<◌, ◌≤◌, ◌%◌, ◌==◌, ◌&&◌, length, not, nat_lt};
-ghost use Rattle.std.specs.List.{AllByRecursion, list_all};
+ghost use Rattle.std.specs.List.{AllByRecursion, list_all, list_any};
 ghost use Rattle.xr_cell.specs.declared.value.Value.{Value as AnyValue};
 ghost use Rattle.xr_design.specs.Circuit.{job_in, CircuitFits, IsSpot, Reach};
-ghost use Rattle.xr_design.specs.Fits.{FitsDriver, FitsRegister, StandsBefore};
+ghost use Rattle.xr_design.specs.Fits.{FitsDriver, FitsRegister, StandsBefore, is_dead};
 ghost use Rattle.xr_design.specs.Job.{at, places_of};
 ghost use Rattle.xr_design.specs.Order.{arguments_of_driver, net_pins};
 ghost use Rattle.xr_design.specs.Register.{has_uncertain_clock};
 ghost use Rattle.xr_model.specs.Class.{are_equal, before, class_of, is_never_unknown, keeps, passes_on, passes_on_of};
+ghost use Rattle.xr_design.specs.declared.design.Driver.TheVariants.{Cell};
 ghost use Rattle.xr_class.specs.Arguments.{uncertain_places};
-ghost use Rattle.xr_class.specs.Keeps.{AreCarriers, Standing, cell_passes, driver_passes, net_keeps, nets_keep, place_passes, register_passes};
+ghost use Rattle.xr_class.specs.Keeps.{AreCarriers, Standing, cell_chooses, cell_passes, driver_passes, net_keeps, nets_keep, place_passes, register_passes};
 
 use crate::earlier::Earlier;
 use crate::every::passes_every;
@@ -18,8 +19,8 @@ use crate::ruled::place_of;
 use crate::test::Test;
 use xr_cell::Value;
 use xr_design::{
-    Circuit, Driver, Latching, Pin, Spot, clock_is_uncertain, driver_at, recorded_at, spot_of,
-    width_of,
+    Circuit, Driver, Latching, Pin, Spot, Table, clock_is_uncertain, driver_at, recorded_at,
+    spot_of, width_of,
 };
 
 /// Whether a place passes its net's bit on, given its argument places that aren't certain. Takes no memory.
@@ -59,6 +60,7 @@ fn driver_passes<E: Earlier>(
     requires fits { CircuitFits circuit.now }
     requires spot { IsSpot (job_in circuit.now) place spot }
     requires driver { FitsDriver (job_in circuit.now).udps (job_in circuit.now).width driver.now }
+    requires is { (job_in circuit.now).driver spot.net ≡ driver.now }
     requires before { Standing (job_in circuit.now) spot (arguments_of_driver driver.now) }
     requires certain { (k : ℕ) → k < place → E.has earlier.now k }
     requires carriers { AreCarriers (job_in circuit.now) (E.reads earlier.now) (E.carries earlier.now) place }
@@ -74,12 +76,13 @@ fn driver_passes<E: Earlier>(
         Driver::Undriven => is_later_round(circuit, spot),
         Driver::Constant(_) => false,
         Driver::Copy(net) => net_keeps(circuit, earlier, place, spot.step, *net),
-        Driver::Cell(_, pins) => cell_passes(
+        Driver::Cell(table, pins) => cell_passes(
             circuit,
             earlier,
             place,
             uncertain,
             spot,
+            *table,
             pins.as_slice(),
         ),
         Driver::Register(latching) => register_passes(circuit, earlier, place, spot, latching),
@@ -99,10 +102,12 @@ fn cell_passes<E: Earlier>(
     place: usize,
     uncertain: &[usize],
     spot: Spot,
+    table: Table,
     pins: &[Pin],
 ) -> bool
     requires fits { CircuitFits circuit.now }
     requires spot { IsSpot (job_in circuit.now) place spot }
+    requires is { (job_in circuit.now).driver spot.net ≡ Cell table pins.now }
     requires before { Standing (job_in circuit.now) spot (net_pins pins.now) }
     requires certain { (k : ℕ) → k < place → E.has earlier.now k }
     requires carriers { AreCarriers (job_in circuit.now) (E.reads earlier.now) (E.carries earlier.now) place }
@@ -116,7 +121,30 @@ fn cell_passes<E: Earlier>(
     if !pins_keep(circuit, earlier, place, spot.step, pins) {
         return false;
     }
+    if !cell_chooses(table, pins) {
+        return true;
+    }
     passes_every(circuit, earlier, place, uncertain, Test::Known)
+}
+
+/// Whether the place of a cell reads its filling.
+fn cell_chooses(table: Table, pins: &[Pin]) -> bool
+    ensures { result ≡ cell_chooses table pins.now }
+{
+    match table {
+        Table::Gate(_) => has_dead(pins),
+        Table::Udp(_) => true,
+    }
+}
+
+fn has_dead(pins: &[Pin]) -> bool
+    ensures { result ≡ list_any is_dead pins.now }
+{
+    match pins {
+        [] => false,
+        [Pin::Dead, ..] => true,
+        [_, rest @ ..] => has_dead(rest),
+    }
 }
 
 fn register_passes<E: Earlier>(

@@ -1,5 +1,10 @@
 -- Lemmas on waves.
+mod FoundLines
 mod KeptBytes
 mod LineGrowth
+mod Nevers
 mod NextClass
+mod OneWave
+mod ShownPlaces
 mod WaveGrowth
+mod Ways

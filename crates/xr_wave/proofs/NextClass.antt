@@ -1,8 +1,9 @@
 -- The class of the next place, and the places that it names.
-use Rattle.std.proofs.Common.{◌≡◌, ℕ, ◌*◌, ◌<◌, ◌≤◌, Bool, true, false, Option, Some, None, List, [], ◌∷◌, ◌++◌, length, map, refl, sym, ◌∙◌, arith, subst, ⊎_elim, if◌then◌else◌, IfSome}
+use Rattle.std.proofs.Common.{◌≡◌, ℕ, ◌*◌, ◌<◌, ◌≤◌, ◌==◌, Bool, true, false, Option, Some, None, List, [], ◌∷◌, ◌++◌, length, map, refl, sym, ap, ◌∙◌, arith, subst, ⊎_elim, if◌then◌else◌, IfSome}
 use Rattle.std.specs.Prelude.{nat_lt}
+use Rattle.std.specs.Bool.{OnTrue}
 use Rattle.std.specs.List.{AllByRecursion}
-use Rattle.std.proofs.lemmas.Bool.{ltb-true, lt-ltb}
+use Rattle.std.proofs.lemmas.Bool.{and_parts, eqb-true, ltb-true, lt-ltb}
 use Rattle.std.proofs.lemmas.List.{length-map}
 use Rattle.xr_cell.specs.declared.value.Value.{Value}
 use Rattle.xr_design.specs.declared.place.Place.{Place}
@@ -128,3 +129,18 @@ carriers_pushed j fits bytes byte next carries within carriers next_is says byte
     subst (λ (bs : List ℕ). AreCarriers j (certain (map written_of_byte bs)) (carries_in bs) (length bs)) (sym all_is)
     (carriers_grown j fits bytes byte within carriers
     (byte_is ∙ next_carries j bytes carries within (rw next_is at says)))
+
+-- A class that carries on is Carried from the place before, as it is.
+pub carried_on : (class : ClassByNumber) (back : ℕ) → carries_on class back ≡ true → class ≡ Carried back false
+carried_on (Local bit) back on = cc
+carried_on Free back on = cc
+carried_on (Carried from false) back on =
+    let same : from ≡ back = eqb-true from back (and_parts (from == back) true on).0 in
+    ap (λ k. Carried k false) same
+carried_on (Carried from true) back on = let none = (and_parts (from == back) false on).1 in cc
+carried_on Line back on = cc
+
+pub told_on : (told : Bool) (class : ClassByNumber) (back : ℕ) → told ≡ carries_on class back
+    → OnTrue told (class ≡ Carried back false)
+told_on true class back is = carried_on class back (sym is)
+told_on false class back is = tt

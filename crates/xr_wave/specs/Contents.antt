@@ -1,5 +1,5 @@
 -- What a wave holds, and what is always true of it.
-use Rattle.std.specs.Prelude.{ℕ, ◌<◌, ◌≤◌, Option, None, Some, List, [], length, nat_lt, if◌then◌else◌}
+use Rattle.std.specs.Prelude.{◌≡◌, ℕ, ◌<◌, ◌≤◌, Option, None, Some, List, [], length, nat_lt, if◌then◌else◌}
 use Rattle.xr_cell.specs.declared.value.Value.{Value}
 use Rattle.xr_design.specs.declared.design.Design.{Design}
 use Rattle.xr_design.specs.declared.stim.Stim.{Stim}
@@ -103,6 +103,10 @@ pub record IsWritten (c : Contents) (place : Place) : Type 0 where
 
 abbrev pub written_of : Contents → Place → Written
 written_of c place = written_at c.written (number_of (job c) place)
+
+-- Every place is written.
+abbrev pub IsFinished : Contents → Type 0
+IsFinished c = length c.written ≡ places_of (job c)
 
 -- A place of the job that is written, or the next one.
 pub record IsReached (c : Contents) (place : Place) : Type 0 where
