@@ -1,0 +1,3 @@
+-- Lemmas on pairs.
+pub mod LeastLanes
+pub mod NextPairs

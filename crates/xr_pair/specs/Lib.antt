@@ -1,0 +1,2 @@
+-- Definitions of pairs.
+pub mod Pairs

@@ -1,0 +1,42 @@
+-- When two fillings are no pair, and when 64 fillings of the sources agree.
+use Rattle.std.specs.Prelude.{◌≡◌, ℕ, ◌<◌, ◌≤◌, Bool, true, false, Option, None, Some, List, count_ones, nat_le, if◌then◌else◌}
+use Rattle.xr_design.specs.declared.place.Place.{Place}
+use Rattle.xr_wave.specs.Contents.{Contents, next_number}
+use Rattle.xr_cone_nodes.specs.declared.node.Node.{Node}
+use Rattle.xr_cone_nodes.specs.Lanes.{in_lane, root_in_lane}
+use Rattle.xr_cone_nodes.specs.Nodes.{nothing, root_bit}
+use Rattle.xr_cone_nodes.specs.Traced.{IsConeOf, world_in}
+use Rattle.xr_pair.specs.declared.check.BadPair.{BadPair}
+use Rattle.xr_pair.specs.declared.check.BadPair.TheVariants.{NotZero, NotOne, Memory}
+
+-- The nodes are the cone of the next place.
+abbrev pub IsNextCone : Contents → List Node → Type 0
+IsNextCone c nodes = IsConeOf c (next_number c) nodes
+
+-- The bit of the next place in the world of a filling.
+abbrev pub next_bit : Contents → List Place → Bool
+next_bit c filling = world_in c filling (next_number c)
+
+-- What each refusal says: the first gives 1, or it gives 0 and so does the second.
+abbrev pub IsRefusal : Contents → List Place → List Place → BadPair → Type 0
+IsRefusal c zero one NotZero = next_bit c zero ≡ true
+IsRefusal c zero one NotOne = (next_bit c zero ≡ false) × (next_bit c one ≡ false)
+IsRefusal c zero one Memory = Unit {0}
+
+-- In each lane the root has its bit of the empty filling.
+abbrev pub AllAgree : List Node → List ℕ → Type 0
+AllAgree nodes given = (lane : ℕ) → lane < 64 → root_in_lane nodes given lane ≡ root_bit nothing nodes
+
+-- A word has no 1, or a lane has one, its number being among those with the least ones.
+abbrev pub HasNone : ℕ → Type 0
+HasNone word = (lane : ℕ) → lane < 64 → in_lane word lane ≡ false
+
+pub record IsLeast (word lane : ℕ) : Type 0 where
+  pub within : lane < 64
+  pub one : in_lane word lane ≡ true
+  pub least : (other : ℕ) → other < 64 → in_lane word other ≡ true → count_ones lane ≤ count_ones other
+
+-- Of two lanes, if there are two, the first where its number has no more ones.
+abbrev pub IsLesser : Option ℕ → ℕ → ℕ → Type 0
+IsLesser None second lane = lane ≡ second
+IsLesser (Some first) second lane = lane ≡ (if nat_le (count_ones first) (count_ones second) then first else second)

@@ -1,0 +1,60 @@
+//! Two fillings that are claimed to be a pair.
+
+ghost use Rattle.std.specs.Prelude.{◌≡◌, IfErr, IfOk};
+ghost use Rattle.xr_design.specs.Filling.{IsFilling};
+ghost use Rattle.xr_wave.specs.Contents.{job};
+ghost use Rattle.xr_wave.specs.Token.{LineHolds, pair_line};
+ghost use Rattle.xr_pair.specs.Pairs.{IsNextCone, IsRefusal};
+
+use std::alloc::Global;
+use xr_base::Memory;
+use xr_cone_nodes::Cone;
+use xr_design::Filling;
+use xr_wave::{Pair, Wave};
+
+/// Why two fillings are no pair.
+#[derive(Clone, Copy, Debug, PartialEq, Eq)]
+pub enum BadPair {
+    /// The first gives 1.
+    NotZero,
+    /// The first gives 0, and so does the second.
+    NotOne,
+    /// There was no memory.
+    Memory,
+}
+
+impl From<Memory> for BadPair {
+    ghost use Rattle.xr_pair.specs.declared.check.BadPair.TheVariants.{Memory as OutOfMemory};
+
+    ghost from_gives = { λ _ refusal. refusal ≡ OutOfMemory };
+
+    fn from(_: Memory) -> Self {
+        BadPair::Memory
+    }
+}
+
+/// The token of the next place, where the world of the first filling gives 0 there and that of the second gives 1. Takes 8
+/// bytes a node and a source of the cone, and a set of a filling's places.
+pub fn check_pair(
+    alloc: Global,
+    wave: &Wave<'_>,
+    cone: &Cone,
+    zero: Filling,
+    one: Filling,
+) -> Result<Pair, BadPair>
+    requires cone { IsNextCone wave.now cone.now.nodes }
+    requires zero { IsFilling (job wave.now) zero }
+    requires one { IsFilling (job wave.now) one }
+    ensures holds { IfOk result (λ pair. LineHolds wave.now (pair_line pair)) }
+    ensures zero { IfOk result (λ pair. pair.zero ≡ zero) }
+    ensures one { IfOk result (λ pair. pair.one ≡ one) }
+    ensures refusal { IfErr result (IsRefusal wave.now zero one) }
+{
+    if cone.value(alloc, &zero)? {
+        return Err(BadPair::NotZero);
+    }
+    if !cone.value(alloc, &one)? {
+        return Err(BadPair::NotOne);
+    }
+    Ok(Pair::from_law(wave, zero, one))
+}

@@ -1,0 +1,11 @@
+//! Pairs: two fillings whose worlds give 0 and 1 at the next place of a wave.
+//!
+//! Start at specs/Pairs.antt, then at `check_pair` and `try_words`.
+#![tactic(auto)]
+
+mod check;
+mod lanes;
+mod tries;
+
+pub use check::{BadPair, check_pair};
+pub use tries::{try_in, try_words};

@@ -1,0 +1,75 @@
+//! 64 fillings at once against the empty one.
+
+ghost use Rattle.std.specs.Prelude.{◌≡◌, ◌<◌, ◌↔◌, IfOk, IfSome, IsNone, length, not};
+ghost use Rattle.xr_cone_nodes.specs.Lanes.{root_in_lane};
+ghost use Rattle.xr_cone_nodes.specs.Nodes.{nothing, root_bit};
+ghost use Rattle.xr_wave.specs.Token.{LineHolds, pair_line};
+ghost use Rattle.xr_pair.specs.Pairs.{AllAgree, IsNextCone};
+
+use crate::lanes::least_lane;
+use std::alloc::Global;
+use xr_base::{Items, Memory};
+use xr_cone_nodes::{Cone, Words, turned};
+use xr_wave::{Pair, Wave};
+
+/// Tries the 64 fillings in which source i has the bits of given[i], or 0 where there is no such word. Where one gives
+/// the place another bit than the empty filling, the two are its pair. Takes 8 bytes a node, and a filling.
+pub fn try_words(
+    alloc: Global,
+    wave: &Wave<'_>,
+    cone: &Cone,
+    given: &[u64],
+) -> Result<Option<Pair>, Memory>
+    requires { IsNextCone wave.now cone.now.nodes }
+    ensures holds { IfOk result (λ found. IfSome found (λ pair. LineHolds wave.now (pair_line pair))) }
+    ensures none { IfOk result (λ found. IsNone found ↔ AllAgree cone.now.nodes given.now) }
+{
+    let mut words = Words::new(alloc, cone)?;
+    try_in(alloc, wave, cone, &mut words, given)
+}
+
+/// The same in room that calls share. Takes memory for a filling alone.
+pub fn try_in(
+    alloc: Global,
+    wave: &Wave<'_>,
+    cone: &Cone,
+    words: &mut Words,
+    given: &[u64],
+) -> Result<Option<Pair>, Memory>
+    requires cone { IsNextCone wave.now cone.now.nodes }
+    requires room { words.old.nodes ≡ length cone.now.nodes }
+    ensures holds { IfOk result (λ found. IfSome found (λ pair. LineHolds wave.now (pair_line pair))) }
+    ensures none { IfOk result (λ found. IsNone found ↔ AllAgree cone.now.nodes given.now) }
+    ensures room { words.new.nodes ≡ words.old.nodes }
+{
+    let word = words.root(cone, given);
+    match least_lane(turned(word, cone.base())) {
+        None => Ok(None),
+        Some(lane) => {
+            let pair = pair_of_lane(alloc, wave, cone, given, lane)?;
+            Ok(Some(pair))
+        }
+    }
+}
+
+/// The pair of the empty filling and that of a lane, in the order that the empty one says.
+fn pair_of_lane(
+    alloc: Global,
+    wave: &Wave<'_>,
+    cone: &Cone,
+    given: &[u64],
+    lane: u32,
+) -> Result<Pair, Memory>
+    requires cone { IsNextCone wave.now cone.now.nodes }
+    requires lane { lane < 64 }
+    requires differs { root_in_lane cone.now.nodes given.now lane ≡ not (root_bit nothing cone.now.nodes) }
+    ensures { IfOk result (λ pair. LineHolds wave.now (pair_line pair)) }
+{
+    let other = cone.chosen(alloc, given, lane)?;
+    let empty = Items::from_vec(Vec::new(alloc));
+    if cone.base() {
+        Ok(Pair::from_law(wave, other, empty))
+    } else {
+        Ok(Pair::from_law(wave, empty, other))
+    }
+}
