@@ -1,0 +1,36 @@
+-- What is shown of the next place by the answers of a search on its query.
+use Rattle.std.proofs.Common.{◌≡◌, ◌<◌, Bool, List, length, map, refl, sym, ap, ◌∙◌, subst}
+use Rattle.std.specs.Prelude.{ℤ}
+use Rattle.std.proofs.lemmas.List.{length-map}
+use Rattle.xr_design.specs.Fits.{place_at}
+use Rattle.xr_model.specs.declared.line.Body.TheVariants.{Refuted, Undecided}
+use Rattle.xr_cone_nodes.specs.declared.node.Node.{Node}
+use Rattle.xr_cone_nodes.specs.Nodes.{nothing, root_bit, sources_of}
+use Rattle.xr_cone_nodes.specs.Traced.{sources_in}
+use Rattle.xr_cone_nodes.proofs.ConeLaws.{base_law, sources_law}
+use Rattle.xr_wave.specs.Contents.{Contents, job, next_number}
+use Rattle.xr_wave.specs.Token.{HoldsNext}
+use Rattle.xr_cnf.specs.Answers.{IsNextCone, IsFreshNext, RefutesNext}
+
+-- A log that refutes the query shows the bit that the query denies.
+pub refuted_next : (c : Contents) (nodes : List Node) (log : List (List ℤ)) → IsNextCone c nodes → RefutesNext c log
+    → HoldsNext c (Refuted (root_bit nothing nodes) log)
+refuted_next c nodes log is refutes = record {
+  denied = sym (base_law c (next_number c) nodes is);
+  query = refutes.query;
+  is_query = refutes.is_query;
+  literals = refutes.literals;
+  refutes = refutes.refutes;
+}
+
+-- A fresh log as long as the limit is a licence where there are more than 12 sources.
+pub licence_next : (c : Contents) (nodes : List Node) (log : List (List ℤ)) → IsNextCone c nodes → IsFreshNext c log
+    → 12 < length (sources_of nodes) → length log ≡ c.limit → HoldsNext c (Undecided log)
+licence_next c nodes log is fresh many long = record {
+  many = subst (λ n. 12 < n) (ap length (sources_law c (next_number c) nodes is)
+      ∙ length-map (sources_in c (next_number c)) (place_at (job c))) many;
+  query = fresh.query;
+  is_query = fresh.is_query;
+  fresh = fresh.fresh;
+  long = long;
+}

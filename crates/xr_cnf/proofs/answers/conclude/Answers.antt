@@ -1,0 +1,13 @@
+use Rattle.std.proofs.Common.{sym, subst}
+use Rattle.xr_model.specs.declared.line.Body.TheVariants.{Refuted}
+use Rattle.xr_cone_nodes.specs.Nodes.{nothing, root_bit}
+use Rattle.xr_wave.specs.Token.{HoldsNext}
+use Rattle.xr_cnf.proofs.NextAnswers.{refuted_next}
+use Rattle.xr_cnf.proofs.answers.conclude.Goals as goal
+
+pub from_law-requires-clause-law : goal.from_law-requires-clause-law
+from_law-requires-clause-law c =
+    subst (λ bit. HoldsNext c.args.wave.now (Refuted bit c.into_log.result)) (sym c.base.ensures)
+    (subst (λ log. HoldsNext c.args.wave.now (Refuted (root_bit nothing c.args.cone.now.nodes) log))
+    (sym c.into_log.ensures)
+    (refuted_next c.args.wave.now c.args.cone.now.nodes c.args.proof c.requires.cone c.requires.refutes))

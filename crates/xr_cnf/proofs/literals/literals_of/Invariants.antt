@@ -1,0 +1,9 @@
+use Rattle.std.proofs.Common.{◌≡◌, take}
+use Rattle.xr_cnf.specs.Literals.{AreLiterals, variables_of}
+use Rattle.xr_cnf.proofs.literals.literals_of.Given as goal
+
+abbrev pub invariant-nodes : goal.invariant-nodes
+invariant-nodes l = record {
+  are : AreLiterals (take l.node-index l.nodes) l.literals.items;
+  variables : l.variables ≡ variables_of (take l.node-index l.nodes);
+}

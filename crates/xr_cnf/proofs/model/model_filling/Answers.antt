@@ -1,0 +1,22 @@
+use Rattle.std.proofs.Common.{◌≡◌, List, length, ap, ◌∙◌}
+use Rattle.xr_proof.specs.Assignment.{assigned}
+use Rattle.xr_cone_nodes.specs.declared.node.Node.{Node}
+use Rattle.xr_cnf.specs.Models.{picked_places}
+use Rattle.xr_cnf.proofs.ModelFillings.{picked_filling, picked_pair}
+use Rattle.xr_cnf.proofs.model.model_filling.Goals as goal
+
+pub returns-clause-filling : goal.returns-clause-filling
+returns-clause-filling c =
+    let nodes : List Node = c.args.cone.now.nodes in
+    let places = c.from_vec.ensures ∙ c.in_ok-places.ensures
+    ∙ ap (λ ns. picked_places ns (assigned c.as_slice.result.now) (length ns)) c.nodes.ensures.nodes
+    ∙ ap (λ values. picked_places nodes (assigned values) (length nodes)) c.as_slice.ensures in
+    picked_filling nodes c.args.model.now c.from_vec.result places
+
+pub returns-clause-pair : goal.returns-clause-pair
+returns-clause-pair c =
+    let nodes : List Node = c.args.cone.now.nodes in
+    let places = c.from_vec.ensures ∙ c.in_ok-places.ensures
+    ∙ ap (λ ns. picked_places ns (assigned c.as_slice.result.now) (length ns)) c.nodes.ensures.nodes
+    ∙ ap (λ values. picked_places nodes (assigned values) (length nodes)) c.as_slice.ensures in
+    picked_pair nodes c.args.model.now c.from_vec.result places

@@ -1,0 +1,11 @@
+use Rattle.std.proofs.Common.{◌≡◌, take}
+use Rattle.xr_proof.specs.Assignment.{assigned}
+use Rattle.xr_cnf.specs.Literals.{variables_of}
+use Rattle.xr_cnf.specs.Models.{picked_places}
+use Rattle.xr_cnf.proofs.model.picked_places.Given as goal
+
+abbrev pub invariant-nodes : goal.invariant-nodes
+invariant-nodes l = record {
+  places : l.places.items ≡ picked_places l.nodes (assigned l.values) l.node-index;
+  variables : l.variables ≡ variables_of (take l.node-index l.nodes);
+}

@@ -1,0 +1,8 @@
+use Rattle.std.proofs.Common.{◌≡◌}
+use Rattle.xr_cnf.specs.Clauses.{node_says}
+use Rattle.xr_cnf.specs.Growth.{denied}
+use Rattle.xr_cnf.proofs.tables.literals_of.Given as goal
+
+abbrev pub invariant-arguments : goal.invariant-arguments
+invariant-arguments l =
+    l.wanted.items ≡ denied (node_says l.table.literals.now l.table.arguments.now l.table.position) l.choice l.argument

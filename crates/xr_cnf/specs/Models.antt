@@ -1,0 +1,46 @@
+-- The fillings of models of a query.
+use Rattle.std.specs.Prelude.{◌≡◌, ℕ, zero, suc, ◌&&◌, Bool, List, [], ◌∷◌, ◌++◌, take, ℤ, if◌then◌else◌}
+use Rattle.xr_design.specs.declared.place.Place.{Place}
+use Rattle.xr_design.specs.Waveform.{certain}
+use Rattle.xr_model.specs.Cone.{source_filling}
+use Rattle.xr_model.specs.Line.{GivesBoth}
+use Rattle.xr_model.specs.Query.{valuation_of}
+use Rattle.xr_model.specs.Stated.{pair_of, swapped}
+use Rattle.xr_proof.specs.Assignment.{IsModel, assigned}
+use Rattle.xr_cone_nodes.specs.declared.node.Node.{Node}
+use Rattle.xr_cone_nodes.specs.Nodes.{is_source_node, node_at, nothing, root_bit}
+use Rattle.xr_cone_nodes.specs.Traced.{IsConeOf}
+use Rattle.xr_wave.specs.Contents.{Contents, job}
+use Rattle.xr_cnf.specs.Answers.{IsQueryAt}
+use Rattle.xr_cnf.specs.Literals.{variables_of}
+
+-- A model picks a node that is a source and whose variable it gives 1.
+abbrev pub is_picked : List Node → (ℕ → Bool) → ℕ → Bool
+is_picked nodes model position = is_source_node (node_at nodes position) && model (variables_of (take position nodes))
+
+-- The places of the first nodes that it picks.
+abbrev pub picked_places : List Node → (ℕ → Bool) → ℕ → List Place
+picked_places nodes model zero = []
+picked_places nodes model (suc n) =
+    if is_picked nodes model n
+    then picked_places nodes model n ++ (node_at nodes n).place ∷ []
+    else picked_places nodes model n
+
+-- A filling gives each source of a cone its bit in the valuation of a model, whichever place of a wave the nodes are the
+-- cone of.
+abbrev pub IsModelFilling : List Node → List Bool → List Place → Type 0
+IsModelFilling nodes values filling = (c : Contents) (root : ℕ) → IsConeOf c root nodes
+    → filling ≡ source_filling (job c) (certain c.written) root
+    (valuation_of (job c) (certain c.written) root (assigned values))
+
+-- Values are a model of a list that is the query of a place.
+pub record HasModel (c : Contents) (root : ℕ) (values : List Bool) : Type 0 where
+  pub vars : ℕ
+  pub query : List (List ℤ)
+  pub is_query : IsQueryAt c root query
+  pub is_model : IsModel vars query values
+
+-- Then the empty filling and that one give the place both bits.
+abbrev pub GivesPair : List Node → List Bool → List Place → Type 0
+GivesPair nodes values filling = (c : Contents) (root : ℕ) → IsConeOf c root nodes → HasModel c root values
+    → GivesBoth (job c) c.written root (swapped (root_bit nothing nodes) (pair_of [] filling))

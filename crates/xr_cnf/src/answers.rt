@@ -1,0 +1,33 @@
+//! What the answers of a search on the query of a cone are worth.
+
+ghost use Rattle.std.specs.Prelude.{◌≡◌, ◌<◌, length};
+ghost use Rattle.xr_cone_nodes.specs.Nodes.{nothing, root_bit, sources_of};
+ghost use Rattle.xr_wave.specs.Token.{LineHolds, bit_of, budget_line, settled_line};
+ghost use Rattle.xr_cnf.specs.Answers.{IsFreshNext, IsNextCone, RefutesNext};
+
+use xr_cone_nodes::Cone;
+use xr_proof::{Exhausted, Refuted};
+use xr_wave::{Budget, How, Settled, Wave};
+
+/// A log that refutes the query of the next place shows that every filling gives the bit that the query denies. Takes no
+/// memory.
+pub fn conclude(wave: &Wave<'_>, cone: &Cone, proof: Refuted) -> Settled
+    requires cone { IsNextCone wave.now cone.now.nodes }
+    requires refutes { RefutesNext wave.now proof }
+    ensures holds { LineHolds wave.now (settled_line result) }
+    ensures bit { bit_of result.how ≡ root_bit nothing cone.now.nodes }
+{
+    Settled::from_law(wave, How::Refuted(cone.base(), proof.into_log()))
+}
+
+/// A fresh log as long as the wave's limit lets the next place be undecided where it has more than 12 sources. Takes no
+/// memory.
+pub fn give_up(wave: &Wave<'_>, cone: &Cone, proof: Exhausted) -> Budget
+    requires cone { IsNextCone wave.now cone.now.nodes }
+    requires many { 12 < length (sources_of cone.now.nodes) }
+    requires fresh { IsFreshNext wave.now proof }
+    requires long { length proof ≡ wave.now.limit }
+    ensures { LineHolds wave.now (budget_line result) }
+{
+    Budget::from_law(wave, proof.into_log())
+}

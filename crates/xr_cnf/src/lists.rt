@@ -1,0 +1,74 @@
+//! Lists of literals, and the clauses that they are, each once.
+
+ghost use Rattle.std.specs.Prelude.{◌≡◌, ◌∷◌, ◌++◌, [], IfOk, OnOk, map};
+ghost use Rattle.std.specs.List.{All};
+ghost use Rattle.xr_proof.specs.Assignment.{HasNoZero};
+ghost use Rattle.xr_cnf.specs.Growth.{AreOnce};
+
+use std::alloc::Global;
+use std::marker::Model;
+use xr_base::Memory;
+use xr_proof::Clause;
+
+/// Lists of literals.
+#[derive(Debug, Drop)]
+pub struct Lists {
+    lists: Vec<Vec<i32>>,
+}
+
+impl Model for Lists {
+    ghost use Rattle.std.specs.Prelude.{List, ℤ, map};
+
+    ghost Value = { List (List ℤ) };
+
+    ghost view = { λ lists. map (λ v. v.items) lists.lists.items };
+}
+
+impl Lists {
+    /// No list. Takes no memory.
+    pub fn new(alloc: Global) -> Lists
+        ensures { result ≡ [] }
+    {
+        Lists {
+            lists: Vec::new(alloc),
+        }
+    }
+
+    /// Appends a list.
+    pub fn push(&mut self, list: Vec<i32>) -> Result<(), Memory>
+        ensures { OnOk result (self.new ≡ self.old ++ list.items ∷ []) }
+    {
+        self.lists.push(list)?;
+        Ok(())
+    }
+
+    /// The clauses that the lists are, each once, in the order of their literals. Sorts them.
+    pub fn into_clauses(self, alloc: Global) -> Result<Vec<Clause>, Memory>
+        requires { All HasNoZero self }
+        ensures { IfOk result (λ clauses. AreOnce self clauses.items) }
+    {
+        let Lists { lists } = self;
+        let lists = once(lists)?;
+        clauses_of(alloc, lists)
+    }
+}
+
+/// The lists in the order of their literals, each once.
+fn once(mut lists: Vec<Vec<i32>>) -> Result<Vec<Vec<i32>>, Memory>
+    ensures { IfOk result (λ found. AreOnce (map (λ v. v.items) lists.items) (map (λ v. v.items) found.items)) }
+{
+    lists.sort()?;
+    lists.dedup();
+    Ok(lists)
+}
+
+fn clauses_of(alloc: Global, lists: Vec<Vec<i32>>) -> Result<Vec<Clause>, Memory>
+    requires { All HasNoZero (map (λ v. v.items) lists.items) }
+    ensures { IfOk result (λ clauses. clauses.items ≡ map (λ v. v.items) lists.items) }
+{
+    let mut clauses = Vec::with_capacity(alloc, lists.len())?;
+    'lists: for list in lists {
+        clauses.push(Clause::from_vec(list))?;
+    }
+    Ok(clauses)
+}
