@@ -1,0 +1,3 @@
+-- Lemmas on decisions by enumeration.
+pub mod BlockWords
+pub mod TriedNumbers

@@ -1,0 +1,3 @@
+-- Definitions of decisions by enumeration.
+pub mod Blocks
+pub mod Decision

@@ -1,0 +1,9 @@
+//! A place decided by trying all fillings of its sources, 64 at once.
+//!
+//! Start at specs/Blocks.antt, then at `decide`.
+#![tactic(auto)]
+
+mod blocks;
+mod decision;
+
+pub use decision::{Decided, decide};
