@@ -6,7 +6,6 @@ use Rattle.std.proofs.Math.ListN.{get_or-append}
 use Rattle.std.proofs.Math.Seq.{get_or-append_seam}
 use Rattle.std.proofs.lemmas.Bool.{and_from, cases_Bool, cases_eq, cases_order}
 use Rattle.std.proofs.lemmas.List.{get_or-take, length-map, length-take-le}
-use Rattle.xr_cell.specs.declared.value.Value.{Value}
 use Rattle.xr_cell.specs.declared.value.Value.TheVariants.{X}
 use Rattle.xr_cell.specs.Value.{is_unknown}
 use Rattle.xr_design.proofs.Worlds.{decided_known}
@@ -83,12 +82,6 @@ node_bits_length given nodes zero = refl
 node_bits_length given nodes (suc n) = let ih = node_bits_length given nodes n in rw length-append (omega (arith, ih))
 
 module _ (c : Contents) (root : ℕ) (nodes : List Node) (is : IsConeOf c root nodes) where
-  cert : ℕ → Value
-  cert = certain c.written
-
-  places : List ℕ
-  places = cone_in c root
-
   abbrev inside_cone : ℕ → Bool
   inside_cone = in_cone (job c) (certain c.written) root
 
@@ -100,7 +93,8 @@ module _ (c : Contents) (root : ℕ) (nodes : List Node) (is : IsConeOf c root n
       is.reach.within
 
   pub count : length (cone_in c root) ≡ length nodes
-  count = sym (length-map (cone_in c root) (place_at (job c))) ∙ sym (ap length is.places) ∙ length-map nodes place_of_node
+  count = sym (length-map (cone_in c root) (place_at (job c))) ∙ sym (ap length is.places)
+      ∙ length-map nodes place_of_node
 
   rises : IsStrictlyIncreasing (cone_in c root)
   rises = picked_rises inside_cone (root + 1)
@@ -172,8 +166,8 @@ module _ (c : Contents) (root : ℕ) (nodes : List Node) (is : IsConeOf c root n
   -- The sources, in place order.
   pub sources_are : sources_of nodes ≡ map (place_at (job c)) (sources (job c) (certain c.written) root)
   sources_are =
-      filters_match place_of_node (place_at (job c)) is_source_node (is_born (job c) (certain c.written)) no_node 0 nodes
-      (cone_in c root) is.places (λ p less. node_born p less)
+      filters_match place_of_node (place_at (job c)) is_source_node (is_born (job c) (certain c.written)) no_node 0
+      nodes (cone_in c root) is.places (λ p less. node_born p less)
       ∙ ap (map (place_at (job c))) (sym (places_both inside_cone (is_born (job c) (certain c.written)) (root + 1)))
 
   -- How many stand before a place.

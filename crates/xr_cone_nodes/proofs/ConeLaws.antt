@@ -133,7 +133,8 @@ enumerated_law c root nodes bit is few each =
     (let l = long in omega (arith, l, few)) (λ number small.
     sym (root_world c root nodes is (by_sources nodes (number_bits number)) (own number)
     (source_filling_is (job c) (fits c root nodes is) (certain c.written) root (masked all number) is.reach.within)
-    (λ p less born. given number p less born)) ∙ each number (let l = long in subst (λ n. number < 2 ^ n) (sym l) small))
+    (λ p less born. given number p less born))
+    ∙ each number (let l = long in subst (λ n. number < 2 ^ n) (sym l) small))
   where
     all : List ℕ
     all = sources (job c) (certain c.written) root

@@ -1,10 +1,10 @@
 -- The words of nodes, as they are made.
-use Rattle.std.proofs.Common.{◌≡◌, ℕ, suc, ◌+◌, ◌-◌, ◌*◌, ◌/◌, ◌%◌, ◌^◌, ◌<◌, ◌≤◌, ◌==◌, ◌&&◌, [], cond, Bool, true, false, List, length, map, take, drop, nat_lt, get_or, set, refl, sym, ap, ◌∙◌, subst, arith, add-one, slice_index_or, slice_index}
+use Rattle.std.proofs.Common.{◌≡◌, ℕ, suc, ◌+◌, ◌-◌, ◌*◌, ◌/◌, ◌%◌, ◌^◌, ◌<◌, ◌≤◌, ◌==◌, ◌&&◌, cond, Bool, true, false, List, length, map, take, drop, nat_lt, get_or, set, refl, sym, ap, ◌∙◌, subst, arith, add-one, slice_index_or, slice_index}
 use Rattle.std.specs.Prelude.{bit_and, bit_or}
 use Rattle.std.proofs.Math.Path.{fun_ext}
 use Rattle.std.proofs.Math.ListN.{get_or-map}
 use Rattle.std.proofs.Math.Nat.{pow-suc}
-use Rattle.std.proofs.Math.Seq.{drop-cons, take-suc-set, take-length, drop-length}
+use Rattle.std.proofs.Math.Seq.{drop-cons, take-suc-set}
 use Rattle.std.proofs.lemmas.List.{length-set, map-append}
 use Rattle.std.proofs.lemmas.List.Filters.{length-filter_more}
 use Rattle.std.proofs.lemmas.Bool.{lt-ltb}
@@ -16,7 +16,7 @@ use Rattle.xr_model.specs.Mask.{mask_of}
 use Rattle.xr_model.specs.Node.{node_bit}
 use Rattle.xr_model.proofs.AssignmentNumbers.{mask_small}
 use Rattle.xr_cone_nodes.specs.declared.node.Node.{Node}
-use Rattle.xr_cone_nodes.specs.Lanes.{AreWords, HasLanes, in_lane, lane_of, root_in_lane}
+use Rattle.xr_cone_nodes.specs.Lanes.{AreWords, HasLanes, in_lane, lane_of}
 use Rattle.xr_cone_nodes.specs.Nodes.{body_at, by_sources, is_source_node, no_node, node_at, node_bits, sources_before, table_bit}
 use Rattle.xr_cone_nodes.proofs.LaneBits.{lane_and, lane_or, lane_ones, lane_zero, mask_step, one_more}
 
@@ -57,23 +57,9 @@ agrees_more arguments words number lanes rest index word less so has =
           ≡ (mask_of arguments bits == number) = subst (λ xs. in_lane lanes lane && (mask_of xs bits == rest)
           ≡ (mask_of arguments bits == number)) cut (so.in_lanes lane within) in
           rw (add-one, lane_and, has lane within)
-          (and_same (in_lane lanes lane) (flipped (rest % 2 == 0) (bits (get_or arguments index 0))) (others == rest / 2)
-          _ _ (mask_step (bits (get_or arguments index 0)) others rest) before));
+          (and_same (in_lane lanes lane) (flipped (rest % 2 == 0) (bits (get_or arguments index 0)))
+          (others == rest / 2) _ _ (mask_step (bits (get_or arguments index 0)) others rest) before));
     }
-
-and_on : (a e : Bool) → a && true ≡ e → a ≡ e
-and_on true e h = h
-and_on false e h = h
-
-pub agrees_all : (arguments words : List ℕ) (number lanes rest : ℕ)
-    → AgreesSoFar arguments words number lanes rest (length arguments)
-    → HasLanes lanes (λ lane. mask_of arguments (lane_of words lane) == number)
-agrees_all arguments words number lanes rest so =
-    let none : drop (length arguments) arguments ≡ [] = drop-length arguments in
-    let small : rest < 1 = subst (λ xs. rest < 2 ^ length xs) none so.small in
-    let zero_rest : rest ≡ 0 = omega arith in
-    λ lane less. (let before : in_lane lanes lane && (0 == 0) ≡ (mask_of arguments (lane_of words lane) == number) =
-    rw (none, zero_rest) at (so.in_lanes lane less) in and_on (in_lane lanes lane) _ before)
 
 -- The word of the first values of a table.
 abbrev pub CoversSoFar : List ℕ → List Value → List ℕ → ℕ → ℕ → ℕ → Type 0
@@ -88,7 +74,8 @@ pub covers_more : (arguments : List ℕ) (values : List Value) (words : List ℕ
     → CoversSoFar arguments values words own (bit_or word part) (index + 1)
 covers_more arguments values words own word part index value is so has = λ lane less.
     lane_or word part lane ∙ rw (so lane less, has lane less, is)
-    (one_more (λ i. decided (slice_index_or values i X) (in_lane own lane)) (mask_of arguments (lane_of words lane)) index)
+    (one_more (λ i. decided (slice_index_or values i X) (in_lane own lane)) (mask_of arguments (lane_of words lane))
+    index)
 
 pub covers_all : (arguments : List ℕ) (values : List Value) (words : List ℕ) (own word index : ℕ)
     → length values ≡ 2 ^ length arguments → length values ≤ index
@@ -124,15 +111,6 @@ bits_of_words : (words : List ℕ) (lane : ℕ)
     → bit_at (map (λ word. in_lane word lane) words) ≡ lane_of words lane
 bits_of_words words lane = fun_ext (λ p. subst (λ d. get_or (map (λ word. in_lane word lane) words) p d
     ≡ in_lane (get_or words p 0) lane) (lane_zero lane) (get_or-map (λ word. in_lane word lane) words p 0))
-
--- The word of the root is that of the last node.
-pub root_lanes : (nodes : List Node) (given words : List ℕ) → length words ≡ length nodes
-    → AreWords nodes given words (length nodes)
-    → HasLanes (slice_index words (length nodes - 1)) (root_in_lane nodes given)
-root_lanes nodes given words room are = λ lane less.
-    ap (λ bits. bits (length nodes - 1)) (sym (bits_of_words words lane))
-    ∙ ap (λ bits. bit_at bits (length nodes - 1)) (ap (map (λ word. in_lane word lane))
-    (sym (ap (λ n. take n words) (sym room) ∙ take-length words)) ∙ are lane less)
 
 pub evaluated_more : (nodes : List Node) (births : List Bool) (given words : List ℕ) (sources position own word : ℕ)
     → position < length nodes → births ≡ map is_source_node nodes → EvaluatedSoFar nodes given words sources position

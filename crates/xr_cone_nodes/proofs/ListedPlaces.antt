@@ -43,7 +43,8 @@ module _ (j : Job) (ordering : IsOrdering j.order) (all : length j.order ≡ j.w
       (λ (other : number_of j p ≡ k → ⊥). ⊎_elim
       (λ (h : is_same_place (place_at j k) p ≡ true).
       (let parts = and_parts (step_of j k == p.step) (net_of j k == p.net) h in
-      absurd (other (ap (λ (s : ℕ). s * j.width + position_of j.order p.net) (sym (eqb-true (step_of j k) p.step parts.0))
+      absurd (other (ap (λ (s : ℕ). s * j.width + position_of j.order p.net)
+      (sym (eqb-true (step_of j k) p.step parts.0))
       ∙ ap (λ n. step_of j k * j.width + position_of j.order n) (sym (eqb-true (net_of j k) p.net parts.1))
       ∙ number_of_place_at j k ordering all within))))
       (λ (h : is_same_place (place_at j k) p ≡ false). h ∙ sym (ne_eqb (number_of j p) k other))

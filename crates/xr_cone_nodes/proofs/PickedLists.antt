@@ -37,7 +37,8 @@ filter_position t d (x ∷ xs) zero less passes = rw passes refl
 filter_position t d (x ∷ xs) (suc p) less passes = step (t x) (filter_position t d xs p (omega arith) passes)
   where
     step : (a : Bool) → slice_index_or (filter t xs) (length (filter t (take p xs))) d ≡ slice_index_or xs p d
-        → slice_index_or (cond a (x ∷ filter t xs) (filter t xs)) (length (cond a (x ∷ filter t (take p xs)) (filter t (take p xs)))) d
+        → slice_index_or (cond a (x ∷ filter t xs) (filter t xs))
+        (length (cond a (x ∷ filter t (take p xs)) (filter t (take p xs)))) d
         ≡ slice_index_or xs p d
     step true ih = ih
     step false ih = ih
@@ -77,7 +78,8 @@ take_places t (suc n) p less = step (t n) (take_places t n) less
         → take p (if a then xs ++ n ∷ [] else xs) ≡ places_where t (slice_index_or (if a then xs ++ n ∷ [] else xs) p 0)
     step false ih low = ih p low
     step true ih low = ⊎_elim
-        (λ (last : p ≡ length xs). (let whole : take (length xs) (xs ++ n ∷ []) ≡ xs = take-append-le (length xs) xs (n ∷ []) (omega arith) ∙ take-length xs in
+        (λ (last : p ≡ length xs). (let whole : take (length xs) (xs ++ n ∷ []) ≡ xs =
+        take-append-le (length xs) xs (n ∷ []) (omega arith) ∙ take-length xs in
         let seam : slice_index_or (xs ++ n ∷ []) (length xs) 0 ≡ n = get_or-append_seam xs n [] 0 in
         rw (last, whole, seam) refl))
         (λ (other : p ≡ length xs → ⊥). (let long : length (xs ++ n ∷ []) ≡ length xs + 1 = length-append xs (n ∷ []) in
@@ -92,9 +94,11 @@ chosen_append (x ∷ xs) y bits = step (bits 0) (subst (λ k. chosen (xs ++ y �
     ≡ chosen xs (λ k. bits (k + 1)) ++ (if bits k then y ∷ [] else [])) (add-one (length xs))
     (chosen_append xs y (λ k. bits (k + 1))))
   where
-    step : (a : Bool) → chosen (xs ++ y ∷ []) (λ k. bits (k + 1)) ≡ chosen xs (λ k. bits (k + 1)) ++ (if bits (suc (length xs)) then y ∷ [] else [])
+    step : (a : Bool) → chosen (xs ++ y ∷ []) (λ k. bits (k + 1))
+        ≡ chosen xs (λ k. bits (k + 1)) ++ (if bits (suc (length xs)) then y ∷ [] else [])
         → (if a then x ∷ chosen (xs ++ y ∷ []) (λ k. bits (k + 1)) else chosen (xs ++ y ∷ []) (λ k. bits (k + 1)))
-        ≡ (if a then x ∷ chosen xs (λ k. bits (k + 1)) else chosen xs (λ k. bits (k + 1))) ++ (if bits (suc (length xs)) then y ∷ [] else [])
+        ≡ (if a then x ∷ chosen xs (λ k. bits (k + 1)) else chosen xs (λ k. bits (k + 1)))
+        ++ (if bits (suc (length xs)) then y ∷ [] else [])
     step true ih = ap (λ zs. x ∷ zs) ih
     step false ih = ih
 

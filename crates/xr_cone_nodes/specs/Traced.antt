@@ -41,7 +41,8 @@ abbrev pub SourcesLaw : Type 0
 SourcesLaw = (c : Contents) (root : ℕ) (nodes : List Node) → IsConeOf c root nodes
     → sources_of nodes ≡ map (place_at (job c)) (sources_in c root)
 
--- Bits for the sources choose a filling that lists sources alone, and the root has its bit in the world of that filling.
+-- Bits for the sources choose a filling that lists sources alone, and the root has its bit in the world of that
+-- filling.
 pub record IsChosen (c : Contents) (root : ℕ) (nodes : List Node) (bits : ℕ → Bool) : Type 0 where
   pub filling : IsFilling (job c) (chosen (sources_of nodes) bits)
   pub alone : IsOfSources (job c) c.written root (chosen (sources_of nodes) bits)

@@ -34,8 +34,8 @@ impl Model for Cone {
 }
 
 impl Cone {
-    /// The cone of nodes each of which reads those before it alone. Takes 9 bytes a node, of which it keeps one, and 8 a
-    /// source.
+    /// The cone of nodes each of which reads those before it alone. Takes 9 bytes a node, of which it keeps one, and 8
+    /// a source.
     pub fn new(alloc: Global, nodes: Vec<Node>) -> Result<Cone, Memory>
         requires { AreNodes nodes.items }
         ensures { IfOk result (λ cone. cone.nodes ≡ nodes.items) }
@@ -73,7 +73,8 @@ impl Cone {
         self.base
     }
 
-    /// The bit of the place in the world of a filling. Takes 8 bytes a node and a source, and a set of the filling's places.
+    /// The bit of the place in the world of a filling. Takes 8 bytes a node and a source, and a set of the filling's
+    /// places.
     pub fn value(&self, alloc: Global, filling: &Filling) -> Result<bool, Memory>
         ensures world { IfOk result (IsWorldBit self.now.nodes filling.now) }
     {

@@ -1,4 +1,4 @@
-//! The laws of the nodes of a cone. None of these functions does anything: what each ensures is a law, proved here once.
+//! The laws of the nodes of a cone. These functions do nothing: what each ensures is a law, proved here once.
 
 ghost use Rattle.xr_cone_nodes.specs.Traced as spec;
 

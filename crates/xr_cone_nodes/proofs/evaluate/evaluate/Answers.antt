@@ -1,3 +1,4 @@
+-- The words so far are those of the nodes so far.
 use Rattle.std.proofs.Common.{◌≡◌, subst, take, get_or}
 use Rattle.std.proofs.lemmas.List.{get_or_default}
 use Rattle.xr_cone_nodes.specs.Lanes.{HasLanes, in_lane, lane_of}
@@ -17,8 +18,9 @@ nodes-preserved c =
     get_or_default c.args.nodes.now c.nodes.position node no_node c.nodes-test.true in
     let has : HasLanes c.node_word.result (λ lane. node_bit (lane_of (take c.nodes.position c.nodes.words) lane)
     (in_lane c.word_at-own.result lane) (body_of (node_at c.args.nodes.now c.nodes.position).body)) =
-    subst (λ (node : Node). HasLanes c.node_word.result (λ lane. node_bit (lane_of (take c.nodes.position c.nodes.words) lane)
-    (in_lane c.word_at-own.result lane) (body_of node.body))) same c.node_word.ensures in
+    subst (λ (node : Node). HasLanes c.node_word.result (λ lane. node_bit
+    (lane_of (take c.nodes.position c.nodes.words) lane) (in_lane c.word_at-own.result lane) (body_of node.body))) same c.node_word.ensures in
     rw c.counted-sources.ensures
     (evaluated_more c.args.nodes.now c.args.births.now c.args.given.now c.nodes.words c.nodes.sources c.nodes.position
-    c.word_at-own.result c.node_word.result c.nodes-test.true c.requires.births c.nodes.invariant c.word_at-own.ensures has)
+    c.word_at-own.result c.node_word.result c.nodes-test.true c.requires.births c.nodes.invariant
+    c.word_at-own.ensures has)

@@ -1,3 +1,4 @@
+-- The words so far are those of the nodes so far.
 use Rattle.xr_cone_nodes.proofs.LaneWords.{EvaluatedSoFar}
 use Rattle.xr_cone_nodes.proofs.evaluate.evaluate.Given as goal
 

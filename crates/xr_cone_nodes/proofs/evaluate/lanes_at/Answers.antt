@@ -1,3 +1,4 @@
+-- The lanes that are left are those whose low bits are the number's.
 use Rattle.xr_cone_nodes.proofs.LaneWords.{agrees_none, agrees_more}
 use Rattle.xr_cone_nodes.proofs.evaluate.lanes_at.Goals as goal
 

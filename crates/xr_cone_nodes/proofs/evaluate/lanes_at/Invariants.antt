@@ -1,3 +1,4 @@
+-- The lanes that are left are those whose low bits are the number's.
 use Rattle.xr_cone_nodes.proofs.LaneWords.{AgreesSoFar}
 use Rattle.xr_cone_nodes.proofs.evaluate.lanes_at.Given as goal
 

@@ -1,3 +1,4 @@
+-- Where the value is x, the lanes with its number have the filling's bits.
 use Rattle.std.proofs.Common.{◌∙◌, refl}
 use Rattle.xr_cone_nodes.proofs.LaneBits.{lane_and}
 use Rattle.xr_cone_nodes.proofs.evaluate.part_word.Goals as goal

@@ -1,3 +1,4 @@
+-- The word so far covers the values so far.
 use Rattle.std.proofs.Common.{get_or}
 use Rattle.std.proofs.lemmas.List.{get_or_default}
 use Rattle.xr_cell.specs.declared.value.Value.TheVariants.{X, Zero}
@@ -8,7 +9,8 @@ pub values-preserved : goal.values-preserved
 values-preserved c =
     covers_more c.args.arguments.now c.args.values.now c.args.words.now c.args.own c.values.word
     c.part_word-word.result c.values.number (get_or c.args.values.now c.values.number Zero)
-    (get_or_default c.args.values.now c.values.number Zero X c.values-test.true) c.values.invariant c.part_word-word.ensures
+    (get_or_default c.args.values.now c.values.number Zero X c.values-test.true) c.values.invariant
+    c.part_word-word.ensures
 
 pub returns : goal.returns
 returns c = covers_all c.args.arguments.now c.args.values.now c.args.words.now c.args.own c.values.word c.values.number

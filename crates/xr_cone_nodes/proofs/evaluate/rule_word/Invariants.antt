@@ -1,3 +1,4 @@
+-- The word so far covers the values so far.
 use Rattle.xr_cone_nodes.proofs.LaneWords.{CoversSoFar}
 use Rattle.xr_cone_nodes.proofs.evaluate.rule_word.Given as goal
 

@@ -1,3 +1,4 @@
+-- The places so far are those that are chosen of the sources so far.
 use Rattle.std.proofs.Common.{◌≡◌, take}
 use Rattle.xr_cone_nodes.specs.Lanes.{lane_of}
 use Rattle.xr_cone_nodes.specs.Nodes.{chosen}

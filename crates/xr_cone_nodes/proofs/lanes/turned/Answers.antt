@@ -1,3 +1,4 @@
+-- A complement has the other bit in each lane.
 use Rattle.std.proofs.Common.{arith}
 use Rattle.xr_cone_nodes.proofs.LaneBits.{lane_not}
 use Rattle.xr_cone_nodes.proofs.lanes.turned.Goals as goal

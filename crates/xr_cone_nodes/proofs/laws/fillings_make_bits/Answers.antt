@@ -1,3 +1,4 @@
+-- Each law stands in its lemma.
 use Rattle.xr_cone_nodes.proofs.ConeLaws.{base_law, listed_law}
 use Rattle.xr_cone_nodes.proofs.laws.fillings_make_bits.Goals as goal
 

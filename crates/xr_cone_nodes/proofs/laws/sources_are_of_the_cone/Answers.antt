@@ -1,3 +1,4 @@
+-- The law stands in its lemma.
 use Rattle.xr_cone_nodes.proofs.ConeLaws.{sources_law}
 use Rattle.xr_cone_nodes.proofs.laws.sources_are_of_the_cone.Goals as goal
 

@@ -1,3 +1,4 @@
+-- The set has a place's spot exactly where the filling lists the place.
 use Rattle.std.proofs.Common.{◌∙◌}
 use Rattle.xr_cone_nodes.specs.Listed.{spot_of}
 use Rattle.xr_cone_nodes.proofs.ListedSpots.{member_listed}

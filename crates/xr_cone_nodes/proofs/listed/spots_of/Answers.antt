@@ -1,3 +1,4 @@
+-- The set is collected from the spots of the filling's places.
 use Rattle.std.proofs.Common.{Ok, rules}
 use Rattle.std.proofs.lemmas.Iterator.{YieldsList-from_map, YieldsList-from_slice}
 use Rattle.std.proofs.lemmas.Iterator.Adapters.{fact_from_collect}

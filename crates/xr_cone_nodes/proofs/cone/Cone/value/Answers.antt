@@ -1,3 +1,4 @@
+-- The words that the filling gives the sources have its bits in the first lane.
 use Rattle.std.proofs.Common.{◌≡◌, ◌∙◌, arith, map}
 use Rattle.xr_cone_nodes.specs.Lanes.{lane_of}
 use Rattle.xr_cone_nodes.specs.Listed.{listed_word}
