@@ -5,16 +5,12 @@ use Rattle.xr_design.specs.declared.place.Place.{Place}
 use Rattle.xr_design.specs.Filling.{IsFilling}
 use Rattle.xr_model.specs.declared.line.Body.TheVariants.{Pair}
 use Rattle.xr_wave.specs.Contents.{Contents, job, next_number}
-use Rattle.xr_wave.specs.Token.{HasNext, HoldsNext}
+use Rattle.xr_wave.specs.Token.{HoldsNext}
 use Rattle.xr_cone_nodes.proofs.ConeLaws.{base_law, chosen_law}
 use Rattle.xr_cone_nodes.specs.declared.node.Node.{Node}
 use Rattle.xr_cone_nodes.specs.Lanes.{lane_of, root_in_lane}
 use Rattle.xr_cone_nodes.specs.Nodes.{chosen, nothing, root_bit, sources_of}
 use Rattle.xr_pair.specs.Pairs.{IsNextCone, next_bit}
-
--- There is a next place.
-pub has_next : (c : Contents) (nodes : List Node) → IsNextCone c nodes → HasNext c
-has_next c nodes is = is.reach.within
 
 -- Two fillings that give 0 and 1 are a pair,
 pub pair_holds : (c : Contents) (zero one : List Place) → IsFilling (job c) zero → IsFilling (job c) one

@@ -1,3 +1,4 @@
+-- 0 has no 1.
 use Rattle.xr_cone_nodes.proofs.LaneBits.{lane_zero}
 use Rattle.xr_pair.proofs.lanes.least_lane.Goals as goal
 

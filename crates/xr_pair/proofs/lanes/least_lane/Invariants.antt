@@ -1,3 +1,4 @@
+-- The lane so far is the least of those so far.
 use Rattle.xr_pair.proofs.LeastLanes.{FoundBelow}
 use Rattle.xr_pair.proofs.lanes.least_lane.Given as goal
 

@@ -1,3 +1,4 @@
+-- The pair stands in the order that the empty filling says.
 use Rattle.std.proofs.Common.{sym, ◌∙◌}
 use Rattle.xr_pair.proofs.NextPairs.{pair_down, pair_up}
 use Rattle.xr_pair.proofs.tries.pair_of_lane.Goals as goal
