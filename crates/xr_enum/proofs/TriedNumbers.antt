@@ -51,9 +51,6 @@ pub record TriedSoFar (nodes : List Node) (room block : ℕ) : Type 0 where
   pub room_is : room ≡ length nodes
   pub agree : AgreeBelow nodes (64 * block)
 
-pub tried_none : (nodes : List Node) (room : ℕ) → room ≡ length nodes → TriedSoFar nodes room 0
-tried_none nodes room room_is = record { room_is = room_is; agree = λ number less small. absurd (omega arith) }
-
 pub tried_more : (nodes : List Node) (room after : ℕ) (given : List ℕ) (block : ℕ) → length (sources_of nodes) ≤ 12
     → TriedSoFar nodes room block → length given ≡ 12 → IsBlock block given → after ≡ room → AllAgree nodes given
     → TriedSoFar nodes after (block + 1)

@@ -6,7 +6,8 @@ use Rattle.xr_enum.proofs.decision.decide.Goals as goal
 
 pub tries-preserved : goal.tries-preserved
 tries-preserved c =
-    let agree : AllAgree c.args.cone.now.nodes c.fill_block.new.given = c.in_ok-pair.ensures.none.0 (rw c.in-None.is refl) in
+    let agree : AllAgree c.args.cone.now.nodes c.fill_block.new.given =
+    c.in_ok-pair.ensures.none.0 (rw c.in-None.is refl) in
     tried_more c.args.cone.now.nodes c.tries.words.nodes c.try_in.new.words.nodes c.fill_block.new.given c.tries.block
     c.requires.few c.tries.invariant c.fill_block.array_long c.fill_block.ensures c.in_ok-pair.ensures.room agree
 
