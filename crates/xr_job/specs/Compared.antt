@@ -1,0 +1,61 @@
+-- What a job comes to beside its recording: the replay, or its first fault.
+use Rattle.std.specs.Prelude.{◌≡◌, ◌⊎◌, ℕ, ◌<◌, ◌==◌, List, Result, Ok, Err, IsOk, find, length, slice_index, unwrap_or}
+use Rattle.xr_design.specs.Handed.{IsReplay}
+use Rattle.xr_design.specs.History.{HistoryView}
+use Rattle.xr_design.specs.Job.{Job, job_of}
+use Rattle.xr_match.specs.declared.binding.Binding.{Binding}
+use Rattle.xr_match.specs.declared.binding.Bound.{Bound}
+use Rattle.xr_replay.specs.Fault.{IsFaultless, IsFirstFault, no_variable}
+use Rattle.xr_replay.specs.declared.differ.Differ.{Differ}
+use Rattle.xr_replay.specs.declared.differ.Differ.TheVariants as differ
+use Rattle.xr_job.specs.Names.{net_name}
+use Rattle.xr_job.specs.declared.netlist.Netlist.{Netlist}
+use Rattle.xr_job.specs.declared.recorded.Recorded.{Recorded}
+use Rattle.xr_job.specs.declared.compare_refusal.CompareErr.{CompareErr}
+use Rattle.xr_job.specs.declared.compare_refusal.CompareErr.TheVariants.{Disagrees, Unsettled, Memory}
+
+abbrev pub job_in : Netlist → Recorded → Job
+job_in netlist recorded = job_of netlist.design netlist.order recorded.stim
+
+-- the bound variable with a number
+abbrev pub bound_in : List Bound → ℕ → Bound
+bound_in bounds number = unwrap_or (find (λ (b : Bound). b.variable == number) bounds) no_variable
+
+-- the net of a bit of it, counted from the left
+abbrev pub net_of_bit : Binding → ℕ → ℕ → ℕ
+net_of_bit binding variable bit = slice_index (bound_in binding.bound variable).bits bit
+
+-- A fault by the time of its moment and the written name of its net.
+abbrev pub refusal_for : Netlist → Recorded → Differ → CompareErr
+refusal_for netlist recorded (differ.Unsettled net moment kept next) =
+    Unsettled (slice_index recorded.recording.times moment) (net_name netlist.design net) kept next
+refusal_for netlist recorded (differ.Disagrees variable bit moment was replayed) =
+    Disagrees (slice_index recorded.recording.times moment)
+    (net_name netlist.design (net_of_bit recorded.binding variable bit)) was replayed
+
+-- The first fault of the recording beside the replay.
+pub record IsRefusedReplay (netlist : Netlist) (recorded : Recorded) (e : CompareErr) : Type 0 where
+  pub differ : Differ
+  pub first : IsFirstFault (job_in netlist recorded) recorded.recording recorded.binding differ
+  pub told : e ≡ refusal_for netlist recorded differ
+
+-- What the job comes to.
+abbrev pub ReplayComes : Netlist → Recorded → Result HistoryView CompareErr → Type 0
+ReplayComes netlist recorded (Ok history) =
+    IsReplay (job_in netlist recorded) history
+    × IsFaultless (job_in netlist recorded) recorded.recording recorded.binding
+ReplayComes netlist recorded (Err e) = IsRefusedReplay netlist recorded e
+
+-- The job's replay has no fault exactly where the answer is one, and a fault is told as it is, unless memory runs out.
+pub record IsReplayAnswer (netlist : Netlist) (recorded : Recorded)
+    (result : Result HistoryView CompareErr) : Type 0 where
+  pub replayed : IsFaultless (job_in netlist recorded) recorded.recording recorded.binding
+      → IsOk result ⊎ (result ≡ Err Memory)
+  pub refused : (e : CompareErr) → IsRefusedReplay netlist recorded e → (result ≡ Err e) ⊎ (result ≡ Err Memory)
+
+-- What a fault numbers is there.
+abbrev pub IsThere : Netlist → Recorded → Differ → Type 0
+IsThere netlist recorded (differ.Unsettled net moment kept next) =
+    (net < length netlist.design.nets) × (moment < length recorded.recording.times)
+IsThere netlist recorded (differ.Disagrees variable bit moment was replayed) =
+    (bit < length (bound_in recorded.binding.bound variable).bits) × (moment < length recorded.recording.times)

@@ -1,0 +1,118 @@
+-- What a recording's text comes to for a design: a recording whose variables are bound, and the stimulus that they
+-- give; or the first refusal.
+use Rattle.std.specs.Prelude.{◌≡◌, ◌⊎◌, ℕ, ◌<◌, ◌≤◌, List, Some, Result, Ok, Err, length, All}
+use Rattle.xr_vcd.specs.Faults.{FirstFault, Says}
+use Rattle.xr_vcd.specs.Recording.{Recording}
+use Rattle.xr_vcd.specs.RecordingFault.{fault_of}
+use Rattle.xr_vcd.specs.declared.fault.RecordingFault.{RecordingFault}
+use Rattle.xr_vcd.specs.declared.refusal.VcdErr.{VcdErr}
+use Rattle.xr_design.specs.Stim.{FitsStim}
+use Rattle.xr_design.specs.declared.design.Design.{Design}
+use Rattle.xr_design.specs.declared.stim.StartRule.{StartRule}
+use Rattle.xr_match.specs.Binding.{FitsBinding}
+use Rattle.xr_match.specs.Bounds.{IsOf}
+use Rattle.xr_match.specs.Refusal as bind
+use Rattle.xr_match.specs.Naming.{Texts}
+use Rattle.xr_match.specs.StimOf.{IsStimOf}
+use Rattle.xr_match.specs.declared.binding.Binding.{Binding}
+use Rattle.xr_match.specs.declared.refusal.BindErr.{BindErr}
+use Rattle.xr_match.specs.declared.refusal.BindErr.TheVariants as cause
+use Rattle.xr_job.specs.Names.{IsVariableName, dotted, net_name}
+use Rattle.xr_job.specs.declared.recorded.Recorded.{Recorded}
+use Rattle.xr_job.specs.declared.recording_refusal.RecordingErr.{RecordingErr}
+use Rattle.xr_job.specs.declared.recording_refusal.RecordingErr.TheVariants.{Grammar, NoScope, RangeDiffers, MissingInput, TooLarge, Memory}
+
+-- The text says a recording, its variables are bound, and this is the stimulus that they give.
+pub record IsRecorded (text : List ℕ) (design : Design) (scope : Texts) (rounds : ℕ)
+    (start : StartRule) (r : Recorded) : Type 0 where
+  pub says : Says text r.recording
+  pub bound : bind.IsBinding design r.recording scope rounds r.binding
+  pub stim : IsStimOf design r.recording r.binding.bound rounds start r.stim
+
+-- The first fault of the text.
+pub record IsFaulty (text : List ℕ) (fault : RecordingFault) : Type 0 where
+  pub cause : VcdErr
+  pub first : FirstFault text cause
+  pub says : fault_of cause ≡ Some fault
+
+-- The refusal names the variable with a number.
+pub record TellsVariable (recording : Recording) (scope : Texts) (number : ℕ) (e : RecordingErr) : Type 0 where
+  pub name : List ℕ
+  pub is : IsVariableName scope recording number name
+  pub tells : e ≡ RangeDiffers name
+
+-- The refusal names what the cause numbers.
+abbrev pub Tells : Design → Recording → Texts → BindErr → RecordingErr → Type 0
+Tells design recording scope cause.NoScope e = e ≡ NoScope (dotted scope)
+Tells design recording scope (cause.RangeDiffers variable) e = TellsVariable recording scope variable e
+Tells design recording scope (cause.MissingInput net) e = e ≡ MissingInput (net_name design net)
+Tells design recording scope (cause.TooLarge places) e = e ≡ TooLarge places
+Tells design recording scope cause.Memory e = e ≡ Memory
+
+-- The variables aren't bound, and the refusal names the first cause.
+pub record IsUnbound (design : Design) (recording : Recording) (scope : Texts) (rounds : ℕ)
+    (e : RecordingErr) : Type 0 where
+  pub cause : BindErr
+  pub refused : bind.IsRefusal design recording scope rounds cause
+  pub tells : Tells design recording scope cause e
+
+-- The text says a recording whose variables aren't bound.
+pub record IsRecordingAlone (text : List ℕ) (design : Design) (scope : Texts) (rounds : ℕ)
+    (e : RecordingErr) : Type 0 where
+  pub recording : Recording
+  pub says : Says text recording
+  pub unbound : IsUnbound design recording scope rounds e
+
+-- Each refusal by its cause; want of memory is none of the text's.
+abbrev pub IsRefusedRecording : List ℕ → Design → Texts → ℕ → RecordingErr → Type 0
+IsRefusedRecording text design scope rounds (Grammar fault) = IsFaulty text fault
+IsRefusedRecording text design scope rounds Memory = ⊥
+IsRefusedRecording text design scope rounds e = IsRecordingAlone text design scope rounds e
+
+-- What the text comes to.
+abbrev pub RecordingComes : List ℕ → Design → Texts → ℕ → StartRule → Result Recorded RecordingErr → Type 0
+RecordingComes text design scope rounds start (Ok recorded) = IsRecorded text design scope rounds start recorded
+RecordingComes text design scope rounds start (Err e) = IsRefusedRecording text design scope rounds e
+
+-- Two answers are the same: the same recording and binding, which give one stimulus, or the same refusal.
+abbrev pub IsSame : Result Recorded RecordingErr → Result Recorded RecordingErr → Type 0
+IsSame (Ok a) (Ok b) = (a.recording ≡ b.recording) × (a.binding ≡ b.binding)
+IsSame (Ok a) (Err f) = ⊥
+IsSame (Err e) (Ok b) = ⊥
+IsSame (Err e) (Err f) = e ≡ f
+
+-- The answer is what the text comes to, unless memory runs out.
+abbrev pub IsRecordingAnswer : List ℕ → Design → Texts → ℕ → StartRule → Result Recorded RecordingErr → Type 0
+IsRecordingAnswer text design scope rounds start result =
+    (outcome : Result Recorded RecordingErr) → RecordingComes text design scope rounds start outcome
+    → IsSame result outcome ⊎ (result ≡ Err Memory)
+
+-- The law: a text comes to one outcome.
+abbrev pub RecordingsComeToOne : Type 0
+RecordingsComeToOne = (text : List ℕ) (design : Design) (scope : Texts) (rounds : ℕ) (start : StartRule)
+    (a b : Result Recorded RecordingErr) → RecordingComes text design scope rounds start a
+    → RecordingComes text design scope rounds start b → IsSame a b
+
+-- A binding fits the recording that it is of.
+pub record IsBoundTo (design : Design) (recording : Recording) (scope : Texts) (rounds : ℕ)
+    (binding : Binding) : Type 0 where
+  pub is : bind.IsBinding design recording scope rounds binding
+  pub fits : FitsBinding design binding
+  pub variables : All (IsOf recording) binding.bound
+
+-- What was recorded of a design fits it.
+pub record FitsRecorded (design : Design) (r : Recorded) : Type 0 where
+  pub stim : FitsStim design r.stim
+  pub some_round : 1 ≤ r.stim.rounds
+  pub few_rounds : r.stim.rounds ≤ 16
+  pub times : r.recording.times ≡ r.stim.times
+  pub binding : FitsBinding design r.binding
+  pub variables : All (IsOf r.recording) r.binding.bound
+
+-- What a cause numbers is there.
+abbrev pub IsNamed : Design → Recording → Texts → BindErr → Type 0
+IsNamed design recording scope cause.NoScope = Unit {0}
+IsNamed design recording scope (cause.RangeDiffers variable) = variable < length recording.variables
+IsNamed design recording scope (cause.MissingInput net) = net < length design.nets
+IsNamed design recording scope (cause.TooLarge places) = Unit {0}
+IsNamed design recording scope cause.Memory = Unit {0}

@@ -1,0 +1,134 @@
+//! The replay of a job, compared with its recording.
+
+ghost use Rattle.std.specs.Prelude.{◌≡◌, ◌≢◌, ◌<◌, ◌==◌, ◌↔◌, IfOk, IfErr, IsOk, find, length, option_map};
+ghost use Rattle.xr_design.specs.Handed.{IsReplay};
+ghost use Rattle.xr_match.specs.Binding.{FitsBinding};
+ghost use Rattle.xr_replay.specs.Fault.{IsFaultless, IsFirstFault, TellsFirst};
+ghost use Rattle.xr_job.specs.Compared as spec;
+ghost use Rattle.xr_job.specs.Names.{net_name};
+ghost use Rattle.xr_job.specs.Netlist.{FitsNetlist};
+ghost use Rattle.xr_job.specs.Recorded.{FitsRecorded};
+ghost use Rattle.xr_job.specs.declared.compare_refusal.CompareErr.TheVariants.{Memory as OutOfMemory};
+
+use crate::compare_refusal::CompareErr;
+use crate::names::name_of;
+use crate::netlist::Netlist;
+use crate::recorded::Recorded;
+use std::alloc::Global;
+use xr_base::Memory;
+use xr_design::{Bytes, Forces, History};
+use xr_match::Bound;
+use xr_replay::{Differ, compare, replay};
+
+/// The replay of a job without forces, where each moment is settled and the recording agrees in it; or the first fault.
+pub fn replay_and_compare(
+    alloc: Global,
+    netlist: &Netlist,
+    recorded: &Recorded,
+) -> Result<History, CompareErr>
+    requires netlist { FitsNetlist netlist.now }
+    requires recorded { FitsRecorded netlist.now.design recorded.now }
+    ensures replay { IfOk result (IsReplay (spec.job_in netlist.now recorded.now)) }
+    ensures agrees { IfOk result (λ _.
+        IsFaultless (spec.job_in netlist.now recorded.now) recorded.now.recording recorded.now.binding) }
+    ensures refused { IfErr result (λ e. e ≢ OutOfMemory → spec.IsRefusedReplay netlist.now recorded.now e) }
+    ensures exact { spec.IsReplayAnswer netlist.now recorded.now result }
+{
+    let forces = Forces::empty(alloc);
+    let history = replay(
+        alloc,
+        &netlist.design,
+        &netlist.order,
+        &recorded.stim,
+        &forces,
+    )?;
+    match compared(netlist, recorded, &history) {
+        Ok(()) => Ok(history),
+        Err(differ) => Err(told(alloc, netlist, recorded, differ)?),
+    }
+}
+
+/// The first fault of the recording beside the replay.
+fn compared(netlist: &Netlist, recorded: &Recorded, history: &History) -> Result<(), Differ>
+    requires netlist { FitsNetlist netlist.now }
+    requires recorded { FitsRecorded netlist.now.design recorded.now }
+    requires history { IsReplay (spec.job_in netlist.now recorded.now) history.now }
+    ensures agrees { IsOk result
+        ↔ IsFaultless (spec.job_in netlist.now recorded.now) recorded.now.recording recorded.now.binding }
+    ensures differs { IfErr result
+        (IsFirstFault (spec.job_in netlist.now recorded.now) recorded.now.recording recorded.now.binding) }
+    ensures exact { TellsFirst (spec.job_in netlist.now recorded.now) recorded.now.recording recorded.now.binding result }
+{
+    compare(
+        &netlist.design,
+        &netlist.order,
+        &recorded.stim,
+        history,
+        &recorded.recording,
+        &recorded.binding,
+    )
+}
+
+/// A fault by the time of its moment and the written name of its net.
+fn told(
+    alloc: Global,
+    netlist: &Netlist,
+    recorded: &Recorded,
+    differ: Differ,
+) -> Result<CompareErr, Memory>
+    requires there { spec.IsThere netlist.now recorded.now differ }
+    requires binding { FitsBinding netlist.now.design recorded.now.binding }
+    ensures { IfOk result (λ e. e ≡ spec.refusal_for netlist.now recorded.now differ) }
+{
+    match differ {
+        Differ::Unsettled {
+            net,
+            moment,
+            kept,
+            next,
+        } => Ok(CompareErr::Unsettled {
+            time: recorded.recording.times()[moment as usize],
+            name: name_of(alloc, &netlist.design, net)?,
+            kept,
+            next,
+        }),
+        Differ::Disagrees {
+            variable,
+            bit,
+            moment,
+            recorded: was,
+            replayed,
+        } => Ok(CompareErr::Disagrees {
+            time: recorded.recording.times()[moment as usize],
+            name: bit_name(alloc, netlist, recorded, variable, bit)?,
+            recorded: was,
+            replayed,
+        }),
+    }
+}
+
+/// The written name of the net of a bit of a bound variable, by the variable's number and counted from the left.
+fn bit_name(
+    alloc: Global,
+    netlist: &Netlist,
+    recorded: &Recorded,
+    variable: u32,
+    bit: u32,
+) -> Result<Bytes, Memory>
+    requires bit { bit < length (spec.bound_in recorded.now.binding.bound variable).bits }
+    requires binding { FitsBinding netlist.now.design recorded.now.binding }
+    ensures { IfOk result (λ name.
+        name ≡ net_name netlist.now.design (spec.net_of_bit recorded.now.binding variable bit)) }
+{
+    match bound_in(recorded.binding.bound.as_slice(), variable) {
+        Some(bound) => name_of(alloc, &netlist.design, bound.bits.as_slice()[bit as usize]),
+        None => unreachable!(),
+    }
+}
+
+/// The bound variable with a number.
+fn bound_in(bounds: &[Bound], variable: u32) -> Option<&Bound>
+    ensures { option_map (λ b. b.now) result ≡ find (λ b. b.variable == variable) bounds.now }
+{
+    bounds.iter().find(|bound| bound.variable == variable)
+}

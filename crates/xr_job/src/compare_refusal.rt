@@ -1,0 +1,53 @@
+//! Why a recording is refused beside the replay.
+
+use xr_base::Memory;
+use xr_cell::Value;
+use xr_design::Bytes;
+
+/// The first fault of a recording beside the replay of its inputs. A time is in the recording's ticks.
+#[derive(Debug, Drop)]
+pub enum CompareErr {
+    /// A bit whose recorded value isn't what the replay shows at the moment's last round, by its net's written name.
+    Disagrees {
+        time: u64,
+        name: Bytes,
+        recorded: Value,
+        replayed: Value,
+    },
+    /// A register whose update after the moment's last round isn't what it keeps there, by its net's written name.
+    Unsettled {
+        time: u64,
+        name: Bytes,
+        kept: Value,
+        next: Value,
+    },
+    /// There was no memory.
+    Memory,
+}
+
+impl CompareErr {
+    ghost use Rattle.std.specs.Prelude.{◌≡◌};
+    ghost use Rattle.xr_job.specs.Lines.{compare_status};
+
+    /// The exit status of a run that is refused so.
+    pub fn status(&self) -> u8
+        ensures { result ≡ compare_status self.now }
+    {
+        match self {
+            CompareErr::Disagrees { .. } => 8,
+            CompareErr::Unsettled { .. } => 9,
+            CompareErr::Memory => 20,
+        }
+    }
+}
+
+impl From<Memory> for CompareErr {
+    ghost use Rattle.std.specs.Prelude.{◌≡◌};
+    ghost use Rattle.xr_job.specs.declared.compare_refusal.CompareErr.TheVariants.{Memory as OutOfMemory};
+
+    ghost from_gives = { λ _ refusal. refusal ≡ OutOfMemory };
+
+    fn from(_: Memory) -> Self {
+        CompareErr::Memory
+    }
+}

@@ -1,0 +1,28 @@
+//! What most commands begin with, over texts alone: a netlist to a design and its order, a recording of it to a binding
+//! and a stimulus, and the replay compared with the recording; each with its refusals, their statuses and their lines.
+//!
+//! Start at `read_netlist`, `read_recording` and `replay_and_compare`, and at specs/Netlist.antt, Recorded.antt and
+//! Compared.antt, which say what texts come to, phase by phase.
+#![tactic(auto)]
+
+mod compare;
+mod compare_refusal;
+mod laws;
+mod lines;
+mod names;
+mod netlist;
+mod netlist_refusal;
+mod recorded;
+mod recording_refusal;
+
+pub use compare::replay_and_compare;
+pub use compare_refusal::CompareErr;
+pub use laws::{netlists_come_to_one, recordings_come_to_one};
+pub use lines::{put_compare_line, put_netlist_line, put_recording_line};
+pub use netlist::{Netlist, read_netlist};
+pub use netlist_refusal::NetlistErr;
+pub use recorded::{Recorded, read_recording};
+pub use recording_refusal::RecordingErr;
+
+#[cfg(test)]
+mod tests;

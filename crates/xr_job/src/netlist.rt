@@ -1,0 +1,80 @@
+//! The netlist of a job.
+
+ghost use Rattle.std.specs.Prelude.{◌≡◌, ◌≢◌, ◌<◌, ◌^◌, IfOk, IfErr, length};
+ghost use Rattle.xr_netlist_grammar.specs.Whole.{IsWhole};
+ghost use Rattle.xr_design.specs.Design.{FitsDesign};
+ghost use Rattle.xr_design.specs.Job.{driver_in};
+ghost use Rattle.xr_design.specs.Order.{IsOrder};
+ghost use Rattle.xr_job.specs.Netlist as spec;
+ghost use Rattle.xr_job.specs.declared.netlist_refusal.NetlistErr.TheVariants.{Memory as OutOfMemory};
+
+use crate::names::written_names;
+use crate::netlist_refusal::NetlistErr;
+use std::alloc::Global;
+use xr_design::{Design, Order};
+use xr_elab::elaborate;
+use xr_netlist::parse;
+use xr_netlist_grammar::Source;
+use xr_order::{OrderErr, order};
+
+/// More primitives than are numbered.
+const MANY_PRIMITIVES: usize = 1 << 32;
+
+/// A design and the order of its nets.
+#[derive(Drop)]
+pub struct Netlist {
+    pub design: Design,
+    pub order: Order,
+}
+
+/// The design that a text stands for, with the module named `top` as its top, and the order of its nets; or why there is
+/// none.
+pub fn read_netlist(alloc: Global, text: &[u8], top: &str) -> Result<Netlist, NetlistErr>
+    ensures netlist { IfOk result (λ netlist. spec.IsOrdered text.now top.now netlist.design netlist.order) }
+    ensures refused { IfErr result (λ e. e ≢ OutOfMemory → spec.IsRefusedNetlist text.now top.now e) }
+    ensures exact { spec.IsNetlistAnswer text.now top.now result }
+    ensures fits { IfOk result spec.FitsNetlist }
+{
+    find_netlist(alloc, text, top)
+}
+
+fn find_netlist(alloc: Global, text: &[u8], top: &str) -> Result<Netlist, NetlistErr>
+    ensures netlist { IfOk result (λ netlist. spec.IsOrdered text.now top.now netlist.design netlist.order) }
+    ensures refused { IfErr result (λ e. e ≢ OutOfMemory → spec.IsRefusedNetlist text.now top.now e) }
+    ensures fits { IfOk result (λ netlist. FitsDesign netlist.design) }
+{
+    let tree = parse(alloc, text)?;
+    let design = design_of(alloc, &tree, top)?;
+    let order = order_of(alloc, &design)?;
+    Ok(Netlist { design, order })
+}
+
+/// The design of a tree. More primitives than 32 bits number take more memory than there is.
+fn design_of(alloc: Global, tree: &Source, top: &str) -> Result<Design, NetlistErr>
+    requires { IsWhole tree.now }
+    ensures design { IfOk result (spec.IsDesignIn tree.now top.now) }
+    ensures refused { IfErr result (λ e. e ≢ OutOfMemory → spec.HasNoDesign tree.now top.now e) }
+    ensures fits { IfOk result FitsDesign }
+{
+    if tree.primitives.as_slice().len() >= MANY_PRIMITIVES {
+        return Err(NetlistErr::Memory);
+    }
+    let design = elaborate(alloc, tree, top)?;
+    Ok(design)
+}
+
+/// The order of a design's nets, or the written names of a loop's.
+fn order_of(alloc: Global, design: &Design) -> Result<Order, NetlistErr>
+    requires { FitsDesign design.now }
+    ensures order { IfOk result (IsOrder (driver_in design.now) (length design.now.nets)) }
+    ensures refused { IfErr result (λ e. e ≢ OutOfMemory → spec.HasLoopIn design.now e) }
+{
+    match order(alloc, design) {
+        Ok(order) => Ok(order),
+        Err(OrderErr::Loop { nets }) => {
+            let names = written_names(alloc, design, nets.as_slice())?;
+            Err(NetlistErr::Loop { names })
+        }
+        Err(OrderErr::Memory) => Err(NetlistErr::Memory),
+    }
+}

@@ -1,0 +1,77 @@
+//! Why a netlist is refused.
+
+use std::alloc::AllocError;
+use xr_base::{Items, Memory};
+use xr_design::Bytes;
+use xr_elab_nets::{ElabErr, ElabFault};
+use xr_netlist_grammar::{NetlistFault, ParseErr};
+use xr_order::OrderErr;
+
+/// Why a netlist is refused: the first cause, in this order.
+#[derive(Debug, Drop)]
+pub enum NetlistErr {
+    /// The text is none of the grammar.
+    Grammar { fault: NetlistFault },
+    /// The text's tree has no design.
+    Design { fault: ElabFault },
+    /// The design has a loop of these nets, by their written names, from net to argument.
+    Loop { names: Items<Bytes> },
+    /// There was no memory.
+    Memory,
+}
+
+impl NetlistErr {
+    ghost use Rattle.std.specs.Prelude.{◌≡◌};
+    ghost use Rattle.xr_job.specs.Lines.{netlist_status};
+
+    /// The exit status of a run that is refused so.
+    pub fn status(&self) -> u8
+        ensures { result ≡ netlist_status self.now }
+    {
+        match self {
+            NetlistErr::Grammar { .. } => 5,
+            NetlistErr::Design { .. } => 5,
+            NetlistErr::Loop { .. } => 6,
+            NetlistErr::Memory => 20,
+        }
+    }
+}
+
+impl From<ParseErr> for NetlistErr {
+    ghost use Rattle.std.specs.Prelude.{◌≡◌};
+    ghost use Rattle.xr_job.specs.Refusals.{grammar_refusal};
+
+    ghost from_gives = { λ cause refusal. refusal ≡ grammar_refusal cause };
+
+    fn from(cause: ParseErr) -> Self {
+        match cause.fault() {
+            Some(fault) => NetlistErr::Grammar { fault },
+            None => NetlistErr::Memory,
+        }
+    }
+}
+
+impl From<ElabErr> for NetlistErr {
+    ghost use Rattle.std.specs.Prelude.{◌≡◌};
+    ghost use Rattle.xr_job.specs.Refusals.{design_refusal};
+
+    ghost from_gives = { λ cause refusal. refusal ≡ design_refusal cause };
+
+    fn from(cause: ElabErr) -> Self {
+        match cause.fault() {
+            Some(fault) => NetlistErr::Design { fault },
+            None => NetlistErr::Memory,
+        }
+    }
+}
+
+impl From<Memory> for NetlistErr {
+    ghost use Rattle.std.specs.Prelude.{◌≡◌};
+    ghost use Rattle.xr_job.specs.declared.netlist_refusal.NetlistErr.TheVariants.{Memory as OutOfMemory};
+
+    ghost from_gives = { λ _ refusal. refusal ≡ OutOfMemory };
+
+    fn from(_: Memory) -> Self {
+        NetlistErr::Memory
+    }
+}

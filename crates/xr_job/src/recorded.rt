@@ -1,0 +1,124 @@
+//! The recording of a job.
+
+ghost use Rattle.std.specs.Prelude.{◌≡◌, ◌≢◌, ◌<◌, ◌≤◌, ◌^◌, IfOk, IfErr, length};
+ghost use Rattle.xr_design.specs.Design.{FitsDesign};
+ghost use Rattle.xr_job.specs.Netlist.{FitsNetlist};
+ghost use Rattle.xr_job.specs.Recorded as spec;
+ghost use Rattle.xr_job.specs.declared.recording_refusal.RecordingErr.TheVariants.{Memory as OutOfMemory};
+
+use crate::names::{joined, name_of, variable_name};
+use crate::netlist::Netlist;
+use crate::recording_refusal::RecordingErr;
+use std::alloc::Global;
+use xr_base::Memory;
+use xr_design::{Bytes, Design, StartRule, Stim};
+use xr_match::{BindErr, Binding, bind, stim_of};
+use xr_vcd::{Recording, read_vcd};
+
+/// A recording of a design, its variables bound to the design's nets, and the stimulus that they give.
+#[derive(Drop)]
+pub struct Recorded {
+    pub recording: Recording,
+    pub binding: Binding,
+    pub stim: Stim,
+}
+
+/// What a text records of a design in a scope, for a replay of so many rounds whose registers start by a rule; or why
+/// there is none.
+pub fn read_recording(
+    alloc: Global,
+    netlist: &Netlist,
+    text: &[u8],
+    scope: &[Bytes],
+    rounds: u32,
+    start: StartRule,
+) -> Result<Recorded, RecordingErr>
+    requires size { length text.now ≤ 2 ^ 28 }
+    requires fits { FitsNetlist netlist.now }
+    requires some { 0 < length scope.now }
+    requires round { 1 ≤ rounds }
+    requires rounds { rounds ≤ 16 }
+    ensures recorded { IfOk result (spec.IsRecorded text.now netlist.now.design scope.now rounds start) }
+    ensures refused { IfErr result (λ e.
+        e ≢ OutOfMemory → spec.IsRefusedRecording text.now netlist.now.design scope.now rounds e) }
+    ensures exact { spec.IsRecordingAnswer text.now netlist.now.design scope.now rounds start result }
+    ensures fits { IfOk result (spec.FitsRecorded netlist.now.design) }
+{
+    find_recording(alloc, &netlist.design, text, scope, rounds, start)
+}
+
+fn find_recording(
+    alloc: Global,
+    design: &Design,
+    text: &[u8],
+    scope: &[Bytes],
+    rounds: u32,
+    start: StartRule,
+) -> Result<Recorded, RecordingErr>
+    requires size { length text.now ≤ 2 ^ 28 }
+    requires fits { FitsDesign design.now }
+    requires some { 0 < length scope.now }
+    requires round { 1 ≤ rounds }
+    requires rounds { rounds ≤ 16 }
+    ensures recorded { IfOk result (spec.IsRecorded text.now design.now scope.now rounds start) }
+    ensures refused { IfErr result (λ e.
+        e ≢ OutOfMemory → spec.IsRefusedRecording text.now design.now scope.now rounds e) }
+    ensures fits { IfOk result (spec.FitsRecorded design.now) }
+{
+    let recording = read_vcd(alloc, text)?;
+    let binding = bind_variables(alloc, design, &recording, scope, rounds)?;
+    let stim = stim_of(alloc, design, &recording, &binding, rounds, start)?;
+    Ok(Recorded {
+        recording,
+        binding,
+        stim,
+    })
+}
+
+/// The variables of a recording, bound, or why they aren't.
+fn bind_variables(
+    alloc: Global,
+    design: &Design,
+    recording: &Recording,
+    scope: &[Bytes],
+    rounds: u32,
+) -> Result<Binding, RecordingErr>
+    requires fits { FitsDesign design.now }
+    requires some { 0 < length scope.now }
+    requires round { 1 ≤ rounds }
+    requires rounds { rounds ≤ 16 }
+    ensures bound { IfOk result (spec.IsBoundTo design.now recording.now scope.now rounds) }
+    ensures refused { IfErr result (λ e.
+        e ≢ OutOfMemory → spec.IsUnbound design.now recording.now scope.now rounds e) }
+{
+    match bind(alloc, design, recording, scope, rounds) {
+        Ok(binding) => Ok(binding),
+        Err(cause) => Err(told(alloc, design, recording, scope, cause)?),
+    }
+}
+
+/// A refusal with the names that it prints.
+fn told(
+    alloc: Global,
+    design: &Design,
+    recording: &Recording,
+    scope: &[Bytes],
+    cause: BindErr,
+) -> Result<RecordingErr, Memory>
+    requires { spec.IsNamed design.now recording.now scope.now cause }
+    ensures { IfOk result (λ e. spec.Tells design.now recording.now scope.now cause e) }
+{
+    match cause {
+        BindErr::NoScope => Ok(RecordingErr::NoScope {
+            name: joined(alloc, scope)?,
+        }),
+        BindErr::RangeDiffers { variable } => Ok(RecordingErr::RangeDiffers {
+            name: variable_name(alloc, recording, scope, variable)?,
+        }),
+        BindErr::MissingInput { net } => Ok(RecordingErr::MissingInput {
+            name: name_of(alloc, design, net)?,
+        }),
+        BindErr::TooLarge { places } => Ok(RecordingErr::TooLarge { places }),
+        BindErr::Memory => Ok(RecordingErr::Memory),
+    }
+}

@@ -1,0 +1,68 @@
+//! Why a recording is refused.
+
+use std::alloc::AllocError;
+use xr_base::Memory;
+use xr_design::Bytes;
+use xr_vcd::{RecordingFault, VcdErr};
+
+/// Why a recording of a design is refused: the first cause, in this order.
+#[derive(Debug, Drop)]
+pub enum RecordingErr {
+    /// The text is none of the grammar.
+    Grammar { fault: RecordingFault },
+    /// No scope of the recording has the scope path, which is this word.
+    NoScope { name: Bytes },
+    /// The first variable whose width or range isn't that of the nets that it names: its scopes below the scope path and
+    /// its reference, joined by dots.
+    RangeDiffers { name: Bytes },
+    /// The least net that is an input and is no bit of a bound variable, by its written name.
+    MissingInput { name: Bytes },
+    /// More than 2^27 places: so many.
+    TooLarge { places: u64 },
+    /// There was no memory.
+    Memory,
+}
+
+impl RecordingErr {
+    ghost use Rattle.std.specs.Prelude.{◌≡◌};
+    ghost use Rattle.xr_job.specs.Lines.{recording_status};
+
+    /// The exit status of a run that is refused so.
+    pub fn status(&self) -> u8
+        ensures { result ≡ recording_status self.now }
+    {
+        match self {
+            RecordingErr::Grammar { .. } => 7,
+            RecordingErr::NoScope { .. } => 7,
+            RecordingErr::RangeDiffers { .. } => 7,
+            RecordingErr::MissingInput { .. } => 7,
+            RecordingErr::TooLarge { .. } => 11,
+            RecordingErr::Memory => 20,
+        }
+    }
+}
+
+impl From<VcdErr> for RecordingErr {
+    ghost use Rattle.std.specs.Prelude.{◌≡◌};
+    ghost use Rattle.xr_job.specs.Refusals.{recording_refusal};
+
+    ghost from_gives = { λ cause refusal. refusal ≡ recording_refusal cause };
+
+    fn from(cause: VcdErr) -> Self {
+        match cause.fault() {
+            Some(fault) => RecordingErr::Grammar { fault },
+            None => RecordingErr::Memory,
+        }
+    }
+}
+
+impl From<Memory> for RecordingErr {
+    ghost use Rattle.std.specs.Prelude.{◌≡◌};
+    ghost use Rattle.xr_job.specs.declared.recording_refusal.RecordingErr.TheVariants.{Memory as OutOfMemory};
+
+    ghost from_gives = { λ _ refusal. refusal ≡ OutOfMemory };
+
+    fn from(_: Memory) -> Self {
+        RecordingErr::Memory
+    }
+}
