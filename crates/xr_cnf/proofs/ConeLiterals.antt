@@ -1,20 +1,16 @@
 -- The literals of nodes are those of the places of their cone.
-use Rattle.std.proofs.Common.{◌≡◌, ◌≢◌, ℕ, zero, suc, ◌+◌, ◌-◌, ◌<◌, ◌≤◌, not, Bool, true, false, cond, List, [], ◌∷◌, filter, length, map, take, refl, sym, ap, ◌∙◌, arith, add-one, subst, Contains, slice_index, slice_index_or}
-use Rattle.std.specs.Prelude.{ℤ, pos, negsuc, neg_ℤ}
-use Rattle.std.proofs.lemmas.Bool.{and_from, not-false}
+use Rattle.std.proofs.Common.{◌≡◌, ℕ, zero, suc, ◌+◌, ◌<◌, ◌≤◌, not, Bool, true, false, cond, List, [], ◌∷◌, filter, length, take, refl, sym, ap, ◌∙◌, arith, add-one, subst, slice_index, slice_index_or}
+use Rattle.std.specs.Prelude.{ℤ, pos}
 use Rattle.std.proofs.lemmas.List.{get_or-take, length-take-le}
 use Rattle.xr_cell.specs.declared.value.Value.{Value}
 use Rattle.xr_design.specs.Job.{Job}
-use Rattle.xr_design.specs.Fits.{Fits}
 use Rattle.xr_design.specs.Order.{position_of}
 use Rattle.xr_design.specs.Waveform.{certain}
 use Rattle.xr_model.specs.Class.{class_of, flipped}
 use Rattle.xr_model.specs.Cone.{in_cone, is_carried}
-use Rattle.xr_model.specs.Node.{IsBody, IsCarriedFrom}
-use Rattle.xr_model.specs.Places.{places_where}
+use Rattle.xr_model.specs.Node.{IsBody}
 use Rattle.xr_model.specs.Query.{is_variable, literal, signed, variables}
 use Rattle.xr_model.specs.Root.{Root, root_of}
-use Rattle.xr_model.specs.declared.class.ClassByNumber.TheVariants as class
 use Rattle.xr_model.proofs.ConeModels.{position_rises}
 use Rattle.xr_model.proofs.PlacesWhere.{picked_rises}
 use Rattle.xr_model.proofs.Roots.{root_carried, root_own}
@@ -24,7 +20,7 @@ use Rattle.xr_cone_nodes.specs.declared.node.NodeBody.{NodeBody as Body}
 use Rattle.xr_cone_nodes.specs.declared.node.NodeBody.TheVariants.{Carried, Rule}
 use Rattle.xr_cone_nodes.specs.Nodes.{StandsAt, body_of, node_at, no_node}
 use Rattle.xr_cone_nodes.specs.Traced.{IsConeOf, cone_in}
-use Rattle.xr_cone_nodes.proofs.ConeBits.{count, fits, picked, place_within}
+use Rattle.xr_cone_nodes.proofs.ConeBits.{count, fits, place_within}
 use Rattle.xr_cone_nodes.proofs.PickedLists.{filter_position, places_both}
 use Rattle.xr_cnf.specs.Literals.{AreLiterals, is_ruled_body, is_ruled_node, literal_at, literal_by, says, variables_of}
 
@@ -63,7 +59,8 @@ body_ruled j c places place (Carried node inverted) is = sym (ap (λ k. not (is_
 body_ruled j c places place (Rule arguments values) is = sym (ap not is.free)
 
 -- A literal of a bit, from that of 1.
-signed_says : (n : ℕ) (inverted bit : Bool) → signed n (flipped inverted bit) ≡ says (signed n (flipped inverted true)) bit
+signed_says : (n : ℕ) (inverted bit : Bool) → signed n (flipped inverted bit)
+    ≡ says (signed n (flipped inverted true)) bit
 signed_says n inverted true = refl
 signed_says n false false = refl
 signed_says n true false = refl
@@ -82,7 +79,8 @@ module _ (c : Contents) (root : ℕ) (nodes : List Node) (is : IsConeOf c root n
 
   -- As many nodes before one aren't carried as there are variables before its place.
   counted : (p : ℕ) → p ≤ length nodes → variables_of (take p nodes)
-      ≡ length (filter (λ place. not (is_carried (class_of (job c) (certain c.written) place))) (take p (cone_in c root)))
+      ≡ length (filter (λ place. not (is_carried (class_of (job c) (certain c.written) place))) (take p
+      (cone_in c root)))
   counted p within = passes_match is_ruled_node
       (λ place. not (is_carried (class_of (job c) (certain c.written) place))) no_node 0 (take p nodes)
       (take p (cone_in c root))
@@ -117,7 +115,8 @@ module _ (c : Contents) (root : ℕ) (nodes : List Node) (is : IsConeOf c root n
       let q : ℕ → Bool = λ place. not (is_carried (class_of (job c) (certain c.written) place)) in
       let n : ℕ = length (filter q (take p xs)) in
       let all = count c root nodes is in
-      let at : slice_index_or (filter q xs) n 0 ≡ here = filter_position q 0 xs p (omega (arith, all, less)) (ap not free) in
+      let at : slice_index_or (filter q xs) n 0 ≡ here = filter_position q 0 xs p (omega (arith, all, less))
+      (ap not free) in
       let within : n < length (filter q xs) = passes_before q 0 xs p (omega (arith, all, less)) (ap not free) in
       let same = picked_variables in
       let number = variables_rise n (subst (λ ys. n < length ys) (sym same) within) in

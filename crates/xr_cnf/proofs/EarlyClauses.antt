@@ -1,15 +1,14 @@
 -- The clauses of nodes, node after node, and the query that they are.
-use Rattle.std.proofs.Common.{◌≡◌, ◌≢◌, ℕ, zero, suc, ◌+◌, ◌-◌, ◌<◌, ◌≤◌, ◌^◌, not, Bool, true, false, List, [], ◌∷◌, ◌++◌, length, map, refl, sym, ap, ◌∙◌, arith, subst, inl, inr, ◌⊎◌, ⊎_elim, Contains, slice_index, slice_index_or}
-use Rattle.std.specs.Prelude.{ℤ, pos, negsuc, neg_ℤ, nat_abs}
-use Rattle.std.specs.List.{All, AllByRecursion}
+use Rattle.std.proofs.Common.{◌≡◌, ◌≢◌, ℕ, zero, suc, ◌+◌, ◌-◌, ◌<◌, ◌≤◌, ◌^◌, not, Bool, true, false, List, [], ◌∷◌, ◌++◌, length, refl, sym, ap, arith, subst, inl, inr, ⊎_elim, Contains, slice_index, slice_index_or}
+use Rattle.std.specs.Prelude.{ℤ, pos, negsuc, nat_abs}
+use Rattle.std.specs.List.{All}
 use Rattle.std.proofs.Math.ListN.{get_or-append}
 use Rattle.std.proofs.Math.Seq.{get_or-append_seam}
 use Rattle.std.proofs.lemmas.Bool.{cases_eq}
 use Rattle.std.proofs.lemmas.List.{get_or_default}
 use Rattle.std.proofs.lemmas.List.Elements.{Contains-append_left, Contains-get_or, Contains-push, Contains-push_cases}
 use Rattle.xr_cell.specs.declared.value.Value.{Value}
-use Rattle.xr_model.specs.Node.{ruled, upto}
-use Rattle.xr_model.proofs.ChoiceNumbers.{split}
+use Rattle.xr_model.specs.Node.{ruled}
 use Rattle.xr_model.proofs.PlacesWhere.{in_picked}
 use Rattle.xr_proof.specs.Assignment.{HasNoZero}
 use Rattle.xr_proof.specs.Log.{Fit}
@@ -24,7 +23,8 @@ use Rattle.xr_cnf.proofs.NodeLiterals.{ruled_few}
 use Rattle.xr_cnf.proofs.GrownLists.{grown_same, grown_then}
 use Rattle.xr_cnf.proofs.QueryClauses.{get_all}
 
-pub early_none : (nodes : List Node) (literals : List ℤ) (a : List (List ℤ)) → IsGrown (IsEarlyClause nodes literals 0) a a
+pub early_none : (nodes : List Node) (literals : List ℤ) (a : List (List ℤ))
+    → IsGrown (IsEarlyClause nodes literals 0) a a
 early_none nodes literals a = grown_same (IsEarlyClause nodes literals 0) a
     (λ clause is. (let less = is.early in omega (arith, less)))
 

@@ -1,7 +1,6 @@
 -- Lists of clauses that grow by clauses of some kind.
-use Rattle.std.proofs.Common.{◌≡◌, ◌≢◌, ℕ, zero, suc, ◌+◌, ◌<◌, ◌≤◌, ◌^◌, not, Bool, true, false, List, [], ◌∷◌, ◌++◌, length, map, take, refl, sym, ap, ◌∙◌, arith, add-one, subst, inl, inr, ◌⊎◌, ⊎_elim, Contains, slice_index_or, if◌then◌else◌}
-use Rattle.std.specs.Prelude.{ℤ, pos, neg_ℤ, nat_abs}
-use Rattle.std.specs.List.{All}
+use Rattle.std.proofs.Common.{◌≡◌, ◌≢◌, ℕ, zero, suc, ◌+◌, ◌<◌, ◌≤◌, not, Bool, true, false, List, [], ◌∷◌, ◌++◌, length, map, take, refl, sym, ap, ◌∙◌, arith, subst, inl, inr, ◌⊎◌, ⊎_elim, Contains, slice_index_or, if◌then◌else◌}
+use Rattle.std.specs.Prelude.{ℤ, nat_abs}
 use Rattle.std.specs.List.Sorted.{IsStrictlyIncreasing}
 use Rattle.std.proofs.Math.Path.{fun_ext}
 use Rattle.std.proofs.lemmas.Bool.{cases_eq, cases_lt}
@@ -12,10 +11,9 @@ use Rattle.xr_model.specs.Node.{table_of, upto}
 use Rattle.xr_model.specs.Places.{among}
 use Rattle.xr_model.specs.Query.{IsChoice, IsClause}
 use Rattle.xr_model.proofs.ChoiceNumbers.{above, clause_bits, clause_one, rest_rises, split}
-use Rattle.xr_model.proofs.PlacesWhere.{in_picked}
 use Rattle.xr_cone_choices.proofs.ChoiceBits.{bit_past}
 use Rattle.xr_cone_choices.specs.declared.choice.Choice.{Choice}
-use Rattle.xr_cone_choices.specs.Choices.{AreChoices, IsAmong, IsMinimalIn, StandsFor, bits_in, chosen_in}
+use Rattle.xr_cone_choices.specs.Choices.{AreChoices, IsAmong, IsMinimalIn, bits_in, chosen_in}
 use Rattle.xr_cnf.specs.Clauses.{IsTableClause, node_says}
 use Rattle.xr_cnf.specs.Growth.{IsBitClause, IsChoiceClause, IsGrown, IsSomeClause, clause_literals, denied, denied_at}
 use Rattle.xr_cnf.specs.Merged.{AreOpposed, IsMerged}

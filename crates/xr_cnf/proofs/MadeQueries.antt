@@ -1,5 +1,5 @@
 -- What the lists that are made of a cone are: its query.
-use Rattle.std.proofs.Common.{◌≡◌, ℕ, ◌++◌, ◌∷◌, [], Bool, List, refl, sym, ap, ◌∙◌, subst}
+use Rattle.std.proofs.Common.{◌≡◌, ℕ, ◌++◌, ◌∷◌, [], Bool, List, sym, ◌∙◌, subst}
 use Rattle.std.specs.Prelude.{ℤ}
 use Rattle.xr_proof.specs.declared.clause.Cnf.{Cnf}
 use Rattle.xr_cone_nodes.specs.declared.node.Node.{Node}

@@ -1,20 +1,16 @@
 -- The filling of a model of a cone's query.
-use Rattle.std.proofs.Common.{◌≡◌, ℕ, zero, suc, ◌+◌, ◌<◌, ◌≤◌, ◌&&◌, not, Bool, true, false, cond, List, [], ◌∷◌, ◌++◌, filter, length, map, take, refl, sym, ap, ◌∙◌, add-one, arith, append-nil, subst, Contains, slice_index, slice_index_or, if◌then◌else◌}
-use Rattle.std.specs.Prelude.{ℤ}
+use Rattle.std.proofs.Common.{◌≡◌, ℕ, zero, suc, ◌+◌, ◌<◌, ◌≤◌, ◌&&◌, Bool, true, false, cond, List, [], ◌∷◌, ◌++◌, filter, length, map, take, refl, sym, ap, ◌∙◌, add-one, arith, append-nil, subst, slice_index, slice_index_or, if◌then◌else◌}
 use Rattle.std.proofs.Math.Seq.{take-length, take-suc}
 use Rattle.std.proofs.lemmas.Bool.{and_parts, not-true}
 use Rattle.std.proofs.lemmas.List.{map-append}
 use Rattle.std.proofs.lemmas.List.Elements.{All-contains, filter-append}
-use Rattle.xr_cell.specs.declared.value.Value.{Value}
 use Rattle.xr_design.specs.declared.place.Place.{Place}
 use Rattle.xr_design.specs.Fits.{place_at}
-use Rattle.xr_design.specs.Job.{Job}
 use Rattle.xr_design.specs.Order.{position_of}
 use Rattle.xr_design.specs.Waveform.{certain}
 use Rattle.xr_model.specs.Class.{class_of, flipped}
 use Rattle.xr_model.specs.Cone.{denied_value, in_cone, is_born, is_carried, is_source, source_filling}
 use Rattle.xr_model.specs.Line.{GivesBoth}
-use Rattle.xr_model.specs.Places.{places_where}
 use Rattle.xr_model.specs.Query.{valuation_of, variables}
 use Rattle.xr_model.specs.Root.{Root}
 use Rattle.xr_model.specs.Stated.{pair_of, swapped}
@@ -24,13 +20,13 @@ use Rattle.xr_model.proofs.Roots.{root_own}
 use Rattle.xr_proof.specs.Assignment.{IsMet, assigned}
 use Rattle.xr_wave.specs.Contents.{Contents, job}
 use Rattle.xr_cone_nodes.specs.declared.node.Node.{Node}
-use Rattle.xr_cone_nodes.specs.Nodes.{is_source_node, no_node, node_at, nothing, place_of_node, root_bit}
+use Rattle.xr_cone_nodes.specs.Nodes.{no_node, node_at, place_of_node}
 use Rattle.xr_cone_nodes.specs.Traced.{IsConeOf, cone_in}
 use Rattle.xr_cone_nodes.proofs.ConeBits.{count, fits, node_born, seen}
 use Rattle.xr_cone_nodes.proofs.ConeLaws.{base_law}
 use Rattle.xr_cone_nodes.proofs.PickedLists.{places_both}
 use Rattle.xr_cnf.specs.Literals.{variables_of}
-use Rattle.xr_cnf.specs.Models.{GivesPair, HasModel, IsModelFilling, is_picked, picked_places}
+use Rattle.xr_cnf.specs.Models.{GivesPair, IsModelFilling, is_picked, picked_places}
 use Rattle.xr_cnf.proofs.ConeLiterals.{variable_number}
 
 maps_at : {A B C : Type 0} (f : A → C) (g : B → C) (xs : List A) (ys : List B) (d : A) (e : B) (i : ℕ)
@@ -131,7 +127,8 @@ pub picked_pair : (nodes : List Node) (values : List Bool) (filling : List Place
     → filling ≡ picked_places nodes (assigned values) (length nodes) → GivesPair nodes values filling
 picked_pair nodes values filling same c root is has =
     subst (λ b. GivesBoth (job c) c.written root (swapped b (pair_of [] filling))) (sym (base_law c root nodes is))
-    (subst (λ f. GivesBoth (job c) c.written root (swapped (denied_value (job c) (certain c.written) root) (pair_of [] f)))
+    (subst (λ f. GivesBoth (job c) c.written root (swapped (denied_value (job c) (certain c.written) root)
+    (pair_of [] f)))
     (sym (picked_filling nodes values filling same c root is))
     (model_pair (job c) (fits c root nodes is) c.written root (assigned values) is.reach.within (seen c root nodes is)
     (λ clause of. All-contains (IsMet (assigned values)) has.query clause has.is_model.met

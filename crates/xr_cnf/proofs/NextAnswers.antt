@@ -1,5 +1,5 @@
 -- What is shown of the next place by the answers of a search on its query.
-use Rattle.std.proofs.Common.{◌≡◌, ◌<◌, Bool, List, length, map, refl, sym, ap, ◌∙◌, subst}
+use Rattle.std.proofs.Common.{◌≡◌, ◌<◌, List, length, sym, ap, ◌∙◌, subst}
 use Rattle.std.specs.Prelude.{ℤ}
 use Rattle.std.proofs.lemmas.List.{length-map}
 use Rattle.xr_design.specs.Fits.{place_at}

@@ -1,5 +1,5 @@
 -- The literals of nodes, one node after another.
-use Rattle.std.proofs.Common.{◌≡◌, ◌≢◌, ℕ, zero, suc, ◌+◌, ◌<◌, ◌≤◌, ◌^◌, Bool, true, false, cond, List, [], ◌∷◌, ◌++◌, filter, length, take, not, refl, sym, ap, ◌∙◌, arith, add-one, subst, inl, inr, ◌⊎◌, ⊎_elim, length-append, slice_index_or}
+use Rattle.std.proofs.Common.{◌≡◌, ◌≢◌, ℕ, suc, ◌+◌, ◌<◌, ◌≤◌, ◌^◌, Bool, true, false, cond, List, [], ◌∷◌, ◌++◌, filter, length, take, not, refl, sym, ap, ◌∙◌, arith, subst, ⊎_elim, length-append}
 use Rattle.std.specs.Prelude.{ℤ, pos}
 use Rattle.std.proofs.Math.ListN.{get_or-append}
 use Rattle.std.proofs.Math.Seq.{get_or-append_seam, take-length}
@@ -15,7 +15,8 @@ pub ruled_few : (nodes : List Node) → variables_of nodes ≤ length nodes
 ruled_few [] = omega arith
 ruled_few (n ∷ ns) = step (is_ruled_node n) (ruled_few ns)
   where
-    step : (b : Bool) → variables_of ns ≤ length ns → length (cond b (n ∷ filter is_ruled_node ns) (filter is_ruled_node ns)) ≤ suc (length ns)
+    step : (b : Bool) → variables_of ns ≤ length ns → length (cond b (n ∷ filter is_ruled_node ns)
+        (filter is_ruled_node ns)) ≤ suc (length ns)
     step true ih = omega (arith, ih)
     step false ih = omega (arith, ih)
 
@@ -78,9 +79,11 @@ module _ (front : List Node) (node : Node) (literals : List ℤ) (l : ℤ) (is :
   at_last = ap (literal_at (literals ++ l ∷ [])) (sym is.are.long) ∙ get_or-append_seam literals l [] (pos 0)
 
   each : (p : ℕ) → p < length (front ++ node ∷ []) → literal_at (literals ++ l ∷ []) p
-      ≡ literal_by (literals ++ l ∷ []) (variables_of (take p (front ++ node ∷ []))) (node_at (front ++ node ∷ []) p).body
+      ≡ literal_by (literals ++ l ∷ []) (variables_of (take p (front ++ node ∷ []))) (node_at
+      (front ++ node ∷ []) p).body
   each p less = ⊎_elim (λ (last : p ≡ length front). subst (λ i. literal_at (literals ++ l ∷ []) i
-      ≡ literal_by (literals ++ l ∷ []) (variables_of (take i (front ++ node ∷ []))) (node_at (front ++ node ∷ []) i).body)
+      ≡ literal_by (literals ++ l ∷ []) (variables_of (take i (front ++ node ∷ []))) (node_at
+      (front ++ node ∷ []) i).body)
       (sym last) own) (λ (other : p ≢ length front). (let long = size in early (omega (arith, less, long, other))))
       (cases_eq p (length front))
     where
@@ -102,7 +105,8 @@ module _ (front : List Node) (node : Node) (literals : List ℤ) (l : ℤ) (is :
           (sym own_node)
 
       early : p < length front → literal_at (literals ++ l ∷ []) p
-          ≡ literal_by (literals ++ l ∷ []) (variables_of (take p (front ++ node ∷ []))) (node_at (front ++ node ∷ []) p).body
+          ≡ literal_by (literals ++ l ∷ []) (variables_of (take p (front ++ node ∷ []))) (node_at
+          (front ++ node ∷ []) p).body
       early low =
           let same : node_at (front ++ node ∷ []) p ≡ node_at front p = get_or-append front (node ∷ []) no_node p low in
           at_front p low ∙ is.are.each p low

@@ -1,5 +1,5 @@
 -- The clauses over the nodes of a cone are those of its query.
-use Rattle.std.proofs.Common.{◌≡◌, ◌≢◌, ℕ, zero, suc, ◌+◌, ◌-◌, ◌<◌, ◌≤◌, ◌&&◌, not, Bool, true, false, List, [], ◌∷◌, ◌++◌, length, map, refl, sym, ap, ◌∙◌, arith, add-one, subst, inl, inr, ◌⊎◌, ⊎_elim, Contains, slice_index, slice_index_or, length-append}
+use Rattle.std.proofs.Common.{◌≡◌, ℕ, zero, suc, ◌+◌, ◌-◌, ◌<◌, ◌&&◌, not, Bool, true, false, List, [], ◌∷◌, ◌++◌, length, map, refl, sym, ap, ◌∙◌, arith, add-one, subst, inl, inr, ⊎_elim, Contains, slice_index, length-append}
 use Rattle.std.specs.Prelude.{ℤ}
 use Rattle.std.proofs.Math.ListN.{get_or-append}
 use Rattle.std.proofs.Math.Seq.{get_or-append_seam}
@@ -12,7 +12,7 @@ use Rattle.xr_design.specs.Job.{Job}
 use Rattle.xr_design.specs.Order.{position_of}
 use Rattle.xr_design.specs.Waveform.{certain}
 use Rattle.xr_model.specs.Class.{class_of}
-use Rattle.xr_model.specs.Cone.{denied_value, essentials, in_cone, is_carried, is_essential, table}
+use Rattle.xr_model.specs.Cone.{essentials, in_cone, is_carried, is_essential, table}
 use Rattle.xr_model.specs.Node.{IsBody, IsRuled, NodeBody, carried, ruled, table_of, upto}
 use Rattle.xr_model.specs.Places.{among, places_where}
 use Rattle.xr_model.specs.Query.{IsChoice, IsClause, IsConeClause, IsQuery, denial, literal}
@@ -133,14 +133,16 @@ module _ (c : Contents) (root : ℕ) (nodes : List Node) (is : IsConeOf c root n
         sym (argument_says k x (let low = (in_picked (λ i. true) size k at).0 in omega (arith, low, long)))
 
     -- The clauses of the place are those of the node's table.
-    pub table_clause : (bit : Bool) (chosen bits : ℕ → Bool) (clause : List ℤ) → IsChoice names table_here chosen bits bit
+    pub table_clause : (bit : Bool) (chosen bits : ℕ → Bool) (clause : List ℤ)
+        → IsChoice names table_here chosen bits bit
         → IsClause place_says (slice_index (cone_in c root) position) chosen bits bit clause
         → IsTableClause literals arguments values position clause
     table_clause bit chosen bits clause choice is_clause = record {
       bit = bit;
       chosen = λ k. among (upto size) k && chosen (slice_index names k);
       bits = λ k. bits (slice_index names k);
-      choice = subst (λ n. IsChoice (upto n) (table_of values n) (λ k. among (upto size) k && chosen (slice_index names k))
+      choice = subst (λ n. IsChoice (upto n) (table_of values n) (λ k. among (upto size) k && chosen
+          (slice_index names k))
           (λ k. bits (slice_index names k)) bit) names_long
           (choice_matched names (upto size) table_here (table_of values size) matches chosen bits bit choice);
       is_clause = subst (λ n. IsClause (node_says literals arguments position) n

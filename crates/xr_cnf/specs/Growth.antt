@@ -1,5 +1,5 @@
 -- Lists of clauses that grow, and lists in which each clause stands once.
-use Rattle.std.specs.Prelude.{◌≡◌, ◌≢◌, ℕ, zero, suc, ◌<◌, ◌≤◌, ◌^◌, ◌⊎◌, Bool, List, [], ◌∷◌, ◌++◌, length, not, ℤ, if◌then◌else◌, Contains}
+use Rattle.std.specs.Prelude.{◌≢◌, ℕ, zero, suc, ◌<◌, ◌^◌, ◌⊎◌, Bool, List, [], ◌∷◌, ◌++◌, length, not, ℤ, if◌then◌else◌, Contains}
 use Rattle.std.specs.List.{All, AllPairs}
 use Rattle.xr_cell.specs.declared.value.Value.{Value}
 use Rattle.xr_model.specs.Node.{table_of, upto}

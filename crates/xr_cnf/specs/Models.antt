@@ -26,7 +26,8 @@ picked_places nodes model (suc n) =
     then picked_places nodes model n ++ (node_at nodes n).place ∷ []
     else picked_places nodes model n
 
--- A filling gives each source of a cone its bit in the valuation of a model, whichever place of a wave the nodes are the
+-- A filling gives each source of a cone its bit in the valuation of a model, whichever place of a wave the nodes are
+-- the
 -- cone of.
 abbrev pub IsModelFilling : List Node → List Bool → List Place → Type 0
 IsModelFilling nodes values filling = (c : Contents) (root : ℕ) → IsConeOf c root nodes

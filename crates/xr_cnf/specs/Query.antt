@@ -1,5 +1,5 @@
 -- The query of a cone as a formula.
-use Rattle.std.specs.Prelude.{◌≡◌, ◌≢◌, ℕ, ◌≤◌, ◌^◌, List, length, ℤ}
+use Rattle.std.specs.Prelude.{◌≡◌, ◌≢◌, ℕ, ◌≤◌, ◌^◌, List, length}
 use Rattle.std.specs.List.{AllPairs}
 use Rattle.xr_design.specs.Waveform.{certain}
 use Rattle.xr_model.specs.Query.{variables}

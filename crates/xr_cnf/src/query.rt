@@ -88,3 +88,63 @@ fn add_denial(alloc: Global, lists: &mut Lists, literals: &[i32], base: bool) ->
     list.push(turned(literals[literals.len() - 1], !base))?;
     lists.push(list)
 }
+
+#[cfg(test)]
+mod tests {
+    use super::*;
+    use std::alloc::AllocError;
+    use std::test::Fail;
+    use xr_cell::Value;
+    use xr_design::Place;
+
+    fn node(net: u32, body: NodeBody) -> Node
+        ensures { result.body ≡ body }
+    {
+        Node {
+            place: Place { step: 0, net },
+            body,
+        }
+    }
+
+    fn table(alloc: Global, arguments: &[u32], values: &[Value]) -> Result<NodeBody, AllocError>
+        ensures { IfOk result (λ body. body ≡ NodeBody.Rule arguments.now values.now) }
+    {
+        Ok(NodeBody::Rule {
+            arguments: Items::from_vec(arguments.to_vec(alloc)?),
+            values: Items::from_vec(values.to_vec(alloc)?),
+        })
+    }
+
+    /// A source, its complement, and the or of both.
+    fn either(alloc: Global) -> Result<Vec<Node>, AllocError>
+        ensures { IfOk result (λ nodes. AreNodes nodes.items) }
+    {
+        let (zero, one) = (Value::Zero, Value::One);
+        let source = table(alloc, &[], &[Value::X])?;
+        let either = table(alloc, &[0, 1], &[zero, one, one, one])?;
+        let mut nodes = Vec::new(alloc);
+        nodes.push(node(0, source))?;
+        nodes.push(node(
+            1,
+            NodeBody::Carried {
+                node: 0,
+                inverted: true,
+            },
+        ))?;
+        nodes.push(node(2, either))?;
+        Ok(nodes)
+    }
+
+    #[test]
+    fn clauses_of_either(rt: HostRuntime) -> Result<(), Fail> {
+        let cone = Cone::new(rt.alloc(), either(rt.alloc())?)?;
+        let cnf = clauses(rt.alloc(), &cone)?;
+        let found = cnf.clauses.as_slice();
+        assert_eq!(rt; cnf.vars, 2);
+        assert_eq!(rt; found.len(), 3);
+        assert_eq!(rt; found[0].as_slice(), [-2].as_slice());
+        assert_eq!(rt; found[1].as_slice(), [-1, 2].as_slice());
+        assert_eq!(rt; found[2].as_slice(), [1, 2].as_slice());
+        Ok(())
+    }
+}

@@ -1,6 +1,5 @@
-use Rattle.std.proofs.Common.{◌≡◌, ◌+◌, ◌&&◌, ◌++◌, ◌∷◌, [], ℕ, Bool, List, sym, ap, ◌∙◌, subst}
+use Rattle.std.proofs.Common.{◌≡◌, ◌&&◌, ℕ, Bool, List, sym, ap, ◌∙◌, subst}
 use Rattle.std.proofs.lemmas.List.{get_or_default}
-use Rattle.xr_design.specs.declared.place.Place.{Place}
 use Rattle.xr_proof.specs.Assignment.{assigned}
 use Rattle.xr_cone_nodes.specs.declared.node.Node.{Node}
 use Rattle.xr_cone_nodes.specs.Nodes.{is_source_node, no_node, node_at}
@@ -31,7 +30,8 @@ nodes-preserved c =
             ∙ picked_push nodes model i c.nodes.places.items c.node-item.result.place
             (sym picked ∙ w.if-is_picked.true) c.nodes.invariant.places (ap (λ (n : Node). n.place) node_is)
         | else-is_picked w ↦ ap (λ v. v.items) w.places-is
-            ∙ picked_skip nodes model i c.nodes.places.items (sym picked ∙ w.if-is_picked.false) c.nodes.invariant.places
+            ∙ picked_skip nodes model i c.nodes.places.items (sym picked
+            ∙ w.if-is_picked.false) c.nodes.invariant.places
       ];
       variables = variables_more nodes i c.nodes.variables c.variables_with-variables.result c.nodes-test.true
           c.nodes.invariant.variables

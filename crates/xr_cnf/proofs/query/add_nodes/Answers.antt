@@ -1,7 +1,7 @@
-use Rattle.std.proofs.Common.{◌≡◌, ℕ, List, length, sym, ap, ◌∙◌, arith, subst}
+use Rattle.std.proofs.Common.{ℕ, List, arith, subst}
 use Rattle.std.proofs.lemmas.List.{get_or_default}
 use Rattle.xr_cone_nodes.specs.declared.node.Node.{Node}
-use Rattle.xr_cone_nodes.specs.Nodes.{no_node, node_at}
+use Rattle.xr_cone_nodes.specs.Nodes.{no_node}
 use Rattle.xr_cnf.specs.Clauses.{IsBodyClause}
 use Rattle.xr_cnf.specs.Growth.{IsGrown}
 use Rattle.xr_cnf.proofs.EarlyClauses.{all_literals, early_all, early_more}

@@ -1,12 +1,12 @@
-use Rattle.std.proofs.Common.{◌≡◌, ◌≤◌, ◌<◌, ◌^◌, ◌++◌, ◌∷◌, [], ℕ, List, length, sym, ap, ◌∙◌, arith, subst}
+use Rattle.std.proofs.Common.{◌^◌, ◌++◌, ◌∷◌, [], List, sym, ap, ◌∙◌, arith, subst}
 use Rattle.std.specs.Prelude.{ℤ}
 use Rattle.std.specs.List.{All}
 use Rattle.xr_proof.specs.Assignment.{HasNoZero}
 use Rattle.xr_cone_nodes.specs.declared.node.Node.{Node}
-use Rattle.xr_cone_nodes.specs.Nodes.{AreNodes, nothing, root_bit}
+use Rattle.xr_cone_nodes.specs.Nodes.{nothing, root_bit}
 use Rattle.xr_cnf.specs.Clauses.{IsNodeClause, denial_of}
 use Rattle.xr_cnf.specs.Growth.{AreOnce, IsGrown}
-use Rattle.xr_cnf.specs.Literals.{AreLiterals, IsLiteral, variables_of}
+use Rattle.xr_cnf.specs.Literals.{IsLiteral}
 use Rattle.xr_cnf.proofs.EarlyClauses.{all_literals, lists_no_zero, variables_few}
 use Rattle.xr_cnf.specs.Query.{IsQueryOfNodes}
 use Rattle.xr_cnf.proofs.MadeQueries.{AreMade, query_made, small_made}

@@ -1,5 +1,4 @@
-use Rattle.std.proofs.Common.{◌≡◌, ◌+◌, ℕ, List, length, sym, ap, ◌∙◌, arith, subst, take, refl}
-use Rattle.std.proofs.Math.Seq.{take-length}
+use Rattle.std.proofs.Common.{◌≡◌, ℕ, List, length, sym, arith, subst, take}
 use Rattle.std.proofs.lemmas.List.{take_all}
 use Rattle.xr_cone_choices.specs.declared.choice.Choice.{Choice}
 use Rattle.xr_cone_choices.specs.Choices.{AreChoices, nothing_chosen}

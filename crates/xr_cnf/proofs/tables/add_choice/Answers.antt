@@ -1,8 +1,8 @@
-use Rattle.std.proofs.Common.{◌≡◌, ◌++◌, ◌∷◌, [], ℕ, Bool, List, length, sym, ap, ◌∙◌, subst, MatchOption, Some, None}
+use Rattle.std.proofs.Common.{ℕ, Bool, List, length, sym, ◌∙◌, subst, MatchOption}
 use Rattle.std.specs.Prelude.{ℤ}
 use Rattle.std.proofs.lemmas.Result.{on_ok_weaker}
 use Rattle.xr_cnf.specs.Clauses.{node_says}
-use Rattle.xr_cnf.specs.Growth.{IsChoiceClause, IsGrown, clause_literals}
+use Rattle.xr_cnf.specs.Growth.{IsChoiceClause, IsGrown}
 use Rattle.xr_cnf.specs.Merged.{AreOpposed, IsMerged}
 use Rattle.xr_cnf.proofs.GrownLists.{choice_grown, chosen_below, grown_same, opposed_clause}
 use Rattle.xr_cnf.proofs.tables.add_choice.Goals as goal
