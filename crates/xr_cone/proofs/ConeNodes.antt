@@ -1,5 +1,5 @@
 -- Nodes that are made of the places of a cone, the least first.
-use Rattle.std.proofs.Common.{◌≡◌, ℕ, zero, suc, ◌+◌, ◌<◌, ◌≤◌, ◌^◌, ◌==◌, Bool, true, false, Result, Ok, Err, IfOk, List, [], ◌∷◌, ◌++◌, length, map, reverse, slice_index, slice_index_or, if◌then◌else◌, refl, sym, ap, ◌∙◌, subst, arith, ◌⊎◌, inl, inr, ⊎_elim, append_assoc, length-append}
+use Rattle.std.proofs.Common.{◌≡◌, ℕ, zero, suc, ◌+◌, ◌<◌, ◌≤◌, ◌^◌, ◌==◌, Bool, true, false, Result, Ok, Err, IfOk, List, [], ◌∷◌, ◌++◌, length, map, reverse, slice_index, if◌then◌else◌, refl, sym, ap, ◌∙◌, subst, arith, ◌⊎◌, inl, inr, ⊎_elim, append_assoc, length-append}
 use Rattle.std.specs.List.{AllByRecursion}
 use Rattle.std.specs.List.Sorted.{IsStrictlyIncreasing}
 use Rattle.std.proofs.Math.ListN.{get_or-append}
@@ -15,13 +15,12 @@ use Rattle.xr_model.specs.Cone.{cone, essentials, in_cone, is_carried, is_essent
 use Rattle.xr_model.specs.Laws.{InReach}
 use Rattle.xr_model.specs.Node.{IsBody}
 use Rattle.xr_model.specs.Places.{among, places_where}
-use Rattle.xr_model.specs.declared.class.ClassByNumber.{ClassByNumber}
 use Rattle.xr_model.specs.declared.class.ClassByNumber.TheVariants as class
 use Rattle.xr_model.proofs.Cones.{cone_closed, cone_self, cone_within, supports_below}
 use Rattle.xr_model.proofs.PlacesWhere.{all_among, among_all, contains_among, in_picked, or_left, or_right, picked_in, picked_rises}
 use Rattle.xr_model.proofs.TracedCones.{values_are}
 use Rattle.xr_wave.specs.Contents.{Contents, IsWave, class_in, job}
-use Rattle.xr_cone_nodes.specs.Nodes.{AreNodes, StandsAt, body_at, body_of, no_node, node_at, place_of_node}
+use Rattle.xr_cone_nodes.specs.Nodes.{StandsAt, body_at, body_of, no_node, node_at, place_of_node}
 use Rattle.xr_cone_nodes.specs.Traced.{IsConeOf}
 use Rattle.xr_cone_nodes.specs.declared.node.Node.{Node}
 use Rattle.xr_cone_nodes.specs.declared.node.NodeBody.{NodeBody as Body}

@@ -1,7 +1,5 @@
 -- The essential arguments of a place, from its table over its uncertain ones.
-use Rattle.std.proofs.Common.{◌≡◌, ℕ, zero, suc, ◌+◌, ◌^◌, ◌/◌, ◌%◌, ◌<◌, ◌==◌, ◌&&◌, not, Bool, true, false, List, [], ◌∷◌, ◌++◌, cond, length, filter, slice_index, slice_index_or, take, if◌then◌else◌, refl, sym, ap, ◌∙◌, subst, arith, ◌⊎◌, inl, inr, ⊎_elim}
-use Rattle.std.specs.List.{AllByRecursion}
-use Rattle.std.specs.List.Sorted.{IsStrictlyIncreasing}
+use Rattle.std.proofs.Common.{◌≡◌, ℕ, zero, suc, ◌+◌, ◌^◌, ◌/◌, ◌%◌, ◌<◌, ◌==◌, ◌&&◌, not, Bool, true, false, List, [], ◌∷◌, ◌++◌, cond, length, filter, slice_index, slice_index_or, take, if◌then◌else◌, refl, sym, ap, ◌∙◌, subst, arith, inl, inr}
 use Rattle.std.proofs.lemmas.Bool.{and_parts, and_from, eq-eqb, eqb-true}
 use Rattle.std.proofs.lemmas.Bool.Decides.{eqb_tells}
 use Rattle.std.proofs.lemmas.List.{append-nil, take_more}
@@ -16,16 +14,16 @@ use Rattle.xr_design.specs.World.{decided}
 use Rattle.xr_design.proofs.Rules.{AgreeOn, rule_reads}
 use Rattle.xr_class.specs.Arguments.{is_uncertain, uncertain_places}
 use Rattle.xr_model.specs.Assignment.{assigned, for_every, with_bit}
-use Rattle.xr_model.specs.Cone.{are_alike, essentials, is_essential, makes_no_difference, table}
+use Rattle.xr_model.specs.Cone.{are_alike, essentials, is_essential, makes_no_difference}
 use Rattle.xr_model.specs.Mask.{mask_of, masked}
 use Rattle.xr_model.specs.Places.{among, places_where}
 use Rattle.xr_model.proofs.AssignmentNumbers.{mask_small, masked_agrees}
 use Rattle.xr_model.proofs.Assignments.{every_passes, passes_every}
 use Rattle.xr_model.proofs.EssentialArguments.{rule_table, table_reads}
 use Rattle.xr_model.proofs.PlacesWhere.{all_among, among_all, in_picked, picked_in, picked_rises}
-use Rattle.xr_cone.specs.Table.{Differs, IsCut, IsSame, IsTableOver, Rests}
+use Rattle.xr_cone.specs.Table.{IsCut, IsTableOver, Rests}
 use Rattle.xr_cone.proofs.RisingLists.{increasing_apart}
-use Rattle.xr_cone.proofs.NumberBits.{AreApart, each_all, index_among, mask_bit, mask_clear, mask_same, mask_with, others_all, with_itself, with_other}
+use Rattle.xr_cone.proofs.NumberBits.{AreApart, each_all, index_among, mask_bit, mask_clear, mask_with, others_all, with_itself, with_other}
 
 alike_itself : (v : Value) → are_alike v v ≡ true
 alike_itself Zero = refl

@@ -8,3 +8,4 @@ mod OrderedKeys
 mod RisingLists
 mod TracedBodies
 mod TracedPlaces
+mod XorCircuit

@@ -1,5 +1,5 @@
 -- The next place, where its class is Line.
-use Rattle.std.proofs.Common.{◌≡◌, ◌<◌, ◌≤◌, Bool, true, false, Some, None, length, refl, arith, if◌then◌else◌}
+use Rattle.std.proofs.Common.{◌≡◌, Bool, true, false, Some, None, length, refl, arith, if◌then◌else◌}
 use Rattle.std.specs.Prelude.{nat_lt}
 use Rattle.std.proofs.lemmas.Bool.{ltb-true}
 use Rattle.xr_design.specs.Job.{Job, places_of}

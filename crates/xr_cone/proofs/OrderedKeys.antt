@@ -9,7 +9,7 @@ use Rattle.std.specs.BTreeSet.{insert_key}
 use Rattle.std.specs.Cmp.{ranks}
 use Rattle.std.proofs.lemmas.List.Elements.{recursion_from_All}
 use Rattle.xr_model.specs.Places.{among}
-use Rattle.xr_cone.specs.Reached.{Adds, Takes, TakesGreatest}
+use Rattle.xr_cone.specs.Reached.{Adds, Takes}
 
 twice : (a b : Bool) → a || b ≡ a || (a || b)
 twice false b = refl

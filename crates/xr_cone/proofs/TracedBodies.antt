@@ -1,5 +1,5 @@
 -- What the places of a cone rest on, as they are taken.
-use Rattle.std.proofs.Common.{◌≡◌, ℕ, ◌+◌, ◌<◌, ◌≤◌, Bool, true, false, List, [], ◌∷◌, ◌++◌, length, map, refl, sym, ap, ◌∙◌, subst, arith}
+use Rattle.std.proofs.Common.{◌≡◌, ℕ, ◌+◌, ◌<◌, ◌≤◌, false, List, [], ◌∷◌, ◌++◌, length, refl, sym, ap, ◌∙◌, subst, arith}
 use Rattle.std.specs.List.{AllByRecursion}
 use Rattle.std.proofs.lemmas.List.{length-map, map-append}
 use Rattle.xr_cell.specs.declared.value.Value.{Value}
@@ -10,7 +10,7 @@ use Rattle.xr_model.specs.Cone.{essentials, is_carried, supports, supports_by}
 use Rattle.xr_model.specs.declared.class.ClassByNumber.{ClassByNumber}
 use Rattle.xr_model.specs.declared.class.ClassByNumber.TheVariants as class
 use Rattle.xr_cone.specs.Reached.{Adds, AddsAll, TakesGreatest}
-use Rattle.xr_cone.specs.Traced.{IsBodyOf, IsTraced, place_in, places_in, supports_in}
+use Rattle.xr_cone.specs.Traced.{IsBodyOf, place_in, places_in, supports_in}
 use Rattle.xr_cone.specs.declared.traced.Traced.{Traced}
 use Rattle.xr_cone.specs.declared.traced.TracedBody.{TracedBody}
 use Rattle.xr_cone.specs.declared.traced.TracedBody.TheVariants.{Carried, Rule}

@@ -1,5 +1,7 @@
 -- Definitions of what code finds of a cone.
+pub mod InWave
 pub mod Placed
 pub mod Reached
 pub mod Table
 pub mod Traced
+pub mod Xor

@@ -19,7 +19,8 @@ pub record IsPlacedRule (places arguments : List ℕ) (values : List Value) (pos
   pub same : kept ≡ values
 
 abbrev pub IsPlaced : List ℕ → TracedBody → Body → Type 0
-IsPlaced places (Carried from inverted) (node.Carried position flips) = IsPlacedCarry places from inverted position flips
+IsPlaced places (Carried from inverted) (node.Carried position flips) =
+    IsPlacedCarry places from inverted position flips
 IsPlaced places (Carried from inverted) (node.Rule positions kept) = ⊥
 IsPlaced places (Rule arguments values) (node.Carried position flips) = ⊥
 IsPlaced places (Rule arguments values) (node.Rule positions kept) =

@@ -1,11 +1,9 @@
 //! The places of a cone, from its root downwards.
 
 ghost use Rattle.std.specs.Prelude.{IfOk, OnOk};
-ghost use Rattle.xr_design.specs.Waveform.{certain};
-ghost use Rattle.xr_model.specs.Laws.{InReach};
-ghost use Rattle.xr_wave.specs.Contents.{job};
+ghost use Rattle.xr_cone.specs.InWave.{AreTracedIn, IsInReach};
 ghost use Rattle.xr_cone.specs.Reached.{AddsAll};
-ghost use Rattle.xr_cone.specs.Traced.{AreTraced, supports_in};
+ghost use Rattle.xr_cone.specs.Traced.{supports_in};
 
 use crate::reached::Reached;
 use crate::traced::{Traced, TracedBody, trace_place};
@@ -16,8 +14,8 @@ use xr_wave::Wave;
 /// The places of a cone, the greatest first: all that reach a place stand behind it, so once it is the greatest that is
 /// still to be looked at, nothing more will reach it.
 pub fn trace_places(alloc: Global, wave: &Wave<'_>, root: usize) -> Result<Vec<Traced>, Memory>
-    requires { InReach (job wave.now) wave.now.written root }
-    ensures { IfOk result (λ traced. AreTraced (job wave.now) (certain wave.now.written) root traced.items) }
+    requires { IsInReach wave.now root }
+    ensures { IfOk result (λ traced. AreTracedIn wave.now root traced.items) }
 {
     let _circuit = wave.circuit();
     let mut room = Vec::with_capacity(alloc, 8192)?;

@@ -2,13 +2,10 @@
 
 ghost use Rattle.std.specs.Prelude.{◌≡◌, ℕ, ◌+◌, ◌<◌, ◌≤◌, ◌^◌, length, slice_index_or, IfOk, OnOk};
 ghost use Rattle.xr_cell.specs.declared.value.Value.{Value as AnyValue};
-ghost use Rattle.xr_design.specs.Waveform.{certain};
-ghost use Rattle.xr_class.specs.Arguments.{uncertain_places};
-ghost use Rattle.xr_model.specs.Cone.{are_alike, essentials};
-ghost use Rattle.xr_model.specs.Laws.{InReach};
+ghost use Rattle.xr_model.specs.Cone.{are_alike};
 ghost use Rattle.xr_model.specs.Mask.{mask_of, masked};
-ghost use Rattle.xr_wave.specs.Contents.{job};
-ghost use Rattle.xr_cone.specs.Table.{IsCut, IsTableOver, Rests, differs_at};
+ghost use Rattle.xr_cone.specs.InWave.{IsInReach, IsTableIn, essentials_in, uncertain_in};
+ghost use Rattle.xr_cone.specs.Table.{IsCut, Rests, differs_at};
 
 use std::alloc::Global;
 use xr_base::Memory;
@@ -25,11 +22,11 @@ pub fn essential_places(
     uncertain: &[usize],
     values: &mut Vec<Value>,
 ) -> Result<ArgumentsByNumber, Memory>
-    requires reach { InReach (job wave.now) wave.now.written place }
+    requires reach { IsInReach wave.now place }
     requires few { length uncertain.now ≤ 13 }
-    requires uncertain { uncertain.now ≡ uncertain_places (job wave.now) (certain wave.now.written) place }
-    ensures table { OnOk result (IsTableOver (job wave.now) (certain wave.now.written) place uncertain.now values.new.items) }
-    ensures places { IfOk result (λ e. e ≡ essentials (job wave.now) (certain wave.now.written) place) }
+    requires uncertain { uncertain.now ≡ uncertain_in wave.now place }
+    ensures table { OnOk result (IsTableIn wave.now place uncertain.now values.new.items) }
+    ensures places { IfOk result (λ essential. essential ≡ essentials_in wave.now place) }
 {
     let _circuit = wave.circuit();
     fill_table(wave, place, uncertain, values)?;
@@ -49,9 +46,9 @@ fn fill_table(
     places: &[usize],
     values: &mut Vec<Value>,
 ) -> Result<(), Memory>
-    requires reach { InReach (job wave.now) wave.now.written place }
+    requires reach { IsInReach wave.now place }
     requires few { length places.now ≤ 13 }
-    ensures { OnOk result (IsTableOver (job wave.now) (certain wave.now.written) place places.now values.new.items) }
+    ensures { OnOk result (IsTableIn wave.now place places.now values.new.items) }
 {
     let circuit = wave.circuit();
     let end: u16 = 1 << places.len();

@@ -1,11 +1,9 @@
 //! What a place of a cone rests on.
 
 ghost use Rattle.std.specs.Prelude.{◌≡◌, false, IfOk};
-ghost use Rattle.xr_design.specs.Waveform.{certain};
 ghost use Rattle.xr_model.specs.Cone.{is_carried};
-ghost use Rattle.xr_model.specs.Laws.{InReach};
-ghost use Rattle.xr_wave.specs.Contents.{class_in, job};
-ghost use Rattle.xr_cone.specs.Traced.{IsBodyOf};
+ghost use Rattle.xr_wave.specs.Contents.{class_in};
+ghost use Rattle.xr_cone.specs.InWave.{IsBodyIn, IsInReach};
 
 use crate::table::{cut_table, essential_places};
 use std::alloc::Global;
@@ -38,8 +36,8 @@ pub fn trace_place(
     place: usize,
     room: &mut Vec<Value>,
 ) -> Result<TracedBody, Memory>
-    requires { InReach (job wave.now) wave.now.written place }
-    ensures { IfOk result (IsBodyOf (job wave.now) (certain wave.now.written) place) }
+    requires { IsInReach wave.now place }
+    ensures { IfOk result (IsBodyIn wave.now place) }
 {
     match wave.class_by_number(place) {
         ClassByNumber::Carried(from, inverted) => Ok(TracedBody::Carried(from, inverted)),
@@ -55,9 +53,9 @@ fn trace_rule(
     place: usize,
     room: &mut Vec<Value>,
 ) -> Result<TracedBody, Memory>
-    requires reach { InReach (job wave.now) wave.now.written place }
+    requires reach { IsInReach wave.now place }
     requires free { is_carried (class_in wave.now place) ≡ false }
-    ensures { IfOk result (IsBodyOf (job wave.now) (certain wave.now.written) place) }
+    ensures { IfOk result (IsBodyIn wave.now place) }
 {
     let uncertain = uncertain_places(&wave.circuit(), wave, place);
     let places = uncertain.as_slice();

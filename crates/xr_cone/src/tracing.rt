@@ -2,15 +2,15 @@
 
 ghost use Rattle.std.specs.Prelude.{◌≡◌, IfOk};
 ghost use Rattle.xr_design.specs.Job.{number_of};
-ghost use Rattle.xr_model.specs.Laws.{InReach};
 ghost use Rattle.xr_model.specs.declared.class.ClassByNumber.TheVariants as class;
 ghost use Rattle.xr_wave.specs.Contents.{IsReached, class_in, job, next_number};
 ghost use Rattle.xr_wave.specs.Token.{IsLineNext};
 ghost use Rattle.xr_cone_nodes.specs.Traced.{IsConeOf};
+ghost use Rattle.xr_cone.specs.InWave.{IsInReach};
 
 use crate::descent::trace_places;
-use crate::nodes::place_body;
 use crate::places::{number_of, place_of};
+use crate::positions::place_body;
 use crate::traced::Traced;
 use std::alloc::Global;
 use xr_base::Memory;
@@ -26,7 +26,7 @@ pub fn trace(alloc: Global, wave: &Wave<'_>) -> Result<Cone, Memory>
     trace_root(alloc, wave, wave.count())
 }
 
-/// The cone of a place that is written, or of the next one, whose class is Line: the same as when it was the next place.
+/// The cone of a place that is written, or of the next one, whose class is Line: the same as when it was the next one.
 pub fn trace_at(alloc: Global, wave: &Wave<'_>, place: Place) -> Result<Cone, Memory>
     requires reached { IsReached wave.now place }
     requires line { class_in wave.now (number_of (job wave.now) place) ≡ class.Line }
@@ -36,7 +36,7 @@ pub fn trace_at(alloc: Global, wave: &Wave<'_>, place: Place) -> Result<Cone, Me
 }
 
 fn trace_root(alloc: Global, wave: &Wave<'_>, root: usize) -> Result<Cone, Memory>
-    requires reach { InReach (job wave.now) wave.now.written root }
+    requires reach { IsInReach wave.now root }
     requires line { class_in wave.now root ≡ class.Line }
     ensures { IfOk result (λ cone. IsConeOf wave.now root cone.nodes) }
 {
@@ -56,3 +56,6 @@ fn trace_root(alloc: Global, wave: &Wave<'_>, root: usize) -> Result<Cone, Memor
     }
     Cone::new(alloc, nodes)
 }
+
+#[cfg(test)]
+mod tests;

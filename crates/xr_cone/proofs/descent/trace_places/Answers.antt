@@ -1,5 +1,5 @@
 -- The greatest of the places that wait is taken, and its supports come in.
-use Rattle.std.proofs.Common.{◌≡◌, ◌<◌, subst, arith, length, length-append}
+use Rattle.std.proofs.Common.{subst, arith}
 use Rattle.xr_design.specs.Fits.{Fits}
 use Rattle.xr_design.specs.Waveform.{certain}
 use Rattle.xr_wave.specs.Contents.{job}

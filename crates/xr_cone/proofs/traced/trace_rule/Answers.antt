@@ -1,8 +1,6 @@
 -- The table that is cut down is that over the essential arguments.
-use Rattle.std.proofs.Common.{◌≡◌, ◌∙◌, List, ap, sym, subst}
-use Rattle.xr_cell.specs.declared.value.Value.{Value}
+use Rattle.std.proofs.Common.{◌≡◌, ◌∙◌, ap, sym, subst}
 use Rattle.xr_class.specs.Arguments.{uncertain_places}
-use Rattle.xr_design.specs.Circuit.{job_in}
 use Rattle.xr_design.specs.Fits.{Fits}
 use Rattle.xr_design.specs.Job.{Job}
 use Rattle.xr_design.specs.Waveform.{certain}

@@ -1,12 +1,12 @@
 -- The next place of the cone gets its node.
-use Rattle.std.proofs.Common.{◌≡◌, ◌<◌, ◌∙◌, ◌++◌, ◌∷◌, [], ℕ, ap, arith, subst, sym}
+use Rattle.std.proofs.Common.{◌<◌, ◌∙◌, ap, arith, subst, sym}
 use Rattle.xr_design.specs.Fits.{Fits, place_at}
 use Rattle.xr_design.specs.Job.{Job, places_of}
 use Rattle.xr_design.specs.Waveform.{certain}
 use Rattle.xr_wave.specs.Contents.{job}
 use Rattle.xr_cone_nodes.specs.Traced.{IsConeOf}
 use Rattle.xr_cone.specs.Placed.{IsPlaced}
-use Rattle.xr_cone.proofs.ConeNodes.{IsNext, ends_ok, made_begins, made_ends, made_more, made_next, next_few, next_rises, next_supports, next_within, none_left}
+use Rattle.xr_cone.proofs.ConeNodes.{ends_ok, made_begins, made_ends, made_more, made_next, next_few, next_rises, next_supports, next_within, none_left}
 use Rattle.xr_cone.proofs.tracing.trace_root.Goals as goal
 
 pub rest-init : goal.rest-init

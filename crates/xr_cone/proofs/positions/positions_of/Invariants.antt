@@ -1,7 +1,7 @@
 -- The positions of the arguments so far.
 use Rattle.std.proofs.Common.{◌≡◌, ◌<◌, length, map, take, slice_index}
 use Rattle.std.specs.List.{AllByRecursion}
-use Rattle.xr_cone.proofs.nodes.positions_of.Given as goal
+use Rattle.xr_cone.proofs.positions.positions_of.Given as goal
 
 abbrev pub invariant-arguments : goal.invariant-arguments
 invariant-arguments l = record {

@@ -1,6 +1,6 @@
 -- A place that is there is found.
 use Rattle.xr_cone.proofs.RisingLists.{found_there}
-use Rattle.xr_cone.proofs.nodes.position_of.Goals as goal
+use Rattle.xr_cone.proofs.positions.position_of.Goals as goal
 
 pub unreachable-requires : goal.unreachable-requires
 unreachable-requires c =
