@@ -76,7 +76,8 @@ bits_small : (n m : ℕ) (last : Bool) → m < 2 ^ n → m + (if last then 2 ^ n
 bits_small n m true small = let double = pow-suc 2 n in omega (arith, double)
 bits_small n m false small = let double = pow-suc 2 n in omega (arith, double)
 
-pub among_with : (n : ℕ) (last : Bool) (choice : Choice) → IsAmong n choice → IsAmong (suc n) (with_argument n last choice)
+pub among_with : (n : ℕ) (last : Bool) (choice : Choice) → IsAmong n choice
+    → IsAmong (suc n) (with_argument n last choice)
 among_with n last choice is = record {
   care = (let double = pow-suc 2 n in let small = is.care in omega (arith, double, small));
   bits = bits_small n choice.bits last is.bits;

@@ -31,7 +31,8 @@ module _ (n : ℕ) (bit : Bool) (values both : List Value) (free zeros ones some
   -- What a choice of the table is by.
   data Origin : Choice → Type 0 where
     of_free : (choice : Choice) → Contains free choice → Origin choice
-    of_low : (choice : Choice) → IsAlone (drop (2 ^ n) values) n bit zeros choice → Origin (with_argument n false choice)
+    of_low : (choice : Choice) → IsAlone (drop (2 ^ n) values) n bit zeros choice
+        → Origin (with_argument n false choice)
     of_high : (choice : Choice) → IsAlone (take (2 ^ n) values) n bit ones choice → Origin (with_argument n true choice)
 
   early : (choice : Choice) → Contains some choice → Origin choice
@@ -126,7 +127,8 @@ module _ (n : ℕ) (bit : Bool) (values both : List Value) (free zeros ones some
       found : IsFound zeros (with_bit n false chosen) bits
       found = are.are_zeros.all (with_bit n false chosen) bits
           (subst (λ b. IsChoice (upto n) (half_of values n b) (with_bit n false chosen) bits bit) is
-          (taken_down n (table_of values (suc n)) (half_of values n) (table_of both n) bit splits chosen bits on choice))
+          (taken_down n (table_of values (suc n)) (half_of values n)
+              (table_of both n) bit splits chosen bits on choice))
 
       alone : IsAlone (drop (2 ^ n) values) n bit zeros found.choice
       alone = record {
@@ -145,7 +147,8 @@ module _ (n : ℕ) (bit : Bool) (values both : List Value) (free zeros ones some
       found : IsFound ones (with_bit n false chosen) bits
       found = are.are_ones.all (with_bit n false chosen) bits
           (subst (λ b. IsChoice (upto n) (half_of values n b) (with_bit n false chosen) bits bit) is
-          (taken_down n (table_of values (suc n)) (half_of values n) (table_of both n) bit splits chosen bits on choice))
+          (taken_down n (table_of values (suc n)) (half_of values n)
+              (table_of both n) bit splits chosen bits on choice))
 
       alone : IsAlone (take (2 ^ n) values) n bit ones found.choice
       alone = record {
