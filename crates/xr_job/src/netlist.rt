@@ -1,6 +1,6 @@
 //! The netlist of a job.
 
-ghost use Rattle.std.specs.Prelude.{◌≡◌, ◌≢◌, ◌<◌, ◌^◌, IfOk, IfErr, length};
+ghost use Rattle.std.specs.Prelude.{◌≢◌, IfOk, IfErr, length};
 ghost use Rattle.xr_netlist_grammar.specs.Whole.{IsWhole};
 ghost use Rattle.xr_design.specs.Design.{FitsDesign};
 ghost use Rattle.xr_design.specs.Job.{driver_in};

@@ -1,11 +1,9 @@
 //! Why a netlist is refused.
 
-use std::alloc::AllocError;
 use xr_base::{Items, Memory};
 use xr_design::Bytes;
 use xr_elab_nets::{ElabErr, ElabFault};
 use xr_netlist_grammar::{NetlistFault, ParseErr};
-use xr_order::OrderErr;
 
 /// Why a netlist is refused: the first cause, in this order.
 #[derive(Debug, Drop)]

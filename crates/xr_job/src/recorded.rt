@@ -1,6 +1,6 @@
 //! The recording of a job.
 
-ghost use Rattle.std.specs.Prelude.{◌≡◌, ◌≢◌, ◌<◌, ◌≤◌, ◌^◌, IfOk, IfErr, length};
+ghost use Rattle.std.specs.Prelude.{◌≢◌, ◌<◌, ◌≤◌, ◌^◌, IfOk, IfErr, length};
 ghost use Rattle.xr_design.specs.Design.{FitsDesign};
 ghost use Rattle.xr_job.specs.Netlist.{FitsNetlist};
 ghost use Rattle.xr_job.specs.Recorded as spec;

@@ -1,6 +1,5 @@
 //! Why a recording is refused.
 
-use std::alloc::AllocError;
 use xr_base::Memory;
 use xr_design::Bytes;
 use xr_vcd::{RecordingFault, VcdErr};
