@@ -4,6 +4,7 @@ ghost use Rattle.std.specs.Prelude.{◌≡◌, [], ◌∷◌, IfOk};
 ghost use Rattle.xr_design.specs.Circuit.{FitsCircuit};
 ghost use Rattle.xr_design.specs.Handed.{IsHandedIn};
 ghost use Rattle.xr_design.specs.Job.{job_of};
+ghost use Rattle.xr_wave.specs.Token.{IsLineNext};
 ghost use Rattle.xr_cone.specs.Xor.{HasXor, HasNothing};
 
 use super::*;
@@ -109,6 +110,17 @@ fn is_xor(rt: &impl Abort, cone: &Cone) -> Result<(), Fail> {
     }
 }
 
+/// The cone of the next place, asked for by the place.
+fn trace_next(alloc: Global, wave: &Wave<'_>) -> Result<Cone, Fail>
+    requires { IsLineNext wave.now }
+{
+    let _circuit = wave.circuit();
+    match wave.next_place() {
+        Some(place) => Ok(trace_at(alloc, wave, place)?),
+        None => Err(Fail::new("there is no next place")),
+    }
+}
+
 #[test]
 fn an_exclusive_or_rests_on_both(rt: HostRuntime) -> Result<(), Fail> {
     let alloc = rt.alloc();
@@ -116,7 +128,10 @@ fn an_exclusive_or_rests_on_both(rt: HostRuntime) -> Result<(), Fail> {
     let history = History::blank(alloc, &design, &stim)?;
     let wave = free_two(alloc, &design, &order, &stim, &history)?;
     match wave.class() {
-        Class::Line => is_xor(&rt, &trace(alloc, &wave)?),
+        Class::Line => {
+            is_xor(&rt, &trace(alloc, &wave)?)?;
+            is_xor(&rt, &trace_next(alloc, &wave)?)
+        }
         _ => Err(Fail::new("the place isn't a Line place")),
     }
 }
