@@ -128,7 +128,7 @@ module _ (n : ℕ) (bit : Bool) (values both : List Value) (free zeros ones some
       found = are.are_zeros.all (with_bit n false chosen) bits
           (subst (λ b. IsChoice (upto n) (half_of values n b) (with_bit n false chosen) bits bit) is
           (taken_down n (table_of values (suc n)) (half_of values n)
-              (table_of both n) bit splits chosen bits on choice))
+          (table_of both n) bit splits chosen bits on choice))
 
       alone : IsAlone (drop (2 ^ n) values) n bit zeros found.choice
       alone = record {
@@ -148,7 +148,7 @@ module _ (n : ℕ) (bit : Bool) (values both : List Value) (free zeros ones some
       found = are.are_ones.all (with_bit n false chosen) bits
           (subst (λ b. IsChoice (upto n) (half_of values n b) (with_bit n false chosen) bits bit) is
           (taken_down n (table_of values (suc n)) (half_of values n)
-              (table_of both n) bit splits chosen bits on choice))
+          (table_of both n) bit splits chosen bits on choice))
 
       alone : IsAlone (take (2 ^ n) values) n bit ones found.choice
       alone = record {

@@ -42,12 +42,12 @@ fn bind_variable(
     requires { IsVariable (length matcher.now.recording.scopes) variable.now }
     ensures bound { let under = matcher.now in
         OnOk result (bound.new.items
-            ≡ bound.old.items ++ bound_in under.design under.scope under.recording number (Some variable.now)) }
+        ≡ bound.old.items ++ bound_in under.design under.scope under.recording number (Some variable.now)) }
     ensures none { let under = matcher.now in
         OnOk result (differs_in under.design under.scope under.recording (Some variable.now) ≡ false) }
     ensures differs { let under = matcher.now in
         IfErr result (λ e.
-            e ≢ OutOfMemory → RefusesAt under.design under.scope under.recording number variable.now e) }
+        e ≢ OutOfMemory → RefusesAt under.design under.scope under.recording number variable.now e) }
 {
     match matcher.matched(alloc, variable)? {
         Matched::Nothing => Ok(()),

@@ -16,7 +16,7 @@ found-preserved c =
     elim c.if-not-forces.branch [
       | then-not-forces+in_ok-push w ↦
           (let grown = added_more c.args.other.now c.args.count c.args.bit c.args.last c.args.choices.now.items
-              (take i found)
+          (take i found)
           c.found.choices.items one c.found.invariant
           (λ forces. (let e : false ≡ true = sym w.if-not-forces.true ∙ c.forces.ensures.1 forces in cc)) in
           let pushed = ap (λ v. v.items) w.choices-is ∙ w.in_ok-push.ensures.items
