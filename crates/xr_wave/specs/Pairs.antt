@@ -18,24 +18,24 @@ use Rattle.xr_wave.specs.Contents.{Contents, class_in, job, written_of}
 abbrev pub IsUnknown : Contents → Place → Type 0
 IsUnknown c place = (written_of c place).mark ≡ Unknown
 
+-- The fillings that the lines state for the place of a number.
+abbrev pub stated_in : Contents → ℕ → Stated
+stated_in c number = stated (job c) (certain c.written) c.lines number
+
 -- Two fillings are those that are stated for a place.
 abbrev pub AreStated : Contents → Place → List Place × List Place → Type 0
-AreStated c place fillings =
-    pair_of fillings.0 fillings.1 ≡ stated (job c) (certain c.written) c.lines (number_of (job c) place)
+AreStated c place fillings = pair_of fillings.0 fillings.1 ≡ stated_in c (number_of (job c) place)
 
 -- The world of the first gives 0 at the place, that of the second 1.
 abbrev pub GiveBoth : Contents → Place → List Place × List Place → Type 0
 GiveBoth c place fillings = GivesBoth (job c) c.written (number_of (job c) place) (pair_of fillings.0 fillings.1)
 
--- The root of the place of a number, what is stated at such a root, and what is stated for the place.
+-- The root of the place of a number, and what is stated where a place is its own root.
 abbrev pub root_in : Contents → ℕ → Root
 root_in c number = root_of (job c) (certain c.written) number
 
 abbrev pub stated_at_root : Contents → ℕ → Stated
 stated_at_root c number = stated_by (job c) (class_in c number) (body_at (job c) c.lines number) number
-
-abbrev pub stated_in : Contents → ℕ → Stated
-stated_in c number = stated (job c) (certain c.written) c.lines number
 
 -- The numbers of the places of lines.
 abbrev pub numbers_of : Job → List ALine → List ℕ

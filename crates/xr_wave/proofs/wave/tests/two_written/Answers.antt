@@ -1,5 +1,5 @@
 -- The first place is free, the second is carried from it.
-use Rattle.std.proofs.Common.{◌≡◌, [], ◌∷◌, List, true, sym, subst, arith}
+use Rattle.std.proofs.Common.{◌≡◌, [], ◌∷◌, true, sym, subst, arith}
 use Rattle.xr_design.specs.Waveform.{unwritten}
 use Rattle.xr_model.specs.declared.class.ClassByNumber.TheVariants.{Free, Carried}
 use Rattle.xr_wave.specs.Advance.{IsPlain, plain_written, with_written}
