@@ -1,0 +1,4 @@
+-- Lemmas on the walk.
+mod Objecting
+mod Searching
+mod Walking

@@ -1,0 +1,3 @@
+-- Definitions of repairs.
+pub mod Repaired
+pub mod Step

@@ -1,0 +1,27 @@
+-- One step of the walk: the next place is written, or the walk ends there.
+use Rattle.std.specs.Prelude.{◌≡◌, ◌++◌, ◌∷◌, [], ◌<◌, length}
+use Rattle.xr_design.specs.declared.waveform.Written.{Written}
+use Rattle.xr_wave.specs.Contents.{Contents}
+use Rattle.xr_wave.specs.Token.{LineHolds, budget_line, pair_line, settled_line}
+use Rattle.xr_repair.specs.Repaired.{IsObjection, IsOfJob}
+use Rattle.xr_repair.specs.declared.found.Found.{Found}
+use Rattle.xr_repair.specs.declared.found.Found.TheVariants.{Settled, Pair, Budget}
+use Rattle.xr_repair.specs.declared.refusal.RepairErr.{RepairErr}
+use Rattle.xr_repair.specs.declared.refusal.RepairErr.TheVariants.{Optimistic, Memory}
+
+-- One place more is written.
+pub record IsNextOf (before after : Contents) : Type 0 where
+  pub same : IsOfJob before after
+  pub written : Written
+  pub is : after.written ≡ before.written ++ written ∷ []
+
+-- What is found of the next place holds there.
+abbrev pub IsShown : Contents → Found → Type 0
+IsShown c (Settled token) = LineHolds c (settled_line token)
+IsShown c (Pair token) = LineHolds c (pair_line token)
+IsShown c (Budget token) = LineHolds c (budget_line token)
+
+-- The walk ends: at an objection, or for want of memory.
+abbrev pub RefusedStep : Contents → RepairErr → Type 0
+RefusedStep start (Optimistic told) = IsObjection start told
+RefusedStep start Memory = Unit {0}

@@ -1,0 +1,46 @@
+//! What the next place, a Line place, has under all fillings of its cone's sources.
+
+ghost use Rattle.std.specs.Prelude.{◌<◌, ◌≤◌, IfOk, length};
+ghost use Rattle.xr_cnf.specs.Answers.{IsNextCone};
+ghost use Rattle.xr_cone_nodes.specs.Nodes.{sources_of};
+ghost use Rattle.xr_repair.specs.Step.{IsShown};
+ghost use Rattle.xr_wave.specs.Token.{IsLineNext};
+
+use crate::fillings::try_fillings;
+use crate::found::Found;
+use crate::search::search;
+use std::alloc::Global;
+use xr_base::Memory;
+use xr_cone::{Cone, trace};
+use xr_enum::{Decided, decide};
+use xr_wave::Wave;
+
+/// Up to this many sources, every filling of them is tried.
+const ENUMERATED: usize = 12;
+
+/// What is shown of the next place.
+pub fn find(alloc: Global, wave: &Wave<'_>) -> Result<Found, Memory>
+    requires limit { 0 < wave.now.limit }
+    requires class { IsLineNext wave.now }
+    ensures { IfOk result (IsShown wave.now) }
+{
+    let cone = trace(alloc, wave)?;
+    if cone.sources().len() <= ENUMERATED {
+        return enumerate(alloc, wave, &cone);
+    }
+    match try_fillings(alloc, wave, &cone)? {
+        Some(pair) => Ok(Found::Pair(pair)),
+        None => search(alloc, wave, &cone),
+    }
+}
+
+fn enumerate(alloc: Global, wave: &Wave<'_>, cone: &Cone) -> Result<Found, Memory>
+    requires cone { IsNextCone wave.now cone.now.nodes }
+    requires few { length (sources_of cone.now.nodes) ≤ 12 }
+    ensures { IfOk result (IsShown wave.now) }
+{
+    match decide(alloc, wave, cone)? {
+        Decided::Same(proof) => Ok(Found::Settled(proof)),
+        Decided::Both(proof) => Ok(Found::Pair(proof)),
+    }
+}

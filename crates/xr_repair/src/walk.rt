@@ -1,0 +1,103 @@
+//! The walk over the places.
+
+ghost use Rattle.std.specs.Prelude.{◌≡◌, ℕ, ◌<◌, IfOk, IfErr};
+ghost use Rattle.xr_design.specs.Circuit.{FitsCircuit};
+ghost use Rattle.xr_design.specs.Handed.{IsHandedIn};
+ghost use Rattle.xr_design.specs.Job.{job_of};
+ghost use Rattle.xr_repair.specs.Repaired.{IsFinished, IsOfJob, IsOnlyOne};
+ghost use Rattle.xr_repair.specs.Step.{IsNextOf, RefusedStep};
+ghost use Rattle.xr_wave.specs.Advance.{IsPlain};
+ghost use Rattle.xr_wave.specs.Contents.{IsWave, next_seen, nothing_written};
+ghost use Rattle.xr_wave.specs.Token.{HasNext, IsLineNext};
+
+use crate::finding::find;
+use crate::refusal::RepairErr;
+use crate::spend::spend;
+use std::alloc::Global;
+use xr_design::{Design, History, Order, Stim, count_places};
+use xr_model::Class;
+use xr_wave::Wave;
+
+/// A finished wave of a job: every place written, each with its justification. `limit` is how many clauses the log of a
+/// search may have before its place is marked undecided. Takes a byte a place, and the memory of the lines.
+pub fn repair<'a>(
+    alloc: Global,
+    design: &'a Design,
+    order: &'a Order,
+    stim: &'a Stim,
+    replayed: &'a History,
+    limit: u32,
+) -> Result<Wave<'a>, RepairErr>
+    requires fits { FitsCircuit design.now order.now stim.now }
+    requires handed { IsHandedIn (job_of design.now order.now stim.now) replayed.now }
+    requires limit { 0 < limit }
+    ensures job { let start = nothing_written design.now order.now stim.now replayed.now limit in
+        IfOk result (IsOfJob start) }
+    ensures finished { IfOk result IsFinished }
+    ensures sound { IfOk result IsWave }
+    ensures only { IfOk result IsOnlyOne }
+    ensures refused { let start = nothing_written design.now order.now stim.now replayed.now limit in
+        IfErr result (RefusedStep start) }
+{
+    let wave = Wave::new(alloc, design, order, stim, replayed, limit)?;
+    walk(alloc, wave)
+}
+
+/// Writes every place that is left.
+#[tactic(auto, using(crate::proofs::Objecting::refused_along))]
+fn walk<'a>(alloc: Global, wave: Wave<'a>) -> Result<Wave<'a>, RepairErr>
+    requires limit { 0 < wave.limit }
+    ensures job { IfOk result (IsOfJob wave.entry) }
+    ensures finished { IfOk result IsFinished }
+    ensures sound { IfOk result IsWave }
+    ensures only { IfOk result IsOnlyOne }
+    ensures refused { IfErr result (RefusedStep wave.entry) }
+{
+    let count = count_places(&wave.circuit());
+    let mut walked = wave;
+    'places: while walked.count() < count {
+        walked = write_next(alloc, walked)?;
+    }
+    Ok(walked)
+}
+
+/// Writes the next place.
+fn write_next<'a>(alloc: Global, wave: Wave<'a>) -> Result<Wave<'a>, RepairErr>
+    requires limit { 0 < wave.limit }
+    requires sound { IsWave wave }
+    requires next { HasNext wave }
+    ensures ok { IfOk result (IsNextOf wave.entry) }
+    ensures err { IfErr result (RefusedStep wave.entry) }
+{
+    match wave.class() {
+        Class::Done => unreachable!(),
+        Class::Line => decide_next(alloc, wave),
+        _ => advance(wave),
+    }
+}
+
+/// Writes the next place, whose class says what it is.
+fn advance<'a>(wave: Wave<'a>) -> Result<Wave<'a>, RepairErr>
+    requires sound { IsWave wave }
+    requires next { HasNext wave }
+    requires plain { IsPlain (next_seen wave) }
+    ensures ok { IfOk result (IsNextOf wave.entry) }
+    ensures err { IfErr result (RefusedStep wave.entry) }
+{
+    match wave.advance() {
+        Ok(wave) => Ok(wave),
+        Err(told) => Err(RepairErr::Optimistic(told)),
+    }
+}
+
+/// Decides the next place, a Line place, and writes it.
+fn decide_next<'a>(alloc: Global, wave: Wave<'a>) -> Result<Wave<'a>, RepairErr>
+    requires limit { 0 < wave.limit }
+    requires sound { IsWave wave }
+    requires class { IsLineNext wave }
+    ensures ok { IfOk result (IsNextOf wave.entry) }
+    ensures err { IfErr result (RefusedStep wave.entry) }
+{
+    let found = find(alloc, &wave)?;
+    spend(wave, found)
+}
