@@ -1,7 +1,7 @@
 //! A scope cut at its dots.
 
-ghost use Rattle.std.specs.Prelude.{◌≡◌, IfOk};
-ghost use Rattle.xr_cli.specs.Words.{pieces_of};
+ghost use Rattle.std.specs.Prelude.{◌≡◌, ◌<◌, IfOk, length};
+ghost use Rattle.xr_cli_words.specs.Line.{pieces_of};
 
 use std::alloc::{AllocError, Global};
 use std::mem;
