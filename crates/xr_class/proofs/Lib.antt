@@ -2,6 +2,7 @@
 mod EarlierPlaces
 mod FewNets
 mod PassingTests
+mod QuickClasses
 mod RisingPlaces
 mod StepBefore
 mod Reached

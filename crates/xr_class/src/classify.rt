@@ -14,9 +14,10 @@ use crate::arguments::uncertain_places;
 use crate::earlier::Earlier;
 use crate::every::passes_every;
 use crate::keeps::{passes_on, place_before};
+use crate::quick::{copied_class, settled_class};
 use crate::ruled::ruled_arguments;
 use crate::test::Test;
-use xr_design::{Circuit, Source};
+use xr_design::{Circuit, Driver, Source, driver_at, spot_of};
 use xr_model::ClassByNumber;
 
 /// The class of a place, from what is known of the places before it: the first that applies. Takes no memory.
@@ -27,8 +28,28 @@ pub fn class_at<E: Earlier>(circuit: &Circuit<'_>, earlier: &E, place: usize) ->
     requires carriers { AreCarriers (job_in circuit.now) (E.reads earlier.now) (E.carries earlier.now) place }
     ensures { result ≡ class_of (job_in circuit.now) (E.reads earlier.now) place }
 {
+    let spot = spot_of(circuit, place);
+    match driver_at(circuit, spot.net) {
+        Driver::Copy(net) => copied_class(circuit, earlier, place, spot, *net),
+        _ => tried_class(circuit, earlier, place),
+    }
+}
+
+/// The class by what the rule gives.
+fn tried_class<E: Earlier>(circuit: &Circuit<'_>, earlier: &E, place: usize) -> ClassByNumber
+    requires fits { CircuitFits circuit.now }
+    requires within { place < places_of (job_in circuit.now) }
+    requires certain { (k : ℕ) → k < place → E.has earlier.now k }
+    requires carriers { AreCarriers (job_in circuit.now) (E.reads earlier.now) (E.carries earlier.now) place }
+    ensures { result ≡ class_here (job_in circuit.now) (E.reads earlier.now) place }
+{
     let uncertain = uncertain_places(circuit, earlier, place);
-    first_class(circuit, earlier, place, uncertain.as_slice())
+    let places = uncertain.as_slice();
+    if places.is_empty() {
+        settled_class(circuit, earlier, place)
+    } else {
+        first_class(circuit, earlier, place, places)
+    }
 }
 
 fn first_class<E: Earlier>(

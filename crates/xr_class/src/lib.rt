@@ -1,6 +1,7 @@
 //! The class of a place, from what is known of the places before it: how a waveform gets what it has there. No memory.
 //!
-//! The plain way: all assignments of the arguments that aren't certain are tried, at most 2^13. Start at `class_at`.
+//! The plain way: all assignments of the arguments that aren't certain are tried, at most 2^13. A copy needs none, and a
+//! place whose arguments are all certain one. Start at `class_at`.
 #![tactic(auto)]
 
 mod arguments;
@@ -9,6 +10,7 @@ mod classify;
 mod earlier;
 mod every;
 mod keeps;
+mod quick;
 mod ruled;
 mod test;
 

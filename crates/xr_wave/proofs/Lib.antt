@@ -1,5 +1,9 @@
 -- Lemmas on waves.
+mod FoundLines
 mod KeptBytes
 mod LineGrowth
 mod NextClass
+mod OneWave
+mod ShownPlaces
 mod WaveGrowth
+mod Ways

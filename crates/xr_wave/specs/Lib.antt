@@ -4,3 +4,6 @@ pub mod Contents
 pub mod Kept
 pub mod Advance
 pub mod Token
+pub mod Pairs
+pub mod Shown
+pub mod Laws

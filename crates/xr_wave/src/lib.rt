@@ -7,13 +7,17 @@ mod advance;
 mod arguments;
 mod byte;
 mod bytes;
+mod laws;
 mod places;
 mod settle;
+mod shown;
 mod source;
+mod stated;
 mod token;
 mod wave;
 
 pub use advance::Optimistic;
 pub use arguments::Arguments;
+pub use laws::waves_are_one;
 pub use token::{Budget, How, Pair, Settled};
 pub use wave::Wave;

@@ -223,6 +223,7 @@ impl<'a> Wave<'a> {
     pub fn circuit(&self) -> Circuit<'a>
         ensures job { job_in result ≡ job self.now }
         ensures fits { CircuitFits result }
+        ensures wave { IsWave self.now }
     {
         self.circuit
     }

@@ -1,0 +1,54 @@
+-- The two fillings of an unknown place, and where the lines are found that state them.
+use Rattle.std.specs.Prelude.{◌≡◌, ℕ, ◌<◌, ◌≤◌, List, length, map, slice_index}
+use Rattle.std.specs.List.{AllByRecursion}
+use Rattle.std.specs.List.Sorted.{IsStrictlyIncreasing}
+use Rattle.xr_design.specs.declared.place.Place.{Place}
+use Rattle.xr_design.specs.declared.waveform.Mark.TheVariants.{Unknown}
+use Rattle.xr_design.specs.Filling.{IsPlace}
+use Rattle.xr_design.specs.Job.{Job, number_of}
+use Rattle.xr_design.specs.Waveform.{certain}
+use Rattle.xr_model.specs.Line.{GivesBoth}
+use Rattle.xr_model.specs.Root.{Root, root_of}
+use Rattle.xr_model.specs.Stated.{Stated, body_at, pair_of, stated, stated_by}
+use Rattle.xr_model.specs.Yields.{places_of_lines}
+use Rattle.xr_model.specs.declared.line.Line.{Line as ALine}
+use Rattle.xr_wave.specs.Contents.{Contents, class_in, job, written_of}
+
+-- What stands at a place is unknown.
+abbrev pub IsUnknown : Contents → Place → Type 0
+IsUnknown c place = (written_of c place).mark ≡ Unknown
+
+-- Two fillings are those that are stated for a place.
+abbrev pub AreStated : Contents → Place → List Place × List Place → Type 0
+AreStated c place fillings =
+    pair_of fillings.0 fillings.1 ≡ stated (job c) (certain c.written) c.lines (number_of (job c) place)
+
+-- The world of the first gives 0 at the place, that of the second 1.
+abbrev pub GiveBoth : Contents → Place → List Place × List Place → Type 0
+GiveBoth c place fillings = GivesBoth (job c) c.written (number_of (job c) place) (pair_of fillings.0 fillings.1)
+
+-- The root of the place of a number, what is stated at such a root, and what is stated for the place.
+abbrev pub root_in : Contents → ℕ → Root
+root_in c number = root_of (job c) (certain c.written) number
+
+abbrev pub stated_at_root : Contents → ℕ → Stated
+stated_at_root c number = stated_by (job c) (class_in c number) (body_at (job c) c.lines number) number
+
+abbrev pub stated_in : Contents → ℕ → Stated
+stated_in c number = stated (job c) (certain c.written) c.lines number
+
+-- The numbers of the places of lines.
+abbrev pub numbers_of : Job → List ALine → List ℕ
+numbers_of j lines = map (number_of j) (places_of_lines lines)
+
+-- Lines of places of the job, in place order.
+pub record AreInOrder (j : Job) (lines : List ALine) : Type 0 where
+  pub places : AllByRecursion (IsPlace j) (places_of_lines lines)
+  pub ascending : IsStrictlyIncreasing (numbers_of j lines)
+
+-- Lines before the first bound stand before the place of a number, and from the second bound on none does.
+pub record AreParted (j : Job) (lines : List ALine) (number low high : ℕ) : Type 0 where
+  pub bounds : low ≤ high
+  pub within : high ≤ length lines
+  pub before : (k : ℕ) → k < low → slice_index (numbers_of j lines) k < number
+  pub behind : (k : ℕ) → high ≤ k → k < length lines → number ≤ slice_index (numbers_of j lines) k

@@ -1,0 +1,47 @@
+//! The history of a finished wave: what its waveform shows.
+
+ghost use Rattle.std.specs.Prelude.{◌≡◌, ◌+◌, ◌*◌, ◌<◌, ◌≤◌, IfOk, length};
+ghost use Rattle.xr_wave.specs.Contents.{IsWave, job};
+ghost use Rattle.xr_wave.specs.Shown.{IsFinished, ShowsBelow, ShowsWave};
+
+use crate::wave::Wave;
+use std::alloc::Global;
+use xr_base::Memory;
+use xr_cell::Value;
+use xr_design::{History, Place, width_of};
+
+impl<'a> Wave<'a> {
+    /// The history that shows what a finished wave shows, and keeps x. Takes a byte for each place.
+    pub fn history(&self, alloc: Global) -> Result<History, Memory>
+        requires { IsFinished self.now }
+        ensures { IfOk result (λ history. ShowsWave self.now history) }
+    {
+        let circuit = self.circuit();
+        let mut history = History::blank(alloc, circuit.design, circuit.stim)?;
+        let steps = circuit.stim.times.as_slice().len() * circuit.stim.rounds as usize;
+        'steps: for step in 0..steps {
+            show_step(self, &mut history, step);
+        }
+        Ok(history)
+    }
+}
+
+/// Shows the places of a step, where those of the steps before are shown.
+fn show_step(wave: &Wave<'_>, history: &mut History, step: usize)
+    requires wave { IsWave wave.now }
+    requires finished { IsFinished wave.now }
+    requires step { step < (job wave.now).moments * (job wave.now).rounds }
+    requires earlier { ShowsBelow wave.now (step * (job wave.now).width) history.old }
+    ensures { ShowsBelow wave.now ((step + 1) * (job wave.now).width) history.new }
+{
+    let circuit = wave.circuit();
+    let width = width_of(&circuit);
+    let before = step * width;
+    'positions: for position in 0..width {
+        let place = Place {
+            step: step as u32,
+            net: circuit.order.net(position as u32),
+        };
+        history.set(place, wave.written(before + position).value, Value::X);
+    }
+}
