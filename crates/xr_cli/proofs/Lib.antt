@@ -1,9 +1,14 @@
 -- Lemmas on the program.
+mod Bounds
 mod Delivering
-mod Exactness
+mod Excluding
+mod Faults
 mod Headlines
 mod Joins
+mod Jobs
 mod Lines
+mod OneStimulus
 mod Preparing
 mod Scopes
 mod Statuses
+mod Texts

@@ -118,7 +118,7 @@ pub record IsHeldRecording (w : Values) (n : ANetlist) (recording : List ℕ) (r
   pub fits : length recording ≤ recording_limit
   pub is : IsRecorded recording n.design (pieces_of w.scope) w.rounds Cold r
 
--- It can't be read, is too long, or is none of the design.
+-- Its text has a fault, or is none of the design.
 pub record IsHeldFault (w : Values) (n : ANetlist) (recording : List ℕ) (cause : RecordingErr) : Type 0 where
   pub fits : length recording ≤ recording_limit
   pub is : IsRefusedRecording recording n.design (pieces_of w.scope) w.rounds cause

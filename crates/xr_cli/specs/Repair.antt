@@ -8,16 +8,16 @@ use Rattle.xr_model.specs.declared.line.Body.{Body}
 use Rattle.xr_model.specs.declared.line.Body.TheVariants.{Enumerated, Refuted, Pair, Undecided}
 use Rattle.xr_model.specs.declared.line.Line.{Line as ALine}
 use Rattle.xr_replay.specs.Fault.{IsFaultless}
-use Rattle.xr_wave.specs.Contents.{Contents, IsFinished, IsWave, nothing_written}
-use Rattle.xr_wave.specs.Shown.{ShowsWave}
+use Rattle.xr_wave.specs.Contents.{Contents, IsWave, nothing_written}
+use Rattle.xr_wave.specs.Shown.{IsFinished, ShowsWave}
 use Rattle.xr_wave.specs.declared.advance.Optimistic.{Optimistic as Told}
 use Rattle.xr_repair.specs.Repaired.{IsObjection, IsOfJob}
 use Rattle.xr_out.specs.Text.{vcd_text}
 use Rattle.xr_report.specs.Bits.{bit_lines}
-use Rattle.xr_job.specs.Compared.{IsRefusedReplay, job_in}
+use Rattle.xr_job.specs.Compared.{FitsNetlist, IsRefusedReplay, job_in}
 use Rattle.xr_job.specs.Names.{net_name}
 use Rattle.xr_job.specs.Netlist.{IsOrdered, IsRefusedNetlist}
-use Rattle.xr_job.specs.Recorded.{IsRecorded, IsRefusedRecording}
+use Rattle.xr_job.specs.Recorded.{FitsRecorded, IsRecorded, IsRefusedRecording}
 use Rattle.xr_job.specs.declared.compare_refusal.CompareErr.{CompareErr}
 use Rattle.xr_job.specs.declared.netlist.Netlist.{Netlist as ANetlist}
 use Rattle.xr_job.specs.declared.netlist_refusal.NetlistErr.{NetlistErr}
@@ -35,6 +35,13 @@ netlist_limit = 67108864
 abbrev pub recording_limit : ℕ
 recording_limit = 268435456
 
+-- The words name a file of the netlist or more, 1 to 16 rounds, and a clause or more.
+pub record HasBounds (w : Values) : Type 0 where
+  pub some : 0 < length w.netlists
+  pub round : 1 ≤ w.rounds
+  pub rounds : w.rounds ≤ 16
+  pub conflicts : 0 < w.conflicts
+
 -- The netlist's text isn't too long, and stands for this design with this order.
 pub record HasNetlist (w : Values) (netlist : List ℕ) (n : ANetlist) : Type 0 where
   pub fits : length netlist ≤ netlist_limit
@@ -45,6 +52,11 @@ pub record IsJob (w : Values) (netlist recording : List ℕ) (n : ANetlist) (r :
   pub netlist_is : HasNetlist w netlist n
   pub fits : length recording ≤ recording_limit
   pub is : IsRecorded recording n.design (pieces_of w.scope) w.rounds Cold r
+
+-- A design with its order fits, and so does what was recorded of it.
+pub record FitsJob (n : ANetlist) (r : Recorded) : Type 0 where
+  pub netlist : FitsNetlist n
+  pub recorded : FitsRecorded n.design r
 
 -- A history is the replay of the job, each moment is settled, and the recording agrees in it.
 pub record Agrees (n : ANetlist) (r : Recorded) (history : HistoryView) : Type 0 where
@@ -75,8 +87,9 @@ pub record AreTexts (n : ANetlist) (r : Recorded) (wave : Contents) (vcd report 
   pub vcd_is : vcd ≡ vcd_text n.design r.binding r.stim shown
   pub report_is : report ≡ bit_lines wave r.binding
 
--- The recording agrees with the replay of the job, and these are the texts of its repair.
+-- The job fits, the recording agrees with its replay, and these are the texts of its repair.
 pub record IsMade (conflicts : ℕ) (n : ANetlist) (r : Recorded) (vcd report : List ℕ) : Type 0 where
+  pub fits : FitsJob n r
   pub history : HistoryView
   pub agrees : Agrees n r history
   pub wave : Contents

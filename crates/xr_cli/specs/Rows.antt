@@ -47,7 +47,7 @@ pub record Part (s : Start) (w : Values) (vcd report : List ℕ) (shelf : View) 
   pub part : IsTrue s.shelf_told → HoldsPart w.vcd vcd s.shelf.files shelf.files
   pub gained : IsTrue s.sink_told → Gained report s.sink sink
 
--- The texts of the input files, and what they come to where the shelf tells them.
+-- The texts of the input files.
 abbrev pub netlist_text : Start → Values → List ℕ
 netlist_text s w = netlist_held s.shelf w.netlists
 

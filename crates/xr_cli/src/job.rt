@@ -6,7 +6,7 @@ ghost use Rattle.xr_cli_words.specs.Read.{values_of};
 ghost use Rattle.xr_job.specs.Compared.{FitsNetlist};
 ghost use Rattle.xr_job.specs.Recorded.{FitsRecorded};
 ghost use Rattle.xr_cli.specs.Files.{IsHeldRecording, LeftBy, PrepareRefused, RecordedRefused, netlist_held};
-ghost use Rattle.xr_cli.specs.Repair.{HasNetlist, IsJob};
+ghost use Rattle.xr_cli.specs.Repair.{FitsJob, HasBounds, HasNetlist, IsJob};
 
 use crate::files::{read_input, read_netlists};
 use crate::refusal::Refusal;
@@ -36,14 +36,12 @@ pub fn read_job<S: Shelf>(
     shelf: &mut S,
     words: Repair<'_>,
 ) -> Result<Job, Refusal>
-    requires some { 0 < length (values_of words).netlists }
-    requires round { 1 ≤ words.rounds }
-    requires rounds { words.rounds ≤ 16 }
+    requires bounds { HasBounds (values_of words) }
     ensures later { Later (S.view shelf.old) (S.view shelf.new) }
     ensures files { (S.view shelf.new).files ≡ (S.view shelf.old).files }
     ensures job { let w = values_of words.entry in IfOk result (λ j. IsTrue S.told
         → IsJob w (netlist_held (S.view shelf.old) w.netlists) (held (S.view shelf.old) w.recording) j.netlist j.recorded) }
-    ensures fits { IfOk result (λ j. FitsNetlist j.netlist × FitsRecorded j.netlist.design j.recorded) }
+    ensures fits { IfOk result (λ j. FitsJob j.netlist j.recorded) }
     ensures kept { OnOk result (SameCounts (S.view shelf.old) (S.view shelf.new)) }
     ensures closed { OnOk result ((S.view shelf.new).hand ≡ Nothing) }
     ensures refused { IfErr result (PrepareRefused S.told (values_of words.entry) (S.view shelf.old) (S.view shelf.new)) }
@@ -99,7 +97,7 @@ fn recorded_of<S: Shelf>(
     let text = read_input(alloc, shelf, words.recording, RECORDING_BYTES)?;
     Ok(read_recording(
         alloc,
-        &netlist.design,
+        netlist,
         text.as_slice(),
         scope.as_slice(),
         words.rounds,

@@ -49,7 +49,8 @@ fn put_objection(
     put_both(text, b" replayed ", &[objection.replayed.letter()])?;
     put_both(text, b" found ", &[objection.found.letter()])?;
     put(text, b" undecided ")?;
-    put_number(alloc, text, objection.undecided as u64)
+    put_number(alloc, text, objection.undecided as u64)?;
+    Ok(())
 }
 
 fn put(text: &mut Vec<u8>, bytes: &[u8]) -> Result<(), AllocError>

@@ -2,9 +2,8 @@
 
 ghost use Rattle.std.specs.Prelude.{◌≡◌, IfOk, count_by};
 ghost use Rattle.xr_design.specs.Filling.{IsPlace};
-ghost use Rattle.xr_job.specs.Compared.{FitsNetlist, job_in};
-ghost use Rattle.xr_job.specs.Recorded.{FitsRecorded};
-ghost use Rattle.xr_cli.specs.Repair.{is_undecided_body, is_undecided_line, objection_of};
+ghost use Rattle.xr_job.specs.Compared.{job_in};
+ghost use Rattle.xr_cli.specs.Repair.{FitsJob, is_undecided_body, is_undecided_line, objection_of};
 
 use crate::refusal::Objection;
 use std::alloc::Global;
@@ -21,8 +20,7 @@ pub fn objection_of(
     recorded: &Recorded,
     told: &Optimistic,
 ) -> Result<Objection, Memory>
-    requires netlist { FitsNetlist netlist.now }
-    requires recorded { FitsRecorded netlist.now.design recorded.now }
+    requires fits { FitsJob netlist.now recorded.now }
     requires place { IsPlace (job_in netlist.now recorded.now) told.now.place }
     ensures { IfOk result (λ o. o ≡ objection_of netlist.now recorded.now told.now) }
 {

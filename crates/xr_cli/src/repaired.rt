@@ -2,9 +2,8 @@
 
 ghost use Rattle.std.specs.Prelude.{◌≡◌, ◌<◌, IfErr, IfOk};
 ghost use Rattle.xr_design.specs.Handed.{IsReplay};
-ghost use Rattle.xr_job.specs.Compared.{FitsNetlist, job_in};
-ghost use Rattle.xr_job.specs.Recorded.{FitsRecorded};
-ghost use Rattle.xr_cli.specs.Repair.{AreTexts, IsMade, IsRepairedBy, IsWaveOf, JobRefused, WalkRefused};
+ghost use Rattle.xr_job.specs.Compared.{job_in};
+ghost use Rattle.xr_cli.specs.Repair.{AreTexts, FitsJob, IsMade, IsRepairedBy, IsWaveOf, JobRefused, WalkRefused};
 
 use crate::job::Job;
 use crate::objection::objection_of;
@@ -29,8 +28,7 @@ pub struct Texts {
 
 /// The texts of the repair of a job, with so many clauses a search.
 pub fn repaired_texts(alloc: Global, job: &Job, conflicts: u32) -> Result<Texts, Refusal>
-    requires netlist { FitsNetlist job.now.netlist }
-    requires recorded { FitsRecorded job.now.netlist.design job.now.recorded }
+    requires fits { FitsJob job.now.netlist job.now.recorded }
     requires conflicts { 0 < conflicts }
     ensures made { IfOk result (λ t. IsMade conflicts job.now.netlist job.now.recorded t.vcd.items t.report.items) }
     ensures refused { IfErr result (JobRefused conflicts job.now.netlist job.now.recorded) }
@@ -48,8 +46,7 @@ fn repaired<'a>(
     history: &'a History,
     conflicts: u32,
 ) -> Result<Wave<'a>, Refusal>
-    requires netlist { FitsNetlist netlist.now }
-    requires recorded { FitsRecorded netlist.now.design recorded.now }
+    requires fits { FitsJob netlist.now recorded.now }
     requires replay { IsReplay (job_in netlist.now recorded.now) history.now }
     requires conflicts { 0 < conflicts }
     ensures repaired { IfOk result (IsRepairedBy conflicts netlist.now recorded.now history.now) }
@@ -73,8 +70,7 @@ fn repaired<'a>(
 
 /// The texts of a finished wave of a job.
 fn texts_of(alloc: Global, job: &Job, wave: &Wave<'_>) -> Result<Texts, Memory>
-    requires netlist { FitsNetlist job.now.netlist }
-    requires recorded { FitsRecorded job.now.netlist.design job.now.recorded }
+    requires fits { FitsJob job.now.netlist job.now.recorded }
     requires wave { IsWaveOf job.now.netlist job.now.recorded wave.now }
     ensures { IfOk result (λ t. AreTexts job.now.netlist job.now.recorded wave.now t.vcd.items t.report.items) }
 {

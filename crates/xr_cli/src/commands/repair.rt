@@ -1,11 +1,11 @@
 //! `repair`: reads a netlist and a recording of it, and writes the repaired recording.
 
-ghost use Rattle.std.specs.Prelude.{◌≡◌, ◌++◌, ◌<◌, ◌≤◌, ℕ, IfErr, IfOk, IsTrue, List, OnOk, Some, length};
+ghost use Rattle.std.specs.Prelude.{◌≡◌, ◌++◌, ℕ, IfErr, IfOk, IsTrue, List, OnOk, Some};
 ghost use Rattle.xr_shelf.specs.Shelf.{Later, Nothing, SameCounts, held};
 ghost use Rattle.xr_cli_words.specs.Line.{IsRepair};
 ghost use Rattle.xr_cli_words.specs.Read.{values_of};
 ghost use Rattle.xr_cli.specs.Files.{Delivery, DeliveryRefused, LeftBy, PrepareRefused, netlist_held};
-ghost use Rattle.xr_cli.specs.Repair.{Repairs};
+ghost use Rattle.xr_cli.specs.Repair.{HasBounds, Repairs};
 ghost use Rattle.xr_cli.specs.Rows.{Row, start_with};
 
 use crate::files::{print_report, write_output};
@@ -23,6 +23,7 @@ pub fn run_repair<S: Shelf, O: Sink>(
     shelf: &mut S,
     out: &mut O,
 ) -> Result<(), Refusal>
+    requires { HasBounds (values_of words) }
     ensures { (line : List (List ℕ)) → IsRepair line (values_of words.entry)
         → Row (start_with line S.told O.told (S.view shelf.old) (O.view out.old)) (S.view shelf.new) (O.view out.new) result }
 {
@@ -35,10 +36,7 @@ pub fn run_repair<S: Shelf, O: Sink>(
 
 /// All that comes before the first output.
 fn prepare<S: Shelf>(alloc: Global, shelf: &mut S, words: Repair<'_>) -> Result<Texts, Refusal>
-    requires some { 0 < length (values_of words).netlists }
-    requires round { 1 ≤ words.rounds }
-    requires rounds { words.rounds ≤ 16 }
-    requires conflicts { 0 < words.conflicts }
+    requires { HasBounds (values_of words) }
     ensures later { Later (S.view shelf.old) (S.view shelf.new) }
     ensures files { (S.view shelf.new).files ≡ (S.view shelf.old).files }
     ensures made { let w = values_of words.entry in IfOk result (λ t. IsTrue S.told
@@ -48,7 +46,7 @@ fn prepare<S: Shelf>(alloc: Global, shelf: &mut S, words: Repair<'_>) -> Result<
     ensures left { IfErr result (LeftBy (S.view shelf.old) (S.view shelf.new)) }
 {
     let job = read_job(alloc, shelf, words)?;
-    Ok(repaired_texts(alloc, &job, words.conflicts)?)
+    repaired_texts(alloc, &job, words.conflicts)
 }
 
 /// Writes the repaired recording, then prints the report.
