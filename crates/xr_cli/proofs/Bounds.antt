@@ -1,5 +1,5 @@
 -- The numbers of words that are in the set.
-use Rattle.std.proofs.Common.{◌≡◌, ℕ, ◌≤◌, List, Option, Some, None, arith}
+use Rattle.std.proofs.Common.{ℕ, ◌≤◌, List, Option, Some, None, arith}
 use Rattle.xr_cli_words.specs.Line.{IsCount, IsRepair, Values, given}
 use Rattle.xr_cli_words.specs.declared.kind.Kind.TheVariants.{Rounds, Conflicts}
 use Rattle.xr_cli.specs.Repair.{HasBounds}

@@ -1,6 +1,5 @@
 -- What the phases come to, as rows of the run.
 use Rattle.std.proofs.Common.{refl, ◌≡◌, inl, inr, ⊎_elim, ℕ, List, [], ◌++◌, ◌∙◌, ap, IsTrue, Some}
-use Rattle.std.specs.Prelude.{string_bytes}
 use Rattle.xr_shelf.specs.Shelf.{View, Files, Later, Nothing, SameCounts}
 use Rattle.xr_shelf.specs.Sink.{SinkView}
 use Rattle.xr_shelf.specs.Calls.{HoldsPart}

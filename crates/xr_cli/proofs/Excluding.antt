@@ -19,8 +19,6 @@ use Rattle.xr_replay.specs.declared.differ.Differ.TheVariants.{Unsettled, Disagr
 use Rattle.xr_cli_words.specs.Line.{Values, IsRepair, pieces_of}
 use Rattle.xr_cli_words.proofs.Settling.{one_meaning}
 use Rattle.xr_job.specs.Compared.{IsRefusedReplay, job_in, refusal_for}
-use Rattle.xr_job.specs.Netlist.{IsOrdered, IsRefusedNetlist}
-use Rattle.xr_job.specs.Recorded.{IsRecorded, IsRefusedRecording, IsSame}
 use Rattle.xr_job.specs.declared.compare_refusal.CompareErr.{CompareErr}
 use Rattle.xr_job.specs.declared.netlist.Netlist.{Netlist as ANetlist}
 use Rattle.xr_job.specs.declared.netlist_refusal.NetlistErr.{NetlistErr}

@@ -1,15 +1,14 @@
 -- The headline, from a finished wave of a job whose recording agrees with the replay.
-use Rattle.std.proofs.Common.{◌≡◌, ◌≢◌, ◌∙◌, ℕ, ◌<◌, ◌≤◌, Bool, true, false, List, length, refl, sym, ap, subst, arith}
-use Rattle.std.specs.Prelude.{Contains, slice_index}
+use Rattle.std.proofs.Common.{◌≡◌, ◌∙◌, ℕ, ◌<◌, Bool, true, false, List, length, refl, sym, ap, subst, arith}
+use Rattle.std.specs.Prelude.{slice_index}
 use Rattle.xr_cell.specs.Value.{IsKnown, bit_value}
 use Rattle.xr_cell.specs.declared.value.Value.{Value}
 use Rattle.xr_cell.specs.declared.value.Value.TheVariants.{Zero, One, X, Z}
 use Rattle.xr_design.specs.Fits.{Fits, place_at}
 use Rattle.xr_design.specs.Handed.{IsReplay, shown_of}
 use Rattle.xr_design.specs.History.{HistoryView}
-use Rattle.xr_design.specs.Job.{Job, at, number_of, places_of}
+use Rattle.xr_design.specs.Job.{Job, places_of}
 use Rattle.xr_design.specs.Replay.{Held, shown_at}
-use Rattle.xr_design.specs.Settled.{last_step}
 use Rattle.xr_design.specs.Waveform.{HasPair, Settles, written_at}
 use Rattle.xr_design.specs.declared.design.Design.{Design}
 use Rattle.xr_design.specs.declared.stim.Stim.{Stim}
@@ -19,20 +18,18 @@ use Rattle.xr_design.specs.declared.waveform.Written.{Written}
 use Rattle.xr_match.specs.Binding.{FitsBound}
 use Rattle.xr_match.specs.declared.binding.Bound.{Bound}
 use Rattle.xr_model.proofs.Uniqueness.{unique}
-use Rattle.xr_model.specs.Sound.{HasLicence, IsDecided, Sound, SoundBy}
-use Rattle.xr_model.specs.Yields.{Yields}
+use Rattle.xr_model.specs.Sound.{HasLicence, Sound, SoundBy}
 use Rattle.xr_model.specs.declared.line.Line.{Line as ALine}
 use Rattle.xr_replay.specs.Fault.{BitAgrees, IsFaultless}
-use Rattle.xr_repair.specs.Repaired.{IsOfJob}
 use Rattle.xr_vcd.specs.Recording.{value_at}
-use Rattle.xr_wave.specs.Contents.{Contents, IsWave, job}
+use Rattle.xr_wave.specs.Contents.{Contents, IsWave}
 use Rattle.xr_wave.specs.Shown.{IsFinished, ShowsWave}
 use Rattle.xr_job.specs.Compared.{job_in}
 use Rattle.xr_job.specs.declared.netlist.Netlist.{Netlist as ANetlist}
 use Rattle.xr_job.specs.declared.recorded.Recorded.{Recorded}
 use Rattle.xr_cli_words.specs.Line.{Values}
 use Rattle.xr_cli.specs.Headline.{Headline, IsBit, Shows, place_of}
-use Rattle.xr_cli.specs.Repair.{Agrees, FitsJob, IsRepairedBy, Repairs, beginning}
+use Rattle.xr_cli.specs.Repair.{FitsJob, Repairs}
 use Rattle.xr_cli.proofs.Jobs.{fits_job, last_place, number_back, place_there, replay_shown}
 
 -- ---- what is known of a place by its mark

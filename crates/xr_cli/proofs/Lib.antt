@@ -11,4 +11,4 @@ mod OneStimulus
 mod Preparing
 mod Scopes
 mod Statuses
-mod Texts
+mod Told

@@ -1,6 +1,6 @@
 -- What the phases before the first output refuse, as refusals of them all.
-use Rattle.std.proofs.Common.{◌≡◌, ◌≢◌, ℕ, ◌≤◌, List, length, IsTrue, Bool, inl, inr, refl, sym, subst, ◌∙◌, arith}
-use Rattle.std.specs.Prelude.{string_bytes, Contains}
+use Rattle.std.proofs.Common.{◌≡◌, ◌≢◌, ℕ, ◌≤◌, List, length, IsTrue, Bool, inl, inr, subst}
+use Rattle.std.specs.Prelude.{string_bytes}
 use Rattle.xr_shelf.specs.Shelf.{View, Later, Rose, held}
 use Rattle.xr_design.specs.declared.stim.StartRule.TheVariants.{Cold}
 use Rattle.xr_cli_words.specs.Line.{Values, pieces_of}

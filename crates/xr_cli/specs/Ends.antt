@@ -1,6 +1,6 @@
 -- How a run ends: with its row, and the line of the refusal behind what was printed.
-use Rattle.std.specs.Prelude.{◌≡◌, ◌≢◌, ◌⊎◌, ℕ, ◌≤◌, List, [], ◌∷◌, ◌++◌, Contains, Result, Ok, Err, IsTrue, Bool}
-use Rattle.xr_shelf.specs.Shelf.{View, Rose, held}
+use Rattle.std.specs.Prelude.{◌≡◌, ◌≢◌, ◌⊎◌, ℕ, ◌≤◌, List, ◌++◌, Contains, Result, Ok, Err, IsTrue, Bool}
+use Rattle.xr_shelf.specs.Shelf.{View, Rose}
 use Rattle.xr_shelf.specs.Calls.{Gained}
 use Rattle.xr_shelf.specs.Sink.{SinkView}
 use Rattle.xr_cli_words.specs.Line.{Values, IsRepair, IsOutside}
@@ -9,12 +9,13 @@ use Rattle.xr_cli.specs.Repair.{IsFirm, IsRefused, IsRepairable}
 use Rattle.xr_cli.specs.Rows.{Start, Row, RefusedRow, DoneRow, netlist_text, recording_text}
 use Rattle.xr_cli.specs.declared.refusal.Refusal.{Refusal}
 
--- The line of a refusal was printed, or with want of memory that of this: the sink gained a prefix. With the refusal's own
--- status it is that line, and whole where no count rose.
+-- The line of a refusal was printed, or with want of memory that of this: the sink gained a prefix. With the refusal's
+-- own status it is that line, and whole where no count rose.
 pub record LinePrinted (told : Bool) (refusal : Refusal) (old new : SinkView) (status : ℕ) : Type 0 where
   pub is : (status ≡ status_of refusal) ⊎ (status ≡ 20)
   pub later : old.faults ≤ new.faults
-  pub gained : IsTrue told → Gained (line (text_of refusal)) old new ⊎ ((status ≡ 20) × Gained (line memory_text) old new)
+  pub gained : IsTrue told
+      → Gained (line (text_of refusal)) old new ⊎ ((status ≡ 20) × Gained (line memory_text) old new)
   pub whole : status ≢ 20 → IsTrue told
       → (new.bytes ≡ old.bytes ++ line (text_of refusal)) ⊎ Rose old.faults new.faults
 

@@ -1,5 +1,6 @@
 -- What is done with files and with the sink, and what a refusal there leaves.
-use Rattle.std.specs.Prelude.{◌≡◌, ◌⊎◌, ℕ, ◌<◌, ◌≤◌, List, [], ◌∷◌, ◌++◌, length, map, Contains, Option, Some, None, Result, IfOk, IfErr, OnOk, IfSome, IsSome, IsTrue, Bool, Vec, codes, string_bytes}
+use Rattle.std.specs.Prelude.{◌≡◌, ◌⊎◌, ℕ, ◌<◌, ◌≤◌, List, [], ◌∷◌, ◌++◌, length, map, Contains, IsTrue, Bool, Vec}
+use Rattle.std.specs.Prelude.{Option, Some, None, Result, IfOk, IfErr, OnOk, IfSome, IsSome, codes, string_bytes}
 use Rattle.std.specs.declared.alloc.Global.{Global}
 use Rattle.xr_shelf.specs.Shelf.{View, Nothing, Later, SameCounts, Rose, OthersKept, held}
 use Rattle.xr_shelf.specs.Sink.{SinkView}
@@ -10,12 +11,13 @@ use Rattle.xr_job.specs.Recorded.{IsRecorded, IsRefusedRecording}
 use Rattle.xr_job.specs.declared.netlist.Netlist.{Netlist as ANetlist}
 use Rattle.xr_job.specs.declared.recorded.Recorded.{Recorded}
 use Rattle.xr_job.specs.declared.recording_refusal.RecordingErr.{RecordingErr}
-use Rattle.xr_cli.specs.Repair.{HasNetlist, IsRefused, recording_limit}
+use Rattle.xr_cli.specs.Repair.{HasNetlist, IsJob, IsRefused, Repairs, recording_limit}
 use Rattle.xr_cli.specs.declared.refusal.Refusal.{Refusal}
-use Rattle.xr_cli.specs.declared.refusal.Refusal.TheVariants.{Usage, Read, Write, LongNetlist, Netlist, LongRecording, Recording, Compare, Optimistic, Memory}
+use Rattle.xr_cli.specs.declared.refusal.Refusal.TheVariants.{Usage, Read, Write, LongNetlist, Netlist}
+use Rattle.xr_cli.specs.declared.refusal.Refusal.TheVariants.{LongRecording, Recording, Compare, Optimistic, Memory}
 
--- What a refused phase leaves. Only a fault of reading or writing raises a count of the shelf, and behind it no file is in
--- hand; nor is one where the texts that were read are refused.
+-- What a refused phase leaves. Only a fault of reading or writing raises a count of the shelf, and behind it no file is
+-- in hand; nor is one where the texts that were read are refused.
 abbrev pub LeftBy : View → View → Refusal → Type 0
 LeftBy old new (Read name) = new.hand ≡ Nothing
 LeftBy old new (Write name) = new.hand ≡ Nothing
@@ -35,7 +37,8 @@ InputRefused told name limit old new LongRecording = IsTrue told → limit < len
 InputRefused told name limit old new Memory = Unit {0}
 InputRefused told name limit old new _ = ⊥
 
-pub record InputRead (told : Bool) (name : List ℕ) (limit : ℕ) (old new : View) (result : Result (Vec ℕ Global) Refusal) : Type 0 where
+pub record InputRead (told : Bool) (name : List ℕ) (limit : ℕ) (old new : View)
+    (result : Result (Vec ℕ Global) Refusal) : Type 0 where
   pub later : Later old new
   pub files : new.files ≡ old.files
   pub text : IfOk result (λ v. IsTrue told → v.items ≡ held old name)
@@ -67,14 +70,22 @@ abbrev pub IsKept : ℕ → Option (Vec ℕ Global) → List ℕ → Type 0
 IsKept limit (Some v) text = (v.items ≡ text) × (length v.items ≤ limit)
 IsKept limit None text = limit < length text
 
+-- A text and the next one, each kept or too long, are kept or too long as one text.
+abbrev pub Joins : ℕ → ℕ → Option (Vec ℕ Global) → Option (Vec ℕ Global) → Option (Vec ℕ Global) → Type 0
+Joins limit position text part whole =
+    (before : List (List ℕ)) (so_far more : List ℕ) → length before ≡ position → (position ≡ 0 → so_far ≡ [])
+    → IsKept limit text so_far → IsKept limit part more → IsKept limit whole (put_behind before so_far more)
+
 abbrev pub NetlistsRefused : Bool → List (List ℕ) → ℕ → View → View → Refusal → Type 0
-NetlistsRefused told names limit old new (Read file) = Contains names (string_bytes file) × Rose (old.reads (string_bytes file)) (new.reads (string_bytes file))
+NetlistsRefused told names limit old new (Read file) =
+    Contains names (string_bytes file) × Rose (old.reads (string_bytes file)) (new.reads (string_bytes file))
 NetlistsRefused told names limit old new LongNetlist = IsTrue told → limit < length (netlist_held old names)
 NetlistsRefused told names limit old new Memory = Unit {0}
 NetlistsRefused told names limit old new _ = ⊥
 
 -- The files of a netlist read, of at most so many bytes joined.
-pub record NetlistsRead (told : Bool) (names : List (List ℕ)) (limit : ℕ) (old new : View) (result : Result (Vec ℕ Global) Refusal) : Type 0 where
+pub record NetlistsRead (told : Bool) (names : List (List ℕ)) (limit : ℕ) (old new : View)
+    (result : Result (Vec ℕ Global) Refusal) : Type 0 where
   pub later : Later old new
   pub files : new.files ≡ old.files
   pub text : IfOk result (λ v. IsTrue told → v.items ≡ netlist_held old names)
@@ -90,7 +101,8 @@ FileRefused name old new (Read file) = (string_bytes file ≡ name) × Rose (old
 FileRefused name old new Memory = Unit {0}
 FileRefused name old new _ = ⊥
 
-pub record FileRead (told : Bool) (name : List ℕ) (limit : ℕ) (old new : View) (result : Result (Option (Vec ℕ Global)) Refusal) : Type 0 where
+pub record FileRead (told : Bool) (name : List ℕ) (limit : ℕ) (old new : View)
+    (result : Result (Option (Vec ℕ Global)) Refusal) : Type 0 where
   pub later : Later old new
   pub files : new.files ≡ old.files
   pub text : IfOk result (λ part. IsTrue told → IsKept limit part (held old name))
@@ -100,8 +112,8 @@ pub record FileRead (told : Bool) (name : List ℕ) (limit : ℕ) (old new : Vie
   pub left : IfErr result (LeftBy old new)
   pub refused : IfErr result (FileRefused name old new)
 
--- The input file of this name is the one to be read: one of the netlist, or the recording where the netlist stands for a
--- design with its order.
+-- The input file of this name is the one to be read: one of the netlist, or the recording where the netlist stands for
+-- a design with its order.
 abbrev pub HasDesign : Values → List ℕ → Type 0
 HasDesign w netlist = (n : ANetlist) × HasNetlist w netlist n
 
@@ -131,6 +143,13 @@ RecordedRefused told w n old new (Recording cause) = IsTrue told → IsHeldFault
 RecordedRefused told w n old new Memory = Unit {0}
 RecordedRefused told w n old new _ = ⊥
 
+-- What the texts of the input files come to as a job, and as its repair.
+abbrev pub HoldsJob : Values → View → ANetlist → Recorded → Type 0
+HoldsJob w old n r = IsJob w (netlist_held old w.netlists) (held old w.recording) n r
+
+abbrev pub HoldsRepair : Values → View → List ℕ → List ℕ → Type 0
+HoldsRepair w old vcd report = Repairs w (netlist_held old w.netlists) (held old w.recording) vcd report
+
 -- All that comes before the first output.
 abbrev pub PrepareRefused : Bool → Values → View → View → Refusal → Type 0
 PrepareRefused told w old new (Read file) =
@@ -151,7 +170,8 @@ OutputRefused name old new (Write file) = (string_bytes file ≡ name) × Rose (
 OutputRefused name old new Memory = Unit {0}
 OutputRefused name old new _ = ⊥
 
-pub record OutputWritten (told : Bool) (name bytes : List ℕ) (old new : View) (result : Result Unit Refusal) : Type 0 where
+pub record OutputWritten (told : Bool) (name bytes : List ℕ) (old new : View)
+    (result : Result Unit Refusal) : Type 0 where
   pub later : Later old new
   pub others : OthersKept name old.files new.files
   pub whole : OnOk result (IsTrue told → new.files name ≡ Some bytes)
@@ -179,7 +199,8 @@ pub record Printed (told : Bool) (text : List ℕ) (old new : SinkView) (result 
   pub refused : IfErr result (PrintRefused old new)
 
 -- An output written and the report printed.
-pub record Delivery (told sink_told : Bool) (name bytes report : List ℕ) (old new : View) (before after : SinkView) : Type 0 where
+pub record Delivery (told sink_told : Bool) (name bytes report : List ℕ) (old new : View)
+    (before after : SinkView) : Type 0 where
   pub others : OthersKept name old.files new.files
   pub part : IsTrue told → HoldsPart name bytes old.files new.files
   pub gained : IsTrue sink_told → Gained report before after
@@ -197,6 +218,7 @@ pub record ReportFails (told : Bool) (name bytes : List ℕ) (old new : View) (b
 
 abbrev pub DeliveryRefused : Bool → List ℕ → List ℕ → View → View → SinkView → SinkView → Refusal → Type 0
 DeliveryRefused told name bytes old new before after (Write file) =
-    ((string_bytes file ≡ name) × OutputFails name old new before after) ⊎ ((string_bytes file ≡ report_name) × ReportFails told name bytes old new before after)
+    ((string_bytes file ≡ name) × OutputFails name old new before after)
+    ⊎ ((string_bytes file ≡ report_name) × ReportFails told name bytes old new before after)
 DeliveryRefused told name bytes old new before after Memory = after.faults ≡ before.faults
 DeliveryRefused told name bytes old new before after _ = ⊥

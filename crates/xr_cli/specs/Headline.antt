@@ -37,7 +37,8 @@ ForBits n r Holds = (moment : ℕ) (b : Bound) (bit : ℕ) → IsBit n r moment 
 
 -- The history that V shows has at each place what the waveform has.
 abbrev pub Shows : Job → List Written → HistoryView → Type 0
-Shows j waveform history = (place : ℕ) → place < places_of j → shown_of j history place ≡ (written_at waveform place).value
+Shows j waveform history =
+    (place : ℕ) → place < places_of j → shown_of j history place ≡ (written_at waveform place).value
 
 -- The texts stand for a job; there are a waveform of all its places and lines, so that:
 pub record Headline (w : Values) (netlist recording vcd : List ℕ) : Type 0 where
@@ -57,7 +58,8 @@ pub record Headline (w : Values) (netlist recording vcd : List ℕ) : Type 0 whe
   -- Each bit that is shown unknown has two fillings that give 0 and 1.
   pub unknown : ForBits n r (λ place recorded. (written_at waveform place).mark ≡ Unknown
       → HasPair (job_in n r) waveform place)
-  -- Each other bit is marked undecided, with its licence: more than 12 sources, and a log of as many clauses as the words say.
+  -- Each other bit is marked undecided, with its licence: more than 12 sources, and a log of as many clauses as the words
+  -- say.
   pub undecided : ForBits n r (λ place recorded. (written_at waveform place).mark ≡ Undecided
       → HasLicence (job_in n r) w.conflicts waveform lines place)
   -- The bits that the recording knows stand.

@@ -1,7 +1,8 @@
 -- Why a run is refused: its status and its line.
 use Rattle.std.specs.Prelude.{ℕ, List, [], ◌∷◌, ◌++◌, codes, decimal, string_bytes}
 use Rattle.xr_cell.specs.Value.{letter_of}
-use Rattle.xr_job.specs.Lines.{compare_line, compare_status, netlist_line, netlist_status, recording_line, recording_status}
+use Rattle.xr_job.specs.Lines.{compare_line, netlist_line, recording_line}
+use Rattle.xr_job.specs.Lines.{compare_status, netlist_status, recording_status}
 use Rattle.xr_job.specs.declared.compare_refusal.CompareErr.{CompareErr}
 use Rattle.xr_job.specs.declared.compare_refusal.CompareErr.TheVariants as compare
 use Rattle.xr_job.specs.declared.netlist_refusal.NetlistErr.{NetlistErr}
@@ -10,7 +11,8 @@ use Rattle.xr_job.specs.declared.recording_refusal.RecordingErr.{RecordingErr}
 use Rattle.xr_job.specs.declared.recording_refusal.RecordingErr.TheVariants as recording
 use Rattle.xr_cli.specs.declared.refusal.Objection.{Objection}
 use Rattle.xr_cli.specs.declared.refusal.Refusal.{Refusal}
-use Rattle.xr_cli.specs.declared.refusal.Refusal.TheVariants.{Usage, Read, Write, LongNetlist, Netlist, LongRecording, Recording, Compare, Optimistic, Memory}
+use Rattle.xr_cli.specs.declared.refusal.Refusal.TheVariants.{Usage, Read, Write, LongNetlist, Netlist}
+use Rattle.xr_cli.specs.declared.refusal.Refusal.TheVariants.{LongRecording, Recording, Compare, Optimistic, Memory}
 
 abbrev pub status_of : Refusal → ℕ
 status_of Usage = 2
@@ -66,6 +68,6 @@ recording_refusal (recording.TooLarge places) = Recording (recording.TooLarge pl
 recording_refusal recording.Memory = Memory
 
 abbrev pub compare_refusal : CompareErr → Refusal
-compare_refusal (compare.Disagrees time name recorded replayed) = Compare (compare.Disagrees time name recorded replayed)
+compare_refusal (compare.Disagrees time name was replayed) = Compare (compare.Disagrees time name was replayed)
 compare_refusal (compare.Unsettled time name kept next) = Compare (compare.Unsettled time name kept next)
 compare_refusal compare.Memory = Memory

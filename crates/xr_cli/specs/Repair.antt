@@ -1,6 +1,5 @@
 -- What the texts of a netlist and of its recording come to: a repair, or the first refusal.
 use Rattle.std.specs.Prelude.{◌≡◌, ℕ, ◌<◌, ◌≤◌, ◌/◌, ◌%◌, Bool, true, false, List, count_by, length, slice_index}
-use Rattle.xr_cell.specs.declared.value.Value.{Value}
 use Rattle.xr_design.specs.Handed.{IsReplay}
 use Rattle.xr_design.specs.History.{HistoryView}
 use Rattle.xr_design.specs.declared.stim.StartRule.TheVariants.{Cold}
@@ -26,7 +25,8 @@ use Rattle.xr_job.specs.declared.recording_refusal.RecordingErr.{RecordingErr}
 use Rattle.xr_cli_words.specs.Line.{Values, pieces_of}
 use Rattle.xr_cli.specs.declared.refusal.Objection.{Objection}
 use Rattle.xr_cli.specs.declared.refusal.Refusal.{Refusal}
-use Rattle.xr_cli.specs.declared.refusal.Refusal.TheVariants.{Usage, Read, Write, LongNetlist, Netlist, LongRecording, Recording, Compare, Optimistic, Memory}
+use Rattle.xr_cli.specs.declared.refusal.Refusal.TheVariants.{Usage, Read, Write, LongNetlist, Netlist}
+use Rattle.xr_cli.specs.declared.refusal.Refusal.TheVariants.{LongRecording, Recording, Compare, Optimistic, Memory}
 
 -- The most bytes of a netlist and of a recording.
 abbrev pub netlist_limit : ℕ
@@ -68,7 +68,8 @@ abbrev pub beginning : ℕ → ANetlist → Recorded → HistoryView → Content
 beginning conflicts n r history = nothing_written n.design n.order r.stim history conflicts
 
 -- A finished wave of the job.
-pub record IsRepairedBy (conflicts : ℕ) (n : ANetlist) (r : Recorded) (history : HistoryView) (wave : Contents) : Type 0 where
+pub record IsRepairedBy (conflicts : ℕ) (n : ANetlist) (r : Recorded) (history : HistoryView)
+    (wave : Contents) : Type 0 where
   pub of_job : IsOfJob (beginning conflicts n r history) wave
   pub sound : IsWave wave
   pub finished : IsFinished wave
@@ -146,7 +147,8 @@ pub record HasDifference (w : Values) (netlist recording : List ℕ) (cause : Co
   pub is : IsRefusedReplay n r cause
 
 -- A place is found otherwise than a history knows it.
-pub record IsObjectionBy (conflicts : ℕ) (n : ANetlist) (r : Recorded) (history : HistoryView) (objection : Objection) : Type 0 where
+pub record IsObjectionBy (conflicts : ℕ) (n : ANetlist) (r : Recorded) (history : HistoryView)
+    (objection : Objection) : Type 0 where
   pub told : Told
   pub objects : IsObjection (beginning conflicts n r history) told
   pub is : objection ≡ objection_of n r told

@@ -9,7 +9,8 @@ use Rattle.xr_cli.specs.Files.{IsReadNext, OutputFails, ReportFails, LeftBy, net
 use Rattle.xr_cli.specs.Headline.{Headline}
 use Rattle.xr_cli.specs.Repair.{IsRefused, Repairs}
 use Rattle.xr_cli.specs.declared.refusal.Refusal.{Refusal}
-use Rattle.xr_cli.specs.declared.refusal.Refusal.TheVariants.{Usage, Read, Write, LongNetlist, Netlist, LongRecording, Recording, Compare, Optimistic, Memory}
+use Rattle.xr_cli.specs.declared.refusal.Refusal.TheVariants.{Usage, Read, Write, LongNetlist, Netlist}
+use Rattle.xr_cli.specs.declared.refusal.Refusal.TheVariants.{LongRecording, Recording, Compare, Optimistic, Memory}
 
 -- What a run is given: its words, the shelf and the sink, and whether these tell their bytes.
 pub record Start : Type 0 where

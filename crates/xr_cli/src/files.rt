@@ -1,8 +1,8 @@
 //! The files that a run reads and writes, and the report that it prints.
 
-ghost use Rattle.std.specs.Prelude.{◌≡◌, ◌<◌, ◌≤◌, ℕ, List, [], length, map, string_bytes, IfOk, IfSome, IsSome};
-ghost use Rattle.xr_cli.specs.Files.{InputRead, NetlistsRead, FileRead, IsKept, put_behind, OutputWritten, Printed};
-ghost use Rattle.xr_shelf.specs.Shelf.{Nothing, Later, CloseStep};
+ghost use Rattle.std.specs.Prelude.{◌≡◌, ◌<◌, ◌≤◌, length, map, string_bytes, IfOk, IfSome, IsSome};
+ghost use Rattle.xr_cli.specs.Files.{InputRead, NetlistsRead, FileRead, IsKept, Joins, OutputWritten, Printed};
+ghost use Rattle.xr_shelf.specs.Shelf.{Nothing, Later};
 
 use crate::refusal::Refusal;
 use std::alloc::{AllocError, Global};
@@ -86,7 +86,7 @@ fn join(
 ) -> Result<Option<Vec<u8>>, AllocError>
     ensures fits { IfOk result (λ whole. IfSome whole (λ v. length v.items ≤ limit)) }
     ensures both { IfOk result (λ whole. IfSome whole (λ v. IsSome part)) }
-    ensures joined { IfOk result (λ whole. (before : List (List ℕ)) (so_far more : List ℕ) → length before ≡ position → (position ≡ 0 → so_far ≡ []) → IsKept limit text so_far → IsKept limit part more → IsKept limit whole (put_behind before so_far more)) }
+    ensures joined { IfOk result (Joins limit position text part) }
 {
     let Some(mut text) = text else {
         return Ok(None);

@@ -5,8 +5,8 @@ ghost use Rattle.xr_shelf.specs.Shelf.{Later, Nothing, SameCounts, held};
 ghost use Rattle.xr_cli_words.specs.Read.{values_of};
 ghost use Rattle.xr_job.specs.Compared.{FitsNetlist};
 ghost use Rattle.xr_job.specs.Recorded.{FitsRecorded};
-ghost use Rattle.xr_cli.specs.Files.{IsHeldRecording, LeftBy, PrepareRefused, RecordedRefused, netlist_held};
-ghost use Rattle.xr_cli.specs.Repair.{FitsJob, HasBounds, HasNetlist, IsJob};
+ghost use Rattle.xr_cli.specs.Files.{HoldsJob, IsHeldRecording, LeftBy, PrepareRefused, RecordedRefused, netlist_held};
+ghost use Rattle.xr_cli.specs.Repair.{FitsJob, HasBounds, HasNetlist};
 
 use crate::files::{read_input, read_netlists};
 use crate::refusal::Refusal;
@@ -39,12 +39,13 @@ pub fn read_job<S: Shelf>(
     requires bounds { HasBounds (values_of words) }
     ensures later { Later (S.view shelf.old) (S.view shelf.new) }
     ensures files { (S.view shelf.new).files ≡ (S.view shelf.old).files }
-    ensures job { let w = values_of words.entry in IfOk result (λ j. IsTrue S.told
-        → IsJob w (netlist_held (S.view shelf.old) w.netlists) (held (S.view shelf.old) w.recording) j.netlist j.recorded) }
+    ensures job { IfOk result (λ j. IsTrue S.told
+        → HoldsJob (values_of words.entry) (S.view shelf.old) j.netlist j.recorded) }
     ensures fits { IfOk result (λ j. FitsJob j.netlist j.recorded) }
     ensures kept { OnOk result (SameCounts (S.view shelf.old) (S.view shelf.new)) }
     ensures closed { OnOk result ((S.view shelf.new).hand ≡ Nothing) }
-    ensures refused { IfErr result (PrepareRefused S.told (values_of words.entry) (S.view shelf.old) (S.view shelf.new)) }
+    ensures refused { IfErr result
+        (PrepareRefused S.told (values_of words.entry) (S.view shelf.old) (S.view shelf.new)) }
     ensures left { IfErr result (LeftBy (S.view shelf.old) (S.view shelf.new)) }
 {
     let netlist = netlist_of(alloc, shelf, words)?;
@@ -65,7 +66,8 @@ fn netlist_of<S: Shelf>(
         IfOk result (λ n. IsTrue S.told → HasNetlist w (netlist_held (S.view shelf.old) w.netlists) n) }
     ensures fits { IfOk result FitsNetlist }
     ensures kept { OnOk result (SameCounts (S.view shelf.old) (S.view shelf.new)) }
-    ensures refused { IfErr result (PrepareRefused S.told (values_of words.entry) (S.view shelf.old) (S.view shelf.new)) }
+    ensures refused { IfErr result
+        (PrepareRefused S.told (values_of words.entry) (S.view shelf.old) (S.view shelf.new)) }
     ensures left { IfErr result (LeftBy (S.view shelf.old) (S.view shelf.new)) }
 {
     let text = read_netlists(alloc, shelf, words.netlists, NETLIST_BYTES)?;

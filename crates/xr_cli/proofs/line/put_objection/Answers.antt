@@ -1,5 +1,5 @@
 -- The line, piece by piece.
-use Rattle.std.proofs.Common.{List, ℕ, [], ◌∷◌, codes, decimal}
+use Rattle.std.proofs.Common.{[], ◌∷◌, codes, decimal}
 use Rattle.xr_cell.specs.Value.{letter_of}
 use Rattle.xr_cli.proofs.Lines.{nine_puts}
 use Rattle.xr_cli.proofs.line.put_objection.Goals as goal

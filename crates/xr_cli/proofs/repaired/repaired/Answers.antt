@@ -1,6 +1,6 @@
 -- The circuit of the job fits, and what is told is a place of it.
 use Rattle.xr_cli.proofs.Jobs.{circuit_fits}
-use Rattle.xr_cli.proofs.Texts.{told_there}
+use Rattle.xr_cli.proofs.Told.{told_there}
 use Rattle.xr_cli.proofs.repaired.repaired.Goals as goal
 
 pub repair-requires-clause-fits : goal.repair-requires-clause-fits

@@ -1,6 +1,6 @@
 -- What is prepared and delivered is a row.
-use Rattle.std.proofs.Common.{rules, ◌≡◌, ◌∙◌, Err, IsTrue, ap}
-use Rattle.xr_shelf.specs.Shelf.{Files, held}
+use Rattle.std.proofs.Common.{rules, ◌≡◌, Err, IsTrue}
+use Rattle.xr_shelf.specs.Shelf.{held}
 use Rattle.xr_cli_words.specs.Read.{values_of}
 use Rattle.xr_cli.specs.Files.{netlist_held}
 use Rattle.xr_cli.specs.Repair.{Repairs}
