@@ -301,7 +301,7 @@ module _ (w : Values) (netlist recording : List ℕ) (can : IsRepairable w netli
       let stims : there.r.stim ≡ can.r.stim = one_stim recording can.n.design (pieces_of w.scope) w.rounds Cold there.r can.r job.is can.job.is in
       let replay : IsReplay (job_of can.n.design can.n.order can.r.stim) objects.history = subst (λ (x : Stim). IsReplay (job_of can.n.design can.n.order x) objects.history) stims objects.agrees.replay in
       let told : IsObjection (nothing_written can.n.design can.n.order can.r.stim objects.history w.conflicts) objects.objects.told =
-          subst (λ (x : Stim). IsObjection (nothing_written can.n.design can.n.order x objects.history w.conflicts) objects.objects.told) stims objects.objects.objects in
+      subst (λ (x : Stim). IsObjection (nothing_written can.n.design can.n.order x objects.history w.conflicts) objects.objects.told) stims objects.objects.objects in
       can.none objects.history objects.objects.told replay told
 
   repairable_unrefused : (refusal : Refusal) → IsRefused w netlist recording refusal → ⊥

@@ -92,7 +92,7 @@ module _ (n : ANetlist) (r : Recorded) (history : HistoryView) (conflicts : ℕ)
       let j = job_in n r in
       let back = number_back j fits place within in
       let there = shows.held (place_at j place)
-          record { within = place_there j fits place within; written = rw back (omega (arith, finished, within)) } in
+      record { within = place_there j fits place within; written = rw back (omega (arith, finished, within)) } in
       ap (λ (h : Held). h.shown) there ∙ ap (λ (k : ℕ). (written_at written k).value) back
 
 -- ---- the bits
@@ -156,7 +156,7 @@ module _ (w : Values) (netlist recording vcd report : List ℕ) (is : Repairs w 
       let within = within_at moment b bit there in
       let agrees = bit_agrees is.n is.r is.made.fits moment b bit there is.made.agrees.faultless in
       let shown : value_at is.r.recording b.variable bit moment ≡ shown_of (job_in is.n is.r) is.made.history place =
-          agrees ∙ sym (replay_shown (job_in is.n is.r) is.made.history place replay within) in
+      agrees ∙ sym (replay_shown (job_in is.n is.r) is.made.history place replay within) in
       sound.shows.known place (omega (arith, finished, within)) (subst IsKnown shown known) ∙ sym shown
 
   abbrev j : Job

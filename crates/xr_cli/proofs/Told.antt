@@ -26,9 +26,9 @@ pub told_there : (conflicts : ℕ) (n : ANetlist) (r : Recorded) (history : Hist
 told_there conflicts n r history told fits is =
     let of_job = is.same in
     let jobs : job is.before ≡ job_in n r =
-        one_job is.before.design n.design is.before.order n.order is.before.stim r.stim of_job.design of_job.order of_job.stim in
+    one_job is.before.design n.design is.before.order n.order is.before.stim r.stim of_job.design of_job.order of_job.stim in
     let next : next_number is.before < places_of (job_in n r) =
-        subst (λ (j : Job). next_number is.before < places_of j) jobs is.next in
+    subst (λ (j : Job). next_number is.before < places_of j) jobs is.next in
     let place : told.place ≡ place_at (job_in n r) (next_number is.before) =
-        is.is_told.place_is ∙ ap (λ (j : Job). place_at j (next_number is.before)) jobs in
+    is.is_told.place_is ∙ ap (λ (j : Job). place_at j (next_number is.before)) jobs in
     subst (λ (p : Place). IsPlace (job_in n r) p) (sym place) (place_there (job_in n r) (fits_job n r fits) (next_number is.before) next)

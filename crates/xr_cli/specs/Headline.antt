@@ -58,8 +58,8 @@ pub record Headline (w : Values) (netlist recording vcd : List ℕ) : Type 0 whe
   -- Each bit that is shown unknown has two fillings that give 0 and 1.
   pub unknown : ForBits n r (λ place recorded. (written_at waveform place).mark ≡ Unknown
       → HasPair (job_in n r) waveform place)
-  -- Each other bit is marked undecided, with its licence: more than 12 sources, and a log of as many clauses as the words
-  -- say.
+  -- Each other bit is marked undecided, with its licence: more than 12 sources, and a log of as many clauses as the
+  -- words say.
   pub undecided : ForBits n r (λ place recorded. (written_at waveform place).mark ≡ Undecided
       → HasLicence (job_in n r) w.conflicts waveform lines place)
   -- The bits that the recording knows stand.

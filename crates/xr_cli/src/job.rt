@@ -31,11 +31,7 @@ pub struct Job {
 }
 
 /// The job that the words name.
-pub fn read_job<S: Shelf>(
-    alloc: Global,
-    shelf: &mut S,
-    words: Repair<'_>,
-) -> Result<Job, Refusal>
+pub fn read_job<S: Shelf>(alloc: Global, shelf: &mut S, words: Repair<'_>) -> Result<Job, Refusal>
     requires bounds { HasBounds (values_of words) }
     ensures later { Later (S.view shelf.old) (S.view shelf.new) }
     ensures files { (S.view shelf.new).files ≡ (S.view shelf.old).files }
@@ -54,11 +50,7 @@ pub fn read_job<S: Shelf>(
 }
 
 /// The netlist that the words name.
-fn netlist_of<S: Shelf>(
-    alloc: Global,
-    shelf: &mut S,
-    words: Repair<'_>,
-) -> Result<Netlist, Refusal>
+fn netlist_of<S: Shelf>(alloc: Global, shelf: &mut S, words: Repair<'_>) -> Result<Netlist, Refusal>
     requires { 0 < length (values_of words).netlists }
     ensures later { Later (S.view shelf.old) (S.view shelf.new) }
     ensures files { (S.view shelf.new).files ≡ (S.view shelf.old).files }

@@ -34,11 +34,7 @@ fn put_text(alloc: Global, text: &mut Vec<u8>, refusal: &Refusal) -> Result<(), 
     }
 }
 
-fn put_objection(
-    alloc: Global,
-    text: &mut Vec<u8>,
-    objection: &Objection,
-) -> Result<(), AllocError>
+fn put_objection(alloc: Global, text: &mut Vec<u8>, objection: &Objection) -> Result<(), AllocError>
     ensures { OnOk result (text.new.items ≡ text.old.items ++ objection_text objection.now) }
 {
     put(text, b"refused: optimistic #")?;

@@ -18,7 +18,7 @@ const MEMORY: u8 = 20;
 
 /// Runs the words on the shelf, prints to the sink, and answers the exit status.
 ///
-/// No file is in hand at the end, but after want of memory and where a file is longer than is built.
+/// No file is in hand at the end, but after want of memory and where a text is too long.
 pub fn run<S: Shelf, O: Sink>(alloc: Global, words: &[String], shelf: &mut S, out: &mut O) -> u8
     ensures { Comes (start_of words.now S.told O.told (S.view shelf.old) (O.view out.old))
         (S.view shelf.new) (O.view out.new) result }

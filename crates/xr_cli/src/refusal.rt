@@ -31,33 +31,21 @@ pub enum Refusal {
     /// The words aren't in the set.
     Usage,
     /// A call on an input file failed.
-    Read {
-        name: String,
-    },
+    Read { name: String },
     /// A call on an output file failed, or on the sink, whose name is `report`.
-    Write {
-        name: String,
-    },
+    Write { name: String },
     /// The joined netlist has more than 67,108,864 bytes.
     LongNetlist,
     /// The netlist's text stands for no design with an order.
-    Netlist {
-        cause: NetlistErr,
-    },
+    Netlist { cause: NetlistErr },
     /// The recording has more than 268,435,456 bytes.
     LongRecording,
     /// The recording's text is none of the grammar, or doesn't fit the design.
-    Recording {
-        cause: RecordingErr,
-    },
+    Recording { cause: RecordingErr },
     /// The recording and the replay of its inputs differ.
-    Compare {
-        cause: CompareErr,
-    },
+    Compare { cause: CompareErr },
     /// A place that the replay knows is found otherwise.
-    Optimistic {
-        objection: Objection,
-    },
+    Optimistic { objection: Objection },
     /// There was no memory.
     Memory,
 }

@@ -15,6 +15,6 @@ returns-in_err-read_recording-clause-refused g c =
     let text = c.as_slice.result.now in
     let w = values_of c.args.words in
     let cause : e ≢ recording.Memory → IsRefusedRecording text c.args.netlist.now.design (pieces_of w.scope) w.rounds e =
-        rw (← c.in_ok-scope.ensures.pieces, ← c.as_slice-2.ensures.value) c.in_err-read_recording.ensures.refused in
+    rw (← c.in_ok-scope.ensures.pieces, ← c.as_slice-2.ensures.value) c.in_err-read_recording.ensures.refused in
     rw is (recording_refused g.S.Shelf.told w c.args.netlist.now (g.S.Shelf.view c.args.shelf.now) (g.S.Shelf.view c.read_input.new.shelf)
     text (λ t. c.as_slice.ensures.value ∙ c.in_ok-text.ensures.text t) (rw c.as_slice.ensures.value c.in_ok-text.ensures.fits) e cause)

@@ -19,7 +19,7 @@ returns-in_err-deliver g c = λ line set.
     let vcd = c.as_slice-vcd.result.now in
     let report = c.as_slice-report.result.now in
     let made : IsTrue g.S.Shelf.told → Repairs w (netlist_held old w.netlists) (held old w.recording) vcd report =
-        λ told. rw (c.as_slice-vcd.ensures.value, c.as_slice-report.ensures.value) (ready.made told) in
+    λ told. rw (c.as_slice-vcd.ensures.value, c.as_slice-report.ensures.value) (ready.made told) in
     rw is (delivered_row s w vcd report (g.S.Shelf.view c.prepare.new.shelf) (g.S.Shelf.view c.deliver.new.shelf) (g.O.Sink.view c.deliver.new.out)
     set ready.later ready.kept ready.files made c.in_err-deliver.field-0.0 step.delivery step.refused step.left)
 
@@ -33,6 +33,6 @@ returns g c = λ line set.
     let vcd = c.as_slice-vcd.result.now in
     let report = c.as_slice-report.result.now in
     let made : IsTrue g.S.Shelf.told → Repairs w (netlist_held old w.netlists) (held old w.recording) vcd report =
-        λ told. rw (c.as_slice-vcd.ensures.value, c.as_slice-report.ensures.value) (ready.made told) in
+    λ told. rw (c.as_slice-vcd.ensures.value, c.as_slice-report.ensures.value) (ready.made told) in
     done_row s w vcd report (g.S.Shelf.view c.prepare.new.shelf) (g.S.Shelf.view c.deliver.new.shelf) (g.O.Sink.view c.deliver.new.out)
     set ready.later ready.kept ready.files made step.delivery step.whole step.printed step.kept step.closed step.faults
