@@ -13,9 +13,9 @@ use Rattle.xr_wave.specs.declared.advance.Optimistic.{Optimistic as Told}
 use Rattle.xr_repair.specs.Repaired.{IsObjection, IsOfJob}
 use Rattle.xr_out.specs.Text.{vcd_text}
 use Rattle.xr_report.specs.Bits.{bit_lines}
-use Rattle.xr_job.specs.Compared.{FitsNetlist, IsRefusedReplay, job_in}
+use Rattle.xr_job.specs.Compared.{IsRefusedReplay, job_in}
 use Rattle.xr_job.specs.Names.{net_name}
-use Rattle.xr_job.specs.Netlist.{IsOrdered, IsRefusedNetlist}
+use Rattle.xr_job.specs.Netlist.{FitsNetlist, IsOrdered, IsRefusedNetlist}
 use Rattle.xr_job.specs.Recorded.{FitsRecorded, IsRecorded, IsRefusedRecording}
 use Rattle.xr_job.specs.declared.compare_refusal.CompareErr.{CompareErr}
 use Rattle.xr_job.specs.declared.netlist.Netlist.{Netlist as ANetlist}

@@ -3,7 +3,7 @@
 ghost use Rattle.std.specs.Prelude.{◌≡◌, ◌<◌, ◌≤◌, IfErr, IfOk, IsTrue, OnOk, length, map, string_bytes};
 ghost use Rattle.xr_shelf.specs.Shelf.{Later, Nothing, SameCounts, held};
 ghost use Rattle.xr_cli_words.specs.Read.{values_of};
-ghost use Rattle.xr_job.specs.Compared.{FitsNetlist};
+ghost use Rattle.xr_job.specs.Netlist.{FitsNetlist};
 ghost use Rattle.xr_job.specs.Recorded.{FitsRecorded};
 ghost use Rattle.xr_cli.specs.Files.{HoldsJob, IsHeldRecording, LeftBy, PrepareRefused, RecordedRefused, netlist_held};
 ghost use Rattle.xr_cli.specs.Repair.{FitsJob, HasBounds, HasNetlist};
