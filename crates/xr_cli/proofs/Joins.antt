@@ -4,9 +4,9 @@ use Rattle.std.specs.Prelude.{Option, Some, None, Vec, IfSome, IsSome}
 use Rattle.std.specs.declared.alloc.Global.{Global}
 use Rattle.std.proofs.lemmas.List.{append-nil, take_more, map-append}
 use Rattle.xr_shelf.specs.Shelf.{View, Hand, Nothing, Later, SameCounts, Rose, held}
-use Rattle.xr_cli.specs.Phases.{put_behind, joined_behind, joined, LeftBy}
+use Rattle.xr_cli.specs.Files.{put_behind, joined_behind, joined, LeftBy}
 use Rattle.xr_cli.specs.declared.refusal.Refusal.{Refusal}
-use Rattle.xr_cli.specs.declared.refusal.Refusal.TheVariants.{Usage, Read, Write, Netlist, Recording, NotBuilt, Memory, Disagrees}
+use Rattle.xr_cli.specs.declared.refusal.Refusal.TheVariants.{Usage, Read, Write, LongNetlist, Netlist, LongRecording, Recording, Compare, Optimistic, Memory}
 
 -- Where what stands before is too long, or what comes next, the whole is.
 pub long_before : (limit : ℕ) (before : List (List ℕ)) (so_far more : List ℕ) → (length before ≡ 0 → so_far ≡ []) → limit < length so_far → limit < length (put_behind before so_far more)
@@ -62,10 +62,12 @@ pub left_behind : (a b c : View) (refusal : Refusal) → SameCounts a b → Left
 left_behind a b c Usage same left = tt
 left_behind a b c (Read name) same left = left
 left_behind a b c (Write name) same left = left
-left_behind a b c (Netlist fault) same left = (same_twice a b c same left.0, left.1)
-left_behind a b c (Recording fault) same left = (same_twice a b c same left.0, left.1)
-left_behind a b c (Disagrees name recorded replayed) same left = (same_twice a b c same left.0, left.1)
-left_behind a b c NotBuilt same left = same_twice a b c same left
+left_behind a b c LongNetlist same left = same_twice a b c same left
+left_behind a b c (Netlist cause) same left = (same_twice a b c same left.0, left.1)
+left_behind a b c LongRecording same left = same_twice a b c same left
+left_behind a b c (Recording cause) same left = (same_twice a b c same left.0, left.1)
+left_behind a b c (Compare cause) same left = (same_twice a b c same left.0, left.1)
+left_behind a b c (Optimistic objection) same left = (same_twice a b c same left.0, left.1)
 left_behind a b c Memory same left = same_twice a b c same left
 
 -- a refusal that touches no file, behind one that was read or written whole
@@ -73,10 +75,12 @@ pub left_quiet : (a b : View) (refusal : Refusal) → SameCounts a b → b.hand 
 left_quiet a b Usage same closed = tt
 left_quiet a b (Read name) same closed = closed
 left_quiet a b (Write name) same closed = closed
-left_quiet a b (Netlist fault) same closed = (same, closed)
-left_quiet a b (Recording fault) same closed = (same, closed)
-left_quiet a b (Disagrees name recorded replayed) same closed = (same, closed)
-left_quiet a b NotBuilt same closed = same
+left_quiet a b LongNetlist same closed = same
+left_quiet a b (Netlist cause) same closed = (same, closed)
+left_quiet a b LongRecording same closed = same
+left_quiet a b (Recording cause) same closed = (same, closed)
+left_quiet a b (Compare cause) same closed = (same, closed)
+left_quiet a b (Optimistic objection) same closed = (same, closed)
 left_quiet a b Memory same closed = same
 
 -- where the texts so far are whole, so is the last one, and its file is closed

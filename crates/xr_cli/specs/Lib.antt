@@ -1,14 +1,7 @@
-pub mod Circuit
-pub mod Ends
-pub mod NetlistText
-pub mod Next
-pub mod Phases
-pub mod RecordingText
+-- Definitions of the program.
 pub mod Refusal
 pub mod Repair
+pub mod Headline
+pub mod Files
 pub mod Rows
-pub mod Seen
-pub mod Sublists
-pub mod Texts
-pub mod Words
-pub mod Worlds
+pub mod Ends

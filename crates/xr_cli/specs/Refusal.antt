@@ -1,111 +1,73 @@
 -- Why a run is refused: its status and its line.
-use Rattle.std.specs.Prelude.{ℕ, Option, Some, None, List, [], ◌∷◌, ◌++◌, codes, decimal, string_bytes}
-use Rattle.xr_netlist_grammar.specs.declared.refusal.ParseErr.{ParseErr}
-use Rattle.xr_netlist_grammar.specs.declared.fault.NetlistFault.{NetlistFault}
-use Rattle.xr_netlist_grammar.specs.Fault.{fault_at, fault_words, fault_in}
-use Rattle.xr_vcd.specs.declared.refusal.VcdErr.{VcdErr}
-use Rattle.xr_vcd.specs.declared.fault.RecordingFault.{RecordingFault}
-use Rattle.xr_vcd.specs.RecordingFault.{place_of, text_of as recording_words, fault_of}
-use Rattle.xr_flat.specs.declared.refusal.FlatErr.{FlatErr}
-use Rattle.xr_flat.specs.declared.refusal.FlatErr.TheVariants.{NotFlat, Memory as FlatMemory}
-use Rattle.xr_cell.specs.declared.value.Value.{Value}
+use Rattle.std.specs.Prelude.{ℕ, List, [], ◌∷◌, ◌++◌, codes, decimal, string_bytes}
 use Rattle.xr_cell.specs.Value.{letter_of}
+use Rattle.xr_job.specs.Lines.{compare_line, netlist_line, recording_line}
+use Rattle.xr_job.specs.Lines.{compare_status, netlist_status, recording_status}
+use Rattle.xr_job.specs.declared.compare_refusal.CompareErr.{CompareErr}
+use Rattle.xr_job.specs.declared.compare_refusal.CompareErr.TheVariants as compare
+use Rattle.xr_job.specs.declared.netlist_refusal.NetlistErr.{NetlistErr}
+use Rattle.xr_job.specs.declared.netlist_refusal.NetlistErr.TheVariants as netlist
+use Rattle.xr_job.specs.declared.recording_refusal.RecordingErr.{RecordingErr}
+use Rattle.xr_job.specs.declared.recording_refusal.RecordingErr.TheVariants as recording
+use Rattle.xr_cli.specs.declared.refusal.Objection.{Objection}
 use Rattle.xr_cli.specs.declared.refusal.Refusal.{Refusal}
-use Rattle.xr_cli.specs.declared.unread.Unread.{Unread}
-use Rattle.xr_cli.specs.declared.unread.Unread.TheVariants.{NotBuilt as NotOfTheForm, Memory as NoRoom}
-use Rattle.xr_cli.specs.declared.refusal.Refusal.TheVariants.{Usage, Read, Write, Netlist, Recording, NotBuilt, Memory, Disagrees}
+use Rattle.xr_cli.specs.declared.refusal.Refusal.TheVariants.{Usage, Read, Write, LongNetlist, Netlist}
+use Rattle.xr_cli.specs.declared.refusal.Refusal.TheVariants.{LongRecording, Recording, Compare, Optimistic, Memory}
 
--- The causes of a refusal, without what they name.
-pub data Cause : Type 0 where
-  UsageCause : Cause
-  ReadCause : Cause
-  WriteCause : Cause
-  NetlistCause : Cause
-  RecordingCause : Cause
-  DisagreesCause : Cause
-  NotBuiltCause : Cause
-  MemoryCause : Cause
+abbrev pub status_of : Refusal → ℕ
+status_of Usage = 2
+status_of (Read name) = 3
+status_of (Write name) = 4
+status_of LongNetlist = 11
+status_of (Netlist cause) = netlist_status cause
+status_of LongRecording = 11
+status_of (Recording cause) = recording_status cause
+status_of (Compare cause) = compare_status cause
+status_of (Optimistic objection) = 10
+status_of Memory = 20
 
-abbrev pub cause_of : Refusal → Cause
-cause_of Usage = UsageCause
-cause_of (Read name) = ReadCause
-cause_of (Write name) = WriteCause
-cause_of (Netlist fault) = NetlistCause
-cause_of (Recording fault) = RecordingCause
-cause_of (Disagrees name recorded replayed) = DisagreesCause
-cause_of NotBuilt = NotBuiltCause
-cause_of Memory = MemoryCause
-
-abbrev pub status_of : Cause → ℕ
-status_of UsageCause = 2
-status_of ReadCause = 3
-status_of WriteCause = 4
-status_of NetlistCause = 5
-status_of RecordingCause = 7
-status_of DisagreesCause = 8
-status_of NotBuiltCause = 14
-status_of MemoryCause = 20
-
-abbrev pub usage_text : List ℕ
-usage_text = codes "refused: usage"
-
-abbrev pub read_text : List ℕ → List ℕ
-read_text name = codes "refused: cannot read " ++ name
-
-abbrev pub write_text : List ℕ → List ℕ
-write_text name = codes "refused: cannot write " ++ name
-
--- A place and what is wrong there.
-abbrev pub fault_text : ℕ → List ℕ → List ℕ
-fault_text at word = decimal at ++ (codes ": " ++ word)
-
-abbrev pub netlist_text : NetlistFault → List ℕ
-netlist_text fault = codes "refused: netlist at " ++ fault_text (fault_at fault) (fault_words fault)
-
-abbrev pub recording_text : RecordingFault → List ℕ
-recording_text fault = codes "refused: recording at " ++ fault_text (place_of fault) (recording_words fault)
-
-abbrev pub disagrees_text : List ℕ → Value → Value → List ℕ
-disagrees_text name recorded replayed =
-    (codes "refused: disagrees #0 " ++ name) ++ ((codes " recorded " ++ letter_of recorded ∷ []) ++ (codes " replayed " ++ letter_of replayed ∷ []))
-
-abbrev pub not_built_text : List ℕ
-not_built_text = codes "refused: not built"
+-- `refused: optimistic #T round J NAME replayed V found V undecided U`
+abbrev pub objection_text : Objection → List ℕ
+objection_text o =
+    codes "refused: optimistic #" ++ (decimal o.time ++ (codes " round " ++ (decimal o.round ++ (codes " " ++ (o.name
+    ++ (codes " replayed " ++ (letter_of o.replayed ∷ [] ++ (codes " found " ++ (letter_of o.found ∷ []
+    ++ (codes " undecided " ++ decimal o.undecided))))))))))
 
 abbrev pub memory_text : List ℕ
 memory_text = codes "refused: memory"
 
 abbrev pub text_of : Refusal → List ℕ
-text_of Usage = usage_text
-text_of (Read name) = read_text (string_bytes name)
-text_of (Write name) = write_text (string_bytes name)
-text_of (Netlist fault) = netlist_text fault
-text_of (Recording fault) = recording_text fault
-text_of (Disagrees name recorded replayed) = disagrees_text name recorded replayed
-text_of NotBuilt = not_built_text
+text_of Usage = codes "refused: usage"
+text_of (Read name) = codes "refused: cannot read " ++ string_bytes name
+text_of (Write name) = codes "refused: cannot write " ++ string_bytes name
+text_of LongNetlist = codes "refused: too large netlist"
+text_of (Netlist cause) = netlist_line cause
+text_of LongRecording = codes "refused: too large recording"
+text_of (Recording cause) = recording_line cause
+text_of (Compare cause) = compare_line cause
+text_of (Optimistic objection) = objection_text objection
 text_of Memory = memory_text
 
--- What a text that isn't read comes to.
-abbrev pub unread_refusal : Unread → Refusal
-unread_refusal NotOfTheForm = NotBuilt
-unread_refusal NoRoom = Memory
+-- The line of a refusal, with its newline.
+abbrev pub line : List ℕ → List ℕ
+line text = text ++ 10 ∷ []
 
--- What a text that is none of the grammar comes to.
-abbrev pub netlist_fault_refusal : Option NetlistFault → Refusal
-netlist_fault_refusal (Some fault) = Netlist fault
-netlist_fault_refusal None = Memory
+-- What a refusal of a phase comes to.
+abbrev pub netlist_refusal : NetlistErr → Refusal
+netlist_refusal (netlist.Grammar fault) = Netlist (netlist.Grammar fault)
+netlist_refusal (netlist.Design fault) = Netlist (netlist.Design fault)
+netlist_refusal (netlist.Loop names) = Netlist (netlist.Loop names)
+netlist_refusal netlist.Memory = Memory
 
-abbrev pub netlist_refusal : ParseErr → Refusal
-netlist_refusal refusal = netlist_fault_refusal (fault_in refusal)
+abbrev pub recording_refusal : RecordingErr → Refusal
+recording_refusal (recording.Grammar fault) = Recording (recording.Grammar fault)
+recording_refusal (recording.NoScope name) = Recording (recording.NoScope name)
+recording_refusal (recording.RangeDiffers name) = Recording (recording.RangeDiffers name)
+recording_refusal (recording.MissingInput name) = Recording (recording.MissingInput name)
+recording_refusal (recording.TooLarge places) = Recording (recording.TooLarge places)
+recording_refusal recording.Memory = Memory
 
-abbrev pub recording_fault_refusal : Option RecordingFault → Refusal
-recording_fault_refusal (Some fault) = Recording fault
-recording_fault_refusal None = Memory
-
-abbrev pub recording_refusal : VcdErr → Refusal
-recording_refusal refusal = recording_fault_refusal (fault_of refusal)
-
--- What a tree that is no flat module comes to.
-abbrev pub flat_refusal : FlatErr → Refusal
-flat_refusal NotFlat = NotBuilt
-flat_refusal FlatMemory = Memory
+abbrev pub compare_refusal : CompareErr → Refusal
+compare_refusal (compare.Disagrees time name was replayed) = Compare (compare.Disagrees time name was replayed)
+compare_refusal (compare.Unsettled time name kept next) = Compare (compare.Unsettled time name kept next)
+compare_refusal compare.Memory = Memory

@@ -1,92 +1,213 @@
--- What is decided of a recording's bits.
-use Rattle.std.specs.Prelude.{◌≡◌, ◌≢◌, ℕ, ◌*◌, ◌-◌, ◌<◌, ◌≤◌, List, length, map, slice_get, Some}
-use Rattle.std.specs.List.{AllByRecursion}
-use Rattle.xr_cell.specs.declared.value.Value.{Value}
-use Rattle.xr_cell.specs.Value.{IsKnown}
-use Rattle.xr_design.specs.Job.{Job, job_of, at, places_of}
-use Rattle.xr_design.specs.Replay.{shown_at}
-use Rattle.xr_design.specs.Waveform.{written_at, IsExact, ShowsReplay}
-use Rattle.xr_design.specs.declared.waveform.Written.{Written}
-use Rattle.xr_design.specs.declared.waveform.Mark.TheVariants.{Certain}
-use Rattle.xr_design.specs.declared.design.Design.{Design}
-use Rattle.xr_design.specs.declared.stim.Stim.{Stim}
-use Rattle.xr_cli.specs.Circuit.{FitsCircuit}
-use Rattle.xr_cli.specs.Texts.{written_name}
-use Rattle.xr_cli.specs.Worlds.{choosing}
-use Rattle.xr_cli.specs.declared.bit.Bit.{Bit}
-use Rattle.xr_cli.specs.declared.recording.Recording.{Recording}
-use Rattle.xr_cli.specs.declared.recording.Variable.{Variable}
-use Rattle.xr_cli.specs.RecordingText.{IsStimOf}
+-- What the texts of a netlist and of its recording come to: a repair, or the first refusal.
+use Rattle.std.specs.Prelude.{◌≡◌, ℕ, ◌<◌, ◌≤◌, ◌/◌, ◌%◌, Bool, true, false, List, count_by, length, slice_index}
+use Rattle.xr_design.specs.Handed.{IsReplay}
+use Rattle.xr_design.specs.History.{HistoryView}
+use Rattle.xr_design.specs.declared.stim.StartRule.TheVariants.{Cold}
+use Rattle.xr_model.specs.declared.line.Body.{Body}
+use Rattle.xr_model.specs.declared.line.Body.TheVariants.{Enumerated, Refuted, Pair, Undecided}
+use Rattle.xr_model.specs.declared.line.Line.{Line as ALine}
+use Rattle.xr_replay.specs.Fault.{IsFaultless}
+use Rattle.xr_wave.specs.Contents.{Contents, IsWave, nothing_written}
+use Rattle.xr_wave.specs.Shown.{IsFinished, ShowsWave}
+use Rattle.xr_wave.specs.declared.advance.Optimistic.{Optimistic as Told}
+use Rattle.xr_repair.specs.Repaired.{IsObjection, IsOfJob}
+use Rattle.xr_out.specs.Text.{vcd_text}
+use Rattle.xr_report.specs.Bits.{bit_lines}
+use Rattle.xr_job.specs.Compared.{IsRefusedReplay, job_in}
+use Rattle.xr_job.specs.Names.{net_name}
+use Rattle.xr_job.specs.Netlist.{FitsNetlist, IsOrdered, IsRefusedNetlist}
+use Rattle.xr_job.specs.Recorded.{FitsRecorded, IsRecorded, IsRefusedRecording}
+use Rattle.xr_job.specs.declared.compare_refusal.CompareErr.{CompareErr}
+use Rattle.xr_job.specs.declared.netlist.Netlist.{Netlist as ANetlist}
+use Rattle.xr_job.specs.declared.netlist_refusal.NetlistErr.{NetlistErr}
+use Rattle.xr_job.specs.declared.recorded.Recorded.{Recorded}
+use Rattle.xr_job.specs.declared.recording_refusal.RecordingErr.{RecordingErr}
+use Rattle.xr_cli_words.specs.Line.{Values, pieces_of}
+use Rattle.xr_cli.specs.declared.refusal.Objection.{Objection}
+use Rattle.xr_cli.specs.declared.refusal.Refusal.{Refusal}
+use Rattle.xr_cli.specs.declared.refusal.Refusal.TheVariants.{Usage, Read, Write, LongNetlist, Netlist}
+use Rattle.xr_cli.specs.declared.refusal.Refusal.TheVariants.{LongRecording, Recording, Compare, Optimistic, Memory}
 
--- The place of a net at the last round of the last moment.
-abbrev pub last_place : Job → ℕ → ℕ
-last_place j net = at j (j.moments * j.rounds - 1) net
+-- The most bytes of a netlist and of a recording.
+abbrev pub netlist_limit : ℕ
+netlist_limit = 67108864
 
--- The recording agrees with the replay at a variable, all four values told apart.
-abbrev pub Agrees : Job → Variable → Type 0
-Agrees j v = shown_at j (last_place j v.net) ≡ v.value
+abbrev pub recording_limit : ℕ
+recording_limit = 268435456
 
--- It agrees at each of the first n variables.
-abbrev pub AgreeBelow : Job → List Variable → ℕ → Type 0
-AgreeBelow j variables n = (k : ℕ) (v : Variable) → k < n → slice_get variables k ≡ Some v → Agrees j v
+-- The words name a file of the netlist or more, 1 to 16 rounds, and a clause or more.
+pub record HasBounds (w : Values) : Type 0 where
+  pub some : 0 < length w.netlists
+  pub round : 1 ≤ w.rounds
+  pub rounds : w.rounds ≤ 16
+  pub conflicts : 0 < w.conflicts
 
--- The bit of a variable, as the waveform has it.
-abbrev pub bit_of_variable : Job → List Written → Variable → Bit
-bit_of_variable j waveform v = record {
-  name = v.name;
-  escaped = v.escaped;
-  recorded = v.value;
-  shown = (written_at waveform (last_place j v.net)).value;
-  mark = (written_at waveform (last_place j v.net)).mark;
+-- The netlist's text isn't too long, and stands for this design with this order.
+pub record HasNetlist (w : Values) (netlist : List ℕ) (n : ANetlist) : Type 0 where
+  pub fits : length netlist ≤ netlist_limit
+  pub is : IsOrdered netlist w.top n.design n.order
+
+-- Nor is the recording's, and it says a recording of the design, bound, with its stimulus.
+pub record IsJob (w : Values) (netlist recording : List ℕ) (n : ANetlist) (r : Recorded) : Type 0 where
+  pub netlist_is : HasNetlist w netlist n
+  pub fits : length recording ≤ recording_limit
+  pub is : IsRecorded recording n.design (pieces_of w.scope) w.rounds Cold r
+
+-- A design with its order fits, and so does what was recorded of it.
+pub record FitsJob (n : ANetlist) (r : Recorded) : Type 0 where
+  pub netlist : FitsNetlist n
+  pub recorded : FitsRecorded n.design r
+
+-- A history is the replay of the job, each moment is settled, and the recording agrees in it.
+pub record Agrees (n : ANetlist) (r : Recorded) (history : HistoryView) : Type 0 where
+  pub replay : IsReplay (job_in n r) history
+  pub faultless : IsFaultless (job_in n r) r.recording r.binding
+
+-- The wave of the job with nothing written, for logs of so many clauses.
+abbrev pub beginning : ℕ → ANetlist → Recorded → HistoryView → Contents
+beginning conflicts n r history = nothing_written n.design n.order r.stim history conflicts
+
+-- A finished wave of the job.
+pub record IsRepairedBy (conflicts : ℕ) (n : ANetlist) (r : Recorded) (history : HistoryView)
+    (wave : Contents) : Type 0 where
+  pub of_job : IsOfJob (beginning conflicts n r history) wave
+  pub sound : IsWave wave
+  pub finished : IsFinished wave
+
+-- It is of the job's design and stimulus, and finished.
+pub record IsWaveOf (n : ANetlist) (r : Recorded) (wave : Contents) : Type 0 where
+  pub design : wave.design ≡ n.design
+  pub order : wave.order ≡ n.order
+  pub stim : wave.stim ≡ r.stim
+  pub finished : IsFinished wave
+
+-- Its texts: the recording that it shows, and what became of each recorded bit that is x or z.
+pub record AreTexts (n : ANetlist) (r : Recorded) (wave : Contents) (vcd report : List ℕ) : Type 0 where
+  pub shown : HistoryView
+  pub shows : ShowsWave wave shown
+  pub vcd_is : vcd ≡ vcd_text n.design r.binding r.stim shown
+  pub report_is : report ≡ bit_lines wave r.binding
+
+-- The job fits, the recording agrees with its replay, and these are the texts of its repair.
+pub record IsMade (conflicts : ℕ) (n : ANetlist) (r : Recorded) (vcd report : List ℕ) : Type 0 where
+  pub fits : FitsJob n r
+  pub history : HistoryView
+  pub agrees : Agrees n r history
+  pub wave : Contents
+  pub repaired : IsRepairedBy conflicts n r history wave
+  pub texts : AreTexts n r wave vcd report
+
+-- The texts of the input files stand for a job, and these are the texts of its repair.
+pub record Repairs (w : Values) (netlist recording vcd report : List ℕ) : Type 0 where
+  pub n : ANetlist
+  pub r : Recorded
+  pub job : IsJob w netlist recording n r
+  pub made : IsMade w.conflicts n r vcd report
+
+-- A line that marks its place undecided.
+abbrev pub is_undecided_body : Body → Bool
+is_undecided_body (Enumerated bit) = false
+is_undecided_body (Refuted bit log) = false
+is_undecided_body (Pair first second) = false
+is_undecided_body (Undecided log) = true
+
+abbrev pub is_undecided_line : ALine → Bool
+is_undecided_line line = is_undecided_body line.body
+
+-- What the line of a refusal tells of a place that is found otherwise.
+abbrev pub objection_of : ANetlist → Recorded → Told → Objection
+objection_of n r told = record {
+  time = slice_index r.stim.times (told.place.step / r.stim.rounds);
+  round = told.place.step % r.stim.rounds;
+  name = net_name n.design told.place.net;
+  replayed = told.replayed;
+  found = told.found;
+  undecided = count_by is_undecided_line told.lines.items;
 }
 
--- What the recording knows stands.
-abbrev pub Stands : Bit → Type 0
-Stands bit = IsKnown bit.recorded → bit.shown ≡ bit.recorded
+pub record HasNetlistFault (w : Values) (netlist : List ℕ) (cause : NetlistErr) : Type 0 where
+  pub fits : length netlist ≤ netlist_limit
+  pub is : IsRefusedNetlist netlist w.top cause
 
--- More than 12 places of the design under the recording's stimulus choose: inputs that are recorded x, each at the first round.
-pub record HasManyChoices (design : Design) (r : Recording) : Type 0 where
-  pub order : List ℕ
-  pub stim : Stim
-  pub stim_is : IsStimOf design r stim
-  pub fits : FitsCircuit design order stim
-  pub many : 12 < length (choosing (job_of design order stim))
+pub record HasLongRecording (w : Values) (netlist recording : List ℕ) : Type 0 where
+  pub n : ANetlist
+  pub netlist_is : HasNetlist w netlist n
+  pub long : recording_limit < length recording
 
--- The bits of the variables are those of a waveform that is exact at every place of the design under the recording's
--- stimulus, and shows what the replay knows. What it shows known is certain, and there is no other such waveform. The
--- recording agrees with the replay, and what it knows stands.
-pub record Decided (design : Design) (r : Recording) (bits : List Bit) : Type 0 where
-  pub order : List ℕ
-  pub stim : Stim
-  pub stim_is : IsStimOf design r stim
-  pub fits : FitsCircuit design order stim
-  pub few : length (choosing (job_of design order stim)) ≤ 12
-  pub waveform : List Written
-  pub whole : length waveform ≡ places_of (job_of design order stim)
-  pub exact : IsExact (job_of design order stim) waveform
-  pub shows : ShowsReplay (job_of design order stim) waveform
-  pub known : (place : ℕ) → place < length waveform → IsKnown (written_at waveform place).value → (written_at waveform place).mark ≡ Certain
-  pub only : (other : List Written) → length other ≡ places_of (job_of design order stim) → IsExact (job_of design order stim) other → ShowsReplay (job_of design order stim) other → other ≡ waveform
-  pub agrees : AgreeBelow (job_of design order stim) r.variables (length r.variables)
-  pub bits_are : bits ≡ map (bit_of_variable (job_of design order stim) waveform) r.variables
-  pub stand : AllByRecursion Stands bits
+pub record HasRecordingFault (w : Values) (netlist recording : List ℕ) (cause : RecordingErr) : Type 0 where
+  pub n : ANetlist
+  pub netlist_is : HasNetlist w netlist n
+  pub fits : length recording ≤ recording_limit
+  pub is : IsRefusedRecording recording n.design (pieces_of w.scope) w.rounds cause
 
--- A variable is the first at which the recording and the replay differ.
-pub record DiffersAt (j : Job) (variables : List Variable) (first : ℕ) (name : List ℕ) (recorded replayed : Value) : Type 0 where
-  pub variable : Variable
-  pub is : slice_get variables first ≡ Some variable
-  pub earlier : AgreeBelow j variables first
-  pub name_is : name ≡ written_name variable.escaped variable.name
-  pub recorded_is : recorded ≡ variable.value
-  pub replayed_is : replayed ≡ shown_at j (last_place j variable.net)
-  pub differ : recorded ≢ replayed
+pub record HasDifference (w : Values) (netlist recording : List ℕ) (cause : CompareErr) : Type 0 where
+  pub n : ANetlist
+  pub r : Recorded
+  pub job : IsJob w netlist recording n r
+  pub is : IsRefusedReplay n r cause
 
--- The recording and the replay of the design under its stimulus differ.
-pub record Disagrees (design : Design) (r : Recording) (name : List ℕ) (recorded replayed : Value) : Type 0 where
-  pub order : List ℕ
-  pub stim : Stim
-  pub stim_is : IsStimOf design r stim
-  pub fits : FitsCircuit design order stim
-  pub few : length (choosing (job_of design order stim)) ≤ 12
-  pub first : ℕ
-  pub at_first : DiffersAt (job_of design order stim) r.variables first name recorded replayed
+-- A place is found otherwise than a history knows it.
+pub record IsObjectionBy (conflicts : ℕ) (n : ANetlist) (r : Recorded) (history : HistoryView)
+    (objection : Objection) : Type 0 where
+  pub told : Told
+  pub objects : IsObjection (beginning conflicts n r history) told
+  pub is : objection ≡ objection_of n r told
+
+-- So in a job whose recording agrees with the replay.
+pub record IsObjectionIn (conflicts : ℕ) (n : ANetlist) (r : Recorded) (objection : Objection) : Type 0 where
+  pub history : HistoryView
+  pub agrees : Agrees n r history
+  pub objects : IsObjectionBy conflicts n r history objection
+
+pub record HasObjection (w : Values) (netlist recording : List ℕ) (objection : Objection) : Type 0 where
+  pub n : ANetlist
+  pub r : Recorded
+  pub job : IsJob w netlist recording n r
+  pub objects : IsObjectionIn w.conflicts n r objection
+
+-- Each refusal of the texts by its cause, with all that passed before. Want of memory is none of theirs.
+abbrev pub IsRefused : Values → List ℕ → List ℕ → Refusal → Type 0
+IsRefused w netlist recording Usage = ⊥
+IsRefused w netlist recording (Read name) = ⊥
+IsRefused w netlist recording (Write name) = ⊥
+IsRefused w netlist recording LongNetlist = netlist_limit < length netlist
+IsRefused w netlist recording (Netlist cause) = HasNetlistFault w netlist cause
+IsRefused w netlist recording LongRecording = HasLongRecording w netlist recording
+IsRefused w netlist recording (Recording cause) = HasRecordingFault w netlist recording cause
+IsRefused w netlist recording (Compare cause) = HasDifference w netlist recording cause
+IsRefused w netlist recording (Optimistic objection) = HasObjection w netlist recording objection
+IsRefused w netlist recording Memory = ⊥
+
+-- What the walk over the places of a job refuses, and what all behind the reading does.
+abbrev pub WalkRefused : ℕ → ANetlist → Recorded → HistoryView → Refusal → Type 0
+WalkRefused conflicts n r history (Optimistic objection) = IsObjectionBy conflicts n r history objection
+WalkRefused conflicts n r history Memory = Unit {0}
+WalkRefused conflicts n r history _ = ⊥
+
+abbrev pub JobRefused : ℕ → ANetlist → Recorded → Refusal → Type 0
+JobRefused conflicts n r (Compare cause) = IsRefusedReplay n r cause
+JobRefused conflicts n r (Optimistic objection) = IsObjectionIn conflicts n r objection
+JobRefused conflicts n r Memory = Unit {0}
+JobRefused conflicts n r _ = ⊥
+
+-- The texts stand for a job that agrees, and no place is found otherwise.
+pub record IsRepairable (w : Values) (netlist recording : List ℕ) : Type 0 where
+  pub n : ANetlist
+  pub r : Recorded
+  pub job : IsJob w netlist recording n r
+  pub faultless : IsFaultless (job_in n r) r.recording r.binding
+  pub none : (history : HistoryView) (told : Told) → IsReplay (job_in n r) history
+      → IsObjection (beginning w.conflicts n r history) told → ⊥
+
+-- The cause is the first of the texts, whatever else is true of them: only an objection may have others beside it.
+abbrev pub IsFirm : Refusal → Type 0
+IsFirm Usage = ⊥
+IsFirm (Read name) = ⊥
+IsFirm (Write name) = ⊥
+IsFirm LongNetlist = Unit {0}
+IsFirm (Netlist cause) = Unit {0}
+IsFirm LongRecording = Unit {0}
+IsFirm (Recording cause) = Unit {0}
+IsFirm (Compare cause) = Unit {0}
+IsFirm (Optimistic objection) = ⊥
+IsFirm Memory = ⊥

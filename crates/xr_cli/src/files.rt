@@ -1,14 +1,14 @@
 //! The files that a run reads and writes, and the report that it prints.
 
-ghost use Rattle.std.specs.Prelude.{◌≡◌, ◌<◌, ◌≤◌, ℕ, List, [], length, map, string_bytes, IfOk, IfSome, IsSome};
-ghost use Rattle.xr_cli.specs.Phases.{InputRead, NetlistsRead, FileRead, IsKept, put_behind, OutputWritten, Printed};
-ghost use Rattle.xr_shelf.specs.Shelf.{Nothing, Later, CloseStep};
+ghost use Rattle.std.specs.Prelude.{◌≡◌, ◌<◌, ◌≤◌, length, map, string_bytes, IfOk, IfSome, IsSome};
+ghost use Rattle.xr_cli.specs.Files.{InputRead, NetlistsRead, FileRead, IsKept, Joins, OutputWritten, Printed};
+ghost use Rattle.xr_shelf.specs.Shelf.{Nothing, Later};
 
 use crate::refusal::Refusal;
 use std::alloc::{AllocError, Global};
 use xr_shelf::{ReadErr, Shelf, Sink, WriteErr, print_all, read_all, write_all};
 
-/// All bytes of an input file. A file of more than `limit` bytes isn't built.
+/// All bytes of the file of a recording, which is too long where it has more than `limit`.
 pub fn read_input<S: Shelf>(
     alloc: Global,
     shelf: &mut S,
@@ -19,12 +19,12 @@ pub fn read_input<S: Shelf>(
 {
     match read_file(alloc, shelf, name, limit)? {
         Some(text) => Ok(text),
-        None => Err(Refusal::NotBuilt),
+        None => Err(Refusal::LongRecording),
     }
 }
 
 /// All bytes of the files of a netlist, in their order, with one newline between each two. A netlist of more than
-/// `limit` bytes isn't built. A file that can't be read counts before that.
+/// `limit` bytes is too long. A file that can't be read counts before that.
 pub fn read_netlists<S: Shelf>(
     alloc: Global,
     shelf: &mut S,
@@ -41,7 +41,7 @@ pub fn read_netlists<S: Shelf>(
     }
     match text {
         Some(text) => Ok(text),
-        None => Err(Refusal::NotBuilt),
+        None => Err(Refusal::LongNetlist),
     }
 }
 
@@ -86,7 +86,7 @@ fn join(
 ) -> Result<Option<Vec<u8>>, AllocError>
     ensures fits { IfOk result (λ whole. IfSome whole (λ v. length v.items ≤ limit)) }
     ensures both { IfOk result (λ whole. IfSome whole (λ v. IsSome part)) }
-    ensures joined { IfOk result (λ whole. (before : List (List ℕ)) (so_far more : List ℕ) → length before ≡ position → (position ≡ 0 → so_far ≡ []) → IsKept limit text so_far → IsKept limit part more → IsKept limit whole (put_behind before so_far more)) }
+    ensures joined { IfOk result (Joins limit position text part) }
 {
     let Some(mut text) = text else {
         return Ok(None);

@@ -2,15 +2,15 @@
 
 ghost use Rattle.std.specs.Prelude.{◌≡◌, ◌≤◌, IsTrue};
 ghost use Rattle.xr_shelf.specs.Calls.{Gained};
-ghost use Rattle.xr_cli.specs.Texts.{line};
-ghost use Rattle.xr_cli.specs.Refusal.{cause_of, text_of, memory_text};
-ghost use Rattle.xr_cli.specs.Rows.{start_of};
+ghost use Rattle.xr_cli.specs.Refusal.{line, memory_text};
+ghost use Rattle.xr_cli.specs.Rows.{Row, start_of};
 ghost use Rattle.xr_cli.specs.Ends.{Comes, LinePrinted, Ran};
 
-use crate::answer::answer;
+use crate::commands::repair::run_repair;
 use crate::line::line_of;
 use crate::refusal::Refusal;
 use std::alloc::Global;
+use xr_cli_words::read_words;
 use xr_shelf::{Shelf, Sink, WriteErr, print_all};
 
 /// The exit status of want of memory.
@@ -18,7 +18,7 @@ const MEMORY: u8 = 20;
 
 /// Runs the words on the shelf, prints to the sink, and answers the exit status.
 ///
-/// No file is in hand at the end, but after want of memory and where a file is longer than is built.
+/// No file is in hand at the end, but after want of memory and where a text is too long.
 pub fn run<S: Shelf, O: Sink>(alloc: Global, words: &[String], shelf: &mut S, out: &mut O) -> u8
     ensures { Comes (start_of words.now S.told O.told (S.view shelf.old) (O.view out.old))
         (S.view shelf.new) (O.view out.new) result }
@@ -37,9 +37,25 @@ fn ended<S: Shelf, O: Sink>(alloc: Global, words: &[String], shelf: &mut S, out:
     }
 }
 
+/// Reads the words, and runs their command.
+fn answer<S: Shelf, O: Sink>(
+    alloc: Global,
+    words: &[String],
+    shelf: &mut S,
+    out: &mut O,
+) -> Result<(), Refusal>
+    ensures { Row (start_of words.now S.told O.told (S.view shelf.old) (O.view out.old))
+        (S.view shelf.new) (O.view out.new) result }
+{
+    let Some(words) = read_words(words) else {
+        return Err(Refusal::Usage);
+    };
+    run_repair(alloc, words, shelf, out)
+}
+
 /// Prints the line of a refusal, and answers its status. A fault of the sink doesn't change it.
 fn refuse<O: Sink>(alloc: Global, refusal: Refusal, out: &mut O) -> u8
-    ensures { LinePrinted O.told (cause_of refusal) (text_of refusal) (O.view out.old) (O.view out.new) result }
+    ensures { LinePrinted O.told refusal (O.view out.old) (O.view out.new) result }
 {
     let Ok(text) = line_of(alloc, &refusal) else {
         return refuse_for_memory(out);

@@ -1,16 +1,29 @@
-//! Why a run is refused, and the line that says so.
+//! Why a run is refused.
 
 ghost use Rattle.std.specs.Prelude.{◌≡◌};
-ghost use Rattle.xr_cli.specs.Refusal.{cause_of, status_of};
+ghost use Rattle.xr_cli.specs.Refusal.{status_of};
 
-use crate::unread::Unread;
 use std::alloc::{AllocError, AllocFailed};
 use xr_base::Memory;
 use xr_cell::Value;
 use xr_design::Bytes;
-use xr_flat::FlatErr;
-use xr_netlist_grammar::{NetlistFault, ParseErr};
-use xr_vcd::{RecordingFault, VcdErr};
+use xr_job::{CompareErr, NetlistErr, RecordingErr};
+
+/// A place that the replay knows and that is found otherwise, as its line tells it.
+#[derive(Debug, Drop)]
+pub struct Objection {
+    /// The time of its moment, in ticks.
+    pub time: u64,
+    /// The round within the moment, from 0.
+    pub round: u32,
+    /// The written name of its net.
+    pub name: Bytes,
+    pub replayed: Value,
+    /// What is found, x for an unknown place.
+    pub found: Value,
+    /// How many of the places before it are marked undecided by a line of their own.
+    pub undecided: usize,
+}
 
 /// Why a run is refused.
 #[derive(Debug, Drop)]
@@ -18,29 +31,21 @@ pub enum Refusal {
     /// The words aren't in the set.
     Usage,
     /// A call on an input file failed.
-    Read {
-        name: String,
-    },
+    Read { name: String },
     /// A call on an output file failed, or on the sink, whose name is `report`.
-    Write {
-        name: String,
-    },
-    /// The netlist is none of the grammar.
-    Netlist {
-        fault: NetlistFault,
-    },
-    /// The recording is none of the grammar.
-    Recording {
-        fault: RecordingFault,
-    },
-    /// The recording and the replay differ at a variable, at time 0. The name is as it is written.
-    Disagrees {
-        name: Bytes,
-        recorded: Value,
-        replayed: Value,
-    },
-    /// This part of the profile isn't built yet.
-    NotBuilt,
+    Write { name: String },
+    /// The joined netlist has more than 67,108,864 bytes.
+    LongNetlist,
+    /// The netlist's text stands for no design with an order.
+    Netlist { cause: NetlistErr },
+    /// The recording has more than 268,435,456 bytes.
+    LongRecording,
+    /// The recording's text is none of the grammar, or doesn't fit the design.
+    Recording { cause: RecordingErr },
+    /// The recording and the replay of its inputs differ.
+    Compare { cause: CompareErr },
+    /// A place that the replay knows is found otherwise.
+    Optimistic { objection: Objection },
     /// There was no memory.
     Memory,
 }
@@ -48,16 +53,18 @@ pub enum Refusal {
 impl Refusal {
     /// The exit status of a run that ends so.
     pub fn status(&self) -> u8
-        ensures { result ≡ status_of (cause_of self.now) }
+        ensures { result ≡ status_of self.now }
     {
         match self {
             Refusal::Usage => 2,
             Refusal::Read { .. } => 3,
             Refusal::Write { .. } => 4,
-            Refusal::Netlist { .. } => 5,
-            Refusal::Recording { .. } => 7,
-            Refusal::Disagrees { .. } => 8,
-            Refusal::NotBuilt => 14,
+            Refusal::Netlist { cause } => cause.status(),
+            Refusal::Recording { cause } => cause.status(),
+            Refusal::Compare { cause } => cause.status(),
+            Refusal::Optimistic { .. } => 10,
+            Refusal::LongNetlist => 11,
+            Refusal::LongRecording => 11,
             Refusal::Memory => 20,
         }
     }
@@ -96,58 +103,44 @@ impl<T: Drop> From<AllocFailed<T>> for Refusal {
     }
 }
 
-impl From<Unread> for Refusal {
-    ghost use Rattle.std.specs.Prelude.{◌≡◌};
-    ghost use Rattle.xr_cli.specs.Refusal.{unread_refusal};
-
-    ghost from_gives = { λ unread refusal. refusal ≡ unread_refusal unread };
-
-    fn from(unread: Unread) -> Self {
-        match unread {
-            Unread::NotBuilt => Refusal::NotBuilt,
-            Unread::Memory => Refusal::Memory,
-        }
-    }
-}
-
-impl From<ParseErr> for Refusal {
+impl From<NetlistErr> for Refusal {
     ghost use Rattle.std.specs.Prelude.{◌≡◌};
     ghost use Rattle.xr_cli.specs.Refusal.{netlist_refusal};
 
     ghost from_gives = { λ cause refusal. refusal ≡ netlist_refusal cause };
 
-    fn from(cause: ParseErr) -> Self {
-        match cause.fault() {
-            Some(fault) => Refusal::Netlist { fault },
-            None => Refusal::Memory,
+    fn from(cause: NetlistErr) -> Self {
+        match cause {
+            NetlistErr::Memory => Refusal::Memory,
+            cause => Refusal::Netlist { cause },
         }
     }
 }
 
-impl From<VcdErr> for Refusal {
+impl From<RecordingErr> for Refusal {
     ghost use Rattle.std.specs.Prelude.{◌≡◌};
     ghost use Rattle.xr_cli.specs.Refusal.{recording_refusal};
 
     ghost from_gives = { λ cause refusal. refusal ≡ recording_refusal cause };
 
-    fn from(cause: VcdErr) -> Self {
-        match cause.fault() {
-            Some(fault) => Refusal::Recording { fault },
-            None => Refusal::Memory,
+    fn from(cause: RecordingErr) -> Self {
+        match cause {
+            RecordingErr::Memory => Refusal::Memory,
+            cause => Refusal::Recording { cause },
         }
     }
 }
 
-impl From<FlatErr> for Refusal {
+impl From<CompareErr> for Refusal {
     ghost use Rattle.std.specs.Prelude.{◌≡◌};
-    ghost use Rattle.xr_cli.specs.Refusal.{flat_refusal};
+    ghost use Rattle.xr_cli.specs.Refusal.{compare_refusal};
 
-    ghost from_gives = { λ fault refusal. refusal ≡ flat_refusal fault };
+    ghost from_gives = { λ cause refusal. refusal ≡ compare_refusal cause };
 
-    fn from(fault: FlatErr) -> Self {
-        match fault {
-            FlatErr::NotFlat => Refusal::NotBuilt,
-            FlatErr::Memory => Refusal::Memory,
+    fn from(cause: CompareErr) -> Self {
+        match cause {
+            CompareErr::Memory => Refusal::Memory,
+            cause => Refusal::Compare { cause },
         }
     }
 }

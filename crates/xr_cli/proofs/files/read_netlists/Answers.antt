@@ -3,8 +3,8 @@ use Rattle.std.proofs.Common.{rules, ◌≡◌, ◌<◌, ℕ, List, length, map,
 use Rattle.std.specs.Prelude.{string_bytes}
 use Rattle.std.proofs.lemmas.List.{length-take, take_all}
 use Rattle.xr_shelf.specs.Shelf.{held}
-use Rattle.xr_cli.specs.Phases.{IsKept, joined}
-use Rattle.xr_cli.proofs.Joins.{joined_more, later_twice, same_twice, closed_next, left_behind, held_same, held_more, as_many}
+use Rattle.xr_cli.specs.Files.{IsKept, joined}
+use Rattle.xr_cli.proofs.Joins.{joined_more, later_twice, same_twice, closed_next, held_same, held_more, as_many}
 use Rattle.xr_cli.proofs.files.read_netlists.Goals as goal
 
 pub files-preserved : goal.files-preserved

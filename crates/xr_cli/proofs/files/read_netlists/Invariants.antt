@@ -2,7 +2,7 @@
 use Rattle.std.proofs.Common.{◌≡◌, ◌<◌, ◌≤◌, length, map, take, IsTrue}
 use Rattle.std.specs.Prelude.{string_bytes, IfSome}
 use Rattle.xr_shelf.specs.Shelf.{Nothing, Later, SameCounts, held}
-use Rattle.xr_cli.specs.Phases.{IsKept, joined}
+use Rattle.xr_cli.specs.Files.{IsKept, joined}
 use Rattle.xr_cli.proofs.files.read_netlists.Given as goal
 
 abbrev pub invariant-files : goal.invariant-files

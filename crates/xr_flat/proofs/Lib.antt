@@ -1,9 +1,0 @@
-mod Naming
-mod Pinning
-mod Rests
-mod Ordering
-mod Nets
-mod Stepping
-mod Driving
-mod Parting
-mod Whole
