@@ -22,8 +22,8 @@ use Rattle.xr_model.specs.Sound.{HasLicence, Sound, SoundBy}
 use Rattle.xr_model.specs.declared.line.Line.{Line as ALine}
 use Rattle.xr_replay.specs.Fault.{BitAgrees, IsFaultless}
 use Rattle.xr_vcd.specs.Recording.{value_at}
-use Rattle.xr_wave.specs.Contents.{Contents, IsWave}
-use Rattle.xr_wave.specs.Shown.{IsFinished, ShowsWave}
+use Rattle.xr_wave.specs.Contents.{Contents, IsFinished, IsWave}
+use Rattle.xr_wave.specs.Shown.{ShowsWave}
 use Rattle.xr_job.specs.Compared.{job_in}
 use Rattle.xr_job.specs.declared.netlist.Netlist.{Netlist as ANetlist}
 use Rattle.xr_job.specs.declared.recorded.Recorded.{Recorded}

@@ -7,8 +7,8 @@ use Rattle.xr_model.specs.declared.line.Body.{Body}
 use Rattle.xr_model.specs.declared.line.Body.TheVariants.{Enumerated, Refuted, Pair, Undecided}
 use Rattle.xr_model.specs.declared.line.Line.{Line as ALine}
 use Rattle.xr_replay.specs.Fault.{IsFaultless}
-use Rattle.xr_wave.specs.Contents.{Contents, IsWave, nothing_written}
-use Rattle.xr_wave.specs.Shown.{IsFinished, ShowsWave}
+use Rattle.xr_wave.specs.Contents.{Contents, IsFinished, IsWave, nothing_written}
+use Rattle.xr_wave.specs.Shown.{ShowsWave}
 use Rattle.xr_wave.specs.declared.advance.Optimistic.{Optimistic as Told}
 use Rattle.xr_repair.specs.Repaired.{IsObjection, IsOfJob}
 use Rattle.xr_out.specs.Text.{vcd_text}
