@@ -1,8 +1,7 @@
 //! What each place shows and keeps.
 
-ghost use Rattle.std.specs.Prelude.{◌≡◌, ◌*◌, ◌≤◌, ◌^◌, IfOk, length, replicate, slice_set};
-ghost use Rattle.xr_design.specs.Replay.{blank};
-ghost use Rattle.xr_design.specs.History.{HasPlace, held_in, index_in, two_bits, value_of_bits};
+ghost use Rattle.std.specs.Prelude.{◌≡◌, ◌+◌, ◌*◌, ◌<◌, ◌≤◌, ◌^◌, IfOk, length};
+ghost use Rattle.xr_design.specs.History.{HasPlace, blank_history, held_in, index_in, repeated, two_bits, value_of_bits, with_held};
 
 use crate::design::Design;
 use crate::place::Place;
@@ -39,7 +38,7 @@ impl History {
         requires nets { length design.now.nets ≤ 2 ^ 20 }
         requires places { length design.now.nets * (length stim.now.times * stim.now.rounds) ≤ 2 ^ 27 }
         requires steps { length stim.now.times * stim.now.rounds ≤ 2 ^ 32 }
-        ensures { IfOk result (λ h. h ≡ record { nets = length design.now.nets; places = replicate (length design.now.nets * (length stim.now.times * stim.now.rounds)) blank }) }
+        ensures { IfOk result (λ h. h ≡ blank_history design.now stim.now) }
     {
         let nets = design.nets.as_slice().len();
         let steps = stim.times.as_slice().len() * stim.rounds as usize;
@@ -66,10 +65,20 @@ impl History {
     /// Writes what the place shows and keeps, and leaves all other places. Takes no memory.
     pub fn set(&mut self, place: Place, shown: Value, kept: Value)
         requires { HasPlace self.old place }
-        ensures { self.new ≡ record self.old { places = slice_set self.old.places (index_in self.old place) record { shown = shown; kept = kept } } }
+        ensures { self.new ≡ with_held self.old place record { shown = shown; kept = kept } }
     {
         let index = self.index(place);
         self.bytes[index] = two_bits_of(shown) + 4 * two_bits_of(kept);
+    }
+
+    /// Gives each place of a step what the place of its net a step before shows and keeps. Takes no memory.
+    pub fn repeat_step(&mut self, step: usize)
+        requires later { 0 < step }
+        requires within { step * self.old.nets + self.old.nets ≤ length self.old.places }
+        ensures { self.new ≡ repeated self.old step }
+    {
+        let start = step * self.nets;
+        self.bytes.copy_within(start - self.nets..start, start);
     }
 
     fn index(&self, place: Place) -> usize
