@@ -15,7 +15,8 @@ use xr_netlist_grammar::{Declare, Fixed, Item, NetKind, ParseErr};
 
 // range = "[" int ":" int "]", behind its "["
 fn range(words: &mut Reader<'_>) -> Result<(u32, u32), ParseErr>
-    ensures reads { (k : Ranged) → Reads (spec.range_first k) words.old result (λ r. after_range k (Some r)) words.new }
+    ensures reads { (k : Ranged)
+        → Reads (spec.range_first k) words.old result (λ r. after_range k (Some r)) words.new }
     ensures shortens { Shortens words.old result words.new }
 {
     let first = words.int()?;
