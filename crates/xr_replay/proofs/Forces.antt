@@ -14,7 +14,7 @@ use Rattle.xr_design.proofs.Rules.{position_in}
 use Rattle.xr_cell.specs.declared.value.Value.{Value}
 use Rattle.xr_design.specs.Force.{AreEvents, forced_at, is_up_to, place_of}
 use Rattle.xr_design.specs.declared.force.Event.{Event}
-use Rattle.xr_replay.specs.Forced.{last_forced, no_event, event_at, comes_up_to, AreOrdered, HasTaken, HasForced}
+use Rattle.xr_replay.specs.Forced.{last_forced, no_event, event_at, comes_up_to, AreOrdered, ChangesOnlyBy, HasTaken, HasForced}
 
 -- With one event more, that one is looked at first.
 find_more : (test : Event → Bool) (events : List Event) (n : ℕ) → n < length events → find test (reverse (take (n + 1) events)) ≡ cond (test (event_at events n)) (Some (event_at events n)) (find test (reverse (take n events)))
@@ -124,6 +124,12 @@ all_at : (P : Event → Type 0) (events : List Event) (i : ℕ) (d : Event) → 
 all_at P [] i d all within = absurd (omega arith)
 all_at P (event ∷ events) zero d all within = all.0
 all_at P (event ∷ events) (suc i) d all within = all_at P events i d all.1 (omega arith)
+
+-- With one event more the values change at its net too.
+pub elsewhere_more : (events : List Event) (from n : ℕ) (old new : List (Option Value)) (value : Option Value) → from ≤ n → ChangesOnlyBy events from n old new → ChangesOnlyBy events from (n + 1) old (set new (event_at events n).net value)
+elsewhere_more events from n old new value grows changes net none =
+    let apart : net ≢ (event_at events n).net = λ same. none n grows (omega arith) (sym same) in
+    rw get_or-set_other (changes net (λ i low high. none i low (omega (arith, high))))
 
 -- Before the first step no event is taken.
 pub none_taken : (nets : ℕ) (events : List Event) → HasTaken nets events 0 0 (replicate nets None)

@@ -3,8 +3,11 @@ pub mod Compares
 pub mod Faults
 pub mod Floating
 pub mod Forces
+pub mod Marking
 pub mod Places
 pub mod Quiet
+pub mod ReadingLemmas
 pub mod Repeats
 pub mod Replays
+pub mod Sweeps
 pub mod Writing

@@ -1,5 +1,5 @@
 -- A net that reads what it read one step before shows and keeps what it did there.
-use Rattle.std.proofs.Common.{◌≡◌, ℕ, ◌-◌, ◌*◌, ◌/◌, ◌<◌, ◌==◌, ◌&&◌, Bool, true, false, Option, List, [], ◌∷◌, nat_lt, slice_index, unwrap_or, refl, sym, ap, ◌∙◌, arith}
+use Rattle.std.proofs.Common.{◌≡◌, ℕ, ◌-◌, ◌*◌, ◌/◌, ◌<◌, ◌==◌, ◌&&◌, Bool, true, false, Option, List, [], ◌∷◌, slice_index, unwrap_or, refl, sym, ap, ◌∙◌, arith}
 use Rattle.std.proofs.lemmas.Grind.{common_steps}
 use Rattle.std.specs.List.{AllByRecursion}
 use Rattle.xr_cell.specs.declared.value.Value.{Value}
@@ -15,21 +15,22 @@ use Rattle.xr_design.specs.Order.{arguments_of_driver, net_pins, position_of}
 use Rattle.xr_design.specs.Register.{is_cold, looks_before, old_pins, pins_at, updated}
 use Rattle.xr_design.specs.Replay.{Held, driven, held_at, kept, register_kept, table_of}
 use Rattle.xr_replay.specs.Filled.{replayed}
-use Rattle.xr_replay.specs.Noted.{AreStill, HasNoted, IsStillAt, StaysForced, are_unmoved, is_unmoved}
+use Rattle.xr_replay.specs.Still.{AreStillBefore, IsForcedSame, IsRecordedSame, IsStillAt, LooksSame, Stays}
+use Rattle.xr_replay.specs.Sweep.{Rests}
 use Rattle.xr_replay.specs.Read.{kept_by}
 use Rattle.xr_replay.proofs.Places.{net_there}
-use Rattle.xr_replay.proofs.Replays.{all_by, kept_driven, pins_same, replayed_is}
-use Rattle.xr_replay.proofs.Writing.{net_at, place_within, step_there}
+use Rattle.xr_replay.proofs.Replays.{kept_driven, pins_same, replayed_is}
+use Rattle.xr_replay.proofs.Writing.{net_at, net_within, place_within, step_there}
 use Rattle.xr_design.proofs.Rules.{position_in}
 
 -- What a driver reads is what it read one step before.
-abbrev pub ReadsSame : Job → (ℕ → Option Value) → ℕ → Driver → Type 0
-ReadsSame j forced step Input = step / j.rounds ≡ (step - 1) / j.rounds
-ReadsSame j forced step Undriven = Unit {0}
-ReadsSame j forced step (Constant bit) = Unit {0}
-ReadsSame j forced step (Copy argument) = IsStillAt j forced step argument
-ReadsSame j forced step (Cell table pins) = AllByRecursion (IsStillAt j forced step) (net_pins pins)
-ReadsSame j forced step (Register latching) = (1 < step) × AllByRecursion (IsStillAt j forced (step - 1)) (net_pins latching.pins)
+abbrev pub ReadsSame : Job → (ℕ → Option Value) → ℕ → ℕ → Driver → Type 0
+ReadsSame j forced step net Input = j.recorded (step / j.rounds) net ≡ j.recorded ((step - 1) / j.rounds) net
+ReadsSame j forced step net Undriven = Unit {0}
+ReadsSame j forced step net (Constant bit) = Unit {0}
+ReadsSame j forced step net (Copy argument) = IsStillAt j forced step argument
+ReadsSame j forced step net (Cell table pins) = AllByRecursion (IsStillAt j forced step) (net_pins pins)
+ReadsSame j forced step net (Register latching) = (1 < step) × AllByRecursion (IsStillAt j forced (step - 1)) (net_pins latching.pins)
 
 -- what the replay shows at a place
 abbrev shown_by : Job → (ℕ → Option Value) → ℕ → Value
@@ -59,7 +60,7 @@ later_kept j values kept step latching later same =
 not_first : (step : ℕ) → 0 < step → (step == 0) ≡ false
 not_first step later = grind (arith, common_steps)
 
-register_same : (j : Job) → Fits j → (forced : ℕ → Option Value) (step net : ℕ) (latching : Latching) → step < j.moments * j.rounds → net < j.width → j.driver net ≡ Register latching → ReadsSame j forced step (Register latching) → register_kept j (replayed j forced) step net latching ≡ register_kept j (replayed j forced) (step - 1) net latching
+register_same : (j : Job) → Fits j → (forced : ℕ → Option Value) (step net : ℕ) (latching : Latching) → step < j.moments * j.rounds → net < j.width → j.driver net ≡ Register latching → ReadsSame j forced step net (Register latching) → register_kept j (replayed j forced) step net latching ≡ register_kept j (replayed j forced) (step - 1) net latching
 register_same j fits forced step net latching less within driver same =
     let later = same.0 in
     let back : (step - 1) - 1 ≡ step - 2 = omega arith in
@@ -71,8 +72,8 @@ register_same j fits forced step net latching less within driver same =
     let kept_before : (replayed j forced (at j (step - 1) net)).kept ≡ kept_by (j.driver net) (driven j (replayed j forced) (step - 1) net (j.driver net)) = ap (λ (held : Held). held.kept) (has j fits forced (step - 1) net before within) in
     first ∙ (idle ∙ rw driver at kept_before)
 
-driven_same : (j : Job) → Fits j → (forced : ℕ → Option Value) (step net : ℕ) (driver : Driver) → step < j.moments * j.rounds → net < j.width → j.driver net ≡ driver → ReadsSame j forced step driver → driven j (replayed j forced) step net driver ≡ driven j (replayed j forced) (step - 1) net driver
-driven_same j fits forced step net Input less within is same = ap (λ (moment : ℕ). j.recorded moment net) same
+driven_same : (j : Job) → Fits j → (forced : ℕ → Option Value) (step net : ℕ) (driver : Driver) → step < j.moments * j.rounds → net < j.width → j.driver net ≡ driver → ReadsSame j forced step net driver → driven j (replayed j forced) step net driver ≡ driven j (replayed j forced) (step - 1) net driver
+driven_same j fits forced step net Input less within is same = same
 driven_same j fits forced step net Undriven less within is same = refl
 driven_same j fits forced step net (Constant bit) less within is same = refl
 driven_same j fits forced step net (Copy argument) less within is same = same
@@ -81,48 +82,31 @@ driven_same j fits forced step net (Cell table pins) less within is same =
 driven_same j fits forced step net (Register latching) less within is same = register_same j fits forced step net latching less within is same
 
 -- So the net has what it had, where it is forced as it was.
-pub stays : (j : Job) → Fits j → (forced : ℕ → Option Value) (step net : ℕ) → step < j.moments * j.rounds → net < j.width → ReadsSame j forced step (j.driver net) → StaysForced j forced step → replayed j forced (at j step net) ≡ replayed j forced (at j (step - 1) net)
+pub stays : (j : Job) → Fits j → (forced : ℕ → Option Value) (step net : ℕ) → step < j.moments * j.rounds → net < j.width → ReadsSame j forced step net (j.driver net) → IsForcedSame j forced step net → Stays j forced step net
 stays j fits forced step net less within same forces =
     let value = driven_same j fits forced step net (j.driver net) less within refl same in
-    has j fits forced step net less within ∙ rw (value, forces net within) refl ∙ sym (has j fits forced (step - 1) net (omega arith) within)
+    has j fits forced step net less within ∙ rw (value, forces) refl ∙ sym (has j fits forced (step - 1) net (omega arith) within)
 
--- A net that shows what it showed, from what stands before in the order.
-abbrev pub StillBefore : Job → (ℕ → Option Value) → ℕ → ℕ → Type 0
-StillBefore j forced step position = (net : ℕ) → net < j.width → position_of j.order net < position → IsStillAt j forced step net
+-- Each of the nets has what two facts about it give.
+pub all_two : (P Q R : ℕ → Type 0) (nets : List ℕ) → ((net : ℕ) → P net → Q net → R net) → AllByRecursion P nets → AllByRecursion Q nets → AllByRecursion R nets
+all_two P Q R [] both first second = tt
+all_two P Q R (net ∷ nets) both first second = (both net first.0 second.0, all_two P Q R nets both first.1 second.1)
 
--- Where no net changed one step before, and none before it in the order, a driver reads the same, in the same moment.
-pub reads_still : (j : Job) (forced : ℕ → Option Value) (step position : ℕ) (driver : Driver) → FitsDriver j.udps j.width driver → AllByRecursion (StandsBefore j position) (arguments_of_driver driver) → step / j.rounds ≡ (step - 1) / j.rounds → 1 < step → AreStill j forced (step - 1) → StillBefore j forced step position → ReadsSame j forced step driver
-reads_still j forced step position Input fits before moment later still here = moment
-reads_still j forced step position Undriven fits before moment later still here = tt
-reads_still j forced step position (Constant bit) fits before moment later still here = tt
-reads_still j forced step position (Copy argument) fits before moment later still here = here argument before.0.within before.0.before
-reads_still j forced step position (Cell table pins) fits before moment later still here = all_by (StandsBefore j position) (IsStillAt j forced step) (net_pins pins) (λ net stands. here net stands.within stands.before) before
-reads_still j forced step position (Register latching) fits before moment later still here = (later, all_by (λ net. net < j.width) (IsStillAt j forced (step - 1)) (net_pins latching.pins) (λ net within. (still net within).1) fits.nets)
+-- The nets that a driver reads stand before its position, so that all of them are still where those before it are.
+all_still : (j : Job) (forced : ℕ → Option Value) (step position : ℕ) (nets : List ℕ) → AllByRecursion (StandsBefore j position) nets → AreStillBefore j forced step position nets → AllByRecursion (IsStillAt j forced step) nets
+all_still j forced step position nets before still =
+    all_two (StandsBefore j position) (λ net. position_of j.order net < position → IsStillAt j forced step net) (IsStillAt j forced step) nets (λ net stands rests. rests stands.before) before still
 
-both_true : (a b : Bool) → (a && b) ≡ true → (a ≡ true) × (b ≡ true)
-both_true true b is = (refl, is)
-both_true false b is = absurd (let no : false ≡ true = is in cc)
+rests_reads : (j : Job) (forced : ℕ → Option Value) (step position net : ℕ) (driver : Driver) → AllByRecursion (StandsBefore j position) (arguments_of_driver driver) → IsRecordedSame j step net driver → LooksSame j forced step driver → AreStillBefore j forced step position (arguments_of_driver driver) → ReadsSame j forced step net driver
+rests_reads j forced step position net Input before recorded looks still = recorded
+rests_reads j forced step position net Undriven before recorded looks still = tt
+rests_reads j forced step position net (Constant bit) before recorded looks still = tt
+rests_reads j forced step position net (Copy argument) before recorded looks still = still.0 before.0.before
+rests_reads j forced step position net (Cell table pins) before recorded looks still = all_still j forced step position (net_pins pins) before still
+rests_reads j forced step position net (Register latching) before recorded looks still = looks
 
-is_less : (m n : ℕ) → nat_lt m n ≡ true → m < n
-is_less m n is = grind (arith, common_steps)
-
--- Pins that haven't changed by the steps noted.
-unmoved_pins : (j : Job) (forced : ℕ → Option Value) (step n : ℕ) (changed : List ℕ) (pins : List Pin) → HasNoted j forced step n changed → AllByRecursion (λ net. (net < j.width) × (position_of j.order net < n)) (net_pins pins) → are_unmoved changed step pins ≡ true → AllByRecursion (IsStillAt j forced step) (net_pins pins)
-unmoved_pins j forced step n changed [] noted within is = tt
-unmoved_pins j forced step n changed (Net net ∷ pins) noted within is =
-    let parts = both_true (nat_lt (slice_index changed net) step) (are_unmoved changed step pins) is in
-    (noted.still net within.0.0 within.0.1 (is_less (slice_index changed net) step parts.0), unmoved_pins j forced step n changed pins noted within.1 parts.1)
-unmoved_pins j forced step n changed (Bit bit ∷ pins) noted within is = unmoved_pins j forced step n changed pins noted within (both_true true (are_unmoved changed step pins) is).1
-unmoved_pins j forced step n changed (Dead ∷ pins) noted within is = unmoved_pins j forced step n changed pins noted within (both_true true (are_unmoved changed step pins) is).1
-
--- A driver whose nets haven't changed reads the same.
-pub reads_unmoved : (j : Job) → Fits j → (forced : ℕ → Option Value) (step position : ℕ) (changed : List ℕ) (driver : Driver) → FitsDriver j.udps j.width driver → AllByRecursion (StandsBefore j position) (arguments_of_driver driver) → HasNoted j forced step position changed → HasNoted j forced (step - 1) j.width changed → is_unmoved changed step driver ≡ true → ReadsSame j forced step driver
-reads_unmoved j fits forced step position changed Input fit before noted earlier is = absurd (let no : false ≡ true = is in cc)
-reads_unmoved j fits forced step position changed Undriven fit before noted earlier is = tt
-reads_unmoved j fits forced step position changed (Constant bit) fit before noted earlier is = tt
-reads_unmoved j fits forced step position changed (Copy argument) fit before noted earlier is = noted.still argument before.0.within before.0.before (is_less (slice_index changed argument) step is)
-reads_unmoved j fits forced step position changed (Cell table pins) fit before noted earlier is =
-    unmoved_pins j forced step position changed pins noted (all_by (StandsBefore j position) (λ net. (net < j.width) × (position_of j.order net < position)) (net_pins pins) (λ net stands. (stands.within, stands.before)) before) is
-reads_unmoved j fits forced step position changed (Register latching) fit before noted earlier is =
-    let parts = both_true (nat_lt 1 step) (are_unmoved changed (step - 1) latching.pins) is in
-    (is_less 1 step parts.0, unmoved_pins j forced (step - 1) j.width changed latching.pins earlier (all_by (λ net. net < j.width) (λ net. (net < j.width) × (position_of j.order net < j.width)) (net_pins latching.pins) (λ net within. (within, position_in j fits net within)) fit.nets) parts.1)
+-- A net that rests once all before it are gone over stays.
+pub resting_stays : (j : Job) → Fits j → (forced : ℕ → Option Value) (step position : ℕ) → step < j.moments * j.rounds → position < j.width → Rests j forced step position (slice_index j.order position) → Stays j forced step (slice_index j.order position)
+resting_stays j fits forced step position less within rests =
+    let net = slice_index j.order position in
+    stays j fits forced step net less (net_within j fits position within) (rests_reads j forced step position net (j.driver net) (fits.arguments position within) rests.recorded rests.looks rests.reads) rests.forces

@@ -112,6 +112,23 @@ filled_place j fits forced old new step position net given value driver less wit
       places = rw (step_there j step position within, net_there, ← driver_is) (ap (λ (h : HistoryView). h.places) new_is);
     }
 
+-- The other places of the step have what they had.
+pub others_kept : (j : Job) → Fits j → (old new : HistoryView) (step position net : ℕ) (held : Held) → step < j.moments * j.rounds → position < j.width → net ≡ slice_index j.order position → HasPlaces j old → new ≡ record old { places = set old.places (index_in old record { step = step; net = net }) held } → (p : ℕ) → p < j.width → (p ≡ position → ⊥) → held_of j new (step * j.width + p) ≡ held_of j old (step * j.width + p)
+others_kept j fits old new step position net held less within net_is places new_is p low differ =
+    written_elsewhere j fits old new place (step * j.width + p) held places (place_within j step position less within) (place_within j step p less low) (λ same. differ (omega (arith, same))) written
+  where
+    place : ℕ
+    place = step * j.width + position
+
+    net_there : net_of j place ≡ net
+    net_there = net_at j step position within ∙ sym net_is
+
+    written : IsWritten j old new place held
+    written = record {
+      nets = ap (λ (h : HistoryView). h.nets) new_is;
+      places = rw (step_there j step position within, net_there) (ap (λ (h : HistoryView). h.places) new_is);
+    }
+
 -- The net at a position is one of the job's.
 pub net_within : (j : Job) → Fits j → (position : ℕ) → position < j.width → slice_index j.order position < j.width
 net_within j fits position within =

@@ -35,3 +35,11 @@ pub record HasTaken (nets : ℕ) (events : List Event) (step n : ℕ) (values : 
 pub record HasForced (nets : ℕ) (events : List Event) (step : ℕ) (values : List (Option Value)) : Type 0 where
   pub long : length values ≡ nets
   pub value : (net : ℕ) → net < nets → slice_index_or values net None ≡ forced_at events step net
+
+-- Among the events from one on, up to another, none is of the net.
+abbrev pub NoEventOf : List Event → ℕ → ℕ → ℕ → Type 0
+NoEventOf events from to net = (i : ℕ) → from ≤ i → i < to → (event_at events i).net ≡ net → ⊥
+
+-- The values have for each net the same, but for the nets of these events.
+abbrev pub ChangesOnlyBy : List Event → ℕ → ℕ → List (Option Value) → List (Option Value) → Type 0
+ChangesOnlyBy events from to old new = (net : ℕ) → NoEventOf events from to net → slice_index_or new net None ≡ slice_index_or old net None

@@ -1,16 +1,21 @@
--- The replay of a circuit under events as it goes on: what is filled, noted, still and forced as before.
-use Rattle.std.specs.Prelude.{ℕ, ◌+◌, ◌*◌, ◌<◌, List, slice_index}
+-- The replay of a circuit under events as it goes on.
+use Rattle.std.specs.Prelude.{◌≡◌, ℕ, ◌+◌, ◌*◌, ◌<◌, ◌≤◌, List, slice_index}
 use Rattle.xr_design.specs.Circuit.{job_in}
 use Rattle.xr_design.specs.declared.circuit.Circuit.{Circuit}
 use Rattle.xr_design.specs.declared.design.Design.{Design}
 use Rattle.xr_design.specs.declared.force.Event.{Event}
 use Rattle.xr_design.specs.declared.stim.Stim.{Stim}
 use Rattle.xr_design.specs.Force.{forced_by}
-use Rattle.xr_design.specs.Handed.{IsReplayUnder}
+use Rattle.xr_design.specs.Handed.{IsReplayUnder, held_of}
 use Rattle.xr_design.specs.History.{HistoryView}
 use Rattle.xr_design.specs.Job.{job_of}
+use Rattle.xr_design.specs.Order.{arguments_of_driver}
 use Rattle.xr_replay.specs.Filled.{IsFilled}
-use Rattle.xr_replay.specs.Noted.{AreStill, HasNoted, IsStillNet, Stays, StaysForced}
+use Rattle.xr_replay.specs.Forced.{NoEventOf}
+use Rattle.xr_replay_due.specs.declared.readings.Reading.{Reading}
+use Rattle.xr_replay.specs.Readings.{AppendsReadings}
+use Rattle.xr_replay.specs.Still.{IsForcedSame, IsStillAt, looked_at}
+use Rattle.xr_replay.specs.Sweep.{AreAhead, AreAwaited, AreDue, IsSwept, driver_on}
 
 -- The history is the replay of the design under the events.
 abbrev pub IsReplayOf : Design → List ℕ → Stim → List Event → HistoryView → Type 0
@@ -26,25 +31,34 @@ FilledTo circuit events step position history = IsFilled (job_in circuit) (force
 abbrev pub FilledWith : Circuit → List Event → ℕ → ℕ → HistoryView → Type 0
 FilledWith circuit events step position history = IsFilled (job_in circuit) (forced_by (job_in circuit) events) (step * (job_in circuit).width + position + 1) history
 
--- Changes are noted up to the step, at its first positions and at all.
-abbrev pub NotedTo : Circuit → List Event → ℕ → ℕ → List ℕ → Type 0
-NotedTo circuit events step position changed = HasNoted (job_in circuit) (forced_by (job_in circuit) events) step position changed
+-- Each place of the step but that of a position has what it had.
+abbrev pub KeepsOthers : Circuit → ℕ → ℕ → HistoryView → HistoryView → Type 0
+KeepsOthers circuit step position old new = (p : ℕ) → p < (job_in circuit).width → (p ≡ position → ⊥) → held_of (job_in circuit) new (step * (job_in circuit).width + p) ≡ held_of (job_in circuit) old (step * (job_in circuit).width + p)
 
-abbrev pub NotedIn : Circuit → List Event → ℕ → List ℕ → Type 0
-NotedIn circuit events step changed = HasNoted (job_in circuit) (forced_by (job_in circuit) events) step (job_in circuit).width changed
+-- The step is gone over up to a position.
+abbrev pub SweptTo : Circuit → List Event → ℕ → ℕ → HistoryView → Type 0
+SweptTo circuit events step position history = IsSwept (job_in circuit) (forced_by (job_in circuit) events) step position history
 
--- Each net shows at the step what it showed one step before.
-abbrev pub StillIn : Circuit → List Event → ℕ → Type 0
-StillIn circuit events step = AreStill (job_in circuit) (forced_by (job_in circuit) events) step
+abbrev pub DueFrom : Circuit → List Event → ℕ → ℕ → List ℕ → Type 0
+DueFrom circuit events step position due = AreDue (job_in circuit) (forced_by (job_in circuit) events) step position due
 
--- The net at the position does.
+abbrev pub AheadTo : Circuit → List Event → ℕ → ℕ → List ℕ → Type 0
+AheadTo circuit events step position ahead = AreAhead (job_in circuit) (forced_by (job_in circuit) events) step position ahead
+
+abbrev pub AwaitedIn : Circuit → List Event → ℕ → List ℕ → Type 0
+AwaitedIn circuit events step due = AreAwaited (job_in circuit) (forced_by (job_in circuit) events) step due
+
+-- The net at a position is still.
 abbrev pub StillAt : Circuit → List Event → ℕ → ℕ → Type 0
-StillAt circuit events step position = IsStillNet (job_in circuit) (forced_by (job_in circuit) events) step (slice_index circuit.order.now position)
+StillAt circuit events step position = IsStillAt (job_in circuit) (forced_by (job_in circuit) events) step (slice_index circuit.order.now position)
 
--- It keeps what it kept, too.
-abbrev pub StaysAt : Circuit → List Event → ℕ → ℕ → Type 0
-StaysAt circuit events step position = Stays (job_in circuit) (forced_by (job_in circuit) events) step (slice_index circuit.order.now position)
+-- Each net is forced at the step as one step before, but for those of the events from one on, up to another.
+abbrev pub ForcedButFor : Circuit → List Event → ℕ → ℕ → ℕ → Type 0
+ForcedButFor circuit events from to step = (net : ℕ) → net < (job_in circuit).width → NoEventOf events from to net → IsForcedSame (job_in circuit) (forced_by (job_in circuit) events) step net
 
--- There is a step before, and nets are forced as there.
-abbrev pub ForcedAsBefore : Circuit → List Event → ℕ → Type 0
-ForcedAsBefore circuit events step = (0 < step) × StaysForced (job_in circuit) (forced_by (job_in circuit) events) step
+-- The readings of the nets that the driver at a position reads, or looks back at, come behind others.
+abbrev pub PushesArguments : Circuit → ℕ → List Reading → List Reading → Type 0
+PushesArguments circuit position old new = AppendsReadings old new position (arguments_of_driver (driver_on (job_in circuit) position))
+
+abbrev pub PushesLookedAt : Circuit → ℕ → List Reading → List Reading → Type 0
+PushesLookedAt circuit position old new = AppendsReadings old new position (looked_at (driver_on (job_in circuit) position))

@@ -3,7 +3,10 @@ pub mod Fault
 pub mod Filled
 pub mod Forced
 pub mod Going
-pub mod Noted
+pub mod Marks
 pub mod Read
+pub mod Readings
 pub mod Seen
 pub mod Sides
+pub mod Still
+pub mod Sweep

@@ -5,6 +5,8 @@ use Rattle.xr_design.specs.Handed.{IsReplay}
 use Rattle.xr_design.specs.Job.{Job}
 use Rattle.xr_design.specs.Settled.{IsSettledAt, last_step}
 use Rattle.xr_design.specs.declared.design.Driver.{Driver}
+use Rattle.xr_match.specs.declared.binding.Bound.{Bound}
+use Rattle.xr_replay.specs.Fault.{BitAgrees, VariableAgrees}
 use Rattle.xr_replay.specs.declared.sides.Sides.{Sides}
 
 abbrev pub job_beside : Sides → Job
@@ -19,3 +21,10 @@ pub record AreSides (sides : Sides) : Type 0 where
   pub fits : CircuitFits sides.circuit
   pub history : IsReplay (job_beside sides) sides.history.now
   pub times : sides.recording.now.times ≡ sides.circuit.stim.now.times
+
+-- The recording agrees with the replay in a moment, in a variable and in a bit of it.
+abbrev pub AgreesBeside : Sides → ℕ → Bound → Type 0
+AgreesBeside sides moment b = VariableAgrees (job_beside sides) sides.recording.now moment b
+
+abbrev pub BitAgreesBeside : Sides → ℕ → Bound → ℕ → Type 0
+BitAgreesBeside sides moment b bit = BitAgrees (job_beside sides) sides.recording.now moment b bit

@@ -2,7 +2,7 @@
 
 ghost use Rattle.std.specs.Prelude.{◌≡◌, ◌+◌, ◌<◌, ◌≤◌, IfOk, length};
 ghost use Rattle.xr_replay.specs.Forced as spec;
-ghost use Rattle.xr_replay.specs.Forced.{AreOrdered, HasForced, HasTaken};
+ghost use Rattle.xr_replay.specs.Forced.{AreOrdered, ChangesOnlyBy, HasForced, HasTaken};
 
 use xr_cell::Value;
 use xr_design::Event;
@@ -14,7 +14,8 @@ pub fn take_events(events: &[Event], taken: usize, step: u32, values: &mut [Opti
     requires taken { HasTaken (length values.old) events.now step taken values.old }
     ensures taken { HasTaken (length values.old) events.now step result values.new }
     ensures forced { HasForced (length values.old) events.now step values.new }
-    ensures same { result ≡ taken → values.new ≡ values.old }
+    ensures grows { taken ≤ result }
+    ensures elsewhere { ChangesOnlyBy events.now taken result values.old values.new }
 {
     let mut next = taken;
     'events: while comes_up_to(events, next, step) {

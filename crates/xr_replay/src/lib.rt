@@ -2,9 +2,12 @@
 //! Start at `replay` and `compare`.
 #![tactic(auto)]
 
+mod computed;
 mod differ;
 mod driven;
+mod fans;
 mod forced;
+mod marks;
 mod moments;
 mod pins;
 mod recorded;
@@ -12,7 +15,9 @@ mod register;
 mod settled;
 mod sides;
 mod steps;
-mod unmoved;
+mod sweep;
+mod values;
+mod waiting;
 
 pub use differ::Differ;
 pub use moments::compare;

@@ -17,8 +17,8 @@ use xr_design::{Circuit, Design, History, Order, Stim};
 use xr_match::Binding;
 use xr_vcd::Recording;
 
-/// The first fault of a recording beside the replay, by moment; in a moment the first unsettled register in the order of
-/// the nets comes before the first variable that disagrees, and in it the leftmost bit. Takes no memory.
+/// The first fault of a recording beside the replay, by moment. In a moment the first unsettled register in the order
+/// of the nets comes before the first variable that disagrees, and in it the leftmost bit. Takes no memory.
 pub fn compare(
     design: &Design,
     order: &Order,

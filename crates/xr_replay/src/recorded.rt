@@ -3,15 +3,17 @@
 ghost use Rattle.std.specs.Prelude.{◌≡◌, ◌<◌, All, IfErr, IfOk, length};
 ghost use Rattle.xr_match.specs.Binding.{FitsBinding, FitsBound};
 ghost use Rattle.xr_match.specs.Bounds.{IsOf};
-ghost use Rattle.xr_replay.specs.Fault.{Agrees, BitAgrees, IsBitFault, IsDisagreementIn, IsVariableFault, VariableAgrees};
-ghost use Rattle.xr_replay.specs.Sides.{AreSides, job_beside};
+ghost use Rattle.xr_replay.specs.Fault.{Agrees, IsBitFault, IsDisagreementIn, IsVariableFault};
+ghost use Rattle.xr_replay.specs.Sides.{AgreesBeside, AreSides, BitAgreesBeside, job_beside};
 
 use crate::differ::Differ;
 use crate::pins::net_value;
 use crate::sides::{Sides, last_step_of};
+use crate::values::is_same;
 use xr_match::{Binding, Bound};
 
-/// Whether each bound variable agrees in a moment, else the first bit of the first variable that doesn't. Takes no memory.
+/// Whether each bound variable agrees in a moment, else the first bit of the first variable that doesn't. Takes no
+/// memory.
 pub fn check_recorded(sides: &Sides<'_>, bound: &Binding, moment: u32) -> Result<(), Differ>
     requires sides { AreSides sides.now }
     requires bound { FitsBinding sides.now.circuit.design.now bound.now }
@@ -31,7 +33,7 @@ fn check_variable(sides: &Sides<'_>, variable: &Bound, moment: u32) -> Result<()
     requires bound { FitsBound sides.now.circuit.design.now variable.now }
     requires recorded { IsOf sides.now.recording.now variable.now }
     requires moment { moment < (job_beside sides.now).moments }
-    ensures agrees { IfOk result (λ _. VariableAgrees (job_beside sides.now) sides.now.recording.now moment variable.now) }
+    ensures agrees { IfOk result (λ _. AgreesBeside sides.now moment variable.now) }
     ensures fault { IfErr result (IsVariableFault (job_beside sides.now) sides.now.recording.now moment variable.now) }
 {
     'bits: for bit in 0..sides.recording.width(variable.variable) {
@@ -46,7 +48,7 @@ fn check_bit(sides: &Sides<'_>, variable: &Bound, bit: u32, moment: u32) -> Resu
     requires recorded { IsOf sides.now.recording.now variable.now }
     requires bit { bit < length variable.now.bits }
     requires moment { moment < (job_beside sides.now).moments }
-    ensures agrees { IfOk result (λ _. BitAgrees (job_beside sides.now) sides.now.recording.now moment variable.now bit) }
+    ensures agrees { IfOk result (λ _. BitAgreesBeside sides.now moment variable.now bit) }
     ensures fault { IfErr result (IsBitFault (job_beside sides.now) sides.now.recording.now moment variable.now bit) }
 {
     let net = variable.bits.as_slice()[bit as usize];
@@ -57,7 +59,7 @@ fn check_bit(sides: &Sides<'_>, variable: &Bound, bit: u32, moment: u32) -> Resu
         last_step_of(sides, moment),
         net,
     );
-    if recorded == replayed {
+    if is_same(recorded, replayed) {
         return Ok(());
     }
     Err(Differ::Disagrees {

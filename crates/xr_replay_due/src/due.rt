@@ -2,8 +2,7 @@
 
 ghost use Rattle.std.specs.Prelude.{◌≡◌, ℕ, ◌+◌, ◌*◌, ◌/◌, ◌%◌, ◌<◌, ◌≤◌, ◌^◌, ◌==◌, ◌||◌, true, false, All, IfOk, length, slice_index};
 ghost use Rattle.std.specs.Int.{bit_at};
-ghost use Rattle.std.specs.List.{list_any};
-ghost use Rattle.xr_replay_due.specs.Due.{HasRoom, HasRoomFor, NoneBetween, is_due};
+ghost use Rattle.xr_replay_due.specs.Due.{AreAllDue, GainsAll, HasRoom, HasRoomFor, KeepsOthers, NoneBetween, is_due};
 
 use std::alloc::Global;
 use std::marker::Model;
@@ -40,7 +39,7 @@ impl Due {
     pub fn all(alloc: Global, count: usize) -> Result<Due, Memory>
         requires { count ≤ 2 ^ 20 }
         ensures room { IfOk result (λ due. HasRoomFor due count) }
-        ensures all { IfOk result (λ due. (position : ℕ) → position < count → is_due due position ≡ true) }
+        ensures all { IfOk result (λ due. AreAllDue due count) }
     {
         let words = vec![in alloc; u64::MAX; count / 64 + 1]?;
         Ok(Due { words })
@@ -51,7 +50,7 @@ impl Due {
         requires { HasRoom self.old position }
         ensures long { length self.new ≡ length self.old }
         ensures here { is_due self.new position ≡ true }
-        ensures others { (other : ℕ) → (other ≡ position → ⊥) → is_due self.new other ≡ is_due self.old other }
+        ensures others { KeepsOthers self.old self.new position }
     {
         let word = self.words[position / 64];
         self.words[position / 64] = word | 1 << (position % 64);
@@ -61,7 +60,7 @@ impl Due {
     pub fn insert_all(&mut self, positions: &[u32])
         requires { All (λ position. HasRoom self.old position) positions.now }
         ensures long { length self.new ≡ length self.old }
-        ensures both { (other : ℕ) → is_due self.new other ≡ (is_due self.old other || list_any (λ position. position == other) positions.now) }
+        ensures gains { GainsAll self.old self.new positions.now }
     {
         'positions: for position in positions {
             self.insert(*position as usize);

@@ -1,13 +1,13 @@
 -- The events so far are taken.
-use Rattle.std.proofs.Common.{◌≡◌, ◌≤◌, ◌-◌, length}
-use Rattle.xr_replay.specs.Forced.{HasTaken}
+use Rattle.std.proofs.Common.{◌≤◌, ◌-◌, length}
+use Rattle.xr_replay.specs.Forced.{ChangesOnlyBy, HasTaken}
 use Rattle.xr_replay.proofs.forced.take_events.Given as goal
 
 abbrev pub invariant-events : goal.invariant-events
 invariant-events l = record {
   taken : HasTaken (length l.initial.values) l.events l.step l.next l.values;
   grows : l.taken ≤ l.next;
-  same : l.next ≡ l.taken → l.values ≡ l.initial.values;
+  elsewhere : ChangesOnlyBy l.events l.taken l.next l.initial.values l.values;
 }
 
 abbrev pub decreases-events : goal.decreases-events

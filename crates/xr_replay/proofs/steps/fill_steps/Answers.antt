@@ -1,14 +1,13 @@
 -- All steps are filled in the end.
-use Rattle.std.proofs.Common.{◌≡◌, ◌+◌, ◌-◌, ◌*◌, ℕ, length, ap, arith, subst}
+use Rattle.std.proofs.Common.{◌≡◌, ◌+◌, ◌-◌, ◌*◌, ◌<◌, ℕ, length, ap, arith, subst}
 use Rattle.std.proofs.Math.Nat.{mul_comm}
 use Rattle.xr_design.specs.Circuit.{job_in}
 use Rattle.xr_design.specs.Force.{forced_by}
 use Rattle.xr_design.specs.Job.{places_of}
 use Rattle.xr_replay.specs.Filled.{IsFilled}
 use Rattle.xr_replay.specs.Forced.{HasForced}
-use Rattle.xr_replay.specs.Noted.{AreStill, HasNoted}
 use Rattle.xr_replay.proofs.Forces.{in_order, taken_later}
-use Rattle.xr_replay.proofs.Repeats.{stays_forced}
+use Rattle.xr_replay.proofs.Marking.{forced_but_for}
 use Rattle.xr_replay.proofs.Writing.{filled_all}
 use Rattle.xr_replay.proofs.steps.fill_steps.Goals as goal
 
@@ -16,30 +15,31 @@ pub take_events-taken-requires-clause-ordered : goal.take_events-taken-requires-
 take_events-taken-requires-clause-ordered c =
     rw c.steps.invariant.taken.long (in_order (job_in c.args.circuit.now) c.requires.fits.fits_job c.args.events.now c.requires.events)
 
-pub next_step-still-requires-clause-same : goal.next_step-still-requires-clause-same
-next_step-still-requires-clause-same c = λ holds.
+pub next_step-requires-clause-ordered : goal.next_step-requires-clause-ordered
+next_step-requires-clause-ordered c = in_order (job_in c.args.circuit.now) c.requires.fits.fits_job c.args.events.now c.requires.events
+
+pub next_step-requires-clause-range : goal.next_step-requires-clause-range
+next_step-requires-clause-range c = c.take_events-taken.ensures.taken.few
+
+pub next_step-requires-clause-before : goal.next_step-requires-clause-before
+next_step-requires-clause-before c = λ later.
     (let j = job_in c.args.circuit.now in
     let long = c.steps.invariant.taken.long in
-    let later = c.is_same-same.ensures.later holds in
-    let values = c.take_events-taken.ensures.same (c.is_same-same.ensures.none holds) in
     let now : HasForced j.width c.args.events.now c.steps.step c.take_events-taken.new.values = rw long at c.take_events-taken.ensures.forced in
-    let before : HasForced j.width c.args.events.now (c.steps.step - 1) c.take_events-taken.new.values = rw values (c.steps.invariant.before later) in
-    (later, stays_forced j c.requires.fits.fits_job c.args.events.now c.steps.step c.take_events-taken.new.values now before))
+    forced_but_for j c.requires.fits.fits_job c.args.events.now c.steps.step c.steps.taken c.take_events-taken.result c.steps.forced c.take_events-taken.new.values now (c.steps.invariant.before later) c.take_events-taken.ensures.elsewhere)
 
 pub steps-preserved : goal.steps-preserved
 steps-preserved c =
     let j = job_in c.args.circuit.now in
-    let f = forced_by j c.args.events.now in
     let long = c.steps.invariant.taken.long in
     let back : c.steps.step ≡ c.steps.step + 1 - 1 = omega arith in
     let values = c.take_events-taken.new.values in
-    let changed = c.next_step-still.new.changed in
     record {
-      filled = c.next_step-still.ensures.filled;
+      filled = c.next_step.ensures.filled;
       taken = taken_later j.width c.args.events.now c.steps.step c.take_events-taken.result values (rw long at c.take_events-taken.ensures.taken);
       before = λ later. (let P : ℕ → Type 0 = λ n. HasForced (length c.args.circuit.now.design.now.nets) c.args.events.now n c.take_events-taken.new.values in subst P back (rw long at c.take_events-taken.ensures.forced));
-      noted = (let P : ℕ → Type 0 = λ n. HasNoted (job_in c.args.circuit.now) (forced_by (job_in c.args.circuit.now) c.args.events.now) n (job_in c.args.circuit.now).width c.next_step-still.new.changed in subst P back c.next_step-still.ensures.noted);
-      still = λ holds. (let P : ℕ → Type 0 = λ n. AreStill (job_in c.args.circuit.now) (forced_by (job_in c.args.circuit.now) c.args.events.now) n in subst P back (c.next_step-still.ensures.still holds));
+      due = c.next_step.ensures.due;
+      ahead = c.next_step.ensures.ahead;
     }
 
 pub returns : goal.returns

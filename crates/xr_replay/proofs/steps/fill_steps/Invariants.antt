@@ -1,10 +1,11 @@
--- The steps so far are filled, the events up to the one before are taken, and changes are noted.
-use Rattle.std.proofs.Common.{◌≡◌, ◌<◌, ◌-◌, ◌*◌, true}
+-- The steps so far are filled, the events up to the one before are taken, and what waits is due.
+use Rattle.std.proofs.Common.{◌<◌, ◌-◌, ◌*◌}
 use Rattle.xr_design.specs.Circuit.{job_in}
 use Rattle.xr_design.specs.Force.{forced_by}
+use Rattle.xr_replay_due.specs.Due.{HasRoomFor}
 use Rattle.xr_replay.specs.Filled.{IsFilled}
 use Rattle.xr_replay.specs.Forced.{HasForced, HasTaken}
-use Rattle.xr_replay.specs.Noted.{AreStill, HasNoted}
+use Rattle.xr_replay.specs.Sweep.{AreAwaited}
 use Rattle.xr_replay.proofs.steps.fill_steps.Given as goal
 
 abbrev pub invariant-steps : goal.invariant-steps
@@ -12,6 +13,6 @@ invariant-steps l = record {
   filled : IsFilled (job_in l.circuit) (forced_by (job_in l.circuit) l.events) (l.step * (job_in l.circuit).width) l.history;
   taken : HasTaken (job_in l.circuit).width l.events l.step l.taken l.forced;
   before : 0 < l.step → HasForced (job_in l.circuit).width l.events (l.step - 1) l.forced;
-  noted : HasNoted (job_in l.circuit) (forced_by (job_in l.circuit) l.events) (l.step - 1) (job_in l.circuit).width l.changed;
-  still : l.still ≡ true → AreStill (job_in l.circuit) (forced_by (job_in l.circuit) l.events) (l.step - 1);
+  due : AreAwaited (job_in l.circuit) (forced_by (job_in l.circuit) l.events) l.step l.waiting.due;
+  ahead : HasRoomFor l.waiting.ahead (job_in l.circuit).width;
 }

@@ -6,8 +6,8 @@ use Rattle.xr_design.specs.Fits.{place_at}
 use Rattle.xr_design.specs.Force.{forced_by}
 use Rattle.xr_design.specs.History.{HasPlace}
 use Rattle.xr_replay.proofs.Places.{place_at_position}
-use Rattle.xr_replay.proofs.Writing.{filled_place, index_within, place_within, step_there, net_at, net_within}
-use Rattle.xr_replay.proofs.steps.compute_place.Goals as goal
+use Rattle.xr_replay.proofs.Writing.{filled_place, index_within, others_kept, place_within, step_there, net_at, net_within}
+use Rattle.xr_replay.proofs.computed.compute_place.Goals as goal
 
 pub set-requires : goal.set-requires
 set-requires c =
@@ -17,8 +17,8 @@ set-requires c =
     let at : place_at j number ≡ record { step = c.args.step; net = c.net-net.result } = place_at_position j c.args.step c.args.position c.requires.position ∙ ap (λ (net : ℕ). let p : Place = record { step = step; net = net } in p) (sym c.net-net.ensures) in
     subst (HasPlace c.args.history.now) at (index_within j c.requires.fits.fits_job c.args.history.now number c.requires.filled.places (place_within j c.args.step c.args.position c.requires.step c.requires.position))
 
-pub returns : goal.returns
-returns c =
+pub returns-clause-filled : goal.returns-clause-filled
+returns-clause-filled c =
     let j = job_in c.args.circuit.now in
     let net = c.net-net.result in
     let given = slice_index_or c.args.forced.now c.net-net.result None in
@@ -26,3 +26,8 @@ returns c =
     let forced : forced_by j c.args.events.now (c.args.step * j.width + c.args.position) ≡ given =
     rw (step_there j c.args.step c.args.position c.requires.position, net_at j c.args.step c.args.position c.requires.position, ← c.net-net.ensures) (sym (c.requires.forced.value c.net-net.result inside)) in
     filled_place j c.requires.fits.fits_job (forced_by j c.args.events.now) c.args.history.now c.set.new.self c.args.step c.args.position c.net-net.result given c.driven_value-value.result c.driver_at-driver.result.now c.requires.step c.requires.position c.net-net.ensures c.driver_at-driver.ensures c.requires.filled forced c.driven_value-value.ensures (rw (← c.place_values-shown.ensures.shown, ← c.place_values-shown.ensures.kept) c.set.ensures)
+
+pub returns-clause-others : goal.returns-clause-others
+returns-clause-others c =
+    let j = job_in c.args.circuit.now in
+    others_kept j c.requires.fits.fits_job c.args.history.now c.set.new.self c.args.step c.args.position c.net-net.result record { shown = c.place_values-shown.result.0; kept = c.place_values-shown.result.1 } c.requires.step c.requires.position c.net-net.ensures c.requires.filled.places c.set.ensures

@@ -1,0 +1,87 @@
+-- What is due as a step begins: all that is forced or recorded otherwise.
+use Rattle.std.proofs.Common.{◌≡◌, ℕ, ◌+◌, ◌-◌, ◌*◌, ◌/◌, ◌<◌, ◌≤◌, Bool, true, false, Option, None, List, length, slice_index, slice_index_or, refl, sym, ap, ◌∙◌, arith, subst, ⊎_elim}
+use Rattle.std.proofs.lemmas.Bool.{cases_eq}
+use Rattle.xr_cell.specs.declared.value.Value.{Value}
+use Rattle.xr_cell.specs.declared.value.Value.TheVariants.{X}
+use Rattle.xr_design.specs.declared.design.Driver.{Driver}
+use Rattle.xr_design.specs.declared.design.Driver.TheVariants.{Input, Undriven, Constant, Copy, Cell, Register}
+use Rattle.xr_design.specs.declared.force.Event.{Event}
+use Rattle.xr_design.specs.Fits.{Fits}
+use Rattle.xr_design.specs.Force.{forced_at, forced_by}
+use Rattle.xr_design.specs.Job.{Job, at}
+use Rattle.xr_design.specs.Order.{position_of}
+use Rattle.xr_design.proofs.Rules.{position_in}
+use Rattle.xr_replay_due.specs.Due.{HasRoomFor, is_due}
+use Rattle.xr_replay.specs.Forced.{ChangesOnlyBy, HasForced, NoEventOf, event_at}
+use Rattle.xr_replay.specs.Marks.{AreChangesDue, AreEventsDue, AreInputsDue, OnlyMore}
+use Rattle.xr_replay.specs.Still.{IsForcedSame, IsRecordedSame}
+use Rattle.xr_replay.specs.Sweep.{AreAwaited, AreDue, driver_on}
+use Rattle.xr_replay.proofs.Places.{net_there}
+use Rattle.xr_replay.proofs.Repeats.{position_there}
+use Rattle.xr_replay.proofs.Sweeps.{due_first}
+use Rattle.xr_replay.proofs.Writing.{net_at, net_within, step_there}
+
+-- What isn't due was not before.
+clear_of : (old new : Bool) → (old ≡ true → new ≡ true) → new ≡ false → old ≡ false
+clear_of true new more clear = absurd (let no : true ≡ false = sym (more refl) ∙ clear in cc)
+clear_of false new more clear = refl
+
+pub clear_before : (old new : List ℕ) (p : ℕ) → OnlyMore old new → is_due new p ≡ false → is_due old p ≡ false
+clear_before old new p more clear = clear_of (is_due old p) (is_due new p) (more p) clear
+
+-- One event more is due.
+pub events_more : (j : Job) (events : List Event) (from n : ℕ) (old new : List ℕ) → OnlyMore old new → is_due new (position_of j.order (event_at events n).net) ≡ true → AreEventsDue j events from n old → AreEventsDue j events from (n + 1) new
+events_more j events from n old new more here due i low high =
+    ⊎_elim (λ same. (let P : ℕ → Type 0 = λ k. is_due new (position_of j.order (event_at events k).net) ≡ true in subst P (sym same) here)) (λ differ. more (position_of j.order (event_at events i).net) (due i low (omega (arith, high, differ)))) (cases_eq i n)
+
+-- One net more is due, or has the same value.
+pub changes_more : (j : Job) (n : ℕ) (values before : List Value) (old new : List ℕ) → OnlyMore old new → (is_due new (position_of j.order n) ≡ false → slice_index_or values n X ≡ slice_index_or before n X) → AreChangesDue j n values before old → AreChangesDue j (n + 1) values before new
+changes_more j n values before old new more here due net low clear =
+    ⊎_elim (λ same. (let P : ℕ → Type 0 = λ k. is_due new (position_of j.order k) ≡ false → slice_index_or values k X ≡ slice_index_or before k X in subst P (sym same) here clear)) (λ differ. due net (omega (arith, low, differ)) (clear_before old new (position_of j.order net) more clear)) (cases_eq net n)
+
+-- A net is forced as one step before, where the values by which nets are forced changed only at others.
+pub forced_but_for : (j : Job) → Fits j → (events : List Event) (step from to : ℕ) (old new : List (Option Value)) → HasForced j.width events step new → HasForced j.width events (step - 1) old → ChangesOnlyBy events from to old new → (net : ℕ) → net < j.width → NoEventOf events from to net → IsForcedSame j (forced_by j events) step net
+forced_but_for j fits events step from to old new now before changes net within none =
+    let low = position_in j fits net within in
+    let here : forced_by j events (at j step net) ≡ forced_at events step net = rw (step_there j step (position_of j.order net) low, net_at j step (position_of j.order net) low, net_there j fits net within) refl in
+    let there : forced_by j events (at j (step - 1) net) ≡ forced_at events (step - 1) net = rw (step_there j (step - 1) (position_of j.order net) low, net_at j (step - 1) (position_of j.order net) low, net_there j fits net within) refl in
+    here ∙ (sym (now.value net within) ∙ (changes net none ∙ (before.value net within ∙ sym there)))
+
+recorded_by : (j : Job) (step net : ℕ) (driver : Driver) → j.recorded (step / j.rounds) net ≡ j.recorded ((step - 1) / j.rounds) net → IsRecordedSame j step net driver
+recorded_by j step net Input same = same
+recorded_by j step net Undriven same = tt
+recorded_by j step net (Constant bit) same = tt
+recorded_by j step net (Copy argument) same = tt
+recorded_by j step net (Cell table pins) same = tt
+recorded_by j step net (Register latching) same = tt
+
+-- With events and inputs marked each net rests but for what it reads.
+pub due_marked_first : (j : Job) → Fits j → (forced : ℕ → Option Value) (events : List Event) (step from to : ℕ) (old mid new : List ℕ) → length mid ≡ length old → length new ≡ length mid → OnlyMore old mid → OnlyMore mid new → AreEventsDue j events from to mid → AreInputsDue j step new → ((net : ℕ) → net < j.width → NoEventOf events from to net → IsForcedSame j forced step net) → AreAwaited j forced step old → AreDue j forced step 0 new
+due_marked_first j fits forced events step from to old mid new first second more again marked inputs forces awaited =
+    due_first j forced step old new room kept same recorded awaited
+  where
+    room : HasRoomFor new j.width
+    room = let had = awaited.room in omega (arith, had, first, second)
+
+    kept : (p : ℕ) → p < j.width → is_due new p ≡ false → is_due old p ≡ false
+    kept p low clear = clear_before old mid p more (clear_before mid new p again clear)
+
+    same : (p : ℕ) → p < j.width → is_due new p ≡ false → IsForcedSame j forced step (slice_index j.order p)
+    same p low clear = forces (slice_index j.order p) (net_within j fits p low) (λ i start end of. meets p low clear i start end of)
+      where
+        meets : (p : ℕ) → p < j.width → is_due new p ≡ false → (i : ℕ) → from ≤ i → i < to → (event_at events i).net ≡ slice_index j.order p → ⊥
+        meets p low clear i start end of =
+            let position : position_of j.order (event_at events i).net ≡ p = ap (position_of j.order) of ∙ position_there j fits p low in
+            let P : ℕ → Type 0 = λ k. is_due mid k ≡ true in
+            let due : is_due mid p ≡ true = subst P position (marked i start end) in
+            let no : true ≡ false = sym (again p due) ∙ clear in cc
+
+    recorded : (p : ℕ) → p < j.width → is_due new p ≡ false → IsRecordedSame j step (slice_index j.order p) (driver_on j p)
+    recorded p low clear =
+        let P : ℕ → Type 0 = λ k. is_due new k ≡ false in
+        recorded_by j step (slice_index j.order p) (driver_on j p) (inputs (slice_index j.order p) (net_within j fits p low) (subst P (sym (position_there j fits p low)) clear))
+
+-- Rows of values that differ only at nets that are due.
+pub inputs_due : (j : Job) (step : ℕ) (values before : List Value) (due : List ℕ) → ((net : ℕ) → slice_index_or values net X ≡ j.recorded (step / j.rounds) net) → ((net : ℕ) → slice_index_or before net X ≡ j.recorded ((step - 1) / j.rounds) net) → length values ≡ j.width → AreChangesDue j (length values) values before due → AreInputsDue j step due
+inputs_due j step values before due now then long changes net low clear =
+    sym (now net) ∙ (changes net (omega (arith, low, long)) clear ∙ then net)

@@ -1,0 +1,54 @@
+-- The step is repeated, what differs is due, and gone over.
+use Rattle.std.proofs.Common.{◌≡◌, ◌∙◌, ◌+◌, ◌*◌, ◌≤◌, arith, subst, sym, length, List, ℕ}
+use Rattle.xr_design.specs.Circuit.{job_in}
+use Rattle.xr_design.specs.Force.{forced_by}
+use Rattle.xr_replay_due.specs.Due.{HasRoomFor}
+use Rattle.xr_replay.specs.Sweep.{AreAwaited}
+use Rattle.xr_replay.proofs.Marking.{due_marked_first}
+use Rattle.xr_replay.proofs.Places.{has_step}
+use Rattle.xr_replay.proofs.Sweeps.{ahead_first, awaited_next, filled_next, swept_none}
+use Rattle.xr_replay.proofs.steps.later_step.Goals as goal
+
+pub mark_events-requires-clause-room : goal.mark_events-requires-clause-room
+mark_events-requires-clause-room c = c.requires.due.room
+
+pub mark_inputs-requires-clause-room : goal.mark_inputs-requires-clause-room
+mark_inputs-requires-clause-room c =
+    let room = c.requires.due.room in
+    let long = c.mark_events.ensures.long in
+    omega (arith, room, long)
+
+pub repeat_step-requires-clause-within : goal.repeat_step-requires-clause-within
+repeat_step-requires-clause-within c = (has_step (job_in c.args.circuit.now) c.args.history.now c.args.step c.requires.filled.places c.requires.step).room
+
+pub sweep-requires-clause-swept : goal.sweep-requires-clause-swept
+sweep-requires-clause-swept c =
+    let j = job_in c.args.circuit.now in
+    swept_none j c.requires.fits.fits_job (forced_by j c.args.events.now) c.args.step c.args.history.now c.repeat_step.new.self c.requires.later c.requires.step c.requires.filled c.repeat_step.ensures
+
+pub sweep-requires-clause-due : goal.sweep-requires-clause-due
+sweep-requires-clause-due c =
+    let j = job_in c.args.circuit.now in
+    due_marked_first j c.requires.fits.fits_job (forced_by j c.args.events.now) c.args.events.now c.args.step c.args.from c.args.to c.args.waiting.now.due c.mark_events.new.due c.mark_inputs.new.due c.mark_events.ensures.long c.mark_inputs.ensures.long c.mark_events.ensures.more c.mark_inputs.ensures.more c.mark_events.ensures.events c.mark_inputs.ensures.inputs c.requires.before c.requires.due
+
+pub sweep-requires-clause-ahead : goal.sweep-requires-clause-ahead
+sweep-requires-clause-ahead c =
+    let j = job_in c.args.circuit.now in
+    ahead_first j (forced_by j c.args.events.now) c.args.step c.args.waiting.now.ahead c.requires.ahead
+
+pub returns-clause-filled : goal.returns-clause-filled
+returns-clause-filled c =
+    let j = job_in c.args.circuit.now in
+    filled_next j (forced_by j c.args.events.now) c.args.step c.sweep.new.history c.sweep.ensures.swept
+
+pub returns-clause-due : goal.returns-clause-due
+returns-clause-due c =
+    let j = job_in c.args.circuit.now in
+    let P = λ (due : List ℕ). AreAwaited (job_in c.args.circuit.now) (forced_by (job_in c.args.circuit.now) c.args.events.now) (c.args.step + 1) due in
+    subst P (sym c.turn.ensures.due) (awaited_next j c.requires.fits.fits_job (forced_by j c.args.events.now) c.args.step c.sweep.new.waiting.ahead c.requires.later c.sweep.ensures.ahead)
+
+pub returns-clause-ahead : goal.returns-clause-ahead
+returns-clause-ahead c =
+    let room = c.sweep.ensures.due in
+    let long = c.turn.ensures.ahead in
+    omega (arith, room, long)

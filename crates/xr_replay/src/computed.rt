@@ -1,0 +1,63 @@
+//! One place of the replay, from what the places before have.
+
+ghost use Rattle.std.specs.Prelude.{◌≡◌, ◌+◌, ◌*◌, ◌<◌, unwrap_or};
+ghost use Rattle.xr_design.specs.Circuit.{job_in, CircuitFits};
+ghost use Rattle.xr_replay.specs.Forced.{HasForced};
+ghost use Rattle.xr_replay.specs.Going.{FilledBefore, FilledTo, FilledWith, KeepsOthers};
+ghost use Rattle.xr_replay.specs.Read.{kept_by};
+
+use crate::driven::{driven_value, kept_value};
+use xr_cell::Value;
+use xr_design::{Circuit, Driver, Event, History, Place, driver_at, width_of};
+
+/// Every place of a step, in the order of the nets. Takes no memory.
+pub fn fill_step(
+    circuit: &Circuit<'_>,
+    events: &[Event],
+    forced: &[Option<Value>],
+    history: &mut History,
+    step: u32,
+)
+    requires fits { CircuitFits circuit.now }
+    requires step { step < (job_in circuit.now).moments * (job_in circuit.now).rounds }
+    requires forced { HasForced (job_in circuit.now).width events.now step forced.now }
+    requires filled { FilledBefore circuit.now events.now step history.old }
+    ensures { FilledBefore circuit.now events.now (step + 1) history.new }
+{
+    let nets = width_of(circuit);
+    'positions: for position in 0..nets {
+        compute_place(circuit, events, forced, history, step, position as u32);
+    }
+}
+
+/// The place at a position of a step. Takes no memory.
+pub fn compute_place(
+    circuit: &Circuit<'_>,
+    events: &[Event],
+    forced: &[Option<Value>],
+    history: &mut History,
+    step: u32,
+    position: u32,
+)
+    requires fits { CircuitFits circuit.now }
+    requires step { step < (job_in circuit.now).moments * (job_in circuit.now).rounds }
+    requires position { position < (job_in circuit.now).width }
+    requires forced { HasForced (job_in circuit.now).width events.now step forced.now }
+    requires filled { FilledTo circuit.now events.now step position history.old }
+    ensures filled { FilledWith circuit.now events.now step position history.new }
+    ensures others { KeepsOthers circuit.now step position history.old history.new }
+{
+    let net = circuit.order.net(position);
+    let driver = driver_at(circuit, net as usize);
+    let value = driven_value(circuit, history, step, net, driver);
+    let (shown, kept) = place_values(forced[net as usize], driver, value);
+    history.set(Place { step, net }, shown, kept);
+}
+
+/// What a place shows and keeps where its driver gives a value.
+fn place_values(forced: Option<Value>, driver: &Driver, value: Value) -> (Value, Value)
+    ensures shown { result.0 ≡ unwrap_or forced value }
+    ensures kept { result.1 ≡ kept_by driver.now value }
+{
+    (forced.unwrap_or(value), kept_value(driver, value))
+}

@@ -1,0 +1,133 @@
+//! A step that begins as the one before: only what is due is computed, in the order of the nets.
+//!
+//! A net that shows another value than one step before makes the copies and cells that read it due behind it, and the
+//! registers that look back at it one step later.
+
+ghost use Rattle.std.specs.Prelude.{◌≡◌, ◌+◌, ◌*◌, ◌<◌, true, false, length};
+ghost use Rattle.xr_design.specs.Circuit.{job_in, CircuitFits};
+ghost use Rattle.xr_replay.specs.Forced.{HasForced};
+ghost use Rattle.xr_replay.specs.Going.{AheadTo, DueFrom, FilledWith, StillAt, SweptTo};
+ghost use Rattle.xr_replay.specs.Readings.{AreFans};
+ghost use Rattle.xr_replay_due.specs.Due.{GainsAll, HasRoomFor};
+ghost use Rattle.xr_replay_due.specs.Readers.{IsTable, readers_of};
+
+use crate::fans::Fans;
+use crate::pins::net_value;
+use crate::computed::compute_place;
+use crate::values::is_same;
+use crate::waiting::Waiting;
+use xr_cell::Value;
+use xr_design::{Circuit, Event, History, width_of};
+use xr_replay_due::{Due, Readers};
+
+/// The places of a step whose row is that of the step before. Takes no memory.
+pub fn sweep(
+    circuit: &Circuit<'_>,
+    events: &[Event],
+    fans: &Fans,
+    forced: &[Option<Value>],
+    waiting: &mut Waiting,
+    history: &mut History,
+    step: u32,
+)
+    requires fits { CircuitFits circuit.now }
+    requires fans { AreFans (job_in circuit.now) fans.now }
+    requires later { 0 < step }
+    requires step { step < (job_in circuit.now).moments * (job_in circuit.now).rounds }
+    requires forced { HasForced (job_in circuit.now).width events.now step forced.now }
+    requires swept { SweptTo circuit.now events.now step 0 history.old }
+    requires due { DueFrom circuit.now events.now step 0 waiting.old.due }
+    requires ahead { AheadTo circuit.now events.now step 0 waiting.old.ahead }
+    ensures swept { SweptTo circuit.now events.now step (job_in circuit.now).width history.new }
+    ensures due { HasRoomFor waiting.new.due (job_in circuit.now).width }
+    ensures ahead { AheadTo circuit.now events.now step (job_in circuit.now).width waiting.new.ahead }
+{
+    let nets = width_of(circuit);
+    let mut position = waiting.due.first_from(0);
+    'positions: while position < nets {
+        let place = position as u32;
+        visit_place(circuit, events, fans, forced, waiting, history, step, place);
+        position = waiting.due.first_from(position + 1);
+    }
+}
+
+/// The place at a position of a step, and what becomes due where its net moves.
+fn visit_place(
+    circuit: &Circuit<'_>,
+    events: &[Event],
+    fans: &Fans,
+    forced: &[Option<Value>],
+    waiting: &mut Waiting,
+    history: &mut History,
+    step: u32,
+    position: u32,
+)
+    requires fits { CircuitFits circuit.now }
+    requires fans { AreFans (job_in circuit.now) fans.now }
+    requires later { 0 < step }
+    requires step { step < (job_in circuit.now).moments * (job_in circuit.now).rounds }
+    requires position { position < (job_in circuit.now).width }
+    requires forced { HasForced (job_in circuit.now).width events.now step forced.now }
+    requires swept { SweptTo circuit.now events.now step position history.old }
+    requires due { DueFrom circuit.now events.now step position waiting.old.due }
+    requires ahead { AheadTo circuit.now events.now step position waiting.old.ahead }
+    ensures swept { SweptTo circuit.now events.now step (position + 1) history.new }
+    ensures due { DueFrom circuit.now events.now step (position + 1) waiting.new.due }
+    ensures ahead { AheadTo circuit.now events.now step (position + 1) waiting.new.ahead }
+{
+    compute_place(circuit, events, forced, history, step, position);
+    if stays_at(circuit, events, history, step, position) {
+        return;
+    }
+    let net = circuit.order.net(position);
+    mark_readers(circuit, fans, net, waiting);
+}
+
+/// Whether the net at a position shows the value that it showed one step before.
+fn stays_at(
+    circuit: &Circuit<'_>,
+    events: &[Event],
+    history: &History,
+    step: u32,
+    position: u32,
+) -> bool
+    requires fits { CircuitFits circuit.now }
+    requires later { 0 < step }
+    requires step { step < (job_in circuit.now).moments * (job_in circuit.now).rounds }
+    requires position { position < (job_in circuit.now).width }
+    requires filled { FilledWith circuit.now events.now step position history.now }
+    ensures still { result ≡ true → StillAt circuit.now events.now step position }
+    ensures moves { result ≡ false → StillAt circuit.now events.now step position → ⊥ }
+{
+    let net = circuit.order.net(position);
+    let shown = net_value(circuit, history, step, net);
+    let before = net_value(circuit, history, step - 1, net);
+    is_same(shown, before)
+}
+
+/// The readers of a net become due.
+fn mark_readers(circuit: &Circuit<'_>, fans: &Fans, net: u32, waiting: &mut Waiting)
+    requires fans { AreFans (job_in circuit.now) fans.now }
+    requires net { net < (job_in circuit.now).width }
+    requires due_room { HasRoomFor waiting.old.due (job_in circuit.now).width }
+    requires ahead_room { HasRoomFor waiting.old.ahead (job_in circuit.now).width }
+    ensures due_long { length waiting.new.due ≡ length waiting.old.due }
+    ensures ahead_long { length waiting.new.ahead ≡ length waiting.old.ahead }
+    ensures due { GainsAll waiting.old.due waiting.new.due (readers_of fans.now.cells net) }
+    ensures ahead { GainsAll waiting.old.ahead waiting.new.ahead (readers_of fans.now.registers net) }
+{
+    let nets = width_of(circuit);
+    mark_all(&fans.cells, net, nets, &mut waiting.due);
+    mark_all(&fans.registers, net, nets, &mut waiting.ahead);
+}
+
+/// The readers of a net, of so many, become due.
+fn mark_all(readers: &Readers, net: u32, nets: usize, due: &mut Due)
+    requires table { IsTable nets readers.now }
+    requires net { net < nets }
+    requires room { HasRoomFor due.old nets }
+    ensures long { length due.new ≡ length due.old }
+    ensures gains { GainsAll due.old due.new (readers_of readers.now net) }
+{
+    due.insert_all(readers.of(net as usize, nets));
+}
