@@ -2,8 +2,10 @@
 mod EarlierPlaces
 mod FewNets
 mod MixedClasses
+mod MovedRules
 mod PassingTests
 mod QuickClasses
 mod RisingPlaces
-mod StepBefore
+mod SteadyClasses
+pub mod StepBefore
 mod Reached

@@ -18,6 +18,7 @@ use Rattle.xr_model.specs.declared.class.ClassByNumber.{ClassByNumber}
 use Rattle.xr_model.specs.declared.class.ClassByNumber.TheVariants.{Local, Free, Carried, Line}
 use Rattle.xr_model.proofs.Assignments.{passes_every}
 use Rattle.xr_class.specs.Arguments.{uncertain_places}
+use Rattle.xr_class.specs.Facts.{plain_class}
 use Rattle.xr_class.specs.Keeps.{class_here, net_keeps}
 use Rattle.xr_class.specs.Test.{ReadsOnly, passes, test_of}
 use Rattle.xr_class.specs.declared.test.Test.{Test}
@@ -38,15 +39,9 @@ passes_one j fits c place test within reads none =
     by false is = number_fails j c place test reads [] 0 is
 
 -- So the rule's value there is its class.
-abbrev pub settled_of : Value → ClassByNumber
-settled_of Zero = Local false
-settled_of One = Local true
-settled_of X = Free
-settled_of Z = Free
-
 pub settled_is : (j : Job) → Fits j → (c : ℕ → Value) (place : ℕ) → place < places_of j
     → uncertain_places j c place ≡ []
-    → class_here j c place ≡ settled_of (rule j c (assigned c (masked [] 0)) place)
+    → class_here j c place ≡ plain_class (rule j c (assigned c (masked [] 0)) place)
 settled_is j fits c place within none =
     rw (
       passes_one j fits c place (Bit false) within tt none,
@@ -57,7 +52,7 @@ settled_is j fits c place within none =
     by_value : (v : Value) (other : ClassByNumber)
         → (if is_bit v false then Local false else if is_bit v true then Local true
         else if is_unknown v then Free else other)
-        ≡ settled_of v
+        ≡ plain_class v
     by_value Zero other = refl
     by_value One other = refl
     by_value X other = refl

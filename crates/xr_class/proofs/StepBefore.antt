@@ -1,13 +1,14 @@
 -- A place, and the one of its net a step before.
-use Rattle.std.proofs.Common.{◌≡◌, ℕ, zero, suc, ◌+◌, ◌-◌, ◌*◌, ◌%◌, ◌<◌, ◌≤◌, ◌||◌, Bool, refl, sym, ◌∙◌, arith}
+use Rattle.std.proofs.Common.{◌≡◌, ℕ, zero, suc, ◌+◌, ◌-◌, ◌*◌, ◌%◌, ◌<◌, ◌≤◌, ◌||◌, ◌==◌, Bool, false, refl, sym, ap, ◌∙◌, arith}
 use Rattle.std.proofs.lemmas.Bool.{ne_eqb}
 use Rattle.xr_cell.specs.declared.value.Value.{Value}
 use Rattle.xr_design.specs.Fits.{Fits}
 use Rattle.xr_design.specs.Job.{Job, at, step_of, places_of}
 use Rattle.xr_design.proofs.OrderLemmas.{position_is}
 use Rattle.xr_design.proofs.Rules.{spot}
-use Rattle.xr_model.specs.Class.{are_equal, before, carries_on, keeps}
-use Rattle.xr_model.specs.declared.class.ClassByNumber.{ClassByNumber}
+use Rattle.xr_model.specs.Class.{are_equal, before}
+use Rattle.xr_class.specs.Facts.{facts_of, keeps_by}
+use Rattle.xr_class.specs.Keeps.{net_keeps}
 use Rattle.xr_model.proofs.CarryLaw.{step_at, net_at}
 
 pub one_back : (w step position place : ℕ) → step * w + position ≡ place → (step ≡ 0 → ⊥)
@@ -33,6 +34,14 @@ before_is j fits place within =
     let low = s.position in
     rw (position_is j.order (place % j.width) fits.ordering (omega (arith, all, low))) refl
 
+not_first : (w step position place : ℕ) → step * w + position ≡ place → position < w → w ≤ place → step ≡ 0 → ⊥
+not_first w zero position place whole low more e = omega (arith, whole, low, more)
+not_first w (suc t) position place whole low more e = omega (arith, e)
+
+pub first_step : (w step position place : ℕ) → step * w + position ≡ place → place < w → step ≡ 0
+first_step w zero position place whole less = refl
+first_step w (suc t) position place whole less = absurd (omega (arith, whole, less))
+
 -- In the first step it stands for itself, and later it is one width before.
 pub before_first : (j : Job) → Fits j → (place : ℕ) → place < places_of j → place < j.width → place ≡ before j place
 before_first j fits place within less =
@@ -46,10 +55,34 @@ before_later j fits place within more =
     at_later j.width (step_of j place) (place % j.width) place s.whole s.position more
     ∙ sym (before_is j fits place within)
 
+-- The same with a width that code found.
+pub more_width : (w width place : ℕ) → width ≡ w → width ≤ place → w ≤ place
+more_width w width place is more = omega (arith, is, more)
+
+pub before_back : (j : Job) → Fits j → (place width : ℕ) → place < places_of j → width ≡ j.width → width ≤ place
+    → place - width ≡ before j place
+before_back j fits place width within is more =
+    ap (λ k. place - k) is ∙ before_later j fits place within (more_width j.width width place is more)
+
 pub before_at : (j : Job) → Fits j → (step net : ℕ) → net < j.width → before j (at j step net) ≡ at j (step - 1) net
 before_at j fits step net within = rw (step_at j fits step net within, net_at j fits step net within) refl
 
-pub keeps_is : (j : Job) (c : ℕ → Value) (class : ℕ → ClassByNumber) (step net : ℕ) (equal on : Bool)
-    → (step ≡ 0 → ⊥) → are_equal (c (at j step net)) (c (at j (step - 1) net)) ≡ equal
-    → on ≡ carries_on (class (at j step net)) (at j (step - 1) net) → equal || on ≡ keeps j c class step net
-keeps_is j c class step net equal on later same carries = rw (ne_eqb step 0 later, same, sym carries) refl
+-- Whether a net keeps at a step, by its place there.
+pub keeps_at : (j : Job) → Fits j → (c : ℕ → Value) (step net : ℕ) → net < j.width
+    → (facts_of j c (at j step net)).keeps ≡ net_keeps j c step net
+keeps_at j fits c step net within = rw (step_at j fits step net within, net_at j fits step net within) refl
+
+-- The same of a place behind the first step.
+pub keeps_later : (j : Job) → Fits j → (place : ℕ) (here back : Value) (on : Bool) → place < places_of j
+    → j.width ≤ place → are_equal here back || on ≡ keeps_by (step_of j place) here back on
+keeps_later j fits place here back on within more =
+    let s = spot j fits place within in
+    let low = s.position in
+    let whole = s.whole in
+    rw (ne_eqb (step_of j place) 0 (λ e. not_first j.width (step_of j place) (place % j.width) place whole low more e)) refl
+
+pub keeps_first : (j : Job) → Fits j → (place : ℕ) (here back : Value) (on : Bool) → place < places_of j
+    → place < j.width → false ≡ keeps_by (step_of j place) here back on
+keeps_first j fits place here back on within less =
+    let s = spot j fits place within in
+    rw (first_step j.width (step_of j place) (place % j.width) place s.whole less) refl

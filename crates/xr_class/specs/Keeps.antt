@@ -1,5 +1,5 @@
 -- Nets that keep and places that pass their net's bit on, by the classes of the places before.
-use Rattle.std.specs.Prelude.{◌≡◌, ℕ, ◌-◌, ◌<◌, ◌==◌, ◌&&◌, Bool, true, false, List, not, nat_lt, if◌then◌else◌}
+use Rattle.std.specs.Prelude.{◌≡◌, ℕ, ◌-◌, ◌<◌, ◌≤◌, ◌==◌, ◌&&◌, Bool, true, false, List, not, nat_lt, if◌then◌else◌}
 use Rattle.std.specs.List.{AllByRecursion, list_all, list_any}
 use Rattle.xr_cell.specs.declared.value.Value.{Value}
 use Rattle.xr_design.specs.declared.design.Driver.{Driver}
@@ -9,17 +9,13 @@ use Rattle.xr_design.specs.declared.design.Table.{Table}
 use Rattle.xr_design.specs.declared.design.Table.TheVariants.{Gate, Udp}
 use Rattle.xr_design.specs.declared.circuit.Spot.{Spot}
 use Rattle.xr_design.specs.Fits.{StandsBefore, is_dead}
-use Rattle.xr_design.specs.Job.{Job}
+use Rattle.xr_design.specs.Job.{Job, at}
 use Rattle.xr_design.specs.Order.{net_pins}
 use Rattle.xr_design.specs.Register.{has_uncertain_clock}
 use Rattle.xr_design.specs.Rule.{arguments}
-use Rattle.xr_model.specs.Class.{before, carried_or_line, carries_on, class_by, class_of, is_free, is_local, is_never_unknown, keeps, passes_on, passes_on_of}
+use Rattle.xr_model.specs.Class.{before, carried_or_line, class_by, class_of, is_free, is_local, is_never_unknown, keeps, passes_on, passes_on_of}
 use Rattle.xr_model.specs.declared.class.ClassByNumber.{ClassByNumber}
 use Rattle.xr_model.specs.declared.class.ClassByNumber.TheVariants.{Carried}
-
--- Bits say of each place before a place whether its class is Carried from the step before, as it is.
-abbrev pub AreCarriers : Job → (ℕ → Value) → (ℕ → Bool) → ℕ → Type 0
-AreCarriers j certain bits place = (k : ℕ) → k < place → bits k ≡ carries_on (class_of j certain k) (before j k)
 
 -- Nets stand before a spot in the order.
 abbrev pub Standing : Job → Spot → List ℕ → Type 0
@@ -69,3 +65,11 @@ pub record IsMixed (j : Job) (certain : ℕ → Value) (place : ℕ) : Type 0 wh
 abbrev pub cell_chooses : Table → List Pin → Bool
 cell_chooses (Gate gate) pins = list_any is_dead pins
 cell_chooses (Udp number) pins = true
+
+-- A register at a step behind the second looks back at what it looked back at a step before: its own net has there the
+-- certain value that it had, and the nets of its pins keep at both steps that it looks back at.
+pub record SeesTheSame (j : Job) (certain : ℕ → Value) (step net : ℕ) (latching : Latching) : Type 0 where
+  pub later : 3 ≤ step
+  pub own : certain (at j (step - 1) net) ≡ certain (at j (step - 2) net)
+  pub new : nets_keep j certain (step - 1) (net_pins latching.pins) ≡ true
+  pub old : nets_keep j certain (step - 2) (net_pins latching.pins) ≡ true

@@ -1,4 +1,5 @@
 -- Definitions of what code finds of classes.
 pub mod Arguments
+pub mod Facts
 pub mod Keeps
 pub mod Test

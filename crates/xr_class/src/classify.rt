@@ -1,22 +1,15 @@
 //! The class of a place.
 
-ghost use Rattle.std.specs.Prelude.{◌≡◌, ℕ, ◌<◌, ◌≤◌, length, Contains};
-ghost use Rattle.std.specs.List.{AllByRecursion};
-ghost use Rattle.xr_cell.specs.declared.value.Value.{Value as AnyValue};
+ghost use Rattle.std.specs.Prelude.{◌≡◌, ℕ, ◌<◌};
 ghost use Rattle.xr_design.specs.Circuit.{job_in, CircuitFits};
 ghost use Rattle.xr_design.specs.Job.{places_of};
-ghost use Rattle.xr_design.specs.Rule.{arguments};
-ghost use Rattle.xr_model.specs.Class.{class_of, is_carried_from};
-ghost use Rattle.xr_class.specs.Arguments.{uncertain_places};
-ghost use Rattle.xr_class.specs.Keeps.{AreCarriers, class_here, copy_or_line, later_class};
+ghost use Rattle.xr_model.specs.Class.{class_of};
+ghost use Rattle.xr_class.specs.Facts.{AgreeBefore, AreFacts};
 
-use crate::arguments::uncertain_places;
 use crate::earlier::Earlier;
-use crate::every::{is_mixed, passes_every};
-use crate::keeps::{passes_on, place_before};
-use crate::quick::{copied_class, settled_class};
-use crate::ruled::ruled_arguments;
-use crate::test::Test;
+use crate::quick::copied_class;
+use crate::steady::{cell_class, register_class};
+use crate::tried::tried_class;
 use xr_design::{Circuit, Driver, Source, driver_at, spot_of};
 use xr_model::ClassByNumber;
 
@@ -25,133 +18,17 @@ pub fn class_at<E: Earlier>(circuit: &Circuit<'_>, earlier: &E, place: usize) ->
     requires fits { CircuitFits circuit.now }
     requires within { place < places_of (job_in circuit.now) }
     requires certain { (k : ℕ) → k < place → E.has earlier.now k }
-    requires carriers { AreCarriers (job_in circuit.now) (E.reads earlier.now) (E.carries earlier.now) place }
+    requires facts { AreFacts (job_in circuit.now) (E.reads earlier.now) (E.facts earlier.now) place }
+    requires agrees { AgreeBefore (job_in circuit.now) (E.reads earlier.now) place }
     ensures { result ≡ class_of (job_in circuit.now) (E.reads earlier.now) place }
 {
     let spot = spot_of(circuit, place);
     match driver_at(circuit, spot.net) {
         Driver::Copy(net) => copied_class(circuit, earlier, place, spot, *net),
+        Driver::Cell(table, pins) => {
+            cell_class(circuit, earlier, place, spot, *table, pins.as_slice())
+        }
+        Driver::Register(latching) => register_class(circuit, earlier, place, spot, latching),
         _ => tried_class(circuit, earlier, place),
     }
-}
-
-/// The class by what the rule gives.
-fn tried_class<E: Earlier>(circuit: &Circuit<'_>, earlier: &E, place: usize) -> ClassByNumber
-    requires fits { CircuitFits circuit.now }
-    requires within { place < places_of (job_in circuit.now) }
-    requires certain { (k : ℕ) → k < place → E.has earlier.now k }
-    requires carriers { AreCarriers (job_in circuit.now) (E.reads earlier.now) (E.carries earlier.now) place }
-    ensures { result ≡ class_here (job_in circuit.now) (E.reads earlier.now) place }
-{
-    let uncertain = uncertain_places(circuit, earlier, place);
-    let places = uncertain.as_slice();
-    if places.is_empty() {
-        settled_class(circuit, earlier, place)
-    } else {
-        first_class(circuit, earlier, place, places)
-    }
-}
-
-fn first_class<E: Earlier>(
-    circuit: &Circuit<'_>,
-    earlier: &E,
-    place: usize,
-    uncertain: &[usize],
-) -> ClassByNumber
-    requires fits { CircuitFits circuit.now }
-    requires within { place < places_of (job_in circuit.now) }
-    requires certain { (k : ℕ) → k < place → E.has earlier.now k }
-    requires carriers { AreCarriers (job_in circuit.now) (E.reads earlier.now) (E.carries earlier.now) place }
-    requires few { length uncertain.now ≤ 13 }
-    requires uncertain { uncertain.now ≡ uncertain_places (job_in circuit.now) (E.reads earlier.now) place }
-    ensures { result ≡ class_here (job_in circuit.now) (E.reads earlier.now) place }
-{
-    if is_mixed(circuit, earlier, place, uncertain) {
-        later_class(circuit, earlier, place, uncertain)
-    } else if passes_every(circuit, earlier, place, uncertain, Test::Bit(false)) {
-        ClassByNumber::Local(false)
-    } else if passes_every(circuit, earlier, place, uncertain, Test::Bit(true)) {
-        ClassByNumber::Local(true)
-    } else if passes_every(circuit, earlier, place, uncertain, Test::Unknown) {
-        ClassByNumber::Free
-    } else {
-        later_class(circuit, earlier, place, uncertain)
-    }
-}
-
-/// The class of a place that is neither local nor free.
-fn later_class<E: Earlier>(
-    circuit: &Circuit<'_>,
-    earlier: &E,
-    place: usize,
-    uncertain: &[usize],
-) -> ClassByNumber
-    requires fits { CircuitFits circuit.now }
-    requires within { place < places_of (job_in circuit.now) }
-    requires certain { (k : ℕ) → k < place → E.has earlier.now k }
-    requires carriers { AreCarriers (job_in circuit.now) (E.reads earlier.now) (E.carries earlier.now) place }
-    requires few { length uncertain.now ≤ 13 }
-    requires uncertain { uncertain.now ≡ uncertain_places (job_in circuit.now) (E.reads earlier.now) place }
-    ensures { result ≡ later_class (job_in circuit.now) (E.reads earlier.now) place }
-{
-    if passes_on(circuit, earlier, place, uncertain) {
-        ClassByNumber::Carried(place_before(circuit, place), false)
-    } else {
-        carried_or_line(circuit, earlier, place, uncertain)
-    }
-}
-
-/// The first of its argument places that a place is carried from, if there is one.
-fn carried_or_line<C: Source>(
-    circuit: &Circuit<'_>,
-    certain: &C,
-    place: usize,
-    uncertain: &[usize],
-) -> ClassByNumber
-    requires fits { CircuitFits circuit.now }
-    requires within { place < places_of (job_in circuit.now) }
-    requires certain { (k : ℕ) → k < place → C.has certain.now k }
-    requires few { length uncertain.now ≤ 13 }
-    requires uncertain { uncertain.now ≡ uncertain_places (job_in circuit.now) (C.reads certain.now) place }
-    ensures { result ≡ copy_or_line (job_in circuit.now) (C.reads certain.now) place }
-{
-    let ruled = ruled_arguments(circuit, certain, place);
-    'rest: for from in ruled.as_slice() {
-        if is_carried_from(circuit, certain, place, uncertain, *from, false) {
-            return ClassByNumber::Carried(*from, false);
-        }
-        if is_carried_from(circuit, certain, place, uncertain, *from, true) {
-            return ClassByNumber::Carried(*from, true);
-        }
-    }
-    ClassByNumber::Line
-}
-
-/// Whether a place is carried from one of its argument places, as it is or inverted.
-fn is_carried_from<C: Source>(
-    circuit: &Circuit<'_>,
-    certain: &C,
-    place: usize,
-    uncertain: &[usize],
-    from: usize,
-    inverted: bool,
-) -> bool
-    requires fits { CircuitFits circuit.now }
-    requires within { place < places_of (job_in circuit.now) }
-    requires certain { (k : ℕ) → k < place → C.has certain.now k }
-    requires few { length uncertain.now ≤ 13 }
-    requires uncertain { uncertain.now ≡ uncertain_places (job_in circuit.now) (C.reads certain.now) place }
-    requires from { Contains (arguments (job_in circuit.now) (C.reads certain.now) place) from }
-    ensures { result ≡ is_carried_from (job_in circuit.now) (C.reads certain.now) place from inverted }
-{
-    if certain.value(from).is_known() {
-        return false;
-    }
-    passes_every(
-        circuit,
-        certain,
-        place,
-        uncertain,
-        Test::Copies(from, inverted),
-    )
 }

@@ -5,13 +5,14 @@ ghost use Rattle.std.specs.List.{AllByRecursion, list_all, list_any};
 ghost use Rattle.xr_cell.specs.declared.value.Value.{Value as AnyValue};
 ghost use Rattle.xr_design.specs.Circuit.{job_in, CircuitFits, IsSpot, Reach};
 ghost use Rattle.xr_design.specs.Fits.{FitsDriver, FitsRegister, StandsBefore, is_dead};
-ghost use Rattle.xr_design.specs.Job.{at, places_of};
+ghost use Rattle.xr_design.specs.Job.{at, places_of, step_of};
 ghost use Rattle.xr_design.specs.Order.{arguments_of_driver, net_pins};
 ghost use Rattle.xr_design.specs.Register.{has_uncertain_clock};
 ghost use Rattle.xr_model.specs.Class.{are_equal, before, class_of, is_never_unknown, keeps, passes_on, passes_on_of};
 ghost use Rattle.xr_design.specs.declared.design.Driver.TheVariants.{Cell};
 ghost use Rattle.xr_class.specs.Arguments.{uncertain_places};
-ghost use Rattle.xr_class.specs.Keeps.{AreCarriers, Standing, cell_chooses, cell_passes, driver_passes, net_keeps, nets_keep, place_passes, register_passes};
+ghost use Rattle.xr_class.specs.Facts.{AreFacts, keeps_by};
+ghost use Rattle.xr_class.specs.Keeps.{Standing, cell_chooses, cell_passes, driver_passes, net_keeps, nets_keep, place_passes, register_passes};
 
 use crate::earlier::Earlier;
 use crate::every::passes_every;
@@ -19,8 +20,8 @@ use crate::ruled::place_of;
 use crate::test::Test;
 use xr_cell::Value;
 use xr_design::{
-    Circuit, Driver, Latching, Pin, Spot, Table, clock_is_uncertain, driver_at, recorded_at,
-    spot_of, width_of,
+    Circuit, Driver, Latching, Pin, Source, Spot, Table, clock_is_uncertain, driver_at,
+    recorded_at, spot_of, width_of,
 };
 
 /// Whether a place passes its net's bit on, given its argument places that aren't certain. Takes no memory.
@@ -33,7 +34,7 @@ pub fn passes_on<E: Earlier>(
     requires fits { CircuitFits circuit.now }
     requires within { place < places_of (job_in circuit.now) }
     requires certain { (k : ℕ) → k < place → E.has earlier.now k }
-    requires carriers { AreCarriers (job_in circuit.now) (E.reads earlier.now) (E.carries earlier.now) place }
+    requires facts { AreFacts (job_in circuit.now) (E.reads earlier.now) (E.facts earlier.now) place }
     requires few { length uncertain.now ≤ 13 }
     requires uncertain { uncertain.now ≡ uncertain_places (job_in circuit.now) (E.reads earlier.now) place }
     ensures { result ≡ place_passes (job_in circuit.now) (E.reads earlier.now) place }
@@ -63,7 +64,7 @@ fn driver_passes<E: Earlier>(
     requires is { (job_in circuit.now).driver spot.net ≡ driver.now }
     requires before { Standing (job_in circuit.now) spot (arguments_of_driver driver.now) }
     requires certain { (k : ℕ) → k < place → E.has earlier.now k }
-    requires carriers { AreCarriers (job_in circuit.now) (E.reads earlier.now) (E.carries earlier.now) place }
+    requires facts { AreFacts (job_in circuit.now) (E.reads earlier.now) (E.facts earlier.now) place }
     requires few { length uncertain.now ≤ 13 }
     requires uncertain { uncertain.now ≡ uncertain_places (job_in circuit.now) (E.reads earlier.now) place }
     ensures { result ≡ driver_passes (job_in circuit.now) (E.reads earlier.now) place spot.step spot.net driver.now }
@@ -110,7 +111,7 @@ fn cell_passes<E: Earlier>(
     requires is { (job_in circuit.now).driver spot.net ≡ Cell table pins.now }
     requires before { Standing (job_in circuit.now) spot (net_pins pins.now) }
     requires certain { (k : ℕ) → k < place → E.has earlier.now k }
-    requires carriers { AreCarriers (job_in circuit.now) (E.reads earlier.now) (E.carries earlier.now) place }
+    requires facts { AreFacts (job_in circuit.now) (E.reads earlier.now) (E.facts earlier.now) place }
     requires few { length uncertain.now ≤ 13 }
     requires uncertain { uncertain.now ≡ uncertain_places (job_in circuit.now) (E.reads earlier.now) place }
     ensures { result ≡ cell_passes (job_in circuit.now) (E.reads earlier.now) place spot.step pins.now }
@@ -128,7 +129,7 @@ fn cell_passes<E: Earlier>(
 }
 
 /// Whether the place of a cell reads its filling.
-fn cell_chooses(table: Table, pins: &[Pin]) -> bool
+pub fn cell_chooses(table: Table, pins: &[Pin]) -> bool
     ensures { result ≡ cell_chooses table pins.now }
 {
     match table {
@@ -158,7 +159,7 @@ fn register_passes<E: Earlier>(
     requires spot { IsSpot (job_in circuit.now) place spot }
     requires register { FitsRegister (job_in circuit.now).udps (job_in circuit.now).width latching.now }
     requires certain { (k : ℕ) → k < place → E.has earlier.now k }
-    requires carriers { AreCarriers (job_in circuit.now) (E.reads earlier.now) (E.carries earlier.now) place }
+    requires facts { AreFacts (job_in circuit.now) (E.reads earlier.now) (E.facts earlier.now) place }
     ensures { result ≡ register_passes (job_in circuit.now) (E.reads earlier.now) spot.step latching.now }
 {
     if spot.step <= 1 {
@@ -177,7 +178,7 @@ fn register_passes<E: Earlier>(
 }
 
 /// Whether the nets of pins all keep at a step.
-fn pins_keep<E: Earlier>(
+pub fn pins_keep<E: Earlier>(
     circuit: &Circuit<'_>,
     earlier: &E,
     place: usize,
@@ -186,7 +187,7 @@ fn pins_keep<E: Earlier>(
 ) -> bool
     requires fits { CircuitFits circuit.now }
     requires certain { (k : ℕ) → k < place → E.has earlier.now k }
-    requires carriers { AreCarriers (job_in circuit.now) (E.reads earlier.now) (E.carries earlier.now) place }
+    requires facts { AreFacts (job_in circuit.now) (E.reads earlier.now) (E.facts earlier.now) place }
     requires nets { AllByRecursion (Reach (job_in circuit.now) (λ k. k < place) step) (net_pins pins.now) }
     requires small { step * (job_in circuit.now).width + (job_in circuit.now).width ≤ 2 ^ 27 }
     ensures { result ≡ nets_keep (job_in circuit.now) (E.reads earlier.now) step (net_pins pins.now) }
@@ -209,18 +210,30 @@ pub fn net_keeps<E: Earlier>(
 ) -> bool
     requires fits { CircuitFits circuit.now }
     requires certain { (k : ℕ) → k < place → E.has earlier.now k }
-    requires carriers { AreCarriers (job_in circuit.now) (E.reads earlier.now) (E.carries earlier.now) place }
+    requires facts { AreFacts (job_in circuit.now) (E.reads earlier.now) (E.facts earlier.now) place }
     requires net { Reach (job_in circuit.now) (λ k. k < place) step net }
     requires small { step * (job_in circuit.now).width + (job_in circuit.now).width ≤ 2 ^ 27 }
     ensures { result ≡ net_keeps (job_in circuit.now) (E.reads earlier.now) step net }
 {
-    if step == 0 {
-        return false;
-    }
-    let here = place_of(circuit, step, net);
-    let value = earlier.value(here);
-    let value_before = earlier.value(here - width_of(circuit));
-    are_equal(value, value_before) || earlier.carries_on(here)
+    earlier.keeps(place_of(circuit, step, net))
+}
+
+/// Whether a net keeps at a place, given its certain value there and whether its class is Carried from the step before,
+/// as it is. Takes no memory.
+pub fn keeps_here<C: Source>(
+    circuit: &Circuit<'_>,
+    certain: &C,
+    place: usize,
+    here: Value,
+    carries: bool,
+) -> bool
+    requires fits { CircuitFits circuit.now }
+    requires within { place < places_of (job_in circuit.now) }
+    requires certain { (k : ℕ) → k < place → C.has certain.now k }
+    ensures { result ≡ keeps_by (step_of (job_in circuit.now) place) here (C.reads certain.now (before (job_in circuit.now) place)) carries }
+{
+    let width = width_of(circuit);
+    place >= width && (are_equal(here, certain.value(place - width)) || carries)
 }
 
 fn are_equal(x: Value, y: Value) -> bool

@@ -1,8 +1,9 @@
 //! The class of a place, from what is known of the places before it: how a waveform gets what it has there. No memory.
 //!
-//! The plain way: all assignments of the arguments that aren't certain are tried, at most 2^13. A copy needs none, a
-//! place whose arguments are all certain one, and mostly the first and the last show that a place is neither local nor
-//! free. Start at `class_at`.
+//! Mostly a place has the class of its net's place a step before: its arguments are as they were there. Else all
+//! assignments of the arguments that aren't certain are tried, at most 2^13. A copy needs none, a place whose arguments
+//! are all certain one, and mostly the first and the last show that a place is neither local nor free. Start at
+//! `class_at`.
 #![tactic(auto)]
 
 mod arguments;
@@ -13,12 +14,14 @@ mod every;
 mod keeps;
 mod quick;
 mod ruled;
+mod steady;
 mod test;
+mod tried;
 
 pub use arguments::{ArgumentsByNumber, argument_places, uncertain_places};
 pub use assigned::{Assigned, Numbered, rule_value};
 pub use classify::class_at;
 pub use earlier::Earlier;
 pub use every::passes_every;
-pub use keeps::{net_keeps, place_before};
+pub use keeps::{keeps_here, net_keeps, place_before};
 pub use test::Test;

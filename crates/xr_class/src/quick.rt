@@ -7,7 +7,9 @@ ghost use Rattle.xr_design.specs.Circuit.{job_in, CircuitFits, IsSpot};
 ghost use Rattle.xr_design.specs.Job.{places_of};
 ghost use Rattle.xr_design.specs.declared.design.Driver.TheVariants.{Copy};
 ghost use Rattle.xr_class.specs.Arguments.{uncertain_places};
-ghost use Rattle.xr_class.specs.Keeps.{AreCarriers, class_here};
+ghost use Rattle.xr_class.specs.Facts as spec;
+ghost use Rattle.xr_class.specs.Facts.{AreFacts};
+ghost use Rattle.xr_class.specs.Keeps.{class_here};
 
 use crate::assigned::{Assigned, Numbered};
 use crate::earlier::Earlier;
@@ -29,7 +31,7 @@ pub fn copied_class<E: Earlier>(
     requires spot { IsSpot (job_in circuit.now) place spot }
     requires driver { (job_in circuit.now).driver spot.net ≡ Copy net }
     requires certain { (k : ℕ) → k < place → E.has earlier.now k }
-    requires carriers { AreCarriers (job_in circuit.now) (E.reads earlier.now) (E.carries earlier.now) place }
+    requires facts { AreFacts (job_in circuit.now) (E.reads earlier.now) (E.facts earlier.now) place }
     ensures { result ≡ class_here (job_in circuit.now) (E.reads earlier.now) place }
 {
     let from = place_of(circuit, spot.step, net);
@@ -59,7 +61,14 @@ pub fn settled_class<C: Source>(circuit: &Circuit<'_>, certain: &C, place: usize
             number: 0,
         },
     };
-    match rule_value(circuit, certain, &bits, place) {
+    plain_class(rule_value(circuit, certain, &bits, place))
+}
+
+/// The class of a place that is local or free, by its certain value or by what its rule gives. Takes no memory.
+pub fn plain_class(value: Value) -> ClassByNumber
+    ensures { result ≡ spec.plain_class value }
+{
+    match value {
         Value::Zero => ClassByNumber::Local(false),
         Value::One => ClassByNumber::Local(true),
         Value::X => ClassByNumber::Free,

@@ -1,4 +1,6 @@
 -- Lemmas on waves.
+mod AgreeingValues
+mod ByteDigits
 mod FoundLines
 mod KeptBytes
 mod LineGrowth

@@ -25,10 +25,8 @@ use Rattle.xr_model.specs.Places.{among}
 use Rattle.xr_model.proofs.AssignmentNumbers.{along}
 use Rattle.xr_model.proofs.PlacesWhere.{picked_below}
 use Rattle.xr_model.proofs.Roots.{carried_below}
-use Rattle.xr_class.specs.Keeps.{AreCarriers}
-use Rattle.xr_wave.specs.Byte.{carries_in, carries_of_byte, written_of_byte}
+use Rattle.xr_wave.specs.Byte.{written_of_byte}
 use Rattle.xr_wave.specs.Contents.{FromWithin, next_class}
-use Rattle.xr_wave.proofs.KeptBytes.{carriers_grown}
 
 by_test : (b : Bool) (there class : ClassByNumber) → (if b then Some there else None) ≡ Some class
     → (b ≡ true) × (there ≡ class)
@@ -74,14 +72,14 @@ next_from_job j fits written class is =
     further (length written) (places_of j) (omega (arith, within)) class (next_from j fits written class is)
 
 -- What is said of the class of the next place, over bytes.
-pub next_carries : (j : Job) (bytes : List ℕ) (carries : Bool) → length bytes < places_of j
-    → IfSome (next_class j (map written_of_byte bytes)) (λ class. carries ≡ carries_on class (before j (length bytes)))
-    → carries ≡ carries_on (class_of j (certain (map written_of_byte bytes)) (length bytes)) (before j (length bytes))
-next_carries j bytes carries within says =
+pub next_said : (P : ClassByNumber → Type 0) (j : Job) (bytes : List ℕ) (next : Option ClassByNumber)
+    → length bytes < places_of j → next ≡ next_class j (map written_of_byte bytes) → IfSome next P
+    → P (class_of j (certain (map written_of_byte bytes)) (length bytes))
+next_said P j bytes next within next_is says =
     let long : length (map written_of_byte bytes) ≡ length bytes = length-map bytes written_of_byte in
     let some = some_next j (map written_of_byte bytes) (omega (arith, long, within)) in
-    subst (λ n. carries ≡ carries_on (class_of j (certain (map written_of_byte bytes)) n) (before j (length bytes))) long
-    (rw some at says)
+    subst (λ n. P (class_of j (certain (map written_of_byte bytes)) n)) long
+    (subst (λ found. IfSome found P) (next_is ∙ some) says)
 
 -- A history that is handed in has each place of the job.
 pub handed_places : (j : Job) (history : HistoryView) → IsHandedIn j history → HasPlaces j history
@@ -116,19 +114,6 @@ pub arguments_within : (j : Job) (c : ℕ → Value) (place : ℕ) → place < p
 arguments_within j c place within =
     along (λ k. k < place) (λ k. k < places_of j) (argument_places j c place) (λ k less. omega arith)
     (picked_below (among (arguments j c place)) place)
-
--- Bytes with one more, of which it is told whether its place carries on.
-pub carriers_pushed : (j : Job) → Fits j → (bytes : List ℕ) (byte : ℕ) (next : Option ClassByNumber) (carries : Bool)
-    → length bytes < places_of j
-    → AreCarriers j (certain (map written_of_byte bytes)) (carries_in bytes) (length bytes)
-    → next ≡ next_class j (map written_of_byte bytes)
-    → IfSome next (λ class. carries ≡ carries_on class (before j (length bytes))) → carries_of_byte byte ≡ carries
-    → (all : List ℕ) → all ≡ bytes ++ byte ∷ []
-    → AreCarriers j (certain (map written_of_byte all)) (carries_in all) (length all)
-carriers_pushed j fits bytes byte next carries within carriers next_is says byte_is all all_is =
-    subst (λ (bs : List ℕ). AreCarriers j (certain (map written_of_byte bs)) (carries_in bs) (length bs)) (sym all_is)
-    (carriers_grown j fits bytes byte within carriers
-    (byte_is ∙ next_carries j bytes carries within (rw next_is at says)))
 
 -- A class that carries on is Carried from the place before, as it is.
 pub carried_on : (class : ClassByNumber) (back : ℕ) → carries_on class back ≡ true → class ≡ Carried back false

@@ -10,6 +10,8 @@ use Rattle.xr_model.specs.declared.class.ClassByNumber.TheVariants.{Local, Free,
 use Rattle.xr_model.specs.declared.line.Line.{Line as ALine}
 use Rattle.xr_model.proofs.WaveInvariant.{grown}
 use Rattle.xr_wave.specs.Advance.{Contradicts, IsPlain, plain_written}
+use Rattle.xr_wave.proofs.AgreeingValues.{sound_agrees}
+use Rattle.xr_wave.specs.Kept.{ValuesAgree}
 use Rattle.xr_wave.specs.Contents.{Contents, IsWave, class_in, class_or_done, job, next_number, next_seen, shown_in}
 
 -- It stays a wave, whichever way the next place is written.
@@ -21,6 +23,12 @@ wave_grown c x new is next = record {
   handed = is.handed;
   holds = grown (job c) c.limit is.fits.fits_job (shown_in c) c.written c.lines x new is.holds next;
 }
+
+-- So its certain values agree with its classes.
+pub wave_agrees : (c : Contents) (x : Written) (new : List ALine) → IsWave c
+    → NextHolds (job c) c.limit (shown_in c) c.written x new → ValuesAgree (job c) (c.written ++ x ∷ [])
+wave_agrees c x new is next = sound_agrees (job c) c.limit (shown_in c) (c.written ++ x ∷ []) (c.lines ++ new)
+    (wave_grown c x new is next).holds.sound
 
 -- The same where the lists are those that a body makes.
 pub wave_next : (c : Contents) (x : Written) (new : List ALine) → IsWave c

@@ -1,12 +1,13 @@
 -- A place of a waveform in a byte.
-use Rattle.std.specs.Prelude.{ℕ, ◌/◌, ◌%◌, ◌==◌, Bool, List, slice_index_or, if◌then◌else◌}
+use Rattle.std.specs.Prelude.{ℕ, ◌/◌, ◌%◌, ◌==◌, List, slice_index_or, if◌then◌else◌}
 use Rattle.xr_design.specs.declared.waveform.Mark.{Mark}
 use Rattle.xr_design.specs.declared.waveform.Mark.TheVariants.{Certain, Unknown, Undecided}
 use Rattle.xr_design.specs.declared.waveform.Written.{Written}
 use Rattle.xr_design.specs.History.{value_of_bits}
+use Rattle.xr_class.specs.Facts.{Facts, facts}
 
--- Its value is in the low two bits, its mark in the next two, and behind them a bit says whether its class is Carried
--- from the step before, as it is.
+-- Its value is in the low two bits, its mark in the next two, and behind them a bit each says whether its class is Carried
+-- from the step before as it is, whether it is Local or Free, and whether its net keeps there.
 abbrev pub mark_of_bits : ℕ → Mark
 mark_of_bits bits = if bits == 0 then Certain else if bits == 1 then Unknown else Undecided
 
@@ -18,9 +19,9 @@ two_bits_of_mark Undecided = 2
 abbrev pub written_of_byte : ℕ → Written
 written_of_byte byte = record { value = value_of_bits (byte % 4); mark = mark_of_bits (byte / 4 % 4) }
 
-abbrev pub carries_of_byte : ℕ → Bool
-carries_of_byte byte = byte / 16 % 2 == 1
+abbrev pub facts_of_byte : ℕ → Facts
+facts_of_byte byte = facts (byte / 16 % 2 == 1) (byte / 32 % 2 == 1) (byte / 64 % 2 == 1)
 
--- Which places carry on.
-abbrev pub carries_in : List ℕ → ℕ → Bool
-carries_in bytes place = carries_of_byte (slice_index_or bytes place 0)
+-- What the bytes of places say of one of them.
+abbrev pub facts_in : List ℕ → ℕ → Facts
+facts_in bytes place = facts_of_byte (slice_index_or bytes place 0)

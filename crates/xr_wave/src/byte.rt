@@ -1,8 +1,9 @@
 //! A place of a waveform in a byte.
 
-ghost use Rattle.std.specs.Prelude.{◌≡◌, ◌≤◌};
+ghost use Rattle.std.specs.Prelude.{◌≡◌, ◌≤◌, ◌==◌};
 ghost use Rattle.xr_design.specs.History.{two_bits, value_of_bits};
-ghost use Rattle.xr_wave.specs.Byte.{carries_of_byte, mark_of_bits, two_bits_of_mark, written_of_byte};
+ghost use Rattle.xr_class.specs.Facts.{facts};
+ghost use Rattle.xr_wave.specs.Byte.{facts_of_byte, mark_of_bits, two_bits_of_mark, written_of_byte};
 
 use xr_cell::Value;
 use xr_design::{Mark, Written};
@@ -19,23 +20,40 @@ pub fn written_in(byte: u8) -> Written
 
 /// Whether its class carries on from the step before.
 pub fn carries_on(byte: u8) -> bool
-    ensures { result ≡ carries_of_byte byte }
+    ensures { result ≡ (facts_of_byte byte).carries }
 {
     byte / 16 % 2 == 1
 }
 
+/// Whether it is Local or Free.
+pub fn is_plain(byte: u8) -> bool
+    ensures { result ≡ (facts_of_byte byte).plain }
+{
+    byte / 32 % 2 == 1
+}
+
+/// Whether its net keeps there.
+pub fn keeps(byte: u8) -> bool
+    ensures { result ≡ (facts_of_byte byte).keeps }
+{
+    byte / 64 % 2 == 1
+}
+
 /// The byte of a place.
-pub fn byte_of(written: Written, carries: bool) -> u8
+pub fn byte_of(written: Written, carries: bool, plain: bool, keeps: bool) -> u8
     ensures written { written_of_byte result ≡ written }
-    ensures carries { carries_of_byte result ≡ carries }
+    ensures facts { facts_of_byte result ≡ facts carries plain keeps }
 {
     let value = bits_of_value(written.value);
     let mark = bits_of_mark(written.mark);
-    if carries {
-        value + 4 * mark + 16
-    } else {
-        value + 4 * mark
-    }
+    value + 4 * mark + 16 * bit_of(carries) + 32 * bit_of(plain) + 64 * bit_of(keeps)
+}
+
+fn bit_of(is: bool) -> u8
+    ensures bit { (result == 1) ≡ is }
+    ensures few { result ≤ 1 }
+{
+    if is { 1 } else { 0 }
 }
 
 fn value_of(bits: u8) -> Value

@@ -6,14 +6,14 @@ ghost use Rattle.xr_design.specs.Circuit.{job_in, CircuitFits};
 ghost use Rattle.xr_design.specs.Job.{places_of};
 ghost use Rattle.xr_design.specs.Waveform.{certain, certain_by};
 ghost use Rattle.xr_model.specs.Class.{before, carries_on};
-ghost use Rattle.xr_class.specs.Keeps.{AreCarriers};
-ghost use Rattle.xr_wave.specs.Byte.{carries_in, written_of_byte};
+ghost use Rattle.xr_class.specs.Facts.{is_plain};
+ghost use Rattle.xr_wave.specs.Byte.{facts_in, facts_of_byte, written_of_byte};
 ghost use Rattle.xr_wave.specs.Contents.{next_class};
-ghost use Rattle.xr_wave.specs.Kept.{BytesCarry, IsKept};
+ghost use Rattle.xr_wave.specs.Kept.{BytesTell, IsKept, ValuesAgree, facts_next};
 
-use crate::byte::{byte_of, carries_on, written_in};
+use crate::byte::{byte_of, carries_on, is_plain, keeps, written_in};
 use xr_cell::Value;
-use xr_class::{Earlier, class_at, place_before};
+use xr_class::{Earlier, class_at, keeps_here, place_before};
 use xr_design::{Circuit, Mark, Source, Written, count_places};
 use xr_model::ClassByNumber;
 
@@ -34,10 +34,18 @@ impl<'w> Source for Bytes<'w> {
 }
 
 impl<'w> Earlier for Bytes<'w> {
-    ghost carries = { λ s place. carries_in s.bytes.now place };
+    ghost facts = { λ s place. facts_in s.bytes.now place };
 
     fn carries_on(&self, place: usize) -> bool {
         carries_on(self.bytes[place])
+    }
+
+    fn is_plain(&self, place: usize) -> bool {
+        is_plain(self.bytes[place])
+    }
+
+    fn keeps(&self, place: usize) -> bool {
+        keeps(self.bytes[place])
     }
 }
 
@@ -64,7 +72,8 @@ pub fn value_if_certain(written: Written) -> Value
 pub fn class_behind(circuit: &Circuit<'_>, bytes: &[u8]) -> Option<ClassByNumber>
     requires fits { CircuitFits circuit.now }
     requires within { length bytes.now ≤ places_of (job_in circuit.now) }
-    requires carriers { BytesCarry (job_in circuit.now) bytes.now }
+    requires told { BytesTell (job_in circuit.now) bytes.now }
+    requires agrees { ValuesAgree (job_in circuit.now) (map written_of_byte bytes.now) }
     ensures { result ≡ next_class (job_in circuit.now) (map written_of_byte bytes.now) }
 {
     let place = bytes.len();
@@ -86,15 +95,48 @@ pub fn push_place(
     requires within { length bytes.old.items < places_of (job_in circuit.now) }
     requires room { places_of (job_in circuit.now) ≤ vec_capacity bytes.old }
     requires kept { IsKept circuit.now bytes.old.items next }
+    requires agrees { ValuesAgree (job_in circuit.now) (map written_of_byte bytes.old.items ++ written ∷ []) }
     ensures written { map written_of_byte bytes.new.items ≡ map written_of_byte bytes.old.items ++ written ∷ [] }
     ensures kept { IsKept circuit.now bytes.new.items result }
     ensures room { places_of (job_in circuit.now) ≤ vec_capacity bytes.new }
 {
-    let carries = is_carrying_on(circuit, bytes.len(), next);
-    if bytes.push(byte_of(written, carries)).is_err() {
+    let byte = next_byte(circuit, bytes.as_slice(), next, written);
+    if bytes.push(byte).is_err() {
         unreachable!()
     }
     class_behind(circuit, bytes.as_slice())
+}
+
+/// The byte of the next place, whose class is given.
+fn next_byte(
+    circuit: &Circuit<'_>,
+    bytes: &[u8],
+    next: Option<ClassByNumber>,
+    written: Written,
+) -> u8
+    requires fits { CircuitFits circuit.now }
+    requires within { length bytes.now < places_of (job_in circuit.now) }
+    requires next { next ≡ next_class (job_in circuit.now) (map written_of_byte bytes.now) }
+    ensures written { written_of_byte result ≡ written }
+    ensures facts { facts_of_byte result ≡ facts_next (job_in circuit.now) bytes.now written }
+{
+    let place = bytes.len();
+    let carries = is_carrying_on(circuit, place, next);
+    let plain = is_plain_class(next);
+    let here = value_if_certain(written);
+    let keeps = keeps_here(circuit, &Bytes { bytes }, place, here, carries);
+    byte_of(written, carries, plain, keeps)
+}
+
+/// Whether a class is Local or Free.
+fn is_plain_class(next: Option<ClassByNumber>) -> bool
+    ensures { IfSome next (λ class. result ≡ is_plain class) }
+{
+    match next {
+        Some(ClassByNumber::Local(_)) => true,
+        Some(ClassByNumber::Free) => true,
+        _ => false,
+    }
 }
 
 /// Whether a class is Carried from the step before, as it is.

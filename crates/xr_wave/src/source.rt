@@ -1,15 +1,12 @@
 //! A wave as what is known of the places that are written.
 
-ghost use Rattle.std.specs.Prelude.{◌≡◌, ℕ, ◌<◌, Bool, length};
+ghost use Rattle.std.specs.Prelude.{◌≡◌, ℕ, ◌<◌, length};
 ghost use Rattle.xr_cell.specs.declared.value.Value.{Value as AnyValue};
 ghost use Rattle.xr_design.specs.Waveform.{certain};
-ghost use Rattle.xr_model.specs.Class.{before, carries_on};
-ghost use Rattle.xr_wave.specs.Contents.{class_in, job};
 
 use crate::bytes::value_if_certain;
 use crate::wave::Wave;
 use xr_cell::Value;
-use xr_class::Earlier;
 use xr_design::Source;
 
 impl<'a> Source for Wave<'a> {
@@ -19,14 +16,6 @@ impl<'a> Source for Wave<'a> {
 
     fn value(&self, place: usize) -> Value {
         certain_at(self, place)
-    }
-}
-
-impl<'a> Earlier for Wave<'a> {
-    ghost carries = { λ wave place. carries_on (class_in wave place) (before (job wave) place) };
-
-    fn carries_on(&self, place: usize) -> bool {
-        self.is_carried_on(place)
     }
 }
 

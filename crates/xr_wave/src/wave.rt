@@ -257,7 +257,7 @@ impl<'a> Wave<'a> {
     }
 
     /// Whether the class of the place of a number is Carried from the step before, as it is.
-    pub(crate) fn is_carried_on(&self, number: usize) -> bool
+    fn is_carried_on(&self, number: usize) -> bool
         requires { number < length self.now.written }
         ensures { result ≡ carries_on (class_in self.now number) (before (job self.now) number) }
     {

@@ -6,8 +6,9 @@ use Rattle.xr_design.specs.Circuit.{job_in}
 use Rattle.xr_design.specs.Job.{places_of}
 use Rattle.xr_wave.specs.Byte.{written_of_byte}
 use Rattle.xr_wave.specs.Contents.{Contents, IsWave, job}
+use Rattle.xr_wave.specs.Kept.{ValuesAgree}
 use Rattle.xr_wave.proofs.LineGrowth.{line_next}
-use Rattle.xr_wave.proofs.WaveGrowth.{wave_next}
+use Rattle.xr_wave.proofs.WaveGrowth.{wave_agrees, wave_next}
 use Rattle.xr_wave.proofs.wave.Wave.write_line.Goals as goal
 
 pub push_place-behind-requires-clause-within : goal.push_place-behind-requires-clause-within
@@ -16,6 +17,12 @@ push_place-behind-requires-clause-within c =
     let less : length (map written_of_byte c.self.inside.bytes.items) < places_of (job_in c.self.inside.circuit) =
     subst (λ (v : Contents). length v.written < places_of (job v)) (sym c.self.view_is) c.requires.line.within in
     omega (arith, long, less)
+
+pub push_place-behind-requires-clause-agrees : goal.push_place-behind-requires-clause-agrees
+push_place-behind-requires-clause-agrees c =
+    let right : IsWave c.args.self = subst IsWave c.self.view_is c.self.invariant.right in
+    subst (λ (v : Contents). ValuesAgree (job v) (v.written ++ c.args.written ∷ [])) (sym c.self.view_is)
+    (wave_agrees c.args.self c.args.written (c.args.line ∷ []) right (line_next c.args.self c.args.written c.args.line right c.requires.class c.requires.line c.requires.written c.requires.agrees))
 
 pub invariant_of-self-2 : goal.invariant_of-self-2
 invariant_of-self-2 c =

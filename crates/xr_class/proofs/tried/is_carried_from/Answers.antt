@@ -4,7 +4,7 @@ use Rattle.xr_design.specs.Circuit.{job_in}
 use Rattle.xr_design.specs.Rule.{arguments}
 use Rattle.xr_design.proofs.Rules.{arguments_below}
 use Rattle.xr_model.proofs.Classes.{all_at}
-use Rattle.xr_class.proofs.classify.is_carried_from.Goals as goal
+use Rattle.xr_class.proofs.tried.is_carried_from.Goals as goal
 
 pub value-requires : goal.value-requires
 value-requires g c =

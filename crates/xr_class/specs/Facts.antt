@@ -1,0 +1,64 @@
+-- What is kept of each place that stands before a place, and how certain values agree with classes.
+use Rattle.std.specs.Prelude.{◌≡◌, ℕ, ◌<◌, ◌==◌, ◌&&◌, ◌||◌, Bool, true, false, not}
+use Rattle.xr_cell.specs.declared.value.Value.{Value}
+use Rattle.xr_cell.specs.declared.value.Value.TheVariants.{Zero, One, X, Z}
+use Rattle.xr_cell.specs.Value.{bit_value}
+use Rattle.xr_design.specs.Job.{Job, step_of}
+use Rattle.xr_model.specs.Class.{are_equal, before, carries_on, class_of}
+use Rattle.xr_model.specs.Yields.{flipped_value}
+use Rattle.xr_model.specs.declared.class.ClassByNumber.{ClassByNumber}
+use Rattle.xr_model.specs.declared.class.ClassByNumber.TheVariants.{Local, Free, Carried, Line}
+
+-- A place is Carried from the step before as it is, it is Local or Free, and its net keeps there.
+pub record Facts : Type 0 where
+  pub carries : Bool
+  pub plain : Bool
+  pub keeps : Bool
+
+abbrev pub is_plain : ClassByNumber → Bool
+is_plain (Local bit) = true
+is_plain Free = true
+is_plain (Carried from inverted) = false
+is_plain Line = false
+
+-- A net keeps at a step, by its certain values there and a step before, and by whether its place carries on.
+abbrev pub keeps_by : ℕ → Value → Value → Bool → Bool
+keeps_by step here back carries = not (step == 0) && (are_equal here back || carries)
+
+abbrev pub place_carries : Job → (ℕ → Value) → ℕ → Bool
+place_carries j certain place = carries_on (class_of j certain place) (before j place)
+
+abbrev pub facts : Bool → Bool → Bool → Facts
+facts carries plain keeps = record { carries = carries; plain = plain; keeps = keeps }
+
+-- They, by the step and the class of a place, the place before it, and the certain values of both; and those of a place.
+abbrev pub facts_by : ℕ → ℕ → ClassByNumber → Value → Value → Facts
+facts_by step back class here value_back =
+    facts (carries_on class back) (is_plain class) (keeps_by step here value_back (carries_on class back))
+
+abbrev pub facts_of : Job → (ℕ → Value) → ℕ → Facts
+facts_of j certain place =
+    facts_by (step_of j place) (before j place) (class_of j certain place) (certain place) (certain (before j place))
+
+-- They are those of each place before a place.
+abbrev pub AreFacts : Job → (ℕ → Value) → (ℕ → Facts) → ℕ → Type 0
+AreFacts j certain facts place = (k : ℕ) → k < place → facts k ≡ facts_of j certain k
+
+-- The certain value of a place agrees with its class: a local place has its bit, a free one isn't certain, and a carried
+-- one has the value of the place that it is carried from, inverted where the class says so.
+abbrev pub AgreesWith : (ℕ → Value) → ClassByNumber → Value → Type 0
+AgreesWith certain (Local bit) value = value ≡ bit_value bit
+AgreesWith certain Free value = value ≡ X
+AgreesWith certain (Carried from inverted) value = value ≡ flipped_value inverted (certain from)
+AgreesWith certain Line value = Unit {0}
+
+-- So it does at each place before a place.
+abbrev pub AgreeBefore : Job → (ℕ → Value) → ℕ → Type 0
+AgreeBefore j certain place = (k : ℕ) → k < place → AgreesWith certain (class_of j certain k) (certain k)
+
+-- The class of a place that is local or free, by its certain value or by what its rule gives.
+abbrev pub plain_class : Value → ClassByNumber
+plain_class Zero = Local false
+plain_class One = Local true
+plain_class X = Free
+plain_class Z = Free
