@@ -2,7 +2,8 @@
 use Rattle.std.specs.Prelude.{◌≡◌, ℕ, ◌-◌, List, [], ◌∷◌, ◌++◌, length, take, drop, Bool, true, false, cond, ◌==◌, Option, Some, None, slice_index, slice_get}
 use Rattle.xr_vcd.specs.Bytes.{range_of, last_bracket}
 use Rattle.xr_vcd_codes.specs.Code.{Code, code, with_kind_at}
-use Rattle.xr_vcd.specs.Recording.{Path, path_at}
+use Rattle.xr_vcd.specs.Recording.{Path, path_at, paths_of}
+use Rattle.xr_vcd.specs.declared.variable.Scope.{Scope}
 use Rattle.xr_vcd.specs.declared.variable.Variable.{Variable}
 
 -- What is declared so far; the scopes that are entered and not left stand innermost last, and each variable has the number of
@@ -15,10 +16,11 @@ pub record Declarations : Type 0 where
   pub variables : List Variable
   pub numbers : List ℕ
 
-abbrev pub declared_of : Option (List ℕ) → List Path → List ℕ → List Code → List Variable → List ℕ → Declarations
-declared_of timescale scopes entered codes variables numbers = record {
+-- the same by the scopes as they are stored
+abbrev pub seen_of : Option (List ℕ) → List Scope → List ℕ → List Code → List Variable → List ℕ → Declarations
+seen_of timescale scopes entered codes variables numbers = record {
   timescale = timescale;
-  scopes = scopes;
+  scopes = paths_of scopes;
   entered = entered;
   codes = codes;
   variables = variables;

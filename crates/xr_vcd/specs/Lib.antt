@@ -10,5 +10,6 @@ pub mod Reading
 pub mod Recording
 pub mod RecordingFault
 pub mod Scanning
+pub mod Scopes
 pub mod Trees
 pub mod Words

@@ -1,10 +1,10 @@
 -- What the functions that read do with the words that are left.
-use Rattle.std.specs.Prelude.{◌≡◌, ◌≢◌, ◌<◌, ℕ, Bool, List, [], ◌∷◌, length, Option, Some, None, Result, Ok, Err}
+use Rattle.std.specs.Prelude.{◌≡◌, ◌≢◌, ◌<◌, ℕ, Bool, false, List, [], ◌∷◌, length, Option, Some, None, Result, Ok, Err}
 use Rattle.xr_vcd.specs.Bytes.{are_values, rest_of}
 use Rattle.xr_vcd.specs.Declarations.{Declarations, with_variable}
-use Rattle.xr_vcd.specs.Changes.{Body}
+use Rattle.xr_vcd.specs.Changes.{Body, start}
 use Rattle.xr_vcd.specs.Machine.{State, Next, needs, run, then_run}
-use Rattle.xr_vcd.specs.Machine.State.{body, declaring, var_code, var_reference, var_width, vector}
+use Rattle.xr_vcd.specs.Machine.State.{body, declaring, definitions_end, var_code, var_reference, var_width, vector}
 use Rattle.xr_vcd.specs.Naming.{shown_name}
 use Rattle.xr_vcd.specs.Recording.{Recording}
 use Rattle.xr_vcd.specs.Words.{Left, Word, word}
@@ -47,6 +47,19 @@ Reads s old (Err e) next new = Refuses (goes s old) e
 abbrev pub ReadsOn : {X : Type 0} → Next → Left → Result X VcdErr → (X → State) → Left → Type 0
 ReadsOn s old (Ok x) next new = goes_on s old ≡ goes (next x) new
 ReadsOn s old (Err e) next new = Refuses (goes_on s old) e
+
+-- A declaration was read, behind which this is declared.
+abbrev pub ReadsOne : State → Left → Result Unit VcdErr → Declarations → Left → Type 0
+ReadsOne s old result after new = Reads s old result (λ _. declaring after) new
+
+-- A code was read, behind which this is declared.
+abbrev pub ReadsCode : Declarations → ℕ → Bool → ℕ → Left → Result ℕ VcdErr → Declarations → Left → Type 0
+ReadsCode before var skipped width old result after new =
+    Reads (var_code before var skipped width) old result (λ number. var_reference after skipped number width) new
+
+-- In any declarations, their end is read, or refused.
+abbrev pub ReadsEnd : Left → Result Unit VcdErr → Left → Type 0
+ReadsEnd old result new = (h : Declarations) → Reads (definitions_end h) old result (λ _. body (start h) false) new
 
 -- In any declarations, the width of a variable is read, or refused.
 abbrev pub ReadsWidth : Left → Result ℕ VcdErr → Left → Type 0

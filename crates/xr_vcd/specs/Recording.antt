@@ -2,7 +2,7 @@
 use Rattle.std.specs.Prelude.{◌≡◌, ℕ, ◌-◌, ◌<◌, ◌≤◌, ◌^◌, List, [], ◌∷◌, ◌++◌, length, Option, Some, None, map, slice_get, slice_index_or, All}
 use Rattle.std.specs.List.Sorted.{IsStrictlyIncreasing}
 use Rattle.xr_cell.specs.declared.value.Value.{Value}
-use Rattle.xr_vcd_changes.specs.Held.{Change, bit_value, track_of}
+use Rattle.xr_vcd_changes.specs.Held.{Change, History, bit_value, track_of}
 use Rattle.xr_vcd_changes.specs.Last.{IsLastValue}
 use Rattle.xr_vcd.specs.declared.variable.Variable.{Variable}
 use Rattle.xr_vcd.specs.declared.variable.Scope.{Scope}
@@ -66,13 +66,13 @@ abbrev pub paths_of : List Scope → List Path
 paths_of ss = paths_from ([] ∷ []) ss
 
 -- What is seen of a recording's parts: its scopes as they are stored, and the number of each variable's code.
-abbrev pub seen_of : Option (List ℕ) → List Scope → List Variable → List ℕ → List (List Change) → List ℕ → Recording
-seen_of timescale scopes variables times tracks numbers = record {
+abbrev pub seen_of : Option (List ℕ) → List Scope → List Variable → List ℕ → List ℕ → History → Recording
+seen_of timescale scopes variables numbers times stored = record {
   timescale = timescale;
   scopes = paths_of scopes;
   variables = variables;
   times = times;
-  changes = map (track_of tracks) numbers;
+  changes = map (track_of stored.tracks) numbers;
 }
 
 -- The name of a scope: the last of its path.

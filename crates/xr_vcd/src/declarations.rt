@@ -26,13 +26,12 @@ pub struct Declarations<'a> {
 }
 
 impl<'a> Model for Declarations<'a> {
-    ghost use Rattle.xr_vcd.specs.Declarations.{Declarations, declared_of};
-    ghost use Rattle.xr_vcd.specs.Recording.{paths_of};
+    ghost use Rattle.xr_vcd.specs.Declarations.{Declarations, seen_of};
     ghost use Rattle.xr_vcd.specs.Trees.{AreHeld};
 
     ghost Value = { Declarations };
 
-    ghost view = { λ h. declared_of h.timescale (paths_of h.scopes.items) h.entered.items h.codes h.variables.items h.numbers.items };
+    ghost view = { λ h. seen_of h.timescale h.scopes.items h.entered.items h.codes h.variables.items h.numbers.items };
 
     ghost invariant = { λ h. AreHeld h.scopes.items h.variables.items h.numbers.items h.entered.items };
 }

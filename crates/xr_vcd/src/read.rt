@@ -5,6 +5,7 @@ ghost use Rattle.xr_vcd.specs.Changes.{start};
 ghost use Rattle.xr_vcd.specs.Faults.{Says, FirstFault, IsRead, beginning};
 ghost use Rattle.xr_vcd.specs.Machine.State.{body as in_body};
 ghost use Rattle.xr_vcd.specs.Reading.{Answers, goes};
+ghost use Rattle.xr_vcd.specs.Scopes.{StandInScopes};
 ghost use Rattle.xr_vcd.specs.Words.{left_of};
 ghost use Rattle.xr_vcd.specs.declared.refusal.VcdErr.TheVariants.{Memory as OutOfMemory};
 
@@ -25,6 +26,7 @@ pub fn read_vcd(alloc: Global, bytes: &[u8]) -> Result<Recording, VcdErr>
     ensures says { IfOk result (λ recording. Says bytes.now recording) }
     ensures first { IfErr result (λ refusal. refusal ≢ OutOfMemory → FirstFault bytes.now refusal) }
     ensures only { IsRead bytes.now result }
+    ensures scopes { IfOk result (StandInScopes bytes.now) }
 {
     read_text(alloc, bytes)
 }

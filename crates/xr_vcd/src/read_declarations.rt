@@ -2,12 +2,10 @@
 
 ghost use Rattle.std.specs.Prelude.{◌≡◌, ◌<◌, ◌≤◌, ◌^◌, ◌++◌, Bool, false, ℕ, List, length, IfOk};
 ghost use Rattle.xr_vcd.specs.Changes.{Body, start};
-ghost use Rattle.xr_vcd_codes.specs.Code.{find};
-ghost use Rattle.xr_vcd.specs.Declarations.{Declarations, with_variable};
-ghost use Rattle.xr_vcd.specs.Machine.{upscope_on, code_on};
-ghost use Rattle.xr_vcd.specs.Machine.State.{definitions_end, note, scale, scope_kind, scale_end, var_kind, var_width, var_code, var_reference, body, body_note, declaring};
-ghost use Rattle.xr_vcd.specs.Naming.{shown_name};
-ghost use Rattle.xr_vcd.specs.Reading.{Reads, ReadsName, ReadsOn, ReadsWidth, Shortens};
+ghost use Rattle.xr_vcd.specs.Declarations.{Declarations};
+ghost use Rattle.xr_vcd.specs.Machine.{upscope_on};
+ghost use Rattle.xr_vcd.specs.Machine.State.{note, scale, scope_kind, scale_end, var_kind, body, body_note, declaring};
+ghost use Rattle.xr_vcd.specs.Reading.{Reads, ReadsCode, ReadsEnd, ReadsName, ReadsOn, ReadsOne, ReadsWidth, Shortens};
 
 use crate::bytes::{
     are_digits, is_code, is_end, is_power, is_scale, is_skipped, is_unit, value_within,
@@ -46,7 +44,7 @@ pub fn read_declarations<'a>(
 
 // definitions = "$enddefinitions" "$end"
 fn read_definitions_end(words: &mut Words<'_>) -> Result<(), VcdErr>
-    ensures reads { (h : Declarations) → Reads (definitions_end h) words.old result (λ _. body (start h) false) words.new }
+    ensures reads { ReadsEnd words.old result words.new }
     ensures shortens { Shortens words.old result words.new }
 {
     let (at, text) = words.need()?;
@@ -72,7 +70,7 @@ pub fn skip_note(words: &mut Words<'_>) -> Result<(), VcdErr>
 
 // timescale = "$timescale" ( power unit | power white unit ) "$end"
 fn read_scale(words: &mut Words<'_>, declared: &mut Declarations<'_>) -> Result<(), VcdErr>
-    ensures reads { Reads (scale declared.old) words.old result (λ _. declaring declared.new) words.new }
+    ensures reads { ReadsOne (scale declared.old) words.old result declared.new words.new }
     ensures shortens { Shortens words.old result words.new }
 {
     let (at, text) = words.need()?;
@@ -95,7 +93,7 @@ fn read_scale_end(
     words: &mut Words<'_>,
     declared: &mut Declarations<'_>,
 ) -> Result<(), VcdErr>
-    ensures reads { Reads (scale_end declared.old (front.now ++ back.now)) words.old result (λ _. declaring declared.new) words.new }
+    ensures reads { ReadsOne (scale_end declared.old (front.now ++ back.now)) words.old result declared.new words.new }
     ensures shortens { Shortens words.old result words.new }
 {
     let (at, text) = words.need()?;
@@ -107,7 +105,7 @@ fn read_scale_end(
 
 // scope = "$scope" kind name "$end"
 fn read_scope(words: &mut Words<'_>, declared: &mut Declarations<'_>) -> Result<(), VcdErr>
-    ensures reads { Reads (scope_kind declared.old) words.old result (λ _. declaring declared.new) words.new }
+    ensures reads { ReadsOne (scope_kind declared.old) words.old result declared.new words.new }
     ensures shortens { Shortens words.old result words.new }
 {
     words.need()?;
@@ -147,7 +145,7 @@ fn read_var<'a>(
     words: &mut Words<'a>,
     declared: &mut Declarations<'a>,
 ) -> Result<(), VcdErr>
-    ensures reads { Reads (var_kind declared.old at) words.old result (λ _. declaring declared.new) words.new }
+    ensures reads { ReadsOne (var_kind declared.old at) words.old result declared.new words.new }
     ensures shortens { Shortens words.old result words.new }
 {
     let (_, kind) = words.need()?;
@@ -183,7 +181,7 @@ fn read_code<'a>(
     words: &mut Words<'a>,
     declared: &mut Declarations<'a>,
 ) -> Result<usize, VcdErr>
-    ensures reads { Reads (var_code declared.old var skipped width) words.old result (λ number. var_reference declared.new skipped number width) words.new }
+    ensures reads { ReadsCode declared.old var skipped width words.old result declared.new words.new }
     ensures shortens { Shortens words.old result words.new }
 {
     let (at, text) = words.need()?;

@@ -27,7 +27,7 @@ impl Model for Recording {
 
     ghost Value = { Recording };
 
-    ghost view = { λ r. seen_of r.timescale r.scopes.items r.variables.items r.times.items r.changes.tracks r.numbers.items };
+    ghost view = { λ r. seen_of r.timescale r.scopes.items r.variables.items r.numbers.items r.times.items r.changes };
 
     ghost invariant = { λ r. AreDeclared r.scopes.items r.variables.items r.numbers.items × AreTimes r.times.items };
 }

@@ -1,5 +1,6 @@
--- What the text says, or its first fault.
+-- What the text says, in which scopes, or its first fault.
 use Rattle.xr_vcd.proofs.Firsts.{first, only}
+use Rattle.xr_vcd.proofs.Innermost.{read_in_scopes}
 use Rattle.xr_vcd.proofs.read.read_vcd.Goals as goal
 
 pub returns-clause-first : goal.returns-clause-first
@@ -7,3 +8,6 @@ returns-clause-first c = first c.args.bytes.now _ 0 c.read_text.ensures
 
 pub returns-clause-only : goal.returns-clause-only
 returns-clause-only c = λ said h. only c.args.bytes.now _ said h c.read_text.ensures
+
+pub returns-clause-scopes : goal.returns-clause-scopes
+returns-clause-scopes c = read_in_scopes c.args.bytes.now _ c.read_text.ensures
