@@ -61,7 +61,8 @@ fn node_word(body: &NodeBody, words: &[u64], own: u64) -> u64
 /// The word of a table: in each lane the value whose number the arguments have there.
 fn rule_word(arguments: &[u32], values: &[Value], words: &[u64], own: u64) -> u64
     requires { IsTable (length words.now) arguments.now values.now }
-    ensures { HasLanes result (λ lane. table_bit arguments.now values.now (lane_of words.now lane) (in_lane own lane)) }
+    ensures { HasLanes result
+        (λ lane. table_bit arguments.now values.now (lane_of words.now lane) (in_lane own lane)) }
 {
     let mut word = 0;
     'values: for (number, value) in values.iter().enumerate() {
