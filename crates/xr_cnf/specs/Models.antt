@@ -27,8 +27,7 @@ picked_places nodes model (suc n) =
     else picked_places nodes model n
 
 -- A filling gives each source of a cone its bit in the valuation of a model, whichever place of a wave the nodes are
--- the
--- cone of.
+-- the cone of.
 abbrev pub IsModelFilling : List Node → List Bool → List Place → Type 0
 IsModelFilling nodes values filling = (c : Contents) (root : ℕ) → IsConeOf c root nodes
     → filling ≡ source_filling (job c) (certain c.written) root

@@ -27,7 +27,8 @@ pub fn model_filling(alloc: Global, cone: &Cone, model: &Model) -> Result<Fillin
 /// The places of the nodes that a model picks.
 fn picked_places(alloc: Global, nodes: &[Node], values: &[bool]) -> Result<Vec<Place>, Memory>
     requires { AreNodes nodes.now }
-    ensures { IfOk result (λ places. places.items ≡ picked_places nodes.now (assigned values.now) (length nodes.now)) }
+    ensures { IfOk result
+        (λ places. places.items ≡ picked_places nodes.now (assigned values.now) (length nodes.now)) }
 {
     let mut places = Vec::new(alloc);
     let mut variables: u32 = 0;
