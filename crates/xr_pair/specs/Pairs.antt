@@ -1,7 +1,8 @@
 -- When two fillings are no pair, and when 64 fillings of the sources agree.
-use Rattle.std.specs.Prelude.{◌≡◌, ℕ, ◌<◌, ◌≤◌, Bool, true, false, Option, None, Some, List, count_ones, nat_le, if◌then◌else◌}
+use Rattle.std.specs.Prelude.{◌≡◌, ℕ, ◌<◌, ◌≤◌, Bool, true, false, Option, None, Some, List, count_ones, nat_le, not, if◌then◌else◌}
 use Rattle.xr_design.specs.declared.place.Place.{Place}
 use Rattle.xr_wave.specs.Contents.{Contents, next_number}
+use Rattle.xr_wave.specs.Token.{PairToken}
 use Rattle.xr_cone_nodes.specs.declared.node.Node.{Node}
 use Rattle.xr_cone_nodes.specs.Lanes.{in_lane, root_in_lane}
 use Rattle.xr_cone_nodes.specs.Nodes.{nothing, root_bit}
@@ -26,6 +27,21 @@ IsRefusal c zero one Memory = Unit {0}
 -- In each lane the root has its bit of the empty filling.
 abbrev pub AllAgree : List Node → List ℕ → Type 0
 AllAgree nodes given = (lane : ℕ) → lane < 64 → root_in_lane nodes given lane ≡ root_bit nothing nodes
+
+-- In a lane it has the other one.
+abbrev pub Differs : List Node → List ℕ → ℕ → Type 0
+Differs nodes given lane = root_in_lane nodes given lane ≡ not (root_bit nothing nodes)
+
+-- It has the other one in a lane whose number is among those with the least ones.
+pub record IsLeastOther (nodes : List Node) (given : List ℕ) (lane : ℕ) : Type 0 where
+  pub within : lane < 64
+  pub differs : Differs nodes given lane
+  pub least : (other : ℕ) → other < 64 → Differs nodes given other → count_ones lane ≤ count_ones other
+
+-- Of a pair the filling that gives another bit than some.
+abbrev pub other_of : Bool → PairToken → List Place
+other_of true token = token.zero
+other_of false token = token.one
 
 -- A word has no 1, or a lane has one, its number being among those with the least ones.
 abbrev pub HasNone : ℕ → Type 0

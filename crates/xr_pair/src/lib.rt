@@ -8,4 +8,4 @@ mod lanes;
 mod tries;
 
 pub use check::{BadPair, check_pair};
-pub use tries::{try_in, try_words};
+pub use tries::{other_lane, pair_of_lane, try_in, try_words};

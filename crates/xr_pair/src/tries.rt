@@ -1,10 +1,10 @@
 //! 64 fillings at once against the empty one.
 
-ghost use Rattle.std.specs.Prelude.{◌≡◌, ◌<◌, ◌↔◌, IfOk, IfSome, IsNone, length, not};
-ghost use Rattle.xr_cone_nodes.specs.Lanes.{root_in_lane};
-ghost use Rattle.xr_cone_nodes.specs.Nodes.{nothing, root_bit};
+ghost use Rattle.std.specs.Prelude.{◌≡◌, ◌<◌, ◌↔◌, IfOk, IfSome, IsNone, MatchOption, length};
+ghost use Rattle.xr_cone_nodes.specs.Lanes.{lane_of};
+ghost use Rattle.xr_cone_nodes.specs.Nodes.{chosen, nothing, root_bit, sources_of};
 ghost use Rattle.xr_wave.specs.Token.{LineHolds, pair_line};
-ghost use Rattle.xr_pair.specs.Pairs.{AllAgree, IsNextCone};
+ghost use Rattle.xr_pair.specs.Pairs.{AllAgree, Differs, IsLeastOther, IsNextCone, other_of};
 
 use crate::lanes::least_lane;
 use std::alloc::Global;
@@ -42,8 +42,7 @@ pub fn try_in(
     ensures none { IfOk result (λ found. IsNone found ↔ AllAgree cone.now.nodes given.now) }
     ensures room { words.new.nodes ≡ words.old.nodes }
 {
-    let word = words.root(cone, given);
-    match least_lane(turned(word, cone.base())) {
+    match other_lane(cone, words, given) {
         None => Ok(None),
         Some(lane) => {
             let pair = pair_of_lane(alloc, wave, cone, given, lane)?;
@@ -52,8 +51,19 @@ pub fn try_in(
     }
 }
 
-/// The pair of the empty filling and that of a lane, in the order that the empty one says.
-fn pair_of_lane(
+/// A lane whose filling gives the place another bit than the empty one, of these one whose number has the least ones.
+/// Takes no memory.
+pub fn other_lane(cone: &Cone, words: &mut Words, given: &[u64]) -> Option<u32>
+    requires { words.old.nodes ≡ length cone.now.nodes }
+    ensures lane { MatchOption result (AllAgree cone.now.nodes given.now) (IsLeastOther cone.now.nodes given.now) }
+    ensures room { words.new.nodes ≡ words.old.nodes }
+{
+    let word = words.root(cone, given);
+    least_lane(turned(word, cone.base()))
+}
+
+/// The pair of the empty filling and that of a lane, in the order that the empty one says. Takes memory for a filling.
+pub fn pair_of_lane(
     alloc: Global,
     wave: &Wave<'_>,
     cone: &Cone,
@@ -62,8 +72,10 @@ fn pair_of_lane(
 ) -> Result<Pair, Memory>
     requires cone { IsNextCone wave.now cone.now.nodes }
     requires lane { lane < 64 }
-    requires differs { root_in_lane cone.now.nodes given.now lane ≡ not (root_bit nothing cone.now.nodes) }
-    ensures { IfOk result (λ pair. LineHolds wave.now (pair_line pair)) }
+    requires differs { Differs cone.now.nodes given.now lane }
+    ensures holds { IfOk result (λ pair. LineHolds wave.now (pair_line pair)) }
+    ensures other { let other = chosen (sources_of cone.now.nodes) (lane_of given.now lane) in
+        IfOk result (λ pair. other_of (root_bit nothing cone.now.nodes) pair ≡ other) }
 {
     let other = cone.chosen(alloc, given, lane)?;
     let empty = Items::from_vec(Vec::new(alloc));
