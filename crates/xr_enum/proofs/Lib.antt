@@ -1,3 +1,4 @@
 -- Lemmas on decisions by enumeration.
 pub mod BlockWords
+pub mod FoundNumbers
 pub mod TriedNumbers

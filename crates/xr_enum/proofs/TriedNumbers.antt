@@ -1,7 +1,6 @@
 -- The numbers of the fillings that are tried.
-use Rattle.std.proofs.Common.{◌≡◌, ℕ, ◌+◌, ◌-◌, ◌*◌, ◌^◌, ◌<◌, ◌≤◌, ◌==◌, List, length, sym, ap, ◌∙◌, arith, ⊎_elim}
+use Rattle.std.proofs.Common.{◌≡◌, ℕ, ◌+◌, ◌-◌, ◌*◌, ◌/◌, ◌%◌, ◌^◌, ◌<◌, ◌≤◌, ◌==◌, List, length, not, sym, ap, ◌∙◌, arith, ⊎_elim}
 use Rattle.std.proofs.Math.ListN.{get_or-eq_default}
-use Rattle.std.proofs.Math.Nat.{pow-le-pow_right}
 use Rattle.std.proofs.Math.Path.{fun_ext}
 use Rattle.std.proofs.lemmas.Bool.{cases_lt}
 use Rattle.std.proofs.lemmas.Nat.Bits.{bit_at_above}
@@ -11,50 +10,63 @@ use Rattle.xr_wave.specs.Token.{HoldsNext}
 use Rattle.xr_cone_nodes.proofs.ConeLaws.{enumerated_law}
 use Rattle.xr_cone_nodes.proofs.LaneBits.{lane_zero}
 use Rattle.xr_cone_nodes.specs.declared.node.Node.{Node}
-use Rattle.xr_cone_nodes.specs.Lanes.{in_lane, lane_of}
+use Rattle.xr_cone_nodes.specs.Lanes.{in_lane, lane_of, root_in_lane}
 use Rattle.xr_cone_nodes.specs.Nodes.{by_sources, nothing, number_bits, root_bit, sources_of}
-use Rattle.xr_pair.specs.Pairs.{AllAgree, IsNextCone}
-use Rattle.xr_enum.specs.Blocks.{AgreeBelow, IsBlock}
+use Rattle.xr_pair.specs.Pairs.{AllAgree, Differs, IsLeastOther, IsNextCone}
+use Rattle.xr_enum.specs.Blocks.{IsBlock}
+use Rattle.xr_enum.specs.Found.{AgreeIn, IsLeastIn, IsOther, bit_by}
+use Rattle.xr_enum.proofs.FoundNumbers.{more_ones}
 
 -- In a lane the words of a block are the bits of its number.
-lane_is : (given : List ℕ) (block lane : ℕ) → length given ≡ 12 → IsBlock block given → lane < 64
-    → 64 * block + lane < 2 ^ 12 → lane_of given lane ≡ number_bits (64 * block + lane)
-lane_is given block lane long is less small = fun_ext (λ source. ⊎_elim
+pub lane_is : (given : List ℕ) (block lane : ℕ) → length given ≡ 12 → IsBlock block given → lane < 64 → block < 64
+    → lane_of given lane ≡ number_bits (64 * block + lane)
+lane_is given block lane long is less within = fun_ext (λ source. ⊎_elim
     (λ (low : source < 12). is source low lane less)
     (λ (past : 12 ≤ source). ap (λ word. in_lane word lane) (get_or-eq_default given 0 (omega (arith, long, past)))
-    ∙ lane_zero lane ∙ sym (ap (λ bit. bit == 1) (bit_at_above (64 * block + lane) 12 source small past)))
+    ∙ lane_zero lane ∙ sym (ap (λ bit. bit == 1) (bit_at_above (64 * block + lane) 12 source (omega arith) past)))
     (cases_lt source 12))
 
--- Where the fillings of a block agree with the empty one, so do those with numbers up to its end.
-agree_more : (nodes : List Node) (given : List ℕ) (block : ℕ) → length (sources_of nodes) ≤ 12 → length given ≡ 12
-    → IsBlock block given → AllAgree nodes given → AgreeBelow nodes (64 * block) → AgreeBelow nodes (64 * (block + 1))
-agree_more nodes given block few long is agree before number less small =
-    ⊎_elim (λ (low : number < 64 * block). before number low small)
-    (λ (high : 64 * block ≤ number).
-    (let lane : ℕ = number - 64 * block in
-    let within : lane < 64 = omega (arith, less, high) in
-    let whole : 64 * block + lane ≡ number = omega (arith, high) in
-    let power : 2 ^ length (sources_of nodes) ≤ 2 ^ 12 = pow-le-pow_right (omega arith) few in
-    ap (λ bits. root_bit (by_sources nodes bits) nodes)
-    (sym (lane_is given block lane long is within (omega (arith, whole, small, power)) ∙ ap number_bits whole))
-    ∙ agree lane within)) (cases_lt number (64 * block))
+-- So the root has in a lane the bit by its number.
+pub lane_bit : (nodes : List Node) (given : List ℕ) (block lane : ℕ) → length given ≡ 12 → IsBlock block given
+    → lane < 64 → block < 64 → root_in_lane nodes given lane ≡ bit_by nodes (64 * block + lane)
+lane_bit nodes given block lane long is less within =
+    ap (λ bits. root_bit (by_sources nodes bits) nodes) (lane_is given block lane long is less within)
 
--- Where all do, the place is settled.
+-- The lane of a number is that of its rest.
+pub lane_of_number : (given : List ℕ) (number : ℕ) → length given ≡ 12 → IsBlock (number / 64) given
+    → number < 2 ^ 12 → lane_of given (number % 64) ≡ number_bits number
+lane_of_number given number long is small =
+    let whole : 64 * (number / 64) + number % 64 ≡ number = omega arith in
+    lane_is given (number / 64) (number % 64) long is (omega arith) (omega arith) ∙ ap number_bits whole
+
+-- Where the lanes of a block agree with the empty filling, so do its numbers.
+pub block_agrees : (nodes : List Node) (given : List ℕ) (block : ℕ) → length given ≡ 12 → IsBlock block given
+    → block < 64 → AllAgree nodes given → AgreeIn nodes (64 * block) (64 * (block + 1))
+block_agrees nodes given block long is within agree number low high =
+    let lane : ℕ = number - 64 * block in
+    let less : lane < 64 = omega (arith, low, high) in
+    let whole : 64 * block + lane ≡ number = omega (arith, low) in
+    ap (bit_by nodes) (sym whole) ∙ sym (lane_bit nodes given block lane long is less within) ∙ agree lane less
+
+-- The number of the lane with the least ones has the least ones.
+pub block_least : (nodes : List Node) (given : List ℕ) (block lane : ℕ) → length given ≡ 12 → IsBlock block given
+    → block < 64 → IsLeastOther nodes given lane → IsLeastIn nodes (64 * block) (64 * (block + 1)) (64 * block + lane)
+block_least nodes given block lane long is within found = record {
+  above = omega arith;
+  below = omega (arith, found.within);
+  other = sym (lane_bit nodes given block lane long is found.within within) ∙ found.differs;
+  least = λ n low high other.
+      (let rest : ℕ = n - 64 * block in
+      let less : rest < 64 = omega (arith, low, high) in
+      let whole : 64 * block + rest ≡ n = omega (arith, low) in
+      let differs : Differs nodes given rest =
+      lane_bit nodes given block rest long is less within ∙ ap (bit_by nodes) whole ∙ other in
+      more_ones block lane rest n found.within less whole (found.least rest less differs));
+}
+
+-- Where all numbers agree, the place is settled.
 pub all_settle : (c : Contents) (nodes : List Node) (n : ℕ) → IsNextCone c nodes → length (sources_of nodes) ≤ 12
-    → 2 ^ length (sources_of nodes) ≤ n → AgreeBelow nodes n → HoldsNext c (Enumerated (root_bit nothing nodes))
+    → 2 ^ length (sources_of nodes) ≤ n → AgreeIn nodes 0 n → HoldsNext c (Enumerated (root_bit nothing nodes))
 all_settle c nodes n is few enough agree =
     enumerated_law c (next_number c) nodes (root_bit nothing nodes) is few
-    (λ number small. agree number (omega (arith, small, enough)) small)
-
--- What stays while blocks are tried: there is room for the nodes.
-pub record TriedSoFar (nodes : List Node) (room block : ℕ) : Type 0 where
-  pub room_is : room ≡ length nodes
-  pub agree : AgreeBelow nodes (64 * block)
-
-pub tried_more : (nodes : List Node) (room after : ℕ) (given : List ℕ) (block : ℕ) → length (sources_of nodes) ≤ 12
-    → TriedSoFar nodes room block → length given ≡ 12 → IsBlock block given → after ≡ room → AllAgree nodes given
-    → TriedSoFar nodes after (block + 1)
-tried_more nodes room after given block few so long is kept agree = record {
-  room_is = kept ∙ so.room_is;
-  agree = agree_more nodes given block few long is agree so.agree;
-}
+    (λ number small. agree number (omega arith) (omega (arith, small, enough)))

@@ -1,3 +1,4 @@
 -- Definitions of decisions by enumeration.
 pub mod Blocks
 pub mod Decision
+pub mod Found

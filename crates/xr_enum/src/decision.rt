@@ -1,15 +1,18 @@
-//! All fillings of the sources, until one gives the place another bit than the empty one.
+//! All fillings of the sources, and whether one gives the place another bit than the empty one.
 
-ghost use Rattle.std.specs.Prelude.{◌≤◌, IfOk, length};
-ghost use Rattle.xr_cone_nodes.specs.Nodes.{sources_of};
+ghost use Rattle.std.specs.Prelude.{◌≡◌, ◌<◌, ◌≤◌, ◌^◌, IfOk, length};
+ghost use Rattle.xr_cone_nodes.specs.Nodes.{chosen, nothing, number_bits, root_bit, sources_of};
 ghost use Rattle.xr_enum.specs.Decision.{IsDecision};
-ghost use Rattle.xr_pair.specs.Pairs.{IsNextCone};
+ghost use Rattle.xr_enum.specs.Found.{IsOther};
+ghost use Rattle.xr_pair.specs.Pairs.{IsNextCone, other_of};
+ghost use Rattle.xr_wave.specs.Token.{LineHolds, pair_line};
 
 use crate::blocks::{fill_block, number_blocks};
+use crate::found::found_upto;
 use std::alloc::Global;
 use xr_base::Memory;
 use xr_cone_nodes::{Cone, Words};
-use xr_pair::try_in;
+use xr_pair::pair_of_lane;
 use xr_wave::{How, Pair, Settled, Wave};
 
 /// What trying all fillings of the sources shows of the next place.
@@ -18,7 +21,7 @@ use xr_wave::{How, Pair, Settled, Wave};
 pub enum Decided {
     /// Every filling gives one bit.
     Same(Settled),
-    /// The empty filling gives one bit, and another filling gives the other.
+    /// The empty filling gives one bit, and another filling gives the other: one that lists as few sources as any.
     Both(Pair),
 }
 
@@ -26,18 +29,38 @@ pub enum Decided {
 pub fn decide(alloc: Global, wave: &Wave<'_>, cone: &Cone) -> Result<Decided, Memory>
     requires cone { IsNextCone wave.now cone.now.nodes }
     requires few { length (sources_of cone.now.nodes) ≤ 12 }
-    ensures { IfOk result (IsDecision wave.now) }
+    ensures { IfOk result (IsDecision wave.now cone.now.nodes) }
 {
     let sources = cone.sources().len();
     let mut words = Words::new(alloc, cone)?;
-    let mut given = [0; 12];
+    let mut found = None;
     'tries: for block in 0..number_blocks(sources) {
-        fill_block(&mut given, block);
-        match try_in(alloc, wave, cone, &mut words, &given)? {
-            Some(pair) => return Ok(Decided::Both(pair)),
-            None => {}
+        found = found_upto(cone, &mut words, block, found);
+    }
+    match found {
+        Some(number) => Ok(Decided::Both(pair_of_number(alloc, wave, cone, number)?)),
+        None => {
+            let settled = Settled::from_law(wave, How::Enumerated(cone.base()));
+            Ok(Decided::Same(settled))
         }
     }
-    let settled = Settled::from_law(wave, How::Enumerated(cone.base()));
-    Ok(Decided::Same(settled))
+}
+
+/// The pair of the empty filling and that of a number.
+fn pair_of_number(
+    alloc: Global,
+    wave: &Wave<'_>,
+    cone: &Cone,
+    number: usize,
+) -> Result<Pair, Memory>
+    requires cone { IsNextCone wave.now cone.now.nodes }
+    requires small { number < 2 ^ 12 }
+    requires other { IsOther cone.now.nodes number }
+    ensures holds { IfOk result (λ pair. LineHolds wave.now (pair_line pair)) }
+    ensures other { let other = chosen (sources_of cone.now.nodes) (number_bits number) in
+        IfOk result (λ pair. other_of (root_bit nothing cone.now.nodes) pair ≡ other) }
+{
+    let mut given = [0; 12];
+    fill_block(&mut given, number / 64);
+    pair_of_lane(alloc, wave, cone, &given, (number % 64) as u32)
 }

@@ -5,5 +5,6 @@
 
 mod blocks;
 mod decision;
+mod found;
 
 pub use decision::{Decided, decide};

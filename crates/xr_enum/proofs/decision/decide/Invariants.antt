@@ -1,6 +1,7 @@
--- The fillings so far agree with the empty one.
-use Rattle.xr_enum.proofs.TriedNumbers.{TriedSoFar}
+-- What is found in the blocks so far.
+use Rattle.std.proofs.Common.{◌≡◌, ◌*◌, length}
+use Rattle.xr_enum.specs.Found.{IsFoundIn}
 use Rattle.xr_enum.proofs.decision.decide.Given as goal
 
 abbrev pub invariant-tries : goal.invariant-tries
-invariant-tries l = TriedSoFar l.cone.nodes l.words.nodes l.block
+invariant-tries l = (l.words.nodes ≡ length l.cone.nodes) × IsFoundIn l.cone.nodes 0 (64 * l.block) l.found
