@@ -1,3 +1,4 @@
 -- Definitions of repairs.
+pub mod Answered
 pub mod Repaired
 pub mod Step

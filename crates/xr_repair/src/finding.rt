@@ -6,6 +6,7 @@ ghost use Rattle.xr_cone_nodes.specs.Nodes.{sources_of};
 ghost use Rattle.xr_repair.specs.Step.{IsShown};
 ghost use Rattle.xr_wave.specs.Token.{IsLineNext};
 
+use crate::answers::Answers;
 use crate::fillings::try_fillings;
 use crate::found::Found;
 use crate::search::search;
@@ -19,7 +20,7 @@ use xr_wave::Wave;
 const ENUMERATED: usize = 12;
 
 /// What is shown of the next place.
-pub fn find(alloc: Global, wave: &Wave<'_>) -> Result<Found, Memory>
+pub fn find(alloc: Global, wave: &Wave<'_>, answers: &mut Answers) -> Result<Found, Memory>
     requires limit { 0 < wave.now.limit }
     requires class { IsLineNext wave.now }
     ensures { IfOk result (IsShown wave.now) }
@@ -30,7 +31,7 @@ pub fn find(alloc: Global, wave: &Wave<'_>) -> Result<Found, Memory>
     }
     match try_fillings(alloc, wave, &cone)? {
         Some(pair) => Ok(Found::Pair(pair)),
-        None => search(alloc, wave, &cone),
+        None => search(alloc, wave, answers, &cone),
     }
 }
 

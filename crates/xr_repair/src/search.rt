@@ -10,6 +10,7 @@ ghost use Rattle.xr_proof.specs.Log.{Refutes};
 ghost use Rattle.xr_repair.specs.Step.{IsShown};
 ghost use Rattle.xr_wave.specs.Token.{LineHolds, pair_line, settled_line};
 
+use crate::answers::Answers;
 use crate::found::Found;
 use std::alloc::Global;
 use xr_base::Memory;
@@ -17,19 +18,24 @@ use xr_cnf::{clauses, conclude, give_up, model_filling};
 use xr_cone::Cone;
 use xr_design::Filling;
 use xr_proof::{Cnf, Log, Model, Refuted};
-use xr_sat::{Outcome, solve};
+use xr_sat::Outcome;
 use xr_wave::{Pair, Settled, Wave};
 
 /// What a search on the query of the next place, which has more than 12 sources, shows of it.
 #[tactic(auto, using(crate::proofs::Searching::fresh_next))]
-pub fn search(alloc: Global, wave: &Wave<'_>, cone: &Cone) -> Result<Found, Memory>
+pub fn search(
+    alloc: Global,
+    wave: &Wave<'_>,
+    answers: &mut Answers,
+    cone: &Cone,
+) -> Result<Found, Memory>
     requires limit { 0 < wave.now.limit }
     requires cone { IsNextCone wave.now cone.now.nodes }
     requires many { 12 < length (sources_of cone.now.nodes) }
     ensures { IfOk result (IsShown wave.now) }
 {
     let query = clauses(alloc, cone)?;
-    match solve(alloc, &query, wave.limit())? {
+    match answers.ask(alloc, &query, wave.limit())? {
         Outcome::Model(model) => Ok(Found::Pair(pair_of(alloc, wave, cone, &query, &model)?)),
         Outcome::Refuted(proof) => Ok(Found::Settled(settled_by(wave, cone, &query, proof))),
         Outcome::Limit(proof) => Ok(Found::Budget(give_up(wave, cone, proof))),

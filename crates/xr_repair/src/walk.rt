@@ -10,6 +10,7 @@ ghost use Rattle.xr_wave.specs.Advance.{IsPlain};
 ghost use Rattle.xr_wave.specs.Contents.{IsWave, next_seen, nothing_written};
 ghost use Rattle.xr_wave.specs.Token.{HasNext, IsLineNext};
 
+use crate::answers::Answers;
 use crate::finding::find;
 use crate::refusal::RepairErr;
 use crate::spend::spend;
@@ -19,7 +20,8 @@ use xr_model::Class;
 use xr_wave::Wave;
 
 /// A finished wave of a job: every place written, each with its justification. `limit` is how many clauses the log of a
-/// search may have before its place is marked undecided. Takes a byte a place, and the memory of the lines.
+/// search may have before its place is marked undecided. Takes a byte a place, the memory of the lines, and up to 64
+/// megabytes for the answers of searches.
 pub fn repair<'a>(
     alloc: Global,
     design: &'a Design,
@@ -54,15 +56,20 @@ fn walk<'a>(alloc: Global, wave: Wave<'a>) -> Result<Wave<'a>, RepairErr>
     ensures refused { IfErr result (RefusedStep wave.entry) }
 {
     let count = count_places(&wave.circuit());
+    let mut answers = Answers::new(alloc);
     let mut walked = wave;
     'places: while walked.count() < count {
-        walked = write_next(alloc, walked)?;
+        walked = write_next(alloc, walked, &mut answers)?;
     }
     Ok(walked)
 }
 
 /// Writes the next place.
-fn write_next<'a>(alloc: Global, wave: Wave<'a>) -> Result<Wave<'a>, RepairErr>
+fn write_next<'a>(
+    alloc: Global,
+    wave: Wave<'a>,
+    answers: &mut Answers,
+) -> Result<Wave<'a>, RepairErr>
     requires limit { 0 < wave.limit }
     requires sound { IsWave wave }
     requires next { HasNext wave }
@@ -71,7 +78,7 @@ fn write_next<'a>(alloc: Global, wave: Wave<'a>) -> Result<Wave<'a>, RepairErr>
 {
     match wave.class() {
         Class::Done => unreachable!(),
-        Class::Line => decide_next(alloc, wave),
+        Class::Line => decide_next(alloc, wave, answers),
         _ => advance(wave),
     }
 }
@@ -91,13 +98,17 @@ fn advance<'a>(wave: Wave<'a>) -> Result<Wave<'a>, RepairErr>
 }
 
 /// Decides the next place, a Line place, and writes it.
-fn decide_next<'a>(alloc: Global, wave: Wave<'a>) -> Result<Wave<'a>, RepairErr>
+fn decide_next<'a>(
+    alloc: Global,
+    wave: Wave<'a>,
+    answers: &mut Answers,
+) -> Result<Wave<'a>, RepairErr>
     requires limit { 0 < wave.limit }
     requires sound { IsWave wave }
     requires class { IsLineNext wave }
     ensures ok { IfOk result (IsNextOf wave.entry) }
     ensures err { IfErr result (RefusedStep wave.entry) }
 {
-    let found = find(alloc, &wave)?;
+    let found = find(alloc, &wave, answers)?;
     spend(wave, found)
 }
