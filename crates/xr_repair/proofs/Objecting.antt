@@ -1,5 +1,5 @@
 -- From what a call of a wave says to an objection.
-use Rattle.std.proofs.Common.{◌≡◌, refl, sym, ◌∙◌}
+use Rattle.std.proofs.Common.{refl, ◌∙◌}
 use Rattle.xr_model.specs.declared.line.Line.{Line as ALine}
 use Rattle.xr_wave.specs.Advance.{Contradicts, IsPlain, Told, plain_written}
 use Rattle.xr_wave.specs.Contents.{Contents, IsWave, next_seen}

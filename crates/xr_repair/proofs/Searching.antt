@@ -1,5 +1,5 @@
 -- What the answers of a search on a query are worth.
-use Rattle.std.proofs.Common.{◌≡◌, List, length, sym, ◌∙◌}
+use Rattle.std.proofs.Common.{◌≡◌, List, length, ◌∙◌}
 use Rattle.std.specs.Prelude.{ℤ, Bool}
 use Rattle.std.specs.List.{All}
 use Rattle.xr_proof.specs.Assignment.{HasNoZero, IsModel}

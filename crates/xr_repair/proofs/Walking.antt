@@ -1,11 +1,10 @@
 -- How the walk goes on, and what it ends with.
-use Rattle.std.proofs.Common.{◌≡◌, ℕ, ◌<◌, ◌≤◌, ◌+◌, ◌-◌, ◌++◌, ◌∷◌, [], List, length, length-append, refl, sym, ap, ◌∙◌, arith, subst}
-use Rattle.xr_design.specs.Job.{Job, job_of, places_of}
+use Rattle.std.proofs.Common.{◌≡◌, ◌≤◌, ◌+◌, ◌∷◌, [], length, length-append, sym, ap, ◌∙◌, arith}
+use Rattle.xr_design.specs.Job.{job_of, places_of}
 use Rattle.xr_model.proofs.Uniqueness.{unique}
 use Rattle.xr_wave.specs.Contents.{Contents, IsWave, job}
 use Rattle.xr_repair.specs.Repaired.{IsFinished, IsOfJob, IsOnlyOne}
 use Rattle.xr_repair.specs.Step.{IsNextOf}
-use Rattle.xr_repair.proofs.Objecting.{same_job, job_along}
 
 -- The job of a wave stays.
 pub job_stays : (a b : Contents) → IsOfJob a b → job b ≡ job a

@@ -1,5 +1,5 @@
 -- One step of the walk: the next place is written, or the walk ends there.
-use Rattle.std.specs.Prelude.{◌≡◌, ◌++◌, ◌∷◌, [], ◌<◌, length}
+use Rattle.std.specs.Prelude.{◌≡◌, ◌++◌, ◌∷◌, []}
 use Rattle.xr_design.specs.declared.waveform.Written.{Written}
 use Rattle.xr_wave.specs.Contents.{Contents}
 use Rattle.xr_wave.specs.Token.{LineHolds, budget_line, pair_line, settled_line}

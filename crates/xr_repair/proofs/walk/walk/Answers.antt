@@ -1,5 +1,5 @@
 -- The finished wave is the only one.
-use Rattle.std.proofs.Common.{◌≡◌, ◌≤◌, length, sym, subst, arith}
+use Rattle.std.proofs.Common.{◌≤◌, length, sym, subst, arith}
 use Rattle.xr_design.specs.Job.{Job, places_of}
 use Rattle.xr_wave.specs.Contents.{job}
 use Rattle.xr_repair.proofs.Walking.{all_written, job_stays, only_one}

@@ -1,5 +1,5 @@
 -- The walk stays in its job.
-use Rattle.std.proofs.Common.{◌≡◌, ℕ, ◌<◌, ◌+◌, ◌-◌, length}
+use Rattle.std.proofs.Common.{◌≡◌, ◌-◌, length}
 use Rattle.xr_design.specs.Job.{places_of}
 use Rattle.xr_wave.specs.Contents.{job}
 use Rattle.xr_repair.specs.Repaired.{IsOfJob}
