@@ -1,5 +1,5 @@
 -- What is due as a step begins: all that is forced or recorded otherwise.
-use Rattle.std.proofs.Common.{◌≡◌, ℕ, ◌+◌, ◌-◌, ◌*◌, ◌/◌, ◌<◌, ◌≤◌, Bool, true, false, Option, None, List, length, slice_index, slice_index_or, refl, sym, ap, ◌∙◌, arith, subst, ⊎_elim}
+use Rattle.std.proofs.Common.{◌≡◌, ℕ, ◌+◌, ◌-◌, ◌/◌, ◌<◌, ◌≤◌, Bool, true, false, Option, List, length, slice_index, slice_index_or, refl, sym, ap, ◌∙◌, arith, subst, ⊎_elim}
 use Rattle.std.proofs.lemmas.Bool.{cases_eq}
 use Rattle.xr_cell.specs.declared.value.Value.{Value}
 use Rattle.xr_cell.specs.declared.value.Value.TheVariants.{X}

@@ -1,15 +1,13 @@
 -- A net that reads what it read one step before shows and keeps what it did there.
-use Rattle.std.proofs.Common.{◌≡◌, ℕ, ◌-◌, ◌*◌, ◌/◌, ◌<◌, ◌==◌, ◌&&◌, Bool, true, false, Option, List, [], ◌∷◌, slice_index, unwrap_or, refl, sym, ap, ◌∙◌, arith}
+use Rattle.std.proofs.Common.{◌≡◌, ℕ, ◌-◌, ◌*◌, ◌/◌, ◌<◌, ◌==◌, ◌&&◌, Bool, false, Option, List, [], ◌∷◌, slice_index, unwrap_or, refl, sym, ap, ◌∙◌, arith}
 use Rattle.std.proofs.lemmas.Grind.{common_steps}
 use Rattle.std.specs.List.{AllByRecursion}
 use Rattle.xr_cell.specs.declared.value.Value.{Value}
 use Rattle.xr_cell.proofs.Nexts.{next_idle}
-use Rattle.xr_design.specs.declared.design.Pin.{Pin}
-use Rattle.xr_design.specs.declared.design.Pin.TheVariants.{Net, Bit, Dead}
 use Rattle.xr_design.specs.declared.design.Driver.{Driver}
 use Rattle.xr_design.specs.declared.design.Driver.TheVariants.{Input, Undriven, Constant, Copy, Cell, Register}
 use Rattle.xr_design.specs.declared.design.Latching.{Latching}
-use Rattle.xr_design.specs.Fits.{Fits, FitsDriver, StandsBefore}
+use Rattle.xr_design.specs.Fits.{Fits, StandsBefore}
 use Rattle.xr_design.specs.Job.{Job, at, primitive_of}
 use Rattle.xr_design.specs.Order.{arguments_of_driver, net_pins, position_of}
 use Rattle.xr_design.specs.Register.{is_cold, looks_before, old_pins, pins_at, updated}

@@ -1,5 +1,5 @@
 -- A step that is gone over: what rests stays, and what moves makes its readers due.
-use Rattle.std.proofs.Common.{◌≡◌, ◌≢◌, ℕ, zero, suc, ◌+◌, ◌-◌, ◌*◌, ◌%◌, ◌<◌, ◌≤◌, ◌==◌, ◌||◌, Bool, true, false, Option, List, [], ◌∷◌, ◌++◌, length, take, drop, min, slice_index, slice_index_or, refl, sym, ap, ◌∙◌, arith, subst, add-zero, below_more, ⊎_elim}
+use Rattle.std.proofs.Common.{◌≡◌, ◌≢◌, ℕ, zero, suc, ◌+◌, ◌-◌, ◌*◌, ◌%◌, ◌<◌, ◌≤◌, ◌==◌, ◌||◌, Bool, true, false, Option, List, [], ◌∷◌, ◌++◌, length, take, drop, min, slice_index, slice_index_or, refl, sym, ap, ◌∙◌, arith, subst, add-zero, ⊎_elim}
 use Rattle.std.specs.Prelude.{Contains}
 use Rattle.std.specs.List.{AllByRecursion, copy_within, list_any}
 use Rattle.std.proofs.lemmas.Bool.{cases_eq, cases_lt}
@@ -11,25 +11,24 @@ use Rattle.std.proofs.lemmas.List.Edits.{length-paste, take-paste}
 use Rattle.xr_cell.specs.declared.value.Value.{Value}
 use Rattle.xr_design.specs.declared.design.Driver.{Driver}
 use Rattle.xr_design.specs.declared.design.Driver.TheVariants.{Input, Undriven, Constant, Copy, Cell, Register}
-use Rattle.xr_design.specs.Fits.{Fits, FitsDriver, StandsBefore, place_at}
-use Rattle.xr_design.specs.Handed.{HasPlaces, held_of}
-use Rattle.xr_design.specs.History.{HistoryView, held_in, index_in, repeated}
+use Rattle.xr_design.specs.Fits.{Fits, FitsDriver, StandsBefore}
+use Rattle.xr_design.specs.Handed.{held_of}
+use Rattle.xr_design.specs.History.{HistoryView, held_in, repeated}
 use Rattle.xr_design.specs.Job.{Job, at, net_of, places_of, step_of}
 use Rattle.xr_design.specs.Order.{arguments_of_driver, net_pins, position_of}
 use Rattle.xr_design.specs.Replay.{Held, blank}
-use Rattle.xr_design.specs.declared.place.Place.{Place}
 use Rattle.xr_design.proofs.Rules.{position_in, spot}
 use Rattle.xr_replay_due.specs.Due.{HasRoomFor, NoneBetween, is_due}
 use Rattle.xr_replay_due.specs.Readers.{ReadersView, readers_of}
 use Rattle.xr_replay.specs.Filled.{IsFilled, replayed}
 use Rattle.xr_replay.specs.Readings.{AreReaders}
 use Rattle.xr_replay.specs.Still.{AreStillBefore, IsForcedSame, IsRecordedSame, IsStillAt, LooksSame, Stays, looked_at}
-use Rattle.xr_replay.specs.Sweep.{AreAhead, AreAwaited, AreDue, IsSwept, Rests, driver_on}
+use Rattle.xr_replay.specs.Sweep.{AreAhead, AreAwaited, AreDue, IsSwept, driver_on}
 use Rattle.xr_replay.proofs.Places.{has_step, net_there, place_at_position}
 use Rattle.xr_replay.proofs.Quiet.{all_two, resting_stays}
 use Rattle.xr_replay.proofs.Repeats.{at_there, step_before}
 use Rattle.xr_replay.proofs.Replays.{all_by}
-use Rattle.xr_replay.proofs.Writing.{net_within, place_within}
+use Rattle.xr_replay.proofs.Writing.{net_within}
 
 -- A net that stands at a position is the one there.
 there : (j : Job) → Fits j → (position net : ℕ) → net < j.width → position_of j.order net ≡ position → net ≡ slice_index j.order position
@@ -341,8 +340,8 @@ pub awaited_next : (j : Job) → Fits j → (forced : ℕ → Option Value) (ste
 awaited_next j fits forced step ahead later are = record {
   room = are.room;
   looks = λ p low clear. (let nets = looked_at (driver_on j p) in
-  let within = all_by (λ net. net < j.width) (λ net. position_of j.order net < j.width) (looked_at (driver_on j p)) (λ net less. position_in j fits net less) (looked_within j fits p low) in
-  looks_later j forced step (driver_on j p) later (all_before j fits forced step (looked_at (driver_on j p)) within (are.still p low clear)));
+      let within = all_by (λ net. net < j.width) (λ net. position_of j.order net < j.width) (looked_at (driver_on j p)) (λ net less. position_in j fits net less) (looked_within j fits p low) in
+      looks_later j forced step (driver_on j p) later (all_before j fits forced step (looked_at (driver_on j p)) within (are.still p low clear)));
 }
 
 -- Where all is due nothing has to rest.

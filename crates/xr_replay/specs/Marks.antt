@@ -6,7 +6,6 @@ use Rattle.xr_design.specs.Job.{Job}
 use Rattle.xr_design.specs.Order.{position_of}
 use Rattle.xr_design.specs.declared.circuit.Circuit.{Circuit}
 use Rattle.xr_design.specs.declared.force.Event.{Event}
-use Rattle.xr_design.specs.declared.stim.Stim.{Stim}
 use Rattle.xr_replay_due.specs.Due.{is_due}
 use Rattle.xr_replay.specs.Forced.{event_at}
 

@@ -1,5 +1,5 @@
 -- Which positions read which nets.
-use Rattle.std.specs.Prelude.{◌≡◌, ℕ, zero, suc, ◌<◌, List, [], ◌++◌, Contains, map, slice_index}
+use Rattle.std.specs.Prelude.{◌≡◌, ℕ, zero, suc, ◌<◌, List, [], ◌++◌, Contains, map}
 use Rattle.std.specs.List.{AllByRecursion}
 use Rattle.xr_design.specs.Job.{Job}
 use Rattle.xr_design.specs.Order.{arguments_of_driver}

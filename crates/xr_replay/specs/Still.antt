@@ -1,5 +1,5 @@
 -- Nets that show what they showed one step before, and what a driver makes of them.
-use Rattle.std.specs.Prelude.{◌≡◌, ℕ, ◌-◌, ◌/◌, ◌<◌, ◌==◌, ◌%◌, Bool, Option, List, [], not}
+use Rattle.std.specs.Prelude.{◌≡◌, ℕ, ◌-◌, ◌/◌, ◌<◌, Option, List, []}
 use Rattle.std.specs.List.{AllByRecursion}
 use Rattle.xr_cell.specs.declared.value.Value.{Value}
 use Rattle.xr_design.specs.Job.{Job, at}
@@ -50,7 +50,3 @@ LooksSame j forced step (Constant bit) = Unit {0}
 LooksSame j forced step (Copy argument) = Unit {0}
 LooksSame j forced step (Cell table pins) = Unit {0}
 LooksSame j forced step (Register latching) = (1 < step) × AllByRecursion (IsStillAt j forced (step - 1)) (net_pins latching.pins)
-
--- A step isn't the first of its moment.
-abbrev pub stays_in_moment : Job → ℕ → Bool
-stays_in_moment j step = not (step % j.rounds == 0)

@@ -13,10 +13,10 @@ ghost use Rattle.xr_replay.specs.Going.{AwaitedIn, FilledBefore, ForcedButFor, I
 ghost use Rattle.xr_replay.specs.Readings.{AreFans};
 ghost use Rattle.xr_replay_due.specs.Due.{HasRoomFor};
 
+use crate::computed::fill_step;
 use crate::fans::Fans;
 use crate::forced::take_events;
 use crate::marks::{mark_events, mark_inputs};
-use crate::computed::fill_step;
 use crate::sweep::sweep;
 use crate::waiting::Waiting;
 use std::alloc::Global;
@@ -124,7 +124,9 @@ fn next_step(
         fill_step(circuit, events, forced, history, step);
         return;
     }
-    later_step(circuit, events, fans, forced, waiting, history, step, from, to);
+    later_step(
+        circuit, events, fans, forced, waiting, history, step, from, to,
+    );
 }
 
 /// The places of a step behind another.

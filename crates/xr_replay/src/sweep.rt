@@ -11,9 +11,9 @@ ghost use Rattle.xr_replay.specs.Readings.{AreFans};
 ghost use Rattle.xr_replay_due.specs.Due.{GainsAll, HasRoomFor};
 ghost use Rattle.xr_replay_due.specs.Readers.{IsTable, readers_of};
 
+use crate::computed::compute_place;
 use crate::fans::Fans;
 use crate::pins::net_value;
-use crate::computed::compute_place;
 use crate::values::is_same;
 use crate::waiting::Waiting;
 use xr_cell::Value;

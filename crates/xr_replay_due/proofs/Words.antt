@@ -1,10 +1,10 @@
 -- Positions as bits of words.
-use Rattle.std.proofs.Common.{◌≡◌, ◌≢◌, ℕ, ◌+◌, ◌-◌, ◌*◌, ◌/◌, ◌%◌, ◌^◌, ◌<◌, ◌≤◌, ◌==◌, Bool, true, false, List, length, set, slice_index, bit_and, bit_or, min, refl, sym, ap, ◌∙◌, arith, subst, w64, get_or-set_other, get_or-set_same, length-set, ⊎_elim}
+use Rattle.std.proofs.Common.{◌≡◌, ◌≢◌, ℕ, ◌+◌, ◌-◌, ◌*◌, ◌/◌, ◌%◌, ◌^◌, ◌<◌, ◌≤◌, ◌==◌, true, false, List, length, set, slice_index, bit_and, bit_or, min, refl, sym, ap, ◌∙◌, arith, w64, get_or-set_other, get_or-set_same, ⊎_elim}
 use Rattle.std.proofs.Math.Nat.{min-zero}
 use Rattle.std.proofs.lemmas.Bool.{cases_eq, cases_lt}
 use Rattle.std.proofs.lemmas.Nat.Bits.{bit_at_and, bit_at-lt, bit_at-zero, bit_at_ones, bit_at_set_same, bit_at_set_other, bit_at_mask_below, bit_at_mask_inside, ones_shl, bit_at-trailing_zeros}
 use Rattle.std.specs.Int.{bit_at, trailing_zeros}
-use Rattle.xr_replay_due.specs.Due.{HasRoom, NoneBetween, is_due}
+use Rattle.xr_replay_due.specs.Due.{NoneBetween, is_due}
 
 -- With its bit set a position is due, and the others are as they were.
 pub set_here : (words : List ℕ) (position word : ℕ) → position / 64 < length words → is_due (set words (position / 64) (bit_or word (1 * 2 ^ (position % 64) % 2 ^ 64))) position ≡ true

@@ -1,5 +1,5 @@
 -- The readings of all positions make the table.
-use Rattle.std.proofs.Common.{◌≡◌, ◌*◌, ◌<◌, ◌≤◌, ◌++◌, ◌∙◌, List, ℕ, ap, arith, length, subst, sym}
+use Rattle.std.proofs.Common.{◌≡◌, ◌++◌, ◌∙◌, List, ℕ, ap, arith, length, subst, sym}
 use Rattle.xr_design.specs.Circuit.{job_in}
 use Rattle.xr_design.specs.Order.{arguments_of_driver}
 use Rattle.xr_replay_due.specs.Readers.{AreWithin, HasReadings, IsTable}

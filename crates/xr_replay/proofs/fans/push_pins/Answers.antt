@@ -1,5 +1,5 @@
 -- One pin more.
-use Rattle.std.proofs.Common.{◌≡◌, ◌+◌, ◌<◌, ◌++◌, ◌∙◌, [], ◌∷◌, List, append_assoc, ap, arith, length, slice_index_or, sym, take}
+use Rattle.std.proofs.Common.{◌++◌, ◌∙◌, [], ◌∷◌, List, append_assoc, ap, slice_index_or, sym, take}
 use Rattle.xr_design.specs.declared.design.Pin.TheVariants.{Net}
 use Rattle.xr_design.specs.Order.{net_pins}
 use Rattle.xr_replay_due.specs.declared.readings.Reading.{Reading}

@@ -1,5 +1,5 @@
 -- The row of a moment.
-use Rattle.std.proofs.Common.{◌≡◌, ◌<◌, ◌∙◌, [], length, slice_index_or, ap, arith, List}
+use Rattle.std.proofs.Common.{◌<◌, ◌∙◌, [], length, ap, arith, List}
 use Rattle.std.proofs.lemmas.List.{get_or_default}
 use Rattle.std.proofs.lemmas.Grind.{common_steps}
 use Rattle.xr_cell.specs.declared.value.Value.{Value}

@@ -1,5 +1,5 @@
 -- One net more is due, or has the same value.
-use Rattle.std.proofs.Common.{◌≡◌, ◌<◌, ◌∙◌, length, slice_index_or, arith}
+use Rattle.std.proofs.Common.{◌<◌, ◌∙◌, length, arith}
 use Rattle.std.proofs.lemmas.List.{get_or_default}
 use Rattle.xr_cell.specs.declared.value.Value.TheVariants.{X, Zero}
 use Rattle.xr_design.specs.Circuit.{job_in}

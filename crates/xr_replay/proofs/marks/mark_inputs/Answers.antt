@@ -1,5 +1,5 @@
 -- Within a moment inputs are recorded as one step before; at its start, as the rows say.
-use Rattle.std.proofs.Common.{◌≡◌, ◌<◌, ◌%◌, ◌/◌, ◌-◌, ◌∙◌, ℕ, [], List, length, slice_index_or, ap, arith}
+use Rattle.std.proofs.Common.{◌<◌, ◌%◌, ◌/◌, ◌∙◌, ℕ, [], List, slice_index_or, ap, arith}
 use Rattle.std.proofs.Math.Nat.{div-lt_iff_lt-mul}
 use Rattle.xr_cell.specs.declared.value.Value.{Value}
 use Rattle.xr_cell.specs.declared.value.Value.TheVariants.{X}

@@ -1,5 +1,5 @@
 -- All steps are filled in the end.
-use Rattle.std.proofs.Common.{◌≡◌, ◌+◌, ◌-◌, ◌*◌, ◌<◌, ℕ, length, ap, arith, subst}
+use Rattle.std.proofs.Common.{◌≡◌, ◌+◌, ◌-◌, ◌*◌, ℕ, length, ap, arith, subst}
 use Rattle.std.proofs.Math.Nat.{mul_comm}
 use Rattle.xr_design.specs.Circuit.{job_in}
 use Rattle.xr_design.specs.Force.{forced_by}

@@ -1,8 +1,7 @@
 -- The step is repeated, what differs is due, and gone over.
-use Rattle.std.proofs.Common.{◌≡◌, ◌∙◌, ◌+◌, ◌*◌, ◌≤◌, arith, subst, sym, length, List, ℕ}
+use Rattle.std.proofs.Common.{◌+◌, arith, subst, sym, List, ℕ}
 use Rattle.xr_design.specs.Circuit.{job_in}
 use Rattle.xr_design.specs.Force.{forced_by}
-use Rattle.xr_replay_due.specs.Due.{HasRoomFor}
 use Rattle.xr_replay.specs.Sweep.{AreAwaited}
 use Rattle.xr_replay.proofs.Marking.{due_marked_first}
 use Rattle.xr_replay.proofs.Places.{has_step}

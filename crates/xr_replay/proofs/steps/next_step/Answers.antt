@@ -1,5 +1,4 @@
 -- Step 0 is filled, and leaves all due.
-use Rattle.std.proofs.Common.{◌≡◌, ◌+◌, ◌<◌, arith}
 use Rattle.xr_design.specs.Circuit.{job_in}
 use Rattle.xr_design.specs.Force.{forced_by}
 use Rattle.xr_replay.proofs.Sweeps.{awaited_second}

@@ -1,5 +1,5 @@
 -- The readers of a net are positions of the order.
-use Rattle.std.proofs.Common.{◌*◌, ◌/◌, ◌<◌, ◌≤◌, List, ℕ, length, slice_index_or, arith, subst, sym}
+use Rattle.std.proofs.Common.{◌<◌, List, ℕ, length, slice_index_or, arith, subst, sym}
 use Rattle.std.proofs.lemmas.List.Elements.{All-from_get_or}
 use Rattle.xr_replay_due.specs.Due.{HasRoom}
 use Rattle.xr_replay_due.specs.Readers.{readers_of}

@@ -1,5 +1,5 @@
 -- The lowest bit of the rest of a word is the first position that is due.
-use Rattle.std.proofs.Common.{◌≡◌, ◌≢◌, ◌+◌, ◌*◌, ◌/◌, ◌%◌, ◌<◌, ◌^◌, ◌∙◌, List, ℕ, length, slice_index, arith, ap, rules}
+use Rattle.std.proofs.Common.{◌≡◌, ◌/◌, ◌%◌, ◌<◌, ◌∙◌, List, ℕ, length, slice_index, arith, ap, rules}
 use Rattle.std.proofs.lemmas.List.{get_or_default}
 use Rattle.xr_replay_due.proofs.Words.{IsRest, first_found}
 use Rattle.xr_replay_due.proofs.due.Due.first_from.Goals as goal

@@ -1,5 +1,5 @@
 -- The bit of the position is set.
-use Rattle.std.proofs.Common.{◌≡◌, ◌/◌, ◌<◌, ◌∙◌, List, ℕ, length, slice_index, subst, ap}
+use Rattle.std.proofs.Common.{◌≡◌, ◌/◌, ◌<◌, ◌∙◌, List, ℕ, length, slice_index, ap}
 use Rattle.std.proofs.lemmas.List.{get_or_default}
 use Rattle.xr_replay_due.specs.Due.{is_due}
 use Rattle.xr_replay_due.proofs.Words.{set_here, set_elsewhere}
