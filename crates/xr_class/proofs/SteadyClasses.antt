@@ -20,6 +20,7 @@ use Rattle.xr_design.specs.Rule.{arguments, rule, rule_of}
 use Rattle.xr_design.proofs.Rules.{AgreeOn, back_two, position_in, rule_reads}
 use Rattle.xr_model.specs.Assignment.{assigned, for_every}
 use Rattle.xr_model.specs.Class.{before, carried_or_line, carries_on, class_of, flipped, is_bit, is_carried_from, is_free, is_local, is_never_unknown, passes_on, passes_on_of}
+use Rattle.xr_model.specs.Yields.{is_line}
 use Rattle.xr_model.specs.declared.class.ClassByNumber.{ClassByNumber}
 use Rattle.xr_model.specs.declared.class.ClassByNumber.TheVariants.{Local, Free, Carried, Line}
 use Rattle.xr_model.proofs.Assignments.{every_passes, passes_every}
@@ -86,13 +87,19 @@ as_back j c place back same =
     ∙ ap (λ b. first_of_three (is_local j c back false) b (is_free j c place) (later_class j c place)) (same.local true)
     ∙ ap (λ d. first_of_three (is_local j c back false) (is_local j c back true) d (later_class j c place)) same.free
 
-plain_is : (c : ℕ → Value) (class : ClassByNumber) (v : Value) → is_plain class ≡ true → AgreesWith c class v
+pub plain_is : (c : ℕ → Value) (class : ClassByNumber) (v : Value) → is_plain class ≡ true → AgreesWith c class v
     → class ≡ plain_class v
 plain_is c (Local false) v plain agrees = sym (ap plain_class agrees)
 plain_is c (Local true) v plain agrees = sym (ap plain_class agrees)
 plain_is c Free v plain agrees = sym (ap plain_class agrees)
 plain_is c (Carried from inverted) v plain agrees = cc
 plain_is c Line v plain agrees = cc
+
+pub line_is : (class : ClassByNumber) → is_line class ≡ true → class ≡ Line
+line_is (Local bit) is = cc
+line_is Free is = cc
+line_is (Carried from inverted) is = cc
+line_is Line is = refl
 
 -- Where the place before is local or free, so is this one.
 pub steady_plain : (j : Job) → Fits j → (c : ℕ → Value) (place back : ℕ) → back < places_of j → SameKinds j c place back
@@ -135,7 +142,7 @@ copy_known j c place from inverted says passes =
     (for_every j c place (λ bits. is_bit (rule j c bits place) (flipped inverted (bits from)))) h.1).1 bits)))
     says
 
-carried_on : (class : ClassByNumber) (back : ℕ) → carries_on class back ≡ true → class ≡ Carried back false
+pub carried_on : (class : ClassByNumber) (back : ℕ) → carries_on class back ≡ true → class ≡ Carried back false
 carried_on (Local bit) back on = cc
 carried_on Free back on = cc
 carried_on (Carried from false) back on =

@@ -5,14 +5,15 @@ use Rattle.xr_cell.specs.declared.value.Value.TheVariants.{Zero, One, X, Z}
 use Rattle.xr_cell.specs.Value.{bit_value}
 use Rattle.xr_design.specs.Job.{Job, step_of}
 use Rattle.xr_model.specs.Class.{are_equal, before, carries_on, class_of}
-use Rattle.xr_model.specs.Yields.{flipped_value}
+use Rattle.xr_model.specs.Yields.{flipped_value, is_line}
 use Rattle.xr_model.specs.declared.class.ClassByNumber.{ClassByNumber}
 use Rattle.xr_model.specs.declared.class.ClassByNumber.TheVariants.{Local, Free, Carried, Line}
 
--- A place is Carried from the step before as it is, it is Local or Free, and its net keeps there.
+-- A place is Carried from the step before as it is, it is Local or Free, it is Line, and its net keeps there.
 pub record Facts : Type 0 where
   pub carries : Bool
   pub plain : Bool
+  pub line : Bool
   pub keeps : Bool
 
 abbrev pub is_plain : ClassByNumber → Bool
@@ -28,13 +29,13 @@ keeps_by step here back carries = not (step == 0) && (are_equal here back || car
 abbrev pub place_carries : Job → (ℕ → Value) → ℕ → Bool
 place_carries j certain place = carries_on (class_of j certain place) (before j place)
 
-abbrev pub facts : Bool → Bool → Bool → Facts
-facts carries plain keeps = record { carries = carries; plain = plain; keeps = keeps }
+abbrev pub facts : Bool → Bool → Bool → Bool → Facts
+facts carries plain line keeps = record { carries = carries; plain = plain; line = line; keeps = keeps }
 
 -- They, by the step and the class of a place, the place before it, and the certain values of both; and those of a place.
 abbrev pub facts_by : ℕ → ℕ → ClassByNumber → Value → Value → Facts
 facts_by step back class here value_back =
-    facts (carries_on class back) (is_plain class) (keeps_by step here value_back (carries_on class back))
+    facts (carries_on class back) (is_plain class) (is_line class) (keeps_by step here value_back (carries_on class back))
 
 abbrev pub facts_of : Job → (ℕ → Value) → ℕ → Facts
 facts_of j certain place =

@@ -5,7 +5,7 @@ ghost use Rattle.xr_class.specs.Facts.{Facts};
 
 use xr_design::Source;
 
-/// The certain values of earlier places, and three facts of each.
+/// The certain values of earlier places, and four facts of each.
 pub trait Earlier: Source {
     ghost facts: { Self → ℕ → Facts };
 
@@ -18,6 +18,11 @@ pub trait Earlier: Source {
     fn is_plain(&self, place: usize) -> bool
         requires { Self.has self.now place }
         ensures { result ≡ (facts self.now place).plain };
+
+    /// Whether it is Line.
+    fn is_line(&self, place: usize) -> bool
+        requires { Self.has self.now place }
+        ensures { result ≡ (facts self.now place).line };
 
     /// Whether its net keeps there.
     fn keeps(&self, place: usize) -> bool

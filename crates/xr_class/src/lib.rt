@@ -20,7 +20,7 @@ mod tried;
 
 pub use arguments::{ArgumentsByNumber, argument_places, uncertain_places};
 pub use assigned::{Assigned, Numbered, rule_value};
-pub use classify::class_at;
+pub use classify::{class_at, kept_class};
 pub use earlier::Earlier;
 pub use every::passes_every;
 pub use keeps::{keeps_here, net_keeps, place_before};

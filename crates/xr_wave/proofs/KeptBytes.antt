@@ -11,6 +11,7 @@ use Rattle.xr_design.specs.Job.{Job, places_of, step_of}
 use Rattle.xr_design.specs.Waveform.{certain, certain_by, written_at}
 use Rattle.xr_design.proofs.Rules.{spot}
 use Rattle.xr_model.specs.Class.{before, carries_on, class_of}
+use Rattle.xr_model.specs.Yields.{is_line}
 use Rattle.xr_model.specs.declared.class.ClassByNumber.{ClassByNumber}
 use Rattle.xr_model.proofs.ClassesBefore.{class_local}
 use Rattle.xr_model.proofs.FactsBefore.{certain_grown, written_last}
@@ -124,12 +125,12 @@ agrees_pushed j bytes byte written agrees written_is all all_is =
     same = ap (map written_of_byte) all_is ∙ map-append written_of_byte bytes (byte ∷ [])
         ∙ ap (λ (w : Written). map written_of_byte bytes ++ w ∷ []) written_is
 
-three_same : (a b d p q r : Bool) → a ≡ p → b ≡ q → d ≡ r → facts a b d ≡ facts p q r
-three_same a b d p q r ap_is bq_is dr_is = rw (ap_is, bq_is, dr_is) refl
+four_same : (a b d e p q r s : Bool) → a ≡ p → b ≡ q → d ≡ r → e ≡ s → facts a b d e ≡ facts p q r s
+four_same a b d e p q r s ap_is bq_is dr_is es_is = rw (ap_is, bq_is, dr_is, es_is) refl
 
 -- What is found of the class of the next place and of its value are its facts.
-pub facts_found : (step back : ℕ) (class : ClassByNumber) (here value_back : Value) (carries plain keeps : Bool)
-    → carries ≡ carries_on class back → plain ≡ is_plain class → keeps ≡ keeps_by step here value_back carries
-    → facts carries plain keeps ≡ facts_by step back class here value_back
-facts_found step back class here value_back carries plain keeps carries_is plain_is keeps_is =
-    three_same carries plain keeps _ _ _ carries_is plain_is (keeps_is ∙ ap (keeps_by step here value_back) carries_is)
+pub facts_found : (step back : ℕ) (class : ClassByNumber) (here value_back : Value) (carries plain line keeps : Bool)
+    → carries ≡ carries_on class back → plain ≡ is_plain class → line ≡ is_line class → keeps ≡ keeps_by step here value_back carries
+    → facts carries plain line keeps ≡ facts_by step back class here value_back
+facts_found step back class here value_back carries plain line keeps carries_is plain_is line_is keeps_is =
+    four_same carries plain line keeps _ _ _ _ carries_is plain_is line_is (keeps_is ∙ ap (keeps_by step here value_back) carries_is)

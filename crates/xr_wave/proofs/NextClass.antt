@@ -114,18 +114,3 @@ pub arguments_within : (j : Job) (c : ℕ → Value) (place : ℕ) → place < p
 arguments_within j c place within =
     along (λ k. k < place) (λ k. k < places_of j) (argument_places j c place) (λ k less. omega arith)
     (picked_below (among (arguments j c place)) place)
-
--- A class that carries on is Carried from the place before, as it is.
-pub carried_on : (class : ClassByNumber) (back : ℕ) → carries_on class back ≡ true → class ≡ Carried back false
-carried_on (Local bit) back on = cc
-carried_on Free back on = cc
-carried_on (Carried from false) back on =
-    let same : from ≡ back = eqb-true from back (and_parts (from == back) true on).0 in
-    ap (λ k. Carried k false) same
-carried_on (Carried from true) back on = let none = (and_parts (from == back) false on).1 in cc
-carried_on Line back on = cc
-
-pub told_on : (told : Bool) (class : ClassByNumber) (back : ℕ) → told ≡ carries_on class back
-    → OnTrue told (class ≡ Carried back false)
-told_on true class back is = carried_on class back (sym is)
-told_on false class back is = tt

@@ -7,7 +7,7 @@ use Rattle.xr_design.specs.History.{value_of_bits}
 use Rattle.xr_class.specs.Facts.{Facts, facts}
 
 -- Its value is in the low two bits, its mark in the next two, and behind them a bit each says whether its class is Carried
--- from the step before as it is, whether it is Local or Free, and whether its net keeps there.
+-- from the step before as it is, whether it is Local or Free, whether its net keeps there, and whether it is Line.
 abbrev pub mark_of_bits : ℕ → Mark
 mark_of_bits bits = if bits == 0 then Certain else if bits == 1 then Unknown else Undecided
 
@@ -20,7 +20,7 @@ abbrev pub written_of_byte : ℕ → Written
 written_of_byte byte = record { value = value_of_bits (byte % 4); mark = mark_of_bits (byte / 4 % 4) }
 
 abbrev pub facts_of_byte : ℕ → Facts
-facts_of_byte byte = facts (byte / 16 % 2 == 1) (byte / 32 % 2 == 1) (byte / 64 % 2 == 1)
+facts_of_byte byte = facts (byte / 16 % 2 == 1) (byte / 32 % 2 == 1) (byte / 128 % 2 == 1) (byte / 64 % 2 == 1)
 
 -- What the bytes of places say of one of them.
 abbrev pub facts_in : List ℕ → ℕ → Facts

@@ -39,14 +39,23 @@ pub fn keeps(byte: u8) -> bool
     byte / 64 % 2 == 1
 }
 
+/// Whether it is Line.
+pub fn is_line(byte: u8) -> bool
+    ensures { result ≡ (facts_of_byte byte).line }
+{
+    byte / 128 % 2 == 1
+}
+
 /// The byte of a place.
-pub fn byte_of(written: Written, carries: bool, plain: bool, keeps: bool) -> u8
+pub fn byte_of(written: Written, carries: bool, plain: bool, line: bool, keeps: bool) -> u8
     ensures written { written_of_byte result ≡ written }
-    ensures facts { facts_of_byte result ≡ facts carries plain keeps }
+    ensures facts { facts_of_byte result ≡ facts carries plain line keeps }
 {
     let value = bits_of_value(written.value);
     let mark = bits_of_mark(written.mark);
-    value + 4 * mark + 16 * bit_of(carries) + 32 * bit_of(plain) + 64 * bit_of(keeps)
+    let low = value + 4 * mark;
+    let class = 16 * bit_of(carries) + 32 * bit_of(plain) + 128 * bit_of(line);
+    low + class + 64 * bit_of(keeps)
 }
 
 fn bit_of(is: bool) -> u8

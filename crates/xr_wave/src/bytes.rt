@@ -6,12 +6,13 @@ ghost use Rattle.xr_design.specs.Circuit.{job_in, CircuitFits};
 ghost use Rattle.xr_design.specs.Job.{places_of};
 ghost use Rattle.xr_design.specs.Waveform.{certain, certain_by};
 ghost use Rattle.xr_model.specs.Class.{before, carries_on};
+ghost use Rattle.xr_model.specs.Yields.{is_line};
 ghost use Rattle.xr_class.specs.Facts.{is_plain};
 ghost use Rattle.xr_wave.specs.Byte.{facts_in, facts_of_byte, written_of_byte};
 ghost use Rattle.xr_wave.specs.Contents.{next_class};
 ghost use Rattle.xr_wave.specs.Kept.{BytesTell, IsKept, ValuesAgree, facts_next};
 
-use crate::byte::{byte_of, carries_on, is_plain, keeps, written_in};
+use crate::byte::{byte_of, carries_on, is_line, is_plain, keeps, written_in};
 use xr_cell::Value;
 use xr_class::{Earlier, class_at, keeps_here, place_before};
 use xr_design::{Circuit, Mark, Source, Written, count_places};
@@ -42,6 +43,10 @@ impl<'w> Earlier for Bytes<'w> {
 
     fn is_plain(&self, place: usize) -> bool {
         is_plain(self.bytes[place])
+    }
+
+    fn is_line(&self, place: usize) -> bool {
+        is_line(self.bytes[place])
     }
 
     fn keeps(&self, place: usize) -> bool {
@@ -123,9 +128,10 @@ fn next_byte(
     let place = bytes.len();
     let carries = is_carrying_on(circuit, place, next);
     let plain = is_plain_class(next);
+    let line = is_line_class(next);
     let here = value_if_certain(written);
     let keeps = keeps_here(circuit, &Bytes { bytes }, place, here, carries);
-    byte_of(written, carries, plain, keeps)
+    byte_of(written, carries, plain, line, keeps)
 }
 
 /// Whether a class is Local or Free.
@@ -139,7 +145,14 @@ fn is_plain_class(next: Option<ClassByNumber>) -> bool
     }
 }
 
-/// Whether a class is Carried from the step before, as it is.
+/// Whether it is Line.
+fn is_line_class(next: Option<ClassByNumber>) -> bool
+    ensures { IfSome next (λ class. result ≡ is_line class) }
+{
+    matches!(next, Some(ClassByNumber::Line))
+}
+
+/// Whether it is Carried from the step before, as it is.
 fn is_carrying_on(circuit: &Circuit<'_>, place: usize, next: Option<ClassByNumber>) -> bool
     requires fits { CircuitFits circuit.now }
     requires within { place < places_of (job_in circuit.now) }

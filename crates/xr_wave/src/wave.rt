@@ -1,31 +1,29 @@
 //! A waveform that grows by one place at a time.
 
-ghost use Rattle.std.specs.Prelude.{◌≡◌, ℕ, ◌<◌, ◌≤◌, [], IfOk, IfErr, None, false, length, map};
-ghost use Rattle.std.specs.Bool.{OnTrue};
+ghost use Rattle.std.specs.Prelude.{◌≡◌, ℕ, ◌<◌, ◌≤◌, [], IfOk, IfErr, None, length, map};
 ghost use Rattle.xr_cell.specs.declared.value.Value.{Value as AnyValue};
 ghost use Rattle.xr_design.specs.Circuit.{FitsCircuit, CircuitFits, job_in};
 ghost use Rattle.xr_design.specs.Fits.{place_at};
 ghost use Rattle.xr_design.specs.Handed.{IsHandedIn};
 ghost use Rattle.xr_design.specs.Job.{job_of, number_of, places_of};
 ghost use Rattle.xr_design.specs.Waveform.{written_at};
-ghost use Rattle.xr_model.specs.Class.{before, carries_on, class_seen};
+ghost use Rattle.xr_model.specs.Class.{class_seen};
 ghost use Rattle.xr_model.specs.Growth.{NextHolds};
 ghost use Rattle.xr_model.specs.Sound.{Sound};
 ghost use Rattle.xr_model.specs.Yields.{Yields};
-ghost use Rattle.xr_model.specs.declared.class.ClassByNumber.TheVariants.{Carried};
 ghost use Rattle.xr_wave.specs.Advance.{with_written};
 ghost use Rattle.xr_wave.specs.Contents.{Contents, FromWithin, IsReached, IsWave, IsWritten, arguments_in, class_in, job, next_class, next_number, next_place, next_seen, nothing_written, rule_in, shown_in, written_of};
 ghost use Rattle.xr_wave.specs.Token.{HasNext, IsLineNext, LineAgrees, LineHolds, with_line, written_by_line};
 
 use crate::arguments::{Arguments, places_of_numbers};
-use crate::byte::{carries_on, written_in};
+use crate::byte::written_in;
 use crate::bytes::{Bytes, class_behind, push_place};
 use crate::places::{number_of, place_of};
 use std::alloc::Global;
 use std::marker::Model;
 use xr_base::Memory;
 use xr_cell::Value;
-use xr_class::{argument_places, class_at, place_before, rule_value};
+use xr_class::{argument_places, class_at, kept_class, rule_value};
 use xr_design::{Circuit, Design, History, Mark, Order, Place, Stim, Written, count_places};
 use xr_model::{Class, ClassByNumber, Line};
 
@@ -162,13 +160,14 @@ impl<'a> Wave<'a> {
         requires within { number < places_of (job self.now) }
         ensures { result ≡ class_in self.now number }
     {
-        if self.is_kept(number) {
-            return ClassByNumber::Carried(place_before(&self.circuit, number), false);
-        }
         let bytes = Bytes {
             bytes: self.bytes.as_slice(),
         };
-        class_at(&self.circuit, &bytes, number)
+        if number < self.bytes.len() {
+            kept_class(&self.circuit, &bytes, number)
+        } else {
+            class_at(&self.circuit, &bytes, number)
+        }
     }
 
     /// The argument places of a place that is written, or of the next one, in place order and without doubles. Takes no
@@ -247,21 +246,6 @@ impl<'a> Wave<'a> {
         ensures { result ≡ written_at self.now.written number }
     {
         written_in(self.bytes[number])
-    }
-
-    /// Whether a byte says that the class of a place is Carried from the step before, as it is.
-    fn is_kept(&self, number: usize) -> bool
-        ensures { OnTrue result (class_in self.now number ≡ Carried (before (job self.now) number) false) }
-    {
-        number < self.bytes.len() && self.is_carried_on(number)
-    }
-
-    /// Whether the class of the place of a number is Carried from the step before, as it is.
-    fn is_carried_on(&self, number: usize) -> bool
-        requires { number < length self.now.written }
-        ensures { result ≡ carries_on (class_in self.now number) (before (job self.now) number) }
-    {
-        carries_on(self.bytes[number])
     }
 
     /// The class of the next place, by number.

@@ -1,0 +1,44 @@
+-- What is kept of a place tells its class.
+use Rattle.std.proofs.Common.{◌≡◌, ℕ, ◌+◌, ◌<◌, ◌≤◌, ◌∙◌, true, false, sym, ap, arith}
+use Rattle.xr_design.specs.Circuit.{job_in}
+use Rattle.xr_model.specs.Class.{before, class_of}
+use Rattle.xr_model.specs.Yields.{is_line}
+use Rattle.xr_model.specs.declared.class.ClassByNumber.TheVariants.{Carried}
+use Rattle.xr_class.specs.Facts.{Facts, is_plain, place_carries, plain_class}
+use Rattle.xr_class.proofs.SteadyClasses.{carried_on, line_is, plain_is}
+use Rattle.xr_class.proofs.classify.kept_class.Goals as goal
+
+pub returns-then-carries_on : goal.returns-then-carries_on
+returns-then-carries_on g c =
+    let j = job_in c.args.circuit.now in
+    let certain = g.E.Source.reads c.args.earlier.now in
+    let place = c.args.place in
+    let on : place_carries j certain place ≡ true = sym (c.carries_on.ensures
+    ∙ ap (λ (facts : Facts). facts.carries) (c.requires.facts place (omega arith))) ∙ c.if-carries_on.true in
+    ap (λ k. Carried k false) c.place_before.ensures
+    ∙ sym (carried_on (class_of j certain place) (before j place) on)
+
+pub returns-then-is_plain : goal.returns-then-is_plain
+returns-then-is_plain g c =
+    let j = job_in c.args.circuit.now in
+    let certain = g.E.Source.reads c.args.earlier.now in
+    let place = c.args.place in
+    let plain : is_plain (class_of j certain place) ≡ true = sym (c.is_plain.ensures
+    ∙ ap (λ (facts : Facts). facts.plain) (c.requires.facts place (omega arith))) ∙ c.if-is_plain.true in
+    c.plain_class.ensures ∙ ap plain_class c.value.ensures
+    ∙ sym (plain_is certain (class_of j certain place) (certain place) plain (c.requires.agrees place (omega arith)))
+
+pub returns-then-is_line : goal.returns-then-is_line
+returns-then-is_line g c =
+    let j = job_in c.args.circuit.now in
+    let certain = g.E.Source.reads c.args.earlier.now in
+    let place = c.args.place in
+    let line : is_line (class_of j certain place) ≡ true = sym (c.is_line.ensures
+    ∙ ap (λ (facts : Facts). facts.line) (c.requires.facts place (omega arith))) ∙ c.if-is_line.true in
+    sym (line_is (class_of j certain place) line)
+
+pub class_at-requires-clause-facts : goal.class_at-requires-clause-facts
+class_at-requires-clause-facts g c = λ k less. c.requires.facts k (omega (arith, less))
+
+pub class_at-requires-clause-agrees : goal.class_at-requires-clause-agrees
+class_at-requires-clause-agrees g c = λ k less. c.requires.agrees k (omega (arith, less))
