@@ -4,6 +4,7 @@ use Rattle.std.proofs.lemmas.Bool.{and_parts, and_from, eq-eqb, eqb-true}
 use Rattle.std.proofs.lemmas.Bool.Decides.{eqb_tells}
 use Rattle.std.proofs.lemmas.List.{append-nil, take_more}
 use Rattle.std.proofs.lemmas.List.Elements.{filter-append}
+use Rattle.std.specs.List.Sorted.{IsStrictlyIncreasing}
 use Rattle.xr_cell.specs.declared.value.Value.{Value}
 use Rattle.xr_cell.specs.declared.value.Value.TheVariants.{Zero, One, X, Z}
 use Rattle.xr_cell.specs.Value.{is_unknown}
@@ -23,7 +24,7 @@ use Rattle.xr_model.proofs.EssentialArguments.{rule_table, table_reads}
 use Rattle.xr_model.proofs.PlacesWhere.{all_among, among_all, in_picked, picked_in, picked_rises}
 use Rattle.xr_cone.specs.Table.{IsCut, IsTableOver, Rests}
 use Rattle.xr_cone.proofs.RisingLists.{increasing_apart}
-use Rattle.xr_cone.proofs.NumberBits.{AreApart, each_all, index_among, mask_bit, mask_clear, mask_with, others_all, with_itself, with_other}
+use Rattle.xr_cone.proofs.NumberBits.{AreApart, each_all, index_among, mask_bit, mask_clear, mask_masked, mask_with, others_all, with_itself, with_other}
 
 alike_itself : (v : Value) → are_alike v v ≡ true
 alike_itself Zero = refl
@@ -249,3 +250,17 @@ pub uncertain_apart : (j : Job) (c : ℕ → Value) (place : ℕ) (places : List
     → AreApart places
 uncertain_apart j c place places are =
     subst AreApart (sym are) (increasing_apart (uncertain_places j c place) (picked_rises (is_uncertain j c place) place))
+
+pub uncertain_rises : (j : Job) (c : ℕ → Value) (place : ℕ) (places : List ℕ) → places ≡ uncertain_places j c place
+    → IsStrictlyIncreasing places
+uncertain_rises j c place places are =
+    subst IsStrictlyIncreasing (sym are) (picked_rises (is_uncertain j c place) place)
+
+-- A table cut down to all of its places is the same.
+pub whole_cut : (places : List ℕ) (values cut : List Value) → IsStrictlyIncreasing places
+    → length values ≡ 2 ^ length places → cut ≡ values → IsCut places places values cut
+whole_cut places values cut rising long same = record {
+  long = ap length same ∙ long;
+  are_values = λ number less. ap (λ vs. slice_index_or vs number X) same
+      ∙ ap (λ n. slice_index_or values n X) (sym (mask_masked places number (increasing_apart places rising) less));
+}

@@ -1,10 +1,11 @@
 -- Lemmas on cones as they are traced.
+mod BoundaryPlaces
 mod CircuitPlaces
 mod ConeNodes
 mod EssentialBits
+mod HeapPlaces
 mod NextLine
 mod NumberBits
-mod OrderedKeys
 mod RisingLists
 mod TracedBodies
 mod TracedPlaces

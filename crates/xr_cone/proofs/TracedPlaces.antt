@@ -11,22 +11,17 @@ use Rattle.xr_model.specs.Cone.{Reaches, cone, further, in_cone, itself, support
 use Rattle.xr_model.specs.Places.{among, places_where}
 use Rattle.xr_model.proofs.Cones.{cone_closed, cone_reaches, cone_self, cone_within, supports_below}
 use Rattle.xr_model.proofs.PlacesWhere.{all_among, among_all, or_left, or_right}
-use Rattle.xr_cone.specs.Reached.{AddsAll, TakesGreatest}
-
--- Places that fall, the greatest first.
-abbrev pub IsFalling : List ℕ → Type 0
-IsFalling [] = Unit {0}
-IsFalling (p ∷ ps) = AllByRecursion (λ k. k < p) ps × IsFalling ps
+use Rattle.xr_cone.specs.Reached.{AddsAll, IsFalling, TakesGreatest}
 
 -- Membership in a list with one more place at its end.
-among_push : (places : List ℕ) (place k : ℕ) → among (places ++ place ∷ []) k ≡ among places k || (place == k)
+pub among_push : (places : List ℕ) (place k : ℕ) → among (places ++ place ∷ []) k ≡ among places k || (place == k)
 among_push places place k = list_any-append (λ i. i == k) places (place ∷ []) ∙ ap (λ b. among places k || b) (one (place == k))
   where
     one : (b : Bool) → b || false ≡ b
     one true = refl
     one false = refl
 
-in_push : (places : List ℕ) (place k : ℕ) → among (places ++ place ∷ []) k ≡ true → (among places k ≡ true) ⊎ (place ≡ k)
+pub in_push : (places : List ℕ) (place k : ℕ) → among (places ++ place ∷ []) k ≡ true → (among places k ≡ true) ⊎ (place ≡ k)
 in_push places place k at =
     ⊎_elim (λ (e : among places k ≡ true). inl e) (λ (e : (place == k) ≡ true). inr (eqb-true place k e))
     (or_cases (among places k) (place == k) (sym (among_push places place k) ∙ at))
@@ -37,7 +32,7 @@ push_old places place k at = among_push places place k ∙ or_left (among places
 push_new : (places : List ℕ) (place : ℕ) → among (places ++ place ∷ []) place ≡ true
 push_new places place = among_push places place place ∙ or_right (among places place) (place == place) (eq-eqb place place refl)
 
-falls_push : (places : List ℕ) (k : ℕ) → IsFalling places → AllByRecursion (λ p. k < p) places
+pub falls_push : (places : List ℕ) (k : ℕ) → IsFalling places → AllByRecursion (λ p. k < p) places
     → IsFalling (places ++ k ∷ [])
 falls_push [] k falls above = (tt, tt)
 falls_push (p ∷ ps) k falls above = (all_push ps falls.0, falls_push ps k falls.1 above.1)
@@ -46,10 +41,10 @@ falls_push (p ∷ ps) k falls above = (all_push ps falls.0, falls_push ps k fall
     all_push [] all = (above.0, tt)
     all_push (q ∷ qs) all = (all.0, all_push qs all.1)
 
-abbrev Members : (ℕ → Bool) → ℕ → List ℕ → Type 0
+abbrev pub Members : (ℕ → Bool) → ℕ → List ℕ → Type 0
 Members test n places = (k : ℕ) → k < n → among places k ≡ test k
 
-abbrev Behind : (ℕ → Bool) → ℕ → Type 0
+abbrev pub Behind : (ℕ → Bool) → ℕ → Type 0
 Behind test n = (places : List ℕ) → IsFalling places → AllByRecursion (λ k. k < n) places → Members test n places
     → reverse places ≡ places_where test n
 
@@ -94,7 +89,7 @@ falling_skips n test behind places falls low same none =
         (λ (e : k ≡ n → ⊥). omega arith) (cases_eq k n)
 
 -- Falling places with the members of a test are those at which it holds, from behind.
-falling_is : (n : ℕ) (test : ℕ → Bool) → Behind test n
+pub falling_is : (n : ℕ) (test : ℕ → Bool) → Behind test n
 falling_is zero test [] falls low same = refl
 falling_is zero test (p ∷ ps) falls low same = absurd (let none = low.0 in omega arith)
 falling_is (suc n) test places falls low same =
@@ -151,7 +146,7 @@ descent_more j fits c root place taken waiting left more within is takes adds = 
 }
   where
     waits : among waiting place ≡ true
-    waits = ap (λ xs. among xs place) takes.parts ∙ push_new left place
+    waits = takes.parts place ∙ or_left (place == place) (among left place) (eq-eqb place place refl)
 
     of_cone : in_cone j c root place ≡ true
     of_cone = is.inside place (or_right (among taken place) (among waiting place) waits)
@@ -166,7 +161,7 @@ descent_more j fits c root place taken waiting left more within is takes adds = 
     parted k at = or_cases (among (supports j c place) k) (among left k) (sym (adds k) ∙ at)
 
     stays : (k : ℕ) → among left k ≡ true → among waiting k ≡ true
-    stays k at = ap (λ xs. among xs k) takes.parts ∙ push_old left place k at
+    stays k at = takes.parts k ∙ or_right (place == k) (among left k) at
 
     low : (k : ℕ) → among more k ≡ true → k < place
     low k at = ⊎_elim (λ (e : among (supports j c place) k ≡ true). supports_low k e)
@@ -176,11 +171,11 @@ descent_more j fits c root place taken waiting left more within is takes adds = 
     still k found = ⊎_elim
         (λ (e : among taken k ≡ true). or_left (among (taken ++ place ∷ []) k) (among more k) (push_old taken place k e))
         (λ (e : among waiting k ≡ true). ⊎_elim
+        (λ (d : (place == k) ≡ true). or_left (among (taken ++ place ∷ []) k) (among more k)
+        (subst (λ i. among (taken ++ place ∷ []) i ≡ true) (eqb-true place k d) (push_new taken place)))
         (λ (d : among left k ≡ true). or_right (among (taken ++ place ∷ []) k) (among more k)
         (adds k ∙ or_right (among (supports j c place) k) (among left k) d))
-        (λ (d : place ≡ k). or_left (among (taken ++ place ∷ []) k) (among more k)
-        (subst (λ i. among (taken ++ place ∷ []) i ≡ true) d (push_new taken place)))
-        (in_push left place k (sym (ap (λ xs. among xs k) takes.parts) ∙ e)))
+        (or_cases (place == k) (among left k) (sym (takes.parts k) ∙ e)))
         (or_cases (among taken k) (among waiting k) found)
 
     closed : (p support : ℕ) → among (taken ++ place ∷ []) p ≡ true → among (supports j c p) support ≡ true
@@ -213,7 +208,8 @@ pub descent_within : (j : Job) → Fits j → (c : ℕ → Value) (root place : 
     → root < places_of j → IsDescent j c root taken waiting → TakesGreatest waiting place left
     → (place ≤ root) × (length taken + place ≤ root)
 descent_within j fits c root place taken waiting left within is takes =
-    let waits : among waiting place ≡ true = ap (λ xs. among xs place) takes.parts ∙ push_new left place in (
+    let waits : among waiting place ≡ true =
+    takes.parts place ∙ or_left (place == place) (among left place) (eq-eqb place place refl) in (
       cone_within j fits c root place within (is.inside place (or_right (among taken place) (among waiting place) waits)),
       is.room place waits,
     )

@@ -1,4 +1,5 @@
 -- Definitions of what code finds of a cone.
+pub mod Boundary
 pub mod InWave
 pub mod Placed
 pub mod Reached

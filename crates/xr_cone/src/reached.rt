@@ -3,23 +3,31 @@
 ghost use Rattle.std.specs.Prelude.{◌≡◌, [], OnOk};
 ghost use Rattle.xr_cone.specs.Reached.{Adds, Takes};
 
+use crate::heap::{pop_below, put};
 use std::alloc::Global;
-use std::collections::BTreeSet;
+use std::collections::BinaryHeap;
 use std::marker::Model;
 use xr_base::Memory;
 
-/// Some places by number. Contracts see the list of them in place order.
+/// Some places by number: the greatest, and the others in a heap. Contracts see the list of them, some maybe more than
+/// once.
 #[derive(Drop)]
 pub struct Reached {
-    places: BTreeSet<usize>,
+    greatest: Option<usize>,
+    others: BinaryHeap<usize>,
 }
 
 impl Model for Reached {
     ghost use Rattle.std.specs.Prelude.{List, ℕ};
+    ghost use Rattle.std.specs.BinaryHeap.{IsHeap, heap_items};
+    ghost use Rattle.std.specs.Ordering.{nat_cmp};
+    ghost use Rattle.xr_cone.specs.Reached.{AreBelow, listed};
 
     ghost Value = { List ℕ };
 
-    ghost view = { λ reached. reached.places.keys };
+    ghost view = { λ r. listed r.greatest (heap_items r.others) };
+
+    ghost invariant = { λ r. IsHeap nat_cmp (heap_items r.others) × AreBelow r.greatest (heap_items r.others) };
 }
 
 impl Reached {
@@ -28,22 +36,38 @@ impl Reached {
         ensures { result ≡ [] }
     {
         Reached {
-            places: BTreeSet::new(alloc),
+            greatest: None,
+            others: BinaryHeap::new(alloc),
         }
     }
 
-    /// A place comes in, if it isn't there.
+    /// A place comes in. Takes no memory where it is the only one.
     pub fn insert(&mut self, place: usize) -> Result<(), Memory>
         ensures { OnOk result (Adds self.old place self.new) }
     {
-        self.places.insert(place)?;
-        Ok(())
+        match self.greatest {
+            None => {
+                self.greatest = Some(place);
+                Ok(())
+            }
+            Some(greatest) => {
+                let now = put(&mut self.others, greatest, place)?;
+                self.greatest = Some(now);
+                Ok(())
+            }
+        }
     }
 
     /// Takes the greatest out, if there is one. No memory.
     pub fn take_greatest(&mut self) -> Option<usize>
         ensures { Takes self.old result self.new }
     {
-        self.places.pop_last()
+        match self.greatest {
+            None => None,
+            Some(greatest) => {
+                self.greatest = pop_below(&mut self.others, greatest);
+                Some(greatest)
+            }
+        }
     }
 }

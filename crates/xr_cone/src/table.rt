@@ -1,6 +1,7 @@
 //! Tables of the rule of a place, and its essential arguments.
 
 ghost use Rattle.std.specs.Prelude.{◌≡◌, ℕ, ◌+◌, ◌<◌, ◌≤◌, ◌^◌, length, slice_index_or, IfOk, OnOk};
+ghost use Rattle.std.specs.List.Sorted.{IsStrictlyIncreasing};
 ghost use Rattle.xr_cell.specs.declared.value.Value.{Value as AnyValue};
 ghost use Rattle.xr_model.specs.Cone.{are_alike};
 ghost use Rattle.xr_model.specs.Mask.{mask_of, masked};
@@ -94,8 +95,36 @@ fn are_alike(x: Value, y: Value) -> bool
     x == y
 }
 
+/// The table over some places that are kept of it: the same where all of them are.
+pub fn kept_table(
+    alloc: Global,
+    places: &[usize],
+    kept: &[usize],
+    values: &[Value],
+) -> Result<Vec<Value>, Memory>
+    requires few { length places.now ≤ 13 }
+    requires few_kept { length kept.now ≤ 13 }
+    requires rising { IsStrictlyIncreasing places.now }
+    requires long { length values.now ≡ 2 ^ length places.now }
+    ensures { IfOk result (λ cut. IsCut places.now kept.now values.now cut.items) }
+{
+    if kept == places {
+        return whole_table(alloc, places, values);
+    }
+    cut_table(alloc, places, kept, values)
+}
+
+fn whole_table(alloc: Global, places: &[usize], values: &[Value]) -> Result<Vec<Value>, Memory>
+    requires rising { IsStrictlyIncreasing places.now }
+    requires long { length values.now ≡ 2 ^ length places.now }
+    ensures { IfOk result (λ cut. IsCut places.now places.now values.now cut.items) }
+{
+    let whole = values.to_vec(alloc)?;
+    Ok(whole)
+}
+
 /// Cuts a table down to some of its places.
-pub fn cut_table(
+fn cut_table(
     alloc: Global,
     places: &[usize],
     kept: &[usize],

@@ -5,7 +5,7 @@ ghost use Rattle.xr_model.specs.Cone.{is_carried};
 ghost use Rattle.xr_wave.specs.Contents.{class_in};
 ghost use Rattle.xr_cone.specs.InWave.{IsBodyIn, IsInReach};
 
-use crate::table::{cut_table, essential_places};
+use crate::table::{essential_places, kept_table};
 use std::alloc::Global;
 use xr_base::{Items, Memory};
 use xr_cell::Value;
@@ -60,6 +60,6 @@ fn trace_rule(
     let uncertain = uncertain_places(&wave.circuit(), wave, place);
     let places = uncertain.as_slice();
     let essential = essential_places(wave, place, places, room)?;
-    let values = cut_table(alloc, places, essential.as_slice(), room.as_slice())?;
+    let values = kept_table(alloc, places, essential.as_slice(), room.as_slice())?;
     Ok(TracedBody::Rule(essential, Items::from_vec(values)))
 }

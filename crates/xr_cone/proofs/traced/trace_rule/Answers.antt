@@ -6,8 +6,14 @@ use Rattle.xr_design.specs.Job.{Job}
 use Rattle.xr_design.specs.Waveform.{certain}
 use Rattle.xr_wave.specs.Contents.{job}
 use Rattle.xr_cone.specs.Table.{IsTableOver}
-use Rattle.xr_cone.proofs.EssentialBits.{cut_is_table}
+use Rattle.xr_cone.proofs.EssentialBits.{cut_is_table, uncertain_rises}
 use Rattle.xr_cone.proofs.traced.trace_rule.Goals as goal
+
+pub kept_table-requires-clause-rising : goal.kept_table-requires-clause-rising
+kept_table-requires-clause-rising c =
+    uncertain_rises (job c.args.wave.now) (certain c.args.wave.now.written) c.args.place c.as_slice-places.result.now
+    (c.as_slice-places.ensures.places ∙ c.uncertain_places-uncertain.ensures
+    ∙ ap (λ (k : Job). uncertain_places k (certain c.args.wave.now.written) c.args.place) c.circuit.ensures.job)
 
 pub returns : goal.returns
 returns c =
