@@ -1,6 +1,6 @@
 //! The digits of changes, by number. A single digit takes no memory.
 
-ghost use Rattle.std.specs.Prelude.{◌≡◌, ℕ, ◌<◌, ◌≤◌, [], ◌∷◌, List, length, OnOk, OnErr, IfOk, IfSome, slice_index_or};
+ghost use Rattle.std.specs.Prelude.{◌≡◌, ℕ, ◌+◌, ◌<◌, ◌≤◌, [], ◌∷◌, List, length, OnOk, OnErr, IfOk, IfSome, slice_index_or};
 ghost use Rattle.xr_vcd_changes.specs.Texts.{singles, Grows};
 
 use crate::texts::Texts;
@@ -44,6 +44,7 @@ impl Digits {
         ensures grows { Grows self.old self.new }
         ensures within { IfOk result (λ number. number < length self.new) }
         ensures is { IfOk result (λ number. slice_index_or self.new number [] ≡ digits.now) }
+        ensures few { length self.new ≤ length self.old + 1 }
     {
         let number = self.texts.len();
         if let Some(found) = single(digits) {

@@ -1,1 +1,0 @@
--- Digits of one byte are there already.
