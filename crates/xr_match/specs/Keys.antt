@@ -3,6 +3,7 @@ use Rattle.std.specs.Prelude.{◌≡◌, ℕ, zero, suc, ◌<◌, ◌≤◌, ◌
 use Rattle.std.specs.List.{list_all}
 use Rattle.std.specs.declared.alloc.Global.{Global}
 use Rattle.std.specs.Map.{lookup}
+use Rattle.xr_design.specs.Design.{FitsDesign}
 use Rattle.xr_design.specs.declared.design.Design.{Design}
 use Rattle.xr_match.specs.Naming.{Texts, texts_of}
 
@@ -43,6 +44,10 @@ nets_at entries key = listed (lookup (λ (k : Vec ℕ Global). bytes_eq key k.it
 pub record Lists (entries : Entries) (longest : ℕ) (design : Design) (count : ℕ) : Type 0 where
   pub nets : (key : List ℕ) → nets_at entries key ≡ keyed_below design key count
   pub long : (net : ℕ) → net < count → length (key_of (texts_of design net)) ≤ longest
+
+-- The design fits, and the map has the nets of each of its keys.
+abbrev pub ListsAll : Entries → ℕ → Design → Type 0
+ListsAll entries longest design = FitsDesign design × Lists entries longest design (length design.nets)
 
 -- The list of a key has one net more.
 abbrev pub AddsNet : Entries → Entries → List ℕ → ℕ → Type 0

@@ -1,5 +1,5 @@
 -- What keeps the variables of a recording from being bound, and what a binding is.
-use Rattle.std.specs.Prelude.{◌≡◌, ℕ, ◌*◌, ◌^◌, ◌<◌, ◌≤◌, true, false, List, Some, length}
+use Rattle.std.specs.Prelude.{◌≡◌, ℕ, ◌*◌, ◌^◌, ◌<◌, ◌≤◌, true, false, List, Option, None, Some, length}
 use Rattle.xr_design.specs.declared.design.Design.{Design}
 use Rattle.xr_vcd.specs.Recording.{Recording}
 use Rattle.xr_vcd.specs.declared.variable.Variable.{Variable}
@@ -55,6 +55,11 @@ pub record IsDiffering (design : Design) (recording : Recording) (scope : Texts)
 pub record IsLeast (design : Design) (bound : List Bound) (net : ℕ) : Type 0 where
   pub before : AllBound design bound net
   pub unbound : IsUnbound design bound net
+
+-- None where each input is bound, or the least that isn't.
+abbrev pub FindsMissing : Design → List Bound → Option ℕ → Type 0
+FindsMissing design bound None = AllBound design bound (length design.nets)
+FindsMissing design bound (Some net) = IsLeast design bound net
 
 abbrev pub IsFirstMissing : Design → List Bound → BindErr → Type 0
 IsFirstMissing design bound NoScope = ⊥

@@ -92,6 +92,9 @@ abbrev pub inputs_below : Design → List (Option Holder) → ℕ → List Held
 inputs_below design holders zero = []
 inputs_below design holders (suc net) = inputs_below design holders net ++ input_at net (slice_index_or holders net None) (driver_in design net)
 
+abbrev pub inputs_of : Design → List (Option Holder) → List Held
+inputs_of design holders = inputs_below design holders (length design.nets)
+
 -- a net's value once these inputs have theirs in a moment
 abbrev pub set_from : Recording → ℕ → List Held → ℕ → Value → Value
 set_from recording moment [] net old = old

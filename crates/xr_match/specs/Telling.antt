@@ -16,6 +16,9 @@ pub record Under : Type 0 where
   pub recording : Recording
   pub scope : Texts
 
+abbrev pub under : Design → Recording → Texts → Under
+under design recording scope = record { design = design; recording = recording; scope = scope }
+
 -- A scope path is that of a scope. Scopes of one path are one.
 abbrev pub has_scope : Texts → List Texts → Bool
 has_scope scope paths = list_any (names_eq scope) paths

@@ -1,9 +1,9 @@
 //! Which bound variable gives the value of a net, and whether each input has one.
 
-ghost use Rattle.std.specs.Prelude.{◌≡◌, ◌↔◌, ◌<◌, ◌≤◌, ◌^◌, List, IsTrue, All, IfOk, MatchOption, length};
+ghost use Rattle.std.specs.Prelude.{◌≡◌, ◌↔◌, ◌<◌, ◌≤◌, ◌^◌, List, IsTrue, All, IfOk, length};
 ghost use Rattle.xr_design.specs.Job.{driver_in};
 ghost use Rattle.xr_match.specs.Holding.{FitsHeld, GivesBits, GivesNet, Holds};
-ghost use Rattle.xr_match.specs.Refusal.{AllBound, IsLeast};
+ghost use Rattle.xr_match.specs.Refusal.{FindsMissing};
 ghost use Rattle.xr_match.specs.declared.binding.Bound.{Bound as bound_variable};
 
 use crate::binding::Bound;
@@ -63,8 +63,7 @@ fn hold(holders: &mut [Option<Holder>], net: u32, holder: Holder)
 pub fn missing_input(design: &Design, holders: &[Option<Holder>]) -> Option<u32>
     requires few { length design.now.nets ≤ 2 ^ 20 }
     requires long { length holders.now ≡ length design.now.nets }
-    ensures { (bound : List bound_variable) → Holds design.now bound holders.now
-        → MatchOption result (AllBound design.now bound (length design.now.nets)) (λ net. IsLeast design.now bound net) }
+    ensures { (bound : List bound_variable) → Holds design.now bound holders.now → FindsMissing design.now bound result }
 {
     'nets: for (net, holder) in holders.iter().enumerate() {
         if is_input(design, net as u32) && holder.is_none() {

@@ -26,11 +26,11 @@ pub struct Matcher<'a> {
 
 impl<'a> Model for Matcher<'a> {
     ghost use Rattle.xr_match.specs.Scopes.{KeepsRecording};
-    ghost use Rattle.xr_match.specs.Telling.{Under};
+    ghost use Rattle.xr_match.specs.Telling.{Under, under};
 
     ghost Value = { Under };
 
-    ghost view = { λ m. record { design = m.names; recording = m.recording.now; scope = m.scope.now } };
+    ghost view = { λ m. under m.names m.recording.now m.scope.now };
 
     ghost invariant = { λ m. KeepsRecording m.names m.scope.now m.recording.now m.keys.items };
 }
@@ -39,7 +39,7 @@ impl<'a> Matcher<'a> {
     ghost use Rattle.std.specs.Prelude.{◌≡◌, ◌<◌, [], IfOk, length};
     ghost use Rattle.xr_design.specs.Design.{FitsDesign};
     ghost use Rattle.xr_vcd.specs.Recording.{IsVariable, path_at};
-    ghost use Rattle.xr_match.specs.Telling.{has_scope, matched};
+    ghost use Rattle.xr_match.specs.Telling.{has_scope, matched, under};
 
     /// What is to be matched, under a scope path of one or more names.
     pub fn new(
@@ -50,7 +50,7 @@ impl<'a> Matcher<'a> {
     ) -> Result<Matcher<'a>, Memory>
         requires fits { FitsDesign design.now }
         requires some { 0 < length scope.now }
-        ensures { IfOk result (λ m. m ≡ record { design = design.now; recording = recording.now; scope = scope.now }) }
+        ensures { IfOk result (λ m. m ≡ under design.now recording.now scope.now) }
     {
         let names = Names::new(alloc, design)?;
         let keys = keys_of(alloc, &names, recording, scope)?;

@@ -19,16 +19,14 @@ pub struct Names<'a> {
 }
 
 impl<'a> Model for Names<'a> {
-    ghost use Rattle.std.specs.Prelude.{length};
     ghost use Rattle.xr_design.specs.declared.design.Design.{Design};
-    ghost use Rattle.xr_design.specs.Design.{FitsDesign};
-    ghost use Rattle.xr_match.specs.Keys.{Lists};
+    ghost use Rattle.xr_match.specs.Keys.{ListsAll};
 
     ghost Value = { Design };
 
     ghost view = { λ n. n.design.now };
 
-    ghost invariant = { λ n. FitsDesign n.design.now × Lists n.lists.entries n.longest n.design.now (length n.design.now.nets) };
+    ghost invariant = { λ n. ListsAll n.lists.entries n.longest n.design.now };
 }
 
 impl<'a> Names<'a> {

@@ -17,7 +17,7 @@ use std::alloc::Global;
 use xr_base::{Items, Memory};
 use xr_cell::Value;
 use xr_design::{Design, Driver, StartRule, Stim};
-use xr_vcd::Recording;
+use xr_vcd::{Cursor, Recording};
 
 /// An input of the design and what holds it.
 #[derive(Clone, Copy)]
@@ -27,7 +27,8 @@ pub struct Held {
 }
 
 /// The stimulus of a recording whose variables are bound, for a replay of so many rounds: the recorded values of the inputs, and
-/// what the registers start with by this rule. Takes a byte for each net in each moment.
+/// what the registers start with by this rule. Takes a byte for each net in each moment; while it runs 8 more for each variable
+/// and 12 for each net.
 pub fn stim_of(
     alloc: Global,
     design: &Design,
@@ -72,10 +73,11 @@ fn rows_of(
     ensures rows { IfOk result (λ rows. spec.AreRows design.now recording.now holders.now rows.items) }
 {
     let inputs = inputs_of(alloc, design, holders)?;
+    let mut cursor = Cursor::new(alloc, recording)?;
     let mut row = vec![in alloc; Value::X; design.nets.as_slice().len()]?;
     let mut rows = Vec::new(alloc);
     'moments: for moment in 0..recording.times().len() as u32 {
-        set_inputs(row.as_mut_slice(), recording, inputs.as_slice(), moment);
+        set_inputs(row.as_mut_slice(), &mut cursor, inputs.as_slice(), moment);
         let values = Vec::from_slice(alloc, &row)?;
         rows.push(Items::from_vec(values))?;
     }
@@ -90,7 +92,7 @@ fn inputs_of(
 ) -> Result<Vec<Held>, Memory>
     requires few { length design.now.nets ≤ 2 ^ 20 }
     requires long { length holders.now ≡ length design.now.nets }
-    ensures { IfOk result (λ inputs. inputs.items ≡ spec.inputs_below design.now holders.now (length design.now.nets)) }
+    ensures { IfOk result (λ inputs. inputs.items ≡ spec.inputs_of design.now holders.now) }
 {
     let mut inputs = Vec::new(alloc);
     'nets: for (net, holder) in holders.iter().enumerate() {
@@ -106,7 +108,8 @@ fn put_input(
     holder: Option<Holder>,
 ) -> Result<(), Memory>
     requires { net < length design.now.nets }
-    ensures { OnOk result (inputs.new.items ≡ inputs.old.items ++ spec.input_at net holder (driver_in design.now net)) }
+    ensures { let more = spec.input_at net holder (driver_in design.now net) in
+        OnOk result (inputs.new.items ≡ inputs.old.items ++ more) }
 {
     match holder {
         None => Ok(()),
@@ -129,25 +132,27 @@ fn put_held(inputs: &mut Vec<Held>, design: &Design, net: u32, holder: Holder) -
 }
 
 /// Sets the inputs to their values in a moment.
-fn set_inputs(row: &mut [Value], recording: &Recording, inputs: &[Held], moment: u32)
-    requires moment { moment < length recording.now.times }
-    requires fits { All (spec.FitsHolder recording.now (length row.old)) inputs.now }
+fn set_inputs(row: &mut [Value], cursor: &mut Cursor<'_>, inputs: &[Held], moment: u32)
+    requires moment { moment < length cursor.old.times }
+    requires fits { All (spec.FitsHolder cursor.old (length row.old)) inputs.now }
     ensures long { length row.new ≡ length row.old }
-    ensures set { spec.Sets recording.now moment inputs.now row.old row.new }
+    ensures set { spec.Sets cursor.old moment inputs.now row.old row.new }
+    ensures same { cursor.new ≡ cursor.old }
 {
     'inputs: for input in inputs {
-        set_input(row, recording, *input, moment);
+        set_input(row, cursor, *input, moment);
     }
 }
 
-fn set_input(row: &mut [Value], recording: &Recording, input: Held, moment: u32)
-    requires moment { moment < length recording.now.times }
-    requires fits { spec.FitsHolder recording.now (length row.old) input }
+fn set_input(row: &mut [Value], cursor: &mut Cursor<'_>, input: Held, moment: u32)
+    requires moment { moment < length cursor.old.times }
+    requires fits { spec.FitsHolder cursor.old (length row.old) input }
     ensures long { length row.new ≡ length row.old }
-    ensures set { spec.Sets recording.now moment (input ∷ []) row.old row.new }
+    ensures set { spec.Sets cursor.old moment (input ∷ []) row.old row.new }
+    ensures same { cursor.new ≡ cursor.old }
 {
     let holder = input.holder;
-    row[input.net as usize] = recording.value(holder.variable, holder.bit, moment);
+    row[input.net as usize] = cursor.value(holder.variable, holder.bit, moment);
 }
 
 /// What each net starts with.

@@ -5,6 +5,7 @@ use Rattle.xr_match.proofs.stimulus.rows_of.Given as goal
 
 abbrev pub invariant-moments : goal.invariant-moments
 invariant-moments l = record {
+  cursor : l.cursor ≡ l.recording;
   long : length l.row.items ≡ length l.design.nets;
   others : spec.HasOthers l.design l.recording l.holders l.row.items;
   as_many : length l.rows.items ≡ l.moment;

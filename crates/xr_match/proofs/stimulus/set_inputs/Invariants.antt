@@ -7,5 +7,6 @@ use Rattle.xr_match.proofs.stimulus.set_inputs.Given as goal
 abbrev pub invariant-inputs : goal.invariant-inputs
 invariant-inputs l = record {
   long : length l.row ≡ length l.initial.row;
-  set : (net : ℕ) → slice_index_or l.row net X ≡ spec.set_from l.recording l.moment (take l.input-index l.inputs) net (slice_index_or l.initial.row net X);
+  same : l.cursor ≡ l.initial.cursor;
+  set : (net : ℕ) → slice_index_or l.row net X ≡ spec.set_from l.initial.cursor l.moment (take l.input-index l.inputs) net (slice_index_or l.initial.row net X);
 }
