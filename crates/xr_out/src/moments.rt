@@ -23,7 +23,8 @@ pub fn put_moment(
     requires rounds { 0 < rounds }
     requires steps { (earlier : ℕ) → earlier ≤ moment → HasStep history.now (spec.last_step rounds earlier) }
     requires bits { All (HasBits history.now) bound.now }
-    ensures { OnOk result (text.new.items ≡ text.old.items ++ spec.moment_lines history.now rounds bound.now moment time) }
+    ensures { let lines = spec.moment_lines history.now rounds bound.now moment time in
+        OnOk result (text.new.items ≡ text.old.items ++ lines) }
 {
     put(text, b"#")?;
     put_number(text, time)?;
@@ -72,7 +73,8 @@ fn put_changed(
     requires step { HasStep history.now step }
     requires before { HasStep history.now before }
     requires bits { All (HasBits history.now) bound.now }
-    ensures { OnOk result (text.new.items ≡ text.old.items ++ spec.changed_lines history.now step before 0 bound.now) }
+    ensures { let lines = spec.changed_lines history.now step before 0 bound.now in
+        OnOk result (text.new.items ≡ text.old.items ++ lines) }
 {
     'variables: for (number, variable) in bound.iter().enumerate() {
         put_change(text, number, variable, history, step, before)?;
@@ -91,7 +93,8 @@ fn put_change(
     requires step { HasStep history.now step }
     requires before { HasStep history.now before }
     requires bits { HasBits history.now variable.now }
-    ensures { OnOk result (text.new.items ≡ text.old.items ++ spec.change_line history.now step before number variable.now) }
+    ensures { let lines = spec.change_line history.now step before number variable.now in
+        OnOk result (text.new.items ≡ text.old.items ++ lines) }
 {
     if is_same(variable.bits.as_slice(), history, step, before) {
         return Ok(());

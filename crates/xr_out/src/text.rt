@@ -55,7 +55,8 @@ fn put_moments(
 ) -> Result<(), Memory>
     requires moments { HasMoments history.now (length stim.now.times) stim.now.rounds }
     requires bits { All (HasBits history.now) bound.now }
-    ensures { OnOk result (text.new.items ≡ text.old.items ++ lines_from history.now stim.now.rounds bound.now 0 stim.now.times) }
+    ensures { let lines = lines_from history.now stim.now.rounds bound.now 0 stim.now.times in
+        OnOk result (text.new.items ≡ text.old.items ++ lines) }
 {
     'moments: for (moment, time) in stim.times.as_slice().iter().enumerate() {
         put_moment(text, bound, history, stim.rounds, moment as u32, *time)?;
