@@ -28,8 +28,9 @@ use xr_netlist_grammar::Source;
 const MOST_MODULES: usize = 32;
 
 /// The design of a text's tree, with the module named `top` as its top, or the first reason why there is none: first
-/// the names of all definitions, then the primitives, then the top. Takes some 400 bytes for each net, and for each
-/// definition the memory of its name, its ports and its level.
+/// the names of all definitions, then the primitives, then the top. Takes some 300 bytes for each net two instances below
+/// the top, 64 more for each instance further down, and for each definition the memory of its name, its ports and its
+/// level.
 #[tactic(auto, using(crate::proofs::Answering::answer_by, crate::proofs::Answering::fits))]
 pub fn elaborate(alloc: Global, source: &Source, top: &str) -> Result<Design, ElabErr>
     requires whole { IsWhole source.now }
@@ -50,7 +51,7 @@ fn find_design(alloc: Global, source: &Source, top: &str) -> Result<Design, Elab
     let definitions = Definitions::new(alloc, source)?;
     let udps = build_primitives(alloc, source.primitives.as_slice())?;
     let nets = make_nets(alloc, source, definitions, &udps, top)?;
-    Ok(nets.into_design(alloc, udps)?)
+    Ok(nets.into_design(udps))
 }
 
 /// The nets of the top and of all below it.

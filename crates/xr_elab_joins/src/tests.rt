@@ -84,7 +84,7 @@ fn ports_are_connected(rt: HostRuntime) -> Result<(), Fail> {
     let Ok(nets) = nets_joined(alloc, &module, &instance) else {
         panic!(rt; "refused");
     };
-    let design = nets.into_design(alloc, Vec::new(alloc))?;
+    let design = nets.into_design(Vec::new(alloc));
     let nets = design.nets.as_slice();
     assert_eq!(rt; nets.len(), 4);
     // the input takes the third net, the fourth takes the output

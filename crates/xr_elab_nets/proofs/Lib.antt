@@ -1,2 +1,3 @@
 -- Lemmas of xr_elab_nets.
 pub mod Making
+pub mod BoardLemmas

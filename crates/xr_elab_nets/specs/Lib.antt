@@ -2,4 +2,5 @@
 pub mod Outcome
 pub mod Ranges
 pub mod State
+pub mod Board
 pub mod Fault

@@ -1,8 +1,7 @@
 //! The nets so far, and their drivers.
 
-ghost use Rattle.std.specs.Prelude.{◌≡◌, ◌≤◌, ◌+◌, ◌++◌, IfOk, OnOk, length, map};
-ghost use Rattle.std.specs.List.{zip};
-ghost use Rattle.xr_elab_nets.specs.Ranges.{upto, bit_at as spec_bit_at, width_of as spec_width_of};
+ghost use Rattle.std.specs.Prelude.{◌≡◌, ◌<◌, ◌≤◌, ◌+◌, ◌^◌, ◌++◌, ◌∷◌, [], IfOk, OnOk, length};
+ghost use Rattle.xr_elab_nets.specs.Board.{state_of, names_of, drivers_of, IsBoard};
 ghost use Rattle.xr_elab_nets.specs.State as spec;
 
 use crate::fault::ElabErr;
@@ -17,22 +16,24 @@ use xr_netlist_grammar::{NetKind, Word};
 /// The most nets of a design.
 pub const MOST_NETS: usize = 1 << 20;
 
-/// The name of each net, and its driver where it has one: at most 2^20 of them.
+/// The name of each net, and its driver where it has one: at most 2^20 of them. Takes 81 bytes for each, its name and its
+/// pins apart.
 #[derive(Drop)]
 pub struct Nets {
-    names: Vec<Name>,
-    drivers: Vec<Option<Driver>>,
+    nets: Vec<Net>,
+    /// Whether a net has a driver. One that has none is Undriven meanwhile.
+    driven: Vec<bool>,
 }
 
 impl Model for Nets {
-    ghost use Rattle.std.specs.Prelude.{◌≤◌, ◌^◌, length};
     ghost use Rattle.xr_elab_nets.specs.State.{State};
+    ghost use Rattle.xr_elab_nets.specs.Board.{state_of, IsBoard};
 
     ghost Value = { State };
 
-    ghost view = { λ n. record { names = n.names.items; drivers = n.drivers.items } };
+    ghost view = { λ n. state_of n.nets.items n.driven.items };
 
-    ghost invariant = { λ n. length n.names.items ≤ 2 ^ 20 };
+    ghost invariant = { λ n. IsBoard n.nets.items n.driven.items };
 }
 
 impl Nets {
@@ -45,8 +46,8 @@ impl Nets {
         ensures { result ≡ spec.nothing_made }
     {
         Nets {
-            names: Vec::new(alloc),
-            drivers: Vec::new(alloc),
+            nets: Vec::new(alloc),
+            driven: Vec::new(alloc),
         }
     }
 
@@ -63,13 +64,19 @@ impl Nets {
         ensures made { Gives (spec.made prefix.now what range word.now self.old) result (λ base. (base, self.new)) }
         ensures few { IfOk result (λ base. base + spec.net_count what range ≤ 2 ^ 20) }
     {
-        let base = self.names.len();
-        let count = net_count(what, range);
-        if count > MOST_NETS - base {
+        let base = self.nets.len();
+        if net_count(what, range) > MOST_NETS - base {
             return Err(ElabErr::TooManyNets { at: word.at });
         }
-        push_names(alloc, &mut self.names, prefix, range, count, word)?;
-        push_drivers(&mut self.drivers, prefix, what, count)?;
+        push_nets(
+            alloc,
+            &mut self.nets,
+            &mut self.driven,
+            prefix,
+            what,
+            range,
+            word,
+        )?;
         Ok(base as u32)
     }
 
@@ -78,15 +85,16 @@ impl Nets {
         ensures count { result ≡ length self.now.names }
         ensures few { result ≤ 2 ^ 20 }
     {
-        self.names.len()
+        self.nets.len()
     }
 
     /// Whether a net has a driver. A number that is no net has one.
+    #[tactic(auto, using(crate::proofs::BoardLemmas::driven_at))]
     pub fn has_driver(&self, net: u32) -> bool
         ensures { result ≡ spec.has_driver self.now net }
     {
-        match self.drivers.get(net as usize) {
-            Some(driver) => driver.is_some(),
+        match self.driven.get(net as usize) {
+            Some(driven) => *driven,
             None => true,
         }
     }
@@ -95,34 +103,30 @@ impl Nets {
     pub fn set(&mut self, net: u32, driver: Driver)
         ensures { self.new ≡ spec.with_driver net driver self.old }
     {
-        if let Some(place) = self.drivers.get_mut(net as usize) {
-            *place = Some(driver);
-        }
+        set_driver(&mut self.nets, &mut self.driven, net as usize, driver);
     }
 
     /// Gives a net its driver. `at` is where that is asked for.
     pub fn drive(&mut self, at: usize, net: u32, driver: Driver) -> Result<(), ElabErr>
         ensures { Gives (spec.driven at net driver self.old) result (λ _. self.new) }
     {
-        match self.drivers.get_mut(net as usize) {
-            Some(place) if place.is_none() => {
-                *place = Some(driver);
-                Ok(())
-            }
-            _ => Err(ElabErr::TwoDrivers { net, at }),
+        if self.has_driver(net) {
+            return Err(ElabErr::TwoDrivers { net, at });
         }
+        self.set(net, driver);
+        Ok(())
     }
 
-    /// The design of these nets and the primitives that their drivers name.
-    pub fn into_design(self, alloc: Global, udps: Vec<Udp>) -> Result<Design, AllocError>
-        ensures { IfOk result (λ design. design ≡ spec.finished udps.items self) }
+    /// The design of these nets and the primitives that their drivers name. Takes no memory.
+    #[tactic(auto, using(crate::proofs::BoardLemmas::nets_at_end))]
+    pub fn into_design(self, udps: Vec<Udp>) -> Design
+        ensures { result ≡ spec.finished udps.items self }
     {
-        let Nets { names, drivers } = self;
-        let nets = nets_of(alloc, names, drivers)?;
-        Ok(Design {
+        let Nets { nets, driven: _ } = self;
+        Design {
             nets: Items::from_vec(nets),
             udps: Items::from_vec(udps),
-        })
+        }
     }
 }
 
@@ -136,40 +140,65 @@ fn net_count(what: NetKind, range: Option<(u32, u32)>) -> usize
     }
 }
 
-/// The names of the first bits of a range.
+/// The nets of a name.
 #[tactic(auto, using(crate::proofs::Making::one_more))]
-fn push_names(
+fn push_nets(
     alloc: Global,
-    names: &mut Vec<Name>,
+    nets: &mut Vec<Net>,
+    driven: &mut Vec<bool>,
     prefix: &[NamePart],
+    what: NetKind,
     range: Option<(u32, u32)>,
-    count: usize,
     word: &Word,
 ) -> Result<(), AllocError>
-    requires { count ≤ spec_width_of range }
-    ensures names { OnOk result (names.new.items ≡ names.old.items ++ upto (λ bit. spec.name_of prefix.now word.now (spec_bit_at range bit)) count) }
-    ensures few { length names.new.items ≤ length names.old.items + count }
+    requires few { length nets.old.items + spec.net_count what range ≤ 2 ^ 20 }
+    requires board { IsBoard nets.old.items driven.old.items }
+    ensures made { let state = state_of nets.old.items driven.old.items in
+        OnOk result (state_of nets.new.items driven.new.items ≡ spec.with_nets prefix.now what range word.now state) }
+    ensures board { IsBoard nets.new.items driven.new.items }
 {
-    'bits: for bit in 0..count {
-        names.push(name_of(alloc, prefix, word, bit_at(range, bit))?)?;
+    'bits: for bit in 0..net_count(what, range) {
+        let path = name_of(alloc, prefix, word, bit_at(range, bit))?;
+        push_net(nets, driven, path, first_driver(prefix, what))?;
     }
     Ok(())
 }
 
-/// The driver of each of the bits.
-#[tactic(auto, using(crate::proofs::Making::one_more))]
-fn push_drivers(
-    drivers: &mut Vec<Option<Driver>>,
-    prefix: &[NamePart],
-    what: NetKind,
-    count: usize,
+/// A net more. Where memory runs out there is none.
+#[tactic(auto, using(crate::proofs::BoardLemmas::driver_pushed, crate::proofs::BoardLemmas::board_pushed))]
+fn push_net(
+    nets: &mut Vec<Net>,
+    driven: &mut Vec<bool>,
+    path: Name,
+    driver: Option<Driver>,
 ) -> Result<(), AllocError>
-    ensures { OnOk result (drivers.new.items ≡ drivers.old.items ++ upto (λ _. spec.first_driver prefix.now what) count) }
+    requires few { length nets.old.items < 2 ^ 20 }
+    requires board { IsBoard nets.old.items driven.old.items }
+    ensures names { OnOk result (names_of nets.new.items ≡ names_of nets.old.items ++ path ∷ []) }
+    ensures drivers { let old = drivers_of nets.old.items driven.old.items in
+        OnOk result (drivers_of nets.new.items driven.new.items ≡ old ++ driver ∷ []) }
+    ensures count { OnOk result (length nets.new.items ≡ length nets.old.items + 1) }
+    ensures board { IsBoard nets.new.items driven.new.items }
 {
-    'bits: for bit in 0..count {
-        drivers.push(first_driver(prefix, what))?;
-    }
+    driven.reserve(1)?;
+    let is_driven = driver.is_some();
+    let driver = driver.unwrap_or(Driver::Undriven);
+    nets.push(Net { path, driver })?;
+    driven.push(is_driven)?;
     Ok(())
+}
+
+/// Gives the net at a place this driver, if a net is there.
+#[tactic(auto, using(crate::proofs::BoardLemmas::as_many))]
+fn set_driver(nets: &mut [Net], driven: &mut [bool], place: usize, driver: Driver)
+    requires board { IsBoard nets.old driven.old }
+    ensures given { state_of nets.new driven.new ≡ spec.with_driver place driver (state_of nets.old driven.old) }
+    ensures board { IsBoard nets.new driven.new }
+{
+    if place < nets.len() {
+        nets[place].driver = driver;
+        driven[place] = true;
+    }
 }
 
 fn first_driver(prefix: &[NamePart], what: NetKind) -> Option<Driver>
@@ -192,7 +221,7 @@ fn name_of(
 ) -> Result<Name, AllocError>
     ensures { IfOk result (λ name. name ≡ spec.name_of prefix.now word.now bit) }
 {
-    let mut parts = Vec::new(alloc);
+    let mut parts = Vec::with_capacity(alloc, prefix.len() + 1)?;
     'parts: for part in prefix {
         parts.push(copy_of(alloc, part)?)?;
     }
@@ -222,22 +251,4 @@ pub fn part_of(alloc: Global, word: &Word) -> Result<NamePart, AllocError>
         text,
         escaped: word.escaped,
     })
-}
-
-/// The nets of these names and drivers.
-fn nets_of(
-    alloc: Global,
-    names: Vec<Name>,
-    drivers: Vec<Option<Driver>>,
-) -> Result<Vec<Net>, AllocError>
-    ensures { IfOk result (λ nets. nets.items ≡ map spec.net_of (zip names.items drivers.items)) }
-{
-    names
-        .into_iter()
-        .zip(drivers)
-        .map(|(path, driver)| Net {
-            path,
-            driver: driver.unwrap_or(Driver::Undriven),
-        })
-        .collect(alloc)
 }

@@ -37,7 +37,7 @@ returns-in_err-nets-clause-refused c =
 
 pub returns-clause-design : goal.returns-clause-design
 returns-clause-design c =
-    comes_to c.args.source.now c.args.top.now _ (Ok c.in_ok-into_design.field-0) (once_of c.args.source.now _ c.in_ok-definitions.ensures)
+    comes_to c.args.source.now c.args.top.now _ (Ok c.into_design.result) (once_of c.args.source.now _ c.in_ok-definitions.ensures)
     (subst (λ (l : List Primitive). AreBuilt l (Ok c.in_ok-udps.udps.items)) c.as_slice.ensures c.in_ok-udps.ensures.built)
     (subst (λ (l : List Table). design_of (library_of c.args.source.now l) c.args.top.now ≡ Ok (finished l c.in_ok-nets.nets)) c.deref.ensures.value c.in_ok-nets.ensures
-    ∙ ap (λ (d : Design). Ok d) (sym c.in_ok-into_design.ensures))
+    ∙ ap (λ (d : Design). Ok d) (sym c.into_design.ensures))
