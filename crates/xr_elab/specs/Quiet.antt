@@ -1,5 +1,5 @@
 -- Modules that make no net: an instance of one is passed over.
-use Rattle.std.specs.Prelude.{◌≡◌, ℕ, ◌+◌, ◌<◌, ◌≤◌, Bool, true, false, not, ◌&&◌, nat_lt, nat_le, is_some, Option, Some, None, List, [], ◌∷◌, ◌++◌, slice_get, slice_index_or}
+use Rattle.std.specs.Prelude.{◌≡◌, ℕ, ◌+◌, ◌<◌, ◌≤◌, Bool, true, false, not, ◌&&◌, nat_lt, nat_le, is_some, Option, Some, None, List, [], ◌∷◌, ◌++◌, slice_get, slice_index_or, Result, IfOk, IsTrue}
 use Rattle.std.specs.List.{list_all}
 use Rattle.xr_netlist_grammar.specs.declared.tree.Word.{Word}
 use Rattle.xr_netlist_grammar.specs.declared.tree.NetKind.{NetKind}
@@ -17,6 +17,10 @@ use Rattle.xr_elab_names.specs.Here.{Here, here_of}
 use Rattle.xr_elab_prims.specs.declared.definitions.Definition.{Definition}
 use Rattle.xr_elab_prims.specs.declared.definitions.Definition.TheVariants as definition
 use Rattle.xr_elab_prims.specs.Definitions.{definition_of}
+
+-- a fact where the answer is yes
+abbrev pub OnYes : {E : Type 0} → Result Bool E → Type 0 → Type 0
+OnYes answer Fact = IfOk answer (λ yes. IsTrue yes → Fact)
 
 -- A table gives each module a level, by its position. One over 32 is no level.
 abbrev pub level_at : List ℕ → ℕ → ℕ

@@ -1,8 +1,8 @@
 //! Whether a module makes no net.
 
-ghost use Rattle.std.specs.Prelude.{◌≡◌, [], true, IfOk, IsTrue};
+ghost use Rattle.std.specs.Prelude.{◌≡◌, [], true};
 ghost use Rattle.xr_elab.specs.Quiet as spec;
-ghost use Rattle.xr_elab.specs.Quiet.{IsQuietItem, IsQuietInstance};
+ghost use Rattle.xr_elab.specs.Quiet.{IsQuietItem, IsQuietInstance, OnYes};
 
 use std::alloc::{AllocError, Global};
 use xr_elab_names::NameSet;
@@ -20,8 +20,8 @@ pub fn is_quiet(
     level: u32,
     unit: &Module,
 ) -> Result<bool, AllocError>
-    ensures ports { IfOk result (λ quiet. IsTrue quiet → unit.now.ports ≡ []) }
-    ensures items { IfOk result (λ quiet. IsTrue quiet → spec.AreQuiet definitions.now levels.now level [] unit.now.items) }
+    ensures ports { OnYes result (unit.now.ports ≡ []) }
+    ensures items { OnYes result (spec.AreQuiet definitions.now levels.now level [] unit.now.items) }
 {
     match unit.ports.as_slice() {
         [] => are_quiet(alloc, definitions, levels, level, unit.items.as_slice()),
@@ -38,7 +38,7 @@ fn are_quiet(
     level: u32,
     items: &[Item],
 ) -> Result<bool, AllocError>
-    ensures { IfOk result (λ quiet. IsTrue quiet → spec.AreQuiet definitions.now levels.now level [] items.now) }
+    ensures { OnYes result (spec.AreQuiet definitions.now levels.now level [] items.now) }
 {
     let mut names = NameSet::new(alloc);
     'items: for item in items {
@@ -57,8 +57,8 @@ fn note_item<'t>(
     level: u32,
     item: &'t Item,
 ) -> Result<bool, AllocError>
-    ensures quiet { IfOk result (λ quiet. IsTrue quiet → IsQuietItem definitions.now levels.now level names.old item.now) }
-    ensures names { IfOk result (λ quiet. IsTrue quiet → names.new ≡ spec.with_item names.old item.now) }
+    ensures quiet { OnYes result (IsQuietItem definitions.now levels.now level names.old item.now) }
+    ensures names { OnYes result (names.new ≡ spec.with_item names.old item.now) }
 {
     match item {
         Item::Declare(declare) => Ok(is_quiet_declare(declare)),
@@ -81,8 +81,8 @@ fn note_instance<'t>(
     level: u32,
     instance: &'t InstanceItem,
 ) -> Result<bool, AllocError>
-    ensures quiet { IfOk result (λ quiet. IsTrue quiet → IsQuietInstance definitions.now levels.now level names.old instance.now) }
-    ensures names { IfOk result (λ quiet. IsTrue quiet → names.new ≡ spec.with_named names.old instance.now.name) }
+    ensures quiet { OnYes result (IsQuietInstance definitions.now levels.now level names.old instance.now) }
+    ensures names { OnYes result (names.new ≡ spec.with_named names.old instance.now.name) }
 {
     match &instance.name {
         Some(name)

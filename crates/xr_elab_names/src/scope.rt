@@ -26,17 +26,13 @@ pub struct Scope<'t> {
 }
 
 impl<'t> Model for Scope<'t> {
-    ghost use Rattle.std.specs.Prelude.{◌≡◌, ◌≤◌, ◌+◌, ◌^◌, List, ℕ, Some, bytes_eq};
-    ghost use Rattle.std.specs.Map.{lookup};
-    ghost use Rattle.xr_elab_names.specs.declared.scope.Entry.{Entry};
-    ghost use Rattle.xr_elab_nets.specs.State.{net_count};
-    ghost use Rattle.xr_elab_names.specs.Scope.{Scope, names_in};
+    ghost use Rattle.xr_elab_names.specs.Scope.{Scope, names_in, HaveNets};
 
     ghost Value = { Scope };
 
     ghost view = { λ s. record { prefix = s.prefix; names = names_in s.names.entries; instances = s.instances } };
 
-    ghost invariant = { λ s. (name : List ℕ) (e : Entry) → lookup (bytes_eq name) (names_in s.names.entries) ≡ Some e → e.base + net_count e.what e.range ≤ 2 ^ 20 };
+    ghost invariant = { λ s. HaveNets (names_in s.names.entries) };
 }
 
 impl<'t> Scope<'t> {
