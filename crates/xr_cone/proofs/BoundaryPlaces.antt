@@ -1,5 +1,5 @@
 -- The certain boundary of a cone, from what its nodes read.
-use Rattle.std.proofs.Common.{◌≡◌, ℕ, ◌+◌, ◌<◌, ◌≤◌, ◌==◌, ◌&&◌, ◌||◌, Bool, true, false, not, List, [], ◌∷◌, ◌++◌, filter, length, map, reverse, slice_index, take, refl, sym, ap, ◌∙◌, subst, arith, ⊎_elim, append_assoc}
+use Rattle.std.proofs.Common.{◌≡◌, ℕ, ◌+◌, ◌<◌, ◌≤◌, ◌==◌, ◌&&◌, ◌||◌, Bool, true, false, not, List, [], ◌∷◌, ◌++◌, length, map, reverse, slice_index, take, refl, sym, ap, ◌∙◌, subst, arith, ⊎_elim, append_assoc}
 use Rattle.std.specs.List.{AllByRecursion, list_any}
 use Rattle.std.specs.List.Sorted.{IsStrictlyIncreasing}
 use Rattle.std.proofs.Math.Seq.{take-length}
@@ -17,7 +17,6 @@ use Rattle.xr_design.proofs.Numbers.{is_place_at, numbers_of_places}
 use Rattle.xr_model.specs.Assignment.{argument_places}
 use Rattle.xr_model.specs.Class.{class_of}
 use Rattle.xr_model.specs.Cone.{in_cone, is_carried}
-use Rattle.xr_model.specs.Laws.{InReach}
 use Rattle.xr_model.specs.Node.{IsBody}
 use Rattle.xr_model.specs.Places.{among}
 use Rattle.xr_model.proofs.Cones.{cone_within}

@@ -1,8 +1,7 @@
 -- Places in a heap, of which some stand there more than once.
-use Rattle.std.proofs.Common.{◌≡◌, ℕ, ◌+◌, ◌<◌, ◌≤◌, ◌==◌, ◌||◌, Bool, true, false, Option, None, Some, List, [], ◌∷◌, length, refl, sym, ap, ◌∙◌, subst, arith, ⊎_elim}
-use Rattle.std.proofs.lemmas.Bool.{eqb-true}
+use Rattle.std.proofs.Common.{◌≡◌, ℕ, ◌<◌, ◌≤◌, ◌==◌, ◌||◌, Bool, true, false, Option, None, Some, List, [], ◌∷◌, length, refl, sym, ap, ◌∙◌, subst, arith}
 use Rattle.std.proofs.lemmas.List.Sorted.{length_permutation, list_any-IsPermutation}
-use Rattle.std.specs.BinaryHeap.{IsUpperBound, lt_by_cmp}
+use Rattle.std.specs.BinaryHeap.{IsUpperBound}
 use Rattle.std.specs.Cmp.{ranks}
 use Rattle.std.specs.List.{AllByRecursion}
 use Rattle.std.specs.List.Sorted.{IsPermutation}
@@ -11,7 +10,7 @@ use Rattle.std.specs.declared.cmp.Ordering.{Ordering}
 use Rattle.std.specs.declared.cmp.Ordering.TheVariants.{Less, Equal, Greater}
 use Rattle.xr_model.specs.Places.{among}
 use Rattle.xr_model.proofs.PlacesWhere.{all_among, among_all}
-use Rattle.xr_cone.specs.Reached.{Adds, AreBelow, Joins, PopsBelow, TakesGreatest, Takes, listed}
+use Rattle.xr_cone.specs.Reached.{Joins, PopsBelow, TakesGreatest, listed}
 
 twice : (a b : Bool) → a || b ≡ a || (a || b)
 twice false b = refl

@@ -1,5 +1,5 @@
 -- The certain boundary of a cone: the certain places that its places read and that aren't of it.
-use Rattle.std.specs.Prelude.{◌≡◌, ℕ, ◌<◌, ◌&&◌, Bool, not, List, [], filter, map}
+use Rattle.std.specs.Prelude.{◌≡◌, ℕ, ◌&&◌, Bool, not, List, [], filter, map}
 use Rattle.std.specs.List.{list_any}
 use Rattle.xr_cell.specs.declared.value.Value.{Value}
 use Rattle.xr_cell.specs.Value.{is_unknown}

@@ -13,7 +13,7 @@ use Rattle.xr_cone_nodes.specs.Traced.{cone_in}
 use Rattle.xr_cone.specs.Boundary.{IsPlaceIn, number_in, read_in}
 use Rattle.xr_cone.specs.InWave.{IsInReach}
 use Rattle.xr_cone.specs.Reached.{AddsAll}
-use Rattle.xr_cone.proofs.BoundaryPlaces.{AreRead, as_many, boundary_is, boundary_within, cone_rising, nodes_placed, nodes_read, numbers_are, position_reach}
+use Rattle.xr_cone.proofs.BoundaryPlaces.{as_many, boundary_is, boundary_within, cone_rising, nodes_placed, nodes_read, numbers_are, position_reach}
 use Rattle.xr_cone.proofs.outside.boundary.Goals as goal
 
 pub numbers_of-requires-clause-places : goal.numbers_of-requires-clause-places
