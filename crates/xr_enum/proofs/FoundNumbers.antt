@@ -6,7 +6,7 @@ use Rattle.std.specs.Int.Count.{ones, ones_step}
 use Rattle.std.specs.Prelude.{count_ones, nat_lt, if◌then◌else◌}
 use Rattle.xr_cone_nodes.specs.declared.node.Node.{Node}
 use Rattle.xr_cone_nodes.specs.Nodes.{nothing, root_bit}
-use Rattle.xr_enum.specs.Found.{AgreeIn, IsFoundIn, IsLeastIn, IsOther, bit_by, fewer, has_no_fewer}
+use Rattle.xr_enum.specs.Found.{IsFoundIn, IsLeastIn, IsOther, bit_by, fewer, has_no_fewer}
 
 -- The ones of a number are those of its halves: the block above a lane, bit by bit.
 half_step : (n m b l : ℕ) → n % 2 ≡ l % 2 → n / 2 ≡ m → count_ones m ≡ count_ones b + count_ones (l / 2)

@@ -1,5 +1,5 @@
 -- The numbers of the fillings that are tried.
-use Rattle.std.proofs.Common.{◌≡◌, ℕ, ◌+◌, ◌-◌, ◌*◌, ◌/◌, ◌%◌, ◌^◌, ◌<◌, ◌≤◌, ◌==◌, List, length, not, sym, ap, ◌∙◌, arith, ⊎_elim}
+use Rattle.std.proofs.Common.{◌≡◌, ℕ, ◌+◌, ◌-◌, ◌*◌, ◌/◌, ◌%◌, ◌^◌, ◌<◌, ◌≤◌, ◌==◌, List, length, sym, ap, ◌∙◌, arith, ⊎_elim}
 use Rattle.std.proofs.Math.ListN.{get_or-eq_default}
 use Rattle.std.proofs.Math.Path.{fun_ext}
 use Rattle.std.proofs.lemmas.Bool.{cases_lt}
@@ -14,7 +14,7 @@ use Rattle.xr_cone_nodes.specs.Lanes.{in_lane, lane_of, root_in_lane}
 use Rattle.xr_cone_nodes.specs.Nodes.{by_sources, nothing, number_bits, root_bit, sources_of}
 use Rattle.xr_pair.specs.Pairs.{AllAgree, Differs, IsLeastOther, IsNextCone}
 use Rattle.xr_enum.specs.Blocks.{IsBlock}
-use Rattle.xr_enum.specs.Found.{AgreeIn, IsLeastIn, IsOther, bit_by}
+use Rattle.xr_enum.specs.Found.{AgreeIn, IsLeastIn, bit_by}
 use Rattle.xr_enum.proofs.FoundNumbers.{more_ones}
 
 -- In a lane the words of a block are the bits of its number.

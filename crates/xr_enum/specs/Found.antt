@@ -42,8 +42,8 @@ abbrev pub fewer : Option ℕ → Option ℕ → Option ℕ
 fewer None second = second
 fewer (Some number) second = Some (fewer_of number second)
 
--- A pair of the empty filling and that of a number, with as few ones as any number below 2 to the number of sources that
--- gives the other bit.
+-- A pair of the empty filling and that of a number, with as few ones as any number below 2 to the number of sources
+-- that gives the other bit.
 pub record IsLeastPair (c : Contents) (nodes : List Node) (token : PairToken) : Type 0 where
   pub holds : LineHolds c (pair_line token)
   pub number : ℕ

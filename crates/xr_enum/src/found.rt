@@ -1,5 +1,5 @@
-//! The number of a filling that gives the place another bit than the empty one, found block by block: one with the least
-//! ones.
+//! The number of a filling that gives the place another bit than the empty one, found block by block: one with the
+//! least ones.
 
 ghost use Rattle.std.specs.Prelude.{◌≡◌, ◌+◌, ◌*◌, ◌<◌, ◌≤◌, length};
 ghost use Rattle.xr_enum.specs.Found.{IsFoundIn, fewer, fewer_of, has_no_fewer};

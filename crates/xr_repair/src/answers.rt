@@ -16,8 +16,8 @@ use xr_sat::{Outcome, solve};
 /// How many words of four bytes the kept queries and their answers have at most together.
 const MOST_WORDS: usize = 16_777_216;
 
-/// Queries that were answered, and their answers, by the codes of the queries. Of queries with one code the last is kept.
-/// Takes at most about 64 megabytes, and then keeps no more.
+/// Queries that were answered, and their answers, by the codes of the queries. Of queries with one code the last is
+/// kept. Takes at most about 64 megabytes, and then keeps no more.
 #[derive(Drop)]
 pub struct Answers {
     answered: HashMap<u64, Answered>,

@@ -1,5 +1,6 @@
-//! Random fillings of a cone's sources, which find most unknown places at the cost of a few passes over the cone. They are
-//! fixed functions of the place and the pass, so that each run gives the same bytes. No contract rests on which they are.
+//! Random fillings of a cone's sources, which find most unknown places at the cost of a few passes over the cone. They
+//! are fixed functions of the place and the pass, so that each run gives the same bytes. No contract rests on which they
+//! are.
 
 ghost use Rattle.std.specs.Prelude.{IfOk, IfSome};
 ghost use Rattle.xr_pair.specs.Pairs.{IsNextCone};

@@ -1,6 +1,4 @@
 -- The lane of a number has its bits.
-use Rattle.std.proofs.Common.{List, ℕ, Bool, ap, rules}
-use Rattle.xr_cone_nodes.specs.Nodes.{by_sources, chosen, root_bit, sources_of}
 use Rattle.xr_enum.proofs.TriedNumbers.{lane_of_number}
 use Rattle.xr_enum.proofs.decision.pair_of_number.Goals as goal
 
