@@ -1,10 +1,10 @@
 //! The cone of a place of a wave: all that its bit rests on, traced from the place downwards.
 //!
 //! A backward trace in reverse place order: of the places that are reached and not yet looked at the greatest comes
-//! next, so each place of the cone is looked at once. The greatest stands apart and the others wait in a heap, which a way
-//! of carried places leaves alone. A place costs its class, and where it isn't carried one evaluation of its rule for
-//! each choice of bits for its uncertain arguments, at most 2^13. Nothing grows with the wave. Start at `trace`; `boundary`
-//! gives the certain places that a cone reads.
+//! next, so each place of the cone is looked at once. The greatest stands apart and the others wait in a heap, which a
+//! way of carried places leaves alone. A place costs its class, and where it isn't carried one evaluation of its rule
+//! for each choice of bits for its uncertain arguments, at most 2^13. Nothing grows with the wave. Start at `trace`;
+//! `boundary` gives the certain places that a cone reads.
 #![tactic(auto)]
 
 mod descent;

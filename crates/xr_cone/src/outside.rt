@@ -21,8 +21,8 @@ use xr_cone_nodes::{Cone, Node, NodeBody};
 use xr_design::{Circuit, Place, Source};
 use xr_wave::Wave;
 
-/// The certain boundary places of a cone, in place order: the certain argument places of those of its places that aren't
-/// carried, which aren't in the cone. Takes 8 bytes for each place of the cone, and for each place that they read.
+/// The certain boundary places of a cone, in place order: the certain argument places of those of its places that
+/// aren't carried, which aren't in the cone. Takes 8 bytes for each place of the cone, and for each that they read.
 pub fn boundary(alloc: Global, wave: &Wave<'_>, cone: &Cone) -> Result<Vec<Place>, Memory>
     requires { IsSomeCone wave.now cone.now.nodes }
     ensures { IfOk result (λ places. IsBoundary wave.now cone.now.nodes places.items) }

@@ -1,5 +1,5 @@
 -- Nets as they are kept: one more, one with its driver, and all of them at the end.
-use Rattle.std.proofs.Common.{◌≡◌, ℕ, ◌+◌, ◌<◌, ◌≤◌, ◌^◌, zero, suc, Bool, true, false, Option, Some, None, List, [], ◌∷◌, ◌++◌, length, map, refl, sym, ap, arith, is_some, unwrap_or, slice_index_or, slice_set, length-append, length-set}
+use Rattle.std.proofs.Common.{◌≡◌, ℕ, ◌<◌, ◌≤◌, ◌^◌, zero, suc, Bool, true, false, Option, Some, None, List, [], ◌∷◌, ◌++◌, length, map, refl, ap, arith, is_some, unwrap_or, slice_index_or, slice_set, length-append, length-set}
 use Rattle.std.proofs.lemmas.List.{set_past}
 use Rattle.std.proofs.Math.Seq.{map-set_same}
 use Rattle.std.specs.List.{zip}

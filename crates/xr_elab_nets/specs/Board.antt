@@ -1,5 +1,5 @@
 -- The nets as they are kept: one that has no driver yet is Undriven meanwhile.
-use Rattle.std.specs.Prelude.{◌≡◌, ℕ, ◌≤◌, ◌^◌, Bool, true, false, Option, Some, None, List, [], ◌∷◌, length, map}
+use Rattle.std.specs.Prelude.{◌≡◌, ◌≤◌, ◌^◌, Bool, true, false, Option, Some, None, List, [], ◌∷◌, length, map}
 use Rattle.xr_design.specs.declared.name.Name.{Name}
 use Rattle.xr_design.specs.declared.design.Net.{Net}
 use Rattle.xr_design.specs.declared.design.Driver.{Driver}
