@@ -1,0 +1,2 @@
+mod ChosenPlaces
+mod WavePlaces

@@ -1,0 +1,7 @@
+-- The history is that of the wave.
+use Rattle.test_repair.proofs.WavePlaces.{handed_again}
+use Rattle.test_repair.proofs.pairs.first_line.Goals as goal
+
+pub new-requires-clause-handed : goal.new-requires-clause-handed
+new-requires-clause-handed c =
+    handed_again c.args.wave.now c.circuit-circuit.ensures.wave _ c.circuit-circuit.ensures.job _ c.replayed.ensures

@@ -1,0 +1,79 @@
+//! Jobs, and what is found of their places: a netlist and a recording of it, and beneath them what must come.
+//!
+//! A case is a section. What stands before the first title holds for all: `< netlist` texts are joined. `< r.vcd` is a whole
+//! recording in the scope `dut`, `< recording` the same in short, `#10 ck=1 d=x` for each moment, the first with all nets. The
+//! module is `top`.
+//! `rounds 1` and `conflicts 1` stand for 4 and 1000, and `made SEED GATES` is a job that is drawn.
+//!
+//! ```text
+//! = xor_of_itself
+//! < netlist
+//! module top(a, y); input a; output y; xor (y, a, a); endmodule
+//! < recording
+//! #0 a=x
+//! > facts
+//! lines 0
+//! counts known 0 repaired 4 unknown 4 undecided 0
+//! class #0 round 1 a carried #0 round 0 a
+//! mark #0 round 0 y certain 0
+//! all 8 places agree
+//! ```
+//!
+//! What facts say of a place, `#TIME round ROUND NET`:
+//!
+//! - `class PLACE`: `local 1`, `free`, `carried PLACE`, `carried PLACE inverted`, `line`.
+//! - `mark PLACE`: `certain 1`, `unknown z`, `undecided x`, with the value that is shown.
+//! - `line PLACE`: `enumerated 0`, `refuted 1`, `pair`, `undecided`, `none`.
+//! - `sources PLACE = PLACE, PLACE`, of the cone of a place whose class is line.
+//! - `pair PLACE = nothing and PLACE, PLACE`: the two fillings of an unknown place.
+//! - `check_pair PLACE not one`: what two empty fillings are refused with, at the first place whose class is line.
+//!
+//! `all N places agree`: the worlds of all fillings of at most 10 sources give each place what its mark says, and they are
+//! the same where every other place is filled with 1; the fillings of an unknown place give 0 and 1; the cone of each line
+//! gives the bit of the world.
+//!
+//! In `choices.txt` a line has a table, the value of the arguments' bits from 0 up, the bit that is forced, and behind ` = `
+//! its minimal choices, the first argument on the left and `-` where it isn't chosen.
+#![tactic(auto)]
+
+mod case;
+mod choices;
+mod drawn;
+mod facts;
+mod fillings;
+mod pairs;
+mod places;
+mod recording;
+mod repaired;
+mod words;
+mod worlds;
+
+use case::run_case;
+use choices::run_choices;
+use std::alloc::{AllocError, Global};
+use std::{env, fs, io};
+use test_cases::{Report, section_cases, shared};
+use xr_base::Memory;
+
+fn main(rt: HostRuntime) -> io::Result<()> {
+    for name in env::args(&rt)?.skip(1) {
+        let text = fs::read(&rt, name.as_str())?;
+        let mut report = Report::new(rt.alloc(), name.as_str())?;
+        let ran = if name.as_str().ends_with("choices.txt") {
+            run_choices(rt.alloc(), &mut report, text.as_slice())
+        } else {
+            run_sections(rt.alloc(), &mut report, text.as_slice())
+        };
+        ran.map_err(|_| AllocError)?;
+        rt.print(report)?;
+    }
+    Ok(())
+}
+
+fn run_sections(alloc: Global, report: &mut Report, text: &[u8]) -> Result<(), Memory> {
+    let common = shared(text);
+    for section in section_cases(text) {
+        run_case(alloc, report, common, section)?;
+    }
+    Ok(())
+}

@@ -1,0 +1,115 @@
+//! Places of a wave, as words.
+
+ghost use Rattle.std.specs.Prelude.{◌≡◌, ◌<◌, IfOk, IfSome, length};
+ghost use Rattle.xr_design.specs.Fits.{place_at};
+ghost use Rattle.xr_wave.specs.Contents.{IsWritten, job};
+
+use crate::words::{first_word, number_of};
+use std::alloc::{AllocError, Global};
+use std::fmt::Write;
+use xr_base::Memory;
+use xr_design::{Place, Stim, spot_of};
+use xr_wave::Wave;
+
+/// The written place of a number.
+pub fn place_of(wave: &Wave<'_>, number: usize) -> Place
+    requires { number < length wave.now.written }
+    ensures place { result ≡ place_at (job wave.now) number }
+    ensures written { IsWritten wave.now result }
+{
+    let spot = spot_of(&wave.circuit(), number);
+    Place {
+        step: spot.step as u32,
+        net: spot.net as u32,
+    }
+}
+
+/// The place that words name, `#TIME round ROUND NET` with anything behind.
+pub fn named_place(alloc: Global, wave: &Wave<'_>, words: &str) -> Result<Option<Place>, Memory>
+    ensures { IfOk result (λ found. IfSome found (IsWritten wave.now)) }
+{
+    let (time, rest) = first_word(words);
+    let (_, rest) = first_word(rest);
+    let (round, rest) = first_word(rest);
+    let (name, _) = first_word(rest);
+    let Some(step) = step_of(wave.stim(), time, round) else {
+        return Ok(None);
+    };
+    for number in 0..wave.count() {
+        let place = place_of(wave, number);
+        if place.step == step && is_named(alloc, wave, place, name)? {
+            return Ok(Some(place));
+        }
+    }
+    Ok(None)
+}
+
+fn step_of(stim: &Stim, time: &str, round: &str) -> Option<u32> {
+    let time = number_of(time.strip_prefix("#")?);
+    let moment = stim.times.as_slice().iter().position(|t| *t == time)?;
+    let round = number_of(round);
+    if round >= u64::from(stim.rounds) {
+        return None;
+    }
+    let first = (moment as u64).checked_mul(u64::from(stim.rounds))?;
+    u32::try_from(first.checked_add(round)?).ok()
+}
+
+fn is_named(alloc: Global, wave: &Wave<'_>, place: Place, name: &str) -> Result<bool, Memory> {
+    let design = wave.design();
+    if place.net as usize >= design.nets.as_slice().len() {
+        return Ok(false);
+    }
+    let written = design.written_name(alloc, place.net)?;
+    Ok(written.as_slice() == name.as_bytes())
+}
+
+/// Puts a place as its words.
+pub fn put_place(
+    alloc: Global,
+    out: &mut String,
+    wave: &Wave<'_>,
+    place: Place,
+) -> Result<(), Memory> {
+    let design = wave.design();
+    if place.net as usize >= design.nets.as_slice().len() {
+        return Ok(out.push_str("no net")?);
+    }
+    let name = design.written_name(alloc, place.net)?;
+    put_step(out, wave.stim(), place.step)?;
+    for byte in name.as_slice() {
+        out.push(*byte as char)?;
+    }
+    Ok(())
+}
+
+fn put_step(out: &mut String, stim: &Stim, step: u32) -> Result<(), AllocError> {
+    let moment = step.checked_div(stim.rounds).unwrap_or(0);
+    let round = step.checked_rem(stim.rounds).unwrap_or(0);
+    let time = stim
+        .times
+        .as_slice()
+        .get(moment as usize)
+        .copied()
+        .unwrap_or(0);
+    write!(out, "#{time} round {round} ")
+}
+
+/// Puts places with commas between them, or `nothing`.
+pub fn put_places(
+    alloc: Global,
+    out: &mut String,
+    wave: &Wave<'_>,
+    places: &[Place],
+) -> Result<(), Memory> {
+    if places.is_empty() {
+        return Ok(out.push_str("nothing")?);
+    }
+    for (index, place) in places.iter().enumerate() {
+        if index > 0 {
+            out.push_str(", ")?;
+        }
+        put_place(alloc, out, wave, *place)?;
+    }
+    Ok(())
+}

@@ -1,0 +1,106 @@
+//! The repair of a job, and the facts that are compared with it.
+
+ghost use Rattle.std.specs.Prelude.{IfOk, IfSome};
+ghost use Rattle.xr_design.specs.Handed.{IsReplay};
+ghost use Rattle.xr_job.specs.Compared.{job_in};
+ghost use Rattle.xr_job.specs.Netlist.{FitsNetlist};
+ghost use Rattle.xr_job.specs.Recorded.{FitsRecorded};
+
+use crate::case::Texts;
+use crate::facts::answer;
+use crate::words::text_of;
+use std::alloc::Global;
+use test_cases::{Lines, Part, Report};
+use xr_base::Memory;
+use xr_design::{Bytes, History, StartRule};
+use xr_job::{Netlist, Recorded, read_netlist, read_recording, replay_and_compare};
+use xr_repair::{RepairErr, repair};
+use xr_wave::Wave;
+
+/// Repairs a job, and compares what is found of it with the lines of a part.
+pub fn compare_facts(
+    alloc: Global,
+    report: &mut Report,
+    texts: &Texts,
+    facts: Part<'_>,
+) -> Result<(), Memory> {
+    let end = repair_and_compare(alloc, report, texts, facts)?;
+    Ok(report.compare(facts.line, b"a repair", end.as_bytes())?)
+}
+
+/// How far a job comes.
+fn repair_and_compare(
+    alloc: Global,
+    report: &mut Report,
+    texts: &Texts,
+    facts: Part<'_>,
+) -> Result<&'static str, Memory> {
+    let Ok(netlist) = read_netlist(alloc, texts.netlist.as_slice(), "top") else {
+        return Ok("no design");
+    };
+    let Some(recorded) = recorded_of(alloc, &netlist, texts)? else {
+        return Ok("no recording");
+    };
+    let Ok(history) = replay_and_compare(alloc, &netlist, &recorded) else {
+        return Ok("no replay");
+    };
+    let Ok(wave) = wave_of(alloc, &netlist, &recorded, &history, texts.conflicts) else {
+        return Ok("no waveform");
+    };
+    compare_lines(alloc, report, &wave, facts)?;
+    Ok("a repair")
+}
+
+fn recorded_of(alloc: Global, netlist: &Netlist, texts: &Texts) -> Result<Option<Recorded>, Memory>
+    requires { FitsNetlist netlist.now }
+    ensures { IfOk result (λ found. IfSome found (FitsRecorded netlist.now.design)) }
+{
+    let text = texts.recording.as_slice();
+    if text.len() > 1 << 28 {
+        return Ok(None);
+    }
+    let scope = [Bytes::from_vec(Vec::from_slice(alloc, b"dut")?)];
+    let rounds = texts.rounds.clamp(1, 16);
+    match read_recording(alloc, netlist, text, &scope, rounds, StartRule::Cold) {
+        Ok(recorded) => Ok(Some(recorded)),
+        Err(_) => Ok(None),
+    }
+}
+
+fn wave_of<'a>(
+    alloc: Global,
+    netlist: &'a Netlist,
+    recorded: &'a Recorded,
+    history: &'a History,
+    conflicts: u32,
+) -> Result<Wave<'a>, RepairErr>
+    requires netlist { FitsNetlist netlist.now }
+    requires recorded { FitsRecorded netlist.now.design recorded.now }
+    requires replay { IsReplay (job_in netlist.now recorded.now) history.now }
+{
+    repair(
+        alloc,
+        &netlist.design,
+        &netlist.order,
+        &recorded.stim,
+        history,
+        conflicts.max(1),
+    )
+}
+
+fn compare_lines(
+    alloc: Global,
+    report: &mut Report,
+    wave: &Wave<'_>,
+    facts: Part<'_>,
+) -> Result<(), Memory> {
+    let content = facts.content(alloc)?;
+    for line in Lines::new(content.as_slice()) {
+        if !line.is_idle() {
+            let got = answer(alloc, wave, text_of(line.text))?;
+            let at = facts.line.saturating_add(line.number);
+            report.compare(at, line.text, got.as_str().as_bytes())?;
+        }
+    }
+    Ok(())
+}
