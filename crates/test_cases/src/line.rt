@@ -1,7 +1,7 @@
 //! The lines of a case file.
 
 ghost use Rattle.std.specs.Prelude.{◌≡◌, ◌≢◌, ◌⊎◌, ◌∷◌, ◌++◌, [], ℕ, List, IsTrue, MatchOption, length};
-ghost use Rattle.test_cases.specs.Lines.{LineBreak};
+ghost use Rattle.test_cases.specs.Lines.{IsNote, Lacks, LineBreak};
 
 /// A line of a case file, without its end, and its number, counted from 1.
 #[derive(Clone, Copy)]
@@ -14,15 +14,15 @@ impl<'a> Line<'a> {
     /// Nothing stands on the line, or it begins with a `#` and a space.
     pub fn is_idle(&self) -> bool
         ensures empty { self.now.text.now ≡ [] → IsTrue result }
-        ensures note { (rest : List ℕ) → self.now.text.now ≡ 35 ∷ 32 ∷ rest → IsTrue result }
-        ensures idle { IsTrue result → (self.now.text.now ≡ []) ⊎ ((rest : List ℕ) × (self.now.text.now ≡ 35 ∷ 32 ∷ rest)) }
+        ensures note { IsNote self.now.text.now → IsTrue result }
+        ensures idle { IsTrue result → (self.now.text.now ≡ []) ⊎ IsNote self.now.text.now }
     {
         self.text.is_empty() || self.text.starts_with(b"# ")
     }
 
     /// What stands behind this mark at the line's head.
     pub fn behind(&self, mark: &[u8]) -> Option<&'a [u8]>
-        ensures { MatchOption result ((rest : List ℕ) → self.now.text.now ≢ mark.now ++ rest) (λ rest. self.now.text.now ≡ mark.now ++ rest.now) }
+        ensures { MatchOption result (Lacks mark.now self.now.text.now) (λ rest. self.now.text.now ≡ mark.now ++ rest.now) }
     {
         self.text.strip_prefix(mark)
     }

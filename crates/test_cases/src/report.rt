@@ -88,7 +88,8 @@ impl Report {
 impl fmt::Display for Report {
     ghost use Rattle.std.specs.Prelude.{◌++◌, ◌∷◌, [], Some, string_bytes, decimal};
 
-    ghost output = { λ report. Some (string_bytes report.failed ++ (string_bytes report.name ++ 32 ∷ (decimal report.agreed ++ 10 ∷ []))) };
+    ghost output = { λ report.
+        Some (string_bytes report.failed ++ (string_bytes report.name ++ 32 ∷ (decimal report.agreed ++ 10 ∷ []))) };
 
     fn fmt<W: fmt::Write>(&self, f: &mut fmt::Formatter<W>) -> fmt::Result {
         write!(f, "{}{} {}\n", self.failed, self.name, self.agreed)

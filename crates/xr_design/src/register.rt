@@ -28,7 +28,8 @@ fn old_values<S: Source>(
     requires has { (place : ℕ) → place < step * (job_in circuit.now).width → S.has source.now place }
     requires small { step * (job_in circuit.now).width ≤ 2 ^ 27 }
     ensures long { length result ≡ 10 }
-    ensures values { take (length latching.now.pins) result ≡ old_pins (job_in circuit.now) (S.reads source.now) step latching.now.pins }
+    ensures values { take (length latching.now.pins) result ≡
+        old_pins (job_in circuit.now) (S.reads source.now) step latching.now.pins }
 {
     if looks_before(circuit, step) {
         [Value::X; 10]
@@ -55,7 +56,8 @@ fn new_values<S: Source>(
     requires has { (place : ℕ) → place < step * (job_in circuit.now).width → S.has source.now place }
     requires small { step * (job_in circuit.now).width ≤ 2 ^ 27 }
     ensures long { length result ≡ 10 }
-    ensures values { take (length latching.now.pins) result ≡ new_pins (job_in circuit.now) (S.reads source.now) step latching.now.pins }
+    ensures values { take (length latching.now.pins) result ≡
+        new_pins (job_in circuit.now) (S.reads source.now) step latching.now.pins }
 {
     pin_values(circuit, source, step - 1, latching.pins.as_slice())
 }

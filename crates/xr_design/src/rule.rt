@@ -7,9 +7,8 @@ ghost use Rattle.xr_design.specs.Circuit.{job_in, CircuitFits, IsSpot, Reach};
 ghost use Rattle.xr_design.specs.Fits.{StandsBefore, FitsDriver, FitsRegister, FitsTable};
 ghost use Rattle.xr_design.specs.Job.{places_of};
 ghost use Rattle.xr_design.specs.Order.{arguments_of_driver, net_pins};
-ghost use Rattle.xr_design.specs.Register.{pins_at};
 ghost use Rattle.xr_design.specs.Replay.{table_of};
-ghost use Rattle.xr_design.specs.Rule.{born, known_or, as_values, register_rule, rule, rule_of};
+ghost use Rattle.xr_design.specs.Rule.{born, cell_rule, known_or, register_rule, rule, rule_of};
 
 use crate::circuit::{Circuit, Spot, driver_at, recorded_at, spot_of, start_at};
 use crate::design::{Driver, Latching, Pin, Table};
@@ -57,7 +56,8 @@ fn ruled_value<C: Source, B: BitSource>(
     requires is { driver.now ≡ (job_in circuit.now).driver spot.net }
     requires certain { (k : ℕ) → k < place → C.has certain.now k }
     requires bits { (k : ℕ) → k < place → B.has bits.now k }
-    ensures { result ≡ rule_of (job_in circuit.now) (C.reads certain.now) (B.bits bits.now) spot.step spot.net driver.now }
+    ensures { result ≡
+        rule_of (job_in circuit.now) (C.reads certain.now) (B.bits bits.now) spot.step spot.net driver.now }
 {
     match driver {
         Driver::Input => {
@@ -116,7 +116,7 @@ fn cell_value<B: BitSource>(
     requires before { AllByRecursion (StandsBefore (job_in circuit.now) spot.position) (net_pins pins.now) }
     requires table { FitsTable (job_in circuit.now).udps table (length pins.now) }
     requires bits { (k : ℕ) → k < place → B.has bits.now k }
-    ensures { result ≡ table_of (job_in circuit.now).udps table (pins_at (job_in circuit.now) (as_values (B.bits bits.now)) spot.step pins.now) }
+    ensures { result ≡ cell_rule (job_in circuit.now) (B.bits bits.now) spot.step table pins.now }
 {
     let values = pin_values(circuit, &AsValues { source: bits }, spot.step, pins);
     table_value(circuit, table, &values[..pins.len()])
@@ -146,7 +146,8 @@ fn register_value<C: Source, B: BitSource>(
     requires register { FitsRegister (job_in circuit.now).udps (job_in circuit.now).width latching.now }
     requires certain { (k : ℕ) → k < place → C.has certain.now k }
     requires bits { (k : ℕ) → k < place → B.has bits.now k }
-    ensures { result ≡ register_rule (job_in circuit.now) (C.reads certain.now) (B.bits bits.now) spot.step spot.net latching.now }
+    ensures { result ≡
+        register_rule (job_in circuit.now) (C.reads certain.now) (B.bits bits.now) spot.step spot.net latching.now }
 {
     let values = AsValues { source: bits };
     if spot.step == 0 {

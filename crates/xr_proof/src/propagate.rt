@@ -90,7 +90,8 @@ fn visit_chain(
     requires sized { HasSize watch.old (length trail.old.marks.items) }
     requires laced { IsLaced watch.old (first.now ++ second.now) head count }
     ensures conflict { result ≡ true → AreRefuted trail.old.marks.items (first.now ++ second.now) }
-    ensures tracing { result ≡ false → IsPropagatingFrom trail.old trail.new watch.new (first.now ++ second.now) trail.old.read }
+    ensures tracing { result ≡ false →
+        IsPropagatingFrom trail.old trail.new watch.new (first.now ++ second.now) trail.old.read }
     ensures trail { IsTrail trail.new }
     ensures over { StaysOver trail.old trail.new }
     ensures read { trail.new.read ≡ trail.old.read }

@@ -38,7 +38,8 @@ pub(crate) fn descend(
     requires none { decisions.old.items ≡ [] }
     ensures settled { IfOk result (λ b. b ≡ false → IsSettled trail.new (first.now ++ second.now)) }
     ensures valued { IfOk result (λ b. b ≡ false → AreValued trail.new.marks.items vars) }
-    ensures conflict { IfOk result (λ b. b ≡ true → IsConflict trail.new (first.now ++ second.now) decisions.new.items) }
+    ensures conflict { IfOk result (λ b.
+        b ≡ true → IsConflict trail.new (first.now ++ second.now) decisions.new.items) }
     ensures room_decisions { OnOk result (All (HasRoom (length trail.old.marks.items)) decisions.new.items) }
 
     // the way back

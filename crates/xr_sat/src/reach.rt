@@ -31,8 +31,10 @@ pub(crate) fn reach(
     requires room_literals { All (HasRoom (length trail.old.marks.items)) literals.now }
     requires sized { HasSize watch.old (length trail.old.marks.items) }
     requires watches { Watches watch.old trail.old.marks.items (first.now ++ second.now) }
-    ensures conflict { result ≡ true → FollowsWith trail.old.marks.items (first.now ++ second.now) (literal_at literals.now k) }
-    ensures from { result ≡ false → GoesOnFrom trail.old trail.new (first.now ++ second.now) (literal_at literals.now k ∷ []) }
+    ensures conflict { result ≡ true →
+        FollowsWith trail.old.marks.items (first.now ++ second.now) (literal_at literals.now k) }
+    ensures from { result ≡ false →
+        GoesOnFrom trail.old trail.new (first.now ++ second.now) (literal_at literals.now k ∷ []) }
     ensures settled { result ≡ false → IsSettled trail.new (first.now ++ second.now) }
     ensures watches { result ≡ false → Watches watch.new trail.new.marks.items (first.now ++ second.now) }
     ensures grows { result ≡ false → IsWithin trail.old.marks.items (held trail.new) }

@@ -45,7 +45,8 @@ fn read(rest: &[u8], at: usize) -> Result<Option<(Token, &[u8])>, LexErr>
     requires no_blank { spec.blank at rest.now ≡ None }
     requires no_directive { spec.begins_directive rest.now ≡ false }
     ensures tells { MatchResult result
-        (λ o. MatchOption o (spec.left at rest.now ≡ ended) (λ r. spec.left at rest.now ≡ first r.0 (spec.left r.0.end r.1.now)))
+        (λ o. MatchOption o (spec.left at rest.now ≡ ended)
+        (λ r. spec.left at rest.now ≡ first r.0 (spec.left r.0.end r.1.now)))
         (λ e. spec.left at rest.now ≡ refused e) }
     ensures fits { IfOk result (λ o. IfSome o (λ r. r.0.end + length r.1.now ≡ at + length rest.now)) }
 {
