@@ -16,7 +16,8 @@ pub struct Item<'a> {
 
 /// The values of the options, and the words behind them, which are the FILEs.
 pub fn read_items(words: &[String]) -> Option<(Options<'_>, &[String])>
-    ensures read { IfSome result (λ r. AreRead (map string_bytes words.now) (option_of r.0) (map string_bytes r.1.now)) }
+    ensures read { IfSome result (λ r.
+        AreRead (map string_bytes words.now) (option_of r.0) (map string_bytes r.1.now)) }
     ensures none { IfNone result (IsUnsplit (map string_bytes words.now)) }
 {
     let mut options = no_options();

@@ -57,7 +57,8 @@ fn compared(netlist: &Netlist, recorded: &Recorded, history: &History) -> Result
         ↔ IsFaultless (spec.job_in netlist.now recorded.now) recorded.now.recording recorded.now.binding }
     ensures differs { IfErr result
         (IsFirstFault (spec.job_in netlist.now recorded.now) recorded.now.recording recorded.now.binding) }
-    ensures exact { TellsFirst (spec.job_in netlist.now recorded.now) recorded.now.recording recorded.now.binding result }
+    ensures exact { TellsFirst (spec.job_in netlist.now recorded.now)
+        recorded.now.recording recorded.now.binding result }
 {
     compare(
         &netlist.design,

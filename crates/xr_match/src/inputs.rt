@@ -63,7 +63,8 @@ fn hold(holders: &mut [Option<Holder>], net: u32, holder: Holder)
 pub fn missing_input(design: &Design, holders: &[Option<Holder>]) -> Option<u32>
     requires few { length design.now.nets ≤ 2 ^ 20 }
     requires long { length holders.now ≡ length design.now.nets }
-    ensures { (bound : List bound_variable) → Holds design.now bound holders.now → FindsMissing design.now bound result }
+    ensures { (bound : List bound_variable) →
+        Holds design.now bound holders.now → FindsMissing design.now bound result }
 {
     'nets: for (net, holder) in holders.iter().enumerate() {
         if is_input(design, net as u32) && holder.is_none() {
