@@ -1,2 +1,3 @@
 mod ChosenPlaces
+mod ReplayPlaces
 mod WavePlaces

@@ -3,7 +3,8 @@
 //! A case is a section. What stands before the first title holds for all: `< netlist` texts are joined. `< r.vcd` is a whole
 //! recording in the scope `dut`, `< recording` the same in short, `#10 ck=1 d=x` for each moment, the first with all nets. The
 //! module is `top`.
-//! `rounds 1` and `conflicts 1` stand for 4 and 1000, and `made SEED GATES` is a job that is drawn.
+//! `rounds 1` and `conflicts 1` stand for 4 and 1000, `start recorded` for a cold start; `made SEED GATES` is a job that is
+//! drawn, and `chain gates 5` or `chain registers 5` a netlist.
 //!
 //! ```text
 //! = xor_of_itself
@@ -32,19 +33,26 @@
 //! the same where every other place is filled with 1; the fillings of an unknown place give 0 and 1; the cone of each line
 //! gives the bit of the world.
 //!
+//! `> replay` has rows of the replay: `shown NET = 0000 1111` and `kept NET = 0000 1111`, a value for each round of each
+//! moment, and `compare agrees`, or the line of the first fault of the recording. The job is replayed under
+//! `force #TIME round ROUND NET VALUE` and a `release #TIME round ROUND NET` beneath it, where they stand.
+//!
 //! In `choices.txt` a line has a table, the value of the arguments' bits from 0 up, the bit that is forced, and behind ` = `
 //! its minimal choices, the first argument on the left and `-` where it isn't chosen.
 #![tactic(auto)]
 
 mod case;
+mod chain;
 mod choices;
 mod drawn;
 mod facts;
 mod fillings;
+mod forced;
 mod pairs;
 mod places;
 mod recording;
 mod repaired;
+mod replayed;
 mod words;
 mod worlds;
 

@@ -44,7 +44,7 @@ pub fn named_place(alloc: Global, wave: &Wave<'_>, words: &str) -> Result<Option
     Ok(None)
 }
 
-fn step_of(stim: &Stim, time: &str, round: &str) -> Option<u32> {
+pub fn step_of(stim: &Stim, time: &str, round: &str) -> Option<u32> {
     let time = number_of(time.strip_prefix("#")?);
     let moment = stim.times.as_slice().iter().position(|t| *t == time)?;
     let round = number_of(round);

@@ -12,7 +12,7 @@ use crate::words::text_of;
 use std::alloc::Global;
 use test_cases::{Lines, Part, Report};
 use xr_base::Memory;
-use xr_design::{Bytes, History, StartRule};
+use xr_design::{Bytes, History};
 use xr_job::{Netlist, Recorded, read_netlist, read_recording, replay_and_compare};
 use xr_repair::{RepairErr, repair};
 use xr_wave::Wave;
@@ -51,7 +51,11 @@ fn repair_and_compare(
     Ok("a repair")
 }
 
-fn recorded_of(alloc: Global, netlist: &Netlist, texts: &Texts) -> Result<Option<Recorded>, Memory>
+pub fn recorded_of(
+    alloc: Global,
+    netlist: &Netlist,
+    texts: &Texts,
+) -> Result<Option<Recorded>, Memory>
     requires { FitsNetlist netlist.now }
     ensures { IfOk result (λ found. IfSome found (FitsRecorded netlist.now.design)) }
 {
@@ -61,7 +65,7 @@ fn recorded_of(alloc: Global, netlist: &Netlist, texts: &Texts) -> Result<Option
     }
     let scope = [Bytes::from_vec(Vec::from_slice(alloc, b"dut")?)];
     let rounds = texts.rounds.clamp(1, 16);
-    match read_recording(alloc, netlist, text, &scope, rounds, StartRule::Cold) {
+    match read_recording(alloc, netlist, text, &scope, rounds, texts.start) {
         Ok(recorded) => Ok(Some(recorded)),
         Err(_) => Ok(None),
     }
