@@ -9,7 +9,7 @@ use Rattle.xr_out.specs.Steps.{HasStep, HasBits}
 
 -- the bits of a binding that fits are nets of the history
 pub has_bits : (design : Design) (bound : List Bound) (history : HistoryView) → All (FitsBound design) bound → history.nets ≡ length design.nets → All (HasBits history) bound
-has_bits design bound history h nets = λ k d lt. let b = h k d lt in record { some = b.some; nets = λ i x l. rw nets (b.nets i x l) }
+has_bits design bound history h nets = λ k d lt. let b = h k d lt in record { some = b.some; all = λ i x l. rw nets (b.nets i x l) }
 
 -- the last step of the moment before
 step_before_suc : (k rounds : ℕ) → 0 < rounds → last_step rounds k ≡ suc k * rounds + (rounds - 1) - rounds

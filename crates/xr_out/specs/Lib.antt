@@ -1,6 +1,7 @@
 -- Definitions of xr_out: the text of the repaired recording.
 pub mod Code
 pub mod Declarations
+pub mod Flat
 pub mod Lines
 pub mod Moments
 pub mod Steps

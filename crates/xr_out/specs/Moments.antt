@@ -11,32 +11,32 @@ use Rattle.xr_out.specs.Lines.{line}
 abbrev pub letter_at : HistoryView → ℕ → ℕ → ℕ
 letter_at history step net = letter_of (held_in history (record { step = step; net = net })).shown
 
-abbrev pub letters : HistoryView → ℕ → Bound → List ℕ
-letters history step b = map (letter_at history step) b.bits
+abbrev pub letters : HistoryView → ℕ → List ℕ → List ℕ
+letters history step nets = map (letter_at history step) nets
 
--- A value: a bit and the code; a wider one is `b`, all bits, a space and the code.
-abbrev pub value_line : HistoryView → ℕ → ℕ → Bound → List ℕ
-value_line history step number b =
-    line (if length b.bits == 1 then letters history step b ++ code_of number else codes "b" ++ letters history step b ++ codes " " ++ code_of number)
+-- The value of a variable whose bits are these nets: a bit and the code; a wider one is `b`, all bits, a space and the code.
+abbrev pub value_line : HistoryView → ℕ → ℕ → List ℕ → List ℕ
+value_line history step number nets =
+    line (if length nets == 1 then letters history step nets ++ code_of number else codes "b" ++ letters history step nets ++ codes " " ++ code_of number)
 
 -- the values of the variables from one on
 abbrev pub value_lines : HistoryView → ℕ → ℕ → List Bound → List ℕ
 value_lines history step number [] = []
-value_lines history step number (b ∷ bs) = value_line history step number b ++ value_lines history step (number + 1) bs
+value_lines history step number (b ∷ bs) = value_line history step number b.bits ++ value_lines history step (number + 1) bs
 
 -- Whether each of these nets shows the same at two steps.
 abbrev pub are_same : HistoryView → ℕ → ℕ → List ℕ → Bool
 are_same history step before nets = list_all (λ net. letter_at history step net == letter_at history before net) nets
 
--- A variable's value, where it is another than at a step before.
-abbrev pub change_line : HistoryView → ℕ → ℕ → ℕ → Bound → List ℕ
-change_line history step before number b = if are_same history step before b.bits then [] else value_line history step number b
+-- The value of a variable whose bits are these nets, where it is another than at a step before.
+abbrev pub change_line : HistoryView → ℕ → ℕ → ℕ → List ℕ → List ℕ
+change_line history step before number nets = if are_same history step before nets then [] else value_line history step number nets
 
 -- the values of those variables from one on that show another value than at a step before
 abbrev pub changed_lines : HistoryView → ℕ → ℕ → ℕ → List Bound → List ℕ
 changed_lines history step before number [] = []
 changed_lines history step before number (b ∷ bs) =
-    change_line history step before number b ++ changed_lines history step before (number + 1) bs
+    change_line history step before number b.bits ++ changed_lines history step before (number + 1) bs
 
 -- The last round of a moment, as a step.
 abbrev pub last_step : ℕ → ℕ → ℕ

@@ -1,5 +1,5 @@
 -- Which steps and which bits a history has.
-use Rattle.std.specs.Prelude.{ℕ, ◌<◌, ◌^◌, length, All}
+use Rattle.std.specs.Prelude.{ℕ, ◌<◌, ◌^◌, List, length, All}
 use Rattle.xr_design.specs.History.{HistoryView, HasPlace}
 use Rattle.xr_match.specs.declared.binding.Bound.{Bound}
 use Rattle.xr_out.specs.Moments.{last_step}
@@ -9,10 +9,13 @@ pub record HasStep (history : HistoryView) (step : ℕ) : Type 0 where
   pub small : step < 2 ^ 32
   pub places : (net : ℕ) → net < history.nets → HasPlace history (record { step = step; net = net })
 
--- The bits are nets of the history, one or more.
-pub record HasBits (history : HistoryView) (b : Bound) : Type 0 where
-  pub some : 0 < length b.bits
-  pub nets : All (λ net. net < history.nets) b.bits
+-- Nets of the history, one or more.
+pub record HasNets (history : HistoryView) (nets : List ℕ) : Type 0 where
+  pub some : 0 < length nets
+  pub all : All (λ net. net < history.nets) nets
+
+abbrev pub HasBits : HistoryView → Bound → Type 0
+HasBits history b = HasNets history b.bits
 
 -- The last step of each moment is there.
 pub record HasMoments (history : HistoryView) (moments rounds : ℕ) : Type 0 where

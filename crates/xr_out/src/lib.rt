@@ -2,6 +2,7 @@
 //! Start at `vcd_text`, and at specs/Text.antt.
 #![tactic(auto)]
 
+mod bits;
 mod code;
 mod declarations;
 mod moments;

@@ -2,9 +2,11 @@
 
 ghost use Rattle.std.specs.Prelude.{◌≡◌, ◌≤◌, ◌<◌, ◌+◌, ◌*◌, ◌^◌, ◌++◌, ℕ, All, List, OnOk, drop, length, map};
 ghost use Rattle.xr_match.specs.declared.binding.Bound.{Bound as bound_variable};
+ghost use Rattle.xr_out.specs.Flat.{bits_of};
 ghost use Rattle.xr_out.specs.Moments as spec;
-ghost use Rattle.xr_out.specs.Steps.{HasStep, HasBits};
+ghost use Rattle.xr_out.specs.Steps.{HasStep, HasBits, HasNets};
 
+use crate::bits::Bits;
 use crate::code::put_code;
 use crate::puts::{put, put_number};
 use xr_base::Memory;
@@ -15,12 +17,14 @@ use xr_match::Bound;
 pub fn put_moment(
     text: &mut Vec<u8>,
     bound: &[Bound],
+    table: &Bits,
     history: &History,
     rounds: u32,
     moment: u32,
     time: u64,
 ) -> Result<(), Memory>
     requires rounds { 0 < rounds }
+    requires table { table.now ≡ bits_of bound.now }
     requires steps { (earlier : ℕ) → earlier ≤ moment → HasStep history.now (spec.last_step rounds earlier) }
     requires bits { All (HasBits history.now) bound.now }
     ensures { let lines = spec.moment_lines history.now rounds bound.now moment time in
@@ -33,7 +37,7 @@ pub fn put_moment(
     if moment == 0 {
         put_dump(text, bound, history, step)
     } else {
-        put_changed(text, bound, history, step, step - rounds)
+        put_changed(text, bound, table, history, step, step - rounds)
     }
 }
 
@@ -58,7 +62,7 @@ fn put_values(
     ensures { OnOk result (text.new.items ≡ text.old.items ++ spec.value_lines history.now step 0 bound.now) }
 {
     'variables: for (number, variable) in bound.iter().enumerate() {
-        put_value(text, number, variable, history, step)?;
+        put_value(text, number, variable.bits.as_slice(), history, step)?;
     }
     Ok(())
 }
@@ -66,40 +70,43 @@ fn put_values(
 fn put_changed(
     text: &mut Vec<u8>,
     bound: &[Bound],
+    table: &Bits,
     history: &History,
     step: u32,
     before: u32,
 ) -> Result<(), Memory>
+    requires table { table.now ≡ bits_of bound.now }
     requires step { HasStep history.now step }
     requires before { HasStep history.now before }
     requires bits { All (HasBits history.now) bound.now }
     ensures { let lines = spec.changed_lines history.now step before 0 bound.now in
         OnOk result (text.new.items ≡ text.old.items ++ lines) }
 {
-    'variables: for (number, variable) in bound.iter().enumerate() {
-        put_change(text, number, variable, history, step, before)?;
+    'variables: for (number, _) in bound.iter().enumerate() {
+        put_change(text, number, table.at(number), history, step, before)?;
     }
     Ok(())
 }
 
+/// The value of a variable whose bits are these nets, where it is another than at the step before.
 fn put_change(
     text: &mut Vec<u8>,
     number: usize,
-    variable: &Bound,
+    nets: &[u32],
     history: &History,
     step: u32,
     before: u32,
 ) -> Result<(), Memory>
     requires step { HasStep history.now step }
     requires before { HasStep history.now before }
-    requires bits { HasBits history.now variable.now }
-    ensures { let lines = spec.change_line history.now step before number variable.now in
+    requires nets { HasNets history.now nets.now }
+    ensures { let lines = spec.change_line history.now step before number nets.now in
         OnOk result (text.new.items ≡ text.old.items ++ lines) }
 {
-    if is_same(variable.bits.as_slice(), history, step, before) {
+    if is_same(nets, history, step, before) {
         return Ok(());
     }
-    put_value(text, number, variable, history, step)
+    put_value(text, number, nets, history, step)
 }
 
 /// Whether each bit shows the same at two steps.
@@ -129,20 +136,19 @@ fn letter_at(history: &History, step: u32, net: u32) -> u8
 fn put_value(
     text: &mut Vec<u8>,
     number: usize,
-    variable: &Bound,
+    nets: &[u32],
     history: &History,
     step: u32,
 ) -> Result<(), Memory>
     requires step { HasStep history.now step }
-    requires bits { HasBits history.now variable.now }
-    ensures { OnOk result (text.new.items ≡ text.old.items ++ spec.value_line history.now step number variable.now) }
+    requires nets { HasNets history.now nets.now }
+    ensures { OnOk result (text.new.items ≡ text.old.items ++ spec.value_line history.now step number nets.now) }
 {
-    let bits = variable.bits.as_slice();
-    if bits.len() == 1 {
-        put_letters(text, bits, history, step)?;
+    if nets.len() == 1 {
+        put_letters(text, nets, history, step)?;
     } else {
         put(text, b"b")?;
-        put_letters(text, bits, history, step)?;
+        put_letters(text, nets, history, step)?;
         put(text, b" ")?;
     }
     put_code(text, number)?;
