@@ -1,0 +1,3 @@
+-- Lemmas of xr_wiring.
+pub mod Jobs
+pub mod Tables

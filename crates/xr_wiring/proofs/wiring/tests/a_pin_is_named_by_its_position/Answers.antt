@@ -1,0 +1,32 @@
+-- The two nets are an ordering.
+use Rattle.std.proofs.Common.{◌≡◌, ℕ, zero, suc, ◌<◌, List, [], ◌∷◌, get_or, refl, sym, subst, arith}
+use Rattle.xr_design.specs.Order.{IsOrdering}
+use Rattle.xr_wiring.proofs.wiring.tests.a_pin_is_named_by_its_position.Goals as goal
+
+abbrev swapped_nets : List ℕ
+swapped_nets = 1 ∷ 0 ∷ []
+
+swapped : IsOrdering swapped_nets
+swapped = record { below = below; each = each; once = once }
+  where
+    below : (p : ℕ) → p < 2 → get_or swapped_nets p 0 < 2
+    below zero h = omega arith
+    below (suc zero) h = omega arith
+    below (suc (suc p)) h = absurd (omega arith)
+
+    each : (net : ℕ) → net < 2 → (p : ℕ) × (p < 2) × (get_or swapped_nets p 0 ≡ net)
+    each zero h = (1, omega arith, refl)
+    each (suc zero) h = (0, omega arith, refl)
+    each (suc (suc net)) h = absurd (omega arith)
+
+    once : (p q : ℕ) → p < 2 → q < 2 → get_or swapped_nets p 0 ≡ get_or swapped_nets q 0 → p ≡ q
+    once zero zero h k same = omega arith
+    once zero (suc zero) h k same = absurd (omega arith)
+    once (suc zero) zero h k same = absurd (omega arith)
+    once (suc zero) (suc zero) h k same = omega arith
+    once zero (suc (suc q)) h k same = absurd (omega arith)
+    once (suc zero) (suc (suc q)) h k same = absurd (omega arith)
+    once (suc (suc p)) q h k same = absurd (omega arith)
+
+pub new-requires-clause-ordering : goal.new-requires-clause-ordering
+new-requires-clause-ordering g c = subst IsOrdering (sym (c.in_ok-to_vec.ensures.items_if_clones_equal (λ x y same. same))) swapped

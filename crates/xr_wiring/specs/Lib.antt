@@ -1,0 +1,3 @@
+-- Definitions of xr_wiring.
+pub mod Flat
+pub mod Wired
