@@ -9,3 +9,6 @@ mod RisingPlaces
 mod SteadyClasses
 pub mod StepBefore
 mod Reached
+mod WiredPlaces
+mod WiredSteady
+mod WiredRegisters

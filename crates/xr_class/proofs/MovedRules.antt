@@ -1,6 +1,6 @@
 -- Places whose arguments have the certain values of a step before: over all assignments their rule gives what it gave.
-use Rattle.std.proofs.Common.{◌≡◌, ℕ, zero, suc, ◌+◌, ◌-◌, ◌*◌, ◌<◌, ◌≤◌, ◌==◌, ◌&&◌, ◌||◌, not, Bool, true, false, List, [], ◌∷◌, refl, sym, ap, ◌∙◌, arith, subst, if◌then◌else◌, ⊎_elim}
-use Rattle.std.specs.List.{AllByRecursion, list_all}
+use Rattle.std.proofs.Common.{◌≡◌, ℕ, suc, ◌+◌, ◌-◌, ◌*◌, ◌<◌, ◌==◌, ◌||◌, not, Bool, true, false, List, [], ◌∷◌, refl, sym, ap, ◌∙◌, arith, subst, if◌then◌else◌, ⊎_elim}
+use Rattle.std.specs.List.{AllByRecursion}
 use Rattle.std.proofs.lemmas.Bool.{and_parts, or_cases, eqb-true, ne_eqb}
 use Rattle.xr_cell.specs.declared.value.Value.{Value}
 use Rattle.xr_cell.specs.declared.value.Value.TheVariants.{Zero, One, X, Z}
@@ -13,15 +13,14 @@ use Rattle.xr_design.specs.declared.design.Pin.{Pin}
 use Rattle.xr_design.specs.declared.design.Pin.TheVariants.{Net, Bit, Dead}
 use Rattle.xr_design.specs.declared.design.Table.{Table}
 use Rattle.xr_design.specs.Circuit.{Reach}
-use Rattle.xr_design.specs.Fits.{Fits}
-use Rattle.xr_design.specs.Job.{Job, at, net_of, places_of, primitive_of, step_of}
+use Rattle.xr_design.specs.Job.{Job, at, net_of, primitive_of, step_of}
 use Rattle.xr_design.specs.Order.{net_pins, position_of}
 use Rattle.xr_design.specs.Register.{has_unknown_clock, pins_at}
 use Rattle.xr_design.specs.Replay.{table_of}
 use Rattle.xr_design.specs.Rule.{as_values, register_rule, rule, rule_of}
 use Rattle.xr_design.proofs.Rules.{rule_reads}
 use Rattle.xr_model.specs.Assignment.{assigned, for_every}
-use Rattle.xr_model.specs.Class.{are_equal, carries_on, class_of, flipped, is_bit, is_free, is_local, is_never_unknown, keeps}
+use Rattle.xr_model.specs.Class.{are_equal, carries_on, class_of, is_bit, is_free, is_local, is_never_unknown}
 use Rattle.xr_model.specs.Yields.{flipped_value}
 use Rattle.xr_model.specs.declared.class.ClassByNumber.{ClassByNumber}
 use Rattle.xr_model.specs.declared.class.ClassByNumber.TheVariants.{Local, Free, Carried, Line}

@@ -1,15 +1,13 @@
 -- The class of a copy, and of a place whose arguments are all certain.
-use Rattle.std.proofs.Common.{◌≡◌, ℕ, ◌<◌, Bool, true, false, [], ◌∷◌, refl, sym, ap, ◌∙◌, arith, if◌then◌else◌, subst}
+use Rattle.std.proofs.Common.{◌≡◌, ℕ, ◌/◌, ◌<◌, Bool, true, false, [], ◌∷◌, refl, sym, ap, ◌∙◌, arith, if◌then◌else◌, subst}
 use Rattle.std.proofs.lemmas.Bool.{eq-eqb}
 use Rattle.xr_cell.specs.declared.value.Value.{Value}
 use Rattle.xr_cell.specs.declared.value.Value.TheVariants.{Zero, One, X, Z}
 use Rattle.xr_cell.specs.Value.{bit_value, is_unknown}
-use Rattle.xr_design.specs.declared.design.Driver.TheVariants.{Copy}
-use Rattle.xr_design.specs.declared.circuit.Spot.{Spot}
-use Rattle.xr_design.specs.Circuit.{IsSpot}
+use Rattle.xr_design.specs.declared.design.Driver.TheVariants.{Constant, Copy, Input}
 use Rattle.xr_design.specs.Fits.{Fits}
 use Rattle.xr_design.specs.Job.{Job, at, net_of, places_of, step_of}
-use Rattle.xr_design.specs.Rule.{arguments, arguments_of, rule, rule_of}
+use Rattle.xr_design.specs.Rule.{arguments, arguments_of, born, known_or, rule, rule_of}
 use Rattle.xr_design.specs.World.{decided}
 use Rattle.xr_model.specs.Assignment.{assigned}
 use Rattle.xr_model.specs.Class.{before, carried_or_line, class_of, is_bit, is_carried_from, is_free, is_local, keeps, passes_on, passes_on_of}
@@ -18,11 +16,13 @@ use Rattle.xr_model.specs.declared.class.ClassByNumber.{ClassByNumber}
 use Rattle.xr_model.specs.declared.class.ClassByNumber.TheVariants.{Local, Free, Carried, Line}
 use Rattle.xr_model.proofs.Assignments.{passes_every}
 use Rattle.xr_class.specs.Arguments.{uncertain_places}
-use Rattle.xr_class.specs.Facts.{plain_class}
+use Rattle.xr_class.specs.Facts.{AreFacts, Facts, plain_class}
 use Rattle.xr_class.specs.Keeps.{class_here, net_keeps}
 use Rattle.xr_class.specs.Test.{ReadsOnly, passes, test_of}
+use Rattle.xr_class.specs.Wires.{CopiesFrom}
 use Rattle.xr_class.specs.declared.test.Test.{Test}
 use Rattle.xr_class.specs.declared.test.Test.TheVariants.{Bit, Unknown, Copies}
+use Rattle.xr_class.proofs.StepBefore.{keeps_at}
 use Rattle.xr_class.proofs.PassingTests.{number_fails, numbers_pass}
 
 -- Where no argument is uncertain, a test passes for every assignment where it passes for the one.
@@ -134,53 +134,84 @@ open_copy j c place net driver chosen unknown =
         ∙ ap (λ b. if b then Carried from false
         else if is_carried_from j c place from true then Carried from true else Line) carried
 
-pub copied_is : (j : Job) → (c : ℕ → Value) (place net : ℕ) (v : Value) → j.driver (net_of j place) ≡ Copy net
-    → c (at j (step_of j place) net) ≡ v
-    → class_here j c place
-    ≡ copied_of v (net_keeps j c (step_of j place) net) (before j place) (at j (step_of j place) net)
-copied_is j c place net Zero driver is = ap (λ b. if b then Local false else other) settled
+-- Where the rule gives one bit for every assignment, the place has it.
+given_is : (j : Job) (c : ℕ → Value) (place : ℕ) (bit : Bool)
+    → ((bits : ℕ → Bool) → rule j c (assigned c bits) place ≡ bit_value bit) → class_here j c place ≡ Local bit
+given_is j c place false gives = ap (λ b. if b then Local false else other)
+    (passes_every j c place (test_of j c place (Bit false)) (λ bits. ap (λ v. is_bit v false) (gives bits)))
   where
-    settled : is_local j c place false ≡ true
-    settled = passes_every j c place (test_of j c place (Bit false))
-        (λ bits. ap (λ v. is_bit v false) (rule_copy j c (assigned c bits) place net driver
-        ∙ ap (λ v. bit_value (decided v (bits (at j (step_of j place) net)))) is))
-
     other : ClassByNumber
     other = if is_local j c place true then Local true else if is_free j c place then Free
         else if passes_on j c (class_of j c) place then Carried (before j place) false
         else carried_or_line j c place (arguments j c place)
-copied_is j c place net One driver is =
+given_is j c place true gives =
     ap (λ b. if b then Local false else if is_local j c place true then Local true else other) fails
-    ∙ ap (λ b. if b then Local true else other) settled
+    ∙ ap (λ b. if b then Local true else other)
+    (passes_every j c place (test_of j c place (Bit true)) (λ bits. ap (λ v. is_bit v true) (gives bits)))
   where
-    given : (bits : ℕ → Bool) → rule j c (assigned c bits) place ≡ One
-    given bits = rule_copy j c (assigned c bits) place net driver
-        ∙ ap (λ v. bit_value (decided v (bits (at j (step_of j place) net)))) is
-
     fails : is_local j c place false ≡ false
-    fails = number_fails j c place (Bit false) tt [] 0 (ap (λ v. is_bit v false) (given (masked [] 0)))
-
-    settled : is_local j c place true ≡ true
-    settled = passes_every j c place (test_of j c place (Bit true)) (λ bits. ap (λ v. is_bit v true) (given bits))
+    fails = number_fails j c place (Bit false) tt [] 0 (ap (λ v. is_bit v false) (gives (masked [] 0)))
 
     other : ClassByNumber
     other = if is_free j c place then Free
         else if passes_on j c (class_of j c) place then Carried (before j place) false
         else carried_or_line j c place (arguments j c place)
+
+-- So for a constant, and for an input that the recording knows.
+rule_constant : (j : Job) (c : ℕ → Value) (bits : ℕ → Bool) (place : ℕ) (bit : Bool)
+    → j.driver (net_of j place) ≡ Constant bit → rule j c bits place ≡ bit_value bit
+unfolding rule
+rule_constant j c bits place bit driver = ap (rule_of j c bits (step_of j place) (net_of j place)) driver
+
+pub constant_is : (j : Job) (c : ℕ → Value) (place : ℕ) (bit : Bool) → j.driver (net_of j place) ≡ Constant bit
+    → class_here j c place ≡ Local bit
+constant_is j c place bit driver = given_is j c place bit (λ bits. rule_constant j c (assigned c bits) place bit driver)
+
+known_stands : (bit : Bool) (other : Value) → known_or (bit_value bit) other ≡ bit_value bit
+known_stands false other = refl
+known_stands true other = refl
+
+rule_input : (j : Job) (c : ℕ → Value) (bits : ℕ → Bool) (place : ℕ) (bit : Bool) → j.driver (net_of j place) ≡ Input
+    → j.recorded (step_of j place / j.rounds) (net_of j place) ≡ bit_value bit → rule j c bits place ≡ bit_value bit
+unfolding rule
+rule_input j c bits place bit driver recorded = ap (rule_of j c bits (step_of j place) (net_of j place)) driver
+    ∙ ap (λ v. known_or v (born j bits (step_of j place) (net_of j place))) recorded
+    ∙ known_stands bit (born j bits (step_of j place) (net_of j place))
+
+pub input_is : (j : Job) (c : ℕ → Value) (place : ℕ) (bit : Bool) → j.driver (net_of j place) ≡ Input
+    → j.recorded (step_of j place / j.rounds) (net_of j place) ≡ bit_value bit → class_here j c place ≡ Local bit
+input_is j c place bit driver recorded =
+    given_is j c place bit (λ bits. rule_input j c (assigned c bits) place bit driver recorded)
+
+pub copied_is : (j : Job) → (c : ℕ → Value) (place net : ℕ) (v : Value) → j.driver (net_of j place) ≡ Copy net
+    → c (at j (step_of j place) net) ≡ v
+    → class_here j c place
+    ≡ copied_of v (net_keeps j c (step_of j place) net) (before j place) (at j (step_of j place) net)
+copied_is j c place net Zero driver is = given_is j c place false
+    (λ bits. rule_copy j c (assigned c bits) place net driver
+    ∙ ap (λ v. bit_value (decided v (bits (at j (step_of j place) net)))) is)
+copied_is j c place net One driver is = given_is j c place true
+    (λ bits. rule_copy j c (assigned c bits) place net driver
+    ∙ ap (λ v. bit_value (decided v (bits (at j (step_of j place) net)))) is)
 copied_is j c place net X driver is =
     open_copy j c place net driver (λ bit. ap (λ v. decided v bit) is) (ap is_unknown is)
 copied_is j c place net Z driver is =
     open_copy j c place net driver (λ bit. ap (λ v. decided v bit) is) (ap is_unknown is)
 
--- The same at the spot of the place.
-pub copied_at : (j : Job) → (c : ℕ → Value) (place : ℕ) (spot : Spot) (net from : ℕ) (v : Value) → IsSpot j place spot
-    → j.driver spot.net ≡ Copy net → from ≡ at j spot.step net → v ≡ c from
-    → class_here j c place ≡ copied_of v (net_keeps j c spot.step net) (before j place) from
-copied_at j c place spot net from v is driver from_is v_is =
-    copied_is j c place net v (ap j.driver (sym is.net) ∙ driver)
-    (ap (λ s. c (at j s net)) (sym is.step) ∙ sym (v_is ∙ ap c from_is))
-    ∙ ap (λ s. copied_of v (net_keeps j c s net) (before j place) (at j s net)) (sym is.step)
-    ∙ ap (copied_of v (net_keeps j c spot.step net) (before j place)) (sym from_is)
+-- The same by the place that it reads, and by what is kept of that.
+pub copied_from : (j : Job) → Fits j → (c : ℕ → Value) (facts : ℕ → Facts) (place from : ℕ) (v : Value)
+    → CopiesFrom j place from → AreFacts j c facts place → v ≡ c from
+    → class_here j c place ≡ copied_of v (facts from).keeps (before j place) from
+copied_from j fits c facts place from v copies are v_is =
+    let step = step_of j place in
+    let is = copies.from_is in
+    let earlier = copies.earlier in
+    let keeps_is : (facts from).keeps ≡ net_keeps j c step copies.net = ap (λ k. (facts k).keeps) is
+    ∙ ap (λ (f : Facts). f.keeps) (are (at j step copies.net) (omega (arith, is, earlier)))
+    ∙ keeps_at j fits c step copies.net copies.within in
+    copied_is j c place copies.net v copies.driver (ap c (sym is) ∙ sym v_is)
+    ∙ ap (λ k. copied_of v k (before j place) (at j step copies.net)) (sym keeps_is)
+    ∙ ap (copied_of v (facts from).keeps (before j place)) (sym is)
 
 pub copied_open : (v : Value) → (v ≡ Zero → ⊥) → (v ≡ One → ⊥) → (keeps : Bool) (back from : ℕ)
     → copied_of v keeps back from ≡ (if keeps then Carried back false else Carried from false)

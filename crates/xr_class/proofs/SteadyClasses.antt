@@ -1,5 +1,5 @@
 -- The class of a place whose rule gives what it gave for its net's place at the step before.
-use Rattle.std.proofs.Common.{◌≡◌, ℕ, zero, suc, ◌+◌, ◌-◌, ◌*◌, ◌%◌, ◌<◌, ◌≤◌, ◌==◌, ◌&&◌, not, Bool, true, false, List, [], ◌∷◌, refl, sym, ap, ◌∙◌, arith, subst, if◌then◌else◌, ⊎_elim}
+use Rattle.std.proofs.Common.{◌≡◌, ℕ, zero, suc, ◌+◌, ◌-◌, ◌*◌, ◌<◌, ◌≤◌, ◌==◌, ◌&&◌, not, Bool, true, false, List, [], ◌∷◌, refl, sym, ap, ◌∙◌, arith, subst, if◌then◌else◌, ⊎_elim}
 use Rattle.std.specs.Prelude.{nat_lt}
 use Rattle.std.specs.List.{AllByRecursion}
 use Rattle.std.proofs.lemmas.Bool.{and_parts, lt-ltb, ne_eqb, eqb-true}
@@ -16,8 +16,8 @@ use Rattle.xr_design.specs.Fits.{Fits}
 use Rattle.xr_design.specs.Job.{Job, at, net_of, places_of, step_of}
 use Rattle.xr_design.specs.Order.{net_pins, position_of}
 use Rattle.xr_design.specs.Register.{has_uncertain_clock, updated}
-use Rattle.xr_design.specs.Rule.{arguments, rule, rule_of}
-use Rattle.xr_design.proofs.Rules.{AgreeOn, back_two, position_in, rule_reads}
+use Rattle.xr_design.specs.Rule.{arguments, rule}
+use Rattle.xr_design.proofs.Rules.{back_two, position_in, rule_reads}
 use Rattle.xr_model.specs.Assignment.{assigned, for_every}
 use Rattle.xr_model.specs.Class.{before, carried_or_line, carries_on, class_of, flipped, is_bit, is_carried_from, is_free, is_local, is_never_unknown, passes_on, passes_on_of}
 use Rattle.xr_model.specs.Yields.{is_line}

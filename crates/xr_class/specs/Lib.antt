@@ -3,3 +3,4 @@ pub mod Arguments
 pub mod Facts
 pub mod Keeps
 pub mod Test
+pub mod Wires

@@ -1,42 +1,63 @@
 //! The class of a place.
 
-ghost use Rattle.std.specs.Prelude.{◌≡◌, ℕ, ◌+◌, ◌<◌, ◌≤◌};
+ghost use Rattle.std.specs.Prelude.{◌≡◌, ℕ, ◌+◌, ◌%◌, ◌<◌, ◌≤◌};
 ghost use Rattle.xr_design.specs.Circuit.{job_in, CircuitFits};
 ghost use Rattle.xr_design.specs.Job.{places_of};
 ghost use Rattle.xr_model.specs.Class.{class_of};
 ghost use Rattle.xr_class.specs.Facts.{AgreeBefore, AreFacts};
+ghost use Rattle.xr_class.specs.Wires.{AreWiresOf};
 
 use crate::earlier::Earlier;
 use crate::keeps::place_before;
-use crate::quick::{copied_class, plain_class};
+use crate::quick::{copied_class, input_class, plain_class};
 use crate::steady::{cell_class, register_class};
 use crate::tried::tried_class;
-use xr_design::{Circuit, Driver, Source, driver_at, spot_of};
+use xr_design::{Circuit, Source, Table, width_of};
 use xr_model::ClassByNumber;
+use xr_wiring::{Kind, Wiring};
 
 /// The class of a place, from what is known of the places before it: the first that applies. Takes no memory.
-pub fn class_at<E: Earlier>(circuit: &Circuit<'_>, earlier: &E, place: usize) -> ClassByNumber
+pub fn class_at<E: Earlier>(
+    circuit: &Circuit<'_>,
+    wiring: &Wiring,
+    earlier: &E,
+    place: usize,
+    position: usize,
+) -> ClassByNumber
     requires fits { CircuitFits circuit.now }
+    requires wired { AreWiresOf circuit.now wiring.now }
     requires within { place < places_of (job_in circuit.now) }
+    requires position { position ≡ place % (job_in circuit.now).width }
     requires certain { (k : ℕ) → k < place → E.has earlier.now k }
     requires facts { AreFacts (job_in circuit.now) (E.reads earlier.now) (E.facts earlier.now) place }
     requires agrees { AgreeBefore (job_in circuit.now) (E.reads earlier.now) place }
     ensures { result ≡ class_of (job_in circuit.now) (E.reads earlier.now) place }
 {
-    let spot = spot_of(circuit, place);
-    match driver_at(circuit, spot.net) {
-        Driver::Copy(net) => copied_class(circuit, earlier, place, spot, *net),
-        Driver::Cell(table, pins) => {
-            cell_class(circuit, earlier, place, spot, *table, pins.as_slice())
+    let pins = wiring.pins(position);
+    match wiring.kind(position) {
+        Kind::Input => input_class(circuit, earlier, place),
+        Kind::Undriven => tried_class(circuit, earlier, place),
+        Kind::Constant(bit) => ClassByNumber::Local(bit),
+        Kind::Copy => copied_class(circuit, earlier, place, position, pins),
+        Kind::Gate(gate) => {
+            cell_class(circuit, earlier, place, position, Table::Gate(gate), pins)
         }
-        Driver::Register(latching) => register_class(circuit, earlier, place, spot, latching),
-        _ => tried_class(circuit, earlier, place),
+        Kind::Udp(number) => {
+            cell_class(circuit, earlier, place, position, Table::Udp(number), pins)
+        }
+        Kind::Register => register_class(circuit, earlier, place, position, pins),
     }
 }
 
 /// The class of a place of which facts are kept, as of those before it. Takes no memory.
-pub fn kept_class<E: Earlier>(circuit: &Circuit<'_>, earlier: &E, place: usize) -> ClassByNumber
+pub fn kept_class<E: Earlier>(
+    circuit: &Circuit<'_>,
+    wiring: &Wiring,
+    earlier: &E,
+    place: usize,
+) -> ClassByNumber
     requires fits { CircuitFits circuit.now }
+    requires wired { AreWiresOf circuit.now wiring.now }
     requires within { place < places_of (job_in circuit.now) }
     requires certain { (k : ℕ) → k ≤ place → E.has earlier.now k }
     requires facts { AreFacts (job_in circuit.now) (E.reads earlier.now) (E.facts earlier.now) (place + 1) }
@@ -50,6 +71,6 @@ pub fn kept_class<E: Earlier>(circuit: &Circuit<'_>, earlier: &E, place: usize) 
     } else if earlier.is_line(place) {
         ClassByNumber::Line
     } else {
-        class_at(circuit, earlier, place)
+        class_at(circuit, wiring, earlier, place, place % width_of(circuit))
     }
 }

@@ -1,22 +1,24 @@
-//! The class of a place that needs no trying: of a copy, whose argument says all, and of a place whose arguments are
-//! all certain.
+//! The class of a place that needs no trying: of a copy, whose argument says all, of an input that the recording knows,
+//! and of a place whose arguments are all certain.
 
-ghost use Rattle.std.specs.Prelude.{◌≡◌, ℕ, ◌<◌, []};
+ghost use Rattle.std.specs.Prelude.{◌≡◌, ℕ, ◌%◌, ◌<◌, []};
 ghost use Rattle.xr_cell.specs.declared.value.Value.{Value as AnyValue};
-ghost use Rattle.xr_design.specs.Circuit.{job_in, CircuitFits, IsSpot};
-ghost use Rattle.xr_design.specs.Job.{places_of};
-ghost use Rattle.xr_design.specs.declared.design.Driver.TheVariants.{Copy};
+ghost use Rattle.xr_design.specs.Circuit.{job_in, CircuitFits};
+ghost use Rattle.xr_design.specs.Job.{net_of, places_of};
+ghost use Rattle.xr_design.specs.declared.design.Driver.TheVariants.{Input};
+ghost use Rattle.xr_wiring.specs.declared.wiring.Kind.TheVariants as kind;
 ghost use Rattle.xr_class.specs.Arguments.{uncertain_places};
 ghost use Rattle.xr_class.specs.Facts as spec;
 ghost use Rattle.xr_class.specs.Facts.{AreFacts};
 ghost use Rattle.xr_class.specs.Keeps.{class_here};
+ghost use Rattle.xr_class.specs.Wires.{CopiesFrom, Stands};
 
 use crate::assigned::{Assigned, Numbered};
 use crate::earlier::Earlier;
-use crate::keeps::{net_keeps, place_before};
-use crate::ruled::place_of;
+use crate::keeps::place_before;
+use crate::tried::tried_class;
 use xr_cell::Value;
-use xr_design::{Circuit, Source, Spot, rule_value};
+use xr_design::{Circuit, Pin, Source, recorded_at, rule_value, spot_of};
 use xr_model::ClassByNumber;
 
 /// The class of a copy.
@@ -24,25 +26,64 @@ pub fn copied_class<E: Earlier>(
     circuit: &Circuit<'_>,
     earlier: &E,
     place: usize,
-    spot: Spot,
-    net: u32,
+    position: usize,
+    pins: &[Pin],
 ) -> ClassByNumber
     requires fits { CircuitFits circuit.now }
-    requires spot { IsSpot (job_in circuit.now) place spot }
-    requires driver { (job_in circuit.now).driver spot.net ≡ Copy net }
+    requires within { place < places_of (job_in circuit.now) }
+    requires position { position ≡ place % (job_in circuit.now).width }
+    requires stands { Stands (job_in circuit.now) place kind.Copy pins.now }
     requires certain { (k : ℕ) → k < place → E.has earlier.now k }
     requires facts { AreFacts (job_in circuit.now) (E.reads earlier.now) (E.facts earlier.now) place }
     ensures { result ≡ class_here (job_in circuit.now) (E.reads earlier.now) place }
 {
-    let from = place_of(circuit, spot.step, net);
+    match pins {
+        [Pin::Net(other), ..] => {
+            class_from(circuit, earlier, place, place - position + *other as usize)
+        }
+        _ => unreachable!(),
+    }
+}
+
+/// The class of a copy, by the place that it reads.
+fn class_from<E: Earlier>(
+    circuit: &Circuit<'_>,
+    earlier: &E,
+    place: usize,
+    from: usize,
+) -> ClassByNumber
+    requires fits { CircuitFits circuit.now }
+    requires within { place < places_of (job_in circuit.now) }
+    requires copies { CopiesFrom (job_in circuit.now) place from }
+    requires certain { (k : ℕ) → k < place → E.has earlier.now k }
+    requires facts { AreFacts (job_in circuit.now) (E.reads earlier.now) (E.facts earlier.now) place }
+    ensures { result ≡ class_here (job_in circuit.now) (E.reads earlier.now) place }
+{
     match earlier.value(from) {
         Value::Zero => ClassByNumber::Local(false),
         Value::One => ClassByNumber::Local(true),
-        _ => if net_keeps(circuit, earlier, place, spot.step, net) {
+        _ => if earlier.keeps(from) {
             ClassByNumber::Carried(place_before(circuit, place), false)
         } else {
             ClassByNumber::Carried(from, false)
         },
+    }
+}
+
+/// The class of an input's place: where the recording knows its value it has that bit.
+pub fn input_class<E: Earlier>(circuit: &Circuit<'_>, earlier: &E, place: usize) -> ClassByNumber
+    requires fits { CircuitFits circuit.now }
+    requires within { place < places_of (job_in circuit.now) }
+    requires driver { (job_in circuit.now).driver (net_of (job_in circuit.now) place) ≡ Input }
+    requires certain { (k : ℕ) → k < place → E.has earlier.now k }
+    requires facts { AreFacts (job_in circuit.now) (E.reads earlier.now) (E.facts earlier.now) place }
+    ensures { result ≡ class_here (job_in circuit.now) (E.reads earlier.now) place }
+{
+    let spot = spot_of(circuit, place);
+    match recorded_at(circuit, spot.step, spot.net) {
+        Value::Zero => ClassByNumber::Local(false),
+        Value::One => ClassByNumber::Local(true),
+        _ => tried_class(circuit, earlier, place),
     }
 }
 

@@ -1,22 +1,23 @@
 //! The class of a place whose arguments are as they were a step before: that of its net's place there.
 
-ghost use Rattle.std.specs.Prelude.{◌≡◌, ℕ, ◌<◌};
+ghost use Rattle.std.specs.Prelude.{◌≡◌, ℕ, ◌%◌, ◌<◌, ◌≤◌};
 ghost use Rattle.std.specs.Bool.{OnTrue};
+ghost use Rattle.std.specs.List.{AllByRecursion};
 ghost use Rattle.xr_cell.specs.declared.value.Value.{Value as AnyValue};
-ghost use Rattle.xr_design.specs.Circuit.{job_in, CircuitFits, IsSpot};
-ghost use Rattle.xr_design.specs.Fits.{FitsRegister};
+ghost use Rattle.xr_design.specs.Circuit.{job_in, CircuitFits};
 ghost use Rattle.xr_design.specs.Job.{places_of};
 ghost use Rattle.xr_design.specs.Order.{net_pins};
-ghost use Rattle.xr_design.specs.declared.design.Driver.TheVariants.{Cell, Register};
+ghost use Rattle.xr_wiring.specs.declared.wiring.Kind.TheVariants as kind;
 ghost use Rattle.xr_class.specs.Facts.{AgreeBefore, AreFacts};
-ghost use Rattle.xr_class.specs.Keeps.{SeesTheSame, Standing, class_here};
+ghost use Rattle.xr_class.specs.Keeps.{class_here};
+ghost use Rattle.xr_class.specs.Wires.{PlaceSeesTheSame, Reaches, Stands, StandsCell, positions_keep};
 
 use crate::earlier::Earlier;
-use crate::keeps::{cell_chooses, pins_keep};
+use crate::keeps::cell_chooses;
 use crate::quick::plain_class;
 use crate::tried::tried_class;
 use xr_cell::Value;
-use xr_design::{Circuit, Latching, Pin, Source, Spot, Table, width_of};
+use xr_design::{Circuit, Pin, Source, Table, width_of};
 use xr_model::ClassByNumber;
 
 /// The class of a cell's place. Where its pins keep it gives at the step before what it gives here. Takes no memory.
@@ -24,26 +25,27 @@ pub fn cell_class<E: Earlier>(
     circuit: &Circuit<'_>,
     earlier: &E,
     place: usize,
-    spot: Spot,
+    position: usize,
     table: Table,
     pins: &[Pin],
 ) -> ClassByNumber
     requires fits { CircuitFits circuit.now }
-    requires spot { IsSpot (job_in circuit.now) place spot }
-    requires is { (job_in circuit.now).driver spot.net ≡ Cell table pins.now }
-    requires before { Standing (job_in circuit.now) spot (net_pins pins.now) }
+    requires within { place < places_of (job_in circuit.now) }
+    requires position { position ≡ place % (job_in circuit.now).width }
+    requires stands { StandsCell (job_in circuit.now) place table pins.now }
     requires certain { (k : ℕ) → k < place → E.has earlier.now k }
     requires facts { AreFacts (job_in circuit.now) (E.reads earlier.now) (E.facts earlier.now) place }
     requires agrees { AgreeBefore (job_in circuit.now) (E.reads earlier.now) place }
     ensures { result ≡ class_here (job_in circuit.now) (E.reads earlier.now) place }
 {
-    if spot.step == 0 {
+    let width = width_of(circuit);
+    if place < width {
         return tried_class(circuit, earlier, place);
     }
-    if !pins_keep(circuit, earlier, place, spot.step, pins) {
+    if !positions_keep(earlier, place - position, pins) {
         return tried_class(circuit, earlier, place);
     }
-    let back = place - width_of(circuit);
+    let back = place - width;
     if earlier.is_plain(back) {
         plain_class(earlier.value(back))
     } else if !cell_chooses(table, pins) {
@@ -60,19 +62,19 @@ pub fn register_class<E: Earlier>(
     circuit: &Circuit<'_>,
     earlier: &E,
     place: usize,
-    spot: Spot,
-    latching: &Latching,
+    position: usize,
+    pins: &[Pin],
 ) -> ClassByNumber
     requires fits { CircuitFits circuit.now }
-    requires spot { IsSpot (job_in circuit.now) place spot }
-    requires is { (job_in circuit.now).driver spot.net ≡ Register latching.now }
-    requires register { FitsRegister (job_in circuit.now).udps (job_in circuit.now).width latching.now }
+    requires within { place < places_of (job_in circuit.now) }
+    requires position { position ≡ place % (job_in circuit.now).width }
+    requires stands { Stands (job_in circuit.now) place kind.Register pins.now }
     requires certain { (k : ℕ) → k < place → E.has earlier.now k }
     requires facts { AreFacts (job_in circuit.now) (E.reads earlier.now) (E.facts earlier.now) place }
     requires agrees { AgreeBefore (job_in circuit.now) (E.reads earlier.now) place }
     ensures { result ≡ class_here (job_in circuit.now) (E.reads earlier.now) place }
 {
-    if !sees_the_same(circuit, earlier, place, spot, latching) {
+    if !sees_the_same(circuit, earlier, place, position, pins) {
         return tried_class(circuit, earlier, place);
     }
     let back = place - width_of(circuit);
@@ -88,32 +90,47 @@ fn sees_the_same<E: Earlier>(
     circuit: &Circuit<'_>,
     earlier: &E,
     place: usize,
-    spot: Spot,
-    latching: &Latching,
+    position: usize,
+    pins: &[Pin],
 ) -> bool
     requires fits { CircuitFits circuit.now }
-    requires spot { IsSpot (job_in circuit.now) place spot }
-    requires register { FitsRegister (job_in circuit.now).udps (job_in circuit.now).width latching.now }
+    requires within { place < places_of (job_in circuit.now) }
+    requires position { position ≡ place % (job_in circuit.now).width }
+    requires stands { Stands (job_in circuit.now) place kind.Register pins.now }
     requires certain { (k : ℕ) → k < place → E.has earlier.now k }
     requires facts { AreFacts (job_in circuit.now) (E.reads earlier.now) (E.facts earlier.now) place }
-    ensures { OnTrue result (SeesTheSame (job_in circuit.now) (E.reads earlier.now) spot.step spot.net latching.now) }
+    ensures later { OnTrue result ((job_in circuit.now).width ≤ place) }
+    ensures same { OnTrue result (PlaceSeesTheSame (job_in circuit.now) (E.reads earlier.now) place) }
 {
-    if spot.step < 3 {
+    let width = width_of(circuit);
+    let first = place - position;
+    if first < 3 * width {
         return false;
     }
-    let width = width_of(circuit);
     let here = earlier.value(place - width);
     let before = earlier.value(place - width - width);
     if !is_same(here, before) {
         return false;
     }
-    let pins = latching.pins.as_slice();
-    pins_keep(circuit, earlier, place, spot.step - 1, pins)
-        && pins_keep(circuit, earlier, place, spot.step - 2, pins)
+    positions_keep(earlier, first - width, pins)
+        && positions_keep(earlier, first - width - width, pins)
 }
 
 fn is_same(x: Value, y: Value) -> bool
     ensures { OnTrue result (x ≡ y) }
 {
     x == y
+}
+
+/// Whether the nets of pins, named by their positions, all keep at the step whose first place has a number.
+fn positions_keep<E: Earlier>(earlier: &E, first: usize, pins: &[Pin]) -> bool
+    requires { AllByRecursion (Reaches (E.has earlier.now) first) (net_pins pins.now) }
+    ensures { result ≡ positions_keep (E.facts earlier.now) first pins.now }
+{
+    match pins {
+        [] => true,
+        [Pin::Net(position), rest @ ..] => earlier.keeps(first + *position as usize)
+            && positions_keep(earlier, first, rest),
+        [_, rest @ ..] => positions_keep(earlier, first, rest),
+    }
 }

@@ -1,5 +1,5 @@
 -- What is kept of a place tells its class.
-use Rattle.std.proofs.Common.{◌≡◌, ℕ, ◌+◌, ◌<◌, ◌≤◌, ◌∙◌, true, false, sym, ap, arith}
+use Rattle.std.proofs.Common.{◌≡◌, ◌∙◌, true, false, sym, ap, arith}
 use Rattle.xr_design.specs.Circuit.{job_in}
 use Rattle.xr_model.specs.Class.{before, class_of}
 use Rattle.xr_model.specs.Yields.{is_line}

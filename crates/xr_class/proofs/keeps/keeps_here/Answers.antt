@@ -1,9 +1,7 @@
 -- A place behind the first step stands a width behind that of its net.
-use Rattle.std.proofs.Common.{◌≡◌, ◌-◌, ◌∙◌, ◌||◌, Bool, true, false, refl, sym, ap}
+use Rattle.std.proofs.Common.{◌≡◌, ◌∙◌, ◌||◌, Bool, true, false, refl, sym, ap}
 use Rattle.xr_design.specs.Circuit.{job_in}
-use Rattle.xr_design.specs.Job.{step_of}
 use Rattle.xr_model.specs.Class.{are_equal, before}
-use Rattle.xr_class.specs.Facts.{keeps_by}
 use Rattle.xr_class.proofs.StepBefore.{before_back, keeps_later, more_width}
 use Rattle.xr_class.proofs.keeps.keeps_here.Goals as goal
 

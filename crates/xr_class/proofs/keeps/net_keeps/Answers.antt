@@ -1,9 +1,8 @@
 -- What is kept of a place tells whether its net keeps there.
-use Rattle.std.proofs.Common.{◌≡◌, ◌∙◌, ap}
+use Rattle.std.proofs.Common.{◌∙◌, ap}
 use Rattle.xr_design.specs.Circuit.{job_in}
 use Rattle.xr_design.specs.Job.{at}
 use Rattle.xr_class.specs.Facts.{Facts}
-use Rattle.xr_class.specs.Keeps.{net_keeps}
 use Rattle.xr_class.proofs.StepBefore.{keeps_at}
 use Rattle.xr_class.proofs.keeps.net_keeps.Goals as goal
 

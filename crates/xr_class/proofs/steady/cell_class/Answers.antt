@@ -1,40 +1,38 @@
 -- A cell whose pins keep gives what it gave a step before.
-use Rattle.std.proofs.Common.{◌≡◌, ℕ, ◌-◌, ◌<◌, ◌≤◌, ◌∙◌, Bool, true, false, sym, ap, arith}
-use Rattle.std.specs.Prelude.{length}
+use Rattle.std.proofs.Common.{◌≡◌, ◌∙◌, true, false, sym, ap, arith}
 use Rattle.xr_design.specs.Circuit.{job_in}
-use Rattle.xr_design.specs.Job.{places_of}
-use Rattle.xr_design.specs.Order.{net_pins}
-use Rattle.xr_design.proofs.Reaching.{step_room}
-use Rattle.xr_model.specs.Class.{before, carries_on, class_of, is_never_unknown}
+use Rattle.xr_model.specs.Class.{before, class_of, is_never_unknown}
 use Rattle.xr_model.specs.declared.class.ClassByNumber.TheVariants.{Carried}
 use Rattle.xr_class.specs.Facts.{Facts, is_plain, place_carries, plain_class}
-use Rattle.xr_class.specs.Keeps.{nets_keep}
-use Rattle.xr_class.proofs.MixedClasses.{never_unknown}
-use Rattle.xr_class.proofs.SteadyClasses.{back_to, before_less, carrying_known, cell_kinds, cell_on, later_than_none, one_back, steady_open, steady_plain}
+use Rattle.xr_class.proofs.SteadyClasses.{carrying_known, steady_open, steady_plain}
+use Rattle.xr_class.proofs.StepBefore.{before_back, more_width}
+use Rattle.xr_class.proofs.WiredPlaces.{cell_here}
+use Rattle.xr_class.proofs.WiredSteady.{cell_known, cell_reach, cell_steady, net_back}
 use Rattle.xr_class.proofs.steady.cell_class.Goals as goal
 
-pub pins_keep-requires-clause-small : goal.pins_keep-requires-clause-small
-pins_keep-requires-clause-small g c =
-    step_room (job_in c.args.circuit.now) c.requires.fits.fits_job c.args.place c.args.spot c.requires.spot
+pub positions_keep-requires : goal.positions_keep-requires
+positions_keep-requires g c =
+    cell_reach (job_in c.args.circuit.now) c.requires.fits.fits_job (g.E.Source.has c.args.earlier.now) c.args.place
+    c.args.position c.args.table c.args.pins.now c.requires.within c.requires.position c.requires.stands c.requires.certain
 
 pub returns-then-is_plain : goal.returns-then-is_plain
 returns-then-is_plain g c =
     let j = job_in c.args.circuit.now in
     let certain = g.E.Source.reads c.args.earlier.now in
     let place = c.args.place in
-    let later = later_than_none c.args.spot.step c.if-spot-eq0.false in
-    let back = back_to j c.requires.fits.fits_job place c.width_of.result c.args.spot c.requires.spot c.width_of.ensures later in
-    let less = before_less j c.requires.fits.fits_job place c.args.spot c.requires.spot later in
-    let all = c.requires.spot.place_within in
-    let keep : nets_keep j certain c.args.spot.step (net_pins c.args.pins.now) ≡ true =
-    sym c.pins_keep.ensures ∙ c.if-not-pins_keep.false in
-    let kinds = cell_kinds j c.requires.fits.fits_job certain place c.args.spot c.args.table c.args.pins.now
-    c.requires.spot later c.requires.is c.requires.before c.requires.agrees keep in
+    let more = more_width j.width c.width_of-width.result place c.width_of-width.ensures c.if-place-width.false in
+    let back = before_back j c.requires.fits.fits_job place c.width_of-width.result c.requires.within c.width_of-width.ensures
+    c.if-place-width.false in
+    let all = c.requires.within in
+    let steady = cell_steady j c.requires.fits.fits_job certain (g.E.Earlier.facts c.args.earlier.now) place c.args.position
+    c.args.table c.args.pins.now c.requires.within c.requires.position c.requires.stands c.requires.facts c.requires.agrees
+    more (sym c.positions_keep.ensures ∙ c.if-not-positions_keep.false) in
+    let less = steady.less in
     let plain : is_plain (class_of j certain (before j place)) ≡ true =
     sym (c.is_plain.ensures ∙ ap (λ k. (g.E.Earlier.facts c.args.earlier.now k).plain) back
     ∙ ap (λ (facts : Facts). facts.plain) (c.requires.facts (before j place) less)) ∙ c.if-is_plain.true in
     c.plain_class.ensures ∙ ap plain_class (c.value.ensures ∙ ap certain back)
-    ∙ steady_plain j c.requires.fits.fits_job certain place (before j place) (omega (arith, less, all)) kinds
+    ∙ steady_plain j c.requires.fits.fits_job certain place (before j place) (omega (arith, less, all)) steady.kinds
     (c.requires.agrees (before j place) less) plain
 
 pub returns-then-not-cell_chooses : goal.returns-then-not-cell_chooses
@@ -42,38 +40,37 @@ returns-then-not-cell_chooses g c =
     let j = job_in c.args.circuit.now in
     let certain = g.E.Source.reads c.args.earlier.now in
     let place = c.args.place in
-    let later = later_than_none c.args.spot.step c.if-spot-eq0.false in
-    let back = back_to j c.requires.fits.fits_job place c.width_of.result c.args.spot c.requires.spot c.width_of.ensures later in
-    let less = before_less j c.requires.fits.fits_job place c.args.spot c.requires.spot later in
-    let all = c.requires.spot.place_within in
-    let keep : nets_keep j certain c.args.spot.step (net_pins c.args.pins.now) ≡ true =
-    sym c.pins_keep.ensures ∙ c.if-not-pins_keep.false in
-    let kinds = cell_kinds j c.requires.fits.fits_job certain place c.args.spot c.args.table c.args.pins.now
-    c.requires.spot later c.requires.is c.requires.before c.requires.agrees keep in
+    let more = more_width j.width c.width_of-width.result place c.width_of-width.ensures c.if-place-width.false in
+    let back = before_back j c.requires.fits.fits_job place c.width_of-width.result c.requires.within c.width_of-width.ensures
+    c.if-place-width.false in
+    let all = c.requires.within in
+    let steady = cell_steady j c.requires.fits.fits_job certain (g.E.Earlier.facts c.args.earlier.now) place c.args.position
+    c.args.table c.args.pins.now c.requires.within c.requires.position c.requires.stands c.requires.facts c.requires.agrees
+    more (sym c.positions_keep.ensures ∙ c.if-not-positions_keep.false) in
+    let less = steady.less in
     let open_is : is_plain (class_of j certain (before j place)) ≡ false =
     sym (c.is_plain.ensures ∙ ap (λ k. (g.E.Earlier.facts c.args.earlier.now k).plain) back
     ∙ ap (λ (facts : Facts). facts.plain) (c.requires.facts (before j place) less)) ∙ c.if-is_plain.false in
     let known : is_never_unknown j certain place ≡ true =
-    never_unknown j c.requires.fits.fits_job certain place c.args.table c.args.pins.now c.requires.spot.place_within
-    (ap j.driver (sym c.requires.spot.net) ∙ c.requires.is)
+    cell_known j c.requires.fits.fits_job certain place c.args.table c.args.pins.now c.requires.within c.requires.stands
     (sym c.cell_chooses.ensures ∙ c.if-not-cell_chooses.true) in
     ap (λ k. Carried k false) back
-    ∙ steady_open j c.requires.fits.fits_job certain place (before j place) (omega (arith, less, all)) kinds open_is
-    (cell_on j certain place c.args.spot c.args.table c.args.pins.now c.requires.spot later c.requires.is keep known)
+    ∙ steady_open j c.requires.fits.fits_job certain place (before j place) (omega (arith, less, all)) steady.kinds open_is
+    (steady.passes known)
 
 pub returns-then-carries_on : goal.returns-then-carries_on
 returns-then-carries_on g c =
     let j = job_in c.args.circuit.now in
     let certain = g.E.Source.reads c.args.earlier.now in
     let place = c.args.place in
-    let later = later_than_none c.args.spot.step c.if-spot-eq0.false in
-    let back = back_to j c.requires.fits.fits_job place c.width_of.result c.args.spot c.requires.spot c.width_of.ensures later in
-    let less = before_less j c.requires.fits.fits_job place c.args.spot c.requires.spot later in
-    let all = c.requires.spot.place_within in
-    let keep : nets_keep j certain c.args.spot.step (net_pins c.args.pins.now) ≡ true =
-    sym c.pins_keep.ensures ∙ c.if-not-pins_keep.false in
-    let kinds = cell_kinds j c.requires.fits.fits_job certain place c.args.spot c.args.table c.args.pins.now
-    c.requires.spot later c.requires.is c.requires.before c.requires.agrees keep in
+    let more = more_width j.width c.width_of-width.result place c.width_of-width.ensures c.if-place-width.false in
+    let back = before_back j c.requires.fits.fits_job place c.width_of-width.result c.requires.within c.width_of-width.ensures
+    c.if-place-width.false in
+    let all = c.requires.within in
+    let steady = cell_steady j c.requires.fits.fits_job certain (g.E.Earlier.facts c.args.earlier.now) place c.args.position
+    c.args.table c.args.pins.now c.requires.within c.requires.position c.requires.stands c.requires.facts c.requires.agrees
+    more (sym c.positions_keep.ensures ∙ c.if-not-positions_keep.false) in
+    let less = steady.less in
     let told = c.requires.facts (before j place) less in
     let open_is : is_plain (class_of j certain (before j place)) ≡ false =
     sym (c.is_plain.ensures ∙ ap (λ k. (g.E.Earlier.facts c.args.earlier.now k).plain) back
@@ -81,10 +78,11 @@ returns-then-carries_on g c =
     let on : place_carries j certain (before j place) ≡ true =
     sym (c.carries_on.ensures ∙ ap (λ k. (g.E.Earlier.facts c.args.earlier.now k).carries) back
     ∙ ap (λ (facts : Facts). facts.carries) told) ∙ c.if-carries_on.true in
-    let net_is = (one_back j c.requires.fits.fits_job place c.args.spot c.requires.spot later).back_net in
-    let known : is_never_unknown j certain place ≡ true = kinds.never
-    ∙ carrying_known j c.requires.fits.fits_job certain (before j place) c.args.table c.args.pins.now
-    (omega (arith, less, all)) (ap j.driver net_is ∙ c.requires.is) on in
+    let here = cell_here j place c.args.table c.args.pins.now c.requires.stands in
+    let known : is_never_unknown j certain place ≡ true = steady.kinds.never
+    ∙ carrying_known j c.requires.fits.fits_job certain (before j place) c.args.table here.own
+    (omega (arith, less, all)) (ap j.driver (net_back j c.requires.fits.fits_job place c.requires.within more)
+    ∙ here.driver) on in
     ap (λ k. Carried k false) back
-    ∙ steady_open j c.requires.fits.fits_job certain place (before j place) (omega (arith, less, all)) kinds open_is
-    (cell_on j certain place c.args.spot c.args.table c.args.pins.now c.requires.spot later c.requires.is keep known)
+    ∙ steady_open j c.requires.fits.fits_job certain place (before j place) (omega (arith, less, all)) steady.kinds open_is
+    (steady.passes known)
