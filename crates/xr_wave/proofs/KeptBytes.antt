@@ -1,5 +1,5 @@
 -- Bytes that say the facts of their places, as they grow.
-use Rattle.std.proofs.Common.{◌≡◌, ℕ, ◌+◌, ◌-◌, ◌%◌, ◌<◌, ◌≤◌, Bool, List, [], ◌∷◌, ◌++◌, length, map, refl, sym, ap, ◌∙◌, arith, subst, length-append, ◌⊎◌, inl, inr, ⊎_elim}
+use Rattle.std.proofs.Common.{◌≡◌, ℕ, ◌+◌, ◌%◌, ◌<◌, ◌≤◌, Bool, List, [], ◌∷◌, ◌++◌, length, map, refl, sym, ap, ◌∙◌, arith, subst, length-append, ⊎_elim}
 use Rattle.std.proofs.Math.ListN.{get_or-append}
 use Rattle.std.proofs.Math.Seq.{get_or-append_seam}
 use Rattle.std.proofs.lemmas.Bool.{cases_eq, cases_lt}
@@ -15,7 +15,7 @@ use Rattle.xr_model.specs.Yields.{is_line}
 use Rattle.xr_model.specs.declared.class.ClassByNumber.{ClassByNumber}
 use Rattle.xr_model.proofs.ClassesBefore.{class_local}
 use Rattle.xr_model.proofs.FactsBefore.{certain_grown, written_last}
-use Rattle.xr_class.specs.Facts.{Facts, facts, facts_by, facts_of, is_plain, keeps_by}
+use Rattle.xr_class.specs.Facts.{facts, facts_by, facts_of, is_plain, keeps_by}
 use Rattle.xr_class.proofs.StepBefore.{before_first, before_later, first_step}
 use Rattle.xr_wave.specs.Byte.{facts_in, facts_of_byte, written_of_byte}
 use Rattle.xr_wave.specs.Kept.{BytesTell, ValuesAgree, facts_next}

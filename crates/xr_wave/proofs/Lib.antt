@@ -2,6 +2,7 @@
 mod AgreeingValues
 mod ByteDigits
 mod FoundLines
+mod Fronts
 mod KeptBytes
 mod LineGrowth
 mod Nevers

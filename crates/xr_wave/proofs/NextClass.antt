@@ -1,9 +1,8 @@
 -- The class of the next place, and the places that it names.
-use Rattle.std.proofs.Common.{◌≡◌, ℕ, ◌*◌, ◌<◌, ◌≤◌, ◌==◌, Bool, true, false, Option, Some, None, List, [], ◌∷◌, ◌++◌, length, map, refl, sym, ap, ◌∙◌, arith, subst, ⊎_elim, if◌then◌else◌, IfSome}
+use Rattle.std.proofs.Common.{◌≡◌, ℕ, ◌*◌, ◌<◌, ◌≤◌, Bool, true, false, Option, Some, None, List, length, map, refl, ◌∙◌, arith, subst, ⊎_elim, if◌then◌else◌, IfSome}
 use Rattle.std.specs.Prelude.{nat_lt}
-use Rattle.std.specs.Bool.{OnTrue}
 use Rattle.std.specs.List.{AllByRecursion}
-use Rattle.std.proofs.lemmas.Bool.{and_parts, eqb-true, ltb-true, lt-ltb}
+use Rattle.std.proofs.lemmas.Bool.{ltb-true, lt-ltb}
 use Rattle.std.proofs.lemmas.List.{length-map}
 use Rattle.xr_cell.specs.declared.value.Value.{Value}
 use Rattle.xr_design.specs.declared.place.Place.{Place}
@@ -17,7 +16,7 @@ use Rattle.xr_design.specs.Rule.{arguments}
 use Rattle.xr_design.specs.Waveform.{certain}
 use Rattle.xr_design.proofs.Reaching.{step_small}
 use Rattle.xr_design.proofs.Rules.{position_in}
-use Rattle.xr_model.specs.Class.{before, carries_on, class_of}
+use Rattle.xr_model.specs.Class.{class_of}
 use Rattle.xr_model.specs.declared.class.ClassByNumber.{ClassByNumber}
 use Rattle.xr_model.specs.declared.class.ClassByNumber.TheVariants.{Local, Free, Carried, Line}
 use Rattle.xr_model.specs.Assignment.{argument_places}

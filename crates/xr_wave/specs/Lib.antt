@@ -1,6 +1,7 @@
 -- Definitions of waves.
 pub mod Byte
 pub mod Contents
+pub mod Front
 pub mod Kept
 pub mod Advance
 pub mod Token

@@ -1,6 +1,6 @@
 //! The bytes of the places that are written, as what is known of them.
 
-ghost use Rattle.std.specs.Prelude.{◌≡◌, ℕ, ◌<◌, ◌≤◌, ◌++◌, ◌∷◌, [], IfSome, length, map, vec_capacity};
+ghost use Rattle.std.specs.Prelude.{◌≡◌, ℕ, ◌+◌, ◌<◌, ◌≤◌, ◌++◌, ◌∷◌, [], IfSome, length, map, vec_capacity};
 ghost use Rattle.xr_cell.specs.declared.value.Value.{Value as AnyValue};
 ghost use Rattle.xr_design.specs.Circuit.{job_in, CircuitFits};
 ghost use Rattle.xr_design.specs.Job.{places_of};
@@ -8,15 +8,19 @@ ghost use Rattle.xr_design.specs.Waveform.{certain, certain_by};
 ghost use Rattle.xr_model.specs.Class.{before, carries_on};
 ghost use Rattle.xr_model.specs.Yields.{is_line};
 ghost use Rattle.xr_class.specs.Facts.{is_plain};
+ghost use Rattle.xr_class.specs.Wires.{AreWiresOf};
 ghost use Rattle.xr_wave.specs.Byte.{facts_in, facts_of_byte, written_of_byte};
 ghost use Rattle.xr_wave.specs.Contents.{next_class};
+ghost use Rattle.xr_wave.specs.Front.{StandsAt};
 ghost use Rattle.xr_wave.specs.Kept.{BytesTell, IsKept, ValuesAgree, facts_next};
 
 use crate::byte::{byte_of, carries_on, is_line, is_plain, keeps, written_in};
+use crate::front::Front;
 use xr_cell::Value;
 use xr_class::{Earlier, class_at, keeps_here, place_before};
 use xr_design::{Circuit, Mark, Source, Written, count_places};
 use xr_model::ClassByNumber;
+use xr_wiring::Wiring;
 
 /// What is known of the places that are written.
 #[derive(Clone, Copy, Debug)]
@@ -73,43 +77,51 @@ pub fn value_if_certain(written: Written) -> Value
     }
 }
 
-/// The class of the place behind those that are written, if there is one.
-pub fn class_behind(circuit: &Circuit<'_>, bytes: &[u8]) -> Option<ClassByNumber>
+/// The class of the place behind those that are written, if there is one, and where it stands.
+pub fn class_behind(
+    circuit: &Circuit<'_>,
+    wiring: &Wiring,
+    bytes: &[u8],
+    front: Front,
+) -> Option<ClassByNumber>
     requires fits { CircuitFits circuit.now }
+    requires wired { AreWiresOf circuit.now wiring.now }
     requires within { length bytes.now ≤ places_of (job_in circuit.now) }
+    requires front { StandsAt (job_in circuit.now) (length bytes.now) front }
     requires told { BytesTell (job_in circuit.now) bytes.now }
     requires agrees { ValuesAgree (job_in circuit.now) (map written_of_byte bytes.now) }
     ensures { result ≡ next_class (job_in circuit.now) (map written_of_byte bytes.now) }
 {
     let place = bytes.len();
     if place < count_places(circuit) {
-        Some(class_at(circuit, &Bytes { bytes }, place))
+        Some(class_at(circuit, wiring, &Bytes { bytes }, place, front.position))
     } else {
         None
     }
 }
 
-/// Appends the byte of the next place, whose class is given, and finds the class of the place behind it.
+/// Appends the byte of the next place, whose class is given.
 pub fn push_place(
     circuit: &Circuit<'_>,
     bytes: &mut Vec<u8>,
     next: Option<ClassByNumber>,
     written: Written,
-) -> Option<ClassByNumber>
+)
     requires fits { CircuitFits circuit.now }
     requires within { length bytes.old.items < places_of (job_in circuit.now) }
     requires room { places_of (job_in circuit.now) ≤ vec_capacity bytes.old }
     requires kept { IsKept circuit.now bytes.old.items next }
     requires agrees { ValuesAgree (job_in circuit.now) (map written_of_byte bytes.old.items ++ written ∷ []) }
     ensures written { map written_of_byte bytes.new.items ≡ map written_of_byte bytes.old.items ++ written ∷ [] }
-    ensures kept { IsKept circuit.now bytes.new.items result }
+    ensures told { BytesTell (job_in circuit.now) bytes.new.items }
+    ensures agrees { ValuesAgree (job_in circuit.now) (map written_of_byte bytes.new.items) }
+    ensures more { length bytes.new.items ≡ length bytes.old.items + 1 }
     ensures room { places_of (job_in circuit.now) ≤ vec_capacity bytes.new }
 {
     let byte = next_byte(circuit, bytes.as_slice(), next, written);
     if bytes.push(byte).is_err() {
         unreachable!()
     }
-    class_behind(circuit, bytes.as_slice())
 }
 
 /// The byte of the next place, whose class is given.

@@ -18,6 +18,7 @@ ghost use Rattle.xr_wave.specs.Token.{HasNext, IsLineNext, LineAgrees, LineHolds
 use crate::arguments::{Arguments, places_of_numbers};
 use crate::byte::written_in;
 use crate::bytes::{Bytes, class_behind, push_place};
+use crate::front::{Front, first_front, front_behind, place_there};
 use crate::places::{number_of, place_of};
 use std::alloc::Global;
 use std::marker::Model;
@@ -26,6 +27,7 @@ use xr_cell::Value;
 use xr_class::{argument_places, class_at, kept_class, rule_value};
 use xr_design::{Circuit, Design, History, Mark, Order, Place, Stim, Written, count_places};
 use xr_model::{Class, ClassByNumber, Line};
+use xr_wiring::Wiring;
 
 /// What is known of the places of a circuit so far, in place order, and the lines that say why.
 #[derive(Debug, Drop)]
@@ -37,12 +39,17 @@ pub struct Wave<'a> {
     lines: Vec<Line>,
     /// The class of the next place: each write finds it.
     next: Option<ClassByNumber>,
+    /// Where the next place stands.
+    front: Front,
+    wiring: Wiring,
 }
 
 impl<'a> Model for Wave<'a> {
-    ghost use Rattle.std.specs.Prelude.{◌≤◌, vec_capacity};
+    ghost use Rattle.std.specs.Prelude.{◌≤◌, length, vec_capacity};
     ghost use Rattle.xr_design.specs.Circuit.{job_in};
     ghost use Rattle.xr_design.specs.Job.{places_of};
+    ghost use Rattle.xr_class.specs.Wires.{AreWiresOf};
+    ghost use Rattle.xr_wave.specs.Front.{StandsAt};
     ghost use Rattle.xr_wave.specs.Contents.{Contents, IsWave};
     ghost use Rattle.xr_wave.specs.Kept.{IsKept, contents_of};
 
@@ -54,11 +61,13 @@ impl<'a> Model for Wave<'a> {
       right : IsWave (contents_of w.circuit w.replayed.now w.limit w.bytes.items w.lines.items);
       kept : IsKept w.circuit w.bytes.items w.next;
       room : places_of (job_in w.circuit) ≤ vec_capacity w.bytes;
+      wired : AreWiresOf w.circuit w.wiring;
+      front : StandsAt (job_in w.circuit) (length w.bytes.items) w.front;
     } };
 }
 
 impl<'a> Wave<'a> {
-    /// A wave of which nothing is written. Takes a byte for each place.
+    /// A wave of which nothing is written. Takes a byte for each place, 16 bytes for each net, and 8 to 24 for each pin.
     pub fn new(
         alloc: Global,
         design: &'a Design,
@@ -76,8 +85,10 @@ impl<'a> Wave<'a> {
             order,
             stim,
         };
+        let wiring = Wiring::of(alloc, design, order)?;
         let bytes = Vec::with_capacity(alloc, count_places(&circuit))?;
-        let next = class_behind(&circuit, bytes.as_slice());
+        let front = first_front(&circuit);
+        let next = class_behind(&circuit, &wiring, bytes.as_slice(), front);
         Ok(Wave {
             circuit,
             replayed,
@@ -85,6 +96,8 @@ impl<'a> Wave<'a> {
             bytes,
             lines: Vec::new(alloc),
             next,
+            front,
+            wiring,
         })
     }
 
@@ -137,9 +150,8 @@ impl<'a> Wave<'a> {
     pub fn next_place(&self) -> Option<Place>
         ensures { result ≡ next_place (job self.now) self.now.written }
     {
-        let number = self.bytes.len();
-        if number < count_places(&self.circuit) {
-            Some(place_of(&self.circuit, number))
+        if self.bytes.len() < count_places(&self.circuit) {
+            Some(place_there(&self.circuit, self.front))
         } else {
             None
         }
@@ -164,9 +176,10 @@ impl<'a> Wave<'a> {
             bytes: self.bytes.as_slice(),
         };
         if number < self.bytes.len() {
-            kept_class(&self.circuit, &bytes, number)
+            kept_class(&self.circuit, &self.wiring, &bytes, number)
         } else {
-            class_at(&self.circuit, &bytes, number)
+            let position = self.front.position;
+            class_at(&self.circuit, &self.wiring, &bytes, number, position)
         }
     }
 
@@ -262,8 +275,7 @@ impl<'a> Wave<'a> {
         ensures shown { result ≡ shown_in self.now (next_number self.now) }
         ensures wave { IsWave self.now }
     {
-        self.replayed
-            .shown(place_of(&self.circuit, self.bytes.len()))
+        self.replayed.shown(place_there(&self.circuit, self.front))
     }
 
     /// The next place, where there is one.
@@ -271,7 +283,7 @@ impl<'a> Wave<'a> {
         requires { HasNext self.now }
         ensures { result ≡ place_at (job self.now) (next_number self.now) }
     {
-        place_of(&self.circuit, self.bytes.len())
+        place_there(&self.circuit, self.front)
     }
 
     /// Gives the wave up for its lines.
@@ -285,6 +297,8 @@ impl<'a> Wave<'a> {
             bytes: _,
             lines,
             next: _,
+            front: _,
+            wiring: _,
         } = self;
         lines
     }
@@ -296,8 +310,10 @@ impl<'a> Wave<'a> {
     {
         let circuit = self.circuit;
         let next = self.next;
-        let behind = push_place(&circuit, &mut self.bytes, next, written);
-        self.next = behind;
+        let front = front_behind(&circuit, self.front, self.bytes.len());
+        push_place(&circuit, &mut self.bytes, next, written);
+        self.next = class_behind(&circuit, &self.wiring, self.bytes.as_slice(), front);
+        self.front = front;
         self
     }
 
@@ -322,8 +338,10 @@ impl<'a> Wave<'a> {
         }
         let circuit = self.circuit;
         let next = self.next;
-        let behind = push_place(&circuit, &mut self.bytes, next, written);
-        self.next = behind;
+        let front = front_behind(&circuit, self.front, self.bytes.len());
+        push_place(&circuit, &mut self.bytes, next, written);
+        self.next = class_behind(&circuit, &self.wiring, self.bytes.as_slice(), front);
+        self.front = front;
         Ok(self)
     }
 }

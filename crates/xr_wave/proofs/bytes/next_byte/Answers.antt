@@ -1,5 +1,5 @@
 -- The byte says what is found of the place.
-use Rattle.std.proofs.Common.{◌≡◌, ℕ, ◌∙◌, length, map, arith}
+use Rattle.std.proofs.Common.{◌≡◌, ◌∙◌, length, map}
 use Rattle.xr_design.specs.Circuit.{job_in}
 use Rattle.xr_design.specs.Job.{step_of}
 use Rattle.xr_design.specs.Waveform.{certain, certain_by}

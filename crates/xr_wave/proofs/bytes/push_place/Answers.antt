@@ -1,42 +1,24 @@
 -- The new byte says the facts of its place, and its value agrees with its class.
 use Rattle.std.proofs.Common.{◌≡◌, ℕ, ◌++◌, ◌∷◌, [], List, ◌∙◌, ap, arith}
 use Rattle.std.proofs.lemmas.Grind.{common_steps}
-use Rattle.std.specs.Prelude.{map}
 use Rattle.xr_design.specs.Circuit.{job_in}
-use Rattle.xr_wave.specs.Byte.{written_of_byte}
-use Rattle.xr_wave.specs.Contents.{next_class}
 use Rattle.xr_wave.specs.Kept.{facts_next}
 use Rattle.xr_wave.proofs.KeptBytes.{agrees_pushed, told_pushed}
 use Rattle.xr_wave.proofs.bytes.push_place.Goals as goal
 
-pub class_behind-requires-clause-told : goal.class_behind-requires-clause-told
-class_behind-requires-clause-told c =
+pub returns-clause-told : goal.returns-clause-told
+returns-clause-told c =
     let bytes = c.args.bytes.now.items in
-    let items : c.as_slice-2.result.now ≡ bytes ++ c.next_byte-byte.result ∷ [] = grind (arith, common_steps) in
+    let items : c.push.new.self.items ≡ bytes ++ c.next_byte-byte.result ∷ [] = grind (arith, common_steps) in
     told_pushed (job_in c.args.circuit.now) c.requires.fits.fits_job bytes c.next_byte-byte.result c.args.written
     c.requires.within c.requires.kept.told c.next_byte-byte.ensures.written
     (c.next_byte-byte.ensures.facts
     ∙ ap (λ (bs : List ℕ). facts_next (job_in c.args.circuit.now) bs c.args.written) c.as_slice.ensures.value)
-    c.as_slice-2.result.now items
+    c.push.new.self.items items
 
-pub class_behind-requires-clause-agrees : goal.class_behind-requires-clause-agrees
-class_behind-requires-clause-agrees c =
-    let bytes = c.args.bytes.now.items in
-    let items : c.as_slice-2.result.now ≡ bytes ++ c.next_byte-byte.result ∷ [] = grind (arith, common_steps) in
-    agrees_pushed (job_in c.args.circuit.now) bytes c.next_byte-byte.result c.args.written c.requires.agrees
-    c.next_byte-byte.ensures.written c.as_slice-2.result.now items
-
-pub returns-clause-kept : goal.returns-clause-kept
-returns-clause-kept c =
-    let j = job_in c.args.circuit.now in
+pub returns-clause-agrees : goal.returns-clause-agrees
+returns-clause-agrees c =
     let bytes = c.args.bytes.now.items in
     let items : c.push.new.self.items ≡ bytes ++ c.next_byte-byte.result ∷ [] = grind (arith, common_steps) in
-    record {
-      told = told_pushed j c.requires.fits.fits_job bytes c.next_byte-byte.result c.args.written c.requires.within
-          c.requires.kept.told c.next_byte-byte.ensures.written
-          (c.next_byte-byte.ensures.facts ∙ ap (λ (bs : List ℕ). facts_next j bs c.args.written) c.as_slice.ensures.value)
-          c.push.new.self.items items;
-      agrees = agrees_pushed j bytes c.next_byte-byte.result c.args.written c.requires.agrees
-          c.next_byte-byte.ensures.written c.push.new.self.items items;
-      next_is = c.class_behind.ensures ∙ ap (λ (bs : List ℕ). next_class j (map written_of_byte bs)) c.as_slice-2.ensures.value;
-    }
+    agrees_pushed (job_in c.args.circuit.now) bytes c.next_byte-byte.result c.args.written c.requires.agrees
+    c.next_byte-byte.ensures.written c.push.new.self.items items
