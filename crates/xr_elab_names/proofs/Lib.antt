@@ -1,3 +1,4 @@
 -- Lemmas of xr_elab_names.
 pub mod SetLemmas
 pub mod Naming
+pub mod Outlining

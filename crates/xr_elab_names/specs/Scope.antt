@@ -1,12 +1,10 @@
 -- The names of a module under way.
-use Rattle.std.specs.Prelude.{◌≡◌, ℕ, ◌+◌, ◌≤◌, ◌^◌, Option, Some, List, [], ◌∷◌, ◌++◌, bytes_eq, Ok, Err, if◌then◌else◌}
-use Rattle.std.specs.Borrow.{Bor}
+use Rattle.std.specs.Prelude.{ℕ, Option, List, [], ◌∷◌, ◌++◌, bytes_eq, Ok, Err, if◌then◌else◌}
 use Rattle.std.specs.Map.{lookup}
 use Rattle.xr_design.specs.declared.name.NamePart.{NamePart}
 use Rattle.xr_netlist_grammar.specs.declared.tree.Word.{Word}
 use Rattle.xr_elab_nets.specs.declared.fault.ElabErr.TheVariants.{BadName}
 use Rattle.xr_elab_nets.specs.Outcome.{Outcome}
-use Rattle.xr_elab_nets.specs.State.{net_count}
 use Rattle.xr_elab_names.specs.Sets.{has}
 use Rattle.xr_elab_names.specs.declared.scope.Entry.{Entry}
 
@@ -24,15 +22,6 @@ entry_of s name = lookup (bytes_eq name) s.names
 
 abbrev pub with_name : List ℕ → Entry → Scope → Scope
 with_name name e s = record s { names = s.names ++ (name, e) ∷ [] }
-
--- what the map has
-abbrev pub names_in : List (Bor (List ℕ) × Entry) → List (List ℕ × Entry)
-names_in [] = []
-names_in (e ∷ es) = (e.0.now, e.1) ∷ names_in es
-
--- The nets of each name are among the first 2^20.
-abbrev pub HaveNets : List (List ℕ × Entry) → Type 0
-HaveNets names = (name : List ℕ) (e : Entry) → lookup (bytes_eq name) names ≡ Some e → e.base + net_count e.what e.range ≤ 2 ^ 20
 
 -- A module names each of its instances once.
 abbrev pub named_instance : Word → Scope → Outcome Scope

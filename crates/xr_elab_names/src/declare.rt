@@ -121,7 +121,7 @@ fn declare_name<'t>(
 }
 
 /// Whether a second declaration changes nothing.
-fn repeats(entry: Entry, declare: &Declare) -> bool
+pub(crate) fn repeats(entry: Entry, declare: &Declare) -> bool
     ensures { result ≡ spec.repeats entry declare.now }
 {
     let again = is_same_kind(entry.what, declare.what);
@@ -129,7 +129,7 @@ fn repeats(entry: Entry, declare: &Declare) -> bool
     (again || as_wire) && is_same_range(entry.range, declare.range)
 }
 
-fn is_directed(what: NetKind) -> bool
+pub(crate) fn is_directed(what: NetKind) -> bool
     ensures { result ≡ spec.is_directed what }
 {
     matches!(what, NetKind::Input | NetKind::Output)

@@ -1,11 +1,16 @@
-//! The names of a module under way: its declarations, its ports and its instances. Start at `Scope` and `open_module`.
+//! The names of a module under way: its declarations, its ports and its instances. Start at `Scope`, `Declarations` and
+//! `open_module`.
 #![tactic(auto)]
 
+mod declarations;
 mod declare;
+mod name_map;
 mod name_set;
+mod outline;
 mod ports;
 mod scope;
 
+pub use declarations::Declarations;
 pub use declare::{introduce, open_module};
 pub use name_set::NameSet;
 pub use ports::PortNames;

@@ -1,13 +1,16 @@
--- The map means the list.
+-- A name is shared, or the scope's own.
 use Rattle.std.proofs.Common.{◌∙◌, sym, ap}
-use Rattle.xr_elab_names.specs.Scope.{Scope, entry_of, names_in}
-use Rattle.xr_elab_names.proofs.Naming.{found_is, few_found}
+use Rattle.xr_elab_names.specs.NameMap.{shared_from}
+use Rattle.xr_elab_names.specs.Scope.{Scope, entry_of}
+use Rattle.xr_elab_names.proofs.Naming.{known_before, known_behind}
 use Rattle.xr_elab_names.proofs.scope.Scope.find.Goals as goal
 
-pub returns-clause-found : goal.returns-clause-found
-returns-clause-found c =
-    c.copied.ensures ∙ c.get.ensures.value ∙ sym (found_is c.self.inside.names.entries c.args.name.now) ∙ ap (λ (s : Scope). entry_of s c.args.name.now) c.self.view_is
+pub returns-in-Some-clause-found : goal.returns-in-Some-clause-found
+returns-in-Some-clause-found c =
+    sym (known_before (shared_from c.self.inside.base c.self.inside.shared) c.self.inside.own c.args.name.now c.in-Some.entry (sym c.find_shared.ensures ∙ c.in-Some.is))
+    ∙ ap (λ (s : Scope). entry_of s c.args.name.now) c.self.view_is
 
-pub returns-clause-few : goal.returns-clause-few
-returns-clause-few c =
-    few_found c.copied.result (names_in c.self.inside.names.entries) c.args.name.now c.self.invariant (c.copied.ensures ∙ c.get.ensures.value ∙ sym (found_is c.self.inside.names.entries c.args.name.now))
+pub returns-in-None-clause-found : goal.returns-in-None-clause-found
+returns-in-None-clause-found c =
+    c.find.ensures.found ∙ sym (known_behind (shared_from c.self.inside.base c.self.inside.shared) c.self.inside.own c.args.name.now (sym c.find_shared.ensures ∙ c.in-None.is))
+    ∙ ap (λ (s : Scope). entry_of s c.args.name.now) c.self.view_is
