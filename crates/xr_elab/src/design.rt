@@ -19,7 +19,6 @@ use std::alloc::Global;
 use xr_base::Items;
 use xr_cell::Udp;
 use xr_design::Design;
-use xr_elab_names::{Scope, open_module};
 use xr_elab_nets::{ElabErr, Nets};
 use xr_elab_prims::{Clocks, Definition, Definitions, build_primitives};
 use xr_netlist_grammar::Source;
@@ -28,9 +27,9 @@ use xr_netlist_grammar::Source;
 const MOST_MODULES: usize = 32;
 
 /// The design of a text's tree, with the module named `top` as its top, or the first reason why there is none: first
-/// the names of all definitions, then the primitives, then the top. Takes some 300 bytes for each net two instances below
-/// the top, 64 more for each instance further down, and for each definition the memory of its name, its ports and its
-/// level.
+/// the names of all definitions, then the primitives, then the top. Takes some 300 bytes for each net two instances
+/// below the top, 64 more for each instance further down, and for each definition the memory of its name, its level, its
+/// ports, the names that it declares and a reference for each of its items.
 #[tactic(auto, using(crate::proofs::Answering::answer_by, crate::proofs::Answering::fits))]
 pub fn elaborate(alloc: Global, source: &Source, top: &str) -> Result<Design, ElabErr>
     requires whole { IsWhole source.now }
@@ -87,15 +86,14 @@ fn find_top(alloc: Global, library: &Library<'_>, name: &[u8]) -> Result<usize, 
 }
 
 /// The nets of the module at a position, as the top.
-fn fill_top(alloc: Global, library: &Library<'_>, k: usize) -> Result<Nets, ElabErr>
+fn fill_top<'t>(alloc: Global, library: &'t Library<'t>, k: usize) -> Result<Nets, ElabErr>
     requires { k < length library.now.source.modules }
     ensures { Gives (spec.whole library.now k) result (λ nets. finished library.now.tables nets) }
 {
     let mut nets = Nets::new(alloc);
-    let mut scope = Scope::new(alloc, Items::from_vec(Vec::new(alloc)));
     let mut clocks = Clocks::new(alloc, library.udps());
-    let items = library.module(k).items.as_slice();
-    open_module(alloc, &mut scope, &mut nets, library.ports(k), items)?;
+    let prefix = Items::from_vec(Vec::new(alloc));
+    let mut scope = library.module(k).open(alloc, prefix, &mut nets)?;
     let path = extended(alloc, &[], k)?;
     add_items(
         alloc,
@@ -105,7 +103,7 @@ fn fill_top(alloc: Global, library: &Library<'_>, k: usize) -> Result<Nets, Elab
         MOST_MODULES,
         &mut scope,
         &mut nets,
-        items,
+        k,
     )?;
     Ok(nets)
 }

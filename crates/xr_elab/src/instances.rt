@@ -7,6 +7,7 @@ ghost use Rattle.xr_elab_prims.specs.Definitions.{definition_of};
 ghost use Rattle.xr_elab_prims.specs.declared.definitions.Definition.TheVariants as definition;
 ghost use Rattle.xr_elab_nets.specs.declared.fault.ElabErr.TheVariants.{PortMismatch};
 ghost use Rattle.xr_elab_tree.specs.Elaborate as spec;
+ghost use Rattle.xr_elab_tree.specs.Library.{module_of};
 ghost use Rattle.xr_elab.specs.Held.{PassesOver};
 
 use crate::library::Library;
@@ -19,27 +20,31 @@ use xr_elab_nets::{ElabErr, Nets};
 use xr_elab_prims::{Clocks, Definition};
 use xr_netlist_grammar::{InstanceItem, Item, Word};
 
-/// The items of a module, where the path before it may have `room` modules more.
+/// The items that are left of the module at a position once it is open, where the path before it may have `room` modules
+/// more.
 #[cycle(instances)]
-#[tactic(auto, using(crate::proofs::Bodies::body_is))]
+#[tactic(auto, using(crate::proofs::Bodies::body_left))]
 pub fn add_items<'t>(
     alloc: Global,
-    library: &Library<'t>,
+    library: &'t Library<'t>,
     clocks: &mut Clocks<'t>,
     path: &[usize],
     room: usize,
     scope: &mut Scope<'t>,
     nets: &mut Nets,
-    items: &'t [Item],
+    k: usize,
 ) -> Result<(), ElabErr>
     requires some { 0 < room }
+    requires within { k < length library.now.source.modules }
     requires tables { clocks.old ≡ library.now.tables }
     ensures made { let here = here_of scope.old nets.old in
-        Gives (spec.body library.now room path.now items.now here) result (λ _. here_of scope.new nets.new) }
+        let items = (module_of library.now k).items in
+        Gives (spec.body library.now room path.now items here) result (λ _. here_of scope.new nets.new) }
     ensures same { clocks.new ≡ clocks.old }
 {
+    let items = library.module(k).left();
     'items: for item in items {
-        match item {
+        match *item {
             Item::Declare(declare) => add_value(alloc, scope, nets, declare)?,
             Item::Gate(gate) => add_gate(alloc, scope, nets, gate)?,
             Item::Assign(left, right) => add_assign(alloc, scope, nets, left, right)?,
@@ -55,7 +60,7 @@ pub fn add_items<'t>(
 #[cycle(instances)]
 fn add_instance<'t>(
     alloc: Global,
-    library: &Library<'t>,
+    library: &'t Library<'t>,
     clocks: &mut Clocks<'t>,
     path: &[usize],
     room: usize,
@@ -87,7 +92,7 @@ fn add_instance<'t>(
 /// An instance of the primitive at a position.
 fn add_primitive<'t>(
     alloc: Global,
-    library: &Library<'t>,
+    library: &'t Library<'t>,
     clocks: &mut Clocks<'t>,
     path: &[usize],
     room: usize,
@@ -112,7 +117,7 @@ fn add_primitive<'t>(
 #[cycle(instances)]
 fn add_module<'t>(
     alloc: Global,
-    library: &Library<'t>,
+    library: &'t Library<'t>,
     clocks: &mut Clocks<'t>,
     path: &[usize],
     room: usize,
@@ -133,8 +138,7 @@ fn add_module<'t>(
         pass(library, path, room, k, scope, nets, item)?;
         return Ok(());
     }
-    let unit = library.module(k);
-    let mut inner = join(alloc, scope, nets, library.ports(k), unit, item)?;
+    let mut inner = join(alloc, scope, nets, library.module(k), item)?;
     let path = extended(alloc, path, k)?;
     add_items(
         alloc,
@@ -144,7 +148,7 @@ fn add_module<'t>(
         room,
         &mut inner,
         nets,
-        unit.items.as_slice(),
+        k,
     )?;
     Ok(())
 }
@@ -169,7 +173,7 @@ fn enter(alloc: Global, path: &[usize], room: usize, name: &[u8], k: usize) -> R
 
 /// Passes an instance over: its name is taken.
 fn pass<'t>(
-    library: &Library<'t>,
+    library: &'t Library<'t>,
     path: &[usize],
     room: usize,
     k: usize,

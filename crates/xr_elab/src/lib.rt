@@ -1,8 +1,8 @@
 //! The design that a netlist's tree stands for (IEEE 1364-2005, clause 12), or the first reason why there is none.
 //!
-//! Start at `elaborate`; its definition stands in xr_elab_tree. A module's items are gone through for each of its
-//! instances (`instances.rt`), but an instance of a module that makes no net is passed over where depth and path allow
-//! (`quiet.rt`).
+//! Start at `elaborate`; its definition stands in xr_elab_tree. What a module declares is worked out once (`library.rt`),
+//! and for each of its instances only the items are gone through that have something left to do (`instances.rt`). An
+//! instance of a module that makes no net is passed over where depth and path allow (`quiet.rt`).
 #![tactic(auto)]
 
 mod design;

@@ -1,26 +1,26 @@
 //! What the instances of a text name.
 
-ghost use Rattle.std.specs.Prelude.{◌≡◌, ◌<◌, IfOk, length};
+ghost use Rattle.std.specs.Prelude.{◌≡◌, ◌<◌, IfOk, length, slice_index_or};
 ghost use Rattle.xr_design.specs.Job.{primitive_of};
-ghost use Rattle.xr_elab.specs.Held.{ports_of as spec_ports_of};
+ghost use Rattle.xr_elab_tree.specs.Library.{no_module};
 
 use crate::levels::levels_of;
 use crate::quiet::{MOST_LEVEL, are_from, connects_nothing, level_at};
 use std::alloc::{AllocError, Global};
 use std::marker::Model;
 use xr_cell::Udp;
-use xr_elab_names::PortNames;
+use xr_elab_names::Declarations;
 use xr_elab_prims::{Definition, Definitions};
 use xr_netlist_grammar::{InstanceItem, Module, Source};
 
-/// The definitions of a text, the tables of its primitives, and what is worked out once for each module: its ports, and
-/// a level where it makes no net.
+/// The definitions of a text, the tables of its primitives, and what is worked out once for each module: what its
+/// declarations and ports come to, which items are left then, and a level where it makes no net.
 #[derive(Drop)]
 pub struct Library<'t> {
     source: &'t Source,
     definitions: Definitions<'t>,
     udps: &'t [Udp],
-    ports: Vec<PortNames<'t>>,
+    modules: Vec<Declarations<'t>>,
     levels: Vec<u32>,
 }
 
@@ -32,7 +32,7 @@ impl<'t> Model for Library<'t> {
 
     ghost view = { λ l. library_of l.source.now l.udps.now };
 
-    ghost invariant = { λ l. IsHeld l.source.now l.definitions l.udps.now l.ports.items l.levels.items };
+    ghost invariant = { λ l. IsHeld l.source.now l.definitions l.udps.now l.modules.items l.levels.items };
 }
 
 impl<'t> Library<'t> {
@@ -54,14 +54,13 @@ impl<'t> Library<'t> {
         requires tables { AreTables source.now udps.now }
         ensures { IfOk result (λ l. l ≡ library_of source.now udps.now) }
     {
-        let modules = source.modules.as_slice();
-        let ports = ports_of(alloc, modules)?;
-        let levels = levels_of(alloc, &definitions, modules)?;
+        let modules = modules_of(alloc, source.modules.as_slice())?;
+        let levels = levels_of(alloc, &definitions, source.modules.as_slice())?;
         Ok(Library {
             source,
             definitions,
             udps,
-            ports,
+            modules,
             levels,
         })
     }
@@ -92,20 +91,12 @@ impl<'t> Library<'t> {
         udp_at(self.udps, k)
     }
 
-    /// The module at a position. Takes no memory.
-    pub fn module(&self, k: usize) -> &'t Module
+    /// The module at a position, with what its declarations come to. Takes no memory.
+    pub fn module(&self, k: usize) -> &Declarations<'t>
         requires { k < length self.now.source.modules }
         ensures { result.now ≡ module_of self.now k }
     {
-        &self.source.modules.as_slice()[k]
-    }
-
-    /// The ports of the module at a position. Takes no memory.
-    pub fn ports(&self, k: usize) -> &PortNames<'t>
-        requires { k < length self.now.source.modules }
-        ensures { result.now ≡ (module_of self.now k).ports }
-    {
-        &self.ports[k]
+        module_at(&self.modules, k)
     }
 
     /// Whether depth and path allow that an instance of a module that makes no net is passed over. The path may have
@@ -121,15 +112,22 @@ impl<'t> Library<'t> {
     }
 }
 
-/// The ports of each module, in the order of the text.
-fn ports_of<'t>(alloc: Global, modules: &'t [Module]) -> Result<Vec<PortNames<'t>>, AllocError>
-    ensures { IfOk result (λ ports. ports.items ≡ spec_ports_of modules.now) }
+/// What the declarations of each module come to, in the order of the text.
+fn modules_of<'t>(alloc: Global, modules: &'t [Module]) -> Result<Vec<Declarations<'t>>, AllocError>
+    ensures { IfOk result (λ all. all.items ≡ modules.now) }
 {
-    let mut ports = Vec::new(alloc);
+    let mut all = Vec::new(alloc);
     'modules: for unit in modules {
-        ports.push(PortNames::new(alloc, unit.ports.as_slice())?)?;
+        all.push(Declarations::new(alloc, unit)?)?;
     }
-    Ok(ports)
+    Ok(all)
+}
+
+fn module_at<'l, 't>(modules: &'l [Declarations<'t>], k: usize) -> &'l Declarations<'t>
+    requires { k < length modules.now }
+    ensures { result.now ≡ slice_index_or modules.now k no_module }
+{
+    &modules[k]
 }
 
 fn udp_at(udps: &[Udp], k: usize) -> &Udp

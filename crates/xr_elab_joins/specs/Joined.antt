@@ -6,7 +6,7 @@ use Rattle.xr_netlist_grammar.specs.declared.tree.InstanceItem.{InstanceItem}
 use Rattle.xr_design.specs.declared.name.NamePart.{NamePart}
 use Rattle.xr_elab_nets.specs.declared.fault.ElabErr.TheVariants.{PortMismatch}
 use Rattle.xr_elab_nets.specs.Outcome.{Outcome, after, or_refuse}
-use Rattle.xr_elab_nets.specs.State.{State, part_of}
+use Rattle.xr_elab_nets.specs.State.{part_of}
 use Rattle.xr_elab_names.specs.Scope.{Scope, scope_of, named_instance}
 use Rattle.xr_elab_names.specs.Here.{Here, here_of}
 use Rattle.xr_elab_names.specs.Names.{opened}

@@ -5,6 +5,3 @@ mod connect;
 mod joining;
 
 pub use joining::join;
-
-#[cfg(test)]
-mod tests;

@@ -23,7 +23,7 @@ use Rattle.xr_elab_names.specs.Sets.{has, is_among}
 use Rattle.xr_elab_names.specs.Scope.{scope_of}
 use Rattle.xr_elab_names.specs.Here.{Here, here_of, entry}
 use Rattle.xr_elab_names.specs.Names.{is_directed, repeats, declared_again, declared, all_declared, has_direction, ports_checked, opened}
-use Rattle.xr_elab_names.specs.Outline.{Outline, no_outline, declares_in, is_reg, with_declared, noted_again, noted, and_then, all_noted, Counts, all_made, outlined, AreOutlined, is_left, left_of, items_in}
+use Rattle.xr_elab_names.specs.Outline.{Outline, no_outline, declares_in, is_reg, with_declared, noted_again, noted, and_then, all_noted, Counts, all_made, outlined, made_from, AreOutlined, is_left, left_of, items_in}
 use Rattle.xr_elab_names.proofs.Naming.{each_more, found_from}
 
 -- ---- references
@@ -229,18 +229,18 @@ ports_from prefix base ns seen (p ∷ ps) is =
 -- A module whose declarations and ports are in order opens as its outline says, where there is room for its nets.
 pub opens : (ports : List Word) (items : List Item) (o : Outline) (prefix : List NamePart) (s : State) → all_noted ports items no_outline ≡ Some o
     → ports_checked (scope_of [] o.names []) [] ports ≡ Ok (scope_of [] o.names []) → length s.names + o.count ≤ 2 ^ 20
-    → opened ports items (here_of (scope_of prefix [] []) s) ≡ after (all_made prefix o.makers s) (λ t. Ok (outlined prefix (length s.names) o t))
+    → opened ports items (here_of (scope_of prefix [] []) s) ≡ made_from prefix o s
 opens ports items o prefix s all right few =
     let d = all_declares prefix (length s.names) s ports items no_outline o s all none_counts few refl (omega arith) in
     rw (d.is, ports_from prefix (length s.names) o.names [] ports right, d.nets) refl
 
 -- So it is with a module that is held with its outline.
 pub opens_unit : (ports : List Word) (unit m : Module) (k : Option Outline) (o : Outline) (prefix : List NamePart) (s : State) → ports ≡ unit.ports → AreOutlined ports unit.items k → k ≡ Some o → unit ≡ m
-    → length s.names + o.count ≤ 2 ^ 20 → opened m.ports m.items (here_of (scope_of prefix [] []) s) ≡ after (all_made prefix o.makers s) (λ t. Ok (outlined prefix (length s.names) o t))
+    → length s.names + o.count ≤ 2 ^ 20 → opened m.ports m.items (here_of (scope_of prefix [] []) s) ≡ made_from prefix o s
 opens_unit ports unit m k o prefix s same right is held few =
     let both = subst (AreOutlined ports unit.items) is right in
-    subst (λ (u : Module). opened u.ports u.items (here_of (scope_of prefix [] []) s) ≡ after (all_made prefix o.makers s) (λ t. Ok (outlined prefix (length s.names) o t))) held
-    (subst (λ (ps : List Word). opened ps unit.items (here_of (scope_of prefix [] []) s) ≡ after (all_made prefix o.makers s) (λ t. Ok (outlined prefix (length s.names) o t))) same
+    subst (λ (u : Module). opened u.ports u.items (here_of (scope_of prefix [] []) s) ≡ made_from prefix o s) held
+    (subst (λ (ps : List Word). opened ps unit.items (here_of (scope_of prefix [] []) s) ≡ made_from prefix o s) same
     (opens ports unit.items o prefix s both.0 both.1 few))
 
 -- A refusal that is handed on.

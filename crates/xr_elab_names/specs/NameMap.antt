@@ -12,7 +12,8 @@ names_in (e ∷ es) = (e.0.now, e.1) ∷ names_in es
 
 -- The nets of each name are among the first 2^20.
 abbrev pub HaveNets : List (List ℕ × Entry) → Type 0
-HaveNets names = (name : List ℕ) (e : Entry) → lookup (bytes_eq name) names ≡ Some e → e.base + net_count e.what e.range ≤ 2 ^ 20
+HaveNets names = (name : List ℕ) (e : Entry) → lookup (bytes_eq name) names ≡ Some e
+    → e.base + net_count e.what e.range ≤ 2 ^ 20
 
 -- The same names with their nets behind so many.
 abbrev pub entry_from : ℕ → Entry → Entry

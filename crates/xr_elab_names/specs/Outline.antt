@@ -1,5 +1,5 @@
 -- What the declarations of a module come to, worked out once for all of its instances.
-use Rattle.std.specs.Prelude.{◌≡◌, ℕ, ◌+◌, ◌≤◌, ◌^◌, Bool, true, false, nat_le, not, ◌&&◌, Option, Some, None, is_some, List, [], ◌∷◌, ◌++◌, bytes_eq, Ok, if◌then◌else◌}
+use Rattle.std.specs.Prelude.{◌≡◌, ℕ, ◌+◌, ◌≤◌, ◌^◌, Bool, true, false, nat_le, not, ◌&&◌, Option, Some, None, is_some, List, [], ◌∷◌, ◌++◌, length, bytes_eq, Ok, if◌then◌else◌}
 use Rattle.std.specs.Borrow.{Bor}
 use Rattle.std.specs.Map.{lookup}
 use Rattle.xr_design.specs.declared.name.NamePart.{NamePart}
@@ -57,7 +57,9 @@ noted_again None d o = if nat_le (o.count + net_count d.what d.range) (2 ^ 20) t
 -- A direction is for a port.
 abbrev pub noted : List Word → Declare → Outline → Option Outline
 noted ports d o =
-    if is_directed d.what && not (is_among ports d.name.text) then None else noted_again (lookup (bytes_eq d.name.text) o.names) d o
+    if is_directed d.what && not (is_among ports d.name.text)
+    then None
+    else noted_again (lookup (bytes_eq d.name.text) o.names) d o
 
 abbrev pub and_then : Option Outline → (Outline → Option Outline) → Option Outline
 and_then (Some o) next = next o
@@ -77,7 +79,8 @@ Tells wanted seen false = wanted ≡ None
 -- The nets of each name are among so many, of which there are at most 2^20.
 pub record Counts (names : List (List ℕ × Entry)) (count : ℕ) : Type 0 where
   pub few : count ≤ 2 ^ 20
-  pub within : (name : List ℕ) (e : Entry) → lookup (bytes_eq name) names ≡ Some e → e.base + net_count e.what e.range ≤ count
+  pub within : (name : List ℕ) (e : Entry) → lookup (bytes_eq name) names ≡ Some e
+      → e.base + net_count e.what e.range ≤ count
 
 -- The nets of declarations, in their order.
 abbrev pub all_made : List NamePart → List Declare → State → Outcome State
@@ -87,6 +90,10 @@ all_made prefix (d ∷ ds) s = after (made prefix d.what d.range d.name s) (λ m
 -- A module behind these instances, with these names, whose nets begin at a number.
 abbrev pub outlined : List NamePart → ℕ → Outline → State → Here
 outlined prefix base o s = here_of (scope_of prefix (names_from base o.names) []) s
+
+-- A module is opened as its outline says: its nets are made behind those that are there.
+abbrev pub made_from : List NamePart → Outline → State → Outcome Here
+made_from prefix o s = after (all_made prefix o.makers s) (λ t. Ok (outlined prefix (length s.names) o t))
 
 -- What is left of a module's items once it is open: of its declarations those that have a value.
 abbrev pub is_left : Item → Bool

@@ -65,13 +65,6 @@ impl<'t> Declarations<'t> {
         })
     }
 
-    /// The module.
-    pub fn unit(&self) -> &'t Module
-        ensures { result.now ≡ self.now }
-    {
-        self.unit
-    }
-
     /// The ports of the module, by name.
     pub fn ports(&self) -> &PortNames<'t>
         ensures { result.now ≡ self.now.ports }
@@ -86,8 +79,8 @@ impl<'t> Declarations<'t> {
         self.left.as_slice()
     }
 
-    /// Opens the module behind these instances: makes the nets that it declares, and answers its names. Takes memory for
-    /// the nets, and for names only where a declaration or a port is refused.
+    /// Opens the module behind these instances: makes the nets that it declares, and answers its names. Takes memory for the
+    /// nets, and for names only where a declaration or a port is refused.
     #[tactic(auto, using(crate::proofs::Outlining::counted))]
     pub fn open(
         &'t self,

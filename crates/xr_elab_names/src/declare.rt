@@ -35,7 +35,7 @@ pub fn introduce<'t>(
 }
 
 /// A module's declarations in text order, and then its ports in theirs.
-pub fn open_module<'t>(
+pub(crate) fn open_module<'t>(
     alloc: Global,
     scope: &mut Scope<'t>,
     nets: &mut Nets,

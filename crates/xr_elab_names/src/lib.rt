@@ -1,5 +1,4 @@
-//! The names of a module under way: its declarations, its ports and its instances. Start at `Scope`, `Declarations` and
-//! `open_module`.
+//! The names of a module under way: its declarations, its ports and its instances. Start at `Scope` and `Declarations`.
 #![tactic(auto)]
 
 mod declarations;
@@ -11,7 +10,7 @@ mod ports;
 mod scope;
 
 pub use declarations::Declarations;
-pub use declare::{introduce, open_module};
+pub use declare::introduce;
 pub use name_set::NameSet;
 pub use ports::PortNames;
 pub use scope::{Entry, Scope};

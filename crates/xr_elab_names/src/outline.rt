@@ -39,7 +39,7 @@ impl<'t> Model for Outline<'t> {
 impl<'t> Outline<'t> {
     ghost use Rattle.std.specs.Prelude.{◌≡◌, ◌≤◌, ◌+◌, ◌^◌, None, Ok, IfOk, length, bytes_eq};
     ghost use Rattle.std.specs.Map.{lookup};
-    ghost use Rattle.xr_elab_nets.specs.Outcome.{Gives, after};
+    ghost use Rattle.xr_elab_nets.specs.Outcome.{Gives};
     ghost use Rattle.xr_elab_names.specs.Here.{here_of};
     ghost use Rattle.xr_elab_names.specs.Outline as spec;
 
@@ -117,8 +117,7 @@ impl<'t> Outline<'t> {
     ) -> Result<Scope<'t>, ElabErr>
         requires few { length nets.old.names + self.now.count ≤ 2 ^ 20 }
         requires counts { spec.Counts self.now.names self.now.count }
-        ensures { let base = length nets.old.names in
-            Gives (after (spec.all_made prefix self.now.makers nets.old) (λ s. Ok (spec.outlined prefix base self.now s))) result (λ scope. here_of scope nets.new) }
+        ensures { Gives (spec.made_from prefix self.now nets.old) result (λ scope. here_of scope nets.new) }
     {
         let base = nets.count();
         make_all(alloc, nets, prefix.as_slice(), self.makers.as_slice())?;

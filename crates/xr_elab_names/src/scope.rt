@@ -23,8 +23,8 @@ pub struct Entry {
     pub base: u32,
 }
 
-/// The instances that lead to a module, its names, and the names of its instances. Names that all instances of the module
-/// declare are shared: in each they stand for nets from another number on.
+/// The instances that lead to a module, its names, and the names of its instances. Names that the module declares are
+/// shared by all of its instances: in each they stand for nets from another number on.
 #[derive(Drop)]
 pub struct Scope<'t> {
     prefix: Items<NamePart>,
@@ -36,12 +36,12 @@ pub struct Scope<'t> {
 
 impl<'t> Model for Scope<'t> {
     ghost use Rattle.std.specs.Prelude.{◌++◌, ◌≤◌, ◌^◌};
-    ghost use Rattle.xr_elab_names.specs.Scope.{Scope};
+    ghost use Rattle.xr_elab_names.specs.Scope.{Scope, scope_of};
     ghost use Rattle.xr_elab_names.specs.NameMap.{shared_from, HaveNets};
 
     ghost Value = { Scope };
 
-    ghost view = { λ s. record { prefix = s.prefix; names = shared_from s.base s.shared ++ s.own; instances = s.instances } };
+    ghost view = { λ s. scope_of s.prefix (shared_from s.base s.shared ++ s.own) s.instances };
 
     ghost invariant = { λ s. (s.base ≤ 2 ^ 20) × HaveNets (shared_from s.base s.shared) };
 }
