@@ -4,6 +4,7 @@ mod CircuitPlaces
 mod ConeNodes
 mod EssentialBits
 mod HeapPlaces
+pub mod KnownBodies
 mod NextLine
 mod NumberBits
 mod RisingLists

@@ -1,6 +1,7 @@
 -- Definitions of what code finds of a cone.
 pub mod Boundary
 pub mod InWave
+pub mod Known
 pub mod Placed
 pub mod Reached
 pub mod Table

@@ -2,28 +2,36 @@
 
 ghost use Rattle.std.specs.Prelude.{IfOk, OnOk};
 ghost use Rattle.xr_cone.specs.InWave.{AreTracedIn, IsInReach};
+ghost use Rattle.xr_cone.specs.Known.{IsRightOf};
 ghost use Rattle.xr_cone.specs.Reached.{AddsAll};
 ghost use Rattle.xr_cone.specs.Traced.{supports_in};
 
 use crate::reached::Reached;
-use crate::traced::{Traced, TracedBody, trace_place};
+use crate::traced::{Traced, TracedBody};
+use crate::tracer::Tracer;
 use std::alloc::Global;
 use xr_base::Memory;
 use xr_wave::Wave;
 
 /// The places of a cone, the greatest first: all that reach a place stand behind it, so once it is the greatest that is
 /// still to be looked at, nothing more will reach it.
-pub fn trace_places(alloc: Global, wave: &Wave<'_>, root: usize) -> Result<Vec<Traced>, Memory>
-    requires { IsInReach wave.now root }
-    ensures { IfOk result (λ traced. AreTracedIn wave.now root traced.items) }
+pub fn trace_places(
+    alloc: Global,
+    wave: &Wave<'_>,
+    tracer: &mut Tracer,
+    root: usize,
+) -> Result<Vec<Traced>, Memory>
+    requires reach { IsInReach wave.now root }
+    requires right { IsRightOf wave.now tracer.old }
+    ensures traced { IfOk result (λ traced. AreTracedIn wave.now root traced.items) }
+    ensures right { OnOk result (IsRightOf wave.now tracer.new) }
 {
     let _circuit = wave.circuit();
-    let mut room = Vec::with_capacity(alloc, 8192)?;
     let mut reached = Reached::new(alloc);
     let mut traced = Vec::new(alloc);
     reached.insert(root)?;
     'places: while let Some(place) = reached.take_greatest() {
-        let body = trace_place(alloc, wave, place, &mut room)?;
+        let body = tracer.body_of(alloc, wave, place)?;
         insert_supports(&mut reached, &body)?;
         traced.push(Traced { place, body })?;
     }

@@ -15,8 +15,10 @@ mod positions;
 mod reached;
 mod table;
 mod traced;
+mod tracer;
 mod tracing;
 
 pub use outside::boundary;
+pub use tracer::Tracer;
 pub use tracing::{trace, trace_at};
 pub use xr_cone_nodes::{Cone, Node, NodeBody};

@@ -1,17 +1,19 @@
 //! The cone of a place of a wave.
 
-ghost use Rattle.std.specs.Prelude.{◌≡◌, IfOk};
+ghost use Rattle.std.specs.Prelude.{◌≡◌, IfOk, OnOk};
 ghost use Rattle.xr_design.specs.Job.{number_of};
 ghost use Rattle.xr_model.specs.declared.class.ClassByNumber.TheVariants as class;
 ghost use Rattle.xr_wave.specs.Contents.{IsReached, class_in, job, next_number};
 ghost use Rattle.xr_wave.specs.Token.{IsLineNext};
 ghost use Rattle.xr_cone_nodes.specs.Traced.{IsConeOf};
 ghost use Rattle.xr_cone.specs.InWave.{IsInReach};
+ghost use Rattle.xr_cone.specs.Known.{IsRightOf};
 
 use crate::descent::trace_places;
 use crate::places::{number_of, place_of};
 use crate::positions::place_body;
 use crate::traced::Traced;
+use crate::tracer::Tracer;
 use std::alloc::Global;
 use xr_base::Memory;
 use xr_cone_nodes::{Cone, Node};
@@ -23,7 +25,7 @@ pub fn trace(alloc: Global, wave: &Wave<'_>) -> Result<Cone, Memory>
     requires { IsLineNext wave.now }
     ensures { IfOk result (λ cone. IsConeOf wave.now (next_number wave.now) cone.nodes) }
 {
-    trace_root(alloc, wave, wave.count())
+    Tracer::new(alloc).trace(alloc, wave)
 }
 
 /// The cone of a place that is written, or of the next one, whose class is Line: the same as when it was the next one.
@@ -32,18 +34,39 @@ pub fn trace_at(alloc: Global, wave: &Wave<'_>, place: Place) -> Result<Cone, Me
     requires line { class_in wave.now (number_of (job wave.now) place) ≡ class.Line }
     ensures { IfOk result (λ cone. IsConeOf wave.now (number_of (job wave.now) place) cone.nodes) }
 {
-    trace_root(alloc, wave, number_of(&wave.circuit(), place))
+    let mut tracer = Tracer::new(alloc);
+    trace_root(alloc, wave, &mut tracer, number_of(&wave.circuit(), place))
 }
 
-fn trace_root(alloc: Global, wave: &Wave<'_>, root: usize) -> Result<Cone, Memory>
+impl Tracer {
+    /// The cone of the next place, a Line place, of a wave of which all that is known is right. What is found on the way
+    /// is kept.
+    pub fn trace(&mut self, alloc: Global, wave: &Wave<'_>) -> Result<Cone, Memory>
+        requires right { IsRightOf wave.now self.old }
+        requires line { IsLineNext wave.now }
+        ensures cone { IfOk result (λ cone. IsConeOf wave.now (next_number wave.now) cone.nodes) }
+        ensures right { OnOk result (IsRightOf wave.now self.new) }
+    {
+        trace_root(alloc, wave, self, wave.count())
+    }
+}
+
+fn trace_root(
+    alloc: Global,
+    wave: &Wave<'_>,
+    tracer: &mut Tracer,
+    root: usize,
+) -> Result<Cone, Memory>
     requires reach { IsInReach wave.now root }
     requires line { class_in wave.now root ≡ class.Line }
-    ensures { IfOk result (λ cone. IsConeOf wave.now root cone.nodes) }
+    requires right { IsRightOf wave.now tracer.old }
+    ensures cone { IfOk result (λ cone. IsConeOf wave.now root cone.nodes) }
+    ensures right { OnOk result (IsRightOf wave.now tracer.new) }
 {
     let circuit = wave.circuit();
     let reached = root <= wave.count();
     prove!(reached);
-    let mut rest = trace_places(alloc, wave, root)?;
+    let mut rest = trace_places(alloc, wave, tracer, root)?;
     let mut places = Vec::with_capacity(alloc, rest.len())?;
     let mut nodes = Vec::with_capacity(alloc, rest.len())?;
     'rest: while let Some(Traced { place, body }) = rest.pop() {

@@ -11,7 +11,7 @@ use Rattle.xr_cone.proofs.tracing.trace_root.Goals as goal
 
 pub rest-init : goal.rest-init
 rest-init c =
-    made_begins (job c.args.wave.now) (certain c.args.wave.now.written) c.args.root _ _ _ c.in_ok-rest.ensures
+    made_begins (job c.args.wave.now) (certain c.args.wave.now.written) c.args.root _ _ _ c.in_ok-rest.ensures.traced
     c.in_ok-places.ensures.items c.in_ok-nodes.ensures.items
 
 pub place_body-requires-clause-rising : goal.place_body-requires-clause-rising
@@ -78,8 +78,8 @@ new-requires c =
     omega (arith, none, long))) in
     is.are_nodes
 
-pub returns : goal.returns
-returns c =
+pub returns-clause-cone : goal.returns-clause-cone
+returns-clause-cone c =
     ends_ok (λ cone. cone.nodes) c.args.wave.now c.args.root c.new.result c.rest.nodes.items c.new.ensures
     (made_ends c.args.wave.now c.args.root c.rest.places.items c.rest.rest.items c.rest.nodes.items
     c.count.ensures.wave c.requires.reach c.requires.line c.rest.invariant
