@@ -12,3 +12,4 @@ mod Reached
 mod WiredPlaces
 mod WiredSteady
 mod WiredRegisters
+mod SettledWires

@@ -9,7 +9,7 @@ use Rattle.xr_design.specs.Fits.{Fits}
 use Rattle.xr_design.specs.Job.{Job, at, net_of, places_of, step_of}
 use Rattle.xr_design.specs.Rule.{arguments, arguments_of, born, known_or, rule, rule_of}
 use Rattle.xr_design.specs.World.{decided}
-use Rattle.xr_model.specs.Assignment.{assigned}
+use Rattle.xr_model.specs.Assignment.{assigned, for_every}
 use Rattle.xr_model.specs.Class.{before, carried_or_line, class_of, is_bit, is_carried_from, is_free, is_local, keeps, passes_on, passes_on_of}
 use Rattle.xr_model.specs.Mask.{masked}
 use Rattle.xr_model.specs.declared.class.ClassByNumber.{ClassByNumber}
@@ -134,28 +134,39 @@ open_copy j c place net driver chosen unknown =
         ∙ ap (λ b. if b then Carried from false
         else if is_carried_from j c place from true then Carried from true else Line) carried
 
--- Where the rule gives one bit for every assignment, the place has it.
+-- Where the rule gives one value for every assignment, the class is the value's.
+pub class_given : (j : Job) (c : ℕ → Value) (place : ℕ) (v : Value)
+    → ((bits : ℕ → Bool) → rule j c (assigned c bits) place ≡ v) → class_here j c place ≡ plain_class v
+class_given j c place v gives = by v gives
+  where
+    rest : ClassByNumber
+    rest = if passes_on j c (class_of j c) place then Carried (before j place) false
+        else carried_or_line j c place (arguments j c place)
+
+    holds : (test : Value → Bool) (w : Value) → ((bits : ℕ → Bool) → rule j c (assigned c bits) place ≡ w)
+        → test w ≡ true → for_every j c place (λ bits. test (rule j c bits place)) ≡ true
+    holds test w given is = passes_every j c place (λ bits. test (rule j c bits place))
+        (λ bits. ap test (given bits) ∙ is)
+
+    fails : (bit : Bool) (w : Value) → ((bits : ℕ → Bool) → rule j c (assigned c bits) place ≡ w)
+        → is_bit w bit ≡ false → is_local j c place bit ≡ false
+    fails bit w given is =
+        number_fails j c place (Bit bit) tt [] 0 (ap (λ x. is_bit x bit) (given (masked [] 0)) ∙ is)
+
+    by : (w : Value) → ((bits : ℕ → Bool) → rule j c (assigned c bits) place ≡ w) → class_here j c place ≡ plain_class w
+    by Zero given = ap (λ a. if a then Local false else if is_local j c place true then Local true
+        else if is_free j c place then Free else rest) (holds (λ x. is_bit x false) Zero given refl)
+    by One given = (rw (fails false One given refl, holds (λ x. is_bit x true) One given refl) refl)
+    by X given = (rw (fails false X given refl, fails true X given refl, holds is_unknown X given refl) refl)
+    by Z given = (rw (fails false Z given refl, fails true Z given refl, holds is_unknown Z given refl) refl)
+
+plain_bit : (bit : Bool) → plain_class (bit_value bit) ≡ Local bit
+plain_bit false = refl
+plain_bit true = refl
+
 given_is : (j : Job) (c : ℕ → Value) (place : ℕ) (bit : Bool)
     → ((bits : ℕ → Bool) → rule j c (assigned c bits) place ≡ bit_value bit) → class_here j c place ≡ Local bit
-given_is j c place false gives = ap (λ b. if b then Local false else other)
-    (passes_every j c place (test_of j c place (Bit false)) (λ bits. ap (λ v. is_bit v false) (gives bits)))
-  where
-    other : ClassByNumber
-    other = if is_local j c place true then Local true else if is_free j c place then Free
-        else if passes_on j c (class_of j c) place then Carried (before j place) false
-        else carried_or_line j c place (arguments j c place)
-given_is j c place true gives =
-    ap (λ b. if b then Local false else if is_local j c place true then Local true else other) fails
-    ∙ ap (λ b. if b then Local true else other)
-    (passes_every j c place (test_of j c place (Bit true)) (λ bits. ap (λ v. is_bit v true) (gives bits)))
-  where
-    fails : is_local j c place false ≡ false
-    fails = number_fails j c place (Bit false) tt [] 0 (ap (λ v. is_bit v false) (gives (masked [] 0)))
-
-    other : ClassByNumber
-    other = if is_free j c place then Free
-        else if passes_on j c (class_of j c) place then Carried (before j place) false
-        else carried_or_line j c place (arguments j c place)
+given_is j c place bit gives = class_given j c place (bit_value bit) gives ∙ plain_bit bit
 
 -- So for a constant, and for an input that the recording knows.
 rule_constant : (j : Job) (c : ℕ → Value) (bits : ℕ → Bool) (place : ℕ) (bit : Bool)

@@ -79,6 +79,9 @@ own_same j fits c place width within width_is more same =
     ap c (sym (back_at j fits place width (spot_here j place) here width_is (omega (arith, more)))) ∙ same
     ∙ ap c (two_back_at j fits place width (spot_here j place) here width_is (omega (arith, more)))
 
+pub same_latching : (a b : Latching) → Register a ≡ Register b → a ≡ b
+same_latching a b same = cc
+
 -- It sees the same where its own net and its pins say so.
 pub same_there : (j : Job) → Fits j → (c : ℕ → Value) (facts : ℕ → Facts) (place position width : ℕ) (pins : List Pin)
     → place < places_of j → position ≡ place % j.width → Stands j place kind.Register pins → width ≡ j.width
@@ -98,9 +101,6 @@ same_there j fits c facts place position width pins within is stands width_is ar
     } in
     subst (SeesTheSame j c (step_of j place) (net_of j place)) (same_latching here.0 latching (sym here.1 ∙ driver)) seen
     )
-  where
-    same_latching : (a b : Latching) → Register a ≡ Register b → a ≡ b
-    same_latching a b same = cc
 
 -- What such a place has.
 pub record Seen (j : Job) (c : ℕ → Value) (place : ℕ) : Type 0 where

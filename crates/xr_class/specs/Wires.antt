@@ -1,7 +1,8 @@
 -- What stands at a place, as its wiring tells it.
-use Rattle.std.specs.Prelude.{◌≡◌, ℕ, ◌+◌, ◌<◌, ◌^◌, Bool, List}
+use Rattle.std.specs.Prelude.{◌≡◌, ℕ, ◌+◌, ◌-◌, ◌<◌, ◌^◌, Bool, true, List, map, not}
 use Rattle.std.specs.List.{list_all}
 use Rattle.xr_cell.specs.declared.value.Value.{Value}
+use Rattle.xr_cell.specs.Value.{is_unknown}
 use Rattle.xr_design.specs.declared.circuit.Circuit.{Circuit}
 use Rattle.xr_design.specs.declared.design.Driver.TheVariants.{Copy, Register}
 use Rattle.xr_design.specs.declared.design.Latching.{Latching}
@@ -9,6 +10,7 @@ use Rattle.xr_design.specs.declared.design.Pin.{Pin}
 use Rattle.xr_design.specs.declared.design.Table.{Table}
 use Rattle.xr_design.specs.Job.{Job, at, net_of, step_of}
 use Rattle.xr_design.specs.Order.{net_pins}
+use Rattle.xr_design.specs.Register.{pin_of}
 use Rattle.xr_wiring.specs.Wired.{Wire, kind_of_table, wire_of, wired}
 use Rattle.xr_wiring.specs.declared.wiring.Kind.{Kind}
 use Rattle.xr_class.specs.Facts.{Facts}
@@ -47,3 +49,25 @@ abbrev pub PlaceSeesTheSame : Job → (ℕ → Value) → ℕ → Type 0
 PlaceSeesTheSame j certain place =
     (latching : Latching) → j.driver (net_of j place) ≡ Register latching
     → SeesTheSame j certain (step_of j place) (net_of j place) latching
+
+-- The values at pins that are named by their positions at a step, and whether those of the nets among them are all known.
+abbrev pub values_there : (ℕ → Value) → ℕ → List Pin → List Value
+values_there certain first pins = map (pin_of (λ position. certain (first + position))) pins
+
+abbrev pub positions_known : (ℕ → Value) → ℕ → List Pin → Bool
+positions_known certain first pins = list_all (λ position. not (is_unknown (certain (first + position)))) (net_pins pins)
+
+-- The nets are all certain at a step.
+abbrev pub nets_known : Job → (ℕ → Value) → ℕ → List ℕ → Bool
+nets_known j certain step nets = list_all (λ net. not (is_unknown (certain (at j step net)))) nets
+
+-- A register sees certain values alone: at its own net and, one step and two steps back, at the nets of its pins.
+pub record SeesKnown (j : Job) (certain : ℕ → Value) (step net : ℕ) (latching : Latching) : Type 0 where
+  pub own : not (is_unknown (certain (at j (step - 1) net))) ≡ true
+  pub new : nets_known j certain (step - 1) (net_pins latching.pins) ≡ true
+  pub old : nets_known j certain (step - 2) (net_pins latching.pins) ≡ true
+
+abbrev pub PlaceSeesKnown : Job → (ℕ → Value) → ℕ → Type 0
+PlaceSeesKnown j certain place =
+    (latching : Latching) → j.driver (net_of j place) ≡ Register latching
+    → SeesKnown j certain (step_of j place) (net_of j place) latching

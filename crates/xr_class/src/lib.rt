@@ -12,6 +12,7 @@ mod classify;
 mod earlier;
 mod every;
 mod keeps;
+mod moved;
 mod quick;
 mod ruled;
 mod steady;

@@ -14,6 +14,7 @@ ghost use Rattle.xr_class.specs.Wires.{PlaceSeesTheSame, Reaches, Stands, Stands
 
 use crate::earlier::Earlier;
 use crate::keeps::cell_chooses;
+use crate::moved::{moved_cell, moved_register};
 use crate::quick::plain_class;
 use crate::tried::tried_class;
 use xr_cell::Value;
@@ -40,10 +41,10 @@ pub fn cell_class<E: Earlier>(
 {
     let width = width_of(circuit);
     if place < width {
-        return tried_class(circuit, earlier, place);
+        return moved_cell(circuit, earlier, place, position, table, pins);
     }
     if !positions_keep(earlier, place - position, pins) {
-        return tried_class(circuit, earlier, place);
+        return moved_cell(circuit, earlier, place, position, table, pins);
     }
     let back = place - width;
     if earlier.is_plain(back) {
@@ -75,7 +76,7 @@ pub fn register_class<E: Earlier>(
     ensures { result ≡ class_here (job_in circuit.now) (E.reads earlier.now) place }
 {
     if !sees_the_same(circuit, earlier, place, position, pins) {
-        return tried_class(circuit, earlier, place);
+        return moved_register(circuit, earlier, place, position, pins);
     }
     let back = place - width_of(circuit);
     if earlier.is_plain(back) {
