@@ -1,10 +1,14 @@
 -- How the walk goes on, and what it ends with.
-use Rattle.std.proofs.Common.{◌≡◌, ◌≤◌, ◌+◌, ◌∷◌, [], length, length-append, sym, ap, ◌∙◌, arith}
+use Rattle.std.proofs.Common.{◌≡◌, ◌≤◌, ◌+◌, ◌∷◌, [], IfOk, length, length-append, sym, ap, ◌∙◌, arith}
+use Rattle.std.specs.Prelude.{Result, Ok, Err}
+use Rattle.xr_cone.specs.Known.{IsRightOf, TracerView}
+use Rattle.xr_cone.proofs.KnownBodies.{known_grows}
 use Rattle.xr_design.specs.Job.{job_of, places_of}
 use Rattle.xr_model.proofs.Uniqueness.{unique}
 use Rattle.xr_wave.specs.Contents.{Contents, IsWave, job}
 use Rattle.xr_repair.specs.Repaired.{IsFinished, IsOfJob, IsOnlyOne}
 use Rattle.xr_repair.specs.Step.{IsNextOf}
+use Rattle.xr_repair.specs.declared.refusal.RepairErr.{RepairErr}
 
 -- The job of a wave stays.
 pub job_stays : (a b : Contents) → IsOfJob a b → job b ≡ job a
@@ -25,3 +29,10 @@ pub only_one : (c : Contents) → IsWave c → IsFinished c → IsOnlyOne c
 only_one c wave finished decided other lines long sound other_decided =
     unique (job c) c.limit wave.fits.fits_job _ other c.written lines c.lines (long ∙ sym finished)
     (omega (arith, long)) other_decided decided sound wave.holds.sound
+
+-- What a tracer knows is right of the next wave too.
+pub right_next : (a : Contents) (tracer : TracerView) (result : Result Contents RepairErr) → IsWave a
+    → IsRightOf a tracer → IfOk result (IsNextOf a) → IfOk result (λ b. IsRightOf b tracer)
+right_next a tracer (Ok b) wave right next =
+    known_grows a b tracer next.written wave.fits.fits_job (job_stays a b next.same) next.is right
+right_next a tracer (Err e) wave right next = tt

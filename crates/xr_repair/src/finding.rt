@@ -1,7 +1,8 @@
 //! What the next place, a Line place, has under all fillings of its cone's sources.
 
-ghost use Rattle.std.specs.Prelude.{◌<◌, ◌≤◌, IfOk, length};
+ghost use Rattle.std.specs.Prelude.{◌<◌, ◌≤◌, IfOk, OnOk, length};
 ghost use Rattle.xr_cnf.specs.Answers.{IsNextCone};
+ghost use Rattle.xr_cone.specs.Known.{IsRightOf};
 ghost use Rattle.xr_cone_nodes.specs.Nodes.{sources_of};
 ghost use Rattle.xr_repair.specs.Step.{IsShown};
 ghost use Rattle.xr_wave.specs.Token.{IsLineNext};
@@ -12,7 +13,7 @@ use crate::found::Found;
 use crate::search::search;
 use std::alloc::Global;
 use xr_base::Memory;
-use xr_cone::{Cone, trace};
+use xr_cone::{Cone, Tracer};
 use xr_enum::{Decided, decide};
 use xr_wave::Wave;
 
@@ -20,12 +21,19 @@ use xr_wave::Wave;
 const ENUMERATED: usize = 12;
 
 /// What is shown of the next place.
-pub fn find(alloc: Global, wave: &Wave<'_>, answers: &mut Answers) -> Result<Found, Memory>
+pub fn find(
+    alloc: Global,
+    wave: &Wave<'_>,
+    tracer: &mut Tracer,
+    answers: &mut Answers,
+) -> Result<Found, Memory>
     requires limit { 0 < wave.now.limit }
     requires class { IsLineNext wave.now }
-    ensures { IfOk result (IsShown wave.now) }
+    requires right { IsRightOf wave.now tracer.old }
+    ensures shown { IfOk result (IsShown wave.now) }
+    ensures right { OnOk result (IsRightOf wave.now tracer.new) }
 {
-    let cone = trace(alloc, wave)?;
+    let cone = tracer.trace(alloc, wave)?;
     if cone.sources().len() <= ENUMERATED {
         return enumerate(alloc, wave, &cone);
     }

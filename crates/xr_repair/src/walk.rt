@@ -1,6 +1,7 @@
 //! The walk over the places.
 
 ghost use Rattle.std.specs.Prelude.{◌≡◌, ℕ, ◌<◌, IfOk, IfErr};
+ghost use Rattle.xr_cone.specs.Known.{IsRightOf};
 ghost use Rattle.xr_design.specs.Circuit.{FitsCircuit};
 ghost use Rattle.xr_design.specs.Handed.{IsHandedIn};
 ghost use Rattle.xr_design.specs.Job.{job_of};
@@ -15,6 +16,7 @@ use crate::finding::find;
 use crate::refusal::RepairErr;
 use crate::spend::spend;
 use std::alloc::Global;
+use xr_cone::Tracer;
 use xr_design::{Design, History, Order, Stim, count_places};
 use xr_model::Class;
 use xr_wave::Wave;
@@ -56,10 +58,11 @@ fn walk<'a>(alloc: Global, wave: Wave<'a>) -> Result<Wave<'a>, RepairErr>
     ensures refused { IfErr result (RefusedStep wave.entry) }
 {
     let count = count_places(&wave.circuit());
+    let mut tracer = Tracer::new(alloc);
     let mut answers = Answers::new(alloc);
     let mut walked = wave;
     'places: while walked.count() < count {
-        walked = write_next(alloc, walked, &mut answers)?;
+        walked = write_next(alloc, walked, &mut tracer, &mut answers)?;
     }
     Ok(walked)
 }
@@ -68,17 +71,20 @@ fn walk<'a>(alloc: Global, wave: Wave<'a>) -> Result<Wave<'a>, RepairErr>
 fn write_next<'a>(
     alloc: Global,
     wave: Wave<'a>,
+    tracer: &mut Tracer,
     answers: &mut Answers,
 ) -> Result<Wave<'a>, RepairErr>
     requires limit { 0 < wave.limit }
     requires sound { IsWave wave }
     requires next { HasNext wave }
+    requires right { IsRightOf wave tracer.old }
     ensures ok { IfOk result (IsNextOf wave.entry) }
+    ensures right { IfOk result (λ next. IsRightOf next tracer.new) }
     ensures err { IfErr result (RefusedStep wave.entry) }
 {
     match wave.class() {
         Class::Done => unreachable!(),
-        Class::Line => decide_next(alloc, wave, answers),
+        Class::Line => decide_next(alloc, wave, tracer, answers),
         _ => advance(wave),
     }
 }
@@ -101,14 +107,17 @@ fn advance<'a>(wave: Wave<'a>) -> Result<Wave<'a>, RepairErr>
 fn decide_next<'a>(
     alloc: Global,
     wave: Wave<'a>,
+    tracer: &mut Tracer,
     answers: &mut Answers,
 ) -> Result<Wave<'a>, RepairErr>
     requires limit { 0 < wave.limit }
     requires sound { IsWave wave }
     requires class { IsLineNext wave }
+    requires right { IsRightOf wave tracer.old }
     ensures ok { IfOk result (IsNextOf wave.entry) }
+    ensures right { IfOk result (λ next. IsRightOf next tracer.new) }
     ensures err { IfErr result (RefusedStep wave.entry) }
 {
-    let found = find(alloc, &wave, answers)?;
+    let found = find(alloc, &wave, tracer, answers)?;
     spend(wave, found)
 }
