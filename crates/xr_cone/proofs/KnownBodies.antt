@@ -1,5 +1,5 @@
 -- What a place rests on stays as the wave grows, and what is kept of places stays right.
-use Rattle.std.proofs.Common.{◌≡◌, ◌⊎◌, inl, inr, ⊎_elim, ℕ, ◌+◌, ◌<◌, ◌≤◌, Bool, true, false, nat_eq, refl, Option, Some, if◌then◌else◌, List, [], ◌∷◌, ◌++◌, length, length-append, sym, ap, ◌∙◌, subst, arith}
+use Rattle.std.proofs.Common.{◌≡◌, ◌⊎◌, inl, inr, ⊎_elim, ℕ, ◌<◌, ◌≤◌, Bool, true, false, nat_eq, refl, Option, Some, if◌then◌else◌, List, [], ◌∷◌, ◌++◌, length, length-append, sym, ap, ◌∙◌, subst, arith}
 use Rattle.std.proofs.lemmas.Bool.{eqb-true}
 use Rattle.xr_cell.specs.declared.value.Value.{Value}
 use Rattle.xr_design.specs.declared.waveform.Written.{Written}
@@ -15,7 +15,6 @@ use Rattle.xr_model.proofs.ClassesBefore.{class_local}
 use Rattle.xr_model.proofs.ConesBefore.{essentials_local}
 use Rattle.xr_model.proofs.FactsBefore.{certain_grown}
 use Rattle.xr_wave.specs.Contents.{Contents, job}
-use Rattle.xr_cone.specs.InWave.{IsBodyIn}
 use Rattle.xr_cone.specs.Known.{IsKnown, IsNoMore, IsRightOf, Keeps, TracerView, known_of}
 use Rattle.xr_cone.specs.Table.{value_on}
 use Rattle.xr_cone.specs.Traced.{IsBodyOf}

@@ -6,7 +6,6 @@ use Rattle.xr_proof.specs.declared.clause.Cnf.{Cnf}
 use Rattle.xr_sat.specs.declared.outcome.Outcome.{Outcome}
 use Rattle.xr_repair.specs.Answered.{AnsweredView, IsAgain, asked}
 use Rattle.xr_repair.specs.Kept.{IsRecalled, KeptView, by_code, code_of}
-use Rattle.xr_repair.specs.declared.answered.Answer.{Answer}
 
 same_some : {A : Type 0} (o : Option A) (a b : A) → o ≡ Some a → o ≡ Some b → a ≡ b
 same_some o a b first second = cc
