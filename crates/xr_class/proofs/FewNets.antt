@@ -15,6 +15,7 @@ use Rattle.xr_design.specs.Fits.{is_dead, FitsTable}
 use Rattle.xr_design.specs.Job.{Job, at}
 use Rattle.xr_design.specs.Order.{net_pins}
 use Rattle.xr_design.specs.Rule.{places_at}
+use Rattle.xr_wiring.proofs.Jobs.{table_few}
 
 abbrev live : Pin → Bool
 live pin = not (is_dead pin)
@@ -41,20 +42,6 @@ nets_pins [] = omega arith
 nets_pins (Net net ∷ pins) = let ih = nets_pins pins in omega (arith, ih)
 nets_pins (Bit bit ∷ pins) = let ih = nets_pins pins in omega (arith, ih)
 nets_pins (Dead ∷ pins) = let ih = nets_pins pins in omega (arith, ih)
-
-gate_few : (gate : AGate) (n : ℕ) → FitsGate gate n → n ≤ 10
-gate_few And n fits = fits.1
-gate_few Nand n fits = fits.1
-gate_few Or n fits = fits.1
-gate_few Nor n fits = fits.1
-gate_few Xor n fits = fits.1
-gate_few Xnor n fits = fits.1
-gate_few Buf n fits = omega arith
-gate_few Not n fits = omega arith
-
-table_few : (udps : List Primitive) (table : Table) (n : ℕ) → FitsTable udps table n → n ≤ 10
-table_few udps (Gate gate) n fits = gate_few gate n fits
-table_few udps (Udp number) n fits = fits.few
 
 -- A cell has at most 10 pins.
 pub cell_few : (udps : List Primitive) (table : Table) (pins : List Pin) → FitsTable udps table (length pins)

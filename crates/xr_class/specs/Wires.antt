@@ -50,12 +50,13 @@ PlaceSeesTheSame j certain place =
     (latching : Latching) → j.driver (net_of j place) ≡ Register latching
     → SeesTheSame j certain (step_of j place) (net_of j place) latching
 
--- The values at pins that are named by their positions at a step, and whether those of the nets among them are all known.
+-- The values at pins that are named by their positions at a step, and whether those of their nets are all known.
 abbrev pub values_there : (ℕ → Value) → ℕ → List Pin → List Value
 values_there certain first pins = map (pin_of (λ position. certain (first + position))) pins
 
 abbrev pub positions_known : (ℕ → Value) → ℕ → List Pin → Bool
-positions_known certain first pins = list_all (λ position. not (is_unknown (certain (first + position)))) (net_pins pins)
+positions_known certain first pins =
+    list_all (λ position. not (is_unknown (certain (first + position)))) (net_pins pins)
 
 -- The nets are all certain at a step.
 abbrev pub nets_known : Job → (ℕ → Value) → ℕ → List ℕ → Bool
