@@ -67,7 +67,7 @@ impl<'a> Model for Wave<'a> {
 }
 
 impl<'a> Wave<'a> {
-    /// A wave of which nothing is written. Takes a byte for each place, 16 bytes for each net, and 8 to 24 for each pin.
+    /// A wave of which nothing is written. Takes a byte for each place, 16 bytes for each net, 8 to 24 for each pin.
     pub fn new(
         alloc: Global,
         design: &'a Design,
