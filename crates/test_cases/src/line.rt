@@ -22,7 +22,8 @@ impl<'a> Line<'a> {
 
     /// What stands behind this mark at the line's head.
     pub fn behind(&self, mark: &[u8]) -> Option<&'a [u8]>
-        ensures { MatchOption result (Lacks mark.now self.now.text.now) (λ rest. self.now.text.now ≡ mark.now ++ rest.now) }
+        ensures { let line = self.now.text.now in
+            MatchOption result (Lacks mark.now line) (λ rest. line ≡ mark.now ++ rest.now) }
     {
         self.text.strip_prefix(mark)
     }

@@ -1,3 +1,2 @@
 mod ChosenPlaces
-mod ReplayPlaces
 mod WavePlaces

@@ -12,7 +12,7 @@ use Rattle.xr_design.specs.declared.design.Latching.{Latching}
 use Rattle.xr_design.specs.declared.design.Pin.{Pin}
 use Rattle.xr_design.specs.declared.design.Table.{Table}
 use Rattle.xr_design.specs.Circuit.{IsSpot, Reach}
-use Rattle.xr_design.specs.Fits.{Fits}
+use Rattle.xr_design.specs.Fits.{Fits, Standing}
 use Rattle.xr_design.specs.Job.{Job, at, net_of, places_of, step_of}
 use Rattle.xr_design.specs.Order.{net_pins, position_of}
 use Rattle.xr_design.specs.Register.{has_uncertain_clock, updated}
@@ -28,7 +28,7 @@ use Rattle.xr_model.proofs.CarryLaw.{net_at, step_at}
 use Rattle.xr_model.proofs.Classes.{ClassSays, all_at, class_says}
 use Rattle.xr_model.proofs.ClassFromClasses.{class_is}
 use Rattle.xr_class.specs.Facts.{AgreeBefore, AgreesWith, is_plain, plain_class}
-use Rattle.xr_class.specs.Keeps.{SeesTheSame, Standing, class_here, later_class, nets_keep, place_passes}
+use Rattle.xr_class.specs.Keeps.{SeesTheSame, class_here, later_class, nets_keep, place_passes}
 use Rattle.xr_class.proofs.MovedRules.{OneBack, SameKinds, cell_moves, kept_values, kinds_moved, register_moves, rule_here}
 use Rattle.xr_class.proofs.Reached.{nets_back, nets_standing}
 use Rattle.xr_class.proofs.StepBefore.{before_later, one_back as one_less}
@@ -222,7 +222,7 @@ two_back_at j fits place width spot is width_is later =
 
 -- A cell whose pins keep.
 pub cell_kinds : (j : Job) → Fits j → (c : ℕ → Value) (place : ℕ) (spot : Spot) (table : Table) (pins : List Pin)
-    → IsSpot j place spot → 0 < spot.step → j.driver spot.net ≡ Cell table pins → Standing j spot (net_pins pins)
+    → IsSpot j place spot → 0 < spot.step → j.driver spot.net ≡ Cell table pins → Standing j spot.position (net_pins pins)
     → AgreeBefore j c place → nets_keep j c spot.step (net_pins pins) ≡ true → SameKinds j c place (before j place)
 cell_kinds j fits c place spot table pins is later driver stands agree keep =
     let one = one_back j fits place spot is later in

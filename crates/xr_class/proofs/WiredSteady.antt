@@ -8,13 +8,13 @@ use Rattle.xr_design.specs.declared.design.Latching.{Latching}
 use Rattle.xr_design.specs.declared.design.Pin.{Pin}
 use Rattle.xr_design.specs.declared.design.Table.{Table}
 use Rattle.xr_design.specs.Circuit.{Reach}
-use Rattle.xr_design.specs.Fits.{Fits, FitsDriver, StandsBefore}
+use Rattle.xr_design.specs.Fits.{Fits, FitsDriver, Standing, StandsBefore}
 use Rattle.xr_design.specs.Job.{Job, net_of, places_of, step_of}
 use Rattle.xr_design.specs.Order.{arguments_of_driver, net_pins}
 use Rattle.xr_design.proofs.Rules.{spot}
 use Rattle.xr_model.specs.Class.{before, is_never_unknown}
 use Rattle.xr_class.specs.Facts.{AgreeBefore, AreFacts, Facts}
-use Rattle.xr_class.specs.Keeps.{Standing, cell_chooses, nets_keep, place_passes}
+use Rattle.xr_class.specs.Keeps.{cell_chooses, nets_keep, place_passes}
 use Rattle.xr_class.specs.Wires.{Reaches, StandsCell, positions_keep}
 use Rattle.xr_class.proofs.MixedClasses.{never_unknown}
 use Rattle.xr_class.proofs.MovedRules.{SameKinds}
@@ -56,7 +56,7 @@ cell_steady j fits c facts place position table pins within is stands are agree 
     let s = spot j fits place within in
     let at_spot = is_spot j fits place within in
     let later = later_step j.width (step_of j place) (place % j.width) place s.whole s.position more in
-    let standing : Standing j (spot_here j place) (net_pins here.own) =
+    let standing : Standing j (spot_here j place).position (net_pins here.own) =
     subst (λ (d : Driver). AllByRecursion (StandsBefore j (place % j.width)) (arguments_of_driver d)) here.driver s.before in
     let own_keep : nets_keep j c (step_of j place) (net_pins here.own) ≡ true =
     sym (pins_keep_there j fits c facts place (step_of j place) (place - position) pins here.own here.pins_are are

@@ -26,6 +26,10 @@ is_plain Line = false
 abbrev pub keeps_by : ℕ → Value → Value → Bool → Bool
 keeps_by step here back carries = not (step == 0) && (are_equal here back || carries)
 
+-- The same of a place of a net.
+abbrev pub keeps_since : Job → (ℕ → Value) → ℕ → Value → Bool → Bool
+keeps_since j certain place here carries = keeps_by (step_of j place) here (certain (before j place)) carries
+
 abbrev pub place_carries : Job → (ℕ → Value) → ℕ → Bool
 place_carries j certain place = carries_on (class_of j certain place) (before j place)
 

@@ -1,14 +1,13 @@
 -- Nets that keep and places that pass their net's bit on, by the classes of the places before.
 use Rattle.std.specs.Prelude.{◌≡◌, ℕ, ◌-◌, ◌≤◌, ◌==◌, ◌&&◌, Bool, true, false, List, not, nat_lt, if◌then◌else◌}
-use Rattle.std.specs.List.{AllByRecursion, list_all, list_any}
+use Rattle.std.specs.List.{list_all, list_any}
 use Rattle.xr_cell.specs.declared.value.Value.{Value}
 use Rattle.xr_design.specs.declared.design.Driver.{Driver}
 use Rattle.xr_design.specs.declared.design.Latching.{Latching}
 use Rattle.xr_design.specs.declared.design.Pin.{Pin}
 use Rattle.xr_design.specs.declared.design.Table.{Table}
 use Rattle.xr_design.specs.declared.design.Table.TheVariants.{Gate, Udp}
-use Rattle.xr_design.specs.declared.circuit.Spot.{Spot}
-use Rattle.xr_design.specs.Fits.{StandsBefore, is_dead}
+use Rattle.xr_design.specs.Fits.{is_dead}
 use Rattle.xr_design.specs.Job.{Job, at}
 use Rattle.xr_design.specs.Order.{net_pins}
 use Rattle.xr_design.specs.Register.{has_uncertain_clock}
@@ -16,10 +15,6 @@ use Rattle.xr_design.specs.Rule.{arguments}
 use Rattle.xr_model.specs.Class.{before, carried_or_line, class_by, class_of, is_free, is_local, is_never_unknown, keeps, passes_on, passes_on_of}
 use Rattle.xr_model.specs.declared.class.ClassByNumber.{ClassByNumber}
 use Rattle.xr_model.specs.declared.class.ClassByNumber.TheVariants.{Carried}
-
--- Nets stand before a spot in the order.
-abbrev pub Standing : Job → Spot → List ℕ → Type 0
-Standing j spot nets = AllByRecursion (StandsBefore j spot.position) nets
 
 -- A net keeps at a step, where the class of each place is its own; nets all do.
 abbrev pub net_keeps : Job → (ℕ → Value) → ℕ → ℕ → Bool

@@ -4,15 +4,15 @@ ghost use Rattle.std.specs.Prelude.{◌≡◌, ℕ, ◌+◌, ◌-◌, ◌*◌, �
 ghost use Rattle.std.specs.List.{AllByRecursion, list_all, list_any};
 ghost use Rattle.xr_cell.specs.declared.value.Value.{Value as AnyValue};
 ghost use Rattle.xr_design.specs.Circuit.{job_in, CircuitFits, IsSpot, Reach};
-ghost use Rattle.xr_design.specs.Fits.{FitsDriver, FitsRegister, StandsBefore, is_dead};
+ghost use Rattle.xr_design.specs.Fits.{FitsDriver, FitsRegister, Standing, is_dead};
 ghost use Rattle.xr_design.specs.Job.{at, places_of, step_of};
 ghost use Rattle.xr_design.specs.Order.{arguments_of_driver, net_pins};
 ghost use Rattle.xr_design.specs.Register.{has_uncertain_clock};
 ghost use Rattle.xr_model.specs.Class.{are_equal, before, class_of, is_never_unknown, keeps, passes_on, passes_on_of};
 ghost use Rattle.xr_design.specs.declared.design.Driver.TheVariants.{Cell};
 ghost use Rattle.xr_class.specs.Arguments.{uncertain_places};
-ghost use Rattle.xr_class.specs.Facts.{AreFacts, keeps_by};
-ghost use Rattle.xr_class.specs.Keeps.{Standing, cell_chooses, cell_passes, driver_passes, net_keeps, nets_keep, place_passes, register_passes};
+ghost use Rattle.xr_class.specs.Facts.{AreFacts, keeps_since};
+ghost use Rattle.xr_class.specs.Keeps.{cell_chooses, cell_passes, driver_passes, net_keeps, nets_keep, place_passes, register_passes};
 
 use crate::earlier::Earlier;
 use crate::every::passes_every;
@@ -62,7 +62,7 @@ fn driver_passes<E: Earlier>(
     requires spot { IsSpot (job_in circuit.now) place spot }
     requires driver { FitsDriver (job_in circuit.now).udps (job_in circuit.now).width driver.now }
     requires is { (job_in circuit.now).driver spot.net ≡ driver.now }
-    requires before { Standing (job_in circuit.now) spot (arguments_of_driver driver.now) }
+    requires before { Standing (job_in circuit.now) spot.position (arguments_of_driver driver.now) }
     requires certain { (k : ℕ) → k < place → E.has earlier.now k }
     requires facts { AreFacts (job_in circuit.now) (E.reads earlier.now) (E.facts earlier.now) place }
     requires few { length uncertain.now ≤ 13 }
@@ -109,7 +109,7 @@ fn cell_passes<E: Earlier>(
     requires fits { CircuitFits circuit.now }
     requires spot { IsSpot (job_in circuit.now) place spot }
     requires is { (job_in circuit.now).driver spot.net ≡ Cell table pins.now }
-    requires before { Standing (job_in circuit.now) spot (net_pins pins.now) }
+    requires before { Standing (job_in circuit.now) spot.position (net_pins pins.now) }
     requires certain { (k : ℕ) → k < place → E.has earlier.now k }
     requires facts { AreFacts (job_in circuit.now) (E.reads earlier.now) (E.facts earlier.now) place }
     requires few { length uncertain.now ≤ 13 }
@@ -230,7 +230,7 @@ pub fn keeps_here<C: Source>(
     requires fits { CircuitFits circuit.now }
     requires within { place < places_of (job_in circuit.now) }
     requires certain { (k : ℕ) → k < place → C.has certain.now k }
-    ensures { result ≡ keeps_by (step_of (job_in circuit.now) place) here (C.reads certain.now (before (job_in circuit.now) place)) carries }
+    ensures { result ≡ keeps_since (job_in circuit.now) (C.reads certain.now) place here carries }
 {
     let width = width_of(circuit);
     place >= width && (are_equal(here, certain.value(place - width)) || carries)

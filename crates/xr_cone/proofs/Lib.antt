@@ -10,4 +10,3 @@ mod NumberBits
 mod RisingLists
 mod TracedBodies
 mod TracedPlaces
-mod XorCircuit

@@ -6,4 +6,3 @@ pub mod Placed
 pub mod Reached
 pub mod Table
 pub mod Traced
-pub mod Xor

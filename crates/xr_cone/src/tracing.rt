@@ -79,6 +79,3 @@ fn trace_root(
     }
     Cone::new(alloc, nodes)
 }
-
-#[cfg(test)]
-mod tests;

@@ -1,6 +1,6 @@
 //! The minimal choices of a table.
 
-ghost use Rattle.std.specs.Prelude.{◌≡◌, ◌≤◌, ◌^◌, ◌∷◌, [], ◌↔◌, IfOk, IsTrue, length};
+ghost use Rattle.std.specs.Prelude.{◌≡◌, ◌≤◌, ◌^◌, ◌∷◌, [], ◌↔◌, IfOk, IsTrue};
 ghost use Rattle.std.specs.List.{Contains};
 ghost use Rattle.xr_cell.specs.Value.{bit_value};
 ghost use Rattle.xr_cone_choices.specs.Choices.{AreChoices, AreMinimalChoices, HasTable, IsTable, nothing_chosen};
@@ -76,24 +76,4 @@ fn has_bit(values: &[Value], bit: bool) -> bool
     ensures { IsTrue result ↔ Contains values.now (bit_value bit) }
 {
     values.contains(&Value::from_bit(bit))
-}
-
-#[cfg(test)]
-mod tests {
-    use super::*;
-    use std::test::Fail;
-
-    #[test]
-    fn choices_of_and_and_parity(rt: HostRuntime) -> Result<(), Fail> {
-        let (zero, one) = (Value::Zero, Value::One);
-        let and = minimal_choices(rt.alloc(), &[zero, zero, zero, one], false)?;
-        let parity = [zero, one, one, zero, one, zero, zero, one];
-        let odd = minimal_choices(rt.alloc(), &parity, true)?;
-        let first = Choice { care: 1, bits: 0 };
-        let second = Choice { care: 2, bits: 0 };
-        assert_eq!(rt; and.as_slice(), [first, second].as_slice());
-        assert_eq!(rt; odd.len(), 4);
-        assert!(rt; odd.iter().all(|choice| choice.care == 7));
-        Ok(())
-    }
 }

@@ -128,6 +128,3 @@ fn base_of(alloc: Global, nodes: &[Node], births: &[bool]) -> Result<bool, Memor
     let word = root_word(nodes, births, &[], words.as_mut_slice());
     Ok(in_lane(word, 0))
 }
-
-#[cfg(test)]
-mod tests;

@@ -1,6 +1,7 @@
 pub mod Exact
 pub mod Follows
 pub mod Gates
+pub mod Handed
 mod HistoryLemmas
 pub mod Multiplexer
 pub mod Numbers

@@ -68,6 +68,10 @@ pub record StandsBefore (j : Job) (position net : ℕ) : Type 0 where
   pub within : net < j.width
   pub before : position_of j.order net < position
 
+-- Nets stand before a position of the order.
+abbrev pub Standing : Job → ℕ → List ℕ → Type 0
+Standing j position nets = AllByRecursion (StandsBefore j position) nets
+
 -- The order lists each net behind its arguments, each driver fits, no register starts at z, a moment has 1 to 16 rounds,
 -- and there are at most 2^20 nets and 2^27 places.
 pub record Fits (j : Job) : Type 0 where

@@ -119,33 +119,3 @@ impl Design {
         Ok(text)
     }
 }
-
-#[cfg(test)]
-mod tests {
-    use super::*;
-    use crate::name::NamePart;
-    use std::test::Fail;
-
-    fn part(alloc: Global, text: &[u8], escaped: bool) -> Result<NamePart, Fail> {
-        Ok(NamePart {
-            text: Items::from_vec(text.to_vec(alloc)?),
-            escaped,
-        })
-    }
-
-    #[test]
-    fn names_are_written(rt: HostRuntime) -> Result<(), Fail> {
-        let alloc = rt.alloc();
-        let mut parts = Vec::new(alloc);
-        parts.push(part(alloc, b"u/1", true)?)?;
-        parts.push(part(alloc, b"a", false)?)?;
-        let mut text = Vec::new(alloc);
-        let name = Name {
-            parts: Items::from_vec(parts),
-            bit: Some(3),
-        };
-        put_name(&mut text, &name)?;
-        assert_eq!(rt; text.as_slice(), b"\\u/1 .a[3]".as_slice());
-        Ok(())
-    }
-}

@@ -1,10 +1,9 @@
 //! The rule of a place: what earlier places make of it in the circuit of zeros and ones.
 
 ghost use Rattle.std.specs.Prelude.{◌≡◌, ℕ, ◌+◌, ◌*◌, ◌<◌, ◌≤◌, ◌^◌, length};
-ghost use Rattle.std.specs.List.{AllByRecursion};
 ghost use Rattle.xr_cell.specs.declared.value.Value.{Value as AnyValue};
 ghost use Rattle.xr_design.specs.Circuit.{job_in, CircuitFits, IsSpot, Reach};
-ghost use Rattle.xr_design.specs.Fits.{StandsBefore, FitsDriver, FitsRegister, FitsTable};
+ghost use Rattle.xr_design.specs.Fits.{Standing, FitsDriver, FitsRegister, FitsTable};
 ghost use Rattle.xr_design.specs.Job.{places_of};
 ghost use Rattle.xr_design.specs.Order.{arguments_of_driver, net_pins};
 ghost use Rattle.xr_design.specs.Replay.{table_of};
@@ -51,7 +50,7 @@ fn ruled_value<C: Source, B: BitSource>(
 ) -> Value
     requires fits { CircuitFits circuit.now }
     requires spot { IsSpot (job_in circuit.now) place spot }
-    requires before { AllByRecursion (StandsBefore (job_in circuit.now) spot.position) (arguments_of_driver driver.now) }
+    requires before { Standing (job_in circuit.now) spot.position (arguments_of_driver driver.now) }
     requires driver { FitsDriver (job_in circuit.now).udps (job_in circuit.now).width driver.now }
     requires is { driver.now ≡ (job_in circuit.now).driver spot.net }
     requires certain { (k : ℕ) → k < place → C.has certain.now k }
@@ -113,7 +112,7 @@ fn cell_value<B: BitSource>(
 ) -> Value
     requires fits { CircuitFits circuit.now }
     requires spot { IsSpot (job_in circuit.now) place spot }
-    requires before { AllByRecursion (StandsBefore (job_in circuit.now) spot.position) (net_pins pins.now) }
+    requires before { Standing (job_in circuit.now) spot.position (net_pins pins.now) }
     requires table { FitsTable (job_in circuit.now).udps table (length pins.now) }
     requires bits { (k : ℕ) → k < place → B.has bits.now k }
     ensures { result ≡ cell_rule (job_in circuit.now) (B.bits bits.now) spot.step table pins.now }

@@ -233,6 +233,3 @@ fn push_literal(
         }
     }
 }
-
-#[cfg(test)]
-mod tests;

@@ -9,6 +9,3 @@ mod terminals;
 pub use assigns::{add_assign, add_value};
 pub use gates::add_gate;
 pub use primitives::add_udp;
-
-#[cfg(test)]
-mod tests;

@@ -12,6 +12,3 @@ mod ports;
 pub use built::build_primitives;
 pub use clocks::{Clocks, live_count};
 pub use definitions::{Definition, Definitions};
-
-#[cfg(test)]
-mod tests;

@@ -23,6 +23,3 @@ pub use netlist::{Netlist, read_netlist};
 pub use netlist_refusal::NetlistErr;
 pub use recorded::{Recorded, read_recording};
 pub use recording_refusal::RecordingErr;
-
-#[cfg(test)]
-mod tests;

@@ -87,6 +87,3 @@ fn scale_of(alloc: Global, recording: &Recording) -> Result<Option<Bytes>, Memor
         None => Ok(None),
     }
 }
-
-#[cfg(test)]
-mod tests;

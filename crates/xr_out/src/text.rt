@@ -77,6 +77,3 @@ fn put_moments(
     }
     Ok(())
 }
-
-#[cfg(test)]
-mod tests;

@@ -1,7 +1,6 @@
 -- Lemmas of xr_replay.
 pub mod Compares
 pub mod Faults
-pub mod Floating
 pub mod Forces
 pub mod Marking
 pub mod Places

@@ -1,5 +1,4 @@
 -- Lemmas of the report.
 mod Counting
-mod Floating
 mod Growing
 mod Reach

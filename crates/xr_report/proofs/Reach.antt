@@ -1,38 +1,16 @@
 -- Places of a wave that its history has too.
-use Rattle.std.proofs.Common.{◌≡◌, ℕ, ◌*◌, ◌<◌, length, sym, ap, ◌∙◌, subst, arith, ⊎_elim}
+use Rattle.std.proofs.Common.{◌≡◌, ℕ, ◌*◌, ◌<◌, length, sym, ap, ◌∙◌, subst, arith}
 use Rattle.xr_design.specs.Filling.{IsPlace}
 use Rattle.xr_design.specs.Fits.{Fits, place_at}
-use Rattle.xr_design.specs.Handed.{HasPlaces, IsHandedIn, IsReplay, IsBlank}
-use Rattle.xr_design.specs.History.{HistoryView, HasPlace}
+use Rattle.xr_design.specs.History.{HasPlace}
 use Rattle.xr_design.specs.Job.{Job, number_of, places_of}
 use Rattle.xr_design.specs.Settled.{last_step}
 use Rattle.xr_design.specs.declared.place.Place.{Place}
+use Rattle.xr_design.proofs.Handed.{handed_places, has_place, number_within}
 use Rattle.xr_design.proofs.Numbers.{is_place_at, number_of_place_at}
 use Rattle.xr_design.proofs.Reaching.{step_small}
-use Rattle.xr_design.proofs.Rules.{position_in}
 use Rattle.xr_report.specs.Finished.{HasMoments, IsFinished}
 use Rattle.xr_wave.specs.Contents.{Contents, IsWave, IsWritten, job}
-
--- A history that is handed in has each place of the job.
-handed_places : (j : Job) (history : HistoryView) → IsHandedIn j history → HasPlaces j history
-handed_places j history handed =
-    ⊎_elim (λ (is : IsReplay j history). is.places) (λ (is : IsBlank j history). is.places) handed
-
-has_place : (j : Job) (history : HistoryView) (place : Place) → HasPlaces j history → IsPlace j place
-    → HasPlace history place
-has_place j history place has is =
-    let nets = has.nets in
-    let all = has.all in
-    let net = is.net in
-    let room = step_small j.width place.step (j.moments * j.rounds) is.step in
-    record { net = omega (arith, nets, net); step = rw nets (omega (arith, all, net, room)) }
-
--- The number of a place of the job is below the count.
-number_within : (j : Job) → Fits j → (place : Place) → IsPlace j place → number_of j place < places_of j
-number_within j fits place is =
-    let room = step_small j.width place.step (j.moments * j.rounds) is.step in
-    let low = position_in j fits place.net is.net in
-    omega (arith, room, low)
 
 -- A place is written, and the history has it.
 pub record IsThere (c : Contents) (place : Place) : Type 0 where

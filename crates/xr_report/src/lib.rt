@@ -10,6 +10,3 @@ mod puts;
 pub use bits::bit_lines;
 pub use counts::{Counts, counts_of};
 pub use head::head_lines;
-
-#[cfg(test)]
-mod tests;

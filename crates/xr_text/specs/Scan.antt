@@ -106,6 +106,9 @@ pub data Step : Type 0 where
 abbrev pub tell_run : Kind → ℕ → Rest → Step
 tell_run k at r = tell (token k at r.at) r.bytes
 
+abbrev pub tell_class : Kind → Class → ℕ → List ℕ → Step
+tell_class k class at bs = tell_run k at (after (passes class) (at + 1) bs)
+
 abbrev pub skip_or : Option Rest → Step → Step
 skip_or (Some r) s = skip r
 skip_or None s = s

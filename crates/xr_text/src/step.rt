@@ -93,7 +93,7 @@ fn token(byte: u8, after: &[u8], at: usize) -> Result<(Token, &[u8]), LexErr>
 #[inline]
 fn run_token(kind: Kind, class: Class, after: &[u8], at: usize) -> (Token, &[u8])
     requires { at + 1 + length after.now < 2 ^ 64 }
-    ensures reads { spec.tell_run kind at (spec.after (spec.passes class) (at + 1) after.now) ≡ tell result.0 result.1.now }
+    ensures reads { spec.tell_class kind class at after.now ≡ tell result.0 result.1.now }
     ensures fits { result.0.end + length result.1.now ≡ at + 1 + length after.now }
 {
     let (rest, end) = run(after, at + 1, class);

@@ -50,19 +50,3 @@ fn read_body<'a>(words: &mut Words<'a>, declared: Declarations<'a>) -> Result<Re
     body.open_moment()?;
     Ok(body.into_recording())
 }
-
-#[cfg(test)]
-mod tests {
-    use crate::cursor::Cursor;
-    use crate::read::read_vcd;
-    use std::test::Fail;
-
-    /// A text is read and looked at where there is memory.
-    #[test]
-    fn memory_suffices(rt: HostRuntime) -> Result<(), Fail> {
-        let recording = read_vcd(rt.alloc(), b"$enddefinitions $end #5")?;
-        let cursor = Cursor::new(rt.alloc(), &recording)?;
-        assert_eq!(rt; cursor.recording().times(), [5].as_slice());
-        Ok(())
-    }
-}

@@ -161,20 +161,3 @@ fn digit_value(digit: u8) -> Value
         _ => Value::Z,
     }
 }
-
-#[cfg(test)]
-mod tests {
-    use crate::changes::Changes;
-    use std::test::Fail;
-    use xr_cell::Value;
-
-    /// A change is kept where there is memory.
-    #[test]
-    fn memory_suffices(rt: HostRuntime) -> Result<(), Fail> {
-        let mut changes = Changes::new(rt.alloc())?;
-        changes.open(rt.alloc())?;
-        changes.add(0, 3, b"1x")?;
-        assert_eq!(rt; changes.value(0, 2, 0, 3), Value::One);
-        Ok(())
-    }
-}

@@ -169,18 +169,3 @@ fn reach(slots: &mut Vec<u32>, slot: usize) -> Result<(), Memory>
     }
     Ok(())
 }
-
-#[cfg(test)]
-mod tests {
-    use crate::codes::Codes;
-    use std::test::Fail;
-
-    /// Codes are kept where there is memory, short ones and others.
-    #[test]
-    fn memory_suffices(rt: HostRuntime) -> Result<(), Fail> {
-        let mut codes = Codes::new(rt.alloc());
-        codes.add(b"!", 1, false)?;
-        assert_eq!(rt; codes.len(), 1);
-        Ok(())
-    }
-}

@@ -5,7 +5,6 @@ mod FoundLines
 mod Fronts
 mod KeptBytes
 mod LineGrowth
-mod Nevers
 mod NextClass
 mod OneWave
 mod ShownPlaces

@@ -1,5 +1,5 @@
 -- The class of the next place, and the places that it names.
-use Rattle.std.proofs.Common.{◌≡◌, ℕ, ◌*◌, ◌<◌, ◌≤◌, Bool, true, false, Option, Some, None, List, length, map, refl, ◌∙◌, arith, subst, ⊎_elim, if◌then◌else◌, IfSome}
+use Rattle.std.proofs.Common.{◌≡◌, ℕ, ◌*◌, ◌<◌, ◌≤◌, Bool, true, false, Option, Some, None, List, length, map, refl, ◌∙◌, arith, subst, if◌then◌else◌, IfSome}
 use Rattle.std.specs.Prelude.{nat_lt}
 use Rattle.std.specs.List.{AllByRecursion}
 use Rattle.std.proofs.lemmas.Bool.{ltb-true, lt-ltb}
@@ -9,13 +9,9 @@ use Rattle.xr_design.specs.declared.place.Place.{Place}
 use Rattle.xr_design.specs.declared.waveform.Written.{Written}
 use Rattle.xr_design.specs.Filling.{IsPlace}
 use Rattle.xr_design.specs.Fits.{Fits}
-use Rattle.xr_design.specs.Handed.{HasPlaces, IsHandedIn, IsReplay, IsBlank}
-use Rattle.xr_design.specs.History.{HistoryView, HasPlace}
 use Rattle.xr_design.specs.Job.{Job, number_of, places_of}
 use Rattle.xr_design.specs.Rule.{arguments}
 use Rattle.xr_design.specs.Waveform.{certain}
-use Rattle.xr_design.proofs.Reaching.{step_small}
-use Rattle.xr_design.proofs.Rules.{position_in}
 use Rattle.xr_model.specs.Class.{class_of}
 use Rattle.xr_model.specs.declared.class.ClassByNumber.{ClassByNumber}
 use Rattle.xr_model.specs.declared.class.ClassByNumber.TheVariants.{Local, Free, Carried, Line}
@@ -79,26 +75,6 @@ next_said P j bytes next within next_is says =
     let some = some_next j (map written_of_byte bytes) (omega (arith, long, within)) in
     subst (λ n. P (class_of j (certain (map written_of_byte bytes)) n)) long
     (subst (λ found. IfSome found P) (next_is ∙ some) says)
-
--- A history that is handed in has each place of the job.
-pub handed_places : (j : Job) (history : HistoryView) → IsHandedIn j history → HasPlaces j history
-handed_places j history handed = ⊎_elim (λ (is : IsReplay j history). is.places) (λ (is : IsBlank j history). is.places) handed
-
-pub has_place : (j : Job) (history : HistoryView) (place : Place) → HasPlaces j history → IsPlace j place
-    → HasPlace history place
-has_place j history place has is =
-    let nets = has.nets in
-    let all = has.all in
-    let net = is.net in
-    let room = step_small j.width place.step (j.moments * j.rounds) is.step in
-    record { net = omega (arith, nets, net); step = rw nets (omega (arith, all, net, room)) }
-
--- The number of a place of the job is below the count.
-pub number_within : (j : Job) → Fits j → (place : Place) → IsPlace j place → number_of j place < places_of j
-number_within j fits place is =
-    let room = step_small j.width place.step (j.moments * j.rounds) is.step in
-    let low = position_in j fits place.net is.net in
-    omega (arith, room, low)
 
 -- A carried place is carried from one of the job.
 pub class_from_job : (j : Job) → Fits j → (c : ℕ → Value) (place : ℕ) → place < places_of j

@@ -20,7 +20,7 @@ use Rattle.xr_design.proofs.Reaching.{step_small}
 use Rattle.xr_design.proofs.Rules.{position_in}
 use Rattle.xr_wave.specs.Contents.{Contents, IsFinished, IsWave, job, written_of}
 use Rattle.xr_wave.specs.Shown.{ShowsBelow, ShowsWave, held_from}
-use Rattle.xr_wave.proofs.NextClass.{has_place}
+use Rattle.xr_design.proofs.Handed.{has_place}
 
 -- The place at a position of a step.
 pub place_there : (j : Job) (step position : ℕ) → position < j.width

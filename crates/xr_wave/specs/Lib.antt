@@ -8,4 +8,3 @@ pub mod Token
 pub mod Pairs
 pub mod Shown
 pub mod Laws
-pub mod Never

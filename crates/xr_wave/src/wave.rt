@@ -359,6 +359,3 @@ fn seen_class(circuit: &Circuit<'_>, class: ClassByNumber) -> Class
         ClassByNumber::Line => Class::Line,
     }
 }
-
-#[cfg(test)]
-mod tests;

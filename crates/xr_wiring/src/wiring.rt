@@ -130,6 +130,3 @@ fn kind_of_table(table: Table) -> Kind
         Table::Udp(number) => Kind::Udp(number),
     }
 }
-
-#[cfg(test)]
-mod tests;

@@ -1,4 +1,3 @@
 -- Lemmas on whole worlds.
 mod Filled
-mod Floating
 mod Reading

@@ -63,6 +63,3 @@ fn positions_of(alloc: Global, order: &Order, width: usize) -> Result<Vec<u32>, 
     }
     Ok(positions)
 }
-
-#[cfg(test)]
-mod tests;

@@ -1,6 +1,6 @@
 -- The history has each place of the job.
 use Rattle.xr_design.specs.Circuit.{job_in}
-use Rattle.test_repair.proofs.ReplayPlaces.{has_place}
+use Rattle.xr_design.proofs.Handed.{has_place}
 use Rattle.test_repair.proofs.replayed.value_at.Goals as goal
 
 pub kept-requires : goal.kept-requires

@@ -1,6 +1,6 @@
 -- The number of a place of the job is below the count.
 use Rattle.xr_design.specs.Circuit.{job_in}
-use Rattle.xr_wave.proofs.NextClass.{number_within}
+use Rattle.xr_design.proofs.Handed.{number_within}
 use Rattle.xr_wave.proofs.places.number_of.Goals as goal
 
 pub returns-clause-within : goal.returns-clause-within

@@ -7,7 +7,7 @@ use Rattle.xr_design.proofs.Numbers.{is_place_at}
 use Rattle.xr_wave.specs.Byte.{written_of_byte}
 use Rattle.xr_wave.specs.Contents.{Contents, job}
 use Rattle.xr_wave.proofs.Fronts.{front_place}
-use Rattle.xr_wave.proofs.NextClass.{handed_places, has_place}
+use Rattle.xr_design.proofs.Handed.{handed_places, has_place}
 use Rattle.xr_wave.proofs.wave.Wave.shown_next.Goals as goal
 
 pub shown-requires : goal.shown-requires
