@@ -13,7 +13,7 @@ use Rattle.xr_model.specs.declared.class.ClassByNumber.{ClassByNumber}
 use Rattle.xr_model.specs.declared.class.ClassByNumber.TheVariants.{Local, Free, Carried, Line}
 use Rattle.xr_model.specs.declared.line.Line.{Line as ALine}
 use Rattle.xr_class.specs.Facts.{AgreesWith}
-use Rattle.xr_wave.specs.Kept.{ValuesAgree}
+use Rattle.xr_wave_bytes.specs.Kept.{ValuesAgree}
 
 carried_value : (inverted : Bool) (mark : Mark) (v u : Value) → (mark ≡ Certain → v ≡ flipped_value inverted u)
     → certain_by mark v ≡ flipped_value inverted (certain_by mark u)

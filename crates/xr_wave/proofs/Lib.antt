@@ -1,9 +1,6 @@
 -- Lemmas on waves.
 mod AgreeingValues
-mod ByteDigits
 mod FoundLines
-mod Fronts
-mod KeptBytes
 mod LineGrowth
 mod NextClass
 mod OneWave

@@ -20,8 +20,8 @@ use Rattle.xr_model.specs.Places.{among}
 use Rattle.xr_model.proofs.AssignmentNumbers.{along}
 use Rattle.xr_model.proofs.PlacesWhere.{picked_below}
 use Rattle.xr_model.proofs.Roots.{carried_below}
-use Rattle.xr_wave.specs.Byte.{written_of_byte}
-use Rattle.xr_wave.specs.Contents.{FromWithin, next_class}
+use Rattle.xr_wave.specs.Contents.{FromWithin}
+use Rattle.xr_wave_bytes.specs.View.{next_class}
 
 by_test : (b : Bool) (there class : ClassByNumber) → (if b then Some there else None) ≡ Some class
     → (b ≡ true) × (there ≡ class)
@@ -34,11 +34,6 @@ pub next_some : (j : Job) (written : List Written) (class : ClassByNumber) → n
 next_some j written class is =
     let parts = by_test (nat_lt (length written) (places_of j)) (class_of j (certain written) (length written)) class is in
     (ltb-true (length written) (places_of j) parts.0, parts.1)
-
--- Where there is a next place, there is one.
-pub some_next : (j : Job) (written : List Written) → length written < places_of j
-    → next_class j written ≡ Some (class_of j (certain written) (length written))
-some_next j written within = rw (lt-ltb (length written) (places_of j) within) refl
 
 from_below : (j : Job) → Fits j → (c : ℕ → Value) (place : ℕ) → place < places_of j → (class : ClassByNumber)
     → class_of j c place ≡ class → FromWithin place class
@@ -65,16 +60,6 @@ next_from_job j fits written class is =
     let parts = next_some j written class is in
     let within = parts.0 in
     further (length written) (places_of j) (omega (arith, within)) class (next_from j fits written class is)
-
--- What is said of the class of the next place, over bytes.
-pub next_said : (P : ClassByNumber → Type 0) (j : Job) (bytes : List ℕ) (next : Option ClassByNumber)
-    → length bytes < places_of j → next ≡ next_class j (map written_of_byte bytes) → IfSome next P
-    → P (class_of j (certain (map written_of_byte bytes)) (length bytes))
-next_said P j bytes next within next_is says =
-    let long : length (map written_of_byte bytes) ≡ length bytes = length-map bytes written_of_byte in
-    let some = some_next j (map written_of_byte bytes) (omega (arith, long, within)) in
-    subst (λ n. P (class_of j (certain (map written_of_byte bytes)) n)) long
-    (subst (λ found. IfSome found P) (next_is ∙ some) says)
 
 -- A carried place is carried from one of the job.
 pub class_from_job : (j : Job) → Fits j → (c : ℕ → Value) (place : ℕ) → place < places_of j

@@ -22,6 +22,7 @@ use Rattle.xr_model.specs.declared.class.Class.TheVariants as seen
 use Rattle.xr_model.specs.declared.class.ClassByNumber.{ClassByNumber}
 use Rattle.xr_model.specs.declared.class.ClassByNumber.TheVariants.{Local, Free, Carried, Line}
 use Rattle.xr_model.specs.declared.line.Line.{Line as ALine}
+use Rattle.xr_wave_bytes.specs.View.{WaveformView, next_class}
 
 -- The circuit, the history that was handed in, how long the log of a licence is, the waveform of the places that are
 -- written, and the lines.
@@ -33,6 +34,18 @@ pub record Contents : Type 0 where
   pub limit : ℕ
   pub written : List Written
   pub lines : List ALine
+
+-- A waveform of a circuit with the other parts.
+abbrev pub contents_of : WaveformView → HistoryView → ℕ → List ALine → Contents
+contents_of waveform history limit lines = record {
+  design = waveform.design;
+  order = waveform.order;
+  stim = waveform.stim;
+  history = history;
+  limit = limit;
+  written = waveform.written;
+  lines = lines;
+}
 
 abbrev pub job : Contents → Job
 job c = job_of c.design c.order c.stim
@@ -73,12 +86,7 @@ arguments_in c place = argument_places (job c) (certain c.written) place
 abbrev pub rule_in : Contents → ℕ → ℕ → Value
 rule_in c place number = rule (job c) (certain c.written) (masked (arguments_in c place) number) place
 
--- The class of the next place, if there is one.
-abbrev pub next_class : Job → List Written → Option ClassByNumber
-next_class j written =
-    if nat_lt (length written) (places_of j) then Some (class_of j (certain written) (length written)) else None
-
--- They, as callers see them.
+-- The next place, if there is one, and its class as callers see it.
 abbrev pub next_place : Job → List Written → Option Place
 next_place j written = if nat_lt (length written) (places_of j) then Some (place_at j (length written)) else None
 

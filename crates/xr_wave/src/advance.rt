@@ -9,11 +9,11 @@ ghost use Rattle.xr_wave.specs.Advance.{Contradicts, IsPlain, Told, plain_writte
 ghost use Rattle.xr_wave.specs.Contents.{next_number, next_seen, shown_in};
 ghost use Rattle.xr_wave.specs.Token.{HasNext};
 
-use crate::bytes::value_if_certain;
 use crate::wave::Wave;
 use xr_cell::Value;
 use xr_design::{Mark, Place, Written};
 use xr_model::{ClassByNumber, Line};
+use xr_wave_bytes::value_if_certain;
 
 /// A place that the history knows and that is found otherwise.
 #[derive(Debug, Drop)]

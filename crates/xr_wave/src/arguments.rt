@@ -6,9 +6,9 @@ ghost use Rattle.xr_design.specs.Circuit.{job_in, CircuitFits};
 ghost use Rattle.xr_design.specs.Fits.{place_at};
 ghost use Rattle.xr_design.specs.Job.{places_of};
 
-use crate::places::place_of;
 use std::marker::Model;
 use xr_design::{Circuit, Place};
+use xr_wave_bytes::place_of;
 
 /// At most 13 places. Contracts see the list.
 #[derive(Debug, Drop)]

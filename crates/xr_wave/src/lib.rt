@@ -5,11 +5,7 @@
 
 mod advance;
 mod arguments;
-mod byte;
-mod bytes;
-mod front;
 mod laws;
-mod places;
 mod settle;
 mod shown;
 mod source;

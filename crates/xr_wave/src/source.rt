@@ -4,10 +4,10 @@ ghost use Rattle.std.specs.Prelude.{◌≡◌, ℕ, ◌<◌, length};
 ghost use Rattle.xr_cell.specs.declared.value.Value.{Value as AnyValue};
 ghost use Rattle.xr_design.specs.Waveform.{certain};
 
-use crate::bytes::value_if_certain;
 use crate::wave::Wave;
 use xr_cell::Value;
 use xr_design::Source;
+use xr_wave_bytes::value_if_certain;
 
 impl<'a> Source for Wave<'a> {
     ghost reads = { λ wave place. certain wave.written place };

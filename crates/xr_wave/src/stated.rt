@@ -8,12 +8,12 @@ ghost use Rattle.xr_model.specs.Stated.{body_at, pair_of, stated_in as stated_in
 ghost use Rattle.xr_wave.specs.Contents.{IsWave, IsWritten, job};
 ghost use Rattle.xr_wave.specs.Pairs.{AreInOrder, AreParted, AreStated, GiveBoth, IsUnknown, root_in, stated_at_root, stated_in};
 
-use crate::places::{number_of, place_of};
 use crate::wave::Wave;
 use std::alloc::Global;
 use xr_base::{Items, Memory};
 use xr_design::{Circuit, Filling, Mark, Place};
 use xr_model::{Body, ClassByNumber, Line};
+use xr_wave_bytes::{number_of, place_of};
 
 /// The root of a place, and whether the way to it inverts.
 #[derive(Clone, Copy, Debug)]

@@ -1,6 +1,6 @@
 //! A waveform that grows by one place at a time.
 
-ghost use Rattle.std.specs.Prelude.{◌≡◌, ℕ, ◌<◌, ◌≤◌, [], IfOk, IfErr, None, length, map};
+ghost use Rattle.std.specs.Prelude.{◌≡◌, ◌<◌, ◌≤◌, [], IfOk, IfErr, length, map};
 ghost use Rattle.xr_cell.specs.declared.value.Value.{Value as AnyValue};
 ghost use Rattle.xr_design.specs.Circuit.{FitsCircuit, CircuitFits, job_in};
 ghost use Rattle.xr_design.specs.Fits.{place_at};
@@ -12,58 +12,45 @@ ghost use Rattle.xr_model.specs.Growth.{NextHolds};
 ghost use Rattle.xr_model.specs.Sound.{Sound};
 ghost use Rattle.xr_model.specs.Yields.{Yields};
 ghost use Rattle.xr_wave.specs.Advance.{with_written};
-ghost use Rattle.xr_wave.specs.Contents.{Contents, FromWithin, IsReached, IsWave, IsWritten, arguments_in, class_in, job, next_class, next_number, next_place, next_seen, nothing_written, rule_in, shown_in, written_of};
+ghost use Rattle.xr_wave.specs.Contents.{FromWithin, IsReached, IsWave, IsWritten, arguments_in, class_in, job, next_number, next_place, next_seen, nothing_written, rule_in, shown_in, written_of};
+ghost use Rattle.xr_wave_bytes.specs.View.{next_class};
 ghost use Rattle.xr_wave.specs.Token.{HasNext, IsLineNext, LineAgrees, LineHolds, with_line, written_by_line};
 
 use crate::arguments::{Arguments, places_of_numbers};
-use crate::byte::written_in;
-use crate::bytes::{Bytes, class_behind, push_place};
-use crate::front::{Front, first_front, front_behind, place_there};
-use crate::places::{number_of, place_of};
 use std::alloc::Global;
 use std::marker::Model;
 use xr_base::Memory;
 use xr_cell::Value;
-use xr_class::{argument_places, class_at, kept_class, rule_value};
 use xr_design::{Circuit, Design, History, Mark, Order, Place, Stim, Written, count_places};
 use xr_model::{Class, ClassByNumber, Line};
-use xr_wiring::Wiring;
+use xr_wave_bytes::{Waveform, number_of, place_of};
 
 /// What is known of the places of a circuit so far, in place order, and the lines that say why.
 #[derive(Debug, Drop)]
 pub struct Wave<'a> {
-    circuit: Circuit<'a>,
+    /// In a box, since a wave is handed on at each place.
+    parts: Box<Parts<'a>>,
+}
+
+/// What a wave is made of.
+#[derive(Debug, Drop)]
+struct Parts<'a> {
+    waveform: Waveform<'a>,
     replayed: &'a History,
     limit: u32,
-    bytes: Vec<u8>,
     lines: Vec<Line>,
-    /// The class of the next place: each write finds it.
-    next: Option<ClassByNumber>,
-    /// Where the next place stands.
-    front: Front,
-    wiring: Wiring,
 }
 
 impl<'a> Model for Wave<'a> {
-    ghost use Rattle.std.specs.Prelude.{◌≤◌, length, vec_capacity};
-    ghost use Rattle.xr_design.specs.Circuit.{job_in};
-    ghost use Rattle.xr_design.specs.Job.{places_of};
-    ghost use Rattle.xr_class.specs.Wires.{AreWiresOf};
-    ghost use Rattle.xr_wave.specs.Front.{StandsAt};
-    ghost use Rattle.xr_wave.specs.Contents.{Contents, IsWave};
-    ghost use Rattle.xr_wave.specs.Kept.{IsKept, contents_of};
+    ghost use Rattle.xr_wave.specs.Contents.{Contents, IsWave, contents_of};
 
     ghost Value = { Contents };
 
-    ghost view = { λ w. contents_of w.circuit w.replayed.now w.limit w.bytes.items w.lines.items };
+    ghost view = { λ w. contents_of w.parts.value.waveform w.parts.value.replayed.now w.parts.value.limit
+        w.parts.value.lines.items };
 
-    ghost invariant = { λ w. record {
-      right : IsWave (contents_of w.circuit w.replayed.now w.limit w.bytes.items w.lines.items);
-      kept : IsKept w.circuit w.bytes.items w.next;
-      room : places_of (job_in w.circuit) ≤ vec_capacity w.bytes;
-      wired : AreWiresOf w.circuit w.wiring;
-      front : StandsAt (job_in w.circuit) (length w.bytes.items) w.front;
-    } };
+    ghost invariant = { λ w. IsWave (contents_of w.parts.value.waveform w.parts.value.replayed.now w.parts.value.limit
+        w.parts.value.lines.items) };
 }
 
 impl<'a> Wave<'a> {
@@ -85,19 +72,15 @@ impl<'a> Wave<'a> {
             order,
             stim,
         };
-        let wiring = Wiring::of(alloc, design, order)?;
-        let bytes = Vec::with_capacity(alloc, count_places(&circuit))?;
-        let front = first_front(&circuit);
-        let next = class_behind(&circuit, &wiring, bytes.as_slice(), front);
-        Ok(Wave {
-            circuit,
+        let waveform = Waveform::new(alloc, circuit)?;
+        let parts = Parts {
+            waveform,
             replayed,
             limit,
-            bytes,
             lines: Vec::new(alloc),
-            next,
-            front,
-            wiring,
+        };
+        Ok(Wave {
+            parts: Box::new(alloc, parts)?,
         })
     }
 
@@ -105,44 +88,44 @@ impl<'a> Wave<'a> {
     pub fn design(&self) -> &'a Design
         ensures { result.now ≡ self.now.design }
     {
-        self.circuit.design
+        self.parts.waveform.circuit().design
     }
 
     /// The order, as it was handed in. Takes no memory.
     pub fn order(&self) -> &'a Order
         ensures { result.now ≡ self.now.order }
     {
-        self.circuit.order
+        self.parts.waveform.circuit().order
     }
 
     /// The stimulus, as it was handed in. Takes no memory.
     pub fn stim(&self) -> &'a Stim
         ensures { result.now ≡ self.now.stim }
     {
-        self.circuit.stim
+        self.parts.waveform.circuit().stim
     }
 
     /// The history, as it was handed in. Takes no memory.
     pub fn replayed(&self) -> &'a History
         ensures { result.now ≡ self.now.history }
     {
-        self.replayed
+        self.parts.replayed
     }
 
     /// How many clauses the log of a licence has. Takes no memory.
     pub fn limit(&self) -> u32
         ensures { result ≡ self.now.limit }
     {
-        self.limit
+        self.parts.limit
     }
 
     /// The class of the next place, which the last write found. Takes no memory.
     pub fn class(&self) -> Class
         ensures { result ≡ next_seen self.now }
     {
-        match self.next {
+        match self.parts.waveform.next_class() {
             None => Class::Done,
-            Some(class) => seen_class(&self.circuit, class),
+            Some(class) => seen_class(&self.circuit(), class),
         }
     }
 
@@ -150,8 +133,8 @@ impl<'a> Wave<'a> {
     pub fn next_place(&self) -> Option<Place>
         ensures { result ≡ next_place (job self.now) self.now.written }
     {
-        if self.bytes.len() < count_places(&self.circuit) {
-            Some(place_there(&self.circuit, self.front))
+        if self.count() < count_places(&self.circuit()) {
+            Some(self.place_behind())
         } else {
             None
         }
@@ -162,8 +145,9 @@ impl<'a> Wave<'a> {
         requires { IsReached self.now place }
         ensures { result ≡ class_seen (job self.now) (class_in self.now (number_of (job self.now) place)) }
     {
-        let number = number_of(&self.circuit, place);
-        seen_class(&self.circuit, self.class_by_number(number))
+        let circuit = self.circuit();
+        let number = number_of(&circuit, place);
+        seen_class(&circuit, self.class_by_number(number))
     }
 
     /// The class of the place of a number, of one that is written or of the next one. Takes no memory.
@@ -172,15 +156,7 @@ impl<'a> Wave<'a> {
         requires within { number < places_of (job self.now) }
         ensures { result ≡ class_in self.now number }
     {
-        let bytes = Bytes {
-            bytes: self.bytes.as_slice(),
-        };
-        if number < self.bytes.len() {
-            kept_class(&self.circuit, &self.wiring, &bytes, number)
-        } else {
-            let position = self.front.position;
-            class_at(&self.circuit, &self.wiring, &bytes, number, position)
-        }
+        self.parts.waveform.class_by_number(number)
     }
 
     /// The argument places of a place that is written, or of the next one, in place order and without doubles. Takes no
@@ -189,12 +165,10 @@ impl<'a> Wave<'a> {
         requires { IsReached self.now place }
         ensures { result ≡ map (place_at (job self.now)) (arguments_in self.now (number_of (job self.now) place)) }
     {
-        let number = number_of(&self.circuit, place);
-        let bytes = Bytes {
-            bytes: self.bytes.as_slice(),
-        };
-        let numbers = argument_places(&self.circuit, &bytes, number);
-        places_of_numbers(&self.circuit, numbers.as_slice())
+        let circuit = self.circuit();
+        let number = number_of(&circuit, place);
+        let numbers = self.parts.waveform.argument_places(number);
+        places_of_numbers(&circuit, numbers.as_slice())
     }
 
     /// What the rule of a place that is written, or of the next one, gives where bit i of a number is the bit of its
@@ -203,11 +177,8 @@ impl<'a> Wave<'a> {
         requires { IsReached self.now place }
         ensures { result ≡ rule_in self.now (number_of (job self.now) place) bits }
     {
-        let number = number_of(&self.circuit, place);
-        let bytes = Bytes {
-            bytes: self.bytes.as_slice(),
-        };
-        rule_value(&self.circuit, &bytes, number, bits)
+        let number = number_of(&self.circuit(), place);
+        self.parts.waveform.rule_value(number, bits)
     }
 
     /// What the waveform shows at a place. Takes no memory.
@@ -215,7 +186,7 @@ impl<'a> Wave<'a> {
         requires { IsWritten self.now place }
         ensures { result ≡ (written_of self.now place).value }
     {
-        self.written(number_of(&self.circuit, place)).value
+        self.written(number_of(&self.circuit(), place)).value
     }
 
     /// What is known of a place. Takes no memory.
@@ -223,7 +194,7 @@ impl<'a> Wave<'a> {
         requires { IsWritten self.now place }
         ensures { result ≡ (written_of self.now place).mark }
     {
-        self.written(number_of(&self.circuit, place)).mark
+        self.written(number_of(&self.circuit(), place)).mark
     }
 
     /// The lines, one for each Line place that is written, in place order. They yield the waveform, which is sound. No
@@ -233,7 +204,7 @@ impl<'a> Wave<'a> {
         ensures yields { Yields (job self.now) self.now.limit (shown_in self.now) self.now.written result.now }
         ensures sound { Sound (job self.now) self.now.limit (shown_in self.now) self.now.written result.now }
     {
-        self.lines.as_slice()
+        self.parts.lines.as_slice()
     }
 
     /// The design with its order and its stimulus, which fit. Takes no memory.
@@ -242,7 +213,7 @@ impl<'a> Wave<'a> {
         ensures fits { CircuitFits result }
         ensures wave { IsWave self.now }
     {
-        self.circuit
+        self.parts.waveform.circuit()
     }
 
     /// How many places are written. Takes no memory.
@@ -250,7 +221,7 @@ impl<'a> Wave<'a> {
         ensures count { result ≡ length self.now.written }
         ensures wave { IsWave self.now }
     {
-        self.bytes.len()
+        self.parts.waveform.count()
     }
 
     /// What stands at the place of a number.
@@ -258,7 +229,7 @@ impl<'a> Wave<'a> {
         requires { number < length self.now.written }
         ensures { result ≡ written_at self.now.written number }
     {
-        written_in(self.bytes[number])
+        self.parts.waveform.written(number)
     }
 
     /// The class of the next place, by number.
@@ -266,7 +237,7 @@ impl<'a> Wave<'a> {
         ensures class { result ≡ next_class (job self.now) self.now.written }
         ensures wave { IsWave self.now }
     {
-        self.next
+        self.parts.waveform.next_class()
     }
 
     /// What the history shows at the next place.
@@ -275,7 +246,7 @@ impl<'a> Wave<'a> {
         ensures shown { result ≡ shown_in self.now (next_number self.now) }
         ensures wave { IsWave self.now }
     {
-        self.replayed.shown(place_there(&self.circuit, self.front))
+        self.parts.replayed.shown(self.place_behind())
     }
 
     /// The next place, where there is one.
@@ -283,23 +254,20 @@ impl<'a> Wave<'a> {
         requires { HasNext self.now }
         ensures { result ≡ place_at (job self.now) (next_number self.now) }
     {
-        place_there(&self.circuit, self.front)
+        self.parts.waveform.place_behind()
     }
 
     /// Gives the wave up for its lines.
     pub(crate) fn into_lines(self) -> Vec<Line>
         ensures { result.items ≡ self.entry.lines }
     {
-        let Wave {
-            circuit: _,
+        let Wave { parts } = self;
+        let Parts {
+            waveform: _,
             replayed: _,
             limit: _,
-            bytes: _,
             lines,
-            next: _,
-            front: _,
-            wiring: _,
-        } = self;
+        } = Box::into_inner(parts);
         lines
     }
 
@@ -308,12 +276,7 @@ impl<'a> Wave<'a> {
         requires next { NextHolds (job self) self.limit (shown_in self) self.written written [] }
         ensures { result ≡ with_written self.entry written }
     {
-        let circuit = self.circuit;
-        let next = self.next;
-        let front = front_behind(&circuit, self.front, self.bytes.len());
-        push_place(&circuit, &mut self.bytes, next, written);
-        self.next = class_behind(&circuit, &self.wiring, self.bytes.as_slice(), front);
-        self.front = front;
+        self.parts.waveform.push(written);
         self
     }
 
@@ -330,18 +293,13 @@ impl<'a> Wave<'a> {
         ensures ok { IfOk result (λ w. w ≡ with_line self.entry line) }
         ensures err { IfErr result (λ e. (e.0 ≡ self.entry) × (e.1 ≡ line)) }
     {
-        if self.lines.reserve(1).is_err() {
+        if self.parts.lines.reserve(1).is_err() {
             return Err((self, line));
         }
-        if self.lines.push(line).is_err() {
+        if self.parts.lines.push(line).is_err() {
             unreachable!()
         }
-        let circuit = self.circuit;
-        let next = self.next;
-        let front = front_behind(&circuit, self.front, self.bytes.len());
-        push_place(&circuit, &mut self.bytes, next, written);
-        self.next = class_behind(&circuit, &self.wiring, self.bytes.as_slice(), front);
-        self.front = front;
+        self.parts.waveform.push(written);
         Ok(self)
     }
 }

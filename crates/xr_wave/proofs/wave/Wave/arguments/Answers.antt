@@ -1,9 +1,23 @@
 -- The argument places of a place are places of the job.
+use Rattle.std.proofs.Common.{◌≡◌, ◌<◌, ◌∙◌, sym, ap, subst}
+use Rattle.std.specs.List.{AllByRecursion}
 use Rattle.xr_design.specs.Circuit.{job_in}
+use Rattle.xr_design.specs.Job.{Job, places_of}
+use Rattle.xr_design.specs.Waveform.{certain}
+use Rattle.xr_model.specs.Assignment.{argument_places}
+use Rattle.xr_wave.specs.Contents.{job}
+use Rattle.xr_wave_bytes.specs.View as view
 use Rattle.xr_wave.proofs.NextClass.{arguments_within}
 use Rattle.xr_wave.proofs.wave.Wave.arguments.Goals as goal
 
 pub places_of_numbers-requires-clause-within : goal.places_of_numbers-requires-clause-within
 places_of_numbers-requires-clause-within c =
-    rw (c.as_slice-2.ensures.places, c.argument_places-numbers.ensures)
-    (arguments_within (job_in c.self.inside.circuit) _ c.number_of-number.result c.number_of-number.ensures.within)
+    let waveform = c.self.inside.parts.value.waveform in
+    let number = c.number_of-number.result in
+    let jobs : view.job waveform ≡ job_in c.circuit-circuit.result =
+    ap job c.self.view_is ∙ sym c.circuit-circuit.ensures.job in
+    rw (c.as_slice.ensures.places, c.argument_places-numbers.ensures, c.deref.ensures)
+    (subst (λ (j : Job). AllByRecursion (λ k. k < places_of j)
+    (argument_places (view.job waveform) (certain waveform.written) number)) jobs
+    (arguments_within (view.job waveform) (certain waveform.written) number
+    (subst (λ (j : Job). number < places_of j) (sym jobs) c.number_of-number.ensures.within)))

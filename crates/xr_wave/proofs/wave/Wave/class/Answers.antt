@@ -1,12 +1,17 @@
 -- A place is carried from one that is written.
-use Rattle.std.proofs.Common.{◌∙◌, sym, map}
-use Rattle.xr_design.specs.Circuit.{job_in}
-use Rattle.xr_wave.specs.Byte.{written_of_byte}
+use Rattle.std.proofs.Common.{◌≡◌, ◌∙◌, sym, ap, subst}
+use Rattle.xr_design.specs.Job.{Job, places_of}
+use Rattle.xr_wave.specs.Contents.{FromWithin, job}
+use Rattle.xr_wave_bytes.specs.View as view
+use Rattle.xr_wave_bytes.specs.View.{next_class}
 use Rattle.xr_wave.proofs.NextClass.{next_from_job}
 use Rattle.xr_wave.proofs.wave.Wave.class.Goals as goal
 
 pub seen_class-requires-clause-within : goal.seen_class-requires-clause-within
 seen_class-requires-clause-within c =
-    next_from_job (job_in c.self.inside.circuit) c.self.invariant.right.fits.fits_job
-    (map written_of_byte c.self.inside.bytes.items) c.in-Some.class
-    (sym c.self.invariant.kept.next_is ∙ c.in-Some.is)
+    let waveform = c.self.inside.parts.value.waveform in
+    let is = subst (λ parts. c.next_class.result ≡ next_class (view.job parts.waveform) parts.waveform.written)
+    c.deref.ensures c.next_class.ensures in
+    subst (λ (j : Job). FromWithin (places_of j) c.in-Some.class) (ap job c.self.view_is ∙ sym c.circuit.ensures.job)
+    (next_from_job (view.job waveform) c.self.invariant.fits.fits_job waveform.written c.in-Some.class
+    (sym is ∙ c.in-Some.is))

@@ -1,57 +1,37 @@
 -- The wave stays a wave.
-use Rattle.std.proofs.Common.{◌≡◌, ℕ, List, ◌<◌, ◌∙◌, ◌++◌, ◌∷◌, [], length, map, ap, sym, subst, arith, append-nil, rules}
-use Rattle.std.proofs.lemmas.List.{length-map}
-use Rattle.xr_design.specs.Circuit.{job_in}
-use Rattle.xr_design.specs.Job.{places_of}
-use Rattle.xr_wave.specs.Byte.{written_of_byte}
-use Rattle.xr_wave.specs.Contents.{Contents, IsWave, job, next_class}
-use Rattle.xr_wave.specs.Front.{StandsAt}
-use Rattle.xr_wave.specs.Kept.{BytesTell, ValuesAgree}
-use Rattle.xr_wave.proofs.WaveGrowth.{wave_agrees, wave_next}
+use Rattle.std.proofs.Common.{List, ◌++◌, ◌∷◌, [], sym, subst, append-nil}
+use Rattle.xr_model.specs.declared.line.Line.{Line as ALine}
+use Rattle.xr_wave.specs.Contents.{Contents, IsWave, contents_of, job}
+use Rattle.xr_wave.specs.Token.{HasNext}
+use Rattle.xr_wave_bytes.specs.Kept.{ValuesAgree}
+use Rattle.xr_wave_bytes.specs.View as view
+use Rattle.xr_wave_bytes.specs.View.{HasMore, WaveformView, and_one}
+use Rattle.xr_wave.proofs.WaveGrowth.{wave_agrees, wave_grown}
 use Rattle.xr_wave.proofs.wave.Wave.write.Goals as goal
 
-pub push_place-requires-clause-within : goal.push_place-requires-clause-within
-push_place-requires-clause-within c =
-    let long = length-map c.self.inside.bytes.items written_of_byte in
-    let less : length (map written_of_byte c.self.inside.bytes.items) < places_of (job_in c.self.inside.circuit) =
-    subst (λ (v : Contents). length v.written < places_of (job v)) (sym c.self.view_is) c.requires.next.said.within in
-    omega (arith, long, less)
+pub push-requires-clause-next : goal.push-requires-clause-next
+push-requires-clause-next c =
+    subst (λ parts. HasMore parts.waveform) (sym c.deref_mut.ensures.value)
+    (subst HasNext (sym c.self.view_is) c.requires.next.said.within)
 
-pub push_place-requires-clause-agrees : goal.push_place-requires-clause-agrees
-push_place-requires-clause-agrees c =
-    let right : IsWave c.args.self = subst IsWave c.self.view_is c.self.invariant.right in
-    subst (λ (v : Contents). ValuesAgree (job v) (v.written ++ c.args.written ∷ [])) (sym c.self.view_is)
-    (wave_agrees c.args.self c.args.written [] right c.requires.next)
-
-pub class_behind-self-inside-requires-clause-told : goal.class_behind-self-inside-requires-clause-told
-class_behind-self-inside-requires-clause-told c =
-    subst (BytesTell (job_in c.self.inside.circuit)) (sym c.as_slice.ensures.value) c.push_place.ensures.told
-
-pub class_behind-self-inside-requires-clause-agrees : goal.class_behind-self-inside-requires-clause-agrees
-class_behind-self-inside-requires-clause-agrees c =
-    subst (λ (bs : List ℕ). ValuesAgree (job_in c.self.inside.circuit) (map written_of_byte bs))
-    (sym c.as_slice.ensures.value) c.push_place.ensures.agrees
+pub push-requires-clause-agrees : goal.push-requires-clause-agrees
+push-requires-clause-agrees c =
+    let x = c.args.written in
+    subst (λ parts. ValuesAgree (view.job parts.waveform) (parts.waveform.written ++ x ∷ [])) (sym c.deref_mut.ensures.value)
+    (subst (λ (v : Contents). ValuesAgree (job v) (v.written ++ x ∷ [])) (sym c.self.view_is)
+    (wave_agrees c.args.self x [] (subst IsWave c.self.view_is c.self.invariant) c.requires.next))
 
 pub invariant_of-self : goal.invariant_of-self
 invariant_of-self c =
-    let right : IsWave c.args.self = subst IsWave c.self.view_is c.self.invariant.right in
-    let written : map written_of_byte c.push_place.new.bytes.items ≡ c.args.self.written ++ c.args.written ∷ [] =
-    c.push_place.ensures.written ∙ ap (λ (v : Contents). v.written ++ c.args.written ∷ []) c.self.view_is in
-    let lines : c.self.inside.lines.items ≡ c.args.self.lines ++ [] =
-    ap (λ (v : Contents). v.lines) c.self.view_is ∙ sym (append-nil c.args.self.lines) in
-    record {
-      right = subst (λ (u : Contents). IsWave (record u { written = map written_of_byte c.push_place.new.bytes.items; lines = c.self.inside.lines.items })) (sym c.self.view_is)
-          (wave_next c.args.self c.args.written [] right c.requires.next _ _ written lines);
-      kept = record {
-        told = c.push_place.ensures.told;
-        agrees = c.push_place.ensures.agrees;
-        next_is = c.class_behind-self-inside.ensures
-            ∙ ap (λ (bs : List ℕ). next_class (job_in c.self.inside.circuit) (map written_of_byte bs)) c.as_slice.ensures.value;
-      };
-      room = c.push_place.ensures.room;
-      wired = c.self.invariant.wired;
-      front = (let size : c.len.result ≡ length c.self.inside.bytes.items = search rules in
-          let more = c.push_place.ensures.more in
-          subst (λ n. StandsAt (job_in c.self.inside.circuit) n c.front_behind-front.result) (omega (arith, size, more))
-          c.front_behind-front.ensures);
-    }
+    let own = c.self.inside.parts.value in
+    let x = c.args.written in
+    let grown = subst (λ (v : Contents). IsWave (record v { written = v.written ++ x ∷ []; lines = v.lines ++ [] }))
+    (sym c.self.view_is)
+    (wave_grown c.args.self x [] (subst IsWave c.self.view_is c.self.invariant) c.requires.next) in
+    let written = subst (λ (lines : List ALine).
+    IsWave (contents_of (and_one own.waveform x) own.replayed.now own.limit lines)) (append-nil own.lines.items) grown in
+    let parts = c.deref_mut.result.now in
+    subst (λ (w : WaveformView). IsWave (contents_of w parts.replayed.now parts.limit parts.lines.items))
+    (sym c.push.ensures)
+    (subst (λ p. IsWave (contents_of (and_one p.waveform x) p.replayed.now p.limit p.lines.items))
+    (sym c.deref_mut.ensures.value) written)

@@ -1,0 +1,77 @@
+-- Where the next place stands.
+use Rattle.std.proofs.Common.{◌≡◌, ℕ, ◌+◌, ◌*◌, ◌/◌, ◌%◌, ◌<◌, ◌≤◌, ◌^◌, sym, ap, ◌∙◌, arith}
+use Rattle.std.proofs.lemmas.Nat.{div-mul-add, mod-mul-add}
+use Rattle.std.proofs.Math.Nat.{div-le_self, zero-div, zero-mod}
+use Rattle.xr_design.specs.Fits.{Fits, place_at}
+use Rattle.xr_design.specs.Job.{Job, places_of, step_of}
+use Rattle.xr_design.specs.declared.place.Place.{Place}
+use Rattle.xr_design.proofs.Rules.{spot}
+use Rattle.xr_wave_bytes.specs.Front.{IsAt, IsFront, place_of_front}
+use Rattle.xr_wave_bytes.specs.declared.front.Front.{Front}
+
+pub front_first : (j : Job) (front : Front) → front.step ≡ 0 → front.position ≡ 0 → IsAt j 0 front
+front_first j front step position = record {
+  step = step ∙ sym (zero-div j.width);
+  position = position ∙ sym (zero-mod j.width);
+}
+
+front_whole : (j : Job) → Fits j → (place : ℕ) (front : Front) → place < places_of j → IsAt j place front
+    → front.step * j.width + front.position ≡ place
+front_whole j fits place front within is =
+    ap (λ s. s * j.width + front.position) is.step ∙ ap (λ p. step_of j place * j.width + p) is.position
+    ∙ (spot j fits place within).whole
+
+-- The place behind it stands at the next position, or at the first of the next step.
+pub next_position : (j : Job) → Fits j → (place : ℕ) (front next : Front) → place < places_of j → IsAt j place front
+    → next.step ≡ front.step → next.position ≡ front.position + 1 → front.position + 1 < j.width → IsAt j (place + 1) next
+next_position j fits place front next within is step position less =
+    let whole = front_whole j fits place front within is in
+    let more : place + 1 ≡ front.step * j.width + (front.position + 1) = omega (arith, whole) in
+    record {
+      step = step ∙ sym (ap (λ n. n / j.width) more ∙ div-mul-add front.step j.width (front.position + 1) less);
+      position = position ∙ sym (ap (λ n. n % j.width) more ∙ mod-mul-add front.step j.width (front.position + 1) less);
+    }
+
+next_row : (w t p place : ℕ) → t * w + p ≡ place → p + 1 ≡ w → place + 1 ≡ (t + 1) * w + 0
+next_row w t p place whole full = omega (arith, whole, full)
+
+pub next_step : (j : Job) → Fits j → (place : ℕ) (front next : Front) → place < places_of j → IsAt j place front
+    → next.step ≡ front.step + 1 → next.position ≡ 0 → j.width ≤ front.position + 1 → IsAt j (place + 1) next
+next_step j fits place front next within is step position full =
+    let whole = front_whole j fits place front within is in
+    let low = (spot j fits place within).position in
+    let here = is.position in
+    let some : 0 < j.width = omega (arith, low) in
+    let more : place + 1 ≡ (front.step + 1) * j.width + 0 =
+    next_row j.width front.step front.position place whole (omega (arith, low, here, full)) in
+    record {
+      step = step ∙ sym (ap (λ n. n / j.width) more ∙ div-mul-add (front.step + 1) j.width 0 some);
+      position = position ∙ sym (ap (λ n. n % j.width) more ∙ mod-mul-add (front.step + 1) j.width 0 some);
+    }
+
+-- A step fits its number.
+pub small_step : (j : Job) → Fits j → (place : ℕ) (front : Front) → place < places_of j → IsAt j place front
+    → front.step < 2 ^ 27
+small_step j fits place front within is =
+    let up = div-le_self place j.width in
+    let same = is.step in
+    let few = fits.few_places in
+    omega (arith, up, same, few, within)
+
+pub is_front : (j : Job) → Fits j → (place : ℕ) (front : Front) → place < places_of j → IsAt j place front → IsFront j front
+is_front j fits place front within is =
+    let small = small_step j fits place front within is in
+    let low = (spot j fits place within).position in
+    let here = is.position in
+    let all = fits.all in
+    let few = fits.few_nets in
+    record {
+      step = omega (arith, small);
+      position = omega (arith, low, here, all);
+      few = omega (arith, all, few);
+    }
+
+pub front_place : (j : Job) (place : ℕ) (front : Front) → IsAt j place front → place_of_front j front ≡ place_at j place
+front_place j place front is =
+    ap (λ s. let p : Place = record { step = s; net = (place_of_front j front).net } in p) is.step
+    ∙ ap (λ n. let f : Front = record { step = step_of j place; position = n } in place_of_front j f) is.position

@@ -1,0 +1,5 @@
+-- Lemmas on the bytes of waveforms.
+mod ByteDigits
+mod Fronts
+mod KeptBytes
+mod NextSaid

@@ -1,0 +1,31 @@
+-- The bytes still say the facts of their places.
+use Rattle.std.proofs.Common.{◌≡◌, ℕ, List, ◌<◌, ◌≤◌, ◌∙◌, ◌++◌, ◌∷◌, [], length, map, ap, sym, subst, arith, rules}
+use Rattle.std.proofs.lemmas.List.{length-map}
+use Rattle.xr_design.specs.Circuit.{job_in}
+use Rattle.xr_design.specs.Job.{places_of}
+use Rattle.xr_wave_bytes.specs.Byte.{written_of_byte}
+use Rattle.xr_wave_bytes.specs.Front.{StandsAt}
+use Rattle.xr_wave_bytes.specs.Kept.{BytesTell, ValuesAgree}
+use Rattle.xr_wave_bytes.specs.View.{WaveformView, job, next_class}
+use Rattle.xr_wave_bytes.proofs.waveform.Waveform.push.Goals as goal
+
+pub push_place-requires-clause-within : goal.push_place-requires-clause-within
+push_place-requires-clause-within c =
+    let long = length-map c.self.inside.bytes.items written_of_byte in
+    let less : length (map written_of_byte c.self.inside.bytes.items) < places_of (job_in c.self.inside.circuit) =
+    subst (λ (v : WaveformView). length v.written < places_of (job v)) (sym c.self.view_is) c.requires.next in
+    omega (arith, long, less)
+
+pub push_place-requires-clause-agrees : goal.push_place-requires-clause-agrees
+push_place-requires-clause-agrees c =
+    subst (λ (v : WaveformView). ValuesAgree (job v) (v.written ++ c.args.written ∷ [])) (sym c.self.view_is)
+    c.requires.agrees
+
+pub class_behind-self-inside-requires-clause-told : goal.class_behind-self-inside-requires-clause-told
+class_behind-self-inside-requires-clause-told c =
+    subst (BytesTell (job_in c.self.inside.circuit)) (sym c.as_slice.ensures.value) c.push_place.ensures.told
+
+pub class_behind-self-inside-requires-clause-agrees : goal.class_behind-self-inside-requires-clause-agrees
+class_behind-self-inside-requires-clause-agrees c =
+    subst (λ (bs : List ℕ). ValuesAgree (job_in c.self.inside.circuit) (map written_of_byte bs))
+    (sym c.as_slice.ensures.value) c.push_place.ensures.agrees

@@ -1,0 +1,33 @@
+-- What the bytes of a waveform say.
+use Rattle.std.specs.Prelude.{◌≡◌, ℕ, Option, List, length, map}
+use Rattle.xr_design.specs.Circuit.{job_in}
+use Rattle.xr_design.specs.Job.{Job, step_of}
+use Rattle.xr_design.specs.Waveform.{certain, certain_by}
+use Rattle.xr_design.specs.declared.circuit.Circuit.{Circuit}
+use Rattle.xr_design.specs.declared.waveform.Written.{Written}
+use Rattle.xr_model.specs.Class.{before, class_of}
+use Rattle.xr_model.specs.declared.class.ClassByNumber.{ClassByNumber}
+use Rattle.xr_class.specs.Facts.{AgreeBefore, AreFacts, Facts, facts_by}
+use Rattle.xr_wave_bytes.specs.Byte.{facts_in, written_of_byte}
+use Rattle.xr_wave_bytes.specs.View.{next_class}
+
+-- What the byte of the next place is to say.
+abbrev pub facts_next : Job → List ℕ → Written → Facts
+facts_next j bytes written =
+    facts_by (step_of j (length bytes)) (before j (length bytes))
+    (class_of j (certain (map written_of_byte bytes)) (length bytes)) (certain_by written.mark written.value)
+    (certain (map written_of_byte bytes) (before j (length bytes)))
+
+-- Bytes say the facts of their places.
+abbrev pub BytesTell : Job → List ℕ → Type 0
+BytesTell j bytes = AreFacts j (certain (map written_of_byte bytes)) (facts_in bytes) (length bytes)
+
+-- The certain values of a waveform agree with its classes.
+abbrev pub ValuesAgree : Job → List Written → Type 0
+ValuesAgree j written = AgreeBefore j (certain written) (length written)
+
+-- The bytes of a waveform do both, and the class of the next place is kept.
+pub record IsKept (circuit : Circuit) (bytes : List ℕ) (next : Option ClassByNumber) : Type 0 where
+  pub told : BytesTell (job_in circuit) bytes
+  pub agrees : ValuesAgree (job_in circuit) (map written_of_byte bytes)
+  pub next_is : next ≡ next_class (job_in circuit) (map written_of_byte bytes)

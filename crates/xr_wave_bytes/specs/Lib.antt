@@ -1,0 +1,5 @@
+-- Definitions of the bytes of waveforms.
+pub mod Byte
+pub mod Front
+pub mod View
+pub mod Kept

@@ -1,0 +1,46 @@
+-- What a waveform holds, and what is said of its next place.
+use Rattle.std.specs.Prelude.{◌≡◌, ℕ, ◌≤◌, ◌<◌, ◌++◌, ◌∷◌, [], Option, None, Some, List, length, nat_lt, if◌then◌else◌}
+use Rattle.xr_design.specs.declared.circuit.Circuit.{Circuit}
+use Rattle.xr_design.specs.declared.design.Design.{Design}
+use Rattle.xr_design.specs.declared.stim.Stim.{Stim}
+use Rattle.xr_design.specs.declared.waveform.Written.{Written}
+use Rattle.xr_design.specs.Job.{Job, job_of, places_of}
+use Rattle.xr_design.specs.Waveform.{certain}
+use Rattle.xr_model.specs.Class.{class_of}
+use Rattle.xr_model.specs.declared.class.ClassByNumber.{ClassByNumber}
+
+-- The circuit, and what is written of its places, in place order.
+pub record WaveformView : Type 0 where
+  pub design : Design
+  pub order : List ℕ
+  pub stim : Stim
+  pub written : List Written
+
+abbrev pub waveform_of : Circuit → List Written → WaveformView
+waveform_of circuit written = record {
+  design = circuit.design.now;
+  order = circuit.order.now;
+  stim = circuit.stim.now;
+  written = written;
+}
+
+abbrev pub job : WaveformView → Job
+job v = job_of v.design v.order v.stim
+
+-- It, with one more place written.
+abbrev pub and_one : WaveformView → Written → WaveformView
+and_one v written = record v { written = v.written ++ written ∷ [] }
+
+-- There is a next place: one that isn't written.
+abbrev pub HasMore : WaveformView → Type 0
+HasMore v = length v.written < places_of (job v)
+
+-- The number of a place of the job that is written, or of the next one.
+pub record IsNumber (v : WaveformView) (number : ℕ) : Type 0 where
+  pub reached : number ≤ length v.written
+  pub within : number < places_of (job v)
+
+-- The class of the next place, if there is one.
+abbrev pub next_class : Job → List Written → Option ClassByNumber
+next_class j written =
+    if nat_lt (length written) (places_of j) then Some (class_of j (certain written) (length written)) else None

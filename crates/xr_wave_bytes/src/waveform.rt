@@ -1,0 +1,174 @@
+//! The places of a circuit, as they are written.
+
+ghost use Rattle.std.specs.Prelude.{◌≡◌, ◌<◌, ◌++◌, ◌∷◌, [], IfOk, length};
+ghost use Rattle.xr_design.specs.Circuit.{CircuitFits, job_in};
+ghost use Rattle.xr_design.specs.Fits.{place_at};
+ghost use Rattle.xr_design.specs.Waveform.{certain, written_at};
+ghost use Rattle.xr_model.specs.Assignment as assignment;
+ghost use Rattle.xr_model.specs.Class.{class_of};
+ghost use Rattle.xr_class.specs.Test.{numbered_value};
+ghost use Rattle.xr_wave_bytes.specs.Kept.{ValuesAgree};
+ghost use Rattle.xr_wave_bytes.specs.View as spec;
+ghost use Rattle.xr_wave_bytes.specs.View.{HasMore, IsNumber, and_one, job, waveform_of};
+
+use crate::byte::written_in;
+use crate::bytes::{Bytes, class_behind, push_place};
+use crate::front::{Front, first_front, front_behind, place_there};
+use std::alloc::Global;
+use std::marker::Model;
+use xr_base::Memory;
+use xr_cell::Value;
+use xr_class::{ArgumentsByNumber, argument_places, class_at, kept_class, rule_value};
+use xr_design::{Circuit, Place, Written, count_places};
+use xr_model::ClassByNumber;
+use xr_wiring::Wiring;
+
+/// What is written of the places of a circuit, in place order, and the class of the next one. Contracts see the circuit and
+/// the list of what is written.
+#[derive(Debug, Drop)]
+pub struct Waveform<'a> {
+    circuit: Circuit<'a>,
+    wiring: Wiring,
+    bytes: Vec<u8>,
+    /// The class of the next place.
+    next: Option<ClassByNumber>,
+    /// Where the next place stands.
+    front: Front,
+}
+
+impl<'a> Model for Waveform<'a> {
+    ghost use Rattle.std.specs.Prelude.{◌≤◌, length, map, vec_capacity};
+    ghost use Rattle.xr_design.specs.Circuit.{CircuitFits, job_in};
+    ghost use Rattle.xr_design.specs.Job.{places_of};
+    ghost use Rattle.xr_class.specs.Wires.{AreWiresOf};
+    ghost use Rattle.xr_wave_bytes.specs.Byte.{written_of_byte};
+    ghost use Rattle.xr_wave_bytes.specs.Front.{StandsAt};
+    ghost use Rattle.xr_wave_bytes.specs.Kept.{IsKept};
+    ghost use Rattle.xr_wave_bytes.specs.View.{WaveformView, waveform_of};
+
+    ghost Value = { WaveformView };
+
+    ghost view = { λ w. waveform_of w.circuit (map written_of_byte w.bytes.items) };
+
+    ghost invariant = { λ w. record {
+      fits : CircuitFits w.circuit;
+      wired : AreWiresOf w.circuit w.wiring;
+      within : length w.bytes.items ≤ places_of (job_in w.circuit);
+      room : places_of (job_in w.circuit) ≤ vec_capacity w.bytes;
+      kept : IsKept w.circuit w.bytes.items w.next;
+      front : StandsAt (job_in w.circuit) (length w.bytes.items) w.front;
+    } };
+}
+
+impl<'a> Waveform<'a> {
+    /// One of which nothing is written. Takes a byte for each place, 16 bytes for each net, 8 to 24 for each pin.
+    pub fn new(alloc: Global, circuit: Circuit<'a>) -> Result<Waveform<'a>, Memory>
+        requires { CircuitFits circuit }
+        ensures { IfOk result (λ w. w ≡ waveform_of circuit.entry []) }
+    {
+        let wiring = Wiring::of(alloc, circuit.design, circuit.order)?;
+        let bytes = Vec::with_capacity(alloc, count_places(&circuit))?;
+        let front = first_front(&circuit);
+        let next = class_behind(&circuit, &wiring, bytes.as_slice(), front);
+        Ok(Waveform {
+            circuit,
+            wiring,
+            bytes,
+            next,
+            front,
+        })
+    }
+
+    /// The circuit, as it was handed in. Takes no memory.
+    pub fn circuit(&self) -> Circuit<'a>
+        ensures design { result.design.now ≡ self.now.design }
+        ensures order { result.order.now ≡ self.now.order }
+        ensures stim { result.stim.now ≡ self.now.stim }
+        ensures job { job_in result ≡ job self.now }
+        ensures fits { CircuitFits result }
+    {
+        self.circuit
+    }
+
+    /// How many places are written. Takes no memory.
+    pub fn count(&self) -> usize
+        ensures { result ≡ length self.now.written }
+    {
+        self.bytes.len()
+    }
+
+    /// What stands at the place of a number. Takes no memory.
+    pub fn written(&self, number: usize) -> Written
+        requires { number < length self.now.written }
+        ensures { result ≡ written_at self.now.written number }
+    {
+        written_in(self.bytes[number])
+    }
+
+    /// The class of the next place, which the last write found. Takes no memory.
+    pub fn next_class(&self) -> Option<ClassByNumber>
+        ensures { result ≡ spec.next_class (job self.now) self.now.written }
+    {
+        self.next
+    }
+
+    /// The next place, where there is one. Takes no memory.
+    pub fn place_behind(&self) -> Place
+        requires { HasMore self.now }
+        ensures { result ≡ place_at (job self.now) (length self.now.written) }
+    {
+        place_there(&self.circuit, self.front)
+    }
+
+    /// The class of the place of a number. Takes no memory.
+    pub fn class_by_number(&self, number: usize) -> ClassByNumber
+        requires { IsNumber self.now number }
+        ensures { result ≡ class_of (job self.now) (certain self.now.written) number }
+    {
+        let bytes = Bytes {
+            bytes: self.bytes.as_slice(),
+        };
+        if number < self.bytes.len() {
+            kept_class(&self.circuit, &self.wiring, &bytes, number)
+        } else {
+            let position = self.front.position;
+            class_at(&self.circuit, &self.wiring, &bytes, number, position)
+        }
+    }
+
+    /// The argument places of the place of a number, in place order and without doubles. Takes no memory.
+    pub fn argument_places(&self, number: usize) -> ArgumentsByNumber
+        requires { IsNumber self.now number }
+        ensures { result ≡ assignment.argument_places (job self.now) (certain self.now.written) number }
+    {
+        let bytes = Bytes {
+            bytes: self.bytes.as_slice(),
+        };
+        argument_places(&self.circuit, &bytes, number)
+    }
+
+    /// What the rule of the place of a number gives where bit i of `bits` is the bit of its argument place i. Takes no
+    /// memory.
+    pub fn rule_value(&self, number: usize, bits: u16) -> Value
+        requires { IsNumber self.now number }
+        ensures { result ≡ numbered_value (job self.now) (certain self.now.written) number bits }
+    {
+        let bytes = Bytes {
+            bytes: self.bytes.as_slice(),
+        };
+        rule_value(&self.circuit, &bytes, number, bits)
+    }
+
+    /// Writes the next place, and finds the class of the one behind it. Takes no memory.
+    pub fn push(&mut self, written: Written)
+        requires next { HasMore self.old }
+        requires agrees { ValuesAgree (job self.old) (self.old.written ++ written ∷ []) }
+        ensures { self.new ≡ and_one self.old written }
+    {
+        let circuit = self.circuit;
+        let front = front_behind(&circuit, self.front, self.bytes.len());
+        push_place(&circuit, &mut self.bytes, self.next, written);
+        self.next = class_behind(&circuit, &self.wiring, self.bytes.as_slice(), front);
+        self.front = front;
+    }
+}
