@@ -1,11 +1,14 @@
 //! The nets that are listed so far, and those that can come next.
 
-ghost use Rattle.std.specs.Prelude.{◌≡◌, ◌<◌, [], IfOk, IfNone, length};
+ghost use Rattle.std.specs.Prelude.{◌≡◌, ◌<◌, ◌↔◌, [], IfOk, IfSome, IfNone, IsSome, length};
+ghost use Rattle.std.specs.BTreeSet.{btree_set_len, contains, IsUnchanged};
+ghost use Rattle.std.specs.Ordering.{nat_cmp};
 ghost use Rattle.xr_design.specs.Job.{driver_in};
 ghost use Rattle.xr_design.specs.Order.{arguments_of_driver};
 ghost use Rattle.xr_design.specs.Design.{FitsDesign};
 ghost use Rattle.xr_order.specs.Progress.{first_open, can_come};
 ghost use Rattle.xr_order.specs.Held.{InProgress, HasOnly, HasAll, HasAllBut, OffersNet, Lists, IsStuck};
+ghost use Rattle.xr_order.specs.Popped.{Popped};
 ghost use Rattle.xr_order.specs.Readers.{head_at, IsTableOf, AreReaders};
 
 use crate::arguments::first_open;
@@ -52,7 +55,7 @@ impl Progress {
         ensures listed { IfOk result (λ next. Lists self.old self.new next) }
         ensures stuck { IfOk result (λ next. IfNone next (IsStuck design.now self.new)) }
     {
-        let Some(net) = self.ready.pop_first() else {
+        let Some(net) = take_least(&mut self.ready) else {
             return Ok(None);
         };
         self.listed.push(net)?;
@@ -97,6 +100,16 @@ impl Progress {
         }
         Ok(())
     }
+}
+
+/// The least net of a set leaves it. None where there is none.
+#[tactic(auto, using(crate::proofs::Sets::popped))]
+fn take_least(ready: &mut BTreeSet<u32>) -> Option<u32>
+    ensures taken { IfSome result (Popped (contains nat_cmp ready.old) (contains nat_cmp ready.new)) }
+    ensures some { IsSome result ↔ (0 < btree_set_len ready.old) }
+    ensures unchanged { IfNone result (IsUnchanged ready.old ready.new) }
+{
+    ready.pop_first()
 }
 
 /// Whether a net can come next.
