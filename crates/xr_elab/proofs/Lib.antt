@@ -4,4 +4,8 @@ mod Regs
 mod Bodies
 mod Found
 mod Passing
+mod Framing
+mod Doing
+mod Filling
+mod Choosing
 mod Answering

@@ -168,7 +168,7 @@ module _ (l : Library) (levels : List ℕ) (table : IsTable l.source levels) whe
       goes_through l room path i here k found (not_on levels path level k from less) _ _ joint.is rest.0 here.state (body_more l room (path ++ k ∷ []) (module_of l k).items inner ∙ rest.1)
 
   -- An instance of a module of a level that the path has room for.
-  passes : (room : ℕ) (path : List ℕ) (level : ℕ) (i : InstanceItem) (here : Here) → level ≤ room + 1 → level ≤ 33 → are_from levels level path ≡ true → length here.state.names ≤ 2 ^ 20
+  pub passes : (room : ℕ) (path : List ℕ) (level : ℕ) (i : InstanceItem) (here : Here) → level ≤ room + 1 → level ≤ 33 → are_from levels level path ≡ true → length here.state.names ≤ 2 ^ 20
       → is_quiet_instance l.source levels level here.scope.instances i ≡ true → instance_item l path room i here ≡ Ok (passed i here)
   passes zero path level i here fits few from small quiet =
       let nothing = and_parts _ _ quiet in

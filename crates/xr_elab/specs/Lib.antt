@@ -1,3 +1,4 @@
 -- Definitions of xr_elab.
 pub mod Quiet
+pub mod Busy
 pub mod Held

@@ -9,6 +9,7 @@ ghost use Rattle.xr_elab_nets.specs.declared.fault.ElabErr.TheVariants.{PortMism
 ghost use Rattle.xr_elab_tree.specs.Elaborate as spec;
 ghost use Rattle.xr_elab_tree.specs.Library.{module_of};
 ghost use Rattle.xr_elab.specs.Held.{PassesOver};
+ghost use Rattle.xr_elab.specs.Busy.{state_of};
 
 use crate::library::Library;
 use std::alloc::{AllocError, Global};
@@ -20,10 +21,8 @@ use xr_elab_nets::{ElabErr, Nets};
 use xr_elab_prims::{Clocks, Definition};
 use xr_netlist_grammar::{InstanceItem, Item, Word};
 
-/// The items that are left of the module at a position once it is open, where the path before it may have `room` modules
-/// more.
+/// The items of the module at a position once it is open, where the path before it may have `room` modules more.
 #[cycle(instances)]
-#[tactic(auto, using(crate::proofs::Bodies::body_left))]
 pub fn add_items<'t>(
     alloc: Global,
     library: &'t Library<'t>,
@@ -37,20 +36,45 @@ pub fn add_items<'t>(
     requires some { 0 < room }
     requires within { k < length library.now.source.modules }
     requires tables { clocks.old ≡ library.now.tables }
+    requires new { scope.old.instances ≡ [] }
     ensures made { let here = here_of scope.old nets.old in
         let items = (module_of library.now k).items in
-        Gives (spec.body library.now room path.now items here) result (λ _. here_of scope.new nets.new) }
+        Gives (state_of (spec.body library.now room path.now items here)) result (λ _. nets.new) }
     ensures same { clocks.new ≡ clocks.old }
 {
-    let items = library.module(k).left();
+    let items = library.to_do(path, room, k);
     'items: for item in items {
-        match *item {
-            Item::Declare(declare) => add_value(alloc, scope, nets, declare)?,
-            Item::Gate(gate) => add_gate(alloc, scope, nets, gate)?,
-            Item::Assign(left, right) => add_assign(alloc, scope, nets, left, right)?,
-            Item::Instance(item) => {
-                add_instance(alloc, library, clocks, path, room - 1, scope, nets, item)?
-            }
+        let _ = nets.count();
+        add_item(alloc, library, clocks, path, room - 1, scope, nets, item)?;
+    }
+    let _ = nets.count();
+    Ok(())
+}
+
+/// An item of a module whose path may have `room` modules more.
+#[cycle(instances)]
+fn add_item<'t>(
+    alloc: Global,
+    library: &'t Library<'t>,
+    clocks: &mut Clocks<'t>,
+    path: &[usize],
+    room: usize,
+    scope: &mut Scope<'t>,
+    nets: &mut Nets,
+    item: &'t Item,
+) -> Result<(), ElabErr>
+    requires tables { clocks.old ≡ library.now.tables }
+    ensures made { let here = here_of scope.old nets.old in
+        let made = spec.item_with (spec.instance_item library.now path.now room) item.now here in
+        Gives made result (λ _. here_of scope.new nets.new) }
+    ensures same { clocks.new ≡ clocks.old }
+{
+    match item {
+        Item::Declare(declare) => add_value(alloc, scope, nets, declare)?,
+        Item::Gate(gate) => add_gate(alloc, scope, nets, gate)?,
+        Item::Assign(left, right) => add_assign(alloc, scope, nets, left, right)?,
+        Item::Instance(instance) => {
+            add_instance(alloc, library, clocks, path, room, scope, nets, instance)?
         }
     }
     Ok(())

@@ -1,9 +1,14 @@
 //! What the instances of a text name.
 
-ghost use Rattle.std.specs.Prelude.{◌≡◌, ◌<◌, IfOk, length, slice_index_or};
+ghost use Rattle.std.specs.Prelude.{◌≡◌, ◌<◌, IfOk, length, map, slice_index_or};
 ghost use Rattle.xr_design.specs.Job.{primitive_of};
 ghost use Rattle.xr_elab_tree.specs.Library.{no_module};
+ghost use Rattle.xr_elab_names.specs.Outline.{items_in};
+ghost use Rattle.xr_elab.specs.Quiet.{IsTable};
+ghost use Rattle.xr_elab.specs.Busy as spec;
+ghost use Rattle.xr_elab.specs.Busy.{busy_in, busy_of_module, Suffice};
 
+use crate::busy::Busy;
 use crate::levels::levels_of;
 use crate::quiet::{MOST_LEVEL, are_from, connects_nothing, level_at};
 use std::alloc::{AllocError, Global};
@@ -11,10 +16,11 @@ use std::marker::Model;
 use xr_cell::Udp;
 use xr_elab_names::Declarations;
 use xr_elab_prims::{Definition, Definitions};
-use xr_netlist_grammar::{InstanceItem, Module, Source};
+use xr_netlist_grammar::{InstanceItem, Item, Module, Source};
 
 /// The definitions of a text, the tables of its primitives, and what is worked out once for each module: what its
-/// declarations and ports come to, which items are left then, and a level where it makes no net.
+/// declarations and ports come to, which items are left then, which of these aren't idle, and a level where it makes no
+/// net.
 #[derive(Drop)]
 pub struct Library<'t> {
     source: &'t Source,
@@ -22,6 +28,7 @@ pub struct Library<'t> {
     udps: &'t [Udp],
     modules: Vec<Declarations<'t>>,
     levels: Vec<u32>,
+    busy: Vec<Busy<'t>>,
 }
 
 impl<'t> Model for Library<'t> {
@@ -32,7 +39,7 @@ impl<'t> Model for Library<'t> {
 
     ghost view = { λ l. library_of l.source.now l.udps.now };
 
-    ghost invariant = { λ l. IsHeld l.source.now l.definitions l.udps.now l.modules.items l.levels.items };
+    ghost invariant = { λ l. IsHeld l.source.now l.definitions l.udps.now l.modules.items l.levels.items l.busy.items };
 }
 
 impl<'t> Library<'t> {
@@ -41,7 +48,9 @@ impl<'t> Library<'t> {
     ghost use Rattle.xr_design.specs.Job.{primitive_of};
     ghost use Rattle.xr_elab_prims.specs.Definitions.{definition_of, IsThere};
     ghost use Rattle.xr_elab_tree.specs.Library.{library_of, module_of};
+    ghost use Rattle.xr_elab_names.specs.Outline.{items_in, left_of};
     ghost use Rattle.xr_elab.specs.Held.{AreTables, PassesOver};
+    ghost use Rattle.xr_elab.specs.Busy.{Suffice};
 
     /// The library of a text whose names are in order, with the tables of its primitives.
     pub fn new(
@@ -56,12 +65,14 @@ impl<'t> Library<'t> {
     {
         let modules = modules_of(alloc, source.modules.as_slice())?;
         let levels = levels_of(alloc, &definitions, source.modules.as_slice())?;
+        let busy = all_busy(alloc, &definitions, &levels, &modules)?;
         Ok(Library {
             source,
             definitions,
             udps,
             modules,
             levels,
+            busy,
         })
     }
 
@@ -99,6 +110,25 @@ impl<'t> Library<'t> {
         module_at(&self.modules, k)
     }
 
+    /// Which items of the module at a position are to be gone through, where it ends this path. The path before it may have
+    /// `room` modules more. Takes no memory.
+    #[tactic(auto, using(crate::proofs::Choosing::busy_there))]
+    pub fn to_do(&self, path: &[usize], room: usize, k: usize) -> &[&'t Item]
+        requires { k < length self.now.source.modules }
+        ensures { let items = (module_of self.now k).items in
+            Suffice self.now.source path.now room (left_of items) (items_in result.now) }
+    {
+        let left = self.module(k).left();
+        to_do_of(
+            &self.definitions,
+            &self.levels,
+            busy_at(&self.busy, k),
+            left,
+            path,
+            room,
+        )
+    }
+
     /// Whether depth and path allow that an instance of a module that makes no net is passed over. The path may have
     /// `room` modules more. Takes no memory.
     pub fn passes_over(&self, path: &[usize], room: usize, k: usize, item: &InstanceItem) -> bool
@@ -121,6 +151,57 @@ fn modules_of<'t>(alloc: Global, modules: &'t [Module]) -> Result<Vec<Declaratio
         all.push(Declarations::new(alloc, unit)?)?;
     }
     Ok(all)
+}
+
+/// The items of each module that aren't idle.
+fn all_busy<'t>(
+    alloc: Global,
+    definitions: &Definitions<'_>,
+    levels: &[u32],
+    modules: &[Declarations<'t>],
+) -> Result<Vec<Busy<'t>>, AllocError>
+    ensures { IfOk result (λ all. all.items ≡ map (busy_of_module definitions.now levels.now) modules.now) }
+{
+    let mut all = Vec::new(alloc);
+    'modules: for unit in modules {
+        all.push(Busy::new(alloc, definitions, levels, unit.left())?)?;
+    }
+    Ok(all)
+}
+
+/// All that is left of a module's items, or the busy ones where depth and path allow that the others are idle.
+#[tactic(auto, using(crate::proofs::Choosing::busy_suffice))]
+fn to_do_of<'l, 't>(
+    definitions: &Definitions<'_>,
+    levels: &[u32],
+    busy: &'l Busy<'t>,
+    left: &'l [&'t Item],
+    path: &[usize],
+    room: usize,
+) -> &'l [&'t Item]
+    requires table { IsTable definitions.now levels.now }
+    requires busy { busy.now ≡ busy_in definitions.now levels.now (items_in left.now) }
+    ensures { Suffice definitions.now path.now room (items_in left.now) (items_in result.now) }
+{
+    if allows(levels, path, room, busy.level()) {
+        busy.items()
+    } else {
+        left
+    }
+}
+
+/// Whether depth and path allow that instances below a level are idle.
+fn allows(levels: &[u32], path: &[usize], room: usize, level: u32) -> bool
+    ensures { result ≡ spec.allows levels.now path.now room level }
+{
+    0 < level && level <= MOST_LEVEL && level as usize <= room && are_from(levels, level, path)
+}
+
+fn busy_at<'l, 't>(busy: &'l [Busy<'t>], k: usize) -> &'l Busy<'t>
+    requires { k < length busy.now }
+    ensures { result.now ≡ slice_index_or busy.now k spec.no_busy }
+{
+    &busy[k]
 }
 
 fn module_at<'l, 't>(modules: &'l [Declarations<'t>], k: usize) -> &'l Declarations<'t>

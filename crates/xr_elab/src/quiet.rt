@@ -92,7 +92,7 @@ fn note_instance<'t>(
     }
 }
 
-fn is_below(
+pub fn is_below(
     definitions: &Definitions<'_>,
     levels: &[u32],
     level: u32,

@@ -1,20 +1,27 @@
--- Each module on the path takes one of the room. What is left of the items decides.
-use Rattle.std.proofs.Common.{◌≡◌, ◌+◌, ◌-◌, ◌*◌, drop}
+-- Each module on the path takes one of the room. The items that are left lead to what is wanted.
+use Rattle.std.proofs.Common.{◌≡◌, ◌+◌, ◌*◌, drop}
 use Rattle.xr_elab_names.specs.Here.{here_of}
 use Rattle.xr_elab_names.specs.Outline.{items_in}
 use Rattle.xr_elab_tree.specs.Library.{module_of}
-use Rattle.xr_elab_tree.specs.Elaborate.{body, items_with, instance_item}
+use Rattle.xr_elab_tree.specs.Elaborate.{body}
+use Rattle.xr_elab.specs.Busy.{state_of}
+use Rattle.xr_elab.proofs.Doing.{Leads}
 use Rattle.xr_elab.proofs.instances.+instances.Given as goal
 
 abbrev pub decreases-add_items : goal.decreases-add_items
-decreases-add_items l = 3 * l.room
+decreases-add_items l = 4 * l.room
+
+abbrev pub decreases-add_item : goal.decreases-add_item
+decreases-add_item l = 4 * l.room + 3
 
 abbrev pub decreases-add_instance : goal.decreases-add_instance
-decreases-add_instance l = 3 * l.room + 2
+decreases-add_instance l = 4 * l.room + 2
 
 abbrev pub decreases-add_module : goal.decreases-add_module
-decreases-add_module l = 3 * l.room + 1
+decreases-add_module l = 4 * l.room + 1
 
 abbrev pub invariant-add_items-items : goal.invariant-add_items-items
-invariant-add_items-items l =
-    (body l.library l.room l.path (module_of l.library l.k).items (here_of l.fn.scope l.fn.nets) ≡ items_with (instance_item l.library l.path (l.room - 1)) (items_in (drop l.item-index l.items)) (here_of l.scope l.nets)) × (l.clocks ≡ l.fn.clocks)
+invariant-add_items-items l = record {
+  leads : Leads l.library l.path l.room (state_of (body l.library l.room l.path (module_of l.library l.k).items (here_of l.fn.scope l.fn.nets))) (items_in (drop l.item-index l.items)) (here_of l.scope l.nets);
+  same : l.clocks ≡ l.fn.clocks;
+}
