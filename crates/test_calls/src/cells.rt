@@ -1,0 +1,6 @@
+//! Gates, symbols and primitives by their tables.
+
+mod gates;
+mod primitives;
+mod symbols;
+pub mod tables;

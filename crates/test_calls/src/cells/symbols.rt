@@ -1,0 +1,86 @@
+//! Which steps of a pin each symbol stands for.
+
+use crate::cells::tables::row_of;
+use std::alloc::Global;
+use std::process::Abort;
+use std::test::Fail;
+use xr_cell::{Symbol, Udp, Value};
+
+/// Whether a row of the symbol matches the steps 00 01 0x 10 11 1x x0 x1 xx, a `1` for each that it matches. z is as good
+/// as x.
+fn check_steps(rt: &impl Abort, alloc: Global, symbol: Symbol, want: [u8; 9]) -> Result<(), Fail> {
+    let row = row_of(alloc, &[symbol], Some(b'?'), b'1')?;
+    let table = Udp::build(alloc, true, 1, &[row], Value::Zero)?;
+    let values = [Value::Zero, Value::One, Value::X, Value::Z];
+    for old in 0..4 {
+        for new in 0..4 {
+            let step = 3 * (if old == 3 { 2 } else { old }) + (if new == 3 { 2 } else { new });
+            let matches = table.change(&[values[new]], 0, values[old], Value::Zero) == Value::One;
+            assert_eq!(rt;
+                matches,
+                want[step] == b'1',
+                "{symbol:?} from {old} to {new}"
+            );
+        }
+    }
+    Ok(())
+}
+
+#[test]
+fn letters_stand_for_values(rt: HostRuntime) -> Result<(), Fail> {
+    let rows = [
+        (b'0', *b"100100100"),
+        (b'1', *b"010010010"),
+        (b'x', *b"001001001"),
+        (b'X', *b"001001001"),
+        (b'?', *b"111111111"),
+        (b'b', *b"110110110"),
+        (b'B', *b"110110110"),
+    ];
+    for (letter, want) in rows {
+        check_steps(&rt, rt.alloc(), Symbol::Single(letter), want)?;
+    }
+    Ok(())
+}
+
+#[test]
+fn letters_stand_for_changes(rt: HostRuntime) -> Result<(), Fail> {
+    let rows = [
+        (b'r', *b"010000000"),
+        (b'R', *b"010000000"),
+        (b'f', *b"000100000"),
+        (b'F', *b"000100000"),
+        (b'p', *b"011000010"),
+        (b'P', *b"011000010"),
+        (b'n', *b"000101100"),
+        (b'N', *b"000101100"),
+        (b'*', *b"011101110"),
+    ];
+    for (letter, want) in rows {
+        check_steps(&rt, rt.alloc(), Symbol::Single(letter), want)?;
+    }
+    Ok(())
+}
+
+#[test]
+fn pairs_stand_for_changes(rt: HostRuntime) -> Result<(), Fail> {
+    let rows = [
+        (b'0', b'1', *b"010000000"),
+        (b'0', b'x', *b"001000000"),
+        (b'1', b'0', *b"000100000"),
+        (b'X', b'1', *b"000000010"),
+        (b'0', b'0', *b"000000000"),
+        (b'?', b'1', *b"010000010"),
+        (b'1', b'?', *b"000101000"),
+        (b'x', b'?', *b"000000110"),
+        (b'b', b'?', *b"011101000"),
+        (b'?', b'B', *b"010100110"),
+        (b'b', b'b', *b"010100000"),
+        (b'B', b'X', *b"001001000"),
+        (b'?', b'?', *b"011101110"),
+    ];
+    for (from, to, want) in rows {
+        check_steps(&rt, rt.alloc(), Symbol::Change(from, to), want)?;
+    }
+    Ok(())
+}

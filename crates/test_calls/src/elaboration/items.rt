@@ -1,0 +1,38 @@
+//! Names and expressions of a module.
+
+use std::alloc::{AllocError, Global};
+use xr_base::Items;
+use xr_elab_names::Scope;
+use xr_netlist_grammar::{Expr, Part, PartKind, Word};
+
+/// A plain name, at byte 7.
+pub fn word(alloc: Global, text: &[u8]) -> Result<Word, AllocError> {
+    Ok(Word {
+        text: Items::from_vec(text.to_vec(alloc)?),
+        escaped: false,
+        at: 7,
+    })
+}
+
+/// An expression of one part.
+pub fn expr(alloc: Global, what: PartKind) -> Result<Expr, AllocError> {
+    Ok(Expr {
+        at: 7,
+        parts: Items::from_vec(vec![in alloc; Part { at: 7, what }]?),
+    })
+}
+
+/// The net `a`.
+pub fn net_a(alloc: Global) -> Result<Expr, AllocError> {
+    expr(alloc, PartKind::Whole(word(alloc, b"a")?))
+}
+
+/// The bit 0.
+pub fn zero(alloc: Global) -> Result<Expr, AllocError> {
+    expr(alloc, PartKind::Literal(1, 0))
+}
+
+/// The top, in which no name is declared.
+pub fn top<'t>(alloc: Global) -> Scope<'t> {
+    Scope::new(alloc, Items::from_vec(Vec::new(alloc)))
+}

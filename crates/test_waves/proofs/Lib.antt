@@ -1,0 +1,3 @@
+-- Lemmas on small orders and on places.
+mod SwappedOrder
+mod WavePlaces

@@ -1,0 +1,25 @@
+-- The order of two nets in which the second comes first.
+use Rattle.std.proofs.Common.{◌≡◌, ℕ, zero, suc, ◌<◌, [], ◌∷◌, get_or, refl, arith}
+use Rattle.xr_design.specs.Order.{IsOrdering}
+
+pub swapped_ordered : IsOrdering (1 ∷ 0 ∷ [])
+swapped_ordered = record { below = below; each = each; once = once }
+  where
+    below : (p : ℕ) → p < 2 → get_or (1 ∷ 0 ∷ []) p 0 < 2
+    below zero h = omega arith
+    below (suc zero) h = omega arith
+    below (suc (suc p)) h = absurd (omega arith)
+
+    each : (net : ℕ) → net < 2 → (p : ℕ) × (p < 2) × (get_or (1 ∷ 0 ∷ []) p 0 ≡ net)
+    each zero h = (1, omega arith, refl)
+    each (suc zero) h = (0, omega arith, refl)
+    each (suc (suc net)) h = absurd (omega arith)
+
+    once : (p q : ℕ) → p < 2 → q < 2 → get_or (1 ∷ 0 ∷ []) p 0 ≡ get_or (1 ∷ 0 ∷ []) q 0 → p ≡ q
+    once zero zero h k same = omega arith
+    once zero (suc zero) h k same = absurd (omega arith)
+    once (suc zero) zero h k same = absurd (omega arith)
+    once (suc zero) (suc zero) h k same = omega arith
+    once zero (suc (suc q)) h k same = absurd (omega arith)
+    once (suc zero) (suc (suc q)) h k same = absurd (omega arith)
+    once (suc (suc p)) q h k same = absurd (omega arith)

@@ -1,0 +1,137 @@
+//! Cones, the clauses of one, and the minimal choices of tables.
+
+use crate::job::{Job, UNKNOWN};
+use crate::waves::place_of;
+use std::alloc::Global;
+use std::process::Abort;
+use std::test::Fail;
+use xr_base::Items;
+use xr_cell::Value;
+use xr_cnf::clauses;
+use xr_cone::{Cone, trace, trace_at};
+use xr_cone_choices::{Choice, minimal_choices};
+use xr_cone_nodes::{NodeBody, Words};
+use xr_design::Place;
+use xr_model::Class;
+use xr_wave::Wave;
+
+/// The exclusive or of two inputs.
+const XOR: &[u8] = b"module m(a, b, y); input a, b; output y; xor (y, a, b); endmodule";
+
+/// They are x.
+const TWO_UNKNOWN: &[u8] =
+    b"$scope module t $end $var wire 1 ! a $end $var wire 1 # b $end $enddefinitions $end #0 x! x#";
+
+/// An input or its complement.
+const EITHER: &[u8] =
+    b"module m(a, y); input a; output y; wire n; not (n, a); or (y, a, n); endmodule";
+
+/// The cone of the third place, before which no place has a line.
+fn third_cone(alloc: Global, job: &Job) -> Result<Cone, Fail> {
+    let wave = advanced(advanced(job.unwritten(alloc)?)?)?;
+    match wave.class() {
+        Class::Line => Ok(trace(alloc, &wave)?),
+        _ => Err(Fail::new("the place isn't a Line place")),
+    }
+}
+
+fn advanced(wave: Wave<'_>) -> Result<Wave<'_>, Fail> {
+    match wave.class() {
+        Class::Free => Ok(wave.advance()?),
+        Class::Carried(_, _) => Ok(wave.advance()?),
+        _ => Err(Fail::new("the place is neither free nor carried")),
+    }
+}
+
+/// The same cone, asked for by the place once all are written.
+fn third_cone_again(alloc: Global, job: &Job) -> Result<Cone, Fail> {
+    let wave = job.repaired(alloc)?;
+    if wave.count() != 3 {
+        return Err(Fail::new("there aren't three places"));
+    }
+    let place = place_of(&wave, 2);
+    match wave.class_at(place) {
+        Class::Line => Ok(trace_at(alloc, &wave, place)?),
+        _ => Err(Fail::new("the place isn't a Line place")),
+    }
+}
+
+fn is_xor(rt: &impl Abort, cone: &Cone) -> Result<(), Fail> {
+    match cone.nodes() {
+        [a, b, y] => {
+            assert_eq!(rt; a.place, Place { step: 0, net: 0 });
+            assert_eq!(rt; b.place, Place { step: 0, net: 1 });
+            assert_eq!(rt; y.place, Place { step: 0, net: 2 });
+            match &y.body {
+                NodeBody::Rule { arguments, values } => {
+                    let table = [Value::Zero, Value::One, Value::One, Value::Zero];
+                    assert_eq!(rt; arguments.as_slice(), [0, 1].as_slice());
+                    assert_eq!(rt; values.as_slice(), table.as_slice());
+                    Ok(())
+                }
+                NodeBody::Carried { .. } => Err(Fail::new("the place is carried")),
+            }
+        }
+        _ => Err(Fail::new("the cone hasn't three places")),
+    }
+}
+
+#[test]
+fn an_exclusive_or_rests_on_both(rt: HostRuntime) -> Result<(), Fail> {
+    let job = Job::read(rt.alloc(), XOR, TWO_UNKNOWN)?;
+    is_xor(&rt, &third_cone(rt.alloc(), &job)?)?;
+    is_xor(&rt, &third_cone_again(rt.alloc(), &job)?)
+}
+
+/// Compares what a filling of the second source alone gives the cone, by itself and in a word of two sources.
+fn check_fillings(rt: &impl Abort, alloc: Global, cone: &Cone) -> Result<(), Fail> {
+    assert_eq!(rt; cone.sources().len(), 2);
+    assert!(rt; !cone.base());
+    let one = Items::from_vec([Place { step: 0, net: 1 }].to_vec(alloc)?);
+    assert!(rt; cone.value(alloc, &one)?);
+    let mut words = Words::new(alloc, cone)?;
+    assert_eq!(rt; words.root(cone, &[0b0011, 0b0101]), 0b0110);
+    let chosen = cone.chosen(alloc, &[0b0011, 0b0101], 2)?;
+    assert_eq!(rt; chosen.as_slice(), one.as_slice());
+    Ok(())
+}
+
+#[test]
+fn a_filling_of_one_source_turns_an_exclusive_or(rt: HostRuntime) -> Result<(), Fail> {
+    let job = Job::read(rt.alloc(), XOR, TWO_UNKNOWN)?;
+    check_fillings(&rt, rt.alloc(), &third_cone(rt.alloc(), &job)?)
+}
+
+fn check_clauses(rt: &impl Abort, alloc: Global, cone: &Cone) -> Result<(), Fail> {
+    let cnf = clauses(alloc, cone)?;
+    match cnf.clauses.as_slice() {
+        [denied, first, second] => {
+            assert_eq!(rt; cnf.vars, 2);
+            assert_eq!(rt; denied.as_slice(), [-2].as_slice());
+            assert_eq!(rt; first.as_slice(), [-1, 2].as_slice());
+            assert_eq!(rt; second.as_slice(), [1, 2].as_slice());
+            Ok(())
+        }
+        _ => Err(Fail::new("there aren't three clauses")),
+    }
+}
+
+#[test]
+fn clauses_of_either(rt: HostRuntime) -> Result<(), Fail> {
+    let job = Job::read(rt.alloc(), EITHER, UNKNOWN)?;
+    check_clauses(&rt, rt.alloc(), &third_cone(rt.alloc(), &job)?)
+}
+
+#[test]
+fn choices_of_and_and_parity(rt: HostRuntime) -> Result<(), Fail> {
+    let (zero, one) = (Value::Zero, Value::One);
+    let and = minimal_choices(rt.alloc(), &[zero, zero, zero, one], false)?;
+    let parity = [zero, one, one, zero, one, zero, zero, one];
+    let odd = minimal_choices(rt.alloc(), &parity, true)?;
+    let first = Choice { care: 1, bits: 0 };
+    let second = Choice { care: 2, bits: 0 };
+    assert_eq!(rt; and.as_slice(), [first, second].as_slice());
+    assert_eq!(rt; odd.len(), 4);
+    assert!(rt; odd.iter().all(|choice| choice.care == 7));
+    Ok(())
+}

@@ -1,0 +1,44 @@
+//! A history of two nets.
+
+ghost use Rattle.std.specs.Prelude.{◌≡◌, IfOk, length};
+
+use crate::designs::nets::{net, two_moments};
+use std::alloc::{AllocError, Global};
+use std::test::Fail;
+use xr_base::Items;
+use xr_cell::Value;
+use xr_design::{Design, Driver, History, Place};
+
+fn two_nets(alloc: Global) -> Result<Design, AllocError>
+    ensures { IfOk result (λ design. length design.nets ≡ 2) }
+{
+    let mut nets = Vec::new(alloc);
+    nets.push(net(alloc, Driver::Undriven))?;
+    nets.push(net(alloc, Driver::Undriven))?;
+    Ok(Design {
+        nets: Items::from_vec(nets),
+        udps: Items::from_vec(Vec::new(alloc)),
+    })
+}
+
+#[test]
+fn a_place_has_what_was_set(rt: HostRuntime) -> Result<(), Fail> {
+    let design = two_nets(rt.alloc())?;
+    let stim = two_moments(rt.alloc())?;
+    let mut history = History::blank(rt.alloc(), &design, &stim)?;
+    let set = Place { step: 1, net: 0 };
+    let other = Place { step: 3, net: 1 };
+    assert_eq!(rt; history.shown(set), Value::X, "blank");
+    assert_eq!(rt; history.kept(other), Value::X, "blank");
+    for (shown, kept) in [
+        (Value::Zero, Value::One),
+        (Value::Z, Value::X),
+        (Value::One, Value::Z),
+    ] {
+        history.set(set, shown, kept);
+        assert_eq!(rt; history.shown(set), shown, "{shown:?} and {kept:?}");
+        assert_eq!(rt; history.kept(set), kept, "{shown:?} and {kept:?}");
+        assert_eq!(rt; history.shown(other), Value::X, "another place");
+    }
+    Ok(())
+}

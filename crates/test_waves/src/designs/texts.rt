@@ -1,0 +1,55 @@
+//! The text of one net at two moments.
+
+ghost use Rattle.std.specs.Prelude.{◌≡◌, ◌∷◌, [], IfOk, length};
+ghost use Rattle.xr_design.specs.declared.design.Design.{Design as a_design};
+ghost use Rattle.xr_match.specs.Binding.{FitsBinding};
+
+use crate::designs::nets::{one_net, part, two_moments};
+use std::alloc::{AllocError, Global};
+use std::test::Fail;
+use xr_base::Items;
+use xr_cell::Value;
+use xr_design::{Bytes, History, Place};
+use xr_match::{Binding, Bound};
+use xr_out::vcd_text;
+
+/// The variable of the first net, in the scope `top`.
+fn variable(alloc: Global) -> Result<Bound, AllocError>
+    ensures { IfOk result (λ b. b.bits ≡ 0 ∷ []) }
+{
+    let path = vec![in alloc; Bytes::from_vec(b"top".to_vec(alloc)?)]?;
+    Ok(Bound {
+        variable: 0,
+        bits: Items::from_vec([0].to_vec(alloc)?),
+        path: Items::from_vec(path),
+        range: None,
+    })
+}
+
+/// Its binding.
+fn binding(alloc: Global) -> Result<Binding, AllocError>
+    ensures { IfOk result (λ b. (design : a_design) → length design.nets ≡ 1 → FitsBinding design b) }
+{
+    let mut bound = Vec::new(alloc);
+    bound.push(variable(alloc)?)?;
+    Ok(Binding {
+        timescale: Some(Bytes::from_vec(b"1ns".to_vec(alloc)?)),
+        bound: Items::from_vec(bound),
+    })
+}
+
+#[test]
+fn a_net_is_written_with_its_moments(rt: HostRuntime) -> Result<(), Fail> {
+    let alloc = rt.alloc();
+    let parts = vec![in alloc; part(alloc, b"a-b", true)?]?;
+    let design = one_net(alloc, parts, None)?;
+    let stim = two_moments(alloc)?;
+    let binding = binding(alloc)?;
+    let mut history = History::blank(alloc, &design, &stim)?;
+    history.set(Place { step: 3, net: 0 }, Value::One, Value::X);
+    let text = vcd_text(alloc, &design, &binding, &stim, &history)?;
+    let want =
+        b"$version xrepair $end\n$timescale 1ns $end\n$scope module top $end\n$var wire 1 ! \\a-b $end\n$upscope $end\n$enddefinitions $end\n#0\n$dumpvars\nx!\n$end\n#10\n1!\n";
+    assert_eq!(rt; text.as_slice(), want.as_slice());
+    Ok(())
+}

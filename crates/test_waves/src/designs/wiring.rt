@@ -1,0 +1,47 @@
+//! A gate whose net stands behind the net that it reads.
+
+ghost use Rattle.std.specs.Prelude.{◌≡◌, [], ◌∷◌, IfOk, map};
+ghost use Rattle.xr_design.specs.declared.design.Driver.TheVariants as drivers;
+ghost use Rattle.xr_design.specs.declared.design.Net.{Net as AnyNet};
+ghost use Rattle.xr_design.specs.declared.design.Pin.TheVariants as pin;
+ghost use Rattle.xr_design.specs.declared.design.Table.TheVariants as table;
+ghost use Rattle.xr_cell.specs.declared.gate.Gate.TheVariants as gate;
+
+use crate::designs::nets::{net, swapped};
+use std::alloc::{AllocError, Global};
+use std::test::Fail;
+use xr_base::Items;
+use xr_cell::Gate;
+use xr_design::{Design, Driver, Pin, Table};
+use xr_wiring::{Kind, Wiring};
+
+/// An `and` of the second net, which nothing drives, and of a dead pin.
+fn design(alloc: Global) -> Result<Design, AllocError>
+    ensures { IfOk result (λ design. map (λ (n : AnyNet). n.driver) design.nets ≡
+        drivers.Cell (table.Gate gate.And) (pin.Net 1 ∷ pin.Dead ∷ []) ∷ drivers.Undriven ∷ []) }
+{
+    let pins = [Pin::Net(1), Pin::Dead].to_vec(alloc)?;
+    let mut nets = Vec::new(alloc);
+    nets.push(net(
+        alloc,
+        Driver::Cell(Table::Gate(Gate::And), Items::from_vec(pins)),
+    ))?;
+    nets.push(net(alloc, Driver::Undriven))?;
+    Ok(Design {
+        nets: Items::from_vec(nets),
+        udps: Items::from_vec(Vec::new(alloc)),
+    })
+}
+
+#[test]
+fn a_pin_is_named_by_its_position(rt: HostRuntime) -> Result<(), Fail> {
+    let alloc = rt.alloc();
+    let design = design(alloc)?;
+    let order = swapped(alloc)?;
+    let wiring = Wiring::of(alloc, &design, &order)?;
+    assert_eq!(rt; wiring.kind(0), Kind::Undriven);
+    assert_eq!(rt; wiring.kind(1), Kind::Gate(Gate::And));
+    assert_eq!(rt; wiring.pins(0).len(), 0);
+    assert_eq!(rt; wiring.pins(1), [Pin::Net(0), Pin::Dead].as_slice());
+    Ok(())
+}

@@ -1,0 +1,152 @@
+//! Jobs from their texts, with their replays.
+
+ghost use Rattle.std.specs.Prelude.{◌≡◌, ◌≤◌, ◌^◌, IfOk, length};
+ghost use Rattle.xr_design.specs.Handed.{IsReplay};
+ghost use Rattle.xr_job.specs.Compared.{job_in};
+ghost use Rattle.xr_job.specs.Netlist.{FitsNetlist};
+ghost use Rattle.xr_job.specs.Recorded.{FitsRecorded};
+ghost use Rattle.xr_wave.specs.Contents.{IsFinished};
+
+use std::alloc::Global;
+use std::test::Fail;
+use xr_base::Items;
+use xr_cell::Value;
+use xr_design::{Bytes, Forces, History, StartRule};
+use xr_job::{
+    CompareErr, Netlist, Recorded, put_compare_line, read_netlist, read_recording,
+    replay_and_compare,
+};
+use xr_match::{bind, stim_of};
+use xr_repair::repair;
+use xr_replay::replay;
+use xr_vcd::read_vcd;
+use xr_wave::Wave;
+
+/// An input `a`.
+pub const ONE_INPUT: &[u8] = b"module m(a); input a; endmodule";
+
+/// It is x.
+pub const UNKNOWN: &[u8] = b"$scope module t $end $var wire 1 ! a $end $enddefinitions $end #0 x!";
+
+/// A netlist, a recording of it, and the replay, which agree.
+#[derive(Drop)]
+pub struct Job {
+    pub netlist: Netlist,
+    pub recorded: Recorded,
+    pub history: History,
+    ghost netlist_fits: { FitsNetlist netlist },
+    ghost recorded_fits: { FitsRecorded netlist.design recorded },
+    ghost replayed: { IsReplay (job_in netlist recorded) history },
+}
+
+impl Job {
+    /// The netlist with the top `m`, recorded in the scope `t`, with one round a moment.
+    pub fn read(alloc: Global, netlist: &[u8], recording: &[u8]) -> Result<Job, Fail>
+        requires { length recording.now ≤ 2 ^ 28 }
+    {
+        let netlist = read_netlist(alloc, netlist, "m")?;
+        let scope = [Bytes::from_vec(b"t".to_vec(alloc)?)];
+        let recorded = read_recording(alloc, &netlist, recording, &scope, 1, StartRule::Cold)?;
+        let history = replay_and_compare(alloc, &netlist, &recorded)?;
+        Ok(Job {
+            netlist,
+            recorded,
+            history,
+        })
+    }
+
+    /// Its wave of which nothing is written.
+    #[tactic(auto, using(xr_job::proofs::Comparing::circuit_fits))]
+    pub fn unwritten(&self, alloc: Global) -> Result<Wave<'_>, Fail> {
+        let wave = Wave::new(
+            alloc,
+            &self.netlist.design,
+            &self.netlist.order,
+            &self.recorded.stim,
+            &self.history,
+            1,
+        )?;
+        Ok(wave)
+    }
+
+    /// Its finished wave.
+    #[tactic(auto, using(xr_job::proofs::Comparing::circuit_fits))]
+    pub fn repaired(&self, alloc: Global) -> Result<Wave<'_>, Fail>
+        ensures design { IfOk result (λ wave. wave.design ≡ self.now.netlist.design) }
+        ensures finished { IfOk result IsFinished }
+    {
+        let wave = repair(
+            alloc,
+            &self.netlist.design,
+            &self.netlist.order,
+            &self.recorded.stim,
+            &self.history,
+            1,
+        )?;
+        Ok(wave)
+    }
+
+    #[tactic(auto, using(xr_job::proofs::Comparing::circuit_fits))]
+    fn replayed_again(&self, alloc: Global) -> Result<History, Fail> {
+        let forces = Forces::empty(alloc);
+        let history = replay(
+            alloc,
+            &self.netlist.design,
+            &self.netlist.order,
+            &self.recorded.stim,
+            &forces,
+        )?;
+        Ok(history)
+    }
+}
+
+#[test]
+fn an_inverter_is_replayed(rt: HostRuntime) -> Result<(), Fail> {
+    let netlist = b"module m(a, y); input a; output y; not (y, a); endmodule";
+    let recording =
+        b"$scope module t $end $var wire 1 ! a $end $var wire 1 # y $end $enddefinitions $end #0 1! 0#";
+    let job = Job::read(rt.alloc(), netlist, recording)?;
+    let _history = job.replayed_again(rt.alloc())?;
+    Ok(())
+}
+
+#[test]
+fn a_disagreement_has_its_line(rt: HostRuntime) -> Result<(), Fail> {
+    let alloc = rt.alloc();
+    let refusal = CompareErr::Disagrees {
+        time: 10,
+        name: Items::from_vec(b"z".to_vec(alloc)?),
+        recorded: Value::One,
+        replayed: Value::Zero,
+    };
+    let mut line = Vec::new(alloc);
+    put_compare_line(alloc, &mut line, &refusal)?;
+    assert_eq!(rt;
+        line.as_slice(),
+        b"refused: disagrees #10 z recorded 1 replayed 0".as_slice()
+    );
+    Ok(())
+}
+
+#[test]
+fn an_input_is_bound_and_driven(rt: HostRuntime) -> Result<(), Fail> {
+    let alloc = rt.alloc();
+    let netlist = read_netlist(alloc, ONE_INPUT, "m")?;
+    let text = b"$scope module t $end $var wire 1 ! a $end $enddefinitions $end #0 1! #5 z!";
+    let recording = read_vcd(alloc, text)?;
+    let scope = [Bytes::from_vec(b"t".to_vec(alloc)?)];
+    let bound = bind(alloc, &netlist.design, &recording, &scope, 4)?;
+    let stim = stim_of(
+        alloc,
+        &netlist.design,
+        &recording,
+        &bound,
+        4,
+        StartRule::Cold,
+    )?;
+    assert_eq!(rt; stim.times.as_slice(), [0, 5].as_slice());
+    for row in stim.inputs.as_slice() {
+        assert_eq!(rt; row.as_slice().len(), 1);
+    }
+    Ok(())
+}

@@ -1,0 +1,128 @@
+//! Finished waves: their worlds, fillings and histories, and the report of one.
+
+ghost use Rattle.std.specs.Prelude.{◌≡◌, ◌<◌, length};
+ghost use Rattle.xr_design.specs.Fits.{place_at};
+ghost use Rattle.xr_match.specs.Binding.{FitsBinding};
+ghost use Rattle.xr_wave.specs.Contents.{IsFinished, IsWritten, job};
+ghost use Rattle.xr_wave.specs.Shown.{ShowsWave};
+
+use crate::job::{Job, ONE_INPUT, UNKNOWN};
+use std::alloc::Global;
+use std::process::Abort;
+use std::test::Fail;
+use xr_base::Items;
+use xr_cell::Value;
+use xr_design::{History, Place, spot_of};
+use xr_match::Binding;
+use xr_report::{bit_lines, head_lines};
+use xr_wave::Wave;
+use xr_world::fill;
+
+/// An input and its complement, which are never both 1.
+const NEVER_BOTH: &[u8] =
+    b"module m(a, y); input a; output y; wire n; not (n, a); and (y, a, n); endmodule";
+
+/// The written place of a number.
+pub fn place_of(wave: &Wave<'_>, number: usize) -> Place
+    requires { number < length wave.now.written }
+    ensures place { result ≡ place_at (job wave.now) number }
+    ensures written { IsWritten wave.now result }
+{
+    let spot = spot_of(&wave.circuit(), number);
+    Place {
+        step: spot.step as u32,
+        net: spot.net as u32,
+    }
+}
+
+/// What the history of a wave shows at a place.
+fn shown_at(wave: &Wave<'_>, history: &History, place: Place) -> Value
+    requires history { ShowsWave wave.now history.now }
+    requires place { IsWritten wave.now place }
+{
+    let _circuit = wave.circuit();
+    history.shown(place)
+}
+
+/// Compares the one place, which is free, in the worlds of its two fillings.
+fn check_worlds(rt: &impl Abort, alloc: Global, wave: &Wave<'_>) -> Result<(), Fail> {
+    assert_eq!(rt; wave.count(), 1);
+    let place = place_of(wave, 0);
+    let one = fill(alloc, wave, &Items::from_vec([place].to_vec(alloc)?))?;
+    assert!(rt; one.value(place));
+    let zero = fill(alloc, wave, &Items::from_vec(Vec::new(alloc)))?;
+    assert!(rt; !zero.value(place));
+    Ok(())
+}
+
+#[test]
+fn a_free_place_has_its_filling(rt: HostRuntime) -> Result<(), Fail> {
+    let job = Job::read(rt.alloc(), ONE_INPUT, UNKNOWN)?;
+    check_worlds(&rt, rt.alloc(), &job.repaired(rt.alloc())?)
+}
+
+/// Compares the fillings that show the second place unknown, and the third settled.
+fn check_pairs(rt: &impl Abort, alloc: Global, wave: &Wave<'_>) -> Result<(), Fail> {
+    assert_eq!(rt; wave.count(), 3);
+    match wave.pair_of(alloc, place_of(wave, 1))? {
+        Some((zero, one)) => {
+            let free = place_of(wave, 0);
+            assert_eq!(rt; zero.as_slice(), [free].as_slice(), "its complement is 1");
+            assert!(rt; one.as_slice().is_empty());
+        }
+        None => return Err(Fail::new("the complement is unknown")),
+    }
+    assert!(rt; wave.pair_of(alloc, place_of(wave, 2))?.is_none());
+    Ok(())
+}
+
+fn check_history(rt: &impl Abort, alloc: Global, wave: &Wave<'_>) -> Result<(), Fail>
+    requires { IsFinished wave.now }
+{
+    assert_eq!(rt; wave.count(), 3);
+    let shown = wave.history(alloc)?;
+    assert_eq!(rt;
+        shown_at(wave, &shown, place_of(wave, 1)),
+        Value::X,
+        "unknown"
+    );
+    assert_eq!(rt;
+        shown_at(wave, &shown, place_of(wave, 2)),
+        Value::Zero,
+        "settled"
+    );
+    Ok(())
+}
+
+#[test]
+fn a_net_and_its_complement_are_never_both_one(rt: HostRuntime) -> Result<(), Fail> {
+    let job = Job::read(rt.alloc(), NEVER_BOTH, UNKNOWN)?;
+    let wave = job.repaired(rt.alloc())?;
+    check_pairs(&rt, rt.alloc(), &wave)?;
+    check_history(&rt, rt.alloc(), &wave)
+}
+
+fn check_report(
+    rt: &impl Abort,
+    alloc: Global,
+    wave: &Wave<'_>,
+    binding: &Binding,
+) -> Result<(), Fail>
+    requires finished { IsFinished wave.now }
+    requires binding { FitsBinding wave.now.design binding.now }
+{
+    let bits = bit_lines(alloc, wave, binding)?;
+    assert_eq!(rt; bits.as_slice(), b"#0 a x unknown\n".as_slice());
+    let head = head_lines(alloc, wave, 2)?;
+    let want =
+        b"places 1 moments 1 rounds 1\nknown 0 repaired 0 unknown 1 undecided 0\nforces 2 lines 0\n";
+    assert_eq!(rt; head.as_slice(), want.as_slice());
+    Ok(())
+}
+
+#[test]
+fn a_free_place_is_unknown(rt: HostRuntime) -> Result<(), Fail> {
+    let job = Job::read(rt.alloc(), ONE_INPUT, UNKNOWN)?;
+    let wave = job.repaired(rt.alloc())?;
+    check_report(&rt, rt.alloc(), &wave, &job.recorded.binding)
+}
