@@ -1,5 +1,5 @@
--- Places of a wave by their numbers, and what was handed in.
-use Rattle.std.proofs.Common.{◌≡◌, ℕ, ◌<◌, length, sym, subst, arith}
+-- Places of a wave by their numbers, their cones, and what was handed in.
+use Rattle.std.proofs.Common.{◌≡◌, ℕ, ◌<◌, List, length, sym, subst, arith}
 use Rattle.xr_design.specs.declared.circuit.Spot.{Spot}
 use Rattle.xr_design.specs.Circuit.{IsSpot}
 use Rattle.xr_design.specs.Fits.{place_at}
@@ -8,6 +8,9 @@ use Rattle.xr_design.specs.History.{HistoryView}
 use Rattle.xr_design.specs.Job.{Job, places_of}
 use Rattle.xr_design.proofs.Numbers.{is_place_at, number_of_place_at}
 use Rattle.xr_wave.specs.Contents.{Contents, IsWave, IsWritten, job}
+use Rattle.xr_cone_nodes.specs.declared.node.Node.{Node}
+use Rattle.xr_cone_nodes.specs.Traced.{IsConeOf}
+use Rattle.xr_cone.specs.Boundary.{IsSomeCone}
 
 place_written : (c : Contents) → IsWave c → (number : ℕ) → number < length c.written
     → IsWritten c (place_at (job c) number)
@@ -30,3 +33,7 @@ pub handed_again : (c : Contents) → IsWave c → (j : Job) → j ≡ job c →
 handed_again c wave j same history is =
     let own : IsHandedIn (job c) history = subst (λ (h : HistoryView). IsHandedIn (job c) h) (sym is) wave.handed in
     subst (λ (k : Job). IsHandedIn k history) (sym same) own
+
+-- The cone of a place is the cone of some place.
+pub some_cone : (c : Contents) (root : ℕ) (nodes : List Node) → IsConeOf c root nodes → IsSomeCone c nodes
+some_cone c root nodes is = record { root = root; is = is }

@@ -1,4 +1,4 @@
-//! What is found of a place: its class, its mark, its line, its sources.
+//! What is found of a place: its class, its mark, its line, its sources, what its cone reads.
 
 ghost use Rattle.xr_wave.specs.Contents.{IsWritten};
 
@@ -9,7 +9,7 @@ use crate::worlds::put_agreement;
 use std::alloc::{AllocError, Global};
 use std::fmt::Write;
 use xr_base::Memory;
-use xr_cone::{Cone, trace_at};
+use xr_cone::{Cone, boundary, trace_at};
 use xr_design::{Mark, Place};
 use xr_model::{Body, Class};
 use xr_report::counts_of;
@@ -60,6 +60,7 @@ fn put_found(
         "mark" => Ok(put_mark(out, wave, place)?),
         "line" => Ok(put_line(out, wave, place)?),
         "sources" => put_sources(alloc, out, wave, place),
+        "boundary" => put_boundary(alloc, out, wave, place),
         "pair" => put_pair(alloc, out, wave, place),
         "check_pair" => put_checked(alloc, out, wave, place),
         _ => Ok(out.push_str("is not asked for")?),
@@ -117,6 +118,27 @@ fn put_sources(alloc: Global, out: &mut String, wave: &Wave<'_>, place: Place) -
     match cone_of(alloc, wave, place)? {
         Some(cone) => put_places(alloc, out, wave, cone.sources()),
         None => Ok(out.push_str("no line")?),
+    }
+}
+
+/// Puts the certain places that the cone of a place reads.
+#[tactic(auto, using(crate::proofs::WavePlaces::some_cone))]
+fn put_boundary(
+    alloc: Global,
+    out: &mut String,
+    wave: &Wave<'_>,
+    place: Place,
+) -> Result<(), Memory>
+    requires { IsWritten wave.now place }
+{
+    out.push_str("= ")?;
+    match wave.class_at(place) {
+        Class::Line => {
+            let cone = trace_at(alloc, wave, place)?;
+            let places = boundary(alloc, wave, &cone)?;
+            put_places(alloc, out, wave, places.as_slice())
+        }
+        _ => Ok(out.push_str("no line")?),
     }
 }
 
