@@ -16,10 +16,8 @@ use xr_job::{
     CompareErr, Netlist, Recorded, put_compare_line, read_netlist, read_recording,
     replay_and_compare,
 };
-use xr_match::{bind, stim_of};
 use xr_repair::repair;
 use xr_replay::replay;
-use xr_vcd::read_vcd;
 use xr_wave::Wave;
 
 /// An input `a`.
@@ -125,28 +123,5 @@ fn a_disagreement_has_its_line(rt: HostRuntime) -> Result<(), Fail> {
         line.as_slice(),
         b"refused: disagrees #10 z recorded 1 replayed 0".as_slice()
     );
-    Ok(())
-}
-
-#[test]
-fn an_input_is_bound_and_driven(rt: HostRuntime) -> Result<(), Fail> {
-    let alloc = rt.alloc();
-    let netlist = read_netlist(alloc, ONE_INPUT, "m")?;
-    let text = b"$scope module t $end $var wire 1 ! a $end $enddefinitions $end #0 1! #5 z!";
-    let recording = read_vcd(alloc, text)?;
-    let scope = [Bytes::from_vec(b"t".to_vec(alloc)?)];
-    let bound = bind(alloc, &netlist.design, &recording, &scope, 4)?;
-    let stim = stim_of(
-        alloc,
-        &netlist.design,
-        &recording,
-        &bound,
-        4,
-        StartRule::Cold,
-    )?;
-    assert_eq!(rt; stim.times.as_slice(), [0, 5].as_slice());
-    for row in stim.inputs.as_slice() {
-        assert_eq!(rt; row.as_slice().len(), 1);
-    }
     Ok(())
 }
