@@ -6,10 +6,6 @@ use Rattle.std.proofs.Math.Nat.{mul-le-mul_right}
 use Rattle.xr_design.specs.declared.design.Pin.{Pin}
 use Rattle.xr_design.specs.declared.design.Pin.TheVariants.{Net, Bit, Dead}
 use Rattle.xr_design.specs.declared.design.Table.{Table}
-use Rattle.xr_design.specs.declared.design.Table.TheVariants.{Gate, Udp}
-use Rattle.xr_cell.specs.declared.gate.Gate.{Gate as AGate}
-use Rattle.xr_cell.specs.declared.gate.Gate.TheVariants.{And, Nand, Or, Nor, Xor, Xnor, Buf, Not}
-use Rattle.xr_cell.specs.Gate.{FitsGate}
 use Rattle.xr_cell.specs.Table.{Table as Primitive}
 use Rattle.xr_design.specs.Fits.{is_dead, FitsTable}
 use Rattle.xr_design.specs.Job.{Job, at}

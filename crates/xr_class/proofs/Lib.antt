@@ -1,5 +1,6 @@
 -- Lemmas on the classes of places.
 mod EarlierPlaces
+mod EndClasses
 mod FewNets
 mod MixedClasses
 mod MovedRules

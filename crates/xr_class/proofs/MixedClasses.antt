@@ -1,6 +1,5 @@
 -- Values of two kinds, and places that never read their filling.
-use Rattle.std.proofs.Common.{◌≡◌, ℕ, ◌<◌, ◌==◌, ◌&&◌, ◌||◌, Bool, true, false, List, not, refl, sym, ap, ◌∙◌, inl, inr, ◌⊎◌, ⊎_elim}
-use Rattle.std.specs.Bool.{OnTrue}
+use Rattle.std.proofs.Common.{◌≡◌, ℕ, ◌<◌, ◌==◌, ◌&&◌, ◌||◌, Bool, true, false, List, not, refl, ap, ◌∙◌, inl, inr, ◌⊎◌, ⊎_elim}
 use Rattle.std.proofs.lemmas.Bool.{ne_eqb}
 use Rattle.xr_cell.specs.declared.value.Value.{Value}
 use Rattle.xr_cell.specs.declared.value.Value.TheVariants.{Zero, One, X, Z}
@@ -62,14 +61,6 @@ mixed_is j c place us m n differs = record {
         × (is_unknown x && is_unknown y ≡ false)
     parts = none_hold (is_bit x false && is_bit y false) (is_bit x true && is_bit y true) (is_unknown x && is_unknown y)
         differs
-
-pub told_mixed : (j : Job) (c : ℕ → Value) (place : ℕ) (us : List ℕ) (m n : ℕ) (x y : Value) (told : Bool)
-    → x ≡ value_by_number j c place us m → y ≡ value_by_number j c place us n → told ≡ differ x y
-    → OnTrue told (IsMixed j c place)
-told_mixed j c place us m n x y true x_is y_is is =
-    mixed_is j c place us m n (ap (λ v. differ v (value_by_number j c place us n)) (sym x_is)
-    ∙ ap (λ v. differ x v) (sym y_is) ∙ sym is)
-told_mixed j c place us m n x y false x_is y_is is = tt
 
 known_is : (v : Value) → IsKnown v → not (is_unknown v) ≡ true
 known_is Zero known = refl

@@ -1,7 +1,6 @@
 //! What passes for every assignment of a place.
 
 ghost use Rattle.std.specs.Prelude.{◌≡◌, ℕ, ◌<◌, ◌≤◌, length};
-ghost use Rattle.std.specs.Bool.{OnTrue};
 ghost use Rattle.xr_cell.specs.declared.value.Value.{Value as AnyValue};
 ghost use Rattle.xr_design.specs.Circuit.{job_in, CircuitFits};
 ghost use Rattle.xr_design.specs.Job.{places_of};
@@ -9,8 +8,7 @@ ghost use Rattle.xr_model.specs.Assignment.{assigned};
 ghost use Rattle.xr_model.specs.Class.{is_bit, flipped};
 ghost use Rattle.xr_model.specs.Mask.{masked};
 ghost use Rattle.xr_class.specs.Arguments.{uncertain_places};
-ghost use Rattle.xr_class.specs.Keeps.{IsMixed};
-ghost use Rattle.xr_class.specs.Test.{differ, passes, passes_number, ReadsOnly, value_by_number};
+ghost use Rattle.xr_class.specs.Test.{passes, passes_number, ReadsOnly};
 
 use crate::assigned::{Assigned, Numbered};
 use crate::test::Test;
@@ -41,58 +39,6 @@ pub fn passes_every<C: Source>(
         }
     }
     true
-}
-
-/// Whether the rule of a place gives values of two kinds, of 0, 1 and x, for the first and the last choice of bits.
-/// Takes no memory.
-pub fn is_mixed<C: Source>(
-    circuit: &Circuit<'_>,
-    certain: &C,
-    place: usize,
-    uncertain: &[usize],
-) -> bool
-    requires fits { CircuitFits circuit.now }
-    requires within { place < places_of (job_in circuit.now) }
-    requires certain { (k : ℕ) → k < place → C.has certain.now k }
-    requires few { length uncertain.now ≤ 13 }
-    ensures { OnTrue result (IsMixed (job_in circuit.now) (C.reads certain.now) place) }
-{
-    let end: u16 = 1 << uncertain.len();
-    let first = value_at(circuit, certain, place, uncertain, 0);
-    let last = value_at(circuit, certain, place, uncertain, end - 1);
-    differ(first, last)
-}
-
-/// What the rule gives for one choice of bits.
-fn value_at<C: Source>(
-    circuit: &Circuit<'_>,
-    certain: &C,
-    place: usize,
-    places: &[usize],
-    number: u16,
-) -> Value
-    requires fits { CircuitFits circuit.now }
-    requires within { place < places_of (job_in circuit.now) }
-    requires certain { (k : ℕ) → k < place → C.has certain.now k }
-    ensures { result ≡ value_by_number (job_in circuit.now) (C.reads certain.now) place places.now number }
-{
-    let bits = Assigned {
-        certain,
-        chosen: Numbered { places, number },
-    };
-    rule_value(circuit, certain, &bits, place)
-}
-
-/// Whether one value is 0, 1 or x and the other isn't.
-fn differ(first: Value, last: Value) -> bool
-    ensures { result ≡ differ first last }
-{
-    match first {
-        Value::Zero => !matches!(last, Value::Zero),
-        Value::One => !matches!(last, Value::One),
-        Value::X => last.is_known(),
-        Value::Z => last.is_known(),
-    }
 }
 
 /// Whether a test passes for one choice of bits.

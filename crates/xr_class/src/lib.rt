@@ -10,6 +10,7 @@ mod arguments;
 mod assigned;
 mod classify;
 mod earlier;
+mod ends;
 mod every;
 mod keeps;
 mod moved;

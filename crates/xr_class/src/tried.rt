@@ -8,14 +8,17 @@ ghost use Rattle.xr_design.specs.Job.{places_of};
 ghost use Rattle.xr_design.specs.Rule.{arguments};
 ghost use Rattle.xr_model.specs.Class.{is_carried_from};
 ghost use Rattle.xr_class.specs.Arguments.{uncertain_places};
+ghost use Rattle.xr_class.specs.Ends as spec;
+ghost use Rattle.xr_class.specs.Ends.{AreEnds};
 ghost use Rattle.xr_class.specs.Facts.{AreFacts};
 ghost use Rattle.xr_class.specs.Keeps.{class_here, copy_or_line, later_class};
 
 use crate::arguments::uncertain_places;
 use crate::earlier::Earlier;
-use crate::every::{is_mixed, passes_every};
+use crate::ends::{Ends, ends_of};
+use crate::every::passes_every;
 use crate::keeps::{passes_on, place_before};
-use crate::quick::settled_class;
+use crate::quick::{plain_class, settled_class};
 use crate::ruled::ruled_arguments;
 use crate::test::Test;
 use xr_design::{Circuit, Source};
@@ -52,16 +55,13 @@ fn first_class<E: Earlier>(
     requires uncertain { uncertain.now ≡ uncertain_places (job_in circuit.now) (E.reads earlier.now) place }
     ensures { result ≡ class_here (job_in circuit.now) (E.reads earlier.now) place }
 {
-    if is_mixed(circuit, earlier, place, uncertain) {
-        later_class(circuit, earlier, place, uncertain)
-    } else if passes_every(circuit, earlier, place, uncertain, Test::Bit(false)) {
-        ClassByNumber::Local(false)
-    } else if passes_every(circuit, earlier, place, uncertain, Test::Bit(true)) {
-        ClassByNumber::Local(true)
-    } else if passes_every(circuit, earlier, place, uncertain, Test::Unknown) {
-        ClassByNumber::Free
+    let ends = ends_of(circuit, earlier, place, uncertain);
+    if ends.are_mixed() {
+        later_class(circuit, earlier, place, uncertain, ends)
+    } else if passes_every(circuit, earlier, place, uncertain, ends.test()) {
+        plain_class(ends.first)
     } else {
-        later_class(circuit, earlier, place, uncertain)
+        later_class(circuit, earlier, place, uncertain, ends)
     }
 }
 
@@ -71,6 +71,7 @@ fn later_class<E: Earlier>(
     earlier: &E,
     place: usize,
     uncertain: &[usize],
+    ends: Ends,
 ) -> ClassByNumber
     requires fits { CircuitFits circuit.now }
     requires within { place < places_of (job_in circuit.now) }
@@ -78,12 +79,13 @@ fn later_class<E: Earlier>(
     requires facts { AreFacts (job_in circuit.now) (E.reads earlier.now) (E.facts earlier.now) place }
     requires few { length uncertain.now ≤ 13 }
     requires uncertain { uncertain.now ≡ uncertain_places (job_in circuit.now) (E.reads earlier.now) place }
+    requires ends { AreEnds (job_in circuit.now) (E.reads earlier.now) place uncertain.now ends }
     ensures { result ≡ later_class (job_in circuit.now) (E.reads earlier.now) place }
 {
     if passes_on(circuit, earlier, place, uncertain) {
         ClassByNumber::Carried(place_before(circuit, place), false)
     } else {
-        carried_or_line(circuit, earlier, place, uncertain)
+        carried_or_line(circuit, earlier, place, uncertain, ends)
     }
 }
 
@@ -93,21 +95,42 @@ fn carried_or_line<C: Source>(
     certain: &C,
     place: usize,
     uncertain: &[usize],
+    ends: Ends,
 ) -> ClassByNumber
     requires fits { CircuitFits circuit.now }
     requires within { place < places_of (job_in circuit.now) }
     requires certain { (k : ℕ) → k < place → C.has certain.now k }
     requires few { length uncertain.now ≤ 13 }
     requires uncertain { uncertain.now ≡ uncertain_places (job_in circuit.now) (C.reads certain.now) place }
+    requires ends { AreEnds (job_in circuit.now) (C.reads certain.now) place uncertain.now ends }
     ensures { result ≡ copy_or_line (job_in circuit.now) (C.reads certain.now) place }
+{
+    match ends.inverted() {
+        Some(inverted) => copied_or_line(circuit, certain, place, uncertain, inverted),
+        None => ClassByNumber::Line,
+    }
+}
+
+/// The first of its argument places that a place is carried from, inverted or not as is told.
+fn copied_or_line<C: Source>(
+    circuit: &Circuit<'_>,
+    certain: &C,
+    place: usize,
+    uncertain: &[usize],
+    inverted: bool,
+) -> ClassByNumber
+    requires fits { CircuitFits circuit.now }
+    requires within { place < places_of (job_in circuit.now) }
+    requires certain { (k : ℕ) → k < place → C.has certain.now k }
+    requires few { length uncertain.now ≤ 13 }
+    requires uncertain { uncertain.now ≡ uncertain_places (job_in circuit.now) (C.reads certain.now) place }
+    ensures { let j = job_in circuit.now in let reads = C.reads certain.now in
+        result ≡ spec.copied_or_line j reads place inverted (arguments j reads place) }
 {
     let ruled = ruled_arguments(circuit, certain, place);
     'rest: for from in ruled.as_slice() {
-        if is_carried_from(circuit, certain, place, uncertain, *from, false) {
-            return ClassByNumber::Carried(*from, false);
-        }
-        if is_carried_from(circuit, certain, place, uncertain, *from, true) {
-            return ClassByNumber::Carried(*from, true);
+        if is_carried_from(circuit, certain, place, uncertain, *from, inverted) {
+            return ClassByNumber::Carried(*from, inverted);
         }
     }
     ClassByNumber::Line
