@@ -1,5 +1,7 @@
 //! Cones, the clauses of one, and the minimal choices of tables.
 
+ghost use Rattle.test_waves.specs.Replayed.{IsReplayed};
+
 use crate::job::{Job, UNKNOWN};
 use crate::waves::place_of;
 use std::alloc::Global;
@@ -27,7 +29,9 @@ const EITHER: &[u8] =
     b"module m(a, y); input a; output y; wire n; not (n, a); or (y, a, n); endmodule";
 
 /// The cone of the third place, before which no place has a line.
-fn third_cone(alloc: Global, job: &Job) -> Result<Cone, Fail> {
+fn third_cone(alloc: Global, job: &Job) -> Result<Cone, Fail>
+    requires { IsReplayed job.now.netlist job.now.recorded job.now.history }
+{
     let wave = advanced(advanced(job.unwritten(alloc)?)?)?;
     match wave.class() {
         Class::Line => Ok(trace(alloc, &wave)?),
@@ -44,7 +48,9 @@ fn advanced(wave: Wave<'_>) -> Result<Wave<'_>, Fail> {
 }
 
 /// The same cone, asked for by the place once all are written.
-fn third_cone_again(alloc: Global, job: &Job) -> Result<Cone, Fail> {
+fn third_cone_again(alloc: Global, job: &Job) -> Result<Cone, Fail>
+    requires { IsReplayed job.now.netlist job.now.recorded job.now.history }
+{
     let wave = job.repaired(alloc)?;
     if wave.count() != 3 {
         return Err(Fail::new("there aren't three places"));

@@ -1,10 +1,7 @@
 //! Jobs from their texts, with their replays.
 
 ghost use Rattle.std.specs.Prelude.{◌≡◌, ◌≤◌, ◌^◌, IfOk, length};
-ghost use Rattle.xr_design.specs.Handed.{IsReplay};
-ghost use Rattle.xr_job.specs.Compared.{job_in};
-ghost use Rattle.xr_job.specs.Netlist.{FitsNetlist};
-ghost use Rattle.xr_job.specs.Recorded.{FitsRecorded};
+ghost use Rattle.test_waves.specs.Replayed.{IsReplayed};
 ghost use Rattle.xr_wave.specs.Contents.{IsFinished};
 
 use std::alloc::Global;
@@ -32,15 +29,13 @@ pub struct Job {
     pub netlist: Netlist,
     pub recorded: Recorded,
     pub history: History,
-    ghost netlist_fits: { FitsNetlist netlist },
-    ghost recorded_fits: { FitsRecorded netlist.design recorded },
-    ghost replayed: { IsReplay (job_in netlist recorded) history },
 }
 
 impl Job {
     /// The netlist with the top `m`, recorded in the scope `t`, with one round a moment.
     pub fn read(alloc: Global, netlist: &[u8], recording: &[u8]) -> Result<Job, Fail>
         requires { length recording.now ≤ 2 ^ 28 }
+        ensures { IfOk result (λ job. IsReplayed job.netlist job.recorded job.history) }
     {
         let netlist = read_netlist(alloc, netlist, "m")?;
         let scope = [Bytes::from_vec(b"t".to_vec(alloc)?)];
@@ -55,7 +50,9 @@ impl Job {
 
     /// Its wave of which nothing is written.
     #[tactic(auto, using(xr_job::proofs::Comparing::circuit_fits))]
-    pub fn unwritten(&self, alloc: Global) -> Result<Wave<'_>, Fail> {
+    pub fn unwritten(&self, alloc: Global) -> Result<Wave<'_>, Fail>
+        requires { IsReplayed self.now.netlist self.now.recorded self.now.history }
+    {
         let wave = Wave::new(
             alloc,
             &self.netlist.design,
@@ -70,6 +67,7 @@ impl Job {
     /// Its finished wave.
     #[tactic(auto, using(xr_job::proofs::Comparing::circuit_fits))]
     pub fn repaired(&self, alloc: Global) -> Result<Wave<'_>, Fail>
+        requires { IsReplayed self.now.netlist self.now.recorded self.now.history }
         ensures design { IfOk result (λ wave. wave.design ≡ self.now.netlist.design) }
         ensures finished { IfOk result IsFinished }
     {
@@ -85,7 +83,9 @@ impl Job {
     }
 
     #[tactic(auto, using(xr_job::proofs::Comparing::circuit_fits))]
-    fn replayed_again(&self, alloc: Global) -> Result<History, Fail> {
+    fn replayed_again(&self, alloc: Global) -> Result<History, Fail>
+        requires { IsReplayed self.now.netlist self.now.recorded self.now.history }
+    {
         let forces = Forces::empty(alloc);
         let history = replay(
             alloc,

@@ -1,0 +1,2 @@
+-- When a job fits.
+pub mod Replayed
