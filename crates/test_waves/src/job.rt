@@ -49,7 +49,6 @@ impl Job {
     }
 
     /// Its wave of which nothing is written.
-    #[tactic(auto, using(xr_job::proofs::Comparing::circuit_fits))]
     pub fn unwritten(&self, alloc: Global) -> Result<Wave<'_>, Fail>
         requires { IsReplayed self.now.netlist self.now.recorded self.now.history }
     {
@@ -65,7 +64,6 @@ impl Job {
     }
 
     /// Its finished wave.
-    #[tactic(auto, using(xr_job::proofs::Comparing::circuit_fits))]
     pub fn repaired(&self, alloc: Global) -> Result<Wave<'_>, Fail>
         requires { IsReplayed self.now.netlist self.now.recorded self.now.history }
         ensures design { IfOk result (λ wave. wave.design ≡ self.now.netlist.design) }
@@ -82,7 +80,6 @@ impl Job {
         Ok(wave)
     }
 
-    #[tactic(auto, using(xr_job::proofs::Comparing::circuit_fits))]
     fn replayed_again(&self, alloc: Global) -> Result<History, Fail>
         requires { IsReplayed self.now.netlist self.now.recorded self.now.history }
     {
