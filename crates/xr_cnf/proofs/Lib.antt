@@ -10,4 +10,3 @@ pub mod NodeLiterals
 pub mod OnceLists
 pub mod PutLiterals
 pub mod QueryClauses
-pub mod SmallCones

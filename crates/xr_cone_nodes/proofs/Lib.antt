@@ -7,4 +7,3 @@ pub mod ListedPlaces
 pub mod ListedSpots
 pub mod NodeSources
 pub mod PickedLists
-pub mod ThreeNodes

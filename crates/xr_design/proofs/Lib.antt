@@ -3,12 +3,10 @@ pub mod Follows
 pub mod Gates
 pub mod Handed
 mod HistoryLemmas
-pub mod Multiplexer
 pub mod Numbers
 pub mod OrderLemmas
 pub mod OrdersFit
 pub mod Pins
-pub mod Plain
 pub mod Prefix
 pub mod Reaching
 pub mod Replays

@@ -10,4 +10,3 @@ pub mod StimLemmas
 pub mod HolderLemmas
 pub mod Written
 pub mod Parts
-pub mod OneInput

@@ -13,7 +13,6 @@ pub mod ConeModels
 pub mod ConeWorlds
 pub mod Cones
 pub mod ConesBefore
-pub mod EquivalentQueries
 pub mod EssentialArguments
 pub mod FactsBefore
 pub mod FoundFillings
