@@ -1,6 +1,6 @@
 -- Places whose pins keep, by their wires.
-use Rattle.std.proofs.Common.{◌≡◌, ℕ, ◌-◌, ◌%◌, ◌<◌, ◌≤◌, true, false, List, sym, ap, ◌∙◌, arith, subst}
-use Rattle.std.specs.List.{AllByRecursion}
+use Rattle.std.proofs.Common.{◌≡◌, ℕ, ◌+◌, ◌-◌, ◌%◌, ◌<◌, ◌≤◌, true, false, List, [], ◌∷◌, refl, sym, ap, ◌∙◌, arith, subst}
+use Rattle.std.specs.List.{AllByRecursion, list_all}
 use Rattle.xr_cell.specs.declared.value.Value.{Value}
 use Rattle.xr_design.specs.declared.design.Driver.{Driver}
 use Rattle.xr_design.specs.declared.design.Driver.TheVariants.{Cell, Register}
@@ -13,7 +13,7 @@ use Rattle.xr_design.specs.Job.{Job, net_of, places_of, step_of}
 use Rattle.xr_design.specs.Order.{arguments_of_driver, net_pins}
 use Rattle.xr_design.proofs.Rules.{spot}
 use Rattle.xr_model.specs.Class.{before, is_never_unknown}
-use Rattle.xr_class.specs.Facts.{AgreeBefore, AreFacts, Facts}
+use Rattle.xr_class.specs.Facts.{AgreeBefore, AllKeep, AreFacts, Facts}
 use Rattle.xr_class.specs.Keeps.{cell_chooses, nets_keep, place_passes}
 use Rattle.xr_class.specs.Wires.{Reaches, StandsCell, positions_keep}
 use Rattle.xr_class.proofs.MixedClasses.{never_unknown}
@@ -40,6 +40,20 @@ cell_reach j fits has place position table pins within is stands all =
     pins_reach j has place (step_of j place) (place - position) pins here.own here.pins_are
     (first_here j fits place position within is) (omega (arith, few, within)) all
     (cell_stands j fits place table here.own within here.driver)
+
+-- Where all places before a cell's in its step keep, so do the nets of its pins.
+pub all_pins_keep : (j : Job) → Fits j → (facts : ℕ → Facts) (place position : ℕ) (table : Table) (pins : List Pin)
+    → place < places_of j → position ≡ place % j.width → StandsCell j place table pins
+    → AllKeep facts (place - position) place → positions_keep facts (place - position) pins ≡ true
+all_pins_keep j fits facts place position table pins within is stands keep =
+    each (net_pins pins) (cell_reach j fits (λ k. place - position ≤ k → (facts k).keeps ≡ true) place position table
+    pins within is stands (λ k less more. keep k more less))
+  where
+    each : (nets : List ℕ)
+        → AllByRecursion (Reaches (λ k. place - position ≤ k → (facts k).keeps ≡ true) (place - position)) nets
+        → list_all (λ net. (facts (place - position + net)).keeps) nets ≡ true
+    each [] reach = refl
+    each (net ∷ nets) reach = rw (reach.0.has_it (omega arith), each nets reach.1) refl
 
 -- What a place has whose pins all keep.
 pub record Steady (j : Job) (c : ℕ → Value) (place : ℕ) : Type 0 where

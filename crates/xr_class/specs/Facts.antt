@@ -1,5 +1,5 @@
 -- What is kept of each place that stands before a place, and how certain values agree with classes.
-use Rattle.std.specs.Prelude.{◌≡◌, ℕ, ◌<◌, ◌==◌, ◌&&◌, ◌||◌, Bool, true, false, not}
+use Rattle.std.specs.Prelude.{◌≡◌, ℕ, ◌<◌, ◌≤◌, ◌==◌, ◌&&◌, ◌||◌, Bool, true, false, not}
 use Rattle.xr_cell.specs.declared.value.Value.{Value}
 use Rattle.xr_cell.specs.declared.value.Value.TheVariants.{Zero, One, X, Z}
 use Rattle.xr_cell.specs.Value.{bit_value}
@@ -48,6 +48,10 @@ facts_of j certain place =
 -- They are those of each place before a place.
 abbrev pub AreFacts : Job → (ℕ → Value) → (ℕ → Facts) → ℕ → Type 0
 AreFacts j certain facts place = (k : ℕ) → k < place → facts k ≡ facts_of j certain k
+
+-- The nets of the places from a first one up to another keep there.
+abbrev pub AllKeep : (ℕ → Facts) → ℕ → ℕ → Type 0
+AllKeep facts first place = (k : ℕ) → first ≤ k → k < place → (facts k).keeps ≡ true
 
 -- The certain value of a place agrees with its class: a local place has its bit, a free one isn't certain, and a carried
 -- one has the value of the place that it is carried from, inverted where the class says so.

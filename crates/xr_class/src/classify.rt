@@ -1,10 +1,11 @@
 //! The class of a place.
 
-ghost use Rattle.std.specs.Prelude.{◌≡◌, ℕ, ◌+◌, ◌%◌, ◌<◌, ◌≤◌};
+ghost use Rattle.std.specs.Prelude.{◌≡◌, ℕ, ◌+◌, ◌-◌, ◌%◌, ◌<◌, ◌≤◌};
+ghost use Rattle.std.specs.Bool.{OnTrue};
 ghost use Rattle.xr_design.specs.Circuit.{job_in, CircuitFits};
 ghost use Rattle.xr_design.specs.Job.{places_of};
 ghost use Rattle.xr_model.specs.Class.{class_of};
-ghost use Rattle.xr_class.specs.Facts.{AgreeBefore, AreFacts};
+ghost use Rattle.xr_class.specs.Facts.{AgreeBefore, AllKeep, AreFacts};
 ghost use Rattle.xr_class.specs.Wires.{AreWiresOf};
 
 use crate::earlier::Earlier;
@@ -16,13 +17,15 @@ use xr_design::{Circuit, Source, Table, width_of};
 use xr_model::ClassByNumber;
 use xr_wiring::{Kind, Wiring};
 
-/// The class of a place, from what is known of the places before it: the first that applies. Takes no memory.
+/// The class of a place, from what is known of the places before it: the first that applies. It is told whether all
+/// places before it in its step keep, so that its pins needn't be looked at. Takes no memory.
 pub fn class_at<E: Earlier>(
     circuit: &Circuit<'_>,
     wiring: &Wiring,
     earlier: &E,
     place: usize,
     position: usize,
+    all_keep: bool,
 ) -> ClassByNumber
     requires fits { CircuitFits circuit.now }
     requires wired { AreWiresOf circuit.now wiring.now }
@@ -31,6 +34,7 @@ pub fn class_at<E: Earlier>(
     requires certain { (k : ℕ) → k < place → E.has earlier.now k }
     requires facts { AreFacts (job_in circuit.now) (E.reads earlier.now) (E.facts earlier.now) place }
     requires agrees { AgreeBefore (job_in circuit.now) (E.reads earlier.now) place }
+    requires keep { OnTrue all_keep (AllKeep (E.facts earlier.now) (place - position) place) }
     ensures { result ≡ class_of (job_in circuit.now) (E.reads earlier.now) place }
 {
     let pins = wiring.pins(position);
@@ -40,10 +44,12 @@ pub fn class_at<E: Earlier>(
         Kind::Constant(bit) => ClassByNumber::Local(bit),
         Kind::Copy => copied_class(circuit, earlier, place, position, pins),
         Kind::Gate(gate) => {
-            cell_class(circuit, earlier, place, position, Table::Gate(gate), pins)
+            let table = Table::Gate(gate);
+            cell_class(circuit, earlier, place, position, table, pins, all_keep)
         }
         Kind::Udp(number) => {
-            cell_class(circuit, earlier, place, position, Table::Udp(number), pins)
+            let table = Table::Udp(number);
+            cell_class(circuit, earlier, place, position, table, pins, all_keep)
         }
         Kind::Register => register_class(circuit, earlier, place, position, pins),
     }
@@ -71,6 +77,7 @@ pub fn kept_class<E: Earlier>(
     } else if earlier.is_line(place) {
         ClassByNumber::Line
     } else {
-        class_at(circuit, wiring, earlier, place, place % width_of(circuit))
+        let position = place % width_of(circuit);
+        class_at(circuit, wiring, earlier, place, position, false)
     }
 }

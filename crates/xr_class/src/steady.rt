@@ -1,6 +1,6 @@
 //! The class of a place whose arguments are as they were a step before: that of its net's place there.
 
-ghost use Rattle.std.specs.Prelude.{◌≡◌, ℕ, ◌%◌, ◌<◌, ◌≤◌};
+ghost use Rattle.std.specs.Prelude.{◌≡◌, ℕ, ◌-◌, ◌%◌, ◌<◌, ◌≤◌, true};
 ghost use Rattle.std.specs.Bool.{OnTrue};
 ghost use Rattle.std.specs.List.{AllByRecursion};
 ghost use Rattle.xr_cell.specs.declared.value.Value.{Value as AnyValue};
@@ -8,7 +8,7 @@ ghost use Rattle.xr_design.specs.Circuit.{job_in, CircuitFits};
 ghost use Rattle.xr_design.specs.Job.{places_of};
 ghost use Rattle.xr_design.specs.Order.{net_pins};
 ghost use Rattle.xr_wiring.specs.declared.wiring.Kind.TheVariants as kind;
-ghost use Rattle.xr_class.specs.Facts.{AgreeBefore, AreFacts};
+ghost use Rattle.xr_class.specs.Facts.{AgreeBefore, AllKeep, AreFacts};
 ghost use Rattle.xr_class.specs.Keeps.{class_here};
 ghost use Rattle.xr_class.specs.Wires.{PlaceSeesTheSame, Reaches, Stands, StandsCell, positions_keep};
 
@@ -21,7 +21,8 @@ use xr_cell::Value;
 use xr_design::{Circuit, Pin, Source, Table, width_of};
 use xr_model::ClassByNumber;
 
-/// The class of a cell's place. Where its pins keep it gives at the step before what it gives here. Takes no memory.
+/// The class of a cell's place. Where its pins keep it gives at the step before what it gives here; so they do where all
+/// places before it in its step keep. Takes no memory.
 pub fn cell_class<E: Earlier>(
     circuit: &Circuit<'_>,
     earlier: &E,
@@ -29,6 +30,7 @@ pub fn cell_class<E: Earlier>(
     position: usize,
     table: Table,
     pins: &[Pin],
+    all_keep: bool,
 ) -> ClassByNumber
     requires fits { CircuitFits circuit.now }
     requires within { place < places_of (job_in circuit.now) }
@@ -37,13 +39,14 @@ pub fn cell_class<E: Earlier>(
     requires certain { (k : ℕ) → k < place → E.has earlier.now k }
     requires facts { AreFacts (job_in circuit.now) (E.reads earlier.now) (E.facts earlier.now) place }
     requires agrees { AgreeBefore (job_in circuit.now) (E.reads earlier.now) place }
+    requires keep { OnTrue all_keep (AllKeep (E.facts earlier.now) (place - position) place) }
     ensures { result ≡ class_here (job_in circuit.now) (E.reads earlier.now) place }
 {
     let width = width_of(circuit);
     if place < width {
         return moved_cell(circuit, earlier, place, position, table, pins);
     }
-    if !positions_keep(earlier, place - position, pins) {
+    if !pins_keep(earlier, place - position, pins, all_keep) {
         return moved_cell(circuit, earlier, place, position, table, pins);
     }
     let back = place - width;
@@ -56,6 +59,15 @@ pub fn cell_class<E: Earlier>(
     } else {
         tried_class(circuit, earlier, place)
     }
+}
+
+/// Whether the nets of a cell's pins all keep at its step, where that may be known already.
+fn pins_keep<E: Earlier>(earlier: &E, first: usize, pins: &[Pin], all_keep: bool) -> bool
+    requires reach { AllByRecursion (Reaches (E.has earlier.now) first) (net_pins pins.now) }
+    requires keep { OnTrue all_keep (positions_keep (E.facts earlier.now) first pins.now ≡ true) }
+    ensures { result ≡ positions_keep (E.facts earlier.now) first pins.now }
+{
+    all_keep || positions_keep(earlier, first, pins)
 }
 
 /// The class of a register's place. Where it sees the step before what it sees here, it does the same. Takes no memory.

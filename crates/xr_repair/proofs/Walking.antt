@@ -1,13 +1,23 @@
 -- How the walk goes on, and what it ends with.
-use Rattle.std.proofs.Common.{◌≡◌, ◌≤◌, ◌+◌, ◌∷◌, [], IfOk, length, length-append, sym, ap, ◌∙◌, arith}
-use Rattle.std.specs.Prelude.{Result, Ok, Err}
+use Rattle.std.proofs.Common.{◌≡◌, ◌≤◌, ◌+◌, ◌∷◌, [], Bool, true, false, Option, Some, None, IfOk, IfErr, if◌then◌else◌, length, length-append, refl, sym, ap, ◌∙◌, arith, subst}
+use Rattle.std.specs.Prelude.{Result, Ok, Err, is_some, nat_lt}
+use Rattle.std.proofs.lemmas.Bool.{lt-ltb}
 use Rattle.xr_cone.specs.Known.{IsRightOf, TracerView}
 use Rattle.xr_cone.proofs.KnownBodies.{known_grows}
-use Rattle.xr_design.specs.Job.{job_of, places_of}
+use Rattle.xr_design.specs.Fits.{Fits}
+use Rattle.xr_design.specs.Job.{Job, job_of, places_of}
+use Rattle.xr_design.specs.Waveform.{certain}
+use Rattle.xr_model.specs.Class.{class_of}
+use Rattle.xr_model.specs.declared.class.Class.TheVariants as seen
+use Rattle.xr_model.specs.declared.class.ClassByNumber.{ClassByNumber}
+use Rattle.xr_model.specs.declared.class.ClassByNumber.TheVariants.{Local, Free, Carried, Line}
 use Rattle.xr_model.proofs.Uniqueness.{unique}
-use Rattle.xr_wave.specs.Contents.{Contents, IsWave, job}
+use Rattle.xr_wave.specs.Advance.{GoesOn, IsAdvanced, IsPlain, more, plain_written, stays, with_written}
+use Rattle.xr_wave.specs.Contents.{Contents, IsWave, class_or_done, job, next_seen}
+use Rattle.xr_wave.specs.Token.{HasNext, IsLineNext}
+use Rattle.xr_repair.proofs.Objecting.{job_along, refused_along, same_job}
 use Rattle.xr_repair.specs.Repaired.{IsFinished, IsOfJob, IsOnlyOne}
-use Rattle.xr_repair.specs.Step.{IsNextOf}
+use Rattle.xr_repair.specs.Step.{IsFurther, IsNextOf, RefusedStep}
 use Rattle.xr_repair.specs.declared.refusal.RepairErr.{RepairErr}
 
 -- The job of a wave stays.
@@ -15,6 +25,47 @@ pub job_stays : (a b : Contents) → IsOfJob a b → job b ≡ job a
 job_stays a b same =
     ap (λ d. job_of d b.order b.stim) same.design ∙ (ap (λ o. job_of a.design o b.stim) same.order
     ∙ ap (λ s. job_of a.design a.order s) same.stim)
+
+-- A wave that goes on stays in its job, and gets no shorter.
+pub goes_same : {a b : Contents} → GoesOn a b → IsOfJob a b
+goes_same {a} stays = same_job a
+goes_same {a} (more {c = c} goes plain agrees) =
+    job_along a c (with_written c (plain_written c)) (goes_same goes)
+    (record { design = refl; order = refl; stim = refl; history = refl; limit = refl })
+
+pub goes_long : {a b : Contents} → GoesOn a b → length a.written ≤ length b.written
+goes_long stays = omega arith
+goes_long (more {c = c} goes plain agrees) =
+    let up = goes_long goes in
+    let long = length-append c.written (plain_written c ∷ []) in
+    omega (arith, up, long)
+
+-- What a tracer knows stays right of it.
+pub goes_right : {a b : Contents} → GoesOn a b → (tracer : TracerView) → Fits (job a) → IsRightOf a tracer
+    → IsRightOf b tracer
+goes_right stays tracer fits right = right
+goes_right {a} (more {c = c} goes plain agrees) tracer fits right =
+    known_grows c (with_written c (plain_written c)) tracer (plain_written c)
+    (subst Fits (sym (job_stays a c (goes_same goes))) fits) refl refl (goes_right goes tracer fits right)
+
+-- Where a wave has stopped and there is a next place, that is a Line place.
+line_by : (j : Job) (found : Option ClassByNumber) → is_some found ≡ true → (IsPlain (class_or_done j found) → ⊥)
+    → class_or_done j found ≡ seen.Line
+line_by j None some stops = cc
+line_by j (Some (Local bit)) some stops = absurd (stops tt)
+line_by j (Some Free) some stops = absurd (stops tt)
+line_by j (Some (Carried from inverted)) some stops = absurd (stops tt)
+line_by j (Some Line) some stops = refl
+
+there_is : (less : Bool) (class : ClassByNumber) → less ≡ true → is_some (if less then Some class else None) ≡ true
+there_is true class is = refl
+there_is false class is = cc
+
+pub line_next : (c : Contents) → HasNext c → (IsPlain (next_seen c) → ⊥) → IsLineNext c
+line_next c next stops =
+    line_by (job c) _
+    (there_is (nat_lt (length c.written) (places_of (job c))) (class_of (job c) (certain c.written) (length c.written))
+    (lt-ltb (length c.written) (places_of (job c)) next)) stops
 
 -- There is one place more.
 pub one_more : (a b : Contents) → IsNextOf a b → length b.written ≡ length a.written + 1
@@ -36,3 +87,27 @@ pub right_next : (a : Contents) (tracer : TracerView) (result : Result Contents 
 right_next a tracer (Ok b) wave right next =
     known_grows a b tracer next.written wave.fits.fits_job (job_stays a b next.same) next.is right
 right_next a tracer (Err e) wave right next = tt
+
+-- A place is written and then those up to the next Line place.
+pub next_further : (a b : Contents) (result : Result Contents RepairErr) → IsNextOf a b → IfOk result (IsAdvanced b)
+    → IfOk result (IsFurther a)
+next_further a b (Ok c) next advanced =
+    let long = one_more a b next in
+    let up = goes_long advanced.goes in
+    record {
+      same = job_along a b c next.same (goes_same advanced.goes);
+      more = omega (arith, long, up);
+      stops = advanced.stops;
+    }
+next_further a b (Err e) next advanced = tt
+
+pub right_advanced : (a b : Contents) (tracer : TracerView) (result : Result Contents RepairErr) → Fits (job a) → IsNextOf a b
+    → IsRightOf b tracer → IfOk result (IsAdvanced b) → IfOk result (λ c. IsRightOf c tracer)
+right_advanced a b tracer (Ok c) fits next right advanced =
+    goes_right advanced.goes tracer (subst Fits (sym (job_stays a b next.same)) fits) right
+right_advanced a b tracer (Err e) fits next right advanced = tt
+
+pub refused_further : (a b : Contents) (result : Result Contents RepairErr) → IsOfJob a b → IfErr result (RefusedStep b)
+    → IfErr result (RefusedStep a)
+refused_further a b (Ok c) same refused = tt
+refused_further a b (Err e) same refused = refused_along a b e same refused

@@ -1,7 +1,8 @@
 -- One step of the walk: the next place is written, or the walk ends there.
-use Rattle.std.specs.Prelude.{◌≡◌, ◌++◌, ◌∷◌, []}
+use Rattle.std.specs.Prelude.{◌≡◌, ◌<◌, ◌++◌, ◌∷◌, [], length}
 use Rattle.xr_design.specs.declared.waveform.Written.{Written}
-use Rattle.xr_wave.specs.Contents.{Contents}
+use Rattle.xr_wave.specs.Advance.{IsPlain}
+use Rattle.xr_wave.specs.Contents.{Contents, next_seen}
 use Rattle.xr_wave.specs.Token.{LineHolds, budget_line, pair_line, settled_line}
 use Rattle.xr_repair.specs.Repaired.{IsObjection, IsOfJob}
 use Rattle.xr_repair.specs.declared.found.Found.{Found}
@@ -14,6 +15,12 @@ pub record IsNextOf (before after : Contents) : Type 0 where
   pub same : IsOfJob before after
   pub written : Written
   pub is : after.written ≡ before.written ++ written ∷ []
+
+-- There is at least one place more, and the next one is a Line place, if there is one.
+pub record IsFurther (before after : Contents) : Type 0 where
+  pub same : IsOfJob before after
+  pub more : length before.written < length after.written
+  pub stops : IsPlain (next_seen after) → ⊥
 
 -- What is found of the next place holds there.
 abbrev pub IsShown : Contents → Found → Type 0

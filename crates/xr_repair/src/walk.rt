@@ -6,10 +6,10 @@ ghost use Rattle.xr_design.specs.Circuit.{FitsCircuit};
 ghost use Rattle.xr_design.specs.Handed.{IsHandedIn};
 ghost use Rattle.xr_design.specs.Job.{job_of};
 ghost use Rattle.xr_repair.specs.Repaired.{IsFinished, IsOfJob, IsOnlyOne};
-ghost use Rattle.xr_repair.specs.Step.{IsNextOf, RefusedStep};
-ghost use Rattle.xr_wave.specs.Advance.{IsPlain};
-ghost use Rattle.xr_wave.specs.Contents.{IsWave, next_seen, nothing_written};
-ghost use Rattle.xr_wave.specs.Token.{HasNext, IsLineNext};
+ghost use Rattle.xr_repair.specs.Step.{IsFurther, IsNextOf, RefusedStep};
+ghost use Rattle.xr_wave.specs.Advance.{IsAdvanced};
+ghost use Rattle.xr_wave.specs.Contents.{IsWave, nothing_written};
+ghost use Rattle.xr_wave.specs.Token.{IsLineNext};
 
 use crate::answers::Answers;
 use crate::finding::find;
@@ -18,7 +18,6 @@ use crate::spend::spend;
 use std::alloc::Global;
 use xr_cone::Tracer;
 use xr_design::{Design, History, Order, Stim, count_places};
-use xr_model::Class;
 use xr_wave::Wave;
 
 /// A finished wave of a job: every place written, each with its justification. `limit` is how many clauses the log of a
@@ -60,14 +59,26 @@ fn walk<'a>(alloc: Global, wave: Wave<'a>) -> Result<Wave<'a>, RepairErr>
     let count = count_places(&wave.circuit());
     let mut tracer = Tracer::new(alloc);
     let mut answers = Answers::new(alloc);
-    let mut walked = wave;
-    'places: while walked.count() < count {
+    let mut walked = advance(wave)?;
+    'lines: while walked.count() < count {
         walked = write_next(alloc, walked, &mut tracer, &mut answers)?;
     }
     Ok(walked)
 }
 
-/// Writes the next place.
+/// Writes the places up to the next Line place, whose classes say what they are.
+fn advance<'a>(wave: Wave<'a>) -> Result<Wave<'a>, RepairErr>
+    ensures ok { IfOk result (IsAdvanced wave.entry) }
+    ensures same { IfOk result (IsOfJob wave.entry) }
+    ensures err { IfErr result (RefusedStep wave.entry) }
+{
+    match wave.advance_to_line() {
+        Ok(wave) => Ok(wave),
+        Err(told) => Err(RepairErr::Optimistic(told)),
+    }
+}
+
+/// Writes the next place, a Line place, and those behind it up to the next one.
 fn write_next<'a>(
     alloc: Global,
     wave: Wave<'a>,
@@ -76,31 +87,14 @@ fn write_next<'a>(
 ) -> Result<Wave<'a>, RepairErr>
     requires limit { 0 < wave.limit }
     requires sound { IsWave wave }
-    requires next { HasNext wave }
+    requires class { IsLineNext wave }
     requires right { IsRightOf wave tracer.old }
-    ensures ok { IfOk result (IsNextOf wave.entry) }
+    ensures ok { IfOk result (IsFurther wave.entry) }
     ensures right { IfOk result (λ next. IsRightOf next tracer.new) }
     ensures err { IfErr result (RefusedStep wave.entry) }
 {
-    match wave.class() {
-        Class::Done => unreachable!(),
-        Class::Line => decide_next(alloc, wave, tracer, answers),
-        _ => advance(wave),
-    }
-}
-
-/// Writes the next place, whose class says what it is.
-fn advance<'a>(wave: Wave<'a>) -> Result<Wave<'a>, RepairErr>
-    requires sound { IsWave wave }
-    requires next { HasNext wave }
-    requires plain { IsPlain (next_seen wave) }
-    ensures ok { IfOk result (IsNextOf wave.entry) }
-    ensures err { IfErr result (RefusedStep wave.entry) }
-{
-    match wave.advance() {
-        Ok(wave) => Ok(wave),
-        Err(told) => Err(RepairErr::Optimistic(told)),
-    }
+    let decided = decide_next(alloc, wave, tracer, answers)?;
+    advance(decided)
 }
 
 /// Decides the next place, a Line place, and writes it.

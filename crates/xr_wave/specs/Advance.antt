@@ -8,7 +8,7 @@ use Rattle.xr_model.specs.Yields.{written_by}
 use Rattle.xr_model.specs.declared.class.Class.{Class}
 use Rattle.xr_model.specs.declared.class.Class.TheVariants.{Done, Local, Free, Carried, Line}
 use Rattle.xr_wave.specs.declared.advance.Optimistic.{Optimistic}
-use Rattle.xr_wave.specs.Contents.{Contents, class_in, job, next_number, shown_in}
+use Rattle.xr_wave.specs.Contents.{Contents, IsWave, class_in, job, next_number, next_seen, shown_in}
 
 -- Its class says what it is.
 abbrev pub IsPlain : Class → Type 0
@@ -36,3 +36,23 @@ pub record Told (c : Contents) (written : Written) (told : Optimistic) : Type 0 
   pub replayed_is : told.replayed ≡ shown_in c (next_number c)
   pub found_is : told.found ≡ certain_by written.mark written.value
   pub lines_are : told.lines.items ≡ c.lines
+
+-- A wave goes on by places whose class says what they are, one by one, none of which contradicts the history.
+pub data GoesOn (start : Contents) : Contents → Type 0 where
+  stays : GoesOn start start
+  more : {c : Contents} → GoesOn start c → IsPlain (next_seen c) → (Contradicts c (plain_written c) → ⊥)
+      → GoesOn start (with_written c (plain_written c))
+
+-- It has gone on up to a Line place, or to the end.
+pub record IsAdvanced (start c : Contents) : Type 0 where
+  pub goes : GoesOn start c
+  pub stops : IsPlain (next_seen c) → ⊥
+
+-- It has gone on up to a place that the history knows otherwise.
+pub record IsObjected (start : Contents) (told : Optimistic) : Type 0 where
+  pub before : Contents
+  pub goes : GoesOn start before
+  pub wave : IsWave before
+  pub plain : IsPlain (next_seen before)
+  pub contradicts : Contradicts before (plain_written before)
+  pub is_told : Told before (plain_written before) told

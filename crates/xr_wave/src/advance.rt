@@ -5,8 +5,8 @@ ghost use Rattle.xr_design.specs.declared.waveform.Mark.TheVariants.{Certain};
 ghost use Rattle.xr_design.specs.Waveform.{written_at};
 ghost use Rattle.xr_model.specs.Sound.{IsOptimistic};
 ghost use Rattle.xr_model.specs.Yields.{carried_of, certain_bit, flipped_value};
-ghost use Rattle.xr_wave.specs.Advance.{Contradicts, IsPlain, Told, plain_written, with_written};
-ghost use Rattle.xr_wave.specs.Contents.{next_number, next_seen, shown_in};
+ghost use Rattle.xr_wave.specs.Advance.{Contradicts, IsAdvanced, IsObjected, IsPlain, Told, plain_written, with_written};
+ghost use Rattle.xr_wave.specs.Contents.{IsWave, next_number, next_seen, shown_in};
 ghost use Rattle.xr_wave.specs.Token.{HasNext};
 
 use crate::wave::Wave;
@@ -42,6 +42,32 @@ impl<'a> Wave<'a> {
             return Err(told(self, written, shown));
         }
         Ok(self.write(written))
+    }
+
+    /// Writes each place up to the next Line place, or to the end, as `advance` does. Takes no memory.
+    pub fn advance_to_line(self) -> Result<Wave<'a>, Optimistic>
+        ensures ok { IfOk result (IsAdvanced self.entry) }
+        ensures told { IfErr result (IsObjected self.entry) }
+    {
+        let mut wave = self;
+        'places: while is_plain_next(&wave) {
+            wave = wave.advance()?;
+        }
+        Ok(wave)
+    }
+}
+
+/// Whether the class of the next place says what it is.
+fn is_plain_next(wave: &Wave<'_>) -> bool
+    ensures plain { IsTrue result ↔ IsPlain (next_seen wave.now) }
+    ensures wave { IsWave wave.now }
+{
+    match wave.next_class() {
+        Some(ClassByNumber::Local(_)) => true,
+        Some(ClassByNumber::Free) => true,
+        Some(ClassByNumber::Carried(_, _)) => true,
+        Some(ClassByNumber::Line) => false,
+        None => false,
     }
 }
 

@@ -1,5 +1,5 @@
 -- Bytes that say the facts of their places, as they grow.
-use Rattle.std.proofs.Common.{◌≡◌, ℕ, ◌+◌, ◌%◌, ◌<◌, ◌≤◌, Bool, List, [], ◌∷◌, ◌++◌, length, map, refl, sym, ap, ◌∙◌, arith, subst, length-append, ⊎_elim}
+use Rattle.std.proofs.Common.{◌≡◌, ℕ, ◌+◌, ◌-◌, ◌%◌, ◌<◌, ◌≤◌, Bool, true, List, [], ◌∷◌, ◌++◌, length, map, refl, sym, ap, ◌∙◌, arith, subst, length-append, ⊎_elim}
 use Rattle.std.proofs.Math.ListN.{get_or-append}
 use Rattle.std.proofs.Math.Seq.{get_or-append_seam}
 use Rattle.std.proofs.lemmas.Bool.{cases_eq, cases_lt}
@@ -15,10 +15,10 @@ use Rattle.xr_model.specs.Yields.{is_line}
 use Rattle.xr_model.specs.declared.class.ClassByNumber.{ClassByNumber}
 use Rattle.xr_model.proofs.ClassesBefore.{class_local}
 use Rattle.xr_model.proofs.FactsBefore.{certain_grown, written_last}
-use Rattle.xr_class.specs.Facts.{facts, facts_by, facts_of, is_plain, keeps_by}
+use Rattle.xr_class.specs.Facts.{Facts, facts, facts_by, facts_of, is_plain, keeps_by}
 use Rattle.xr_class.proofs.StepBefore.{before_first, before_later, first_step}
 use Rattle.xr_wave_bytes.specs.Byte.{facts_in, facts_of_byte, written_of_byte}
-use Rattle.xr_wave_bytes.specs.Kept.{BytesTell, ValuesAgree, facts_next}
+use Rattle.xr_wave_bytes.specs.Kept.{BytesTell, SayTheSame, StepKeeps, ValuesAgree, facts_next}
 
 each_pushed : (P : ℕ → Type 0) (n : ℕ) → ((k : ℕ) → k < n → P k) → P n → (k : ℕ) → k < n + 1 → P k
 each_pushed P n earlier last k less = ⊎_elim (λ (here : k ≡ n). subst P (sym here) last)
@@ -134,3 +134,23 @@ pub facts_found : (step back : ℕ) (class : ClassByNumber) (here value_back : V
     → facts carries plain line keeps ≡ facts_by step back class here value_back
 facts_found step back class here value_back carries plain line keeps carries_is plain_is line_is keeps_is =
     four_same carries plain line keeps _ _ _ _ carries_is plain_is line_is (keeps_is ∙ ap (keeps_by step here value_back) carries_is)
+
+pub same_pushed : (bytes : List ℕ) (byte : ℕ) (all : List ℕ) → all ≡ bytes ++ byte ∷ [] → SayTheSame bytes all
+same_pushed bytes byte all is = λ k less. ap (λ bs. facts_in bs k) is ∙ ap facts_of_byte (get_or-append bytes (byte ∷ []) 0 k less)
+
+-- Where a place more is written in a step, those before it keep as they did.
+pub keep_pushed : (bytes all : List ℕ) (position next : ℕ) → length all ≡ length bytes + 1 → SayTheSame bytes all
+    → next ≡ position + 1 → StepKeeps bytes position (length bytes) → StepKeeps all next (length all - 1)
+keep_pushed bytes all position next more same is keep = λ k from less.
+    ap (λ (facts : Facts). facts.keeps) (same k (omega (arith, more, less)))
+    ∙ keep k (omega (arith, more, is, from)) (omega (arith, more, less))
+
+-- So they do where the last one keeps too; the first place of a step has none before it.
+pub keep_to_end : (bytes : List ℕ) (position : ℕ) → 0 < length bytes → StepKeeps bytes position (length bytes - 1)
+    → (facts_in bytes (length bytes - 1)).keeps ≡ true → StepKeeps bytes position (length bytes)
+keep_to_end bytes position some before last = λ k from less.
+    each_pushed (λ k. length bytes - position ≤ k → (facts_in bytes k).keeps ≡ true) (length bytes - 1)
+    (λ k less from. before k from less) (λ from. last) k (omega (arith, some, less)) from
+
+pub none_keep : (bytes : List ℕ) (position : ℕ) → position ≡ 0 → StepKeeps bytes position (length bytes)
+none_keep bytes position first = λ k from less. absurd (omega (arith, first, from, less))

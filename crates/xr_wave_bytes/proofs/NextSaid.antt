@@ -1,6 +1,5 @@
 -- What is said of the class of the next place.
-use Rattle.std.proofs.Common.{◌≡◌, ℕ, ◌<◌, Bool, true, false, Option, Some, None, List, length, map, refl, ◌∙◌, arith, subst, if◌then◌else◌, IfSome}
-use Rattle.std.specs.Prelude.{nat_lt}
+use Rattle.std.proofs.Common.{◌≡◌, ℕ, ◌<◌, Option, Some, List, length, map, refl, ◌∙◌, arith, subst, IfSome}
 use Rattle.std.proofs.lemmas.Bool.{lt-ltb}
 use Rattle.std.proofs.lemmas.List.{length-map}
 use Rattle.xr_design.specs.declared.waveform.Written.{Written}

@@ -1,5 +1,5 @@
 -- What the bytes of a waveform say.
-use Rattle.std.specs.Prelude.{◌≡◌, ℕ, Option, List, length, map}
+use Rattle.std.specs.Prelude.{◌≡◌, ℕ, ◌-◌, ◌<◌, Option, List, length, map}
 use Rattle.xr_design.specs.Circuit.{job_in}
 use Rattle.xr_design.specs.Job.{Job, step_of}
 use Rattle.xr_design.specs.Waveform.{certain, certain_by}
@@ -7,7 +7,7 @@ use Rattle.xr_design.specs.declared.circuit.Circuit.{Circuit}
 use Rattle.xr_design.specs.declared.waveform.Written.{Written}
 use Rattle.xr_model.specs.Class.{before, class_of}
 use Rattle.xr_model.specs.declared.class.ClassByNumber.{ClassByNumber}
-use Rattle.xr_class.specs.Facts.{AgreeBefore, AreFacts, Facts, facts_by}
+use Rattle.xr_class.specs.Facts.{AgreeBefore, AllKeep, AreFacts, Facts, facts_by}
 use Rattle.xr_wave_bytes.specs.Byte.{facts_in, written_of_byte}
 use Rattle.xr_wave_bytes.specs.View.{next_class}
 
@@ -25,6 +25,14 @@ BytesTell j bytes = AreFacts j (certain (map written_of_byte bytes)) (facts_in b
 -- The certain values of a waveform agree with its classes.
 abbrev pub ValuesAgree : Job → List Written → Type 0
 ValuesAgree j written = AgreeBefore j (certain written) (length written)
+
+-- Bytes say of the places of others what those say.
+abbrev pub SayTheSame : List ℕ → List ℕ → Type 0
+SayTheSame others bytes = (k : ℕ) → k < length others → facts_in bytes k ≡ facts_in others k
+
+-- Of the places of the step that goes on at a position the last ones up to a number keep.
+abbrev pub StepKeeps : List ℕ → ℕ → ℕ → Type 0
+StepKeeps bytes position end = AllKeep (facts_in bytes) (length bytes - position) end
 
 -- The bytes of a waveform do both, and the class of the next place is kept.
 pub record IsKept (circuit : Circuit) (bytes : List ℕ) (next : Option ClassByNumber) : Type 0 where

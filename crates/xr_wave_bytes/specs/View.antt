@@ -1,5 +1,5 @@
 -- What a waveform holds, and what is said of its next place.
-use Rattle.std.specs.Prelude.{◌≡◌, ℕ, ◌≤◌, ◌<◌, ◌++◌, ◌∷◌, [], Option, None, Some, List, length, nat_lt, if◌then◌else◌}
+use Rattle.std.specs.Prelude.{ℕ, ◌≤◌, ◌<◌, ◌++◌, ◌∷◌, [], Option, None, Some, List, length, nat_lt, if◌then◌else◌}
 use Rattle.xr_design.specs.declared.circuit.Circuit.{Circuit}
 use Rattle.xr_design.specs.declared.design.Design.{Design}
 use Rattle.xr_design.specs.declared.stim.Stim.{Stim}

@@ -1,6 +1,7 @@
 //! The bytes of the places that are written, as what is known of them.
 
-ghost use Rattle.std.specs.Prelude.{◌≡◌, ℕ, ◌+◌, ◌<◌, ◌≤◌, ◌++◌, ◌∷◌, [], IfSome, length, map, vec_capacity};
+ghost use Rattle.std.specs.Prelude.{◌≡◌, ℕ, ◌+◌, ◌-◌, ◌<◌, ◌≤◌, ◌++◌, ◌∷◌, [], IfSome, length, map, vec_capacity};
+ghost use Rattle.std.specs.Bool.{OnTrue};
 ghost use Rattle.xr_cell.specs.declared.value.Value.{Value as AnyValue};
 ghost use Rattle.xr_design.specs.Circuit.{job_in, CircuitFits};
 ghost use Rattle.xr_design.specs.Job.{places_of};
@@ -12,7 +13,7 @@ ghost use Rattle.xr_class.specs.Wires.{AreWiresOf};
 ghost use Rattle.xr_wave_bytes.specs.Byte.{facts_in, facts_of_byte, written_of_byte};
 ghost use Rattle.xr_wave_bytes.specs.View.{next_class};
 ghost use Rattle.xr_wave_bytes.specs.Front.{StandsAt};
-ghost use Rattle.xr_wave_bytes.specs.Kept.{BytesTell, IsKept, ValuesAgree, facts_next};
+ghost use Rattle.xr_wave_bytes.specs.Kept.{BytesTell, IsKept, SayTheSame, StepKeeps, ValuesAgree, facts_next};
 
 use crate::byte::{byte_of, carries_on, is_line, is_plain, keeps, written_in};
 use crate::front::Front;
@@ -77,12 +78,14 @@ pub fn value_if_certain(written: Written) -> Value
     }
 }
 
-/// The class of the place behind those that are written, if there is one, and where it stands.
+/// The class of the place behind those that are written, if there is one, given where it stands and whether all places
+/// before it in its step keep.
 pub fn class_behind(
     circuit: &Circuit<'_>,
     wiring: &Wiring,
     bytes: &[u8],
     front: Front,
+    all_keep: bool,
 ) -> Option<ClassByNumber>
     requires fits { CircuitFits circuit.now }
     requires wired { AreWiresOf circuit.now wiring.now }
@@ -90,14 +93,27 @@ pub fn class_behind(
     requires front { StandsAt (job_in circuit.now) (length bytes.now) front }
     requires told { BytesTell (job_in circuit.now) bytes.now }
     requires agrees { ValuesAgree (job_in circuit.now) (map written_of_byte bytes.now) }
+    requires keep { OnTrue all_keep (StepKeeps bytes.now front.position (length bytes.now)) }
     ensures { result ≡ next_class (job_in circuit.now) (map written_of_byte bytes.now) }
 {
     let place = bytes.len();
     if place < count_places(circuit) {
-        Some(class_at(circuit, wiring, &Bytes { bytes }, place, front.position))
+        let earlier = Bytes { bytes };
+        let class = class_at(circuit, wiring, &earlier, place, front.position, all_keep);
+        Some(class)
     } else {
         None
     }
+}
+
+/// Whether all places before the next one in its step keep, given where it stands and whether those before the last one
+/// do.
+pub fn keep_behind(bytes: &[u8], front: Front, before: bool) -> bool
+    requires some { 0 < length bytes.now }
+    requires before { OnTrue before (0 < front.position → StepKeeps bytes.now front.position (length bytes.now - 1)) }
+    ensures { OnTrue result (StepKeeps bytes.now front.position (length bytes.now)) }
+{
+    front.position == 0 || (before && keeps(bytes[bytes.len() - 1]))
 }
 
 /// Appends the byte of the next place, whose class is given.
@@ -116,6 +132,7 @@ pub fn push_place(
     ensures told { BytesTell (job_in circuit.now) bytes.new.items }
     ensures agrees { ValuesAgree (job_in circuit.now) (map written_of_byte bytes.new.items) }
     ensures more { length bytes.new.items ≡ length bytes.old.items + 1 }
+    ensures same { SayTheSame bytes.old.items bytes.new.items }
     ensures room { places_of (job_in circuit.now) ≤ vec_capacity bytes.new }
 {
     let byte = next_byte(circuit, bytes.as_slice(), next, written);

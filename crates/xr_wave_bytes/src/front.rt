@@ -30,7 +30,8 @@ pub fn front_behind(circuit: &Circuit<'_>, front: Front, place: usize) -> Front
     requires fits { CircuitFits circuit.now }
     requires within { place < places_of (job_in circuit.now) }
     requires stands { StandsAt (job_in circuit.now) place front }
-    ensures { StandsAt (job_in circuit.now) (place + 1) result }
+    ensures stands { StandsAt (job_in circuit.now) (place + 1) result }
+    ensures next { 0 < result.position → result.position ≡ front.position + 1 }
 {
     let next = front.position + 1;
     if next < width_of(circuit) {

@@ -12,7 +12,7 @@ ghost use Rattle.xr_wave_bytes.specs.View as spec;
 ghost use Rattle.xr_wave_bytes.specs.View.{HasMore, IsNumber, and_one, job, waveform_of};
 
 use crate::byte::written_in;
-use crate::bytes::{Bytes, class_behind, push_place};
+use crate::bytes::{Bytes, class_behind, keep_behind, push_place};
 use crate::front::{Front, first_front, front_behind, place_there};
 use std::alloc::Global;
 use std::marker::Model;
@@ -34,16 +34,19 @@ pub struct Waveform<'a> {
     next: Option<ClassByNumber>,
     /// Where the next place stands.
     front: Front,
+    /// Whether all places before it in its step keep.
+    all_keep: bool,
 }
 
 impl<'a> Model for Waveform<'a> {
     ghost use Rattle.std.specs.Prelude.{◌≤◌, length, map, vec_capacity};
+    ghost use Rattle.std.specs.Bool.{OnTrue};
     ghost use Rattle.xr_design.specs.Circuit.{CircuitFits, job_in};
     ghost use Rattle.xr_design.specs.Job.{places_of};
     ghost use Rattle.xr_class.specs.Wires.{AreWiresOf};
     ghost use Rattle.xr_wave_bytes.specs.Byte.{written_of_byte};
     ghost use Rattle.xr_wave_bytes.specs.Front.{StandsAt};
-    ghost use Rattle.xr_wave_bytes.specs.Kept.{IsKept};
+    ghost use Rattle.xr_wave_bytes.specs.Kept.{IsKept, StepKeeps};
     ghost use Rattle.xr_wave_bytes.specs.View.{WaveformView, waveform_of};
 
     ghost Value = { WaveformView };
@@ -57,6 +60,7 @@ impl<'a> Model for Waveform<'a> {
       room : places_of (job_in w.circuit) ≤ vec_capacity w.bytes;
       kept : IsKept w.circuit w.bytes.items w.next;
       front : StandsAt (job_in w.circuit) (length w.bytes.items) w.front;
+      keep : OnTrue w.all_keep (StepKeeps w.bytes.items w.front.position (length w.bytes.items));
     } };
 }
 
@@ -69,13 +73,14 @@ impl<'a> Waveform<'a> {
         let wiring = Wiring::of(alloc, circuit.design, circuit.order)?;
         let bytes = Vec::with_capacity(alloc, count_places(&circuit))?;
         let front = first_front(&circuit);
-        let next = class_behind(&circuit, &wiring, bytes.as_slice(), front);
+        let next = class_behind(&circuit, &wiring, bytes.as_slice(), front, true);
         Ok(Waveform {
             circuit,
             wiring,
             bytes,
             next,
             front,
+            all_keep: true,
         })
     }
 
@@ -132,7 +137,7 @@ impl<'a> Waveform<'a> {
             kept_class(&self.circuit, &self.wiring, &bytes, number)
         } else {
             let position = self.front.position;
-            class_at(&self.circuit, &self.wiring, &bytes, number, position)
+            class_at(&self.circuit, &self.wiring, &bytes, number, position, false)
         }
     }
 
@@ -168,7 +173,10 @@ impl<'a> Waveform<'a> {
         let circuit = self.circuit;
         let front = front_behind(&circuit, self.front, self.bytes.len());
         push_place(&circuit, &mut self.bytes, self.next, written);
-        self.next = class_behind(&circuit, &self.wiring, self.bytes.as_slice(), front);
+        let bytes = self.bytes.as_slice();
+        let all_keep = keep_behind(bytes, front, self.all_keep);
+        self.next = class_behind(&circuit, &self.wiring, bytes, front, all_keep);
         self.front = front;
+        self.all_keep = all_keep;
     }
 }

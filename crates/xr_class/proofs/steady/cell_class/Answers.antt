@@ -1,5 +1,6 @@
 -- A cell whose pins keep gives what it gave a step before.
 use Rattle.std.proofs.Common.{◌≡◌, ◌∙◌, true, false, sym, ap, arith}
+use Rattle.std.proofs.lemmas.Bool.{OnTrue_at, OnTrue_from}
 use Rattle.xr_design.specs.Circuit.{job_in}
 use Rattle.xr_model.specs.Class.{before, class_of, is_never_unknown}
 use Rattle.xr_model.specs.declared.class.ClassByNumber.TheVariants.{Carried}
@@ -7,13 +8,20 @@ use Rattle.xr_class.specs.Facts.{Facts, is_plain, place_carries, plain_class}
 use Rattle.xr_class.proofs.SteadyClasses.{carrying_known, steady_open, steady_plain}
 use Rattle.xr_class.proofs.StepBefore.{before_back, more_width}
 use Rattle.xr_class.proofs.WiredPlaces.{cell_here}
-use Rattle.xr_class.proofs.WiredSteady.{cell_known, cell_reach, cell_steady, net_back}
+use Rattle.xr_class.proofs.WiredSteady.{all_pins_keep, cell_known, cell_reach, cell_steady, net_back}
 use Rattle.xr_class.proofs.steady.cell_class.Goals as goal
 
-pub positions_keep-requires : goal.positions_keep-requires
-positions_keep-requires g c =
+pub pins_keep-requires-clause-reach : goal.pins_keep-requires-clause-reach
+pins_keep-requires-clause-reach g c =
     cell_reach (job_in c.args.circuit.now) c.requires.fits.fits_job (g.E.Source.has c.args.earlier.now) c.args.place
     c.args.position c.args.table c.args.pins.now c.requires.within c.requires.position c.requires.stands c.requires.certain
+
+pub pins_keep-requires-clause-keep : goal.pins_keep-requires-clause-keep
+pins_keep-requires-clause-keep g c =
+    OnTrue_from c.args.all_keep _ (λ on.
+    all_pins_keep (job_in c.args.circuit.now) c.requires.fits.fits_job (g.E.Earlier.facts c.args.earlier.now) c.args.place
+    c.args.position c.args.table c.args.pins.now c.requires.within c.requires.position c.requires.stands
+    (OnTrue_at on c.requires.keep))
 
 pub returns-then-is_plain : goal.returns-then-is_plain
 returns-then-is_plain g c =
@@ -26,7 +34,7 @@ returns-then-is_plain g c =
     let all = c.requires.within in
     let steady = cell_steady j c.requires.fits.fits_job certain (g.E.Earlier.facts c.args.earlier.now) place c.args.position
     c.args.table c.args.pins.now c.requires.within c.requires.position c.requires.stands c.requires.facts c.requires.agrees
-    more (sym c.positions_keep.ensures ∙ c.if-not-positions_keep.false) in
+    more (sym c.pins_keep.ensures ∙ c.if-not-pins_keep.false) in
     let less = steady.less in
     let plain : is_plain (class_of j certain (before j place)) ≡ true =
     sym (c.is_plain.ensures ∙ ap (λ k. (g.E.Earlier.facts c.args.earlier.now k).plain) back
@@ -46,7 +54,7 @@ returns-then-not-cell_chooses g c =
     let all = c.requires.within in
     let steady = cell_steady j c.requires.fits.fits_job certain (g.E.Earlier.facts c.args.earlier.now) place c.args.position
     c.args.table c.args.pins.now c.requires.within c.requires.position c.requires.stands c.requires.facts c.requires.agrees
-    more (sym c.positions_keep.ensures ∙ c.if-not-positions_keep.false) in
+    more (sym c.pins_keep.ensures ∙ c.if-not-pins_keep.false) in
     let less = steady.less in
     let open_is : is_plain (class_of j certain (before j place)) ≡ false =
     sym (c.is_plain.ensures ∙ ap (λ k. (g.E.Earlier.facts c.args.earlier.now k).plain) back
@@ -69,7 +77,7 @@ returns-then-carries_on g c =
     let all = c.requires.within in
     let steady = cell_steady j c.requires.fits.fits_job certain (g.E.Earlier.facts c.args.earlier.now) place c.args.position
     c.args.table c.args.pins.now c.requires.within c.requires.position c.requires.stands c.requires.facts c.requires.agrees
-    more (sym c.positions_keep.ensures ∙ c.if-not-positions_keep.false) in
+    more (sym c.pins_keep.ensures ∙ c.if-not-pins_keep.false) in
     let less = steady.less in
     let told = c.requires.facts (before j place) less in
     let open_is : is_plain (class_of j certain (before j place)) ≡ false =

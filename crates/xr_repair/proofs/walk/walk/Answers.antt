@@ -7,8 +7,8 @@ use Rattle.xr_repair.proofs.walk.walk.Goals as goal
 
 pub returns-clause-only : goal.returns-clause-only
 returns-clause-only c =
-    let w = c.places.walked in
+    let w = c.lines.walked in
     let many : places_of (job w) ≤ length w.written =
-    subst (λ (j : Job). places_of j ≤ length w.written) (sym (job_stays c.args.wave w c.places.invariant.0))
-    (omega (arith, c.places.invariant.1, c.count.ensures.count, c.places-test.false)) in
+    subst (λ (j : Job). places_of j ≤ length w.written) (sym (job_stays c.args.wave w c.lines.invariant.0))
+    (omega (arith, c.lines.invariant.2, c.count.ensures.count, c.lines-test.false)) in
     only_one w c.count.ensures.wave (all_written w c.count.ensures.wave many)

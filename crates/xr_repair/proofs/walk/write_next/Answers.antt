@@ -1,7 +1,16 @@
--- What the tracer knows is right of the next wave too.
-use Rattle.xr_repair.proofs.Walking.{right_next}
+-- The places behind a Line place, up to the next one.
+use Rattle.xr_repair.proofs.Walking.{next_further, refused_further, right_advanced}
 use Rattle.xr_repair.proofs.walk.write_next.Goals as goal
 
-pub returns-in_default-clause-right : goal.returns-in_default-clause-right
-returns-in_default-clause-right c =
-    right_next c.args.wave c.args.tracer.now c.advance.result c.requires.sound c.requires.right c.advance.ensures.ok
+pub returns-clause-ok : goal.returns-clause-ok
+returns-clause-ok c =
+    next_further c.args.wave c.in_ok-decided.decided c.advance.result c.in_ok-decided.ensures.ok c.advance.ensures.ok
+
+pub returns-clause-right : goal.returns-clause-right
+returns-clause-right c =
+    right_advanced c.args.wave c.in_ok-decided.decided c.decide_next.new.tracer c.advance.result
+    c.requires.sound.fits.fits_job c.in_ok-decided.ensures.ok c.in_ok-decided.ensures.right c.advance.ensures.ok
+
+pub returns-clause-err : goal.returns-clause-err
+returns-clause-err c =
+    refused_further c.args.wave c.in_ok-decided.decided c.advance.result c.in_ok-decided.ensures.ok.same c.advance.ensures.err
