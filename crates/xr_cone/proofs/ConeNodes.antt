@@ -8,6 +8,7 @@ use Rattle.std.proofs.lemmas.Bool.{cases_eq, eq-eqb}
 use Rattle.std.proofs.lemmas.List.{append-nil, length-map, map-append, reverse-append}
 use Rattle.xr_cell.specs.declared.value.Value.{Value}
 use Rattle.xr_design.specs.declared.place.Place.{Place}
+use Rattle.xr_design.specs.declared.waveform.Written.{Written}
 use Rattle.xr_design.specs.Fits.{Fits, place_at}
 use Rattle.xr_design.specs.Job.{Job, places_of}
 use Rattle.xr_design.specs.Waveform.{certain}
@@ -26,73 +27,49 @@ use Rattle.xr_cone_nodes.specs.declared.node.Node.{Node}
 use Rattle.xr_cone_nodes.specs.declared.node.NodeBody.{NodeBody as Body}
 use Rattle.xr_cone_nodes.specs.declared.node.NodeBody.TheVariants as node
 use Rattle.xr_cone.specs.Placed.{IsPlaced}
-use Rattle.xr_cone.specs.Traced.{AreTraced, IsBodyOf, IsTraced, place_in, places_in, supports_in}
-use Rattle.xr_cone.specs.declared.traced.Traced.{Traced}
+use Rattle.xr_cone.specs.Traced.{AreTraced, IsBodyOf, supports_in}
 use Rattle.xr_cone.specs.declared.traced.TracedBody.{TracedBody}
 use Rattle.xr_cone.specs.declared.traced.TracedBody.TheVariants.{Carried, Rule}
 use Rattle.xr_cone.proofs.RisingLists.{front_increases, positions_increase, stands_before}
 use Rattle.xr_cone.proofs.TracedBodies.{supports_are}
 
 -- What is made so far of a cone: its first places, with their nodes, and those that are left, the greatest first.
-pub record IsMade (j : Job) (c : ℕ → Value) (root : ℕ) (places : List ℕ) (rest : List Traced)
-    (nodes : List Node) : Type 0 where
-  pub parts : places ++ reverse (places_in rest) ≡ cone j c root
-  pub each : AllByRecursion (IsTraced j c) rest
+pub record IsMade (j : Job) (c : ℕ → Value) (root : ℕ) (places rest : List ℕ) (nodes : List Node) : Type 0 where
+  pub parts : places ++ reverse rest ≡ cone j c root
   pub named : map place_of_node nodes ≡ map (place_at j) places
   pub bodies : (position : ℕ) → position < length nodes
       → IsBody j c (cone j c root) (slice_index (cone j c root) position) (body_at nodes position)
   pub stands : (position : ℕ) → position < length nodes → StandsAt position (node_at nodes position).body
 
-pub made_begins : (j : Job) (c : ℕ → Value) (root : ℕ) (places : List ℕ) (rest : List Traced) (nodes : List Node)
+pub made_begins : (j : Job) (c : ℕ → Value) (root : ℕ) (places rest : List ℕ) (nodes : List Node)
     → AreTraced j c root rest → places ≡ [] → nodes ≡ [] → IsMade j c root places rest nodes
 made_begins j c root places rest nodes traced none none_too =
     subst (λ ps. IsMade j c root ps rest nodes) (sym none)
     (subst (λ ns. IsMade j c root [] rest ns) (sym none_too) (record {
-      parts = traced.places;
-      each = traced.each;
+      parts = traced;
       named = refl;
       bodies = λ position less. absurd (omega arith);
       stands = λ position less. absurd (omega arith);
     }))
 
-all_split : {A : Type 0} (P : A → Type 0) (xs : List A) (x : A) → AllByRecursion P (xs ++ x ∷ [])
-    → AllByRecursion P xs × P x
-all_split P [] x all = (tt, all.0)
-all_split P (y ∷ ys) x all = (let rest = all_split P ys x all.1 in ((all.0, rest.0), rest.1))
+-- The last of those that are left comes next, behind the places before it.
+pub record IsNext (j : Job) (c : ℕ → Value) (root : ℕ) (places : List ℕ) (next : ℕ) (left : List ℕ) : Type 0 where
+  pub parts : places ++ next ∷ reverse left ≡ cone j c root
 
--- The last of those that are left comes next.
-next_parts : (places : List ℕ) (left : List Traced) (t : Traced)
-    → places ++ reverse (places_in (left ++ t ∷ [])) ≡ places ++ t.place ∷ reverse (places_in left)
-next_parts places left t =
-    ap (λ xs. places ++ xs) (ap reverse (map-append place_in left (t ∷ []))
-    ∙ reverse-append (places_in left) (t.place ∷ []))
-
--- The places before it, when it comes next.
-pub record IsNext (j : Job) (c : ℕ → Value) (root : ℕ) (places : List ℕ) (t : Traced) (left : List Traced) : Type 0 where
-  pub parts : places ++ t.place ∷ reverse (places_in left) ≡ cone j c root
-  pub traced : IsTraced j c t
-  pub each : AllByRecursion (IsTraced j c) left
-
-pub made_next : (j : Job) (c : ℕ → Value) (root : ℕ) (places : List ℕ) (rest left : List Traced) (t : Traced)
-    (nodes : List Node) → IsMade j c root places rest nodes → rest ≡ left ++ t ∷ []
-    → IsNext j c root places t left
-made_next j c root places rest left t nodes made rest_is =
-    let all : AllByRecursion (IsTraced j c) (left ++ t ∷ []) = rw rest_is at made.each in
-    let split = all_split (IsTraced j c) left t all in
-    record {
-      parts = sym (ap (λ ts. places ++ reverse (places_in ts)) rest_is ∙ next_parts places left t) ∙ made.parts;
-      traced = split.1;
-      each = split.0;
-    }
+pub made_next : (j : Job) (c : ℕ → Value) (root : ℕ) (places rest left : List ℕ) (next : ℕ) (nodes : List Node)
+    → IsMade j c root places rest nodes → rest ≡ left ++ next ∷ [] → IsNext j c root places next left
+made_next j c root places rest left next nodes made rest_is = record {
+  parts = sym (ap (λ xs. places ++ xs) (ap reverse rest_is ∙ reverse-append left (next ∷ []))) ∙ made.parts;
+}
 
 cone_rises : (j : Job) (c : ℕ → Value) (root : ℕ) → IsStrictlyIncreasing (cone j c root)
 cone_rises j c root = picked_rises (in_cone j c root) (root + 1)
 
-pub next_rises : (j : Job) (c : ℕ → Value) (root : ℕ) (places : List ℕ) (t : Traced) (left : List Traced)
-    → IsNext j c root places t left → IsStrictlyIncreasing places
-next_rises j c root places t left next =
-    front_increases places (t.place ∷ reverse (places_in left))
-    (subst IsStrictlyIncreasing (sym next.parts) (cone_rises j c root))
+pub next_rises : (j : Job) (c : ℕ → Value) (root : ℕ) (places : List ℕ) (next : ℕ) (left : List ℕ)
+    → IsNext j c root places next left → IsStrictlyIncreasing places
+next_rises j c root places next left is =
+    front_increases places (next ∷ reverse left)
+    (subst IsStrictlyIncreasing (sym is.parts) (cone_rises j c root))
 
 few_picked : (test : ℕ → Bool) (n : ℕ) → length (places_where test n) ≤ n
 few_picked test zero = omega arith
@@ -103,44 +80,54 @@ few_picked test (suc n) = one (test n) (few_picked test n)
     one true up = let long = length-append (places_where test n) (n ∷ []) in omega (arith, long, up)
     one false up = omega (arith, up)
 
-pub next_few : (j : Job) → Fits j → (c : ℕ → Value) (root : ℕ) (places : List ℕ) (t : Traced) (left : List Traced)
-    → root < places_of j → IsNext j c root places t left → length places < 2 ^ 27
-next_few j fits c root places t left within next =
+pub next_few : (j : Job) → Fits j → (c : ℕ → Value) (root : ℕ) (places : List ℕ) (next : ℕ) (left : List ℕ)
+    → root < places_of j → IsNext j c root places next left → length places < 2 ^ 27
+next_few j fits c root places next left within is =
     let few = few_picked (in_cone j c root) (root + 1) in
     let most = fits.few_places in
-    let whole = ap length next.parts in
-    let long = length-append places (t.place ∷ reverse (places_in left)) in
+    let whole = ap length is.parts in
+    let long = length-append places (next ∷ reverse left) in
     omega (arith, few, most, whole, long, within)
 
 in_here : (xs : List ℕ) (p : ℕ) (ys : List ℕ) → among (xs ++ p ∷ ys) p ≡ true
 in_here [] p ys = or_left (p == p) (among ys p) (eq-eqb p p refl)
 in_here (x ∷ xs) p ys = or_right (x == p) (among (xs ++ p ∷ ys) p) (in_here xs p ys)
 
+next_in : (j : Job) (c : ℕ → Value) (root : ℕ) (places : List ℕ) (next : ℕ) (left : List ℕ)
+    → IsNext j c root places next left → (next < root + 1) × (in_cone j c root next ≡ true)
+next_in j c root places next left is =
+    in_picked (in_cone j c root) (root + 1) next
+    (subst (λ xs. among xs next ≡ true) is.parts (in_here places next (reverse left)))
+
+-- It is in reach where the root is.
+pub next_reach : (j : Job) (c : ℕ → Value) (waveform : List Written) (root : ℕ) (places : List ℕ) (next : ℕ)
+    (left : List ℕ) → InReach j waveform root → IsNext j c root places next left → InReach j waveform next
+next_reach j c waveform root places next left reach is =
+    let low = (next_in j c root places next left is).0 in
+    let written = reach.written in
+    let within = reach.within in
+    record { written = omega (arith, low, written); within = omega (arith, low, within) }
+
 -- Its supports stand before it.
-pub next_supports : (j : Job) → Fits j → (c : ℕ → Value) (root : ℕ) (places : List ℕ) (t : Traced) (left : List Traced)
-    → root < places_of j → IsNext j c root places t left
-    → AllByRecursion (λ k. among places k ≡ true) (supports_in t.body)
-next_supports j fits c root places t left within next =
-    subst (AllByRecursion (λ k. among places k ≡ true)) (sym (supports_are j c t.place t.body next.traced))
-    (among_all _ (supports j c t.place) before)
+pub next_supports : (j : Job) → Fits j → (c : ℕ → Value) (root : ℕ) (places : List ℕ) (next : ℕ) (left : List ℕ)
+    (body : TracedBody) → root < places_of j → IsNext j c root places next left → IsBodyOf j c next body
+    → AllByRecursion (λ k. among places k ≡ true) (supports_in body)
+next_supports j fits c root places next left body within is of_place =
+    subst (AllByRecursion (λ k. among places k ≡ true)) (sym (supports_are j c next body of_place))
+    (among_all _ (supports j c next) before)
   where
-    whole : List ℕ
-    whole = places ++ t.place ∷ reverse (places_in left)
+    of_cone : in_cone j c root next ≡ true
+    of_cone = (next_in j c root places next left is).1
 
-    of_cone : in_cone j c root t.place ≡ true
-    of_cone = (in_picked (in_cone j c root) (root + 1) t.place
-        (subst (λ xs. among xs t.place ≡ true) next.parts (in_here places t.place (reverse (places_in left))))).1
-
-    before : (k : ℕ) → among (supports j c t.place) k ≡ true → among places k ≡ true
+    before : (k : ℕ) → among (supports j c next) k ≡ true → among places k ≡ true
     before k at =
-        let up = cone_within j fits c root t.place within of_cone in
-        let low : k < t.place = all_among (λ i. i < t.place) (supports j c t.place) k
-        (supports_below j fits c t.place (omega (arith, up, within))) at in
-        let inside = cone_closed j fits c root t.place k within of_cone at in
+        let up = cone_within j fits c root next within of_cone in
+        let low : k < next = all_among (λ i. i < next) (supports j c next) k
+        (supports_below j fits c next (omega (arith, up, within))) at in
+        let inside = cone_closed j fits c root next k within of_cone at in
         let there : among (cone j c root) k ≡ true = picked_in (in_cone j c root) (root + 1) k (omega (arith, low, up)) inside in
-        stands_before places t.place (reverse (places_in left)) k
-        (subst IsStrictlyIncreasing (sym next.parts) (cone_rises j c root))
-        (subst (λ xs. among xs k ≡ true) (sym next.parts) there) low
+        stands_before places next (reverse left) k (subst IsStrictlyIncreasing (sym is.parts) (cone_rises j c root))
+        (subst (λ xs. among xs k ≡ true) (sym is.parts) there) low
 
 front_index : (xs ys : List ℕ) (i : ℕ) → i < length xs → slice_index (xs ++ ys) i ≡ slice_index xs i
 front_index xs ys i less = get_or-append xs ys 0 i less
@@ -200,12 +187,10 @@ placed_stands j c place places (Rule arguments values) (node.Rule positions kept
       long = ap length placed.same ∙ is.is_table.long ∙ ap (λ n. 2 ^ n) (sym same);
     }
 
-pub next_within : (j : Job) → Fits j → (c : ℕ → Value) (root : ℕ) (places : List ℕ) (t : Traced) (left : List Traced)
-    → root < places_of j → IsNext j c root places t left → t.place < places_of j
-next_within j fits c root places t left within next =
-    let low = (in_picked (in_cone j c root) (root + 1) t.place
-    (subst (λ xs. among xs t.place ≡ true) next.parts (in_here places t.place (reverse (places_in left))))).0 in
-    omega (arith, low, within)
+pub next_within : (j : Job) (c : ℕ → Value) (root : ℕ) (places : List ℕ) (next : ℕ) (left : List ℕ)
+    → root < places_of j → IsNext j c root places next left → next < places_of j
+next_within j c root places next left within is =
+    let low = (next_in j c root places next left is).0 in omega (arith, low, within)
 
 length_named : (j : Job) (places : List ℕ) (nodes : List Node) → map place_of_node nodes ≡ map (place_at j) places
     → length nodes ≡ length places
@@ -215,15 +200,14 @@ length_named j places nodes named =
 last_or_before : (n k : ℕ) → k < n + 1 → (k ≡ n) ⊎ (k < n)
 last_or_before n k less = ⊎_elim (λ (e : k ≡ n). inl e) (λ (e : k ≡ n → ⊥). inr (omega arith)) (cases_eq k n)
 
-pushed : (j : Job) → Fits j → (c : ℕ → Value) (root : ℕ) (places : List ℕ) (rest left : List Traced) (t : Traced)
-    (nodes : List Node) (body : Body) → root < places_of j → IsMade j c root places rest nodes
-    → IsNext j c root places t left → IsPlaced places t.body body
-    → IsMade j c root (places ++ t.place ∷ []) left (nodes ++ record { place = place_at j t.place; body = body } ∷ [])
-pushed j fits c root places rest left t nodes body within made next placed = record {
-  parts = append_assoc places (t.place ∷ []) (reverse (places_in left)) ∙ next.parts;
-  each = next.each;
-  named = map-append place_of_node nodes (last ∷ []) ∙ ap (λ xs. xs ++ place_at j t.place ∷ []) made.named
-      ∙ sym (map-append (place_at j) places (t.place ∷ []));
+pushed : (j : Job) → Fits j → (c : ℕ → Value) (root : ℕ) (places rest left : List ℕ) (next : ℕ) (nodes : List Node)
+    (traced : TracedBody) (body : Body) → root < places_of j → IsMade j c root places rest nodes
+    → IsNext j c root places next left → IsBodyOf j c next traced → IsPlaced places traced body
+    → IsMade j c root (places ++ next ∷ []) left (nodes ++ record { place = place_at j next; body = body } ∷ [])
+pushed j fits c root places rest left next nodes traced body within made is of_place placed = record {
+  parts = append_assoc places (next ∷ []) (reverse left) ∙ is.parts;
+  named = map-append place_of_node nodes (last ∷ []) ∙ ap (λ xs. xs ++ place_at j next ∷ []) made.named
+      ∙ sym (map-append (place_at j) places (next ∷ []));
   bodies = λ position less. ⊎_elim (last_body position) (old_body position)
       (last_or_before (length nodes) position (more position less));
   stands = λ position less. ⊎_elim (last_stands position) (old_stands position)
@@ -231,7 +215,7 @@ pushed j fits c root places rest left t nodes body within made next placed = rec
 }
   where
     last : Node
-    last = record { place = place_at j t.place; body = body }
+    last = record { place = place_at j next; body = body }
 
     whole : List ℕ
     whole = cone j c root
@@ -248,14 +232,14 @@ pushed j fits c root places rest left t nodes body within made next placed = rec
     old_at : (position : ℕ) → position < length nodes → node_at (nodes ++ last ∷ []) position ≡ node_at nodes position
     old_at position less = get_or-append nodes (last ∷ []) no_node position less
 
-    place_here : (position : ℕ) → position ≡ length nodes → slice_index whole position ≡ t.place
-    place_here position e = ap (slice_index whole) (e ∙ same) ∙ ap (λ xs. slice_index xs (length places)) (sym next.parts)
-        ∙ get_or-append_seam places t.place (reverse (places_in left)) 0
+    place_here : (position : ℕ) → position ≡ length nodes → slice_index whole position ≡ next
+    place_here position e = ap (slice_index whole) (e ∙ same) ∙ ap (λ xs. slice_index xs (length places)) (sym is.parts)
+        ∙ get_or-append_seam places next (reverse left) 0
 
-    is_body : IsBody j c whole t.place (body_of body)
-    is_body = subst (λ xs. IsBody j c xs t.place (body_of body)) next.parts
-        (placed_body j fits c t.place places (t.place ∷ reverse (places_in left)) t.body body
-        (next_within j fits c root places t left within next) next.traced placed)
+    is_body : IsBody j c whole next (body_of body)
+    is_body = subst (λ xs. IsBody j c xs next (body_of body)) is.parts
+        (placed_body j fits c next places (next ∷ reverse left) traced body
+        (next_within j c root places next left within is) of_place placed)
 
     last_body : (position : ℕ) → position ≡ length nodes
         → IsBody j c whole (slice_index whole position) (body_at (nodes ++ last ∷ []) position)
@@ -271,26 +255,28 @@ pushed j fits c root places rest left t nodes body within made next placed = rec
     last_stands : (position : ℕ) → position ≡ length nodes → StandsAt position (node_at (nodes ++ last ∷ []) position).body
     last_stands position e = subst (λ (n : Node). StandsAt position n.body) (sym (last_at position e))
         (subst (λ p. StandsAt p body) (sym (e ∙ same))
-        (placed_stands j c t.place places t.body body (next_rises j c root places t left next) next.traced placed))
+        (placed_stands j c next places traced body (next_rises j c root places next left is) of_place placed))
 
     old_stands : (position : ℕ) → position < length nodes → StandsAt position (node_at (nodes ++ last ∷ []) position).body
     old_stands position less = subst (λ (n : Node). StandsAt position n.body) (sym (old_at position less))
         (made.stands position less)
 
 -- The next place with its node.
-pub made_more : (j : Job) → Fits j → (c : ℕ → Value) (root : ℕ) (places all : List ℕ) (rest left : List Traced)
-    (t : Traced) (nodes every : List Node) (place : Place) (body : Body) → root < places_of j
-    → IsMade j c root places rest nodes → IsNext j c root places t left → IsPlaced places t.body body
-    → place ≡ place_at j t.place → every ≡ nodes ++ record { place = place; body = body } ∷ []
-    → all ≡ places ++ t.place ∷ [] → IsMade j c root all left every
-made_more j fits c root places all rest left t nodes every place body within made next placed place_is every_is all_is =
+pub made_more : (j : Job) → Fits j → (c : ℕ → Value) (root : ℕ) (places all rest left : List ℕ) (next : ℕ)
+    (nodes every : List Node) (place : Place) (traced : TracedBody) (body : Body) → root < places_of j
+    → IsMade j c root places rest nodes → IsNext j c root places next left → IsBodyOf j c next traced
+    → IsPlaced places traced body → place ≡ place_at j next
+    → every ≡ nodes ++ record { place = place; body = body } ∷ [] → all ≡ places ++ next ∷ []
+    → IsMade j c root all left every
+made_more j fits c root places all rest left next nodes every place traced body within made is of_place placed place_is
+    every_is all_is =
     subst (λ ps. IsMade j c root ps left every) (sym all_is)
-    (subst (λ ns. IsMade j c root (places ++ t.place ∷ []) left ns)
+    (subst (λ ns. IsMade j c root (places ++ next ∷ []) left ns)
     (sym (every_is ∙ ap (λ (p : Place). nodes ++ record { place = p; body = body } ∷ []) place_is))
-    (pushed j fits c root places rest left t nodes body within made next placed))
+    (pushed j fits c root places rest left next nodes traced body within made is of_place placed))
 
 -- Where none is left, the nodes are the cone.
-pub made_ends : (c : Contents) (root : ℕ) (places : List ℕ) (rest : List Traced) (nodes : List Node) → IsWave c
+pub made_ends : (c : Contents) (root : ℕ) (places rest : List ℕ) (nodes : List Node) → IsWave c
     → InReach (job c) c.written root → class_in c root ≡ class.Line
     → IsMade (job c) (certain c.written) root places rest nodes → rest ≡ [] → IsConeOf c root nodes
 made_ends c root places rest nodes wave reach line made none = record {
@@ -309,7 +295,7 @@ made_ends c root places rest nodes wave reach line made none = record {
     known = certain c.written
 
     all : places ≡ cone j known root
-    all = sym (append-nil places) ∙ sym (ap (λ ts. places ++ reverse (places_in ts)) none) ∙ made.parts
+    all = sym (append-nil places) ∙ sym (ap (λ xs. places ++ reverse xs) none) ∙ made.parts
 
     same : length nodes ≡ length (cone j known root)
     same = length_named j places nodes made.named ∙ ap length all
@@ -332,6 +318,6 @@ pub ends_ok : {T E : Type 0} (nodes_in : T → List Node) (c : Contents) (root :
 ends_ok nodes_in c root (Ok cone) nodes same is = subst (IsConeOf c root) (sym same) is
 ends_ok nodes_in c root (Err e) nodes same is = tt
 
-pub none_left : (rest : List Traced) → length rest ≡ 0 → rest ≡ []
+pub none_left : (rest : List ℕ) → length rest ≡ 0 → rest ≡ []
 none_left [] none = refl
-none_left (t ∷ ts) none = absurd (omega arith)
+none_left (k ∷ ks) none = absurd (omega arith)

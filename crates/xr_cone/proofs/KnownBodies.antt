@@ -1,6 +1,9 @@
 -- What a place rests on stays as the wave grows, and what is kept of places stays right.
-use Rattle.std.proofs.Common.{◌≡◌, ◌⊎◌, inl, inr, ⊎_elim, ℕ, ◌<◌, ◌≤◌, Bool, true, false, nat_eq, refl, Option, Some, if◌then◌else◌, List, [], ◌∷◌, ◌++◌, length, length-append, sym, ap, ◌∙◌, subst, arith}
-use Rattle.std.proofs.lemmas.Bool.{eqb-true}
+use Rattle.std.proofs.Common.{◌≡◌, ◌==◌, ◌⊎◌, inl, inr, ⊎_elim, ℕ, zero, suc, ◌<◌, ◌≤◌, refl, Option, None, Some, IfSome, IsSome, if◌then◌else◌, List, [], ◌∷◌, ◌++◌, length, length-append, slice_index_or, slice_set, sym, ap, ◌∙◌, subst, arith}
+use Rattle.std.proofs.lemmas.Bool.{cases_eq, eq-eqb, eqb-true}
+use Rattle.std.proofs.lemmas.Grind.{get_or-set_at}
+use Rattle.std.proofs.lemmas.List.{get_or-set_other}
+use Rattle.std.proofs.lemmas.Option.{cond_some}
 use Rattle.xr_cell.specs.declared.value.Value.{Value}
 use Rattle.xr_design.specs.declared.waveform.Written.{Written}
 use Rattle.xr_design.specs.Fits.{Fits}
@@ -15,9 +18,11 @@ use Rattle.xr_model.proofs.ClassesBefore.{class_local}
 use Rattle.xr_model.proofs.ConesBefore.{essentials_local}
 use Rattle.xr_model.proofs.FactsBefore.{certain_grown}
 use Rattle.xr_wave.specs.Contents.{Contents, job}
-use Rattle.xr_cone.specs.Known.{IsKnown, IsNoMore, IsRightOf, Keeps, TracerView, known_of}
+use Rattle.xr_cone.specs.InWave.{IsBodyIn}
+use Rattle.xr_cone.specs.Known.{IsKnown, IsRightOf, IsSameKnown, Keeps, TracerView, known_in, known_of, slot_of, told_of}
 use Rattle.xr_cone.specs.Table.{value_on}
 use Rattle.xr_cone.specs.Traced.{IsBodyOf}
+use Rattle.xr_cone.specs.declared.traced.Traced.{Traced}
 use Rattle.xr_cone.specs.declared.traced.TracedBody.{TracedBody}
 use Rattle.xr_cone.specs.declared.traced.TracedBody.TheVariants.{Carried, Rule}
 
@@ -60,25 +65,66 @@ known_grows c d tracer v fits same grown right place body is =
           (λ k less. certain_grown c.written v k (omega (arith, less, up))) was.is));
     }
 
-same_some : {A : Type 0} (a b : A) → Some a ≡ Some b → a ≡ b
-same_some a b same = cc
+-- A slot tells of the place that stands in it alone.
+told_here : (place : ℕ) (body : TracedBody) → told_of place (Some (record { place = place; body = body })) ≡ Some body
+told_here place body = ap (λ b. if b then Some body else None) (eq-eqb place place refl)
 
-here_or_before : (place k : ℕ) (body b : TracedBody) (old middle : Option TracedBody) (e : Bool) → nat_eq place k ≡ e
-    → (if e then Some body else middle) ≡ Some b → (middle ≡ Some b → old ≡ Some b)
-    → ((place ≡ k) × (body ≡ b)) ⊎ (old ≡ Some b)
-here_or_before place k body b old middle true here is before = inl (eqb-true place k here, same_some body b is)
-here_or_before place k body b old middle false here is before = inr (before is)
+told_alone : (place k : ℕ) (body b : TracedBody) → told_of k (Some (record { place = place; body = body })) ≡ Some b
+    → (place ≡ k) × (body ≡ b)
+told_alone place k body b is =
+    let parts = cond_some (place == k) body b is in (eqb-true place k parts.0, parts.1)
 
 -- A place comes in.
-pub comes_in : (old middle new : TracerView) (place : ℕ) (body : TracedBody) → IsNoMore old middle
-    → known_of new place ≡ Some body
-    → ((k : ℕ) → known_of new k ≡ (if nat_eq place k then Some body else known_of middle k))
-    → Keeps old place body new
-comes_in old middle new place body fewer here others = record {
-  here = here;
-  others = λ k b is. here_or_before place k body b (known_of old k) (known_of middle k) (nat_eq place k) refl
-      (sym (others k) ∙ is) (fewer k b);
+pub comes_in : (old middle : List (Option Traced)) (place : ℕ) (body : TracedBody) → IsSameKnown old middle
+    → slot_of place < length middle
+    → Keeps (record { slots = old }) place body
+    (record { slots = slice_set middle (slot_of place) (Some (record { place = place; body = body })) })
+comes_in old middle place body same less = record {
+  here = ap (told_of place) (get_or-set_at middle slot slot stands None refl less) ∙ told_here place body;
+  others = λ k b is. ⊎_elim
+      (λ (e : slot_of k ≡ slot). inl (told_alone place k body b
+      (sym (ap (told_of k) (get_or-set_at middle slot (slot_of k) stands None e less)) ∙ is)))
+      (λ (e : slot_of k ≡ slot → ⊥). inr (sym (same k)
+      ∙ (sym (ap (told_of k) (get_or-set_other middle slot (slot_of k) stands None e)) ∙ is)))
+      (cases_eq (slot_of k) slot);
 }
+  where
+    slot : ℕ
+    slot = slot_of place
+
+    stands : Option Traced
+    stands = Some (record { place = place; body = body })
+
+empty_more : (slots : List (Option Traced)) (i : ℕ) → slice_index_or (slots ++ None ∷ []) i None ≡ slice_index_or slots i None
+empty_more [] zero = refl
+empty_more [] (suc i) = refl
+empty_more (x ∷ xs) zero = refl
+empty_more (x ∷ xs) (suc i) = empty_more xs i
+
+-- One slot more in which nothing stands tells nothing.
+pub same_more : (old slots more : List (Option Traced)) → IsSameKnown old slots → more ≡ slots ++ None ∷ []
+    → IsSameKnown old more
+same_more old slots more same is place =
+    ap (λ xs. known_in xs place) is ∙ ap (told_of place) (empty_more slots (slot_of place)) ∙ same place
+
+-- What is known of a place is what it rests on.
+pub known_body : (c : Contents) (tracer : TracerView) (place : ℕ) (P : TracedBody → Type 0) → IsRightOf c tracer
+    → IsSome (known_of tracer place) → IfSome (known_of tracer place) P
+    → (body : TracedBody) × (IsBodyIn c place body × P body)
+known_body c tracer place P right some holds = at (known_of tracer place) refl some holds
+  where
+    at : (o : Option TracedBody) → known_of tracer place ≡ o → IsSome o → IfSome o P
+        → (body : TracedBody) × (IsBodyIn c place body × P body)
+    at None is some holds = cc
+    at (Some body) is some holds = (body, ((right place body is).is, holds))
+
+pub if_known : (c : Contents) (tracer : TracerView) (place : ℕ) (P : TracedBody → Type 0) → IsRightOf c tracer
+    → ((body : TracedBody) → IsBodyIn c place body → P body) → IfSome (known_of tracer place) P
+if_known c tracer place P right each = at (known_of tracer place) refl
+  where
+    at : (o : Option TracedBody) → known_of tracer place ≡ o → IfSome o P
+    at None is = tt
+    at (Some body) is = each body (right place body is).is
 
 -- One that is right stays so where a place comes in with what it rests on.
 pub right_with : (c : Contents) (old new : TracerView) (place : ℕ) (body : TracedBody) → IsRightOf c old

@@ -6,6 +6,7 @@ mod EssentialBits
 mod HeapPlaces
 pub mod KnownBodies
 mod NextLine
+mod NotedPlaces
 mod NumberBits
 mod RisingLists
 mod TracedBodies

@@ -8,7 +8,6 @@ use Rattle.xr_model.specs.Laws.{InReach}
 use Rattle.xr_wave.specs.Contents.{Contents, job}
 use Rattle.xr_cone.specs.Table.{IsTableOver}
 use Rattle.xr_cone.specs.Traced.{AreTraced, IsBodyOf}
-use Rattle.xr_cone.specs.declared.traced.Traced.{Traced}
 use Rattle.xr_cone.specs.declared.traced.TracedBody.{TracedBody}
 
 -- A place is written, or the next one.
@@ -27,5 +26,5 @@ IsTableIn c place places values = IsTableOver (job c) (certain c.written) place 
 abbrev pub IsBodyIn : Contents → ℕ → TracedBody → Type 0
 IsBodyIn c place body = IsBodyOf (job c) (certain c.written) place body
 
-abbrev pub AreTracedIn : Contents → ℕ → List Traced → Type 0
-AreTracedIn c root traced = AreTraced (job c) (certain c.written) root traced
+abbrev pub AreTracedIn : Contents → ℕ → List ℕ → Type 0
+AreTracedIn c root places = AreTraced (job c) (certain c.written) root places

@@ -1,18 +1,29 @@
 -- What is kept between traces of what places rest on.
-use Rattle.std.specs.Prelude.{◌≡◌, ◌⊎◌, ℕ, List, Option, None, Some}
-use Rattle.std.specs.Bool.{nat_eq}
-use Rattle.std.specs.Map.{lookup}
+use Rattle.std.specs.Prelude.{◌≡◌, ◌⊎◌, ◌%◌, ◌==◌, ℕ, List, Option, None, Some, slice_index_or, if◌then◌else◌}
 use Rattle.xr_wave.specs.Contents.{Contents}
 use Rattle.xr_cone.specs.InWave.{IsBodyIn, IsInReach}
+use Rattle.xr_cone.specs.declared.traced.Traced.{Traced}
 use Rattle.xr_cone.specs.declared.traced.TracedBody.{TracedBody}
 
--- What callers see of a tracer: places, each with what it rests on.
+-- What callers see of a tracer: slots, in which places may stand, each with what it rests on.
 pub record TracerView : Type 0 where
-  pub entries : List (ℕ × TracedBody)
+  pub slots : List (Option Traced)
+
+-- The slot of a place.
+abbrev pub slot_of : ℕ → ℕ
+slot_of place = place % 262144
+
+-- What a slot tells of a place.
+abbrev pub told_of : ℕ → Option Traced → Option TracedBody
+told_of place None = None
+told_of place (Some traced) = if traced.place == place then Some traced.body else None
+
+abbrev pub known_in : List (Option Traced) → ℕ → Option TracedBody
+known_in slots place = told_of place (slice_index_or slots (slot_of place) None)
 
 -- What is known of a place, if anything is.
 abbrev pub known_of : TracerView → ℕ → Option TracedBody
-known_of tracer place = lookup (nat_eq place) tracer.entries
+known_of tracer place = known_in tracer.slots place
 
 abbrev pub KnowsNothing : TracerView → Type 0
 KnowsNothing tracer = (place : ℕ) → known_of tracer place ≡ None
@@ -26,9 +37,9 @@ pub record IsKnown (c : Contents) (place : ℕ) (body : TracedBody) : Type 0 whe
 abbrev pub IsRightOf : Contents → TracerView → Type 0
 IsRightOf c tracer = (place : ℕ) (body : TracedBody) → known_of tracer place ≡ Some body → IsKnown c place body
 
--- Nothing is known that wasn't.
-abbrev pub IsNoMore : TracerView → TracerView → Type 0
-IsNoMore old new = (place : ℕ) (body : TracedBody) → known_of new place ≡ Some body → known_of old place ≡ Some body
+-- Some slots tell the same as others.
+abbrev pub IsSameKnown : List (Option Traced) → List (Option Traced) → Type 0
+IsSameKnown old new = (place : ℕ) → known_in new place ≡ known_in old place
 
 -- One more place is known, and nothing else that wasn't.
 pub record Keeps (old : TracerView) (place : ℕ) (body : TracedBody) (new : TracerView) : Type 0 where

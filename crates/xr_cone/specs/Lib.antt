@@ -2,6 +2,7 @@
 pub mod Boundary
 pub mod InWave
 pub mod Known
+pub mod Noted
 pub mod Placed
 pub mod Reached
 pub mod Table

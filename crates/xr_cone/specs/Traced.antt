@@ -1,13 +1,11 @@
 -- What a place of a cone rests on, by the numbers of places, and the places of a cone from its root downwards.
-use Rattle.std.specs.Prelude.{◌≡◌, ℕ, ◌≤◌, false, List, [], ◌∷◌, length, map, reverse}
-use Rattle.std.specs.List.{AllByRecursion}
+use Rattle.std.specs.Prelude.{◌≡◌, ℕ, ◌≤◌, false, List, [], ◌∷◌, length, reverse}
 use Rattle.xr_cell.specs.declared.value.Value.{Value}
 use Rattle.xr_design.specs.Job.{Job}
 use Rattle.xr_model.specs.Class.{class_of}
 use Rattle.xr_model.specs.Cone.{cone, essentials, is_carried}
 use Rattle.xr_model.specs.declared.class.ClassByNumber.TheVariants as class
 use Rattle.xr_cone.specs.Table.{IsTableOver}
-use Rattle.xr_cone.specs.declared.traced.Traced.{Traced}
 use Rattle.xr_cone.specs.declared.traced.TracedBody.{TracedBody}
 use Rattle.xr_cone.specs.declared.traced.TracedBody.TheVariants.{Carried, Rule}
 
@@ -28,16 +26,6 @@ abbrev pub IsBodyOf : Job → (ℕ → Value) → ℕ → TracedBody → Type 0
 IsBodyOf j certain place (Carried from inverted) = class_of j certain place ≡ class.Carried from inverted
 IsBodyOf j certain place (Rule arguments values) = IsRule j certain place arguments values
 
-abbrev pub IsTraced : Job → (ℕ → Value) → Traced → Type 0
-IsTraced j certain traced = IsBodyOf j certain traced.place traced.body
-
-abbrev pub place_in : Traced → ℕ
-place_in traced = traced.place
-
-abbrev pub places_in : List Traced → List ℕ
-places_in traced = map place_in traced
-
 -- The places of a cone, the greatest first.
-pub record AreTraced (j : Job) (certain : ℕ → Value) (root : ℕ) (traced : List Traced) : Type 0 where
-  pub places : reverse (places_in traced) ≡ cone j certain root
-  pub each : AllByRecursion (IsTraced j certain) traced
+abbrev pub AreTraced : Job → (ℕ → Value) → ℕ → List ℕ → Type 0
+AreTraced j certain root places = reverse places ≡ cone j certain root

@@ -7,7 +7,7 @@ ghost use Rattle.xr_cone.specs.Reached.{AddsAll};
 ghost use Rattle.xr_cone.specs.Traced.{supports_in};
 
 use crate::reached::Reached;
-use crate::traced::{Traced, TracedBody};
+use crate::traced::TracedBody;
 use crate::tracer::Tracer;
 use std::alloc::Global;
 use xr_base::Memory;
@@ -20,7 +20,7 @@ pub fn trace_places(
     wave: &Wave<'_>,
     tracer: &mut Tracer,
     root: usize,
-) -> Result<Vec<Traced>, Memory>
+) -> Result<Vec<usize>, Memory>
     requires reach { IsInReach wave.now root }
     requires right { IsRightOf wave.now tracer.old }
     ensures traced { IfOk result (λ traced. AreTracedIn wave.now root traced.items) }
@@ -31,14 +31,15 @@ pub fn trace_places(
     let mut traced = Vec::new(alloc);
     reached.insert(root)?;
     'places: while let Some(place) = reached.take_greatest() {
-        let body = tracer.body_of(alloc, wave, place)?;
-        insert_supports(&mut reached, &body)?;
-        traced.push(Traced { place, body })?;
+        tracer.find(alloc, wave, place)?;
+        tracer.insert_supports(&mut reached, place)?;
+        traced.push(place)?;
     }
     Ok(traced)
 }
 
-fn insert_supports(reached: &mut Reached, body: &TracedBody) -> Result<(), Memory>
+/// The places that a place rests on come in.
+pub fn insert_supports(reached: &mut Reached, body: &TracedBody) -> Result<(), Memory>
     ensures { OnOk result (AddsAll reached.old (supports_in body.now) reached.new) }
 {
     match body {

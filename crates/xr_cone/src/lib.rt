@@ -3,12 +3,14 @@
 //! A backward trace in reverse place order: of the places that are reached and not yet looked at the greatest comes
 //! next, so each place of the cone is looked at once. The greatest stands apart and the others wait in a heap, which a
 //! way of carried places leaves alone. A place costs its class, and where it isn't carried one evaluation of its rule
-//! for each choice of bits for its uncertain arguments, at most 2^13. Nothing grows with the wave. Start at `trace`;
-//! `boundary` gives the certain places that a cone reads.
+//! for each choice of bits for its uncertain arguments, at most 2^13; a tracer keeps what it rests on, so that it costs
+//! this once. Nothing grows with the wave but the slots of a tracer, up to their bound. Start at `trace`; `boundary`
+//! gives the certain places that a cone reads.
 #![tactic(auto)]
 
 mod descent;
 mod heap;
+mod noted;
 mod outside;
 mod places;
 mod positions;

@@ -8,53 +8,73 @@ ghost use Rattle.xr_cone.specs.Placed.{IsPlaced};
 ghost use Rattle.xr_cone.specs.Traced.{supports_in};
 
 use crate::traced::TracedBody;
+use crate::tracer::slot_of;
 use std::alloc::Global;
-use xr_base::{Items, Memory};
-use xr_cone_nodes::NodeBody;
+use xr_base::Memory;
+use xr_cone_nodes::{NodeBody, Positions};
 
-/// What a place rests on, where that is among some places.
-pub fn place_body(alloc: Global, places: &[usize], body: TracedBody) -> Result<NodeBody, Memory>
+/// What a place rests on, where that is among some places. Each is looked for first where it is hinted that it stands.
+pub fn place_body(
+    alloc: Global,
+    hints: &[u32],
+    places: &[usize],
+    body: &TracedBody,
+) -> Result<NodeBody, Memory>
     requires rising { IsStrictlyIncreasing places.now }
     requires few { length places.now < 2 ^ 27 }
-    requires all { AllByRecursion (λ k. among places.now k ≡ true) (supports_in body) }
-    ensures { IfOk result (IsPlaced places.now body) }
+    requires all { AllByRecursion (λ k. among places.now k ≡ true) (supports_in body.now) }
+    ensures { IfOk result (IsPlaced places.now body.now) }
 {
     match body {
         TracedBody::Carried(from, inverted) => Ok(NodeBody::Carried {
-            node: position_of(places, from),
-            inverted,
+            node: position_of(hints, places, *from),
+            inverted: *inverted,
         }),
         TracedBody::Rule(arguments, values) => Ok(NodeBody::Rule {
-            arguments: Items::from_vec(positions_of(alloc, places, arguments.as_slice())?),
-            values,
+            arguments: positions_of(hints, places, arguments.as_slice()),
+            values: values.copied(alloc)?,
         }),
     }
 }
 
-fn positions_of(alloc: Global, places: &[usize], arguments: &[usize]) -> Result<Vec<u32>, Memory>
+fn positions_of(hints: &[u32], places: &[usize], arguments: &[usize]) -> Positions
     requires rising { IsStrictlyIncreasing places.now }
     requires few { length places.now < 2 ^ 27 }
+    requires few_arguments { length arguments.now ≤ 13 }
     requires all { AllByRecursion (λ k. among places.now k ≡ true) arguments.now }
-    ensures within { IfOk result (λ ps. AllByRecursion (λ p. p < length places.now) ps.items) }
-    ensures places { IfOk result (λ ps. map (slice_index places.now) ps.items ≡ arguments.now) }
+    ensures within { AllByRecursion (λ p. p < length places.now) result }
+    ensures places { map (slice_index places.now) result ≡ arguments.now }
 {
-    let mut positions = Vec::with_capacity(alloc, arguments.len())?;
+    let mut positions = Positions::new();
     'arguments: for argument in arguments {
-        positions.push(position_of(places, *argument))?;
+        positions.push(position_of(hints, places, *argument));
     }
-    Ok(positions)
+    positions
 }
 
 /// Where a place stands in a list that ascends.
-fn position_of(places: &[usize], place: usize) -> u32
+fn position_of(hints: &[u32], places: &[usize], place: usize) -> u32
     requires rising { IsStrictlyIncreasing places.now }
     requires few { length places.now < 2 ^ 27 }
     requires inside { among places.now place ≡ true }
     ensures within { result < length places.now }
     ensures place { slice_index places.now result ≡ place }
 {
+    let hint = hint_of(hints, place);
+    if hint < places.len() && places[hint] == place {
+        return hint as u32;
+    }
     match places.binary_search(&place) {
         Ok(position) => position as u32,
         Err(_) => unreachable!(),
+    }
+}
+
+fn hint_of(hints: &[u32], place: usize) -> usize {
+    let slot = slot_of(place);
+    if slot < hints.len() {
+        hints[slot] as usize
+    } else {
+        0
     }
 }

@@ -4,30 +4,35 @@ ghost use Rattle.std.specs.Prelude.{◌≡◌, [], OnOk};
 ghost use Rattle.xr_cone.specs.Reached.{Adds, Takes};
 
 use crate::heap::{pop_below, put};
+use crate::noted::{forget, is_noted, none, note};
 use std::alloc::Global;
 use std::collections::BinaryHeap;
 use std::marker::Model;
 use xr_base::Memory;
 
-/// Some places by number: the greatest, and the others in a heap. Contracts see the list of them, some maybe more than
-/// once.
+/// Some places by number: the greatest, and the others in a heap. Most of them are noted, so that they don't come in
+/// again. Contracts see the list of them, some maybe more than once.
 #[derive(Drop)]
 pub struct Reached {
     greatest: Option<usize>,
     others: BinaryHeap<usize>,
+    noted: [usize; 64],
 }
 
 impl Model for Reached {
     ghost use Rattle.std.specs.Prelude.{List, ℕ};
     ghost use Rattle.std.specs.BinaryHeap.{IsHeap, heap_items};
     ghost use Rattle.std.specs.Ordering.{nat_cmp};
+    ghost use Rattle.xr_cone.specs.Noted.{AreNoted};
     ghost use Rattle.xr_cone.specs.Reached.{AreBelow, listed};
 
     ghost Value = { List ℕ };
 
     ghost view = { λ r. listed r.greatest (heap_items r.others) };
 
-    ghost invariant = { λ r. IsHeap nat_cmp (heap_items r.others) × AreBelow r.greatest (heap_items r.others) };
+    ghost invariant = { λ r.
+        IsHeap nat_cmp (heap_items r.others) × AreBelow r.greatest (heap_items r.others)
+        × AreNoted r.noted (listed r.greatest (heap_items r.others)) };
 }
 
 impl Reached {
@@ -38,6 +43,7 @@ impl Reached {
         Reached {
             greatest: None,
             others: BinaryHeap::new(alloc),
+            noted: none(),
         }
     }
 
@@ -48,11 +54,16 @@ impl Reached {
         match self.greatest {
             None => {
                 self.greatest = Some(place);
+                note(&mut self.noted, place);
                 Ok(())
             }
             Some(greatest) => {
+                if is_noted(&self.noted, place) {
+                    return Ok(());
+                }
                 let now = put(&mut self.others, greatest, place)?;
                 self.greatest = Some(now);
+                note(&mut self.noted, place);
                 Ok(())
             }
         }
@@ -66,6 +77,7 @@ impl Reached {
             None => None,
             Some(greatest) => {
                 self.greatest = pop_below(&mut self.others, greatest);
+                forget(&mut self.noted, greatest);
                 Some(greatest)
             }
         }

@@ -7,9 +7,10 @@ ghost use Rattle.xr_cone.specs.InWave.{IsBodyIn, IsInReach};
 
 use crate::table::{essential_places, kept_table};
 use std::alloc::Global;
-use xr_base::{Items, Memory};
+use xr_base::Memory;
 use xr_cell::Value;
 use xr_class::{ArgumentsByNumber, uncertain_places};
+use xr_cone_nodes::Values;
 use xr_model::ClassByNumber;
 use xr_wave::Wave;
 
@@ -19,7 +20,7 @@ pub enum TracedBody {
     /// The place that it is carried from, or its complement where the second is true.
     Carried(usize, bool),
     /// Its essential arguments in place order, and its table over them.
-    Rule(ArgumentsByNumber, Items<Value>),
+    Rule(ArgumentsByNumber, Values),
 }
 
 /// A place of a cone by number, and what it rests on.
@@ -61,5 +62,5 @@ fn trace_rule(
     let places = uncertain.as_slice();
     let essential = essential_places(wave, place, places, room)?;
     let values = kept_table(alloc, places, essential.as_slice(), room.as_slice())?;
-    Ok(TracedBody::Rule(essential, Items::from_vec(values)))
+    Ok(TracedBody::Rule(essential, Values::from_vec(values)))
 }

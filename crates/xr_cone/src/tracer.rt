@@ -1,26 +1,36 @@
 //! What the places of cones rest on, kept between traces of a wave that grows.
 
-ghost use Rattle.std.specs.Prelude.{◌≡◌, ◌≤◌, Some, IfOk, OnOk, length};
-ghost use Rattle.xr_cone.specs.InWave.{IsBodyIn, IsInReach};
-ghost use Rattle.xr_cone.specs.Known.{IsNoMore, IsRightOf, Keeps, KnowsNothing, known_of};
+ghost use Rattle.std.specs.Prelude.{◌≡◌, ◌<◌, ◌^◌, true, length, slice_index_or, option_copied, IfOk, IfSome, IsSome, OnOk};
+ghost use Rattle.std.specs.List.{AllByRecursion};
+ghost use Rattle.std.specs.List.Sorted.{IsStrictlyIncreasing};
+ghost use Rattle.xr_model.specs.Places.{among};
+ghost use Rattle.xr_cone.specs.InWave.{IsInReach};
+ghost use Rattle.xr_cone.specs.Known.{IsRightOf, IsSameKnown, Keeps, KnowsNothing, known_of, slot_of, told_of};
+ghost use Rattle.xr_cone.specs.Placed.{IsPlaced};
+ghost use Rattle.xr_cone.specs.Reached.{AddsAll};
+ghost use Rattle.xr_cone.specs.Traced.{supports_in};
 
-use crate::traced::{TracedBody, trace_place};
+use crate::descent::insert_supports;
+use crate::positions::place_body;
+use crate::reached::Reached;
+use crate::traced::{Traced, TracedBody, trace_place};
 use std::alloc::Global;
-use std::collections::HashMap;
 use std::marker::Model;
-use xr_base::{Items, Memory};
+use xr_base::Memory;
 use xr_cell::Value;
-use xr_class::ArgumentsByNumber;
+use xr_cone_nodes::NodeBody;
 use xr_wave::Wave;
 
-/// How many places are kept at most: then all are let go.
-const MOST: usize = 262_144;
+/// How many slots there are at most.
+const SLOTS: usize = 262_144;
 
-/// What places rest on, as earlier traces found it: it stays so while the wave grows. Contracts see the
-/// places with it. Takes some 200 bytes for each of at most 262,144 places, and their tables.
+/// What places rest on, as earlier traces found it: it stays so while the wave grows. Each place has a slot by its
+/// number, in which the one that came last is kept. Contracts see the slots. Takes some 200 bytes for each of at most
+/// 262,144 slots, and the tables of more than 16 values.
 #[derive(Drop)]
 pub struct Tracer {
-    known: HashMap<usize, TracedBody>,
+    slots: Vec<Option<Traced>>,
+    hints: Vec<u32>,
     room: Vec<Value>,
 }
 
@@ -29,7 +39,7 @@ impl Model for Tracer {
 
     ghost Value = { TracerView };
 
-    ghost view = { λ tracer. record { entries = tracer.known.entries } };
+    ghost view = { λ tracer. record { slots = tracer.slots.items } };
 }
 
 impl Tracer {
@@ -38,80 +48,143 @@ impl Tracer {
         ensures { KnowsNothing result }
     {
         Tracer {
-            known: HashMap::new(alloc),
+            slots: Vec::new(alloc),
+            hints: Vec::new(alloc),
             room: Vec::new(alloc),
         }
     }
 
-    /// What a place rests on: as it is known, or found and kept.
-    pub(crate) fn body_of(
+    /// Finds and keeps what a place rests on, where it isn't known.
+    pub(crate) fn find(
         &mut self,
         alloc: Global,
         wave: &Wave<'_>,
         place: usize,
-    ) -> Result<TracedBody, Memory>
+    ) -> Result<(), Memory>
         requires right { IsRightOf wave.now self.old }
         requires reach { IsInReach wave.now place }
-        ensures body { IfOk result (IsBodyIn wave.now place) }
-        ensures kept { IfOk result (λ body. known_of self.new place ≡ Some body) }
+        ensures known { OnOk result (IsSome (known_of self.new place)) }
         ensures right { OnOk result (IsRightOf wave.now self.new) }
     {
-        match self.known.get(&place) {
-            Some(body) => copy_of(alloc, body),
-            None => self.find(alloc, wave, place),
+        match self.known(place) {
+            Some(_) => Ok(()),
+            None => {
+                let body = trace_place(alloc, wave, place, &mut self.room)?;
+                self.keep(place, body)?;
+                Ok(())
+            }
         }
     }
 
-    fn find(&mut self, alloc: Global, wave: &Wave<'_>, place: usize) -> Result<TracedBody, Memory>
-        requires right { IsRightOf wave.now self.old }
-        requires reach { IsInReach wave.now place }
-        ensures body { IfOk result (IsBodyIn wave.now place) }
-        ensures kept { IfOk result (λ body. known_of self.new place ≡ Some body) }
-        ensures right { OnOk result (IsRightOf wave.now self.new) }
+    /// What is known of a place, if anything is.
+    fn known(&self, place: usize) -> Option<&TracedBody>
+        ensures { option_copied result ≡ known_of self.now place }
     {
-        let body = trace_place(alloc, wave, place, &mut self.room)?;
-        let copy = copy_of(alloc, &body)?;
-        self.keep(place, copy)?;
-        Ok(body)
+        match slot_at(self.slots.as_slice(), slot_of(place)) {
+            Some(traced) => told_of(traced, place),
+            None => None,
+        }
     }
 
+    /// Keeps what a place rests on, in place of what stood in its slot.
     fn keep(&mut self, place: usize, body: TracedBody) -> Result<(), Memory>
         ensures { OnOk result (Keeps self.old place body self.new) }
     {
-        self.make_room();
-        self.known.insert(place, body)?;
+        let slot = slot_of(place);
+        make_slots(&mut self.slots, slot)?;
+        make_hints(&mut self.hints, slot)?;
+        self.slots[slot] = Some(Traced { place, body });
         Ok(())
     }
 
-    fn make_room(&mut self)
-        ensures { IsNoMore self.old self.new }
+    /// The places that a place rests on come in.
+    pub(crate) fn insert_supports(&self, reached: &mut Reached, place: usize) -> Result<(), Memory>
+        requires { IsSome (known_of self.now place) }
+        ensures { OnOk result
+            (IfSome (known_of self.now place) (λ body. AddsAll reached.old (supports_in body) reached.new)) }
     {
-        if self.known.len() >= MOST {
-            self.known.clear();
+        match self.known(place) {
+            Some(body) => insert_supports(reached, body),
+            None => unreachable!(),
+        }
+    }
+
+    /// What a place rests on, where that is among some places.
+    pub(crate) fn place_body(
+        &self,
+        alloc: Global,
+        places: &[usize],
+        place: usize,
+    ) -> Result<NodeBody, Memory>
+        requires known { IsSome (known_of self.now place) }
+        requires rising { IsStrictlyIncreasing places.now }
+        requires few { length places.now < 2 ^ 27 }
+        requires all { IfSome (known_of self.now place)
+            (λ body. AllByRecursion (λ k. among places.now k ≡ true) (supports_in body)) }
+        ensures { IfOk result (λ made. IfSome (known_of self.now place) (λ body. IsPlaced places.now body made)) }
+    {
+        match self.known(place) {
+            Some(body) => place_body(alloc, self.hints.as_slice(), places, body),
+            None => unreachable!(),
+        }
+    }
+
+    /// A place stands at a position among those of the cone: it is looked for there first.
+    pub(crate) fn hint(&mut self, place: usize, position: usize)
+        ensures { self.new ≡ self.old }
+    {
+        let slot = slot_of(place);
+        if slot < self.hints.len() && position < SLOTS {
+            self.hints[slot] = position as u32;
         }
     }
 }
 
-fn copy_of(alloc: Global, body: &TracedBody) -> Result<TracedBody, Memory>
-    ensures { IfOk result (λ copy. copy ≡ body.now) }
+/// The slot of a place.
+pub fn slot_of(place: usize) -> usize
+    ensures { result ≡ slot_of place }
 {
-    match body {
-        TracedBody::Carried(from, inverted) => Ok(TracedBody::Carried(*from, *inverted)),
-        TracedBody::Rule(arguments, values) => {
-            let places = copy_of_places(arguments.as_slice());
-            let values = values.as_slice().to_vec(alloc)?;
-            Ok(TracedBody::Rule(places, Items::from_vec(values)))
-        }
+    place % SLOTS
+}
+
+/// What stands in a slot, if there is such a slot and something stands there.
+fn slot_at(slots: &[Option<Traced>], slot: usize) -> Option<&Traced>
+    ensures { option_copied result ≡ slice_index_or slots.now slot None }
+{
+    if slot >= slots.len() {
+        return None;
+    }
+    match &slots[slot] {
+        Some(traced) => Some(traced),
+        None => None,
     }
 }
 
-fn copy_of_places(places: &[usize]) -> ArgumentsByNumber
-    requires { length places.now ≤ 13 }
-    ensures { result ≡ places.now }
+/// What a slot tells of a place, from what stands there.
+fn told_of(traced: &Traced, place: usize) -> Option<&TracedBody>
+    ensures { option_copied result ≡ told_of place (Some traced.now) }
 {
-    let mut copy = ArgumentsByNumber::new();
-    'places: for place in places {
-        copy.push(*place);
+    if traced.place == place {
+        Some(&traced.body)
+    } else {
+        None
     }
-    copy
+}
+
+/// Makes the slots up to one.
+fn make_slots(slots: &mut Vec<Option<Traced>>, slot: usize) -> Result<(), Memory>
+    ensures has { OnOk result (slot < length slots.new.items) }
+    ensures same { OnOk result (IsSameKnown slots.old.items slots.new.items) }
+{
+    'slots: while slots.len() <= slot {
+        slots.push(None)?;
+    }
+    Ok(())
+}
+
+fn make_hints(hints: &mut Vec<u32>, slot: usize) -> Result<(), Memory> {
+    'slots: while hints.len() <= slot {
+        hints.push(0)?;
+    }
+    Ok(())
 }

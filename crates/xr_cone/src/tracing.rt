@@ -11,8 +11,6 @@ ghost use Rattle.xr_cone.specs.Known.{IsRightOf};
 
 use crate::descent::trace_places;
 use crate::places::{number_of, place_of};
-use crate::positions::place_body;
-use crate::traced::Traced;
 use crate::tracer::Tracer;
 use std::alloc::Global;
 use xr_base::Memory;
@@ -20,7 +18,8 @@ use xr_cone_nodes::{Cone, Node};
 use xr_design::Place;
 use xr_wave::Wave;
 
-/// The cone of the next place, a Line place. Takes time and memory for the places of the cone alone.
+/// The cone of the next place, a Line place. Takes time and memory for the places of the cone, and for the slots of a
+/// tracer.
 pub fn trace(alloc: Global, wave: &Wave<'_>) -> Result<Cone, Memory>
     requires { IsLineNext wave.now }
     ensures { IfOk result (λ cone. IsConeOf wave.now (next_number wave.now) cone.nodes) }
@@ -69,12 +68,14 @@ fn trace_root(
     let mut rest = trace_places(alloc, wave, tracer, root)?;
     let mut places = Vec::with_capacity(alloc, rest.len())?;
     let mut nodes = Vec::with_capacity(alloc, rest.len())?;
-    'rest: while let Some(Traced { place, body }) = rest.pop() {
-        let body = place_body(alloc, places.as_slice(), body)?;
+    'rest: while let Some(place) = rest.pop() {
+        tracer.find(alloc, wave, place)?;
+        let body = tracer.place_body(alloc, places.as_slice(), place)?;
         nodes.push(Node {
             place: place_of(&circuit, place),
             body,
         })?;
+        tracer.hint(place, places.len());
         places.push(place)?;
     }
     Cone::new(alloc, nodes)

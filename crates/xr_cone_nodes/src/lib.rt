@@ -9,6 +9,8 @@ mod lanes;
 mod laws;
 mod listed;
 mod node;
+mod positions;
+mod values;
 mod words;
 
 pub use cone::Cone;
@@ -17,4 +19,6 @@ pub use laws::{
     bits_make_fillings, fillings_make_bits, numbers_make_fillings, sources_are_of_the_cone,
 };
 pub use node::{Node, NodeBody};
+pub use positions::Positions;
+pub use values::Values;
 pub use words::Words;

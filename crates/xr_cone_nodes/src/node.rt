@@ -4,7 +4,8 @@ ghost use Rattle.std.specs.Prelude.{◌≡◌};
 ghost use Rattle.std.specs.List.{list_any};
 ghost use Rattle.xr_cell.specs.Value.{is_unknown};
 
-use xr_base::Items;
+use crate::positions::Positions;
+use crate::values::Values;
 use xr_cell::Value;
 use xr_design::Place;
 
@@ -19,8 +20,8 @@ pub enum NodeBody {
     /// Its rule reads the nodes at these positions, its essential arguments in place order. Value i of the table is the
     /// rule's where bit k of i is the bit of argument k.
     Rule {
-        arguments: Items<u32>,
-        values: Items<Value>,
+        arguments: Positions,
+        values: Values,
     },
 }
 

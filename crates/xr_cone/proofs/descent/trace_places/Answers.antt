@@ -1,30 +1,32 @@
 -- The greatest of the places that wait is taken, and its supports come in.
-use Rattle.std.proofs.Common.{subst, arith}
+use Rattle.std.proofs.Common.{ℕ, List, subst, sym, arith}
 use Rattle.xr_design.specs.Fits.{Fits}
 use Rattle.xr_design.specs.Waveform.{certain}
 use Rattle.xr_wave.specs.Contents.{job}
-use Rattle.xr_cone.specs.Traced.{IsTraced}
-use Rattle.xr_cone.proofs.TracedBodies.{all_push, traced_begins, traced_more, traced_within}
-use Rattle.xr_cone.proofs.TracedPlaces.{descent_ends}
+use Rattle.xr_cone.specs.Reached.{Adds, AddsAll}
+use Rattle.xr_cone.specs.Traced.{supports_in}
+use Rattle.xr_cone.proofs.KnownBodies.{known_body}
+use Rattle.xr_cone.proofs.TracedBodies.{supports_are}
+use Rattle.xr_cone.proofs.TracedPlaces.{IsDescent, descent_begins, descent_ends, descent_more, descent_within}
 use Rattle.xr_cone.proofs.descent.trace_places.Goals as goal
 
 pub places-init : goal.places-init
 places-init c =
     let j = job c.args.wave.now in
+    let known = certain c.args.wave.now.written in
     let fits : Fits j = subst Fits c.circuit-circuit.ensures.job c.circuit-circuit.ensures.fits.fits_job in
     record {
-      descent = traced_begins j fits (certain c.args.wave.now.written) c.args.root c.new-traced.result.items
-          c.new-reached.result c.insert.new.self c.requires.reach.within c.new-traced.ensures.items c.new-reached.ensures
-          c.in_ok-insert.ensures;
-      each = rw c.new-traced.ensures.items tt;
+      descent = subst (λ (ps : List ℕ). IsDescent j known c.args.root ps c.insert.new.self) (sym c.new-traced.ensures.items)
+          (descent_begins j fits known c.args.root c.insert.new.self c.requires.reach.within
+          (subst (λ (xs : List ℕ). Adds xs c.args.root c.insert.new.self) c.new-reached.ensures c.in_ok-insert.ensures));
       right = c.requires.right;
     }
 
-pub body_of-requires-clause-reach : goal.body_of-requires-clause-reach
-body_of-requires-clause-reach c =
+pub find-requires-clause-reach : goal.find-requires-clause-reach
+find-requires-clause-reach c =
     let j = job c.args.wave.now in
     let fits : Fits j = subst Fits c.circuit-circuit.ensures.job c.circuit-circuit.ensures.fits.fits_job in
-    let low = traced_within j fits (certain c.args.wave.now.written) c.args.root c.places.traced.items c.in-Some.place
+    let low = descent_within j fits (certain c.args.wave.now.written) c.args.root c.in-Some.place c.places.traced.items
     c.places.reached c.take_greatest.new.self c.requires.reach.within c.places.invariant.descent c.in-Some.ensures in
     let up = low.0 in
     let within = c.requires.reach.within in
@@ -35,7 +37,7 @@ pub places-smaller : goal.places-smaller
 places-smaller c =
     let j = job c.args.wave.now in
     let fits : Fits j = subst Fits c.circuit-circuit.ensures.job c.circuit-circuit.ensures.fits.fits_job in
-    let low = traced_within j fits (certain c.args.wave.now.written) c.args.root c.places.traced.items c.in-Some.place
+    let low = descent_within j fits (certain c.args.wave.now.written) c.args.root c.in-Some.place c.places.traced.items
     c.places.reached c.take_greatest.new.self c.requires.reach.within c.places.invariant.descent c.in-Some.ensures in
     let room = low.1 in
     let long = c.in_ok-push.ensures.len in
@@ -45,23 +47,23 @@ pub places-preserved : goal.places-preserved
 places-preserved c =
     let j = job c.args.wave.now in
     let known = certain c.args.wave.now.written in
+    let place : ℕ = c.in-Some.place in
+    let left : List ℕ = c.take_greatest.new.self in
+    let more : List ℕ = c.insert_supports.new.reached in
     let fits : Fits j = subst Fits c.circuit-circuit.ensures.job c.circuit-circuit.ensures.fits.fits_job in
+    let body = known_body c.args.wave.now c.find.new.self place (λ body. AddsAll left (supports_in body) more)
+    c.in_ok-find.ensures.right c.in_ok-find.ensures.known c.in_ok-insert_supports.ensures in
+    let adds = subst (λ (xs : List ℕ). AddsAll left xs more) (supports_are j known place body.0 body.1.0) body.1.1 in
     record {
-      descent = traced_more j fits known c.args.root c.places.traced.items c.push.new.self.items c.in-Some.place
-          c.in_ok-body.body c.places.reached c.take_greatest.new.self c.insert_supports.new.reached c.requires.reach.within
-          c.places.invariant.descent c.in-Some.ensures c.in_ok-body.ensures.body c.in_ok-insert_supports.ensures
-          c.in_ok-push.ensures.items;
-      each = rw c.in_ok-push.ensures.items (all_push (IsTraced j known) c.places.traced.items _
-          c.places.invariant.each c.in_ok-body.ensures.body);
-      right = c.in_ok-body.ensures.right;
+      descent = subst (λ (ps : List ℕ). IsDescent j known c.args.root ps more) (sym c.in_ok-push.ensures.items)
+          (descent_more j fits known c.args.root place c.places.traced.items c.places.reached left more
+          c.requires.reach.within c.places.invariant.descent c.in-Some.ensures adds);
+      right = c.in_ok-find.ensures.right;
     }
 
 pub returns-clause-traced : goal.returns-clause-traced
 returns-clause-traced c =
     let j = job c.args.wave.now in
     let fits : Fits j = subst Fits c.circuit-circuit.ensures.job c.circuit-circuit.ensures.fits.fits_job in
-    record {
-      places = descent_ends j fits (certain c.args.wave.now.written) c.args.root _ c.places.reached c.requires.reach.within
-          c.places.invariant.descent c.in_default.ensures;
-      each = c.places.invariant.each;
-    }
+    descent_ends j fits (certain c.args.wave.now.written) c.args.root _ c.places.reached c.requires.reach.within
+    c.places.invariant.descent c.in_default.ensures

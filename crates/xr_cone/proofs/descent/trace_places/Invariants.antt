@@ -1,17 +1,14 @@
 -- The places are taken downwards from the root.
 use Rattle.std.proofs.Common.{◌+◌, ◌-◌, length}
-use Rattle.std.specs.List.{AllByRecursion}
 use Rattle.xr_design.specs.Waveform.{certain}
 use Rattle.xr_wave.specs.Contents.{job}
 use Rattle.xr_cone.specs.Known.{IsRightOf}
-use Rattle.xr_cone.specs.Traced.{IsTraced, places_in}
 use Rattle.xr_cone.proofs.TracedPlaces.{IsDescent}
 use Rattle.xr_cone.proofs.descent.trace_places.Given as goal
 
 abbrev pub invariant-places : goal.invariant-places
 invariant-places l = record {
-  descent : IsDescent (job l.wave) (certain l.wave.written) l.root (places_in l.traced.items) l.reached;
-  each : AllByRecursion (IsTraced (job l.wave) (certain l.wave.written)) l.traced.items;
+  descent : IsDescent (job l.wave) (certain l.wave.written) l.root l.traced.items l.reached;
   right : IsRightOf l.wave l.tracer;
 }
 

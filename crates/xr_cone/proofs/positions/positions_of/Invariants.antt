@@ -5,6 +5,7 @@ use Rattle.xr_cone.proofs.positions.positions_of.Given as goal
 
 abbrev pub invariant-arguments : goal.invariant-arguments
 invariant-arguments l = record {
-  within : AllByRecursion (λ p. p < length l.places) l.positions.items;
-  are_places : map (slice_index l.places) l.positions.items ≡ take l.argument-index l.arguments;
+  count : length l.positions ≡ l.argument-index;
+  within : AllByRecursion (λ p. p < length l.places) l.positions;
+  are_places : map (slice_index l.places) l.positions ≡ take l.argument-index l.arguments;
 }

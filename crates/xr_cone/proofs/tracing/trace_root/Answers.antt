@@ -1,26 +1,42 @@
 -- The next place of the cone gets its node.
-use Rattle.std.proofs.Common.{◌<◌, ◌∙◌, ap, arith, subst, sym}
+use Rattle.std.proofs.Common.{◌≡◌, ◌<◌, ◌∙◌, true, ap, arith, subst, sym}
+use Rattle.std.specs.List.{AllByRecursion}
 use Rattle.xr_design.specs.Fits.{Fits, place_at}
 use Rattle.xr_design.specs.Job.{Job, places_of}
 use Rattle.xr_design.specs.Waveform.{certain}
+use Rattle.xr_model.specs.Places.{among}
 use Rattle.xr_wave.specs.Contents.{job}
 use Rattle.xr_cone_nodes.specs.Traced.{IsConeOf}
+use Rattle.xr_cone.specs.Known.{IsRightOf}
 use Rattle.xr_cone.specs.Placed.{IsPlaced}
-use Rattle.xr_cone.proofs.ConeNodes.{ends_ok, made_begins, made_ends, made_more, made_next, next_few, next_rises, next_supports, next_within, none_left}
+use Rattle.xr_cone.specs.Traced.{supports_in}
+use Rattle.xr_cone.proofs.ConeNodes.{ends_ok, made_begins, made_ends, made_more, made_next, next_few, next_reach, next_rises, next_supports, next_within, none_left}
+use Rattle.xr_cone.proofs.KnownBodies.{if_known, known_body}
 use Rattle.xr_cone.proofs.tracing.trace_root.Goals as goal
 
 pub rest-init : goal.rest-init
-rest-init c =
-    made_begins (job c.args.wave.now) (certain c.args.wave.now.written) c.args.root _ _ _ c.in_ok-rest.ensures.traced
-    c.in_ok-places.ensures.items c.in_ok-nodes.ensures.items
+rest-init c = record {
+  made = made_begins (job c.args.wave.now) (certain c.args.wave.now.written) c.args.root _ _ _
+      c.in_ok-rest.ensures.traced c.in_ok-places.ensures.items c.in_ok-nodes.ensures.items;
+  right = c.in_ok-rest.ensures.right;
+}
+
+pub find-requires-clause-reach : goal.find-requires-clause-reach
+find-requires-clause-reach c =
+    let j = job c.args.wave.now in
+    let known = certain c.args.wave.now.written in
+    let next = made_next j known c.args.root c.rest.places.items c.rest.rest.items c.pop.new.self.items c.in-Some.place
+    c.rest.nodes.items c.rest.invariant.made c.in-Some.ensures.items in
+    next_reach j known c.args.wave.now.written c.args.root c.rest.places.items c.in-Some.place c.pop.new.self.items
+    c.requires.reach next
 
 pub place_body-requires-clause-rising : goal.place_body-requires-clause-rising
 place_body-requires-clause-rising c =
     let j = job c.args.wave.now in
     let known = certain c.args.wave.now.written in
-    let next = made_next j known c.args.root c.rest.places.items c.rest.rest.items c.pop.new.self.items c.in-Some.field-0
-    c.rest.nodes.items c.rest.invariant c.in-Some.ensures.items in
-    rw c.as_slice.ensures.value (next_rises j known c.args.root c.rest.places.items c.in-Some.field-0
+    let next = made_next j known c.args.root c.rest.places.items c.rest.rest.items c.pop.new.self.items c.in-Some.place
+    c.rest.nodes.items c.rest.invariant.made c.in-Some.ensures.items in
+    rw c.as_slice.ensures.value (next_rises j known c.args.root c.rest.places.items c.in-Some.place
     c.pop.new.self.items next)
 
 pub place_body-requires-clause-few : goal.place_body-requires-clause-few
@@ -28,9 +44,9 @@ place_body-requires-clause-few c =
     let j = job c.args.wave.now in
     let known = certain c.args.wave.now.written in
     let fits : Fits j = subst Fits c.circuit-circuit.ensures.job c.circuit-circuit.ensures.fits.fits_job in
-    let next = made_next j known c.args.root c.rest.places.items c.rest.rest.items c.pop.new.self.items c.in-Some.field-0
-    c.rest.nodes.items c.rest.invariant c.in-Some.ensures.items in
-    rw c.as_slice.ensures.value (next_few j fits known c.args.root c.rest.places.items c.in-Some.field-0
+    let next = made_next j known c.args.root c.rest.places.items c.rest.rest.items c.pop.new.self.items c.in-Some.place
+    c.rest.nodes.items c.rest.invariant.made c.in-Some.ensures.items in
+    rw c.as_slice.ensures.value (next_few j fits known c.args.root c.rest.places.items c.in-Some.place
     c.pop.new.self.items c.requires.reach.within next)
 
 pub place_body-requires-clause-all : goal.place_body-requires-clause-all
@@ -38,20 +54,21 @@ place_body-requires-clause-all c =
     let j = job c.args.wave.now in
     let known = certain c.args.wave.now.written in
     let fits : Fits j = subst Fits c.circuit-circuit.ensures.job c.circuit-circuit.ensures.fits.fits_job in
-    let next = made_next j known c.args.root c.rest.places.items c.rest.rest.items c.pop.new.self.items c.in-Some.field-0
-    c.rest.nodes.items c.rest.invariant c.in-Some.ensures.items in
-    rw c.as_slice.ensures.value (next_supports j fits known c.args.root c.rest.places.items
-    c.in-Some.field-0 c.pop.new.self.items c.requires.reach.within next)
+    let next = made_next j known c.args.root c.rest.places.items c.rest.rest.items c.pop.new.self.items c.in-Some.place
+    c.rest.nodes.items c.rest.invariant.made c.in-Some.ensures.items in
+    rw c.as_slice.ensures.value (if_known c.args.wave.now c.find.new.self c.in-Some.place
+    (λ body. AllByRecursion (λ k. among c.rest.places.items k ≡ true) (supports_in body)) c.in_ok-find.ensures.right
+    (λ body is. next_supports j fits known c.args.root c.rest.places.items c.in-Some.place c.pop.new.self.items body
+    c.requires.reach.within next is))
 
 pub place_of-requires-clause-within : goal.place_of-requires-clause-within
 place_of-requires-clause-within c =
     let j = job c.args.wave.now in
     let known = certain c.args.wave.now.written in
-    let fits : Fits j = subst Fits c.circuit-circuit.ensures.job c.circuit-circuit.ensures.fits.fits_job in
-    let next = made_next j known c.args.root c.rest.places.items c.rest.rest.items c.pop.new.self.items c.in-Some.field-0
-    c.rest.nodes.items c.rest.invariant c.in-Some.ensures.items in
-    subst (λ (k : Job). c.in-Some.field-0.place < places_of k) (sym c.circuit-circuit.ensures.job) (next_within j fits known c.args.root c.rest.places.items
-    c.in-Some.field-0 c.pop.new.self.items c.requires.reach.within next)
+    let next = made_next j known c.args.root c.rest.places.items c.rest.rest.items c.pop.new.self.items c.in-Some.place
+    c.rest.nodes.items c.rest.invariant.made c.in-Some.ensures.items in
+    subst (λ (k : Job). c.in-Some.place < places_of k) (sym c.circuit-circuit.ensures.job)
+    (next_within j known c.args.root c.rest.places.items c.in-Some.place c.pop.new.self.items c.requires.reach.within next)
 
 pub rest-preserved : goal.rest-preserved
 rest-preserved c =
@@ -59,21 +76,24 @@ rest-preserved c =
     let known = certain c.args.wave.now.written in
     let places = c.rest.places.items in
     let fits : Fits j = subst Fits c.circuit-circuit.ensures.job c.circuit-circuit.ensures.fits.fits_job in
-    let next = made_next j known c.args.root places c.rest.rest.items c.pop.new.self.items c.in-Some.field-0
-    c.rest.nodes.items c.rest.invariant c.in-Some.ensures.items in
-    let placed : IsPlaced places c.in-Some.field-0.body c.in_ok-body.body =
-    rw c.as_slice.ensures.value at c.in_ok-body.ensures in
-    made_more j fits known c.args.root places c.push-in-Some.new.self.items c.rest.rest.items c.pop.new.self.items
-    c.in-Some.field-0 c.rest.nodes.items c.push.new.self.items c.place_of.result c.in_ok-body.body
-    c.requires.reach.within c.rest.invariant next placed
-    (c.place_of.ensures ∙ ap (λ (k : Job). place_at k c.in-Some.field-0.place) c.circuit-circuit.ensures.job)
-    c.in_ok-push.ensures.items c.in_ok-push-2.ensures.items
+    let next = made_next j known c.args.root places c.rest.rest.items c.pop.new.self.items c.in-Some.place
+    c.rest.nodes.items c.rest.invariant.made c.in-Some.ensures.items in
+    let body = known_body c.args.wave.now c.find.new.self c.in-Some.place (λ body. IsPlaced places body c.in_ok-body.body)
+    c.in_ok-find.ensures.right c.in_ok-find.ensures.known (rw c.as_slice.ensures.value at c.in_ok-body.ensures) in
+    record {
+      made = made_more j fits known c.args.root places c.push-in-Some.new.self.items c.rest.rest.items
+          c.pop.new.self.items c.in-Some.place c.rest.nodes.items c.push.new.self.items c.place_of.result body.0
+          c.in_ok-body.body c.requires.reach.within c.rest.invariant.made next body.1.0 body.1.1
+          (c.place_of.ensures ∙ ap (λ (k : Job). place_at k c.in-Some.place) c.circuit-circuit.ensures.job)
+          c.in_ok-push.ensures.items c.in_ok-push-2.ensures.items;
+      right = subst (IsRightOf c.args.wave.now) (sym c.hint.ensures) c.in_ok-find.ensures.right;
+    }
 
 pub new-requires : goal.new-requires
 new-requires c =
     let is : IsConeOf c.args.wave.now c.args.root c.rest.nodes.items =
     made_ends c.args.wave.now c.args.root c.rest.places.items c.rest.rest.items c.rest.nodes.items
-    c.count.ensures.wave c.requires.reach c.requires.line c.rest.invariant
+    c.count.ensures.wave c.requires.reach c.requires.line c.rest.invariant.made
     (none_left c.rest.rest.items (let none = c.in_default.ensures.cases.0 in let long = c.rest.rest.ok in
     omega (arith, none, long))) in
     is.are_nodes
@@ -82,6 +102,6 @@ pub returns-clause-cone : goal.returns-clause-cone
 returns-clause-cone c =
     ends_ok (λ cone. cone.nodes) c.args.wave.now c.args.root c.new.result c.rest.nodes.items c.new.ensures
     (made_ends c.args.wave.now c.args.root c.rest.places.items c.rest.rest.items c.rest.nodes.items
-    c.count.ensures.wave c.requires.reach c.requires.line c.rest.invariant
+    c.count.ensures.wave c.requires.reach c.requires.line c.rest.invariant.made
     (none_left c.rest.rest.items (let none = c.in_default.ensures.cases.0 in let long = c.rest.rest.ok in
     omega (arith, none, long))))

@@ -2,12 +2,15 @@
 use Rattle.std.proofs.Common.{vec_len}
 use Rattle.xr_design.specs.Waveform.{certain}
 use Rattle.xr_wave.specs.Contents.{job}
+use Rattle.xr_cone.specs.Known.{IsRightOf}
 use Rattle.xr_cone.proofs.ConeNodes.{IsMade}
 use Rattle.xr_cone.proofs.tracing.trace_root.Given as goal
 
 abbrev pub invariant-rest : goal.invariant-rest
-invariant-rest l =
-    IsMade (job l.wave) (certain l.wave.written) l.root l.places.items l.rest.items l.nodes.items
+invariant-rest l = record {
+  made : IsMade (job l.wave) (certain l.wave.written) l.root l.places.items l.rest.items l.nodes.items;
+  right : IsRightOf l.wave l.tracer;
+}
 
 abbrev pub decreases-rest : goal.decreases-rest
 decreases-rest l = vec_len l.rest
