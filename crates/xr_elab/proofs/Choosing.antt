@@ -4,10 +4,23 @@ use Rattle.std.proofs.lemmas.Bool.{and_parts, ltb-true, leb-true}
 use Rattle.xr_netlist_grammar.specs.declared.tree.Item.{Item}
 use Rattle.xr_netlist_grammar.specs.declared.tree.Module.{Module}
 use Rattle.xr_netlist_grammar.specs.declared.tree.Source.{Source}
-use Rattle.xr_elab.specs.Quiet.{IsTable}
+use Rattle.xr_elab.specs.Quiet.{IsTable, are_from}
 use Rattle.xr_elab_names.specs.Outline.{items_in}
 use Rattle.xr_elab_tree.specs.Library.{no_module}
-use Rattle.xr_elab.specs.Busy.{are_apart, all_idle_from, idle_level, busy_of, Busy, busy_in, busy_of_module, no_busy, is_idle, allows, Allows, Suffice, busy}
+use Rattle.xr_elab.specs.Busy.{are_apart, all_idle_from, idle_level, busy_of, busy_of_module, no_busy, is_idle, allows, IsToDo}
+
+-- Depth and path allow that instances below this level are idle.
+pub record Allows (source : Source) (path : List ℕ) (room : ℕ) (levels : List ℕ) (level : ℕ) : Type 0 where
+  pub table : IsTable source levels
+  pub few : level ≤ 32
+  pub fits : level ≤ room
+  pub path_ : are_from levels level path ≡ true
+
+-- These are all of the items, or those of them that aren't idle.
+pub data Suffice (source : Source) (path : List ℕ) (room : ℕ) (items : List Item) : List Item → Type 0 where
+  all : Suffice source path room items items
+  busy : (levels : List ℕ) (level : ℕ) → Allows source path room levels level → are_apart source [] items ≡ true
+      → Suffice source path room items (busy_of source levels level items)
 
 allowed : (source : Source) (path : List ℕ) (room : ℕ) (levels : List ℕ) (level : ℕ) → IsTable source levels → allows levels path room level ≡ true → Allows source path room levels level
 allowed source path room levels level table allowed_now =
@@ -20,17 +33,23 @@ apart_by : (source : Source) (levels : List ℕ) (items : List Item) (b : Bool) 
 apart_by source levels items true is some = is
 apart_by source levels items false is some = absurd (omega arith)
 
-pub busy_suffice : (source : Source) (path : List ℕ) (room : ℕ) (levels : List ℕ) (items : List Item) (b : Busy) → IsTable source levels → b ≡ busy_in source levels items → allows levels path room b.level ≡ true
-    → Suffice source path room items b.items
-busy_suffice source path room levels items b table is allowed_now = subst (λ (c : Busy). Suffice source path room items c.items) (sym is) (suffice (subst (λ (c : Busy). allows levels path room c.level ≡ true) is allowed_now))
+busy_suffice : (source : Source) (path : List ℕ) (room : ℕ) (levels : List ℕ) (items : List Item) → IsTable source levels → allows levels path room (idle_level source levels items) ≡ true
+    → Suffice source path room items (busy_of source levels (idle_level source levels items) items)
+busy_suffice source path room levels items table h =
+    let parts = and_parts _ _ h in
+    let first = and_parts _ _ parts.0 in
+    let few = and_parts _ _ first.0 in
+    busy levels (idle_level source levels items) (allowed source path room levels (idle_level source levels items) table h)
+    (apart_by source levels items (are_apart source [] items) refl (ltb-true 0 (idle_level source levels items) few.0))
+
+-- What is gone through suffices.
+pub to_do_suffice : (source : Source) (path : List ℕ) (room : ℕ) (items todo : List Item) → IsToDo source path room items todo → Suffice source path room items todo
+to_do_suffice source path room items todo d = subst (λ (is : List Item). Suffice source path room items is) (sym d.is) (by (allows d.levels path room (idle_level source d.levels items)) refl)
   where
-    suffice : allows levels path room (idle_level source levels items) ≡ true → Suffice source path room items (busy_of source levels (idle_level source levels items) items)
-    suffice h =
-        let parts = and_parts _ _ h in
-        let first = and_parts _ _ parts.0 in
-        let few = and_parts _ _ first.0 in
-        busy levels (idle_level source levels items) (allowed source path room levels (idle_level source levels items) table h)
-        (apart_by source levels items (are_apart source [] items) refl (ltb-true 0 (idle_level source levels items) few.0))
+    by : (b : Bool) → allows d.levels path room (idle_level source d.levels items) ≡ b
+        → Suffice source path room items (if b then busy_of source d.levels (idle_level source d.levels items) items else items)
+    by true h = busy_suffice source path room d.levels items d.right.table h
+    by false h = all
 
 -- What is worked out for the module at a position stands there.
 pub busy_there : (source : Source) (levels : List ℕ) (modules : List Module) (k : ℕ) → k < length modules

@@ -18,7 +18,8 @@ use Rattle.xr_elab_prims.specs.Definitions.{definition_of}
 use Rattle.xr_elab_tree.specs.Library.{Library}
 use Rattle.xr_elab_tree.specs.Elaborate.{body, item_with, items_with, instance_item}
 use Rattle.xr_elab.specs.Quiet.{is_below, is_new, with_named, passed, connects_nothing}
-use Rattle.xr_elab.specs.Busy.{state_of, is_idle_instance, busy_of, counted_name, name_of, is_apart, are_apart, Allows, Suffice, all, busy}
+use Rattle.xr_elab.specs.Busy.{state_of, is_idle_instance, busy_of, counted_name, name_of, is_apart, are_apart}
+use Rattle.xr_elab.proofs.Choosing.{Allows, Suffice, all, busy}
 use Rattle.xr_elab.proofs.Bodies.{body_left}
 use Rattle.xr_elab.proofs.Framing.{here_with, through, item_frames, item_names}
 use Rattle.xr_elab.proofs.Passing.{passes}
@@ -49,11 +50,11 @@ apart_among names more (Some w) among apart = (let none = not-true _ apart in rw
 
 -- ---- idle items
 
-quiet_by : (names : List (List ℕ)) (below nothing : Bool) (o : Option Word) → ((below && is_some o) && nothing) ≡ true → is_apart names o ≡ true → ((below && is_new names o) && nothing) ≡ true
+quiet_by : (names : List (List ℕ)) (below nothing : Bool) (o : Option Word) → ((below && is_some o) && nothing) ≡ true → is_apart names o ≡ true → ((below && nothing) && is_new names o) ≡ true
 quiet_by names below nothing (Some w) idle apart =
     let parts = and_parts (below && true) nothing idle in
     let first = and_parts below true parts.0 in
-    rw (first.0, apart, parts.1) refl
+    rw (first.0, parts.1, apart) refl
 quiet_by names below nothing None idle apart =
     let parts = and_parts (below && false) nothing idle in
     let first = and_parts below false parts.0 in

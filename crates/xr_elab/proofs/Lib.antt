@@ -1,5 +1,6 @@
 -- Proofs of xr_elab.
 mod Raising
+mod Uniting
 mod Regs
 mod Bodies
 mod Found

@@ -28,8 +28,8 @@ use Rattle.xr_elab_tree.specs.Elaborate.{is_on, items_with, body, instance_item}
 use Rattle.xr_elab.proofs.Bodies.{body_more}
 use Rattle.xr_elab.proofs.Found.{module_within}
 use Rattle.xr_elab.proofs.Regs.{AreRegs, none, StandsStill, quiet_is_reg, declares_reg, no_value_item}
-use Rattle.xr_elab.specs.Held.{PassesOver}
-use Rattle.xr_elab.specs.Quiet.{level_at, connects_nothing, is_below, is_new, with_named, is_quiet_instance, are_quiet, IsQuiet, IsTable, are_from, passed, Passes}
+use Rattle.xr_elab.specs.Held.{IsPassing}
+use Rattle.xr_elab.specs.Quiet.{level_at, connects_nothing, is_below, is_new, with_named, is_quiet_instance, are_quiet, IsQuiet, IsTable, are_from, passed, is_passed_over}
 
 -- ---- the path
 
@@ -171,30 +171,35 @@ module _ (l : Library) (levels : List ℕ) (table : IsTable l.source levels) whe
   pub passes : (room : ℕ) (path : List ℕ) (level : ℕ) (i : InstanceItem) (here : Here) → level ≤ room + 1 → level ≤ 33 → are_from levels level path ≡ true → length here.state.names ≤ 2 ^ 20
       → is_quiet_instance l.source levels level here.scope.instances i ≡ true → instance_item l path room i here ≡ Ok (passed i here)
   passes zero path level i here fits few from small quiet =
-      let nothing = and_parts _ _ quiet in
-      let parts = and_parts _ _ nothing.0 in
+      let new = and_parts _ _ quiet in
+      let parts = and_parts _ _ new.0 in
       let below = below_found level i (definition_of l.source i.definition.text) refl few parts.0 in
       absurd (omega (arith, below.2, below.3.some))
   passes (suc room) path level i here fits few from small quiet =
-      let nothing = and_parts _ _ quiet in
-      let parts = and_parts _ _ nothing.0 in
+      let new = and_parts _ _ quiet in
+      let parts = and_parts _ _ new.0 in
       let below = below_found level i (definition_of l.source i.definition.text) refl few parts.0 in
-      passes_by room path level i here fits few from small below.0 below.1 below.2 below.3 parts.1 nothing.1
+      passes_by room path level i here fits few from small below.0 below.1 below.2 below.3 new.1 parts.1
       (λ path' level' fits' few' from'. λ j there small' q. passes room path' level' j there fits' few' from' small' q)
 
   -- An instance that passes takes its name, and nothing else.
-  passes_over : (path : List ℕ) (room : ℕ) (i : InstanceItem) (here : Here) (k : ℕ) → length here.state.names ≤ 2 ^ 20 → definition_of l.source i.definition.text ≡ Some (definition.Module k) → Passes levels path room k i
+  passes_over : (path : List ℕ) (room : ℕ) (i : InstanceItem) (here : Here) (k : ℕ) → length here.state.names ≤ 2 ^ 20 → definition_of l.source i.definition.text ≡ Some (definition.Module k) → is_passed_over levels path room k i ≡ true
       → (w : Word) → i.name ≡ Some w → (s : Scope) → named_instance w here.scope ≡ Ok s → instance_item l path room i here ≡ Ok (here_of s here.state)
   passes_over path room i here k small found p w name s named =
       let new = named_is_new w here.scope s named in
+      let nothing = and_parts _ _ p in
+      let above = and_parts _ _ nothing.0 in
+      let fits = and_parts _ _ above.0 in
+      let few : level_at levels k ≤ 32 = leb-true _ _ fits.0 in
+      let has_room : level_at levels k ≤ room = leb-true _ _ fits.1 in
       let below : is_below levels (level_at levels k + 1) (Some (definition.Module k)) ≡ true = lt-ltb _ _ (omega arith) in
-      passes room path (level_at levels k + 1) i here (omega (arith, p.fits)) (omega (arith, p.few)) p.above small (rw (found, below, name, new.0, p.nothing) refl) ∙ by_name i.name name new.1
+      passes room path (level_at levels k + 1) i here (omega (arith, has_room)) (omega (arith, few)) above.1 small (rw (found, below, name, new.0, nothing.1) refl) ∙ by_name i.name name new.1
     where
       by_name : (o : Option Word) → o ≡ Some w → s ≡ record here.scope { instances = here.scope.instances ++ w.text ∷ [] }
           → ◌≡◌ {A = Outcome Here} (Ok (here_of (record here.scope { instances = with_named here.scope.instances o }) here.state)) (Ok (here_of s here.state))
       by_name o is same = rw (is, same) refl
 
--- The same where some table of levels says so.
+-- The same by the levels of the text.
 pub passes_named : (l : Library) (path : List ℕ) (room : ℕ) (i : InstanceItem) (here : Here) (k : ℕ) → length here.state.names ≤ 2 ^ 20 → definition_of l.source i.definition.text ≡ Some (definition.Module k)
-    → PassesOver l.source path room k i → (e : ElabErr) (w : Word) → or_refuse i.name e ≡ Ok w → (s : Scope) → named_instance w here.scope ≡ Ok s → instance_item l path room i here ≡ Ok (here_of s here.state)
-passes_named l path room i here k small found p e w name s named = passes_over l p.levels p.table path room i here k small found p.passes w (there_by i.name e w name) s named
+    → IsPassing l.source path room k i true → (e : ElabErr) (w : Word) → or_refuse i.name e ≡ Ok w → (s : Scope) → named_instance w here.scope ≡ Ok s → instance_item l path room i here ≡ Ok (here_of s here.state)
+passes_named l path room i here k small found p e w name s named = passes_over l p.levels p.right.table path room i here k small found (sym p.is) w (there_by i.name e w name) s named

@@ -1,6 +1,9 @@
--- A module more has a level.
-use Rattle.std.proofs.Common.{◌≡◌, ◌≢◌, ℕ, ◌<◌, ◌≤◌, ◌==◌, zero, suc, Bool, true, false, true≢false, Option, Some, None, List, [], ◌∷◌, ◌++◌, length, refl, sym, ◌∙◌, ap, subst, arith, slice_get, slice_set, get_or-set_other, get_or-set_same}
-use Rattle.std.proofs.lemmas.Bool.{and_parts, ltb-true, eqb-true, eq-eqb}
+-- Level by level each module has the lowest at which it is quiet.
+use Rattle.std.proofs.Common.{◌≡◌, ◌≢◌, ℕ, ◌+◌, ◌-◌, ◌<◌, ◌≤◌, ◌==◌, zero, suc, Bool, true, false, true≢false, not, Option, Some, None, List, [], ◌∷◌, length, length-set, replicate, refl, sym, ◌∙◌, ap, subst, arith, nat_lt, nat_le, slice_get, slice_set, get_or-set_other, get_or-set_same}
+use Rattle.std.proofs.lemmas.Bool.{and_parts, ltb-true, ltb-false, lt-ltb, leb-true, leb-false, eqb-true, eq-eqb}
+use Rattle.std.proofs.lemmas.List.{length-replicate}
+use Rattle.std.proofs.lemmas.Option.{slice_get_within}
+use Rattle.xr_netlist_grammar.specs.declared.tree.Word.{Word}
 use Rattle.xr_netlist_grammar.specs.declared.tree.Item.{Item}
 use Rattle.xr_netlist_grammar.specs.declared.tree.Item.TheVariants as item
 use Rattle.xr_netlist_grammar.specs.declared.tree.InstanceItem.{InstanceItem}
@@ -9,77 +12,215 @@ use Rattle.xr_netlist_grammar.specs.declared.tree.Source.{Source}
 use Rattle.xr_elab_prims.specs.declared.definitions.Definition.{Definition}
 use Rattle.xr_elab_prims.specs.declared.definitions.Definition.TheVariants as definition
 use Rattle.xr_elab_prims.specs.Definitions.{definition_of}
-use Rattle.xr_elab.specs.Quiet.{level_at, is_below, is_quiet_instance, is_quiet_item, with_item, are_quiet, IsQuiet, IsTable, HasNone}
+use Rattle.xr_elab.specs.Quiet.{level_at, is_below, is_quiet_instance, is_quiet_item, with_item, are_quiet, has_ports, is_quiet, IsQuiet, AreLevels, AreRaised}
 
--- ---- levels beside the new one
+-- ---- tables in which the same modules are below
+
+pub lt_same : (x u y v : ℕ) → (x < u → y < v) → (y < v → x < u) → nat_lt x u ≡ nat_lt y v
+lt_same x u y v there back = by (nat_lt x u) refl (nat_lt y v) refl
+  where
+    by : (b : Bool) → nat_lt x u ≡ b → (c : Bool) → nat_lt y v ≡ c → nat_lt x u ≡ nat_lt y v
+    by true p true q = p ∙ sym q
+    by false p false q = p ∙ sym q
+    by true p false q = absurd (true≢false (sym (lt-ltb y v (there (ltb-true x u p))) ∙ q))
+    by false p true q = absurd (true≢false (sym (lt-ltb x u (back (ltb-true y v q))) ∙ p))
+
+module _ (source : Source) (a b : List ℕ) (low high : ℕ) (same : (d : ℕ) → nat_lt (level_at a d) low ≡ nat_lt (level_at b d) high) where
+  below_same : (o : Option Definition) → is_below a low o ≡ is_below b high o
+  below_same None = refl
+  below_same (Some (definition.Primitive d)) = refl
+  below_same (Some (definition.Module d)) = same d
+
+  instance_same : (names : List (List ℕ)) (i : InstanceItem) → is_quiet_instance source a low names i ≡ is_quiet_instance source b high names i
+  instance_same names i = rw (below_same (definition_of source i.definition.text)) refl
+
+  item_same : (names : List (List ℕ)) (i : Item) → is_quiet_item source a low names i ≡ is_quiet_item source b high names i
+  item_same names (item.Declare d) = refl
+  item_same names (item.Instance i) = instance_same names i
+  item_same names (item.Gate _) = refl
+  item_same names (item.Assign _ _) = refl
+
+  are_same : (names : List (List ℕ)) (is : List Item) → are_quiet source a low names is ≡ are_quiet source b high names is
+  are_same names [] = refl
+  are_same names (i ∷ is) = rw (item_same names i, are_same (with_item names i) is) refl
+
+  pub quiet_same : (m : Module) → is_quiet source a low m ≡ is_quiet source b high m
+  quiet_same m = rw (are_same [] m.items) refl
+
+-- ---- a level more
 
 level_beside : (levels : List ℕ) (k v j : ℕ) → j ≢ k → level_at (slice_set levels k v) j ≡ level_at levels j
 level_beside levels k v j other = get_or-set_other levels k j v 33 other
 
-module _ (source : Source) (levels : List ℕ) (k v : ℕ) (none : 32 < level_at levels k) where
-  below_still : (level : ℕ) (o : Option Definition) → level ≤ 32 → is_below levels level o ≡ true → is_below (slice_set levels k v) level o ≡ true
-  below_still level None few below = below
-  below_still level (Some (definition.Primitive d)) few below = below
-  below_still level (Some (definition.Module d)) few below =
-      let less : level_at levels d < level = ltb-true _ _ below in
-      let other : d ≢ k = λ same. (let equal : level_at levels d ≡ level_at levels k = ap (level_at levels) same in omega arith) in
-      rw (level_beside levels k v d other) below
+no_ports : (ps : List Word) → not (has_ports ps) ≡ true → ps ≡ []
+no_ports [] none = refl
+no_ports (_ ∷ _) none = absurd (true≢false (sym none))
 
-  instance_still : (level : ℕ) (names : List (List ℕ)) (i : InstanceItem) → level ≤ 32 → is_quiet_instance source levels level names i ≡ true
-      → is_quiet_instance source (slice_set levels k v) level names i ≡ true
-  instance_still level names i few quiet =
-      let nothing = and_parts _ _ quiet in
-      let below = and_parts _ _ nothing.0 in
-      rw (below_still level (definition_of source i.definition.text) few below.0, below.1, nothing.1) refl
+unit_is : (modules : List Module) (k : ℕ) (m n : Module) → slice_get modules k ≡ Some m → slice_get modules k ≡ Some n → m ≡ n
+unit_is modules k m n one other = (let both : Some m ≡ Some n = sym one ∙ other in cc)
 
-  item_still : (level : ℕ) (names : List (List ℕ)) (i : Item) → level ≤ 32 → is_quiet_item source levels level names i ≡ true
-      → is_quiet_item source (slice_set levels k v) level names i ≡ true
-  item_still level names (item.Declare d) few quiet = quiet
-  item_still level names (item.Instance i) few quiet = instance_still level names i few quiet
-  item_still level names (item.Gate _) few quiet = absurd (true≢false (sym quiet))
-  item_still level names (item.Assign _ _) few quiet = absurd (true≢false (sym quiet))
+module _ (source : Source) (levels : List ℕ) (k level : ℕ) (m : Module) (few : level ≤ 32) (raised : AreRaised source level k levels) (there : slice_get source.modules k ≡ Some m) where
+  pub within : k < length levels
+  within = (let here = slice_get_within source.modules k m there in omega (arith, raised.long, here))
 
-  quiet_still : (level : ℕ) (names : List (List ℕ)) (is : List Item) → level ≤ 32 → are_quiet source levels level names is ≡ true
-      → are_quiet source (slice_set levels k v) level names is ≡ true
-  quiet_still level names [] few quiet = refl
-  quiet_still level names (i ∷ is) few quiet =
-      let parts = and_parts _ _ quiet in
-      rw (item_still level names i few parts.0) (quiet_still level (with_item names i) is few parts.1)
+  raised_same : (level < level_at levels k → is_quiet source levels level m ≡ false) → AreRaised source level (k + 1) levels
+  raised_same not_quiet = record {
+    long = raised.long;
+    few = raised.few;
+    table = raised.table;
+    lowest = raised.lowest;
+    asked = λ j n found before over. by j n found before over (j == k) refl;
+  }
+    where
+      by : (j : ℕ) (n : Module) → slice_get source.modules j ≡ Some n → j < k + 1 → level < level_at levels j → (b : Bool) → (j == k) ≡ b → is_quiet source levels level n ≡ false
+      by j n found before over true is =
+          let same : j ≡ k = eqb-true j k is in
+          let own : slice_get source.modules k ≡ Some n = subst (λ (x : ℕ). slice_get source.modules x ≡ Some n) same found in
+          subst (λ (u : Module). is_quiet source levels level u ≡ false) (unit_is source.modules k m n there own) (not_quiet (subst (λ (x : ℕ). level < level_at levels x) same over))
+      by j n found before over false is =
+          let other : j ≢ k = λ same. true≢false (sym (eq-eqb j k same) ∙ is) in
+          raised.asked j n found (omega (arith, before, other)) over
 
-  module _ (table : IsTable source levels) (m : Module) (there : slice_get source.modules k ≡ Some m) (within : k < length levels)
-      (some : 0 < v) (few : v ≤ 32) (ports : m.ports ≡ []) (items : are_quiet source levels v [] m.items ≡ true) where
-    pub table_more : IsTable source (slice_set levels k v)
-    table_more = record { right = λ j n found at. by j n found at (j == k) refl }
+  -- A module that has a level keeps it.
+  pub raised_had : level_at levels k ≤ 32 → AreRaised source level (k + 1) levels
+  raised_had low = raised_same (λ over. absurd (let up = raised.few k (λ high. absurd (omega (arith, high, low))) in omega (arith, up, over)))
+
+  -- One that isn't quiet at this level has none.
+  pub raised_not : is_quiet source levels level m ≡ false → AreRaised source level (k + 1) levels
+  raised_not none = raised_same (λ over. none)
+
+  module _ (some : 0 < level) (none : 32 < level_at levels k) (quiet : is_quiet source levels level m ≡ true) where
+    -- Up to this level the same modules are below.
+    still : (r : ℕ) → r ≤ level → (d : ℕ) → nat_lt (level_at (slice_set levels k level) d) r ≡ nat_lt (level_at levels d) r
+    still r up d = by (d == k) refl
       where
-        by : (j : ℕ) (n : Module) → slice_get source.modules j ≡ Some n → level_at (slice_set levels k v) j ≤ 32 → (b : Bool) → (j == k) ≡ b
-            → IsQuiet source (slice_set levels k v) (level_at (slice_set levels k v) j) n
-        by j n found at true is =
+        by : (b : Bool) → (d == k) ≡ b → nat_lt (level_at (slice_set levels k level) d) r ≡ nat_lt (level_at levels d) r
+        by true is =
+            let same : d ≡ k = eqb-true d k is in
+            let new : level_at (slice_set levels k level) d ≡ level = ap (level_at (slice_set levels k level)) same ∙ get_or-set_same levels k level 33 within in
+            let old : level_at levels d ≡ level_at levels k = ap (level_at levels) same in
+            lt_same _ r _ r (λ less. absurd (omega (arith, less, new, up))) (λ less. absurd (omega (arith, less, old, none, up, few)))
+        by false is = ap (λ (x : ℕ). nat_lt x r) (level_beside levels k level d (λ same. true≢false (sym (eq-eqb d k same) ∙ is)))
+
+    new_level : level_at (slice_set levels k level) k ≡ level
+    new_level = get_or-set_same levels k level 33 within
+
+    -- A module that is quiet at this level has it now.
+    pub raised_more : AreRaised source level (k + 1) (slice_set levels k level)
+    raised_more = record {
+      long = length-set levels k level ∙ raised.long;
+      few = λ j other. few_by j other (j == k) refl;
+      table = record { right = λ j n found at. right_by j n found at (j == k) refl };
+      lowest = λ j low n found any less under. quiet_same source (slice_set levels k level) levels low low (still low (omega (arith, less))) n ∙ lowest_by j low n found any less under (j == k) refl;
+      asked = λ j n found before over. quiet_same source (slice_set levels k level) levels level level (still level (omega arith)) n ∙ asked_by j n found before over (j == k) refl;
+    }
+      where
+        few_by : (j : ℕ) → level_at (slice_set levels k level) j ≢ 33 → (b : Bool) → (j == k) ≡ b → level_at (slice_set levels k level) j ≤ level
+        few_by j other true is =
+            let new : level_at (slice_set levels k level) j ≡ level = ap (level_at (slice_set levels k level)) (eqb-true j k is) ∙ new_level in
+            omega (arith, new)
+        few_by j other false is =
+            let beside = level_beside levels k level j (λ same. true≢false (sym (eq-eqb j k same) ∙ is)) in
+            rw beside (raised.few j (λ high. other (beside ∙ high)))
+
+        right_by : (j : ℕ) (n : Module) → slice_get source.modules j ≡ Some n → level_at (slice_set levels k level) j ≤ 32 → (b : Bool) → (j == k) ≡ b
+            → IsQuiet source (slice_set levels k level) (level_at (slice_set levels k level) j) n
+        right_by j n found at true is =
             let same : j ≡ k = eqb-true j k is in
-            let high : level_at (slice_set levels k v) j ≡ v = ap (level_at (slice_set levels k v)) same ∙ get_or-set_same levels k v 33 within in
-            let both : Some n ≡ Some m = sym found ∙ ap (λ (p : ℕ). slice_get source.modules p) same ∙ there in
-            let unit : m ≡ n = cc in
-            let q : IsQuiet source (slice_set levels k v) v m = record { some = some; ports = ports; items = quiet_still v [] m.items few items } in
-            rw high (subst (λ (u : Module). IsQuiet source (slice_set levels k v) v u) unit q)
-        by j n found at false is =
+            let own : slice_get source.modules k ≡ Some n = subst (λ (x : ℕ). slice_get source.modules x ≡ Some n) same found in
+            let parts = and_parts (not (has_ports m.ports)) (are_quiet source levels level [] m.items) quiet in
+            let items = are_same source (slice_set levels k level) levels level level (still level (omega arith)) [] m.items ∙ parts.1 in
+            let q : IsQuiet source (slice_set levels k level) level m = record { some = some; ports = no_ports m.ports parts.0; items = items } in
+            rw (ap (level_at (slice_set levels k level)) same ∙ new_level) (subst (λ (u : Module). IsQuiet source (slice_set levels k level) level u) (unit_is source.modules k m n there own) q)
+        right_by j n found at false is =
+            let beside = level_beside levels k level j (λ same. true≢false (sym (eq-eqb j k same) ∙ is)) in
+            let small : level_at levels j ≤ 32 = omega (arith, at, beside) in
+            let old = raised.table.right j n found small in
+            let up : level_at levels j ≤ level = raised.few j (λ high. absurd (omega (arith, high, small))) in
+            let items = are_same source (slice_set levels k level) levels (level_at levels j) (level_at levels j) (still (level_at levels j) up) [] n.items ∙ old.items in
+            rw beside (record { some = old.some; ports = old.ports; items = items })
+
+        lowest_by : (j low : ℕ) (n : Module) → slice_get source.modules j ≡ Some n → 0 < low → low < level → low < level_at (slice_set levels k level) j → (b : Bool) → (j == k) ≡ b
+            → is_quiet source levels low n ≡ false
+        lowest_by j low n found any less under true is =
+            let old : level_at levels j ≡ level_at levels k = ap (level_at levels) (eqb-true j k is) in
+            raised.lowest j low n found any less (omega (arith, old, none, less, few))
+        lowest_by j low n found any less under false is =
+            let beside = level_beside levels k level j (λ same. true≢false (sym (eq-eqb j k same) ∙ is)) in
+            raised.lowest j low n found any less (omega (arith, under, beside))
+
+        asked_by : (j : ℕ) (n : Module) → slice_get source.modules j ≡ Some n → j < k + 1 → level < level_at (slice_set levels k level) j → (b : Bool) → (j == k) ≡ b
+            → is_quiet source levels level n ≡ false
+        asked_by j n found before over true is =
+            let new : level_at (slice_set levels k level) j ≡ level = ap (level_at (slice_set levels k level)) (eqb-true j k is) ∙ new_level in
+            absurd (omega (arith, over, new))
+        asked_by j n found before over false is =
             let other : j ≢ k = λ same. true≢false (sym (eq-eqb j k same) ∙ is) in
-            let beside = level_beside levels k v j other in
-            let small : level_at levels j ≤ 32 = subst (λ (l : ℕ). l ≤ 32) beside at in
-            let old = table.right j n found small in
-            rw beside (record { some = old.some; ports = old.ports; items = quiet_still (level_at levels j) [] n.items small old.items })
+            let beside = level_beside levels k level j other in
+            raised.asked j n found (omega (arith, before, other)) (omega (arith, over, beside))
 
--- ---- no levels
+-- ---- level by level
 
-pub table_of_none : (source : Source) (levels : List ℕ) → HasNone levels → IsTable source levels
-table_of_none source levels h = record { right = λ k m found small. absurd (omega (arith, h.none k)) }
+none_there : (n k : ℕ) → level_at (replicate n 33) k ≡ 33
+none_there zero k = refl
+none_there (suc n) zero = refl
+none_there (suc n) (suc k) = none_there n k
 
-pub none_at_first : HasNone []
-none_at_first = record { none = λ k. refl }
+-- At first no module has a level.
+pub none_at_first : (source : Source) (levels : List ℕ) → levels ≡ replicate (length source.modules) 33 → AreLevels source 0 levels
+none_at_first source levels is = record {
+  long = ap length is ∙ length-replicate (length source.modules) 33;
+  few = λ k other. absurd (other (high k));
+  table = record { right = λ k m found small. absurd (omega (arith, high k, small)) };
+  lowest = λ k level m found some few under. absurd (omega (arith, some, few));
+}
+  where
+    high : (k : ℕ) → level_at levels k ≡ 33
+    high k = ap (λ (ls : List ℕ). level_at ls k) is ∙ none_there (length source.modules) k
 
-none_behind : (levels : List ℕ) (k : ℕ) → level_at levels k ≡ 33 → level_at (levels ++ 33 ∷ []) k ≡ 33
-none_behind [] zero h = refl
-none_behind [] (suc k) h = refl
-none_behind (l ∷ ls) zero h = h
-none_behind (l ∷ ls) (suc k) h = none_behind ls k h
+-- Before the first module is asked.
+pub none_asked : (source : Source) (levels : List ℕ) (level : ℕ) → 0 < level → AreLevels source (level - 1) levels → AreRaised source level 0 levels
+none_asked source levels level some l = record {
+  long = l.long;
+  few = λ k other. (let up = l.few k other in omega (arith, up));
+  table = l.table;
+  lowest = λ k low m found any less under. l.lowest k low m found any (omega (arith, less)) under;
+  asked = λ k m found before over. absurd (omega (arith, before));
+}
 
-pub none_more : (levels more : List ℕ) → more ≡ levels ++ 33 ∷ [] → HasNone levels → HasNone more
-none_more levels more grown h = record { none = λ k. rw grown (none_behind levels k (h.none k)) }
+-- Behind the last one.
+pub all_asked : (source : Source) (levels : List ℕ) (level count : ℕ) → length source.modules ≤ count → AreRaised source level count levels → AreLevels source level levels
+all_asked source levels level count all r = record {
+  long = r.long;
+  few = r.few;
+  table = r.table;
+  lowest = λ k low m found any up under. by k low m found any up under (nat_lt low level) refl;
+}
+  where
+    by : (k low : ℕ) (m : Module) → slice_get source.modules k ≡ Some m → 0 < low → low ≤ level → low < level_at levels k → (b : Bool) → nat_lt low level ≡ b → is_quiet source levels low m ≡ false
+    by k low m found any up under true is = r.lowest k low m found any (ltb-true low level is) under
+    by k low m found any up under false is =
+        let past = ltb-false low level is in
+        let same : level ≡ low = omega (arith, past, up) in
+        let here = slice_get_within source.modules k m found in
+        subst (λ (n : ℕ). is_quiet source levels n m ≡ false) same (r.asked k m found (omega (arith, all, here)) (omega (arith, under, same)))
+
+-- Where no module has this level, none has a higher one.
+pub no_more : (source : Source) (levels : List ℕ) (level : ℕ) → 0 < level → level ≤ 32 → AreLevels source (level - 1) levels → AreLevels source level levels → AreLevels source 32 levels
+no_more source levels level some few before now = record {
+  long = now.long;
+  few = λ k other. (let up = now.few k other in omega (arith, up, few));
+  table = now.table;
+  lowest = λ k high m found any up under. by k high m found any up under (nat_le high level) refl;
+}
+  where
+    same : (high : ℕ) → level < high → high ≤ 32 → (d : ℕ) → nat_lt (level_at levels d) high ≡ nat_lt (level_at levels d) level
+    same high over up d =
+        lt_same _ high _ level (λ less. (let low = before.few d (λ none. absurd (omega (arith, less, none, up))) in omega (arith, low, some)))
+        (λ less. omega (arith, less, over))
+
+    by : (k high : ℕ) (m : Module) → slice_get source.modules k ≡ Some m → 0 < high → high ≤ 32 → high < level_at levels k → (b : Bool) → nat_le high level ≡ b → is_quiet source levels high m ≡ false
+    by k high m found any up under true is = now.lowest k high m found any (leb-true high level is) under
+    by k high m found any up under false is =
+        let over = leb-false high level is in
+        quiet_same source levels levels high level (same high over up) m ∙ now.lowest k level m found some (omega arith) (omega (arith, under, over))

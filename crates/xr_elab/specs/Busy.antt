@@ -1,5 +1,5 @@
 -- The items of a module that do something at each of its instances.
-use Rattle.std.specs.Prelude.{◌≡◌, ℕ, ◌+◌, ◌≤◌, Bool, true, false, not, ◌&&◌, nat_lt, nat_le, is_some, Option, Some, None, List, [], ◌∷◌, max, Ok, if◌then◌else◌}
+use Rattle.std.specs.Prelude.{◌≡◌, ℕ, ◌+◌, Bool, true, false, not, ◌&&◌, nat_lt, nat_le, is_some, Option, Some, None, List, [], ◌∷◌, max, Ok, if◌then◌else◌}
 use Rattle.xr_netlist_grammar.specs.declared.tree.Word.{Word}
 use Rattle.xr_netlist_grammar.specs.declared.tree.InstanceItem.{InstanceItem}
 use Rattle.xr_netlist_grammar.specs.declared.tree.Item.{Item}
@@ -14,7 +14,7 @@ use Rattle.xr_elab_names.specs.Here.{Here}
 use Rattle.xr_elab_prims.specs.declared.definitions.Definition.{Definition}
 use Rattle.xr_elab_prims.specs.declared.definitions.Definition.TheVariants as definition
 use Rattle.xr_elab_prims.specs.Definitions.{definition_of}
-use Rattle.xr_elab.specs.Quiet.{level_at, connects_nothing, is_instance_below, with_named, IsTable, are_from}
+use Rattle.xr_elab.specs.Quiet.{level_at, connects_nothing, is_instance_below, with_named, AreLevels, are_from}
 
 -- what is made where items lead to
 abbrev pub state_of : Outcome Here → Outcome State
@@ -115,15 +115,12 @@ abbrev pub allows : List ℕ → List ℕ → ℕ → ℕ → Bool
 allows levels path room level =
     nat_lt 0 level && nat_le level 32 && nat_le level room && are_from levels level path
 
--- Depth and path allow that instances below this level are idle.
-pub record Allows (source : Source) (path : List ℕ) (room : ℕ) (levels : List ℕ) (level : ℕ) : Type 0 where
-  pub table : IsTable source levels
-  pub few : level ≤ 32
-  pub fits : level ≤ room
-  pub path_ : are_from levels level path ≡ true
+-- The busy items where that is so, else all of them.
+abbrev pub to_do : List ℕ → List ℕ → ℕ → Busy → List Item → List Item
+to_do levels path room b items = if allows levels path room b.level then b.items else items
 
--- These are all of the items, or those of them that aren't idle.
-pub data Suffice (source : Source) (path : List ℕ) (room : ℕ) (items : List Item) : List Item → Type 0 where
-  all : Suffice source path room items items
-  busy : (levels : List ℕ) (level : ℕ) → Allows source path room levels level → are_apart source [] items ≡ true
-      → Suffice source path room items (busy_of source levels level items)
+-- These are gone through of the items, by the levels of the text.
+pub record IsToDo (source : Source) (path : List ℕ) (room : ℕ) (items todo : List Item) : Type 0 where
+  pub levels : List ℕ
+  pub right : AreLevels source 32 levels
+  pub is : todo ≡ to_do levels path room (busy_in source levels items) items

@@ -1,12 +1,12 @@
 -- What is held of a text while it is elaborated.
-use Rattle.std.specs.Prelude.{◌≡◌, ℕ, ◌<◌, ◌≤◌, ◌^◌, List, length, map}
+use Rattle.std.specs.Prelude.{◌≡◌, ℕ, ◌<◌, ◌≤◌, ◌^◌, Bool, List, length, map}
 use Rattle.xr_cell.specs.Table.{Table}
 use Rattle.xr_cell.specs.Refusal.{input_limit}
 use Rattle.xr_design.specs.Job.{primitive_of}
 use Rattle.xr_netlist_grammar.specs.declared.tree.InstanceItem.{InstanceItem}
 use Rattle.xr_netlist_grammar.specs.declared.tree.Module.{Module}
 use Rattle.xr_netlist_grammar.specs.declared.tree.Source.{Source}
-use Rattle.xr_elab.specs.Quiet.{IsTable, Passes}
+use Rattle.xr_elab.specs.Quiet.{AreLevels, is_passed_over}
 use Rattle.xr_elab.specs.Busy.{Busy, busy_of_module}
 
 -- There is a table for each primitive, with no more inputs than its kind takes, and there are fewer than 2^32.
@@ -16,12 +16,12 @@ pub record AreTables (source : Source) (tables : List Table) : Type 0 where
   pub inputs : (k : ℕ) → k < length tables
       → (primitive_of tables k).inputs ≤ input_limit (primitive_of tables k).sequential
 
--- The modules are those of the text, in their order; the levels are right; the busy items are those of the modules; and
+-- The modules are those of the text, in their order; the levels are theirs; the busy items are those of the modules; and
 -- the tables are those of the primitives.
 pub record Holds (source : Source) (tables : List Table) (modules : List Module) (levels : List ℕ) (busy : List Busy)
     : Type 0 where
   pub modules_ : modules ≡ source.modules
-  pub levels_ : IsTable source levels
+  pub levels_ : AreLevels source 32 levels
   pub busy_ : busy ≡ map (busy_of_module source levels) source.modules
   pub tables_ : AreTables source tables
 
@@ -29,8 +29,8 @@ pub record Holds (source : Source) (tables : List Table) (modules : List Module)
 abbrev pub IsHeld : Source → Source → List Table → List Module → List ℕ → List Busy → Type 0
 IsHeld source defined tables modules levels busy = (defined ≡ source) × Holds source tables modules levels busy
 
--- An instance of the module at a position is passed over, by some table of levels.
-pub record PassesOver (source : Source) (path : List ℕ) (room k : ℕ) (i : InstanceItem) : Type 0 where
+-- Whether an instance of the module at a position is passed over, by the levels of the text.
+pub record IsPassing (source : Source) (path : List ℕ) (room k : ℕ) (i : InstanceItem) (answer : Bool) : Type 0 where
   pub levels : List ℕ
-  pub table : IsTable source levels
-  pub passes : Passes levels path room k i
+  pub right : AreLevels source 32 levels
+  pub is : answer ≡ is_passed_over levels path room k i

@@ -1,5 +1,5 @@
 -- Modules that make no net: an instance of one is passed over.
-use Rattle.std.specs.Prelude.{◌≡◌, ℕ, ◌+◌, ◌<◌, ◌≤◌, Bool, true, false, not, ◌&&◌, nat_lt, nat_le, is_some, Option, Some, None, List, [], ◌∷◌, ◌++◌, slice_get, slice_index_or, Result, IfOk, IsTrue}
+use Rattle.std.specs.Prelude.{◌≡◌, ◌≢◌, ℕ, ◌+◌, ◌<◌, ◌≤◌, Bool, true, false, not, ◌&&◌, nat_lt, nat_le, is_some, Option, Some, None, List, [], ◌∷◌, ◌++◌, length, slice_get, slice_index_or, Result, IfOk, IsTrue}
 use Rattle.std.specs.List.{list_all}
 use Rattle.xr_netlist_grammar.specs.declared.tree.Word.{Word}
 use Rattle.xr_netlist_grammar.specs.declared.tree.NetKind.{NetKind}
@@ -49,10 +49,7 @@ is_instance_below source levels level i = is_below levels level (definition_of s
 
 abbrev pub is_quiet_instance : Source → List ℕ → ℕ → List (List ℕ) → InstanceItem → Bool
 is_quiet_instance source levels level names i =
-    is_instance_below source levels level i && is_new names i.name && connects_nothing i.connections
-
-abbrev pub IsQuietInstance : Source → List ℕ → ℕ → List (List ℕ) → InstanceItem → Type 0
-IsQuietInstance source levels level names i = is_quiet_instance source levels level names i ≡ true
+    is_instance_below source levels level i && connects_nothing i.connections && is_new names i.name
 
 abbrev pub is_reg_net : NetKind → Bool
 is_reg_net Reg = true
@@ -69,9 +66,6 @@ is_quiet_item source levels level names (item.Declare d) = is_quiet_declare d
 is_quiet_item source levels level names (item.Instance i) = is_quiet_instance source levels level names i
 is_quiet_item source levels level names _ = false
 
-abbrev pub IsQuietItem : Source → List ℕ → ℕ → List (List ℕ) → Item → Type 0
-IsQuietItem source levels level names i = is_quiet_item source levels level names i ≡ true
-
 abbrev pub with_item : List (List ℕ) → Item → List (List ℕ)
 with_item names (item.Instance i) = with_named names i.name
 with_item names _ = names
@@ -81,10 +75,15 @@ are_quiet source levels level names [] = true
 are_quiet source levels level names (i ∷ is) =
     is_quiet_item source levels level names i && are_quiet source levels level (with_item names i) is
 
-abbrev pub AreQuiet : Source → List ℕ → ℕ → List (List ℕ) → List Item → Type 0
-AreQuiet source levels level names is = are_quiet source levels level names is ≡ true
+abbrev pub has_ports : List Word → Bool
+has_ports [] = false
+has_ports (_ ∷ _) = true
 
--- A module of that level: it has no ports, and its items are quiet.
+-- A module is quiet at a level where it has no ports, and its items are quiet below that.
+abbrev pub is_quiet : Source → List ℕ → ℕ → Module → Bool
+is_quiet source levels level m = not (has_ports m.ports) && are_quiet source levels level [] m.items
+
+-- A module of that level is quiet at it.
 pub record IsQuiet (source : Source) (levels : List ℕ) (level : ℕ) (m : Module) : Type 0 where
   pub some : 0 < level
   pub ports : m.ports ≡ []
@@ -95,9 +94,27 @@ pub record IsTable (source : Source) (levels : List ℕ) : Type 0 where
   pub right : (k : ℕ) (m : Module) → slice_get source.modules k ≡ Some m → level_at levels k ≤ 32
       → IsQuiet source levels (level_at levels k) m
 
--- No module has a level.
-pub record HasNone (levels : List ℕ) : Type 0 where
-  pub none : (k : ℕ) → level_at levels k ≡ 33
+-- The levels up to this one: a module has the lowest of them at which it is quiet, and 33 where there is none.
+pub record AreLevels (source : Source) (top : ℕ) (levels : List ℕ) : Type 0 where
+  pub long : length levels ≡ length source.modules
+  pub few : (k : ℕ) → level_at levels k ≢ 33 → level_at levels k ≤ top
+  pub table : IsTable source levels
+  pub lowest : (k level : ℕ) (m : Module) → slice_get source.modules k ≡ Some m
+      → 0 < level → level ≤ top → level < level_at levels k → is_quiet source levels level m ≡ false
+
+-- A text has one table of levels.
+abbrev pub LevelsAreOne : Type 0
+LevelsAreOne = (source : Source) (a b : List ℕ) → AreLevels source 32 a → AreLevels source 32 b → a ≡ b
+
+-- The levels below this one, and this one itself for the first modules, so many of them.
+pub record AreRaised (source : Source) (level count : ℕ) (levels : List ℕ) : Type 0 where
+  pub long : length levels ≡ length source.modules
+  pub few : (k : ℕ) → level_at levels k ≢ 33 → level_at levels k ≤ level
+  pub table : IsTable source levels
+  pub lowest : (k low : ℕ) (m : Module) → slice_get source.modules k ≡ Some m
+      → 0 < low → low < level → low < level_at levels k → is_quiet source levels low m ≡ false
+  pub asked : (k : ℕ) (m : Module) → slice_get source.modules k ≡ Some m
+      → k < count → level < level_at levels k → is_quiet source levels level m ≡ false
 
 -- Every module on the path has this level or a higher one, or none.
 abbrev pub are_from : List ℕ → ℕ → List ℕ → Bool
@@ -107,9 +124,8 @@ are_from levels level path = list_all (λ p. nat_le level (level_at levels p)) p
 abbrev pub passed : InstanceItem → Here → Here
 passed i here = here_of (record here.scope { instances = with_named here.scope.instances i.name }) here.state
 
--- An instance of the module at a position is passed over, where the path may have `room` modules more.
-pub record Passes (levels path : List ℕ) (room k : ℕ) (i : InstanceItem) : Type 0 where
-  pub few : level_at levels k ≤ 32
-  pub fits : level_at levels k ≤ room
-  pub above : are_from levels (level_at levels k + 1) path ≡ true
-  pub nothing : connects_nothing i.connections ≡ true
+-- whether an instance of the module at a position is passed over, where the path may have `room` modules more
+abbrev pub is_passed_over : List ℕ → List ℕ → ℕ → ℕ → InstanceItem → Bool
+is_passed_over levels path room k i =
+    nat_le (level_at levels k) 32 && nat_le (level_at levels k) room && are_from levels (level_at levels k + 1) path
+    && connects_nothing i.connections

@@ -1,6 +1,6 @@
 //! The items of a module, and its instances.
 
-ghost use Rattle.std.specs.Prelude.{◌≡◌, ◌<◌, ◌+◌, ◌^◌, ◌++◌, ◌∷◌, [], IfOk, OnOk, Some, length};
+ghost use Rattle.std.specs.Prelude.{◌≡◌, ◌<◌, ◌+◌, ◌^◌, ◌++◌, ◌∷◌, [], IfOk, OnOk, Some, length, true};
 ghost use Rattle.xr_elab_nets.specs.Outcome.{Gives, or_refuse};
 ghost use Rattle.xr_elab_names.specs.Here.{here_of};
 ghost use Rattle.xr_elab_prims.specs.Definitions.{definition_of};
@@ -8,7 +8,7 @@ ghost use Rattle.xr_elab_prims.specs.declared.definitions.Definition.TheVariants
 ghost use Rattle.xr_elab_nets.specs.declared.fault.ElabErr.TheVariants.{PortMismatch};
 ghost use Rattle.xr_elab_tree.specs.Elaborate as spec;
 ghost use Rattle.xr_elab_tree.specs.Library.{module_of};
-ghost use Rattle.xr_elab.specs.Held.{PassesOver};
+ghost use Rattle.xr_elab.specs.Held.{IsPassing};
 ghost use Rattle.xr_elab.specs.Busy.{state_of};
 
 use crate::library::Library;
@@ -205,7 +205,7 @@ fn pass<'t>(
     nets: &Nets,
     item: &'t InstanceItem,
 ) -> Result<(), ElabErr>
-    requires passes { PassesOver library.now.source path.now room k item.now }
+    requires passes { IsPassing library.now.source path.now room k item.now true }
     requires entered { spec.entered path.now room item.now.definition.text k ≡ Ok k }
     requires found { definition_of library.now.source item.now.definition.text ≡ Some (definition.Module k) }
     requires within { k < length library.now.source.modules }

@@ -1,7 +1,7 @@
 //! The levels of modules that make no net.
 
-ghost use Rattle.std.specs.Prelude.{◌≡◌, ◌<◌, ◌≤◌, IfOk, OnOk, Some, slice_get};
-ghost use Rattle.xr_elab.specs.Quiet.{IsTable, HasNone};
+ghost use Rattle.std.specs.Prelude.{◌≡◌, ◌<◌, ◌≤◌, ◌+◌, ◌-◌, false, IfOk, OnOk, Some, replicate, slice_get};
+ghost use Rattle.xr_elab.specs.Quiet.{AreLevels, AreRaised};
 
 use crate::quiet::{MOST_LEVEL, is_quiet, level_at};
 use std::alloc::{AllocError, Global};
@@ -9,36 +9,32 @@ use xr_elab_prims::Definitions;
 use xr_netlist_grammar::Module;
 
 /// A level for each module that makes no net, and 33 for each other. Reads the modules once for each level.
-#[tactic(auto, using(crate::proofs::Raising::table_of_none))]
+#[tactic(auto, using(crate::proofs::Raising::none_at_first))]
 pub fn levels_of(
     alloc: Global,
     definitions: &Definitions<'_>,
     modules: &[Module],
 ) -> Result<Vec<u32>, AllocError>
     requires { modules.now ≡ definitions.now.modules }
-    ensures { IfOk result (λ levels. IsTable definitions.now levels.items) }
+    ensures { IfOk result (λ levels. AreLevels definitions.now 32 levels.items) }
 {
     let mut levels = no_levels(alloc, modules.len())?;
     'levels: for level in 1..MOST_LEVEL + 1 {
         if !raise(alloc, definitions, modules, level, &mut levels)? {
-            break;
+            return Ok(levels);
         }
     }
     Ok(levels)
 }
 
-#[tactic(auto, using(crate::proofs::Raising::none_at_first, crate::proofs::Raising::none_more))]
 fn no_levels(alloc: Global, count: usize) -> Result<Vec<u32>, AllocError>
-    ensures { IfOk result (λ levels. HasNone levels.items) }
+    ensures { IfOk result (λ levels. levels.items ≡ replicate count 33) }
 {
-    let mut levels = Vec::new(alloc);
-    'modules: for _ in 0..count {
-        levels.push(MOST_LEVEL + 1)?;
-    }
-    Ok(levels)
+    Ok(vec![in alloc; MOST_LEVEL + 1; count]?)
 }
 
 /// Gives this level to the modules whose instances have lower ones. Answers whether there was one.
+#[tactic(auto, using(crate::proofs::Raising::none_asked))]
 fn raise(
     alloc: Global,
     definitions: &Definitions<'_>,
@@ -49,8 +45,9 @@ fn raise(
     requires some { 0 < level }
     requires few { level ≤ 32 }
     requires modules { modules.now ≡ definitions.now.modules }
-    requires table { IsTable definitions.now levels.old.items }
-    ensures { OnOk result (IsTable definitions.now levels.new.items) }
+    requires levels { AreLevels definitions.now (level - 1) levels.old.items }
+    ensures raised { OnOk result (AreLevels definitions.now level levels.new.items) }
+    ensures any { IfOk result (λ any. any ≡ false → levels.new.items ≡ levels.old.items) }
 {
     let mut any = false;
     'modules: for (k, unit) in modules.iter().enumerate() {
@@ -62,6 +59,7 @@ fn raise(
 }
 
 /// Gives a module this level, where it has none and its instances have lower ones. Answers whether it did.
+#[tactic(auto, using(crate::proofs::Raising::raised_had, crate::proofs::Raising::raised_not, crate::proofs::Raising::within))]
 fn raise_one(
     alloc: Global,
     definitions: &Definitions<'_>,
@@ -72,11 +70,12 @@ fn raise_one(
 ) -> Result<bool, AllocError>
     requires some { 0 < level }
     requires few { level ≤ 32 }
-    requires table { IsTable definitions.now levels.old.items }
+    requires levels { AreRaised definitions.now level k levels.old.items }
     requires unit { slice_get definitions.now.modules k ≡ Some unit.now }
-    ensures { OnOk result (IsTable definitions.now levels.new.items) }
+    ensures raised { OnOk result (AreRaised definitions.now level (k + 1) levels.new.items) }
+    ensures any { IfOk result (λ any. any ≡ false → levels.new.items ≡ levels.old.items) }
 {
-    if k >= levels.len() || level_at(levels, k) <= MOST_LEVEL {
+    if level_at(levels, k) <= MOST_LEVEL {
         return Ok(false);
     }
     if !is_quiet(alloc, definitions, levels, level, unit)? {

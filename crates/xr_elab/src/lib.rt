@@ -8,8 +8,10 @@
 mod busy;
 mod design;
 mod instances;
+mod laws;
 mod levels;
 mod library;
 mod quiet;
 
 pub use design::elaborate;
+pub use laws::levels_are_one;

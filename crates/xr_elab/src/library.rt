@@ -4,9 +4,9 @@ ghost use Rattle.std.specs.Prelude.{◌≡◌, ◌<◌, IfOk, length, map, slice
 ghost use Rattle.xr_design.specs.Job.{primitive_of};
 ghost use Rattle.xr_elab_tree.specs.Library.{no_module};
 ghost use Rattle.xr_elab_names.specs.Outline.{items_in};
-ghost use Rattle.xr_elab.specs.Quiet.{IsTable};
+ghost use Rattle.xr_elab.specs.Quiet.{is_passed_over as spec_is_passed_over};
 ghost use Rattle.xr_elab.specs.Busy as spec;
-ghost use Rattle.xr_elab.specs.Busy.{busy_in, busy_of_module, Suffice};
+ghost use Rattle.xr_elab.specs.Busy.{busy_of_module, to_do};
 
 use crate::busy::Busy;
 use crate::levels::levels_of;
@@ -49,8 +49,8 @@ impl<'t> Library<'t> {
     ghost use Rattle.xr_elab_prims.specs.Definitions.{definition_of, IsThere};
     ghost use Rattle.xr_elab_tree.specs.Library.{library_of, module_of};
     ghost use Rattle.xr_elab_names.specs.Outline.{items_in, left_of};
-    ghost use Rattle.xr_elab.specs.Held.{AreTables, PassesOver};
-    ghost use Rattle.xr_elab.specs.Busy.{Suffice};
+    ghost use Rattle.xr_elab.specs.Held.{AreTables, IsPassing};
+    ghost use Rattle.xr_elab.specs.Busy.{IsToDo};
 
     /// The library of a text whose names are in order, with the tables of its primitives.
     pub fn new(
@@ -116,30 +116,35 @@ impl<'t> Library<'t> {
     pub fn to_do(&self, path: &[usize], room: usize, k: usize) -> &[&'t Item]
         requires { k < length self.now.source.modules }
         ensures { let items = (module_of self.now k).items in
-            Suffice self.now.source path.now room (left_of items) (items_in result.now) }
+            IsToDo self.now.source path.now room (left_of items) (items_in result.now) }
     {
         let left = self.module(k).left();
-        to_do_of(
-            &self.definitions,
-            &self.levels,
-            busy_at(&self.busy, k),
-            left,
-            path,
-            room,
-        )
+        to_do_of(&self.levels, busy_at(&self.busy, k), left, path, room)
     }
 
     /// Whether depth and path allow that an instance of a module that makes no net is passed over. The path may have
     /// `room` modules more. Takes no memory.
     pub fn passes_over(&self, path: &[usize], room: usize, k: usize, item: &InstanceItem) -> bool
-        ensures { IsTrue result → PassesOver self.now.source path.now room k item.now }
+        ensures { IsPassing self.now.source path.now room k item.now result }
     {
-        let level = level_at(&self.levels, k);
-        level <= MOST_LEVEL
-            && level as usize <= room
-            && are_from(&self.levels, level + 1, path)
-            && connects_nothing(&item.connections)
+        is_passed_over(&self.levels, path, room, k, item)
     }
+}
+
+fn is_passed_over(
+    levels: &[u32],
+    path: &[usize],
+    room: usize,
+    k: usize,
+    item: &InstanceItem,
+) -> bool
+    ensures { result ≡ spec_is_passed_over levels.now path.now room k item.now }
+{
+    let level = level_at(levels, k);
+    level <= MOST_LEVEL
+        && level as usize <= room
+        && are_from(levels, level + 1, path)
+        && connects_nothing(&item.connections)
 }
 
 /// What the declarations of each module come to, in the order of the text.
@@ -170,18 +175,14 @@ fn all_busy<'t>(
 }
 
 /// All that is left of a module's items, or the busy ones where depth and path allow that the others are idle.
-#[tactic(auto, using(crate::proofs::Choosing::busy_suffice))]
 fn to_do_of<'l, 't>(
-    definitions: &Definitions<'_>,
     levels: &[u32],
     busy: &'l Busy<'t>,
     left: &'l [&'t Item],
     path: &[usize],
     room: usize,
 ) -> &'l [&'t Item]
-    requires table { IsTable definitions.now levels.now }
-    requires busy { busy.now ≡ busy_in definitions.now levels.now (items_in left.now) }
-    ensures { Suffice definitions.now path.now room (items_in left.now) (items_in result.now) }
+    ensures { items_in result.now ≡ to_do levels.now path.now room busy.now (items_in left.now) }
 {
     if allows(levels, path, room, busy.level()) {
         busy.items()

@@ -1,18 +1,18 @@
 //! Whether a module makes no net.
 
-ghost use Rattle.std.specs.Prelude.{◌≡◌, [], true};
+ghost use Rattle.std.specs.Prelude.{◌≡◌, [], IfOk, option_copied};
 ghost use Rattle.xr_elab.specs.Quiet as spec;
-ghost use Rattle.xr_elab.specs.Quiet.{IsQuietItem, IsQuietInstance, OnYes};
+ghost use Rattle.xr_elab.specs.Quiet.{OnYes};
 
 use std::alloc::{AllocError, Global};
 use xr_elab_names::NameSet;
 use xr_elab_prims::{Definition, Definitions};
-use xr_netlist_grammar::{Connections, Declare, InstanceItem, Item, Module, NetKind};
+use xr_netlist_grammar::{Connections, Declare, InstanceItem, Item, Module, NetKind, Word};
 
 /// The highest level, which is that of the longest path.
 pub const MOST_LEVEL: u32 = 32;
 
-/// Whether a module has no ports, and its items are quiet below this level.
+/// Whether a module has no ports, and its items are quiet below this level. Takes a place in a set for each instance.
 pub fn is_quiet(
     alloc: Global,
     definitions: &Definitions<'_>,
@@ -20,8 +20,7 @@ pub fn is_quiet(
     level: u32,
     unit: &Module,
 ) -> Result<bool, AllocError>
-    ensures ports { OnYes result (unit.now.ports ≡ []) }
-    ensures items { OnYes result (spec.AreQuiet definitions.now levels.now level [] unit.now.items) }
+    ensures { IfOk result (λ yes. yes ≡ spec.is_quiet definitions.now levels.now level unit.now) }
 {
     match unit.ports.as_slice() {
         [] => are_quiet(alloc, definitions, levels, level, unit.items.as_slice()),
@@ -38,7 +37,7 @@ fn are_quiet(
     level: u32,
     items: &[Item],
 ) -> Result<bool, AllocError>
-    ensures { OnYes result (spec.AreQuiet definitions.now levels.now level [] items.now) }
+    ensures { IfOk result (λ yes. yes ≡ spec.are_quiet definitions.now levels.now level [] items.now) }
 {
     let mut names = NameSet::new(alloc);
     'items: for item in items {
@@ -57,7 +56,8 @@ fn note_item<'t>(
     level: u32,
     item: &'t Item,
 ) -> Result<bool, AllocError>
-    ensures quiet { OnYes result (IsQuietItem definitions.now levels.now level names.old item.now) }
+    ensures quiet { IfOk result
+        (λ yes. yes ≡ spec.is_quiet_item definitions.now levels.now level names.old item.now) }
     ensures names { OnYes result (names.new ≡ spec.with_item names.old item.now) }
 {
     match item {
@@ -81,14 +81,24 @@ fn note_instance<'t>(
     level: u32,
     instance: &'t InstanceItem,
 ) -> Result<bool, AllocError>
-    ensures quiet { OnYes result (IsQuietInstance definitions.now levels.now level names.old instance.now) }
+    ensures quiet { IfOk result
+        (λ yes. yes ≡ spec.is_quiet_instance definitions.now levels.now level names.old instance.now) }
     ensures names { OnYes result (names.new ≡ spec.with_named names.old instance.now.name) }
 {
-    match &instance.name {
-        Some(name)
-            if is_below(definitions, levels, level, instance)
-                && connects_nothing(&instance.connections) => { names.add(name.text.as_slice()) }
-        _ => Ok(false),
+    if !is_below(definitions, levels, level, instance) || !connects_nothing(&instance.connections) {
+        return Ok(false);
+    }
+    note_new(names, instance.name.as_ref())
+}
+
+/// Whether there is a name, and it isn't among these, which then have it.
+fn note_new<'t>(names: &mut NameSet<'t>, name: Option<&'t Word>) -> Result<bool, AllocError>
+    ensures new { IfOk result (λ yes. yes ≡ spec.is_new names.old (option_copied name.entry)) }
+    ensures names { OnYes result (names.new ≡ spec.with_named names.old (option_copied name.entry)) }
+{
+    match name {
+        Some(name) => names.add(name.text.as_slice()),
+        None => Ok(false),
     }
 }
 

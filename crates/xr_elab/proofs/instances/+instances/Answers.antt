@@ -5,14 +5,14 @@ use Rattle.xr_elab_joins.specs.Joined.{joined}
 use Rattle.xr_elab_tree.specs.Elaborate.{body, entered}
 use Rattle.xr_elab_tree.specs.Library.{module_of}
 use Rattle.xr_elab.specs.Busy.{state_of}
-use Rattle.xr_elab.proofs.Choosing.{items_more, items_none}
+use Rattle.xr_elab.proofs.Choosing.{to_do_suffice, items_more, items_none}
 use Rattle.xr_elab.proofs.Doing.{leads_first, leads_more, leads_refused, leads_last}
 use Rattle.xr_elab.proofs.Filling.{gives_refused, inner_new, instance_made, instance_refused}
 use Rattle.xr_elab.proofs.instances.+instances.Goals as goal
 
 pub add_items-items-init : goal.add_items-items-init
 add_items-items-init t c = record {
-  leads = leads_first c.args.library.now c.args.path.now c.args.room (module_of c.args.library.now c.args.k).items _ (here_of c.args.scope.now c.args.nets.now) c.requires.some c.requires.new c.to_do-items.ensures;
+  leads = leads_first c.args.library.now c.args.path.now c.args.room (module_of c.args.library.now c.args.k).items _ (here_of c.args.scope.now c.args.nets.now) c.requires.some c.requires.new (to_do_suffice _ _ _ _ _ c.to_do-items.ensures);
   same = refl;
 }
 

@@ -1,6 +1,10 @@
--- Each level so far is right.
-use Rattle.xr_elab.specs.Quiet.{IsTable}
+-- The first modules have been asked. None has the level yet where none was raised.
+use Rattle.std.proofs.Common.{◌≡◌, false}
+use Rattle.xr_elab.specs.Quiet.{AreRaised}
 use Rattle.xr_elab.proofs.levels.raise.Given as goal
 
 abbrev pub invariant-modules : goal.invariant-modules
-invariant-modules l = IsTable l.definitions l.levels.items
+invariant-modules l = record {
+  raised : AreRaised l.definitions l.level l.k l.levels.items;
+  same : l.any ≡ false → l.levels.items ≡ l.fn.levels.items;
+}

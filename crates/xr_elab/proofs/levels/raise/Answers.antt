@@ -1,0 +1,10 @@
+-- All modules have been asked.
+use Rattle.std.proofs.Common.{◌≤◌, List, length, subst}
+use Rattle.xr_netlist_grammar.specs.declared.tree.Module.{Module}
+use Rattle.xr_elab.proofs.Raising.{all_asked}
+use Rattle.xr_elab.proofs.levels.raise.Goals as goal
+
+pub returns-clause-raised : goal.returns-clause-raised
+returns-clause-raised c =
+    all_asked c.args.definitions.now c.modules.levels.items c.args.level c.modules.k
+    (subst (λ (ms : List Module). length ms ≤ c.modules.k) c.requires.modules c.modules-test.false) c.modules.invariant.raised
