@@ -13,7 +13,7 @@ use xr_cnf::clauses;
 use xr_cone::{Cone, trace, trace_at};
 use xr_cone_choices::{Choice, minimal_choices};
 use xr_cone_nodes::{NodeBody, Words};
-use xr_design::Place;
+use xr_design::{Filling, Place};
 use xr_model::Class;
 use xr_wave::Wave;
 
@@ -33,10 +33,7 @@ fn third_cone(alloc: Global, job: &Job) -> Result<Cone, Fail>
     requires { IsReplayed job.now.netlist job.now.recorded job.now.history }
 {
     let wave = advanced(advanced(job.unwritten(alloc)?)?)?;
-    match wave.class() {
-        Class::Line => Ok(trace(alloc, &wave)?),
-        _ => Err(Fail::new("the place isn't a Line place")),
-    }
+    next_cone(alloc, &wave)
 }
 
 fn advanced(wave: Wave<'_>) -> Result<Wave<'_>, Fail> {
@@ -47,17 +44,28 @@ fn advanced(wave: Wave<'_>) -> Result<Wave<'_>, Fail> {
     }
 }
 
+fn next_cone(alloc: Global, wave: &Wave<'_>) -> Result<Cone, Fail> {
+    match wave.class() {
+        Class::Line => Ok(trace(alloc, wave)?),
+        _ => Err(Fail::new("the place isn't a Line place")),
+    }
+}
+
 /// The same cone, asked for by the place once all are written.
 fn third_cone_again(alloc: Global, job: &Job) -> Result<Cone, Fail>
     requires { IsReplayed job.now.netlist job.now.recorded job.now.history }
 {
     let wave = job.repaired(alloc)?;
+    cone_of_third(alloc, &wave)
+}
+
+fn cone_of_third(alloc: Global, wave: &Wave<'_>) -> Result<Cone, Fail> {
     if wave.count() != 3 {
         return Err(Fail::new("there aren't three places"));
     }
-    let place = place_of(&wave, 2);
+    let place = place_of(wave, 2);
     match wave.class_at(place) {
-        Class::Line => Ok(trace_at(alloc, &wave, place)?),
+        Class::Line => Ok(trace_at(alloc, wave, place)?),
         _ => Err(Fail::new("the place isn't a Line place")),
     }
 }
@@ -82,30 +90,67 @@ fn is_xor(rt: &impl Abort, cone: &Cone) -> Result<(), Fail> {
     }
 }
 
+fn check_xor(rt: &impl Abort, alloc: Global, job: &Job) -> Result<(), Fail>
+    requires { IsReplayed job.now.netlist job.now.recorded job.now.history }
+{
+    let cone = third_cone(alloc, job)?;
+    is_xor(rt, &cone)
+}
+
+fn check_xor_again(rt: &impl Abort, alloc: Global, job: &Job) -> Result<(), Fail>
+    requires { IsReplayed job.now.netlist job.now.recorded job.now.history }
+{
+    let cone = third_cone_again(alloc, job)?;
+    is_xor(rt, &cone)
+}
+
+fn check_both_xors(rt: &impl Abort, alloc: Global, job: &Job) -> Result<(), Fail>
+    requires { IsReplayed job.now.netlist job.now.recorded job.now.history }
+{
+    check_xor(rt, alloc, job)?;
+    check_xor_again(rt, alloc, job)
+}
+
 #[test]
 fn an_exclusive_or_rests_on_both(rt: HostRuntime) -> Result<(), Fail> {
     let job = Job::read(rt.alloc(), XOR, TWO_UNKNOWN)?;
-    is_xor(&rt, &third_cone(rt.alloc(), &job)?)?;
-    is_xor(&rt, &third_cone_again(rt.alloc(), &job)?)
+    check_both_xors(&rt, rt.alloc(), &job)
 }
 
 /// Compares what a filling of the second source alone gives the cone, by itself and in a word of two sources.
 fn check_fillings(rt: &impl Abort, alloc: Global, cone: &Cone) -> Result<(), Fail> {
+    let one = Items::from_vec([Place { step: 0, net: 1 }].to_vec(alloc)?);
+    check_filling(rt, alloc, cone, &one)
+}
+
+fn check_filling(rt: &impl Abort, alloc: Global, cone: &Cone, one: &Filling) -> Result<(), Fail> {
     assert_eq!(rt; cone.sources().len(), 2);
     assert!(rt; !cone.base());
-    let one = Items::from_vec([Place { step: 0, net: 1 }].to_vec(alloc)?);
-    assert!(rt; cone.value(alloc, &one)?);
-    let mut words = Words::new(alloc, cone)?;
-    assert_eq!(rt; words.root(cone, &[0b0011, 0b0101]), 0b0110);
+    assert!(rt; cone.value(alloc, one)?);
+    check_word(rt, alloc, cone)?;
     let chosen = cone.chosen(alloc, &[0b0011, 0b0101], 2)?;
     assert_eq!(rt; chosen.as_slice(), one.as_slice());
     Ok(())
 }
 
+fn check_word(rt: &impl Abort, alloc: Global, cone: &Cone) -> Result<(), Fail> {
+    assert_eq!(rt; cone.sources().len(), 2);
+    let mut words = Words::new(alloc, cone)?;
+    assert_eq!(rt; words.root(cone, &[0b0011, 0b0101]), 0b0110);
+    Ok(())
+}
+
+fn check_fillings_of(rt: &impl Abort, alloc: Global, job: &Job) -> Result<(), Fail>
+    requires { IsReplayed job.now.netlist job.now.recorded job.now.history }
+{
+    let cone = third_cone(alloc, job)?;
+    check_fillings(rt, alloc, &cone)
+}
+
 #[test]
 fn a_filling_of_one_source_turns_an_exclusive_or(rt: HostRuntime) -> Result<(), Fail> {
     let job = Job::read(rt.alloc(), XOR, TWO_UNKNOWN)?;
-    check_fillings(&rt, rt.alloc(), &third_cone(rt.alloc(), &job)?)
+    check_fillings_of(&rt, rt.alloc(), &job)
 }
 
 fn check_clauses(rt: &impl Abort, alloc: Global, cone: &Cone) -> Result<(), Fail> {
@@ -122,10 +167,17 @@ fn check_clauses(rt: &impl Abort, alloc: Global, cone: &Cone) -> Result<(), Fail
     }
 }
 
+fn check_query(rt: &impl Abort, alloc: Global, job: &Job) -> Result<(), Fail>
+    requires { IsReplayed job.now.netlist job.now.recorded job.now.history }
+{
+    let cone = third_cone(alloc, job)?;
+    check_clauses(rt, alloc, &cone)
+}
+
 #[test]
 fn clauses_of_either(rt: HostRuntime) -> Result<(), Fail> {
     let job = Job::read(rt.alloc(), EITHER, UNKNOWN)?;
-    check_clauses(&rt, rt.alloc(), &third_cone(rt.alloc(), &job)?)
+    check_query(&rt, rt.alloc(), &job)
 }
 
 #[test]

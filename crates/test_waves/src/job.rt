@@ -2,6 +2,8 @@
 
 ghost use Rattle.std.specs.Prelude.{◌≡◌, ◌≤◌, ◌^◌, IfOk, length};
 ghost use Rattle.test_waves.specs.Replayed.{IsReplayed};
+ghost use Rattle.xr_job.specs.Netlist.{FitsNetlist};
+ghost use Rattle.xr_job.specs.Recorded.{FitsRecorded};
 ghost use Rattle.xr_wave.specs.Contents.{IsFinished};
 
 use std::alloc::Global;
@@ -38,8 +40,7 @@ impl Job {
         ensures { IfOk result (λ job. IsReplayed job.netlist job.recorded job.history) }
     {
         let netlist = read_netlist(alloc, netlist, "m")?;
-        let scope = [Bytes::from_vec(b"t".to_vec(alloc)?)];
-        let recorded = read_recording(alloc, &netlist, recording, &scope, 1, StartRule::Cold)?;
+        let recorded = recorded_in(alloc, &netlist, recording)?;
         let history = replay_and_compare(alloc, &netlist, &recorded)?;
         Ok(Job {
             netlist,
@@ -93,6 +94,24 @@ impl Job {
         )?;
         Ok(history)
     }
+
+    fn check_replay(&self, alloc: Global) -> Result<(), Fail>
+        requires { IsReplayed self.now.netlist self.now.recorded self.now.history }
+    {
+        let _history = self.replayed_again(alloc)?;
+        Ok(())
+    }
+}
+
+/// What the recording has in the scope `t`.
+fn recorded_in(alloc: Global, netlist: &Netlist, recording: &[u8]) -> Result<Recorded, Fail>
+    requires size { length recording.now ≤ 2 ^ 28 }
+    requires fits { FitsNetlist netlist.now }
+    ensures { IfOk result (FitsRecorded netlist.now.design) }
+{
+    let scope = [Bytes::from_vec(b"t".to_vec(alloc)?)];
+    let recorded = read_recording(alloc, netlist, recording, &scope, 1, StartRule::Cold)?;
+    Ok(recorded)
 }
 
 #[test]
@@ -101,8 +120,7 @@ fn an_inverter_is_replayed(rt: HostRuntime) -> Result<(), Fail> {
     let recording =
         b"$scope module t $end $var wire 1 ! a $end $var wire 1 # y $end $enddefinitions $end #0 1! 0#";
     let job = Job::read(rt.alloc(), netlist, recording)?;
-    let _history = job.replayed_again(rt.alloc())?;
-    Ok(())
+    job.check_replay(rt.alloc())
 }
 
 #[test]

@@ -1,6 +1,7 @@
 //! Finished waves: their worlds, fillings and histories, and the report of one.
 
 ghost use Rattle.std.specs.Prelude.{◌≡◌, ◌<◌, length};
+ghost use Rattle.test_waves.specs.Replayed.{IsReplayed};
 ghost use Rattle.xr_design.specs.Fits.{place_at};
 ghost use Rattle.xr_match.specs.Binding.{FitsBinding};
 ghost use Rattle.xr_wave.specs.Contents.{IsFinished, IsWritten, job};
@@ -47,18 +48,37 @@ fn shown_at(wave: &Wave<'_>, history: &History, place: Place) -> Value
 /// Compares the one place, which is free, in the worlds of its two fillings.
 fn check_worlds(rt: &impl Abort, alloc: Global, wave: &Wave<'_>) -> Result<(), Fail> {
     assert_eq!(rt; wave.count(), 1);
-    let place = place_of(wave, 0);
+    check_one(rt, alloc, wave, place_of(wave, 0))?;
+    check_zero(rt, alloc, wave, place_of(wave, 0))
+}
+
+fn check_one(rt: &impl Abort, alloc: Global, wave: &Wave<'_>, place: Place) -> Result<(), Fail>
+    requires { IsWritten wave.now place }
+{
     let one = fill(alloc, wave, &Items::from_vec([place].to_vec(alloc)?))?;
     assert!(rt; one.value(place));
+    Ok(())
+}
+
+fn check_zero(rt: &impl Abort, alloc: Global, wave: &Wave<'_>, place: Place) -> Result<(), Fail>
+    requires { IsWritten wave.now place }
+{
     let zero = fill(alloc, wave, &Items::from_vec(Vec::new(alloc)))?;
     assert!(rt; !zero.value(place));
     Ok(())
 }
 
+fn check_free(rt: &impl Abort, alloc: Global, job: &Job) -> Result<(), Fail>
+    requires { IsReplayed job.now.netlist job.now.recorded job.now.history }
+{
+    let wave = job.repaired(alloc)?;
+    check_worlds(rt, alloc, &wave)
+}
+
 #[test]
 fn a_free_place_has_its_filling(rt: HostRuntime) -> Result<(), Fail> {
     let job = Job::read(rt.alloc(), ONE_INPUT, UNKNOWN)?;
-    check_worlds(&rt, rt.alloc(), &job.repaired(rt.alloc())?)
+    check_free(&rt, rt.alloc(), &job)
 }
 
 /// Compares the fillings that show the second place unknown, and the third settled.
@@ -94,12 +114,24 @@ fn check_history(rt: &impl Abort, alloc: Global, wave: &Wave<'_>) -> Result<(), 
     Ok(())
 }
 
+fn check_complement(rt: &impl Abort, alloc: Global, wave: &Wave<'_>) -> Result<(), Fail>
+    requires { IsFinished wave.now }
+{
+    check_pairs(rt, alloc, wave)?;
+    check_history(rt, alloc, wave)
+}
+
+fn check_never_both(rt: &impl Abort, alloc: Global, job: &Job) -> Result<(), Fail>
+    requires { IsReplayed job.now.netlist job.now.recorded job.now.history }
+{
+    let wave = job.repaired(alloc)?;
+    check_complement(rt, alloc, &wave)
+}
+
 #[test]
 fn a_net_and_its_complement_are_never_both_one(rt: HostRuntime) -> Result<(), Fail> {
     let job = Job::read(rt.alloc(), NEVER_BOTH, UNKNOWN)?;
-    let wave = job.repaired(rt.alloc())?;
-    check_pairs(&rt, rt.alloc(), &wave)?;
-    check_history(&rt, rt.alloc(), &wave)
+    check_never_both(&rt, rt.alloc(), &job)
 }
 
 fn check_report(
@@ -120,9 +152,15 @@ fn check_report(
     Ok(())
 }
 
+fn check_unknown(rt: &impl Abort, alloc: Global, job: &Job) -> Result<(), Fail>
+    requires { IsReplayed job.now.netlist job.now.recorded job.now.history }
+{
+    let wave = job.repaired(alloc)?;
+    check_report(rt, alloc, &wave, &job.recorded.binding)
+}
+
 #[test]
 fn a_free_place_is_unknown(rt: HostRuntime) -> Result<(), Fail> {
     let job = Job::read(rt.alloc(), ONE_INPUT, UNKNOWN)?;
-    let wave = job.repaired(rt.alloc())?;
-    check_report(&rt, rt.alloc(), &wave, &job.recorded.binding)
+    check_unknown(&rt, rt.alloc(), &job)
 }

@@ -4,10 +4,11 @@ ghost use Rattle.std.specs.Prelude.{◌≡◌, IfOk, length};
 
 use crate::designs::nets::{net, two_moments};
 use std::alloc::{AllocError, Global};
+use std::process::Abort;
 use std::test::Fail;
 use xr_base::Items;
 use xr_cell::Value;
-use xr_design::{Design, Driver, History, Place};
+use xr_design::{Design, Driver, History, Place, Stim};
 
 fn two_nets(alloc: Global) -> Result<Design, AllocError>
     ensures { IfOk result (λ design. length design.nets ≡ 2) }
@@ -21,11 +22,11 @@ fn two_nets(alloc: Global) -> Result<Design, AllocError>
     })
 }
 
-#[test]
-fn a_place_has_what_was_set(rt: HostRuntime) -> Result<(), Fail> {
-    let design = two_nets(rt.alloc())?;
-    let stim = two_moments(rt.alloc())?;
-    let mut history = History::blank(rt.alloc(), &design, &stim)?;
+/// A place has what was set last, and another keeps what it has.
+fn check_set(rt: &impl Abort, history: &mut History)
+    requires nets { history.old.nets ≡ 2 }
+    requires places { length history.old.places ≡ 8 }
+{
     let set = Place { step: 1, net: 0 };
     let other = Place { step: 3, net: 1 };
     assert_eq!(rt; history.shown(set), Value::X, "blank");
@@ -40,5 +41,21 @@ fn a_place_has_what_was_set(rt: HostRuntime) -> Result<(), Fail> {
         assert_eq!(rt; history.kept(set), kept, "{shown:?} and {kept:?}");
         assert_eq!(rt; history.shown(other), Value::X, "another place");
     }
+}
+
+fn check_blank(rt: &impl Abort, alloc: Global, design: &Design, stim: &Stim) -> Result<(), Fail>
+    requires nets { length design.now.nets ≡ 2 }
+    requires times { length stim.now.times ≡ 2 }
+    requires rounds { stim.now.rounds ≡ 2 }
+{
+    let mut history = History::blank(alloc, design, stim)?;
+    check_set(rt, &mut history);
     Ok(())
+}
+
+#[test]
+fn a_place_has_what_was_set(rt: HostRuntime) -> Result<(), Fail> {
+    let design = two_nets(rt.alloc())?;
+    let stim = two_moments(rt.alloc())?;
+    check_blank(&rt, rt.alloc(), &design, &stim)
 }

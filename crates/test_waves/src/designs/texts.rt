@@ -6,10 +6,11 @@ ghost use Rattle.xr_match.specs.Binding.{FitsBinding};
 
 use crate::designs::nets::{one_net, part, two_moments};
 use std::alloc::{AllocError, Global};
+use std::process::Abort;
 use std::test::Fail;
 use xr_base::Items;
 use xr_cell::Value;
-use xr_design::{Bytes, History, Place};
+use xr_design::{Bytes, Design, History, Place, Stim};
 use xr_match::{Binding, Bound};
 use xr_out::vcd_text;
 
@@ -38,18 +39,52 @@ fn binding(alloc: Global) -> Result<Binding, AllocError>
     })
 }
 
-#[test]
-fn a_net_is_written_with_its_moments(rt: HostRuntime) -> Result<(), Fail> {
-    let alloc = rt.alloc();
+/// The net `a-b`.
+fn design(alloc: Global) -> Result<Design, AllocError>
+    ensures { IfOk result (λ design. length design.nets ≡ 1) }
+{
     let parts = vec![in alloc; part(alloc, b"a-b", true)?]?;
-    let design = one_net(alloc, parts, None)?;
-    let stim = two_moments(alloc)?;
-    let binding = binding(alloc)?;
-    let mut history = History::blank(alloc, &design, &stim)?;
+    one_net(alloc, parts, None)
+}
+
+/// Compares the text of the net, which the second moment sets to 1.
+fn check_text(
+    rt: &impl Abort,
+    alloc: Global,
+    design: &Design,
+    binding: &Binding,
+    stim: &Stim,
+) -> Result<(), Fail>
+    requires nets { length design.now.nets ≡ 1 }
+    requires binding { FitsBinding design.now binding.now }
+    requires times { length stim.now.times ≡ 2 }
+    requires rounds { stim.now.rounds ≡ 2 }
+{
+    let mut history = History::blank(alloc, design, stim)?;
     history.set(Place { step: 3, net: 0 }, Value::One, Value::X);
-    let text = vcd_text(alloc, &design, &binding, &stim, &history)?;
+    let text = vcd_text(alloc, design, binding, stim, &history)?;
     let want =
         b"$version xrepair $end\n$timescale 1ns $end\n$scope module top $end\n$var wire 1 ! \\a-b $end\n$upscope $end\n$enddefinitions $end\n#0\n$dumpvars\nx!\n$end\n#10\n1!\n";
     assert_eq!(rt; text.as_slice(), want.as_slice());
     Ok(())
+}
+
+fn check_written(
+    rt: &impl Abort,
+    alloc: Global,
+    design: &Design,
+    binding: &Binding,
+) -> Result<(), Fail>
+    requires nets { length design.now.nets ≡ 1 }
+    requires binding { FitsBinding design.now binding.now }
+{
+    let stim = two_moments(alloc)?;
+    check_text(rt, alloc, design, binding, &stim)
+}
+
+#[test]
+fn a_net_is_written_with_its_moments(rt: HostRuntime) -> Result<(), Fail> {
+    let design = design(rt.alloc())?;
+    let binding = binding(rt.alloc())?;
+    check_written(&rt, rt.alloc(), &design, &binding)
 }

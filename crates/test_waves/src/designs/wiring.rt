@@ -9,10 +9,11 @@ ghost use Rattle.xr_cell.specs.declared.gate.Gate.TheVariants as gate;
 
 use crate::designs::nets::{net, swapped};
 use std::alloc::{AllocError, Global};
+use std::process::Abort;
 use std::test::Fail;
 use xr_base::Items;
 use xr_cell::Gate;
-use xr_design::{Design, Driver, Pin, Table};
+use xr_design::{Design, Driver, Order, Pin, Table};
 use xr_wiring::{Kind, Wiring};
 
 /// An `and` of the second net, which nothing drives, and of a dead pin.
@@ -33,15 +34,22 @@ fn design(alloc: Global) -> Result<Design, AllocError>
     })
 }
 
-#[test]
-fn a_pin_is_named_by_its_position(rt: HostRuntime) -> Result<(), Fail> {
-    let alloc = rt.alloc();
-    let design = design(alloc)?;
-    let order = swapped(alloc)?;
-    let wiring = Wiring::of(alloc, &design, &order)?;
+fn check_wiring(rt: &impl Abort, alloc: Global, design: &Design, order: &Order) -> Result<(), Fail>
+    requires design { map (λ (n : AnyNet). n.driver) design.now.nets ≡
+        drivers.Cell (table.Gate gate.And) (pin.Net 1 ∷ pin.Dead ∷ []) ∷ drivers.Undriven ∷ [] }
+    requires order { order.now ≡ 1 ∷ 0 ∷ [] }
+{
+    let wiring = Wiring::of(alloc, design, order)?;
     assert_eq!(rt; wiring.kind(0), Kind::Undriven);
     assert_eq!(rt; wiring.kind(1), Kind::Gate(Gate::And));
     assert_eq!(rt; wiring.pins(0).len(), 0);
     assert_eq!(rt; wiring.pins(1), [Pin::Net(0), Pin::Dead].as_slice());
     Ok(())
+}
+
+#[test]
+fn a_pin_is_named_by_its_position(rt: HostRuntime) -> Result<(), Fail> {
+    let design = design(rt.alloc())?;
+    let order = swapped(rt.alloc())?;
+    check_wiring(&rt, rt.alloc(), &design, &order)
 }

@@ -1,6 +1,6 @@
 -- The history has two nets at four steps.
 use Rattle.std.proofs.Common.{◌≡◌, length}
-use Rattle.test_waves.proofs.designs.history.a_place_has_what_was_set.Given as goal
+use Rattle.test_waves.proofs.designs.history.check_set.Given as goal
 
 abbrev pub invariant-loop-shown : goal.invariant-loop-shown
 invariant-loop-shown g l = (l.history.nets ≡ 2) × (length l.history.places ≡ 8)
