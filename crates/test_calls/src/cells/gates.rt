@@ -54,16 +54,23 @@ fn one_input(rt: HostRuntime) {
     check_single(&rt, Gate::Not, *b"10xx");
 }
 
+/// The value of a gate of ten inputs.
+fn check_ten(rt: &impl Abort, kind: Gate, pins: &[Value; 10], want: Value)
+    requires { FitsGate kind 10 }
+{
+    assert_eq!(rt; gate_value(kind, pins), want);
+}
+
 #[test]
 fn ten_inputs(rt: HostRuntime) {
     let mut pins = [Value::One; 10];
-    assert_eq!(rt; gate_value(Gate::And, &pins), Value::One);
-    assert_eq!(rt; gate_value(Gate::Xor, &pins), Value::Zero);
+    check_ten(&rt, Gate::And, &pins, Value::One);
+    check_ten(&rt, Gate::Xor, &pins, Value::Zero);
     pins[9] = Value::Zero;
-    assert_eq!(rt; gate_value(Gate::And, &pins), Value::Zero);
-    assert_eq!(rt; gate_value(Gate::Xor, &pins), Value::One);
+    check_ten(&rt, Gate::And, &pins, Value::Zero);
+    check_ten(&rt, Gate::Xor, &pins, Value::One);
     pins[4] = Value::X;
-    assert_eq!(rt; gate_value(Gate::Nand, &pins), Value::One);
-    assert_eq!(rt; gate_value(Gate::Or, &pins), Value::One);
-    assert_eq!(rt; gate_value(Gate::Xnor, &pins), Value::X);
+    check_ten(&rt, Gate::Nand, &pins, Value::One);
+    check_ten(&rt, Gate::Or, &pins, Value::One);
+    check_ten(&rt, Gate::Xnor, &pins, Value::X);
 }

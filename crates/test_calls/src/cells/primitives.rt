@@ -277,6 +277,13 @@ fn next_state(rt: HostRuntime) -> Result<(), Fail> {
     Ok(())
 }
 
+/// Compares the value at three letters.
+fn check_look(rt: &impl Abort, table: &Udp, letters: [u8; 3], want: u8) {
+    let pins = letters.map(value_of_letter);
+    assert!(rt; !table.sequential() && table.inputs() == 3);
+    assert_eq!(rt; table.look(&pins).letter(), want, "{letters:?}");
+}
+
 // The data of the select where it is known, else the value on which both agree.
 #[test]
 fn look_by_hand(rt: HostRuntime) -> Result<(), Fail> {
@@ -292,9 +299,7 @@ fn look_by_hand(rt: HostRuntime) -> Result<(), Fail> {
         (*b"zx0", b'x'),
     ];
     for (letters, want) in rows {
-        let pins = letters.map(value_of_letter);
-        assert!(&rt; !table.sequential() && table.inputs() == 3);
-        assert_eq!(&rt; table.look(&pins).letter(), want, "{letters:?}");
+        check_look(&rt, &table, letters, want);
     }
     Ok(())
 }

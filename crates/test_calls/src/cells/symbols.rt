@@ -1,5 +1,7 @@
 //! Which steps of a pin each symbol stands for.
 
+ghost use Rattle.std.specs.Prelude.{◌<◌};
+
 use crate::cells::tables::row_of;
 use std::alloc::Global;
 use std::process::Abort;
@@ -11,11 +13,16 @@ use xr_cell::{Symbol, Udp, Value};
 fn check_steps(rt: &impl Abort, alloc: Global, symbol: Symbol, want: [u8; 9]) -> Result<(), Fail> {
     let row = row_of(alloc, &[symbol], Some(b'?'), b'1')?;
     let table = Udp::build(alloc, true, 1, &[row], Value::Zero)?;
-    let values = [Value::Zero, Value::One, Value::X, Value::Z];
+    check_table(rt, &table, symbol, &want);
+    Ok(())
+}
+
+/// The same of the table that has the row alone.
+fn check_table(rt: &impl Abort, table: &Udp, symbol: Symbol, want: &[u8; 9]) {
     for old in 0..4 {
         for new in 0..4 {
             let step = 3 * (if old == 3 { 2 } else { old }) + (if new == 3 { 2 } else { new });
-            let matches = table.change(&[values[new]], 0, values[old], Value::Zero) == Value::One;
+            let matches = matches_step(rt, table, old, new);
             assert_eq!(rt;
                 matches,
                 want[step] == b'1',
@@ -23,7 +30,16 @@ fn check_steps(rt: &impl Abort, alloc: Global, symbol: Symbol, want: [u8; 9]) ->
             );
         }
     }
-    Ok(())
+}
+
+/// Whether the row matches a step from one of 0, 1, x and z to another.
+fn matches_step(rt: &impl Abort, table: &Udp, old: usize, new: usize) -> bool
+    requires old { old < 4 }
+    requires new { new < 4 }
+{
+    let values = [Value::Zero, Value::One, Value::X, Value::Z];
+    assert!(rt; table.sequential() && table.inputs() == 1);
+    table.change(&[values[new]], 0, values[old], Value::Zero) == Value::One
 }
 
 #[test]

@@ -2,57 +2,85 @@
 
 use crate::elaboration::items::{net_a, top, word, zero};
 use std::alloc::{AllocError, Global};
+use std::process::Abort;
 use std::test::Fail;
 use xr_base::Items;
 use xr_cell::{Udp, Value};
 use xr_elab_gates::{add_assign, add_gate, add_udp, add_value};
+use xr_elab_names::Scope;
 use xr_elab_nets::Nets;
 use xr_elab_prims::Clocks;
 use xr_netlist_grammar::{
-    Connection, Connections, Declare, GateItem, GateKind, InstanceItem, NetKind,
+    Connection, Connections, Declare, GateItem, GateKind, InstanceItem, Item, NetKind,
 };
+
+/// Adds an instance of a primitive of one input.
+fn add_instance<'t>(
+    alloc: Global,
+    scope: &mut Scope<'t>,
+    nets: &mut Nets,
+    item: &'t InstanceItem,
+) -> Result<(), Fail> {
+    let mut udps = Vec::new(alloc);
+    udps.push(Udp::build(alloc, false, 1, &[], Value::X)?)?;
+    let mut clocks = Clocks::new(alloc, &udps);
+    add_udp(alloc, scope, nets, &mut clocks, 0, &udps[0], item)?;
+    Ok(())
+}
+
+/// The first net has a driver once the item is added.
+fn check_added<'t>(
+    rt: &impl Abort,
+    alloc: Global,
+    scope: &mut Scope<'t>,
+    nets: &mut Nets,
+    item: &'t Item,
+) -> Result<(), Fail> {
+    match item {
+        Item::Declare(declare) => add_value(alloc, scope, nets, declare)?,
+        Item::Gate(gate) => add_gate(alloc, scope, nets, gate)?,
+        Item::Instance(instance) => add_instance(alloc, scope, nets, instance)?,
+        Item::Assign(left, right) => add_assign(alloc, scope, nets, left, right)?,
+    }
+    assert!(rt; nets.has_driver(0));
+    Ok(())
+}
+
+/// The same where there is no other item.
+fn check_drives(rt: &impl Abort, alloc: Global, item: &Item) -> Result<(), Fail> {
+    let mut nets = Nets::new(alloc);
+    let mut scope = top(alloc);
+    check_added(rt, alloc, &mut scope, &mut nets, item)
+}
 
 #[test]
 fn pullup_drives(rt: HostRuntime) -> Result<(), Fail> {
     let alloc = rt.alloc();
-    let item = GateItem {
+    let item = Item::Gate(GateItem {
         kind: GateKind::Pullup,
         at: 0,
         terminals: Items::from_vec(vec![in alloc; net_a(alloc)?]?),
-    };
-    let mut nets = Nets::new(alloc);
-    let mut scope = top(alloc);
-    add_gate(alloc, &mut scope, &mut nets, &item)?;
-    assert!(rt; nets.has_driver(0));
-    Ok(())
+    });
+    check_drives(&rt, alloc, &item)
 }
 
 #[test]
 fn assignment_drives(rt: HostRuntime) -> Result<(), Fail> {
     let alloc = rt.alloc();
-    let left = net_a(alloc)?;
-    let right = zero(alloc)?;
-    let mut nets = Nets::new(alloc);
-    let mut scope = top(alloc);
-    add_assign(alloc, &mut scope, &mut nets, &left, &right)?;
-    assert!(rt; nets.has_driver(0));
-    Ok(())
+    let item = Item::Assign(net_a(alloc)?, zero(alloc)?);
+    check_drives(&rt, alloc, &item)
 }
 
 #[test]
 fn value_drives(rt: HostRuntime) -> Result<(), Fail> {
     let alloc = rt.alloc();
-    let declare = Declare {
+    let item = Item::Declare(Declare {
         what: NetKind::Wire,
         range: None,
         name: word(alloc, b"a")?,
         value: Some(zero(alloc)?),
-    };
-    let mut nets = Nets::new(alloc);
-    let mut scope = top(alloc);
-    add_value(alloc, &mut scope, &mut nets, &declare)?;
-    assert!(rt; nets.has_driver(0));
-    Ok(())
+    });
+    check_drives(&rt, alloc, &item)
 }
 
 /// An instance of `a` whose output is the net `a` and whose input is 0.
@@ -77,21 +105,6 @@ fn instance(alloc: Global) -> Result<InstanceItem, AllocError> {
 #[test]
 fn primitive_drives(rt: HostRuntime) -> Result<(), Fail> {
     let alloc = rt.alloc();
-    let mut udps = Vec::new(alloc);
-    udps.push(Udp::build(alloc, false, 1, &[], Value::X)?)?;
-    let item = instance(alloc)?;
-    let mut clocks = Clocks::new(alloc, &udps);
-    let mut nets = Nets::new(alloc);
-    let mut scope = top(alloc);
-    add_udp(
-        alloc,
-        &mut scope,
-        &mut nets,
-        &mut clocks,
-        0,
-        &udps[0],
-        &item,
-    )?;
-    assert!(rt; nets.has_driver(0));
-    Ok(())
+    let item = Item::Instance(instance(alloc)?);
+    check_drives(&rt, alloc, &item)
 }

@@ -1,31 +1,56 @@
 //! The bits of expressions.
 
 use crate::elaboration::items::{expr, top, word};
+use std::alloc::Global;
+use std::process::Abort;
 use std::test::Fail;
 use xr_elab_bits::{Role, Runs, bits_of, name_bits};
+use xr_elab_names::Scope;
 use xr_elab_nets::Nets;
-use xr_netlist_grammar::PartKind;
+use xr_netlist_grammar::{Expr, PartKind, Word};
+
+/// What has bits.
+#[derive(Drop)]
+enum Wide {
+    Expression(Expr),
+    Name(Word),
+}
+
+/// The bits are so many.
+fn check_bits<'t>(
+    rt: &impl Abort,
+    alloc: Global,
+    scope: &mut Scope<'t>,
+    wide: &'t Wide,
+    width: usize,
+) -> Result<(), Fail> {
+    let mut nets = Nets::new(alloc);
+    let bits = match wide {
+        Wide::Expression(expr) => bits_of(alloc, scope, &mut nets, Role::Taken, expr)?,
+        Wide::Name(word) => name_bits(alloc, scope, &mut nets, Role::Driven, word)?,
+    };
+    assert!(rt; bits.has_width(width));
+    Ok(())
+}
+
+/// The same where no name is declared.
+fn check_width(rt: &impl Abort, alloc: Global, wide: &Wide, width: usize) -> Result<(), Fail> {
+    let mut scope = top(alloc);
+    check_bits(rt, alloc, &mut scope, wide, width)
+}
 
 #[test]
 fn literal_has_its_bits(rt: HostRuntime) -> Result<(), Fail> {
     let alloc = rt.alloc();
-    let expr = expr(alloc, PartKind::Literal(3, 6))?;
-    let mut nets = Nets::new(alloc);
-    let mut scope = top(alloc);
-    let bits = bits_of(alloc, &mut scope, &mut nets, Role::Taken, &expr)?;
-    assert!(rt; bits.has_width(3));
-    Ok(())
+    let wide = Wide::Expression(expr(alloc, PartKind::Literal(3, 6))?);
+    check_width(&rt, alloc, &wide, 3)
 }
 
 #[test]
 fn name_is_a_wire(rt: HostRuntime) -> Result<(), Fail> {
     let alloc = rt.alloc();
-    let word = word(alloc, b"a")?;
-    let mut nets = Nets::new(alloc);
-    let mut scope = top(alloc);
-    let bits = name_bits(alloc, &mut scope, &mut nets, Role::Driven, &word)?;
-    assert!(rt; bits.has_width(1));
-    Ok(())
+    let wide = Wide::Name(word(alloc, b"a")?);
+    check_width(&rt, alloc, &wide, 1)
 }
 
 #[test]
