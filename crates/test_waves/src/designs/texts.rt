@@ -63,8 +63,9 @@ fn check_text(
     let mut history = History::blank(alloc, design, stim)?;
     history.set(Place { step: 3, net: 0 }, Value::One, Value::X);
     let text = vcd_text(alloc, design, binding, stim, &history)?;
-    let want =
-        b"$version xrepair $end\n$timescale 1ns $end\n$scope module top $end\n$var wire 1 ! \\a-b $end\n$upscope $end\n$enddefinitions $end\n#0\n$dumpvars\nx!\n$end\n#10\n1!\n";
+    let want = b"$version xrepair $end\n$timescale 1ns $end\n$scope module top $end\n\
+        $var wire 1 ! \\a-b $end\n$upscope $end\n$enddefinitions $end\n\
+        #0\n$dumpvars\nx!\n$end\n#10\n1!\n";
     assert_eq!(rt; text.as_slice(), want.as_slice());
     Ok(())
 }
