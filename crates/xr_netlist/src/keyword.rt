@@ -1,6 +1,6 @@
 //! The words that the grammar quotes, and those that the profile leaves out (IEEE 1364-2005, annex B), group by group.
 
-ghost use Rattle.std.specs.Prelude.{◌≡◌};
+ghost use Rattle.std.specs.Prelude.{◌≡◌, bytes_eq};
 ghost use Rattle.xr_netlist_grammar.specs.Lexemes as spec;
 ghost use Rattle.xr_netlist.specs.Groups as words;
 ghost use Rattle.xr_netlist.specs.Shown.{shown};
@@ -8,6 +8,13 @@ ghost use Rattle.xr_netlist.specs.Shown.{shown};
 use crate::lexeme::Lexeme;
 use xr_cell::Gate;
 use xr_netlist_grammar::{Fixed, GateKind};
+
+/// Whether it is this word.
+pub fn is_word(text: &[u8], word: &[u8]) -> bool
+    ensures { result ≡ bytes_eq text.now word.now }
+{
+    text == word
+}
 
 /// A word that the grammar quotes, or else a name.
 #[tactic(auto, using(crate::proofs::Groups::word_by_groups))]
@@ -30,13 +37,13 @@ pub fn word<'a>(text: &'a [u8]) -> Lexeme<'a>
 fn head_word(text: &[u8]) -> Option<Fixed>
     ensures { words.Finds words.head_words text.now spec.quoted result }
 {
-    if text == b"module".as_slice() {
+    if is_word(text, b"module") {
         Some(Fixed::Module)
-    } else if text == b"endmodule".as_slice() {
+    } else if is_word(text, b"endmodule") {
         Some(Fixed::Endmodule)
-    } else if text == b"input".as_slice() {
+    } else if is_word(text, b"input") {
         Some(Fixed::Input)
-    } else if text == b"output".as_slice() {
+    } else if is_word(text, b"output") {
         Some(Fixed::Output)
     } else {
         None
@@ -46,17 +53,17 @@ fn head_word(text: &[u8]) -> Option<Fixed>
 fn item_word(text: &[u8]) -> Option<Fixed>
     ensures { words.Finds words.item_words text.now spec.quoted result }
 {
-    if text == b"wire".as_slice() {
+    if is_word(text, b"wire") {
         Some(Fixed::Wire)
-    } else if text == b"tri".as_slice() {
+    } else if is_word(text, b"tri") {
         Some(Fixed::Tri)
-    } else if text == b"supply0".as_slice() {
+    } else if is_word(text, b"supply0") {
         Some(Fixed::Supply0)
-    } else if text == b"supply1".as_slice() {
+    } else if is_word(text, b"supply1") {
         Some(Fixed::Supply1)
-    } else if text == b"reg".as_slice() {
+    } else if is_word(text, b"reg") {
         Some(Fixed::Reg)
-    } else if text == b"assign".as_slice() {
+    } else if is_word(text, b"assign") {
         Some(Fixed::Assign)
     } else {
         None
@@ -66,25 +73,25 @@ fn item_word(text: &[u8]) -> Option<Fixed>
 fn gate_word(text: &[u8]) -> Option<GateKind>
     ensures { words.Finds words.gate_words text.now spec.gate result }
 {
-    if text == b"and".as_slice() {
+    if is_word(text, b"and") {
         Some(GateKind::Logic(Gate::And))
-    } else if text == b"nand".as_slice() {
+    } else if is_word(text, b"nand") {
         Some(GateKind::Logic(Gate::Nand))
-    } else if text == b"or".as_slice() {
+    } else if is_word(text, b"or") {
         Some(GateKind::Logic(Gate::Or))
-    } else if text == b"nor".as_slice() {
+    } else if is_word(text, b"nor") {
         Some(GateKind::Logic(Gate::Nor))
-    } else if text == b"xor".as_slice() {
+    } else if is_word(text, b"xor") {
         Some(GateKind::Logic(Gate::Xor))
-    } else if text == b"xnor".as_slice() {
+    } else if is_word(text, b"xnor") {
         Some(GateKind::Logic(Gate::Xnor))
-    } else if text == b"buf".as_slice() {
+    } else if is_word(text, b"buf") {
         Some(GateKind::Logic(Gate::Buf))
-    } else if text == b"not".as_slice() {
+    } else if is_word(text, b"not") {
         Some(GateKind::Logic(Gate::Not))
-    } else if text == b"pullup".as_slice() {
+    } else if is_word(text, b"pullup") {
         Some(GateKind::Pullup)
-    } else if text == b"pulldown".as_slice() {
+    } else if is_word(text, b"pulldown") {
         Some(GateKind::Pulldown)
     } else {
         None
@@ -94,19 +101,19 @@ fn gate_word(text: &[u8]) -> Option<GateKind>
 fn block_word(text: &[u8]) -> Option<Fixed>
     ensures { words.Finds words.block_words text.now spec.quoted result }
 {
-    if text == b"specify".as_slice() {
+    if is_word(text, b"specify") {
         Some(Fixed::Specify)
-    } else if text == b"endspecify".as_slice() {
+    } else if is_word(text, b"endspecify") {
         Some(Fixed::Endspecify)
-    } else if text == b"primitive".as_slice() {
+    } else if is_word(text, b"primitive") {
         Some(Fixed::Primitive)
-    } else if text == b"endprimitive".as_slice() {
+    } else if is_word(text, b"endprimitive") {
         Some(Fixed::Endprimitive)
-    } else if text == b"table".as_slice() {
+    } else if is_word(text, b"table") {
         Some(Fixed::Table)
-    } else if text == b"endtable".as_slice() {
+    } else if is_word(text, b"endtable") {
         Some(Fixed::Endtable)
-    } else if text == b"initial".as_slice() {
+    } else if is_word(text, b"initial") {
         Some(Fixed::Initial)
     } else {
         None
@@ -128,61 +135,61 @@ pub fn is_word_left_out(text: &[u8]) -> bool
 fn is_general(text: &[u8]) -> bool
     ensures { result ≡ words.is_among words.general text.now }
 {
-    text == b"inout".as_slice()
-        || text == b"always".as_slice()
-        || text == b"parameter".as_slice()
-        || text == b"localparam".as_slice()
-        || text == b"defparam".as_slice()
-        || text == b"generate".as_slice()
-        || text == b"genvar".as_slice()
+    is_word(text, b"inout")
+        || is_word(text, b"always")
+        || is_word(text, b"parameter")
+        || is_word(text, b"localparam")
+        || is_word(text, b"defparam")
+        || is_word(text, b"generate")
+        || is_word(text, b"genvar")
 }
 
 fn is_behavioral(text: &[u8]) -> bool
     ensures { result ≡ words.is_among words.behavioral text.now }
 {
-    text == b"function".as_slice()
-        || text == b"task".as_slice()
-        || text == b"event".as_slice()
-        || text == b"integer".as_slice()
-        || text == b"real".as_slice()
-        || text == b"realtime".as_slice()
-        || text == b"time".as_slice()
+    is_word(text, b"function")
+        || is_word(text, b"task")
+        || is_word(text, b"event")
+        || is_word(text, b"integer")
+        || is_word(text, b"real")
+        || is_word(text, b"realtime")
+        || is_word(text, b"time")
 }
 
 fn is_wired_net(text: &[u8]) -> bool
     ensures { result ≡ words.is_among words.wired_nets text.now }
 {
-    text == b"wand".as_slice()
-        || text == b"wor".as_slice()
-        || text == b"triand".as_slice()
-        || text == b"trior".as_slice()
-        || text == b"tri0".as_slice()
-        || text == b"tri1".as_slice()
-        || text == b"trireg".as_slice()
+    is_word(text, b"wand")
+        || is_word(text, b"wor")
+        || is_word(text, b"triand")
+        || is_word(text, b"trior")
+        || is_word(text, b"tri0")
+        || is_word(text, b"tri1")
+        || is_word(text, b"trireg")
 }
 
 fn is_switch(text: &[u8]) -> bool
     ensures { result ≡ words.is_among words.switches text.now }
 {
-    text == b"bufif0".as_slice()
-        || text == b"bufif1".as_slice()
-        || text == b"notif0".as_slice()
-        || text == b"notif1".as_slice()
-        || text == b"nmos".as_slice()
-        || text == b"pmos".as_slice()
-        || text == b"cmos".as_slice()
-        || text == b"rnmos".as_slice()
-        || text == b"rpmos".as_slice()
-        || text == b"rcmos".as_slice()
+    is_word(text, b"bufif0")
+        || is_word(text, b"bufif1")
+        || is_word(text, b"notif0")
+        || is_word(text, b"notif1")
+        || is_word(text, b"nmos")
+        || is_word(text, b"pmos")
+        || is_word(text, b"cmos")
+        || is_word(text, b"rnmos")
+        || is_word(text, b"rpmos")
+        || is_word(text, b"rcmos")
 }
 
 fn is_pass_switch(text: &[u8]) -> bool
     ensures { result ≡ words.is_among words.pass_switches text.now }
 {
-    text == b"tran".as_slice()
-        || text == b"tranif0".as_slice()
-        || text == b"tranif1".as_slice()
-        || text == b"rtran".as_slice()
-        || text == b"rtranif0".as_slice()
-        || text == b"rtranif1".as_slice()
+    is_word(text, b"tran")
+        || is_word(text, b"tranif0")
+        || is_word(text, b"tranif1")
+        || is_word(text, b"rtran")
+        || is_word(text, b"rtranif0")
+        || is_word(text, b"rtranif1")
 }

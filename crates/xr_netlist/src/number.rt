@@ -6,6 +6,7 @@ ghost use Rattle.xr_netlist_grammar.specs.Bytes as bytes;
 ghost use Rattle.xr_netlist_grammar.specs.Numbers as spec;
 ghost use Rattle.xr_netlist.specs.Sizes.{size_in, narrow_number};
 
+use crate::keyword::is_word;
 use xr_cell::Value;
 
 /// An int: digits, at most 2^31 - 1.
@@ -40,11 +41,11 @@ pub fn int_of(text: &[u8]) -> Option<u32>
 pub fn bit_of(text: &[u8]) -> Option<Value>
     ensures { result ≡ spec.bit_of text.now }
 {
-    if text == b"1'b0".as_slice() || text == b"0".as_slice() {
+    if is_word(text, b"1'b0") || is_word(text, b"0") {
         Some(Value::Zero)
-    } else if text == b"1'b1".as_slice() || text == b"1".as_slice() {
+    } else if is_word(text, b"1'b1") || is_word(text, b"1") {
         Some(Value::One)
-    } else if text == b"1'bx".as_slice() {
+    } else if is_word(text, b"1'bx") {
         Some(Value::X)
     } else {
         None
