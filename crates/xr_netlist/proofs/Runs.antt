@@ -44,6 +44,8 @@ instance_no_delay u d w h = alike _ _ w (rw h refl) refl
 pub assign_no_delay : (u : Under) (w : Words) → is_fixed fixed.Hash (head w).what ≡ false → goes (assign u) w ≡ goes (expr_start (left u)) w
 assign_no_delay u w h = alike _ _ w (rw h refl) refl
 
+pub ruleset no_delay = (net_no_delay, gate_no_delay, instance_no_delay, assign_no_delay)
+
 -- a delay has no fraction here
 pub no_fraction : (k : Delayed) (w : Words) → is_fixed fixed.Dot (head w).what ≡ false → goes (delay_number k) w ≡ goes (after_delay k) w
 no_fraction (net_delay u what r) w h = alike _ _ w (rw h refl) refl

@@ -35,24 +35,21 @@ pub fn gates(
     ensures shortens { Shortens words.old result words.new }
 {
     may_delay(words)?;
-    'gates: loop {
-        gate(alloc, kind, at, words, items)?;
-        if !words.more(Fixed::Semi)? {
-            return Ok(());
-        }
-    }
+    'gates: while gate(alloc, kind, at, words, items)? {}
+    Ok(())
 }
 
 // gate = [ name ] "(" expr { "," expr } ")"
+/// Whether one more follows.
 fn gate(
     alloc: Global,
     kind: GateKind,
     at: usize,
     words: &mut Reader<'_>,
     items: &mut Vec<Item>,
-) -> Result<(), ParseErr>
-    ensures reads { ReadsItems (λ u. spec.gate_name u kind at) items.old
-        words.old result (λ _ u. spec.after_gate u kind at) items.new words.new }
+) -> Result<bool, ParseErr>
+    ensures reads { ReadsItems (λ u. spec.gate_name u kind at) items.old words.old result
+        (λ more u. cond more (spec.gate_name u kind at) (spec.in_items u)) items.new words.new }
     ensures shortens { Shortens words.old result words.new }
 {
     let _ = words.take_name();
@@ -63,7 +60,7 @@ fn gate(
         at,
         terminals: Items::from_vec(terminals),
     }))?;
-    Ok(())
+    words.more(Fixed::Semi)
 }
 
 // expr { "," expr } ")"
@@ -111,24 +108,21 @@ pub fn instances(
     ensures shortens { Shortens words.old result words.new }
 {
     may_delay(words)?;
-    'instances: loop {
-        instance(alloc, definition, words, items)?;
-        if !words.more(Fixed::Semi)? {
-            return Ok(());
-        }
-    }
+    'instances: while instance(alloc, definition, words, items)? {}
+    Ok(())
 }
 
 // instance = [ name ] "(" [ connections ] ")"
+/// Whether one more follows.
 fn instance(
     alloc: Global,
     definition: Name<'_>,
     words: &mut Reader<'_>,
     items: &mut Vec<Item>,
-) -> Result<(), ParseErr>
+) -> Result<bool, ParseErr>
     ensures reads { let d = word_of_name definition.entry in
-        ReadsItems (λ u. spec.instance_name u d) items.old
-        words.old result (λ _ u. spec.after_instance u d) items.new words.new }
+        ReadsItems (λ u. spec.instance_name u d) items.old words.old result
+        (λ more u. cond more (spec.instance_name u d) (spec.in_items u)) items.new words.new }
     ensures shortens { Shortens words.old result words.new }
 {
     let name = words.take_name();
@@ -139,7 +133,7 @@ fn instance(
         name: may_word(alloc, name)?,
         connections,
     }))?;
-    Ok(())
+    words.more(Fixed::Semi)
 }
 
 fn may_word(alloc: Global, name: Option<Name<'_>>) -> Result<Option<Word>, AllocError>

@@ -50,7 +50,7 @@ pub fn specify(words: &mut Reader<'_>) -> Result<(), ParseErr>
 }
 
 // [ delay ]
-#[tactic(auto, using(crate::proofs::Runs::reads_on, crate::proofs::Runs::net_no_delay, crate::proofs::Runs::gate_no_delay, crate::proofs::Runs::instance_no_delay, crate::proofs::Runs::assign_no_delay))]
+#[tactic(auto, using(crate::proofs::Runs::reads_on, crate::proofs::Runs::no_delay))]
 pub fn may_delay(words: &mut Reader<'_>) -> Result<(), ParseErr>
     ensures net { (u : Under) (what : net_kinds) (r : Range)
         → Reads (spec.net_ranged u what r) words.old result (λ _. spec.net_name u what r) words.new }
