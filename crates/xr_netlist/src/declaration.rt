@@ -47,6 +47,7 @@ pub fn wire_range(
 }
 
 // directed = dir [ "wire" ] [ range ] name { "," name } ";", behind its dir
+#[tactic(auto, using(crate::proofs::Runs::reads_on))]
 pub fn directed(
     alloc: Global,
     what: NetKind,
@@ -58,8 +59,7 @@ pub fn directed(
     ensures shortens { Shortens words.old result words.new }
 {
     let range = wire_range(words, None)?;
-    names(alloc, what, range, words, items)?;
-    Ok(())
+    names(alloc, what, range, words, items)
 }
 
 // name { "," name } ";"
@@ -100,11 +100,8 @@ pub fn nets(
     ensures shortens { Shortens words.old result words.new }
 {
     let range = net_range(words)?;
-    'nets: loop {
-        if !net(alloc, what, range, words, items)? {
-            return Ok(());
-        }
-    }
+    'nets: while net(alloc, what, range, words, items)? {}
+    Ok(())
 }
 
 // [ range ] [ delay ]

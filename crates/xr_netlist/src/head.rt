@@ -29,7 +29,7 @@ pub struct Direction {
 }
 
 // head = [ "(" [ ports ] ")" ]
-#[tactic(auto, using(crate::proofs::Runs::no_ports))]
+#[tactic(auto, using(crate::proofs::Runs::reads_on, crate::proofs::Runs::no_ports))]
 pub fn module_head(alloc: Global, words: &mut Reader<'_>) -> Result<Head, ParseErr>
     ensures reads { ReadsHead spec.after_name words.old result words.new }
     ensures shortens { OnOk result (length words.new.words ≤ length words.old.words) }
@@ -41,11 +41,11 @@ pub fn module_head(alloc: Global, words: &mut Reader<'_>) -> Result<Head, ParseE
         });
     }
     if words.take(Fixed::Input) {
-        Ok(declared_ports(alloc, NetKind::Input, words)?)
+        declared_ports(alloc, NetKind::Input, words)
     } else if words.take(Fixed::Output) {
-        Ok(declared_ports(alloc, NetKind::Output, words)?)
+        declared_ports(alloc, NetKind::Output, words)
     } else {
-        Ok(plain_ports(alloc, words)?)
+        plain_ports(alloc, words)
     }
 }
 

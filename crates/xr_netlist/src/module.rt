@@ -48,6 +48,7 @@ fn fill(alloc: Global, words: &mut Reader<'_>, items: &mut Vec<Item>) -> Result<
 }
 
 // item = attribute | directed | nets | "reg" names | gates | instances | assigns | specify
+#[tactic(auto, using(crate::proofs::Runs::reads_on))]
 fn item(alloc: Global, words: &mut Reader<'_>, items: &mut Vec<Item>) -> Result<(), ParseErr>
     requires { is_fixed fixed.Endmodule (head words.old).what ≡ false }
     ensures reads { ReadsItems spec.in_items items.old words.old result (λ _. spec.in_items) items.new words.new }
@@ -55,20 +56,21 @@ fn item(alloc: Global, words: &mut Reader<'_>, items: &mut Vec<Item>) -> Result<
 {
     if words.take(Fixed::Open) {
         attribute(words)?;
+        Ok(())
     } else if let Some(what) = take_direction(words) {
-        directed(alloc, what, words, items)?;
+        directed(alloc, what, words, items)
     } else if let Some(what) = take_net(words) {
-        nets(alloc, what, words, items)?;
+        nets(alloc, what, words, items)
     } else if words.take(Fixed::Reg) {
-        names(alloc, NetKind::Reg, None, words, items)?;
+        names(alloc, NetKind::Reg, None, words, items)
     } else if words.take(Fixed::Assign) {
-        assigns(alloc, words, items)?;
+        assigns(alloc, words, items)
     } else if words.take(Fixed::Specify) {
         specify(words)?;
+        Ok(())
     } else {
-        cell(alloc, words, items)?;
+        cell(alloc, words, items)
     }
-    Ok(())
 }
 
 // dir = "input" | "output"
@@ -106,7 +108,7 @@ fn take_net(words: &mut Reader<'_>) -> Option<NetKind>
 }
 
 // gates | instances
-#[tactic(auto, using(crate::proofs::Runs::left_out))]
+#[tactic(auto, using(crate::proofs::Runs::reads_on, crate::proofs::Runs::left_out))]
 fn cell(alloc: Global, words: &mut Reader<'_>, items: &mut Vec<Item>) -> Result<(), ParseErr>
     requires { BeginsNone (head words.old).what }
     ensures reads { ReadsItems spec.in_items items.old words.old result (λ _. spec.in_items) items.new words.new }
@@ -114,13 +116,11 @@ fn cell(alloc: Global, words: &mut Reader<'_>, items: &mut Vec<Item>) -> Result<
 {
     let at = words.at();
     if let Some(kind) = words.take_gate() {
-        gates(alloc, kind, at, words, items)?;
-        return Ok(());
+        return gates(alloc, kind, at, words, items);
     }
     if words.is_left_out() {
         return Err(ParseErr::OutOfProfile { at });
     }
     let definition = words.name()?;
-    instances(alloc, definition, words, items)?;
-    Ok(())
+    instances(alloc, definition, words, items)
 }

@@ -75,14 +75,15 @@ fn is_sequential(declarations: &[PrimDeclare]) -> bool
 }
 
 // pins = name { "," name } | declared_pins, up to their ")"
+#[tactic(auto, using(crate::proofs::Runs::reads_on))]
 fn port_list(alloc: Global, words: &mut Reader<'_>) -> Result<Pins, ParseErr>
     ensures reads { ReadsPortList spec.first_pin words.old result words.new }
     ensures shortens { Shortens words.old result words.new }
 {
     if words.take(Fixed::Output) {
-        Ok(declared_pins(alloc, words)?)
+        declared_pins(alloc, words)
     } else {
-        Ok(plain_pins(alloc, words)?)
+        plain_pins(alloc, words)
     }
 }
 
@@ -230,6 +231,7 @@ fn declare(
 }
 
 // declaration = "output" output ";" | "reg" name ";" | "input" name { "," name } ";" | "initial" name "=" bit ";"
+#[tactic(auto, using(crate::proofs::Runs::reads_on))]
 fn declaration(
     alloc: Global,
     words: &mut Reader<'_>,
@@ -247,8 +249,7 @@ fn declaration(
         declare(alloc, PrimKind::Reg, words.name()?, declarations)?;
         words.expect(Fixed::Semi)
     } else if words.take(Fixed::Input) {
-        inputs(alloc, words, declarations)?;
-        Ok(())
+        inputs(alloc, words, declarations)
     } else if words.take(Fixed::Initial) {
         initial(alloc, words, declarations)?;
         words.expect(Fixed::Semi)
