@@ -1,10 +1,10 @@
 -- What the functions that read do with the words that are left.
 use Rattle.std.specs.Prelude.{◌≡◌, ◌≢◌, ◌<◌, ℕ, Bool, false, List, [], ◌∷◌, length, Option, Some, None, Result, Ok, Err}
 use Rattle.xr_vcd.specs.Bytes.{are_values, rest_of}
-use Rattle.xr_vcd.specs.Declarations.{Declarations, with_variable}
+use Rattle.xr_vcd.specs.Declarations.{Declarations, name, with_variable}
 use Rattle.xr_vcd.specs.Changes.{Body, start}
 use Rattle.xr_vcd.specs.Machine.{State, Next, needs, run, then_run}
-use Rattle.xr_vcd.specs.Machine.State.{body, declaring, definitions_end, var_code, var_reference, var_width, vector}
+use Rattle.xr_vcd.specs.Machine.State.{body, declaring, definitions_end, var_code, var_end, var_range, var_reference, var_width, vector}
 use Rattle.xr_vcd.specs.Naming.{shown_name}
 use Rattle.xr_vcd.specs.Recording.{Recording}
 use Rattle.xr_vcd.specs.Words.{Left, Word, word}
@@ -70,6 +70,17 @@ ReadsWidth old result new =
 abbrev pub ReadsName : Left → Result RecordedName VcdErr → Left → Type 0
 ReadsName old result new =
     (h : Declarations) (skipped : Bool) (number width : ℕ) → Reads (var_reference h skipped number width) old result (λ n. declaring (with_variable h skipped number width (shown_name n))) new
+
+-- In its name, the reference is read, or refused.
+abbrev pub ReadsReference : Left → Result (Bor (List ℕ)) VcdErr → Left → Type 0
+ReadsReference old result new =
+    (h : Declarations) (skipped : Bool) (number width : ℕ) → Reads (var_reference h skipped number width) old result (λ t. var_range h skipped number width t.now) new
+
+-- Behind a range in a word of its own, the end of the variable is read, or refused.
+abbrev pub ReadsVariableEnd : Left → Result Unit VcdErr → Left → Type 0
+ReadsVariableEnd old result new =
+    (h : Declarations) (skipped : Bool) (number width : ℕ) (reference : List ℕ) (range : ℕ × ℕ)
+    → Reads (var_end h skipped number width reference range) old result (λ _. declaring (with_variable h skipped number width (name reference (Some range) false))) new
 
 -- Digits were read, whose word this is, and with the code in the next one they changed the body, in a dump or outside.
 abbrev pub ReadsVector : Word → Body → Left → Result Unit VcdErr → Body → Left → Type 0

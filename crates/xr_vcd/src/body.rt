@@ -99,24 +99,21 @@ impl<'a> Body<'a> {
     pub fn add_time(&mut self, at: usize, text: &[u8]) -> Result<(), VcdErr>
         ensures { Gives result self.new (time_on (time_of text.now) self.old at) }
     {
-        let time = match number_within(u64::MAX, text) {
-            None => return Err(VcdErr::Syntax { at }),
-            Some(time) => time,
+        let Some(time) = number_within(u64::MAX, text) else {
+            return Err(VcdErr::Syntax { at });
         };
         let count = self.times.len();
-        if count == 0 {
-            self.times.push(time)?;
-            return Ok(());
-        }
-        let last = self.times[count - 1];
-        if time < last {
-            return Err(VcdErr::TimeBack { at });
-        }
-        if time == last {
-            return Ok(());
-        }
-        if count >= LIMIT {
-            return Err(VcdErr::Memory);
+        if count > 0 {
+            let last = self.times[count - 1];
+            if time < last {
+                return Err(VcdErr::TimeBack { at });
+            }
+            if time == last {
+                return Ok(());
+            }
+            if count >= LIMIT {
+                return Err(VcdErr::Memory);
+            }
         }
         self.times.push(time)?;
         Ok(())

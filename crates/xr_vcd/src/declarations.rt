@@ -82,12 +82,12 @@ impl<'a> Declarations<'a> {
         ensures is { Does result (self.new ≡ with_scope self.old name.now) }
         ensures innermost { OnOk result (open_path self.new ≡ open_path self.old ++ name.now ∷ []) }
     {
-        let name = bytes_of(self.alloc, name)?;
-        let parent = self.scope();
         if self.scopes.len() + 1 >= LIMIT {
             return Err(VcdErr::Memory);
         }
         let scope = (self.scopes.len() + 1) as u32;
+        let parent = self.scope();
+        let name = bytes_of(self.alloc, name)?;
         self.scopes.push(Scope { parent, name })?;
         self.entered.push(scope)?;
         Ok(())

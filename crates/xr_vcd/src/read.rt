@@ -1,10 +1,10 @@
 //! Reading a whole text.
 
-ghost use Rattle.std.specs.Prelude.{◌≢◌, false, ◌≤◌, ◌^◌, length, IfOk, IfErr};
-ghost use Rattle.xr_vcd.specs.Changes.{start};
+ghost use Rattle.std.specs.Prelude.{◌≡◌, ◌≢◌, false, ◌<◌, ◌≤◌, ◌^◌, length, IfOk, IfErr, OnOk, Ok};
+ghost use Rattle.xr_vcd.specs.Changes.{recorded_so_far, start};
 ghost use Rattle.xr_vcd.specs.Faults.{Says, FirstFault, IsRead, beginning};
 ghost use Rattle.xr_vcd.specs.Machine.State.{body as in_body};
-ghost use Rattle.xr_vcd.specs.Reading.{Answers, goes};
+ghost use Rattle.xr_vcd.specs.Reading.{Answers, Refuses, goes};
 ghost use Rattle.xr_vcd.specs.Scopes.{StandInScopes};
 ghost use Rattle.xr_vcd.specs.Words.{left_of};
 ghost use Rattle.xr_vcd.specs.declared.refusal.VcdErr.TheVariants.{Memory as OutOfMemory};
@@ -46,7 +46,17 @@ fn read_body<'a>(words: &mut Words<'a>, declared: Declarations<'a>) -> Result<Re
     ensures { Answers result (goes (in_body (start declared.entry) false) words.old) }
 {
     let mut body = Body::new(declared)?;
-    read_changes(words, &mut body)?;
-    body.open_moment()?;
+    read_moments(words, &mut body)?;
     Ok(body.into_recording())
+}
+
+/// Reads the changes, behind which there is a moment.
+fn read_moments<'a>(words: &mut Words<'a>, body: &mut Body<'a>) -> Result<(), VcdErr>
+    ensures says { OnOk result (goes (in_body body.old false) words.old ≡ Ok (recorded_so_far body.new)) }
+    ensures refuses { IfErr result (λ refusal. Refuses (goes (in_body body.old false) words.old) refusal) }
+    ensures some { OnOk result (0 < length body.new.times) }
+{
+    read_changes(words, body)?;
+    body.open_moment()?;
+    Ok(())
 }

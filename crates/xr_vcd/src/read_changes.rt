@@ -1,8 +1,10 @@
 //! Reading the changes.
 
-ghost use Rattle.std.specs.Prelude.{◌≡◌, ◌<◌, false, [], length, OnOk};
-ghost use Rattle.xr_vcd.specs.Machine.State.{body};
-ghost use Rattle.xr_vcd.specs.Reading.{Reads, ReadsVector};
+ghost use Rattle.std.specs.Prelude.{◌≡◌, ◌<◌, ◌≤◌, Bool, false, [], length, OnOk};
+ghost use Rattle.xr_vcd.specs.Kinds.{kind_of};
+ghost use Rattle.xr_vcd.specs.Machine.{body_on};
+ghost use Rattle.xr_vcd.specs.Machine.State.{body, real};
+ghost use Rattle.xr_vcd.specs.Reading.{Reads, ReadsOn, ReadsVector};
 ghost use Rattle.xr_vcd.specs.Words.{word};
 
 use crate::body::Body;
@@ -19,45 +21,38 @@ pub fn read_changes<'a>(words: &mut Words<'a>, changed: &mut Body<'a>) -> Result
 {
     let mut dump = false;
     'changes: while let Some((at, text)) = words.next() {
-        match kind_of(text) {
-            Kind::Scalar => changed.add_scalar(at, text)?,
-            Kind::Vector => read_vector(at, text, words, changed)?,
-            Kind::Real => {
-                let (code_at, code) = words.need()?;
-                changed.skip_real(at, code_at, code)?;
-            }
-            Kind::Time => {
-                if dump {
-                    return Err(VcdErr::Syntax { at });
-                }
-                changed.add_time(at, rest_of(text))?;
-            }
-            Kind::Comment => {
-                if dump {
-                    return Err(VcdErr::Syntax { at });
-                }
-                skip_note(words)?;
-            }
-            Kind::Dump => {
-                if dump {
-                    return Err(VcdErr::Syntax { at });
-                }
-                dump = true;
-            }
-            Kind::End => {
-                if !dump {
-                    return Err(VcdErr::Syntax { at });
-                }
-                dump = false;
-            }
-            Kind::Off => return Err(VcdErr::DumpOff { at }),
-            _ => return Err(VcdErr::Syntax { at }),
-        }
+        dump = read_change(at, text, dump, words, changed)?;
     }
     if dump {
         return Err(VcdErr::Truncated { at: words.stop() });
     }
     Ok(())
+}
+
+/// Reads what begins with this word, in a dump or outside. Whether a dump is open behind it.
+fn read_change(
+    at: usize,
+    text: &[u8],
+    dump: bool,
+    words: &mut Words<'_>,
+    changed: &mut Body<'_>,
+) -> Result<bool, VcdErr>
+    ensures reads { ReadsOn (body_on (kind_of text.now) changed.old dump (word at text.now))
+        words.old result (λ is_open. body changed.new is_open) words.new }
+    ensures few { OnOk result (length words.new.words ≤ length words.old.words) }
+{
+    match kind_of(text) {
+        Kind::Scalar => changed.add_scalar(at, text)?,
+        Kind::Vector => read_vector(at, text, words, changed)?,
+        Kind::Real => read_real(at, words, changed)?,
+        Kind::Time if !dump => changed.add_time(at, rest_of(text))?,
+        Kind::Comment if !dump => skip_note(words)?,
+        Kind::Dump if !dump => return Ok(true),
+        Kind::End if dump => return Ok(false),
+        Kind::Off => return Err(VcdErr::DumpOff { at }),
+        _ => return Err(VcdErr::Syntax { at }),
+    }
+    Ok(dump)
 }
 
 // vector = ( "b" | "B" ) digit { digit } white code
@@ -76,4 +71,14 @@ fn read_vector(
     }
     let (code_at, code) = words.need()?;
     changed.add_vector(at, digits, code_at, code)
+}
+
+// real = ( "r" | "R" ) number white code, behind its first word
+fn read_real(at: usize, words: &mut Words<'_>, changed: &Body<'_>) -> Result<(), VcdErr>
+    ensures reads { (dump : Bool) → Reads (real changed.now dump at)
+        words.old result (λ _. body changed.now dump) words.new }
+    ensures few { OnOk result (length words.new.words < length words.old.words) }
+{
+    let (code_at, code) = words.need()?;
+    changed.skip_real(at, code_at, code)
 }

@@ -2,10 +2,10 @@
 
 ghost use Rattle.std.specs.Prelude.{◌≡◌, ◌<◌, ◌≤◌, ◌^◌, ◌++◌, Bool, false, ℕ, List, length, IfOk};
 ghost use Rattle.xr_vcd.specs.Changes.{Body, start};
-ghost use Rattle.xr_vcd.specs.Declarations.{Declarations};
+ghost use Rattle.xr_vcd.specs.Declarations.{Declarations, with_scale, with_scope};
 ghost use Rattle.xr_vcd.specs.Machine.{upscope_on};
-ghost use Rattle.xr_vcd.specs.Machine.State.{note, scale, scope_kind, scale_end, var_kind, body, body_note, declaring};
-ghost use Rattle.xr_vcd.specs.Reading.{Reads, ReadsCode, ReadsEnd, ReadsName, ReadsOn, ReadsOne, ReadsWidth, Shortens};
+ghost use Rattle.xr_vcd.specs.Machine.State.{note, scale, scope_kind, scope_name, scope_end, scale_end, upscope_end, var_kind, body, body_note, declaring};
+ghost use Rattle.xr_vcd.specs.Reading.{Reads, ReadsCode, ReadsEnd, ReadsName, ReadsOn, ReadsOne, ReadsReference, ReadsVariableEnd, ReadsWidth, Shortens};
 
 use crate::bytes::{
     are_digits, is_code, is_end, is_power, is_scale, is_skipped, is_unit, value_within,
@@ -27,14 +27,13 @@ pub fn read_declarations<'a>(
     'declarations: loop {
         let (at, text) = words.need()?;
         match kind_of(text) {
-            Kind::Note => skip_note(words)?,
-            Kind::Comment => skip_note(words)?,
+            Kind::Note | Kind::Comment => skip_note(words)?,
             Kind::Timescale => read_scale(words, declared)?,
             Kind::Scope => read_scope(words, declared)?,
             Kind::Upscope => read_upscope(at, words, declared)?,
             Kind::Var => read_var(at, words, declared)?,
             Kind::Definitions => {
-                read_definitions_end(words)?;
+                read_end(words)?;
                 return Ok(());
             }
             _ => return Err(VcdErr::Syntax { at }),
@@ -42,16 +41,24 @@ pub fn read_declarations<'a>(
     }
 }
 
-// definitions = "$enddefinitions" "$end"
-fn read_definitions_end(words: &mut Words<'_>) -> Result<(), VcdErr>
-    ensures reads { ReadsEnd words.old result words.new }
+// "$end"
+/// Reads the end of the declarations or of one of them.
+fn read_end(words: &mut Words<'_>) -> Result<(), VcdErr>
+    ensures definitions { ReadsEnd words.old result words.new }
+    ensures scale { (h : Declarations) (text : List ℕ)
+        → Reads (scale_end h text) words.old result (λ _. declaring (with_scale h text)) words.new }
+    ensures scope { (h : Declarations) (name : List ℕ)
+        → Reads (scope_end h name) words.old result (λ _. declaring (with_scope h name)) words.new }
+    ensures upscope { (h : Declarations) → Reads (upscope_end h) words.old result (λ _. declaring h) words.new }
+    ensures variable { ReadsVariableEnd words.old result words.new }
     ensures shortens { Shortens words.old result words.new }
 {
     let (at, text) = words.need()?;
-    if !is_end(text) {
-        return Err(VcdErr::Syntax { at });
+    if is_end(text) {
+        Ok(())
+    } else {
+        Err(VcdErr::Syntax { at })
     }
-    Ok(())
 }
 
 // note = ( "$date" | "$version" | "$comment" ) { word } "$end"
@@ -96,10 +103,7 @@ fn read_scale_end(
     ensures reads { ReadsOne (scale_end declared.old (front.now ++ back.now)) words.old result declared.new words.new }
     ensures shortens { Shortens words.old result words.new }
 {
-    let (at, text) = words.need()?;
-    if !is_end(text) {
-        return Err(VcdErr::Syntax { at });
-    }
+    read_end(words)?;
     declared.set_scale(front, back)
 }
 
@@ -109,15 +113,23 @@ fn read_scope(words: &mut Words<'_>, declared: &mut Declarations<'_>) -> Result<
     ensures shortens { Shortens words.old result words.new }
 {
     words.need()?;
-    let (name_at, name) = words.need()?;
-    if is_end(name) {
-        return Err(VcdErr::Syntax { at: name_at });
-    }
-    let (at, text) = words.need()?;
-    if !is_end(text) {
-        return Err(VcdErr::Syntax { at });
-    }
+    let name = read_plain(words)?;
+    read_end(words)?;
     declared.enter(name)
+}
+
+/// Reads a word that may be any but `$end`.
+fn read_plain<'a>(words: &mut Words<'a>) -> Result<&'a [u8], VcdErr>
+    ensures scope { (h : Declarations) → Reads (scope_name h) words.old result (λ t. scope_end h t.now) words.new }
+    ensures variable { ReadsReference words.old result words.new }
+    ensures shortens { Shortens words.old result words.new }
+{
+    let (at, text) = words.need()?;
+    if is_end(text) {
+        Err(VcdErr::Syntax { at })
+    } else {
+        Ok(text)
+    }
 }
 
 // upscope = "$upscope" "$end"
@@ -132,10 +144,7 @@ fn read_upscope(
     if !declared.leave() {
         return Err(VcdErr::Syntax { at });
     }
-    let (at, text) = words.need()?;
-    if !is_end(text) {
-        return Err(VcdErr::Syntax { at });
-    }
+    read_end(words)?;
     Ok(())
 }
 
@@ -205,22 +214,15 @@ fn read_name<'a>(words: &mut Words<'a>) -> Result<RecordedName<'a>, VcdErr>
     ensures reads { ReadsName words.old result words.new }
     ensures shortens { Shortens words.old result words.new }
 {
-    let (reference_at, reference) = words.need()?;
-    if is_end(reference) {
-        return Err(VcdErr::Syntax { at: reference_at });
-    }
+    let reference = read_plain(words)?;
     let (at, text) = words.need()?;
     if is_end(text) {
         return Ok(name_of(reference));
     }
-    let range = match range_of(text) {
-        None => return Err(VcdErr::Syntax { at }),
-        Some(range) => range,
+    let Some(range) = range_of(text) else {
+        return Err(VcdErr::Syntax { at });
     };
-    let (end_at, end) = words.need()?;
-    if !is_end(end) {
-        return Err(VcdErr::Syntax { at: end_at });
-    }
+    read_end(words)?;
     Ok(RecordedName {
         reference,
         range: Some(range),
