@@ -47,13 +47,19 @@ module _ (l : Library) (path : List ℕ) (room k : ℕ) (i : InstanceItem) (here
       ∙ ap (λ (r : Outcome ℕ). after r (λ n. filled l path (body l room) n i here)) enters
       ∙ ap (λ (r : Outcome (Scope × Here)). after r (λ j. after (body l room (path ++ k ∷ []) (module_of l k).items j.1) (λ d. Ok (here_of j.0 d.state)))) joint
 
-  pub instance_made : definition_of l.source i.definition.text ≡ Some (definition.Module k) → entered path room i.definition.text k ≡ Ok k → joined i (module_of l k) here ≡ Ok (outer, here_of inner s)
+  instance_made : definition_of l.source i.definition.text ≡ Some (definition.Module k) → entered path room i.definition.text k ≡ Ok k → joined i (module_of l k) here ≡ Ok (outer, here_of inner s)
       → (t : State) → state_of (body l room (path ++ k ∷ []) (module_of l k).items (here_of inner s)) ≡ Ok t → instance_item l path room i here ≡ Ok (here_of outer t)
   instance_made found enters joint t is = joins found enters joint ∙ made_by _ (λ (u : State). here_of outer u) t is
 
-  pub instance_refused : definition_of l.source i.definition.text ≡ Some (definition.Module k) → entered path room i.definition.text k ≡ Ok k → joined i (module_of l k) here ≡ Ok (outer, here_of inner s)
+  instance_refused : definition_of l.source i.definition.text ≡ Some (definition.Module k) → entered path room i.definition.text k ≡ Ok k → joined i (module_of l k) here ≡ Ok (outer, here_of inner s)
       → (e : ElabErr) → state_of (body l room (path ++ k ∷ []) (module_of l k).items (here_of inner s)) ≡ Err e → instance_item l path room i here ≡ Err e
   instance_refused found enters joint e is = joins found enters joint ∙ refused_by _ (λ (u : State). here_of outer u) e is
+
+  -- What its items give, the instance gives.
+  pub instance_gives : {A : Type 0} → definition_of l.source i.definition.text ≡ Some (definition.Module k) → entered path room i.definition.text k ≡ Ok k → joined i (module_of l k) here ≡ Ok (outer, here_of inner s)
+      → (t : State) (r : Outcome A) → Gives (state_of (body l room (path ++ k ∷ []) (module_of l k).items (here_of inner s))) r (λ _. t) → Gives (instance_item l path room i here) r (λ _. here_of outer t)
+  instance_gives found enters joint t (Ok x) given = instance_made found enters joint t given
+  instance_gives found enters joint t (Err e) given = λ told. instance_refused found enters joint e (given told)
 
 -- ---- the top
 
@@ -65,8 +71,14 @@ module _ (l : Library) (k : ℕ) (scope : Scope) (s : State) where
   opens : opened (module_of l k).ports (module_of l k).items at_top ≡ Ok (here_of scope s) → whole l k ≡ after (body l 32 (k ∷ []) (module_of l k).items (here_of scope s)) (λ d. Ok (finished l.tables d.state))
   opens is = ap (λ (r : Outcome Here). after r (λ h. after (body l 32 (k ∷ []) (module_of l k).items h) (λ d. Ok (finished l.tables d.state)))) is
 
-  pub top_made : opened (module_of l k).ports (module_of l k).items at_top ≡ Ok (here_of scope s) → (t : State) → state_of (body l 32 (k ∷ []) (module_of l k).items (here_of scope s)) ≡ Ok t → whole l k ≡ Ok (finished l.tables t)
+  top_made : opened (module_of l k).ports (module_of l k).items at_top ≡ Ok (here_of scope s) → (t : State) → state_of (body l 32 (k ∷ []) (module_of l k).items (here_of scope s)) ≡ Ok t → whole l k ≡ Ok (finished l.tables t)
   top_made is t done = opens is ∙ made_by _ (λ (u : State). finished l.tables u) t done
 
-  pub top_refused : opened (module_of l k).ports (module_of l k).items at_top ≡ Ok (here_of scope s) → (e : ElabErr) → state_of (body l 32 (k ∷ []) (module_of l k).items (here_of scope s)) ≡ Err e → whole l k ≡ Err e
+  top_refused : opened (module_of l k).ports (module_of l k).items at_top ≡ Ok (here_of scope s) → (e : ElabErr) → state_of (body l 32 (k ∷ []) (module_of l k).items (here_of scope s)) ≡ Err e → whole l k ≡ Err e
   top_refused is e done = opens is ∙ refused_by _ (λ (u : State). finished l.tables u) e done
+
+  -- What its items give, the top gives.
+  pub top_gives : {A : Type 0} → opened (module_of l k).ports (module_of l k).items at_top ≡ Ok (here_of scope s) → (t : State) (r : Outcome A) → Gives (state_of (body l 32 (k ∷ []) (module_of l k).items (here_of scope s))) r (λ _. t)
+      → Gives (whole l k) r (λ _. finished l.tables t)
+  top_gives is t (Ok x) given = top_made is t given
+  top_gives is t (Err e) given = λ told. top_refused is e (given told)

@@ -88,8 +88,19 @@ fn are_apart(
     ensures { IfOk result (λ yes. yes ≡ spec.are_apart definitions.now [] (items_in items.now)) }
 {
     let mut names = NameSet::new(alloc);
+    are_new(&mut names, definitions, items)
+}
+
+/// Whether no two instances of modules have one name, and none has one of these, which then have theirs.
+fn are_new<'t>(
+    names: &mut NameSet<'t>,
+    definitions: &Definitions<'_>,
+    items: &[&'t Item],
+) -> Result<bool, AllocError>
+    ensures { IfOk result (λ yes. yes ≡ spec.are_apart definitions.now names.old (items_in items.now)) }
+{
     'items: for item in items {
-        if !note_name(&mut names, name_of(definitions, item))? {
+        if !note_name(names, name_of(definitions, item))? {
             return Ok(false);
         }
     }

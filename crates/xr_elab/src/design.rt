@@ -1,24 +1,27 @@
 //! The design of a tree.
 
-ghost use Rattle.std.specs.Prelude.{◌≡◌, ◌≢◌, ◌<◌, ◌≤◌, ◌^◌, [], None, Ok, Err, IfOk, IfErr, length};
+ghost use Rattle.std.specs.Prelude.{◌≡◌, ◌≢◌, ◌<◌, ◌≤◌, ◌^◌, [], ◌∷◌, None, Ok, Err, IfOk, IfErr, length};
 ghost use Rattle.xr_netlist_grammar.specs.Whole.{IsWhole};
 ghost use Rattle.xr_design.specs.Design.{FitsDesign};
 ghost use Rattle.xr_elab_nets.specs.declared.fault.ElabErr.TheVariants.{Memory as OutOfMemory};
 ghost use Rattle.xr_elab_nets.specs.Outcome.{Gives};
-ghost use Rattle.xr_elab_nets.specs.State.{finished};
+ghost use Rattle.xr_elab_nets.specs.State.{finished, nothing_made};
+ghost use Rattle.xr_elab_names.specs.Here.{here_of};
 ghost use Rattle.xr_elab_prims.specs.Built.{AreBuilt};
 ghost use Rattle.xr_elab_prims.specs.Definitions.{definition_of, repeated};
 ghost use Rattle.xr_elab_tree.specs.Elaborate as spec;
-ghost use Rattle.xr_elab_tree.specs.Library.{library_of};
+ghost use Rattle.xr_elab_tree.specs.Library.{library_of, module_of};
 ghost use Rattle.xr_elab_tree.specs.Text.{Elaborates, IsAnswer};
 ghost use Rattle.xr_elab.specs.Held.{AreTables};
+ghost use Rattle.xr_elab.specs.Busy.{state_of};
 
-use crate::instances::{add_items, copy_of, extended};
+use crate::instances::{add_below, copy_of};
 use crate::library::Library;
 use std::alloc::Global;
 use xr_base::Items;
 use xr_cell::Udp;
 use xr_design::Design;
+use xr_elab_names::Scope;
 use xr_elab_nets::{ElabErr, Nets};
 use xr_elab_prims::{Clocks, Definition, Definitions, build_primitives};
 use xr_netlist_grammar::Source;
@@ -54,7 +57,6 @@ fn find_design(alloc: Global, source: &Source, top: &str) -> Result<Design, Elab
 }
 
 /// The nets of the top and of all below it.
-#[tactic(auto, using(crate::proofs::Bodies::design_is))]
 fn make_nets(
     alloc: Global,
     source: &Source,
@@ -67,9 +69,16 @@ fn make_nets(
     ensures { Gives (spec.design_of (library_of source.now udps.now) top.now) result (λ nets. finished udps.now nets) }
 {
     let library = Library::new(alloc, source, definitions, udps)?;
-    let k = find_top(alloc, &library, top.as_bytes())?;
-    let nets = fill_top(alloc, &library, k)?;
-    Ok(nets)
+    nets_of(alloc, &library, top.as_bytes())
+}
+
+/// The nets of the module of a name, as the top.
+#[tactic(auto, using(crate::proofs::Bodies::design_is))]
+fn nets_of<'t>(alloc: Global, library: &'t Library<'t>, top: &[u8]) -> Result<Nets, ElabErr>
+    ensures { Gives (spec.design_of library.now top.now) result (λ nets. finished library.now.tables nets) }
+{
+    let k = find_top(alloc, library, top)?;
+    fill_top(alloc, library, k)
 }
 
 /// The top is a module.
@@ -91,19 +100,49 @@ fn fill_top<'t>(alloc: Global, library: &'t Library<'t>, k: usize) -> Result<Net
     ensures { Gives (spec.whole library.now k) result (λ nets. finished library.now.tables nets) }
 {
     let mut nets = Nets::new(alloc);
-    let mut clocks = Clocks::new(alloc, library.udps());
+    add_top(alloc, library, &mut nets, k)?;
+    Ok(nets)
+}
+
+/// Opens the module at a position as the top, and adds its items.
+fn add_top<'t>(
+    alloc: Global,
+    library: &'t Library<'t>,
+    nets: &mut Nets,
+    k: usize,
+) -> Result<(), ElabErr>
+    requires within { k < length library.now.source.modules }
+    requires nothing { nets.old ≡ nothing_made }
+    ensures { Gives (spec.whole library.now k) result (λ _. finished library.now.tables nets.new) }
+{
     let prefix = Items::from_vec(Vec::new(alloc));
-    let mut scope = library.module(k).open(alloc, prefix, &mut nets)?;
-    let path = extended(alloc, &[], k)?;
-    add_items(
+    let mut scope = library.module(k).open(alloc, prefix, nets)?;
+    add_top_items(alloc, library, &mut scope, nets, k)
+}
+
+/// The items of the module at a position, once it is open as the top.
+fn add_top_items<'t>(
+    alloc: Global,
+    library: &'t Library<'t>,
+    scope: &mut Scope<'t>,
+    nets: &mut Nets,
+    k: usize,
+) -> Result<(), ElabErr>
+    requires within { k < length library.now.source.modules }
+    requires new { scope.old.instances ≡ [] }
+    ensures { let here = here_of scope.old nets.old in
+        let items = (module_of library.now k).items in
+        Gives (state_of (spec.body library.now 32 (k ∷ []) items here)) result (λ _. nets.new) }
+{
+    let mut clocks = Clocks::new(alloc, library.udps());
+    add_below(
         alloc,
         library,
         &mut clocks,
-        path.as_slice(),
+        &[],
         MOST_MODULES,
-        &mut scope,
-        &mut nets,
+        scope,
+        nets,
         k,
-    )?;
-    Ok(nets)
+    )
 }

@@ -23,7 +23,7 @@ use xr_netlist_grammar::{InstanceItem, Item, Word};
 
 /// The items of the module at a position once it is open, where the path before it may have `room` modules more.
 #[cycle(instances)]
-pub fn add_items<'t>(
+fn add_items<'t>(
     alloc: Global,
     library: &'t Library<'t>,
     clocks: &mut Clocks<'t>,
@@ -159,10 +159,58 @@ fn add_module<'t>(
 {
     enter(alloc, path, room, item.definition.text.as_slice(), k)?;
     if library.passes_over(path, room, k, item) {
-        pass(library, path, room, k, scope, nets, item)?;
-        return Ok(());
+        return pass(library, path, room, k, scope, nets, item);
     }
+    add_inner(alloc, library, clocks, path, room, scope, nets, item, k)
+}
+
+/// An instance of the module at a position, which isn't passed over.
+#[cycle(instances)]
+fn add_inner<'t>(
+    alloc: Global,
+    library: &'t Library<'t>,
+    clocks: &mut Clocks<'t>,
+    path: &[usize],
+    room: usize,
+    scope: &mut Scope<'t>,
+    nets: &mut Nets,
+    item: &'t InstanceItem,
+    k: usize,
+) -> Result<(), ElabErr>
+    requires some { 0 < room }
+    requires entered { spec.entered path.now room item.now.definition.text k ≡ Ok k }
+    requires tables { clocks.old ≡ library.now.tables }
+    requires found { definition_of library.now.source item.now.definition.text ≡ Some (definition.Module k) }
+    requires within { k < length library.now.source.modules }
+    ensures made { let here = here_of scope.old nets.old in
+        Gives (spec.instance_item library.now path.now room item.now here) result (λ _. here_of scope.new nets.new) }
+    ensures same { clocks.new ≡ clocks.old }
+{
     let mut inner = join(alloc, scope, nets, library.module(k), item)?;
+    add_below(alloc, library, clocks, path, room, &mut inner, nets, k)
+}
+
+/// The items of the module at a position once it is open behind this path, which may have `room` modules more.
+#[cycle(instances)]
+pub fn add_below<'t>(
+    alloc: Global,
+    library: &'t Library<'t>,
+    clocks: &mut Clocks<'t>,
+    path: &[usize],
+    room: usize,
+    scope: &mut Scope<'t>,
+    nets: &mut Nets,
+    k: usize,
+) -> Result<(), ElabErr>
+    requires some { 0 < room }
+    requires within { k < length library.now.source.modules }
+    requires tables { clocks.old ≡ library.now.tables }
+    requires new { scope.old.instances ≡ [] }
+    ensures made { let here = here_of scope.old nets.old in
+        let items = (module_of library.now k).items in
+        Gives (state_of (spec.body library.now room (path.now ++ k ∷ []) items here)) result (λ _. nets.new) }
+    ensures same { clocks.new ≡ clocks.old }
+{
     let path = extended(alloc, path, k)?;
     add_items(
         alloc,
@@ -170,11 +218,10 @@ fn add_module<'t>(
         clocks,
         path.as_slice(),
         room,
-        &mut inner,
+        scope,
         nets,
         k,
-    )?;
-    Ok(())
+    )
 }
 
 /// A path has no module twice, and at most 32.
@@ -236,7 +283,7 @@ fn stands_on(path: &[usize], k: usize) -> bool
 }
 
 /// The path with a module more.
-pub fn extended(alloc: Global, path: &[usize], k: usize) -> Result<Vec<usize>, AllocError>
+fn extended(alloc: Global, path: &[usize], k: usize) -> Result<Vec<usize>, AllocError>
     ensures { IfOk result (λ more. more.items ≡ path.now ++ k ∷ []) }
 {
     let mut more = path.to_vec(alloc)?;

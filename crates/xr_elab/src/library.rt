@@ -27,6 +27,12 @@ pub struct Library<'t> {
     definitions: Definitions<'t>,
     udps: &'t [Udp],
     modules: Vec<Declarations<'t>>,
+    idle: Idle<'t>,
+}
+
+/// What of a text's modules makes nothing: the level of each, and which of its items are busy.
+#[derive(Drop)]
+struct Idle<'t> {
     levels: Vec<u32>,
     busy: Vec<Busy<'t>>,
 }
@@ -39,7 +45,7 @@ impl<'t> Model for Library<'t> {
 
     ghost view = { λ l. library_of l.source.now l.udps.now };
 
-    ghost invariant = { λ l. IsHeld l.source.now l.definitions l.udps.now l.modules.items l.levels.items l.busy.items };
+    ghost invariant = { λ l. IsHeld l.source.now l.definitions l.udps.now l.modules.items l.idle.levels.items l.idle.busy.items };
 }
 
 impl<'t> Library<'t> {
@@ -64,15 +70,29 @@ impl<'t> Library<'t> {
         ensures { IfOk result (λ l. l ≡ library_of source.now udps.now) }
     {
         let modules = modules_of(alloc, source.modules.as_slice())?;
-        let levels = levels_of(alloc, &definitions, source.modules.as_slice())?;
-        let busy = all_busy(alloc, &definitions, &levels, &modules)?;
+        Library::of_modules(alloc, source, definitions, udps, modules)
+    }
+
+    /// The same with what the declarations of its modules come to.
+    fn of_modules(
+        alloc: Global,
+        source: &'t Source,
+        definitions: Definitions<'t>,
+        udps: &'t [Udp],
+        modules: Vec<Declarations<'t>>,
+    ) -> Result<Library<'t>, AllocError>
+        requires source { definitions ≡ source.now }
+        requires tables { AreTables source.now udps.now }
+        requires modules { modules.items ≡ source.now.modules }
+        ensures { IfOk result (λ l. l ≡ library_of source.now udps.now) }
+    {
+        let idle = Idle::new(alloc, &definitions, source.modules.as_slice(), &modules)?;
         Ok(Library {
             source,
             definitions,
             udps,
             modules,
-            levels,
-            busy,
+            idle,
         })
     }
 
@@ -119,7 +139,13 @@ impl<'t> Library<'t> {
             IsToDo self.now.source path.now room (left_of items) (items_in result.now) }
     {
         let left = self.module(k).left();
-        to_do_of(&self.levels, busy_at(&self.busy, k), left, path, room)
+        to_do_of(
+            &self.idle.levels,
+            busy_at(&self.idle.busy, k),
+            left,
+            path,
+            room,
+        )
     }
 
     /// Whether depth and path allow that an instance of a module that makes no net is passed over. The path may have
@@ -127,7 +153,30 @@ impl<'t> Library<'t> {
     pub fn passes_over(&self, path: &[usize], room: usize, k: usize, item: &InstanceItem) -> bool
         ensures { IsPassing self.now.source path.now room k item.now result }
     {
-        is_passed_over(&self.levels, path, room, k, item)
+        is_passed_over(&self.idle.levels, path, room, k, item)
+    }
+}
+
+impl<'t> Idle<'t> {
+    ghost use Rattle.std.specs.Prelude.{◌≡◌, IfOk, map};
+    ghost use Rattle.xr_elab.specs.Quiet.{AreLevels};
+    ghost use Rattle.xr_elab.specs.Busy.{busy_of_module};
+
+    /// The same modules twice, as the text has them and with what their declarations come to.
+    fn new(
+        alloc: Global,
+        definitions: &Definitions<'_>,
+        units: &[Module],
+        modules: &[Declarations<'t>],
+    ) -> Result<Idle<'t>, AllocError>
+        requires { units.now ≡ definitions.now.modules }
+        ensures levels { IfOk result (λ idle. AreLevels definitions.now 32 idle.levels.items) }
+        ensures busy { IfOk result (λ idle.
+            idle.busy.items ≡ map (busy_of_module definitions.now idle.levels.items) modules.now) }
+    {
+        let levels = levels_of(alloc, definitions, units)?;
+        let busy = all_busy(alloc, definitions, &levels, modules)?;
+        Ok(Idle { levels, busy })
     }
 }
 

@@ -40,8 +40,21 @@ fn are_quiet(
     ensures { IfOk result (λ yes. yes ≡ spec.are_quiet definitions.now levels.now level [] items.now) }
 {
     let mut names = NameSet::new(alloc);
+    note_all(&mut names, definitions, levels, level, items)
+}
+
+/// Whether each item is quiet behind these names, which then have theirs.
+fn note_all<'t>(
+    names: &mut NameSet<'t>,
+    definitions: &Definitions<'_>,
+    levels: &[u32],
+    level: u32,
+    items: &'t [Item],
+) -> Result<bool, AllocError>
+    ensures { IfOk result (λ yes. yes ≡ spec.are_quiet definitions.now levels.now level names.old items.now) }
+{
     'items: for item in items {
-        if !note_item(&mut names, definitions, levels, level, item)? {
+        if !note_item(names, definitions, levels, level, item)? {
             return Ok(false);
         }
     }

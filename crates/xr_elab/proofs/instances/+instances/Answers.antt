@@ -1,13 +1,11 @@
 -- The items lead to what is wanted.
-use Rattle.std.proofs.Common.{rules, ◌≡◌, ◌∙◌, ◌≤◌, ◌^◌, ◌++◌, ◌∷◌, [], ℕ, List, Ok, Err, length, refl, subst}
+use Rattle.std.proofs.Common.{rules, ◌≡◌, ◌∙◌, ◌≤◌, ◌^◌, [], Ok, length, refl}
 use Rattle.xr_elab_names.specs.Here.{here_of}
 use Rattle.xr_elab_joins.specs.Joined.{joined}
-use Rattle.xr_elab_tree.specs.Elaborate.{body, entered}
 use Rattle.xr_elab_tree.specs.Library.{module_of}
-use Rattle.xr_elab.specs.Busy.{state_of}
 use Rattle.xr_elab.proofs.Choosing.{to_do_suffice, items_more, items_none}
 use Rattle.xr_elab.proofs.Doing.{leads_first, leads_more, leads_refused, leads_last}
-use Rattle.xr_elab.proofs.Filling.{gives_refused, inner_new, instance_made, instance_refused}
+use Rattle.xr_elab.proofs.Filling.{gives_refused, inner_new, instance_gives}
 use Rattle.xr_elab.proofs.instances.+instances.Goals as goal
 
 pub add_items-items-init : goal.add_items-items-init
@@ -40,27 +38,15 @@ add_items-returns-clause-made t c =
     leads_last c.args.library.now c.args.path.now c.args.room _ _ (here_of c.items.scope c.items.nets) c.requires.some small
     (items_none c.to_do-items.result.now c.items.item-index c.items-test.false) c.items.invariant.leads
 
-pub add_module-add_items-requires : goal.add_module-add_items-requires
-add_module-add_items-requires t c =
+pub add_inner-add_below-requires : goal.add_inner-add_below-requires
+add_inner-add_below-requires t c =
     let new : c.in_ok-inner.inner.instances ≡ [] =
     inner_new c.args.item.now c.module.result.now (here_of c.args.scope.now c.args.nets.now) c.join.new.scope c.in_ok-inner.inner c.join.new.nets c.in_ok-inner.ensures in
     search (rules, new)
 
-pub add_module-returns-in_err-add_items-clause-made : goal.add_module-returns-in_err-add_items-clause-made
-add_module-returns-in_err-add_items-clause-made t c =
+pub add_inner-returns-clause-made : goal.add_inner-returns-clause-made
+add_inner-returns-clause-made t c =
     let here = here_of c.args.scope.now c.args.nets.now in
-    let enters : entered c.args.path.now c.args.room c.args.item.now.definition.text c.args.k ≡ Ok c.args.k = search rules in
     let joint : joined c.args.item.now (module_of c.args.library.now c.args.k) here ≡ Ok (c.join.new.scope, here_of c.in_ok-inner.inner c.join.new.nets) = search rules in
-    let path : c.as_slice-2.result.now ≡ c.args.path.now ++ c.args.k ∷ [] = search rules in
-    gives_refused _ c.from_residual-in_err-add_items.result c.in_err-add_items.field-0.0 _ c.from_residual-in_err-add_items.ensures.1
-    (λ told. instance_refused c.args.library.now c.args.path.now c.args.room c.args.k c.args.item.now here c.join.new.scope c.in_ok-inner.inner c.join.new.nets c.requires.found enters joint c.in_err-add_items.field-0.0
-    (subst (λ (p : List ℕ). state_of (body c.args.library.now c.args.room p (module_of c.args.library.now c.args.k).items (here_of c.in_ok-inner.inner c.join.new.nets)) ≡ Err c.in_err-add_items.field-0.0) path (c.in_err-add_items.ensures.made told)))
-
-pub add_module-returns-clause-made : goal.add_module-returns-clause-made
-add_module-returns-clause-made t c =
-    let here = here_of c.args.scope.now c.args.nets.now in
-    let enters : entered c.args.path.now c.args.room c.args.item.now.definition.text c.args.k ≡ Ok c.args.k = search rules in
-    let joint : joined c.args.item.now (module_of c.args.library.now c.args.k) here ≡ Ok (c.join.new.scope, here_of c.in_ok-inner.inner c.join.new.nets) = search rules in
-    let path : c.as_slice-2.result.now ≡ c.args.path.now ++ c.args.k ∷ [] = search rules in
-    instance_made c.args.library.now c.args.path.now c.args.room c.args.k c.args.item.now here c.join.new.scope c.in_ok-inner.inner c.join.new.nets c.requires.found enters joint c.add_items.new.nets
-    (subst (λ (p : List ℕ). state_of (body c.args.library.now c.args.room p (module_of c.args.library.now c.args.k).items (here_of c.in_ok-inner.inner c.join.new.nets)) ≡ Ok c.add_items.new.nets) path c.in_ok-add_items.ensures.made)
+    instance_gives c.args.library.now c.args.path.now c.args.room c.args.k c.args.item.now here c.join.new.scope c.in_ok-inner.inner c.join.new.nets c.requires.found c.requires.entered joint
+    c.add_below.new.nets c.add_below.result c.add_below.ensures.made

@@ -9,16 +9,22 @@ use Rattle.xr_elab.proofs.Doing.{Leads}
 use Rattle.xr_elab.proofs.instances.+instances.Given as goal
 
 abbrev pub decreases-add_items : goal.decreases-add_items
-decreases-add_items l = 4 * l.room
+decreases-add_items l = 6 * l.room
 
 abbrev pub decreases-add_item : goal.decreases-add_item
-decreases-add_item l = 4 * l.room + 3
+decreases-add_item l = 6 * l.room + 5
 
 abbrev pub decreases-add_instance : goal.decreases-add_instance
-decreases-add_instance l = 4 * l.room + 2
+decreases-add_instance l = 6 * l.room + 4
 
 abbrev pub decreases-add_module : goal.decreases-add_module
-decreases-add_module l = 4 * l.room + 1
+decreases-add_module l = 6 * l.room + 3
+
+abbrev pub decreases-add_inner : goal.decreases-add_inner
+decreases-add_inner l = 6 * l.room + 2
+
+abbrev pub decreases-add_below : goal.decreases-add_below
+decreases-add_below l = 6 * l.room + 1
 
 abbrev pub invariant-add_items-items : goal.invariant-add_items-items
 invariant-add_items-items l = record {
