@@ -38,6 +38,14 @@ once_by source d (Some name) named = absurd cc
 pub once_of : (source d : Source) → all_named source ≡ Ok d → repeated source ≡ None
 once_of source d named = once_by source d (repeated source) named
 
+named_by : (source d : Source) (o : Option (List ℕ)) → named_once o source ≡ Ok d → d ≡ source
+named_by source d None named = cc
+named_by source d (Some name) named = absurd cc
+
+-- The text whose definitions are looked at is this one.
+pub named_is : (source d : Source) → all_named source ≡ Ok d → d ≡ source
+named_is source d named = named_by source d (repeated source) named
+
 -- ---- tables
 
 pub are_tables : (source : Source) (tables : List Table) → AreBuilt source.primitives (Ok tables) → length source.primitives < 2 ^ 32 → AreTables source tables

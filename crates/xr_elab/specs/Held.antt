@@ -25,10 +25,6 @@ pub record Holds (source : Source) (tables : List Table) (modules : List Module)
   pub busy_ : busy ≡ map (busy_of_module source levels) source.modules
   pub tables_ : AreTables source tables
 
--- The definitions are those of the text.
-abbrev pub IsHeld : Source → Source → List Table → List Module → List ℕ → List Busy → Type 0
-IsHeld source defined tables modules levels busy = (defined ≡ source) × Holds source tables modules levels busy
-
 -- Whether an instance of the module at a position is passed over, by the levels of the text.
 pub record IsPassing (source : Source) (path : List ℕ) (room k : ℕ) (i : InstanceItem) (answer : Bool) : Type 0 where
   pub levels : List ℕ

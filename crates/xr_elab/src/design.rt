@@ -16,12 +16,12 @@ ghost use Rattle.xr_elab.specs.Held.{AreTables};
 ghost use Rattle.xr_elab.specs.Busy.{state_of};
 
 use crate::instances::{add_below, copy_of};
-use crate::library::Library;
+use crate::library::{Idle, Library, modules_of};
 use std::alloc::Global;
 use xr_base::Items;
 use xr_cell::Udp;
 use xr_design::Design;
-use xr_elab_names::Scope;
+use xr_elab_names::{Declarations, Scope};
 use xr_elab_nets::{ElabErr, Nets};
 use xr_elab_prims::{Clocks, Definition, Definitions, build_primitives};
 use xr_netlist_grammar::Source;
@@ -51,25 +51,56 @@ fn find_design(alloc: Global, source: &Source, top: &str) -> Result<Design, Elab
     ensures refused { IfErr result (λ e. e ≢ OutOfMemory → Elaborates source.now top.now (Err e)) }
 {
     let definitions = Definitions::new(alloc, source)?;
-    let udps = build_primitives(alloc, source.primitives.as_slice())?;
-    let nets = make_nets(alloc, source, definitions, &udps, top)?;
+    let design = design_in(alloc, &definitions, top);
+    drop(definitions);
+    design
+}
+
+/// The design of a text whose definitions have names of their own.
+fn design_in(alloc: Global, definitions: &Definitions<'_>, top: &str) -> Result<Design, ElabErr>
+    requires few { length definitions.now.primitives < 2 ^ 32 }
+    requires once { repeated definitions.now ≡ None }
+    ensures design { IfOk result (λ design. Elaborates definitions.now top.now (Ok design)) }
+    ensures refused { IfErr result (λ e. e ≢ OutOfMemory → Elaborates definitions.now top.now (Err e)) }
+{
+    let udps = build_primitives(alloc, definitions.source().primitives.as_slice())?;
+    let nets = make_nets(alloc, definitions, &udps, top)?;
     Ok(nets.into_design(udps))
 }
 
 /// The nets of the top and of all below it.
 fn make_nets(
     alloc: Global,
-    source: &Source,
-    definitions: Definitions<'_>,
+    definitions: &Definitions<'_>,
     udps: &[Udp],
     top: &str,
 ) -> Result<Nets, ElabErr>
-    requires source { definitions ≡ source.now }
-    requires tables { AreTables source.now udps.now }
-    ensures { Gives (spec.design_of (library_of source.now udps.now) top.now) result (λ nets. finished udps.now nets) }
+    requires { AreTables definitions.now udps.now }
+    ensures { let library = library_of definitions.now udps.now in
+        Gives (spec.design_of library top.now) result (λ nets. finished udps.now nets) }
 {
-    let library = Library::new(alloc, source, definitions, udps)?;
-    nets_of(alloc, &library, top.as_bytes())
+    let modules = modules_of(alloc, definitions.source().modules.as_slice())?;
+    nets_with(alloc, definitions, udps, &modules, top)
+}
+
+/// The same with what the declarations of the modules come to.
+fn nets_with(
+    alloc: Global,
+    definitions: &Definitions<'_>,
+    udps: &[Udp],
+    modules: &[Declarations<'_>],
+    top: &str,
+) -> Result<Nets, ElabErr>
+    requires tables { AreTables definitions.now udps.now }
+    requires modules { modules.now ≡ definitions.now.modules }
+    ensures { let library = library_of definitions.now udps.now in
+        Gives (spec.design_of library top.now) result (λ nets. finished udps.now nets) }
+{
+    let idle = Idle::new(alloc, definitions, modules)?;
+    let library = Library::new(definitions, udps, modules, &idle);
+    let nets = nets_of(alloc, &library, top.as_bytes());
+    drop(idle);
+    nets
 }
 
 /// The nets of the module of a name, as the top.
@@ -117,7 +148,9 @@ fn add_top<'t>(
 {
     let prefix = Items::from_vec(Vec::new(alloc));
     let mut scope = library.module(k).open(alloc, prefix, nets)?;
-    add_top_items(alloc, library, &mut scope, nets, k)
+    let added = add_top_items(alloc, library, &mut scope, nets, k);
+    drop(scope);
+    added
 }
 
 /// The items of the module at a position, once it is open as the top.

@@ -70,14 +70,13 @@ fn add_item<'t>(
     ensures same { clocks.new ≡ clocks.old }
 {
     match item {
-        Item::Declare(declare) => add_value(alloc, scope, nets, declare)?,
-        Item::Gate(gate) => add_gate(alloc, scope, nets, gate)?,
-        Item::Assign(left, right) => add_assign(alloc, scope, nets, left, right)?,
+        Item::Declare(declare) => add_value(alloc, scope, nets, declare),
+        Item::Gate(gate) => add_gate(alloc, scope, nets, gate),
+        Item::Assign(left, right) => add_assign(alloc, scope, nets, left, right),
         Item::Instance(instance) => {
-            add_instance(alloc, library, clocks, path, room, scope, nets, instance)?
+            add_instance(alloc, library, clocks, path, room, scope, nets, instance)
         }
     }
-    Ok(())
 }
 
 /// An instance in a module whose path may have `room` modules more.
@@ -103,12 +102,10 @@ fn add_instance<'t>(
             name: copy_of(alloc, name)?,
         }),
         Some(Definition::Primitive(k)) => {
-            add_primitive(alloc, library, clocks, path, room, scope, nets, item, k)?;
-            Ok(())
+            add_primitive(alloc, library, clocks, path, room, scope, nets, item, k)
         }
         Some(Definition::Module(k)) => {
-            add_module(alloc, library, clocks, path, room, scope, nets, item, k)?;
-            Ok(())
+            add_module(alloc, library, clocks, path, room, scope, nets, item, k)
         }
     }
 }
@@ -133,8 +130,7 @@ fn add_primitive<'t>(
     ensures same { clocks.new ≡ clocks.old }
 {
     let udp = library.udp(k);
-    add_udp(alloc, scope, nets, clocks, k as u32, udp, item)?;
-    Ok(())
+    add_udp(alloc, scope, nets, clocks, k as u32, udp, item)
 }
 
 /// An instance of the module at a position.
@@ -187,7 +183,9 @@ fn add_inner<'t>(
     ensures same { clocks.new ≡ clocks.old }
 {
     let mut inner = join(alloc, scope, nets, library.module(k), item)?;
-    add_below(alloc, library, clocks, path, room, &mut inner, nets, k)
+    let added = add_below(alloc, library, clocks, path, room, &mut inner, nets, k);
+    drop(inner);
+    added
 }
 
 /// The items of the module at a position once it is open behind this path, which may have `room` modules more.

@@ -16,84 +16,69 @@ use std::marker::Model;
 use xr_cell::Udp;
 use xr_elab_names::Declarations;
 use xr_elab_prims::{Definition, Definitions};
-use xr_netlist_grammar::{InstanceItem, Item, Module, Source};
+use xr_netlist_grammar::{InstanceItem, Item, Module};
 
 /// The definitions of a text, the tables of its primitives, and what is worked out once for each module: what its
 /// declarations and ports come to, which items are left then, which of these aren't idle, and a level where it makes no
 /// net.
 #[derive(Drop)]
 pub struct Library<'t> {
-    source: &'t Source,
-    definitions: Definitions<'t>,
+    definitions: &'t Definitions<'t>,
     udps: &'t [Udp],
-    modules: Vec<Declarations<'t>>,
-    idle: Idle<'t>,
+    modules: &'t [Declarations<'t>],
+    idle: &'t Idle<'t>,
 }
 
 /// What of a text's modules makes nothing: the level of each, and which of its items are busy.
 #[derive(Drop)]
-struct Idle<'t> {
+pub struct Idle<'t> {
     levels: Vec<u32>,
     busy: Vec<Busy<'t>>,
 }
 
 impl<'t> Model for Library<'t> {
     ghost use Rattle.xr_elab_tree.specs.Library.{Library, library_of};
-    ghost use Rattle.xr_elab.specs.Held.{IsHeld};
+    ghost use Rattle.xr_elab.specs.Held.{Holds};
 
     ghost Value = { Library };
 
-    ghost view = { λ l. library_of l.source.now l.udps.now };
+    ghost view = { λ l. library_of l.definitions.now l.udps.now };
 
-    ghost invariant = { λ l. IsHeld l.source.now l.definitions l.udps.now l.modules.items l.idle.levels.items l.idle.busy.items };
+    ghost invariant = { λ l.
+        Holds l.definitions.now l.udps.now l.modules.now l.idle.now.levels.items l.idle.now.busy.items };
 }
 
 impl<'t> Library<'t> {
-    ghost use Rattle.std.specs.Prelude.{◌≡◌, ◌<◌, ◌≤◌, ◌^◌, IfOk, IfSome, IsTrue, length};
+    ghost use Rattle.std.specs.Prelude.{◌≡◌, ◌<◌, ◌≤◌, ◌^◌, IfSome, IsTrue, length, map};
     ghost use Rattle.xr_cell.specs.Refusal.{input_limit};
     ghost use Rattle.xr_design.specs.Job.{primitive_of};
     ghost use Rattle.xr_elab_prims.specs.Definitions.{definition_of, IsThere};
     ghost use Rattle.xr_elab_tree.specs.Library.{library_of, module_of};
     ghost use Rattle.xr_elab_names.specs.Outline.{items_in, left_of};
     ghost use Rattle.xr_elab.specs.Held.{AreTables, IsPassing};
-    ghost use Rattle.xr_elab.specs.Busy.{IsToDo};
+    ghost use Rattle.xr_elab.specs.Quiet.{AreLevels};
+    ghost use Rattle.xr_elab.specs.Busy.{IsToDo, busy_of_module};
 
-    /// The library of a text whose names are in order, with the tables of its primitives.
+    /// The library of a text whose names are in order, with the tables of its primitives, what the declarations of its
+    /// modules come to, and what is idle in them. Takes no memory.
     pub fn new(
-        alloc: Global,
-        source: &'t Source,
-        definitions: Definitions<'t>,
+        definitions: &'t Definitions<'t>,
         udps: &'t [Udp],
-    ) -> Result<Library<'t>, AllocError>
-        requires source { definitions ≡ source.now }
-        requires tables { AreTables source.now udps.now }
-        ensures { IfOk result (λ l. l ≡ library_of source.now udps.now) }
+        modules: &'t [Declarations<'t>],
+        idle: &'t Idle<'t>,
+    ) -> Library<'t>
+        requires tables { AreTables definitions.now udps.now }
+        requires modules { modules.now ≡ definitions.now.modules }
+        requires levels { AreLevels definitions.now 32 idle.now.levels.items }
+        requires busy { idle.now.busy.items ≡ map (busy_of_module definitions.now idle.now.levels.items) modules.now }
+        ensures { result ≡ library_of definitions.now udps.now }
     {
-        let modules = modules_of(alloc, source.modules.as_slice())?;
-        Library::of_modules(alloc, source, definitions, udps, modules)
-    }
-
-    /// The same with what the declarations of its modules come to.
-    fn of_modules(
-        alloc: Global,
-        source: &'t Source,
-        definitions: Definitions<'t>,
-        udps: &'t [Udp],
-        modules: Vec<Declarations<'t>>,
-    ) -> Result<Library<'t>, AllocError>
-        requires source { definitions ≡ source.now }
-        requires tables { AreTables source.now udps.now }
-        requires modules { modules.items ≡ source.now.modules }
-        ensures { IfOk result (λ l. l ≡ library_of source.now udps.now) }
-    {
-        let idle = Idle::new(alloc, &definitions, source.modules.as_slice(), &modules)?;
-        Ok(Library {
-            source,
+        Library {
             definitions,
             udps,
             modules,
             idle,
-        })
+        }
     }
 
     /// What a name defines. Takes no memory.
@@ -127,7 +112,7 @@ impl<'t> Library<'t> {
         requires { k < length self.now.source.modules }
         ensures { result.now ≡ module_of self.now k }
     {
-        module_at(&self.modules, k)
+        module_at(self.modules, k)
     }
 
     /// Which items of the module at a position are to be gone through, where it ends this path. The path before it may have
@@ -162,19 +147,17 @@ impl<'t> Idle<'t> {
     ghost use Rattle.xr_elab.specs.Quiet.{AreLevels};
     ghost use Rattle.xr_elab.specs.Busy.{busy_of_module};
 
-    /// The same modules twice, as the text has them and with what their declarations come to.
-    fn new(
+    /// What is idle in these modules of a text.
+    pub fn new(
         alloc: Global,
         definitions: &Definitions<'_>,
-        units: &[Module],
         modules: &[Declarations<'t>],
     ) -> Result<Idle<'t>, AllocError>
-        requires { units.now ≡ definitions.now.modules }
         ensures levels { IfOk result (λ idle. AreLevels definitions.now 32 idle.levels.items) }
         ensures busy { IfOk result (λ idle.
             idle.busy.items ≡ map (busy_of_module definitions.now idle.levels.items) modules.now) }
     {
-        let levels = levels_of(alloc, definitions, units)?;
+        let levels = levels_of(alloc, definitions, definitions.source().modules.as_slice())?;
         let busy = all_busy(alloc, definitions, &levels, modules)?;
         Ok(Idle { levels, busy })
     }
@@ -197,7 +180,10 @@ fn is_passed_over(
 }
 
 /// What the declarations of each module come to, in the order of the text.
-fn modules_of<'t>(alloc: Global, modules: &'t [Module]) -> Result<Vec<Declarations<'t>>, AllocError>
+pub fn modules_of<'t>(
+    alloc: Global,
+    modules: &'t [Module],
+) -> Result<Vec<Declarations<'t>>, AllocError>
     ensures { IfOk result (λ all. all.items ≡ modules.now) }
 {
     let mut all = Vec::new(alloc);
