@@ -12,7 +12,7 @@ use xr_cell::Value;
 use xr_cnf::clauses;
 use xr_cone::{Cone, trace, trace_at};
 use xr_cone_choices::{Choice, minimal_choices};
-use xr_cone_nodes::{NodeBody, Words};
+use xr_cone_nodes::{NodeBody, Word, Words};
 use xr_design::{Filling, Place};
 use xr_model::Class;
 use xr_wave::Wave;
@@ -128,7 +128,7 @@ fn check_filling(rt: &impl Abort, alloc: Global, cone: &Cone, one: &Filling) -> 
     assert!(rt; !cone.base());
     assert!(rt; cone.value(alloc, one)?);
     check_word(rt, alloc, cone)?;
-    let chosen = cone.chosen(alloc, &[0b0011, 0b0101], 2)?;
+    let chosen = cone.chosen(alloc, &[low(0b0011), low(0b0101)], 2)?;
     assert_eq!(rt; chosen.as_slice(), one.as_slice());
     Ok(())
 }
@@ -136,8 +136,13 @@ fn check_filling(rt: &impl Abort, alloc: Global, cone: &Cone, one: &Filling) -> 
 fn check_word(rt: &impl Abort, alloc: Global, cone: &Cone) -> Result<(), Fail> {
     assert_eq!(rt; cone.sources().len(), 2);
     let mut words = Words::new(alloc, cone)?;
-    assert_eq!(rt; words.root(cone, &[0b0011, 0b0101]), 0b0110);
+    assert_eq!(rt; words.root(cone, &[low(0b0011), low(0b0101)]), low(0b0110));
     Ok(())
+}
+
+/// The word that has a number's bits in its first lanes.
+fn low(bits: u64) -> Word {
+    Word::new([bits, 0, 0, 0])
 }
 
 fn check_fillings_of(rt: &impl Abort, alloc: Global, job: &Job) -> Result<(), Fail>

@@ -1,11 +1,11 @@
 -- The bits of words, lane by lane.
-use Rattle.std.proofs.Common.{◌≡◌, ℕ, zero, suc, ◌+◌, ◌-◌, ◌*◌, ◌/◌, ◌%◌, ◌^◌, ◌<◌, ◌≤◌, ◌==◌, ◌&&◌, ◌||◌, min, max, not, cond, Bool, true, false, nat_lt, refl, sym, ap, ◌∙◌, arith, w64, ⊎_elim}
-use Rattle.std.specs.Prelude.{bit_and, bit_or}
-use Rattle.std.specs.Int.{bit_at}
+use Rattle.std.proofs.Common.{◌≡◌, ℕ, zero, suc, ◌+◌, ◌-◌, ◌*◌, ◌/◌, ◌%◌, ◌^◌, ◌<◌, ◌≤◌, ◌==◌, ◌&&◌, ◌||◌, min, max, not, cond, Bool, true, false, List, [], ◌∷◌, nat_lt, slice_index, refl, sym, ap, ◌∙◌, arith, w64, ⊎_elim}
+use Rattle.std.specs.Prelude.{bit_and, bit_or, bit_xor}
+use Rattle.std.specs.Int.{bit_at, trailing_zeros}
 use Rattle.std.proofs.lemmas.Bool.{cases_eq, eq-eqb, ne_eqb, lt-ltb, le-ltb, cases_lt}
-use Rattle.std.proofs.lemmas.Nat.Bits.{bit_at_and, bit_at_or, bit_at_not, bit_at_ones, bit_at-zero, bit_at-lt}
+use Rattle.std.proofs.lemmas.Nat.Bits.{bit_at_and, bit_at_or, bit_at_xor, bit_at_ones, bit_at-zero, bit_at-lt, bit_at-trailing_zeros}
 use Rattle.xr_model.specs.Class.{flipped}
-use Rattle.xr_cone_nodes.specs.Lanes.{in_lane}
+use Rattle.xr_cone_nodes.specs.Lanes.{HasNone, IsOne, equal_bits, in_lane}
 
 min_bits : (x y : ℕ) → x < 2 → y < 2 → (min x y == 1) ≡ (x == 1) && (y == 1)
 min_bits zero zero low small = refl
@@ -25,26 +25,123 @@ max_bits (suc (suc x)) y low small = absurd (omega arith)
 max_bits zero (suc (suc y)) low small = absurd (omega arith)
 max_bits (suc zero) (suc (suc y)) low small = absurd (omega arith)
 
-not_bit : (x : ℕ) → x < 2 → (1 - x == 1) ≡ not (x == 1)
-not_bit zero small = refl
-not_bit (suc zero) small = refl
-not_bit (suc (suc x)) small = absurd (omega arith)
+other_bit : (x : ℕ) → x < 2 → ((x + 1) % 2 == 1) ≡ not (x == 1)
+other_bit zero small = refl
+other_bit (suc zero) small = refl
+other_bit (suc (suc x)) small = absurd (omega arith)
 
-pub lane_and : (a b lane : ℕ) → in_lane (bit_and a b) lane ≡ in_lane a lane && in_lane b lane
-lane_and a b lane = rw bit_at_and (min_bits (bit_at a lane) (bit_at b lane) (bit_at-lt a lane) (bit_at-lt b lane))
+same_bit : (x : ℕ) → x < 2 → ((x + 0) % 2 == 1) ≡ (x == 1)
+same_bit zero small = refl
+same_bit (suc zero) small = refl
+same_bit (suc (suc x)) small = absurd (omega arith)
 
-pub lane_or : (a b lane : ℕ) → in_lane (bit_or a b) lane ≡ in_lane a lane || in_lane b lane
-lane_or a b lane = rw bit_at_or (max_bits (bit_at a lane) (bit_at b lane) (bit_at-lt a lane) (bit_at-lt b lane))
+part_and : (a b bit : ℕ) → (bit_at (bit_and a b) bit == 1) ≡ (bit_at a bit == 1) && (bit_at b bit == 1)
+part_and a b bit = rw bit_at_and (min_bits (bit_at a bit) (bit_at b bit) (bit_at-lt a bit) (bit_at-lt b bit))
 
-pub lane_not : (a lane : ℕ) → a < 2 ^ 64 → lane < 64 → in_lane (2 ^ 64 - 1 - a) lane ≡ not (in_lane a lane)
-lane_not a lane fits less =
-    ap (λ bit. bit == 1) (bit_at_not w64 a lane fits less) ∙ not_bit (bit_at a lane) (bit_at-lt a lane)
+part_or : (a b bit : ℕ) → (bit_at (bit_or a b) bit == 1) ≡ (bit_at a bit == 1) || (bit_at b bit == 1)
+part_or a b bit = rw bit_at_or (max_bits (bit_at a bit) (bit_at b bit) (bit_at-lt a bit) (bit_at-lt b bit))
 
-pub lane_ones : (lane : ℕ) → lane < 64 → in_lane (2 ^ 64 - 1) lane ≡ true
-lane_ones lane less = ap (λ bit. bit == 1) (bit_at_ones 64 lane less)
+part_turned : (a bit : ℕ) (inverted : Bool) → bit < 64
+    → (bit_at (bit_xor a (equal_bits inverted)) bit == 1) ≡ flipped inverted (bit_at a bit == 1)
+part_turned a bit true less =
+    rw (bit_at_xor, bit_at_ones 64 bit less) (other_bit (bit_at a bit) (bit_at-lt a bit))
+part_turned a bit false less = rw (bit_at_xor, bit_at-zero bit) (same_bit (bit_at a bit) (bit_at-lt a bit))
 
-pub lane_zero : (lane : ℕ) → in_lane 0 lane ≡ false
-lane_zero lane = ap (λ bit. bit == 1) (bit_at-zero lane)
+part_zero : (bit : ℕ) → (bit_at 0 bit == 1) ≡ false
+part_zero bit = ap (λ b. b == 1) (bit_at-zero bit)
+
+-- What is so in each of the four parts is so in all lanes.
+each_part : (P : ℕ → Type 0) → P 0 → P 1 → P 2 → P 3 → (part : ℕ) → part < 4 → P part
+each_part P a b c d zero less = a
+each_part P a b c d (suc zero) less = b
+each_part P a b c d (suc (suc zero)) less = c
+each_part P a b c d (suc (suc (suc zero))) less = d
+each_part P a b c d (suc (suc (suc (suc n)))) less = absurd (omega arith)
+
+abbrev pub equal_parts : ℕ → List ℕ
+equal_parts part = part ∷ part ∷ part ∷ part ∷ []
+
+-- A word whose parts are made of those of two words.
+abbrev pub by_parts : (ℕ → ℕ → ℕ) → List ℕ → List ℕ → List ℕ
+by_parts f a b =
+    f (slice_index a 0) (slice_index b 0) ∷ f (slice_index a 1) (slice_index b 1)
+    ∷ f (slice_index a 2) (slice_index b 2) ∷ f (slice_index a 3) (slice_index b 3) ∷ []
+
+pub lane_and : (a b : List ℕ) (lane : ℕ) → lane < 256
+    → in_lane (by_parts bit_and a b) lane ≡ in_lane a lane && in_lane b lane
+lane_and a b lane less =
+    let bit : ℕ = lane % 64 in
+    each_part (λ part. (bit_at (slice_index (by_parts bit_and a b) part) bit == 1)
+    ≡ (bit_at (slice_index a part) bit == 1) && (bit_at (slice_index b part) bit == 1))
+    (part_and (slice_index a 0) (slice_index b 0) bit) (part_and (slice_index a 1) (slice_index b 1) bit)
+    (part_and (slice_index a 2) (slice_index b 2) bit) (part_and (slice_index a 3) (slice_index b 3) bit) (lane / 64)
+    (omega arith)
+
+pub lane_or : (a b : List ℕ) (lane : ℕ) → lane < 256
+    → in_lane (by_parts bit_or a b) lane ≡ in_lane a lane || in_lane b lane
+lane_or a b lane less =
+    let bit : ℕ = lane % 64 in
+    each_part (λ part. (bit_at (slice_index (by_parts bit_or a b) part) bit == 1)
+    ≡ (bit_at (slice_index a part) bit == 1) || (bit_at (slice_index b part) bit == 1))
+    (part_or (slice_index a 0) (slice_index b 0) bit) (part_or (slice_index a 1) (slice_index b 1) bit)
+    (part_or (slice_index a 2) (slice_index b 2) bit) (part_or (slice_index a 3) (slice_index b 3) bit) (lane / 64)
+    (omega arith)
+
+pub lane_turned : (a : List ℕ) (inverted : Bool) (lane : ℕ) → lane < 256
+    → in_lane (by_parts bit_xor a (equal_parts (equal_bits inverted))) lane ≡ flipped inverted (in_lane a lane)
+lane_turned a inverted lane less =
+    let bit : ℕ = lane % 64 in
+    let small : bit < 64 = omega arith in
+    each_part (λ part. (bit_at (slice_index (by_parts bit_xor a (equal_parts (equal_bits inverted))) part) bit == 1)
+    ≡ flipped inverted (bit_at (slice_index a part) bit == 1))
+    (part_turned (slice_index a 0) bit inverted small) (part_turned (slice_index a 1) bit inverted small)
+    (part_turned (slice_index a 2) bit inverted small) (part_turned (slice_index a 3) bit inverted small) (lane / 64)
+    (omega arith)
+
+-- A word of four equal parts has in each lane the bit of a part.
+pub lane_equal : (part lane : ℕ) → lane < 256
+    → in_lane (equal_parts part) lane ≡ (bit_at part (lane % 64) == 1)
+lane_equal part lane less =
+    each_part (λ p. (bit_at (slice_index (equal_parts part) p) (lane % 64) == 1)
+    ≡ (bit_at part (lane % 64) == 1)) refl refl refl refl (lane / 64) (omega arith)
+
+pub lane_ones : (lane : ℕ) → lane < 256
+    → in_lane (equal_parts (2 ^ 64 - 1)) lane ≡ true
+lane_ones lane less = lane_equal (2 ^ 64 - 1) lane less
+    ∙ ap (λ bit. bit == 1) (bit_at_ones 64 (lane % 64) (omega arith))
+
+pub lane_zeros : (lane : ℕ) → lane < 256 → in_lane (equal_parts 0) lane ≡ false
+lane_zeros lane less = lane_equal 0 lane less ∙ part_zero (lane % 64)
+
+-- A word whose parts before one are 0.
+abbrev pub NoneBefore : List ℕ → ℕ → Type 0
+NoneBefore word end = (part : ℕ) → part < end → slice_index word part ≡ 0
+
+pub none_before : (word : List ℕ) (end : ℕ) → slice_index word end ≡ 0 → NoneBefore word end
+    → NoneBefore word (end + 1)
+none_before word end none before part less =
+    ⊎_elim (λ (low : part < end). before part low)
+    (λ (last : end ≤ part). (let same : part ≡ end = omega (arith, last, less) in
+    ap (slice_index word) same ∙ none)) (cases_lt part end)
+
+pub none_at_all : (word : List ℕ) (end : ℕ) → 4 ≤ end → NoneBefore word end → HasNone word
+none_at_all word end all before lane less =
+    ap (λ part. bit_at part (lane % 64) == 1) (before (lane / 64) (omega (arith, less, all))) ∙ part_zero (lane % 64)
+
+-- The lowest 1 of a part.
+pub one_at : (word : List ℕ) (part : ℕ) → part < 4 → (slice_index word part ≡ 0 → ⊥)
+    → slice_index word part < 2 ^ 64 → IsOne word (64 * part + trailing_zeros w64 (slice_index word part))
+one_at word part less some fits =
+    let lowest = bit_at-trailing_zeros w64 (slice_index word part) (omega (arith, some)) fits in
+    let bit : ℕ = trailing_zeros w64 (slice_index word part) in
+    let small : bit < 64 = lowest.0 in
+    let which : (64 * part + bit) / 64 ≡ part = omega (arith, small) in
+    let rest : (64 * part + bit) % 64 ≡ bit = omega (arith, small) in
+    (omega (arith, small, less), rw (which, rest) (ap (λ b. b == 1) lowest.1))
+
+-- Where there is no word, there is no 1.
+pub lane_none : (lane : ℕ) → in_lane [] lane ≡ false
+lane_none lane = part_zero (lane % 64)
 
 -- The lowest bit of a number, and the others.
 lowest : (b : Bool) (m q e : ℕ) → e < 2 → ((cond b 1 0 + 2 * m) == (e + 2 * q)) ≡ flipped (e == 0) b && (m == q)

@@ -1,13 +1,13 @@
 -- The words of nodes, as they are made.
-use Rattle.std.proofs.Common.{◌≡◌, ℕ, suc, ◌+◌, ◌-◌, ◌*◌, ◌/◌, ◌%◌, ◌^◌, ◌<◌, ◌≤◌, ◌==◌, ◌&&◌, cond, Bool, true, false, List, length, map, take, drop, nat_lt, get_or, set, refl, sym, ap, ◌∙◌, subst, arith, add-one, slice_index_or, slice_index}
-use Rattle.std.specs.Prelude.{bit_and, bit_or}
+use Rattle.std.proofs.Common.{◌≡◌, ℕ, zero, suc, ◌+◌, ◌*◌, ◌/◌, ◌%◌, ◌^◌, ◌<◌, ◌≤◌, ◌==◌, ◌&&◌, ◌||◌, cond, Bool, true, false, List, [], ◌∷◌, length, map, take, drop, nat_lt, get_or, set, refl, sym, ap, ◌∙◌, subst, arith, add-one, slice_index_or}
+use Rattle.std.specs.List.{AllByRecursion}
 use Rattle.std.proofs.Math.Path.{fun_ext}
 use Rattle.std.proofs.Math.ListN.{get_or-map}
 use Rattle.std.proofs.Math.Nat.{pow-suc}
 use Rattle.std.proofs.Math.Seq.{drop-cons, take-suc-set}
 use Rattle.std.proofs.lemmas.List.{length-set, map-append}
 use Rattle.std.proofs.lemmas.List.Filters.{length-filter_more}
-use Rattle.std.proofs.lemmas.Bool.{lt-ltb}
+use Rattle.std.proofs.lemmas.Bool.{le-ltb, lt-ltb}
 use Rattle.xr_cell.specs.declared.value.Value.{Value}
 use Rattle.xr_cell.specs.declared.value.Value.TheVariants.{X}
 use Rattle.xr_design.specs.World.{bit_at, decided}
@@ -18,32 +18,40 @@ use Rattle.xr_model.proofs.AssignmentNumbers.{mask_small}
 use Rattle.xr_cone_nodes.specs.declared.node.Node.{Node}
 use Rattle.xr_cone_nodes.specs.Lanes.{AreWords, HasLanes, in_lane, lane_of}
 use Rattle.xr_cone_nodes.specs.Nodes.{body_at, by_sources, is_source_node, no_node, node_at, node_bits, sources_before, table_bit}
-use Rattle.xr_cone_nodes.proofs.LaneBits.{lane_and, lane_or, lane_ones, lane_zero, mask_step, one_more}
+use Rattle.xr_cone_nodes.proofs.LaneBits.{lane_none, mask_step, one_more}
+
+pub all_at : (P : ℕ → Type 0) (xs : List ℕ) (i : ℕ) → AllByRecursion P xs → i < length xs → P (get_or xs i 0)
+all_at P [] i all less = absurd (omega arith)
+all_at P (x ∷ xs) zero all less = all.0
+all_at P (x ∷ xs) (suc i) all less = all_at P xs i all.1 (omega arith)
 
 -- The lanes that are left after some of the arguments: those of these have the low bits of a number, whose others are
 -- the rest.
-pub record AgreesSoFar (arguments words : List ℕ) (number lanes rest index : ℕ) : Type 0 where
+pub record AgreesSoFar (arguments : List ℕ) (words : List (List ℕ)) (number : ℕ) (lanes : List ℕ) (rest index : ℕ) : Type 0 where
   pub small : rest < 2 ^ length (drop index arguments)
-  pub in_lanes : (lane : ℕ) → lane < 64
+  pub in_lanes : (lane : ℕ) → lane < 256
       → in_lane lanes lane && (mask_of (drop index arguments) (lane_of words lane) == rest)
       ≡ (mask_of arguments (lane_of words lane) == number)
 
-pub agrees_none : (arguments words : List ℕ) (number : ℕ) → number < 2 ^ length arguments
-    → AgreesSoFar arguments words number (2 ^ 64 - 1) number 0
-agrees_none arguments words number small = record {
+pub agrees_none : (arguments : List ℕ) (words : List (List ℕ)) (number : ℕ) (ones : List ℕ)
+    → number < 2 ^ length arguments → HasLanes ones (λ lane. true)
+    → AgreesSoFar arguments words number ones number 0
+agrees_none arguments words number ones small all = record {
   small = small;
-  in_lanes = λ lane less. rw (lane_ones lane less) refl;
+  in_lanes = λ lane less. rw (all lane less) refl;
 }
 
 and_same : (a b c d e : Bool) → d ≡ b && c → a && d ≡ e → (a && b) && c ≡ e
 and_same true b c d e is h = sym is ∙ h
 and_same false b c d e is h = h
 
-pub agrees_more : (arguments words : List ℕ) (number lanes rest index word : ℕ) → index < length arguments
-    → AgreesSoFar arguments words number lanes rest index
-    → HasLanes word (λ lane. flipped (rest % 2 == 0) (in_lane (get_or words (get_or arguments index 0) 0) lane))
-    → AgreesSoFar arguments words number (bit_and lanes word) (rest / 2) (index + 1)
-agrees_more arguments words number lanes rest index word less so has =
+pub agrees_more : (arguments : List ℕ) (words : List (List ℕ)) (number : ℕ) (lanes : List ℕ) (rest index : ℕ)
+    (own word both : List ℕ) → index < length arguments → AgreesSoFar arguments words number lanes rest index
+    → own ≡ slice_index_or words (get_or arguments index 0) []
+    → HasLanes word (λ lane. flipped (rest % 2 == 0) (in_lane own lane))
+    → HasLanes both (λ lane. in_lane lanes lane && in_lane word lane)
+    → AgreesSoFar arguments words number both (rest / 2) (index + 1)
+agrees_more arguments words number lanes rest index own word both less so own_is has are =
     let cut = drop-cons arguments index 0 less in
     let left : ℕ = length (drop (suc index) arguments) in
     let small : rest < 2 ^ suc left = subst (λ xs. rest < 2 ^ length xs) cut so.small in
@@ -56,28 +64,35 @@ agrees_more arguments words number lanes rest index word less so has =
           let before : in_lane lanes lane && ((cond (bits (get_or arguments index 0)) 1 0 + 2 * others) == rest)
           ≡ (mask_of arguments bits == number) = subst (λ xs. in_lane lanes lane && (mask_of xs bits == rest)
           ≡ (mask_of arguments bits == number)) cut (so.in_lanes lane within) in
-          rw (add-one, lane_and, has lane within)
+          rw (add-one, are lane within, has lane within, own_is)
           (and_same (in_lane lanes lane) (flipped (rest % 2 == 0) (bits (get_or arguments index 0)))
           (others == rest / 2) _ _ (mask_step (bits (get_or arguments index 0)) others rest) before));
     }
 
 -- The word of the first values of a table.
-abbrev pub CoversSoFar : List ℕ → List Value → List ℕ → ℕ → ℕ → ℕ → Type 0
+abbrev pub CoversSoFar : List ℕ → List Value → List (List ℕ) → List ℕ → List ℕ → ℕ → Type 0
 CoversSoFar arguments values words own word index = HasLanes word (λ lane.
     nat_lt (mask_of arguments (lane_of words lane)) index
     && decided (slice_index_or values (mask_of arguments (lane_of words lane)) X) (in_lane own lane))
 
-pub covers_more : (arguments : List ℕ) (values : List Value) (words : List ℕ) (own word part index : ℕ) (value : Value)
-    → value ≡ slice_index_or values index X
+pub covers_none : (arguments : List ℕ) (values : List Value) (words : List (List ℕ)) (own zeros : List ℕ)
+    → HasLanes zeros (λ lane. false) → CoversSoFar arguments values words own zeros 0
+covers_none arguments values words own zeros none = λ lane less.
+    none lane less
+    ∙ rw (le-ltb (mask_of arguments (lane_of words lane)) 0 (omega arith)) refl
+
+pub covers_more : (arguments : List ℕ) (values : List Value) (words : List (List ℕ)) (own word part next : List ℕ)
+    (index : ℕ) (value : Value) → value ≡ slice_index_or values index X
     → CoversSoFar arguments values words own word index
     → HasLanes part (λ lane. (mask_of arguments (lane_of words lane) == index) && decided value (in_lane own lane))
-    → CoversSoFar arguments values words own (bit_or word part) (index + 1)
-covers_more arguments values words own word part index value is so has = λ lane less.
-    lane_or word part lane ∙ rw (so lane less, has lane less, is)
+    → HasLanes next (λ lane. in_lane word lane || in_lane part lane)
+    → CoversSoFar arguments values words own next (index + 1)
+covers_more arguments values words own word part next index value is so has either = λ lane less.
+    either lane less ∙ rw (so lane less, has lane less, is)
     (one_more (λ i. decided (slice_index_or values i X) (in_lane own lane)) (mask_of arguments (lane_of words lane))
     index)
 
-pub covers_all : (arguments : List ℕ) (values : List Value) (words : List ℕ) (own word index : ℕ)
+pub covers_all : (arguments : List ℕ) (values : List Value) (words : List (List ℕ)) (own word : List ℕ) (index : ℕ)
     → length values ≡ 2 ^ length arguments → length values ≤ index
     → CoversSoFar arguments values words own word index
     → HasLanes word (λ lane. table_bit arguments values (lane_of words lane) (in_lane own lane))
@@ -86,13 +101,13 @@ covers_all arguments values words own word index long all so = λ lane less.
     so lane less ∙ rw (lt-ltb (mask_of arguments (lane_of words lane)) index (omega (arith, small, long, all))) refl)
 
 -- The words of the first nodes, and how many sources are among these.
-pub record EvaluatedSoFar (nodes : List Node) (given words : List ℕ) (sources position : ℕ) : Type 0 where
+pub record EvaluatedSoFar (nodes : List Node) (given words : List (List ℕ)) (sources position : ℕ) : Type 0 where
   pub room : length words ≡ length nodes
   pub few : sources ≤ position
   pub counted : sources ≡ sources_before nodes position
   pub are_words : AreWords nodes given words position
 
-pub evaluated_none : (nodes : List Node) (given words : List ℕ) → length words ≡ length nodes
+pub evaluated_none : (nodes : List Node) (given words : List (List ℕ)) → length words ≡ length nodes
     → EvaluatedSoFar nodes given words 0 0
 unfolding node_bits
 evaluated_none nodes given words room = record {
@@ -107,14 +122,15 @@ one_at_most true m n less = omega arith
 one_at_most false m n less = omega arith
 
 -- The bits of the words in a lane are those of the words' bits.
-bits_of_words : (words : List ℕ) (lane : ℕ)
+bits_of_words : (words : List (List ℕ)) (lane : ℕ)
     → bit_at (map (λ word. in_lane word lane) words) ≡ lane_of words lane
 bits_of_words words lane = fun_ext (λ p. subst (λ d. get_or (map (λ word. in_lane word lane) words) p d
-    ≡ in_lane (get_or words p 0) lane) (lane_zero lane) (get_or-map (λ word. in_lane word lane) words p 0))
+    ≡ in_lane (get_or words p []) lane) (lane_none lane) (get_or-map (λ word. in_lane word lane) words p []))
 
-pub evaluated_more : (nodes : List Node) (births : List Bool) (given words : List ℕ) (sources position own word : ℕ)
+pub evaluated_more : (nodes : List Node) (births : List Bool) (given words : List (List ℕ)) (sources position : ℕ)
+    (own word : List ℕ)
     → position < length nodes → births ≡ map is_source_node nodes → EvaluatedSoFar nodes given words sources position
-    → own ≡ slice_index given sources
+    → HasLanes own (λ lane. lane_of given lane sources)
     → HasLanes word (λ lane. node_bit (lane_of (take position words) lane) (in_lane own lane) (body_at nodes position))
     → EvaluatedSoFar nodes given (set words position word) (sources + cond (get_or births position false) 1 0)
     (position + 1)
@@ -127,12 +143,11 @@ evaluated_more nodes births given words sources position own word less births_ar
       rw (born, so.counted) (sym (length-filter_more is_source_node nodes position no_node less)));
   are_words = λ lane within.
       (let room = so.room in
-      let bits = λ (k : ℕ). in_lane k lane in
       let earlier = so.are_words lane within in
       let reads : bit_at (node_bits (by_sources nodes (lane_of given lane)) nodes position)
       ≡ lane_of (take position words) lane = ap bit_at (sym earlier) ∙ bits_of_words (take position words) lane in
       let here : in_lane own lane ≡ lane_of given lane (sources_before nodes position) =
-      ap bits own_is ∙ ap (λ k. in_lane (slice_index given k) lane) so.counted in
+      own_is lane within ∙ ap (lane_of given lane) so.counted in
       rw (
         add-one,
         take-suc-set words position word (omega (arith, room, less)),

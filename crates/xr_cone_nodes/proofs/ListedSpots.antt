@@ -42,14 +42,14 @@ pub member_listed : (filling : List Place) (place : Place)
 member_listed [] place = refl
 member_listed (p ∷ ps) place = rw (same_spot place p, member_listed ps place) refl
 
-first_lane : (b : Bool) → in_lane (if b then 1 else 0) 0 ≡ b
+first_lane : (b : Bool) → in_lane ((if b then 1 else 0) ∷ 0 ∷ 0 ∷ 0 ∷ []) 0 ≡ b
 first_lane true = refl
 first_lane false = refl
 
 -- The words that a filling gives the sources have their bits in the first lane.
-pub words_listed : (nodes : List Node) (filling : List Place) (given : List ℕ)
+pub words_listed : (nodes : List Node) (filling : List Place) (given : List (List ℕ))
     → given ≡ map (listed_word filling) (sources_of nodes) → AreListed nodes filling (lane_of given 0)
 words_listed nodes filling given are source less =
     ap (λ words. lane_of words 0 source) are
-    ∙ ap (λ word. in_lane word 0) (get_or-map (listed_word filling) (sources_of nodes) source no_node.place 0 less)
+    ∙ ap (λ word. in_lane word 0) (get_or-map (listed_word filling) (sources_of nodes) source no_node.place [] less)
     ∙ first_lane (is_listed filling (source_at nodes source))

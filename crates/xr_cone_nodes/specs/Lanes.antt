@@ -1,29 +1,40 @@
--- Words of 64 lanes, which hold the bits of 64 fillings at once.
-use Rattle.std.specs.Prelude.{◌≡◌, ℕ, ◌<◌, ◌==◌, Bool, List, map, slice_index, take}
+-- Words of 256 lanes, which hold the bits of 256 fillings at once, in four parts of 64.
+use Rattle.std.specs.Prelude.{◌≡◌, ℕ, ◌-◌, ◌/◌, ◌%◌, ◌^◌, ◌<◌, ◌==◌, Bool, false, true, List, [], map, slice_index, slice_index_or, take, if◌then◌else◌}
 use Rattle.std.specs.Int.{bit_at}
 use Rattle.xr_cone_nodes.specs.declared.node.Node.{Node}
 use Rattle.xr_cone_nodes.specs.Nodes.{by_sources, node_bits, root_bit}
 
 -- The bit of a word in a lane.
-abbrev pub in_lane : ℕ → ℕ → Bool
-in_lane word lane = bit_at word lane == 1
+abbrev pub in_lane : List ℕ → ℕ → Bool
+in_lane word lane = bit_at (slice_index word (lane / 64)) (lane % 64) == 1
 
 -- A word has, in each of its lanes, the bit that a function of the lane gives.
-abbrev pub HasLanes : ℕ → (ℕ → Bool) → Type 0
-HasLanes word bits = (lane : ℕ) → lane < 64 → in_lane word lane ≡ bits lane
+abbrev pub HasLanes : List ℕ → (ℕ → Bool) → Type 0
+HasLanes word bits = (lane : ℕ) → lane < 256 → in_lane word lane ≡ bits lane
+
+-- It has no 1, or it has one in a lane.
+abbrev pub HasNone : List ℕ → Type 0
+HasNone word = HasLanes word (λ lane. false)
+
+abbrev pub IsOne : List ℕ → ℕ → Type 0
+IsOne word lane = (lane < 256) × (in_lane word lane ≡ true)
+
+-- A part with 1 in each bit, or 0 in each.
+abbrev pub equal_bits : Bool → ℕ
+equal_bits is_one = if is_one then 2 ^ 64 - 1 else 0
 
 -- The bits of some words in a lane: of nodes by position, or of sources in place order.
-abbrev pub lane_of : List ℕ → ℕ → ℕ → Bool
-lane_of words lane position = in_lane (slice_index words position) lane
+abbrev pub lane_of : List (List ℕ) → ℕ → ℕ → Bool
+lane_of words lane position = in_lane (slice_index_or words position []) lane
 
 -- The bit of the root where each source has the bit of its word in the lane.
-abbrev pub root_in_lane : List Node → List ℕ → ℕ → Bool
+abbrev pub root_in_lane : List Node → List (List ℕ) → ℕ → Bool
 root_in_lane nodes given lane = root_bit (by_sources nodes (lane_of given lane)) nodes
 
 -- The first n words are those of the first n nodes.
-abbrev pub AreWords : List Node → List ℕ → List ℕ → ℕ → Type 0
+abbrev pub AreWords : List Node → List (List ℕ) → List (List ℕ) → ℕ → Type 0
 AreWords nodes given words n =
-    (lane : ℕ) → lane < 64
+    (lane : ℕ) → lane < 256
     → map (λ word. in_lane word lane) (take n words) ≡ node_bits (by_sources nodes (lane_of given lane)) nodes n
 
 -- What callers see of room for words: for how many nodes it is.

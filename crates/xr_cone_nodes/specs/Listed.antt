@@ -1,5 +1,5 @@
 -- How code finds whether a filling lists a place: by a set of steps and nets.
-use Rattle.std.specs.Prelude.{ℕ, List, map, if◌then◌else◌}
+use Rattle.std.specs.Prelude.{ℕ, List, [], ◌∷◌, map, if◌then◌else◌}
 use Rattle.std.specs.declared.cmp.Ordering.{Ordering}
 use Rattle.std.specs.Ordering.{nat_cmp, ordering_then}
 use Rattle.std.specs.BTreeSet as tree
@@ -18,5 +18,5 @@ abbrev pub HasSpots : List Place → BTreeSet (ℕ × ℕ) → Type 0
 HasSpots filling spots = tree.IsFromIterResult spot_cmp (map spot_of filling) spots
 
 -- The word of a source that has its bit in a filling: in the first lane.
-abbrev pub listed_word : List Place → Place → ℕ
-listed_word filling place = if is_listed filling place then 1 else 0
+abbrev pub listed_word : List Place → Place → List ℕ
+listed_word filling place = (if is_listed filling place then 1 else 0) ∷ 0 ∷ 0 ∷ 0 ∷ []

@@ -6,9 +6,10 @@ ghost use Rattle.xr_cone_nodes.specs.Nodes.{AreNodes, chosen, is_source_node, no
 ghost use Rattle.xr_cone_nodes.specs.Traced.{IsWorldBit};
 
 use crate::evaluate::root_word;
-use crate::lanes::{chosen_places, in_lane};
+use crate::lanes::chosen_places;
 use crate::listed::listed_words;
 use crate::node::Node;
+use crate::word::Word;
 use std::alloc::Global;
 use std::marker::Model;
 use xr_base::{Items, Memory};
@@ -73,27 +74,27 @@ impl Cone {
         self.base
     }
 
-    /// The bit of the place in the world of a filling. Takes 8 bytes a node and a source, and a set of the filling's
-    /// places.
+    /// The bit of the place in the world of a filling. Takes 32 bytes a node and a source, and a set of the
+    /// filling's places.
     pub fn value(&self, alloc: Global, filling: &Filling) -> Result<bool, Memory>
         ensures world { IfOk result (IsWorldBit self.now.nodes filling.now) }
     {
         let given = listed_words(alloc, filling.as_slice(), self.sources())?;
-        let mut words = vec![in alloc; 0; self.nodes.len()]?;
+        let mut words = vec![in alloc; Word::zeros(); self.nodes.len()]?;
         let word = self.root_word(&given, words.as_mut_slice());
-        Ok(in_lane(word, 0))
+        Ok(word.in_lane(0))
     }
 
     /// The filling that lists the sources whose words have a 1 in a lane. Takes 8 bytes for each of them.
-    pub fn chosen(&self, alloc: Global, given: &[u64], lane: u32) -> Result<Filling, Memory>
-        requires { lane < 64 }
+    pub fn chosen(&self, alloc: Global, given: &[Word], lane: u32) -> Result<Filling, Memory>
+        requires { lane < 256 }
         ensures { IfOk result (λ filling. filling ≡ chosen (sources_of self.now.nodes) (lane_of given.now lane)) }
     {
         let places = chosen_places(alloc, self.sources(), given, lane)?;
         Ok(Items::from_vec(places))
     }
 
-    pub(crate) fn root_word(&self, given: &[u64], words: &mut [u64]) -> u64
+    pub(crate) fn root_word(&self, given: &[Word], words: &mut [Word]) -> Word
         requires { length words.old ≡ length self.now.nodes }
         ensures { HasLanes result (root_in_lane self.now.nodes given.now) }
     {
@@ -124,7 +125,7 @@ fn base_of(alloc: Global, nodes: &[Node], births: &[bool]) -> Result<bool, Memor
     requires births { births.now ≡ map is_source_node nodes.now }
     ensures { IfOk result (λ base. base ≡ root_bit nothing nodes.now) }
 {
-    let mut words = vec![in alloc; 0; nodes.len()]?;
+    let mut words = vec![in alloc; Word::zeros(); nodes.len()]?;
     let word = root_word(nodes, births, &[], words.as_mut_slice());
-    Ok(in_lane(word, 0))
+    Ok(word.in_lane(0))
 }

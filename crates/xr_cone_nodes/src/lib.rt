@@ -1,4 +1,4 @@
-//! The nodes of a cone: what is kept of its places, and their bits under fillings, 64 fillings a word.
+//! The nodes of a cone: what is kept of its places, and their bits under fillings, 256 fillings a word.
 //!
 //! Start at specs/Nodes.antt and specs/Traced.antt, then at `Cone`.
 #![tactic(auto)]
@@ -11,14 +11,15 @@ mod listed;
 mod node;
 mod positions;
 mod values;
+mod word;
 mod words;
 
 pub use cone::Cone;
-pub use lanes::{in_lane, turned};
 pub use laws::{
     bits_make_fillings, fillings_make_bits, numbers_make_fillings, sources_are_of_the_cone,
 };
 pub use node::{Node, NodeBody};
 pub use positions::Positions;
 pub use values::Values;
+pub use word::Word;
 pub use words::Words;

@@ -4,19 +4,25 @@ ghost use Rattle.std.specs.Prelude.{◌≡◌, IfOk, map};
 ghost use Rattle.xr_cone_nodes.specs.Listed.{HasSpots, listed_word};
 ghost use Rattle.xr_cone_nodes.specs.Nodes.{is_listed};
 
+use crate::word::Word;
 use std::alloc::Global;
 use std::collections::BTreeSet;
 use xr_base::Memory;
 use xr_design::Place;
 
 /// For each source a word whose first lane has the bit of the source in a filling.
-pub fn listed_words(alloc: Global, filling: &[Place], sources: &[Place]) -> Result<Vec<u64>, Memory>
+pub fn listed_words(
+    alloc: Global,
+    filling: &[Place],
+    sources: &[Place],
+) -> Result<Vec<Word>, Memory>
     ensures { IfOk result (λ words. words.items ≡ map (listed_word filling.now) sources.now) }
 {
     let spots = spots_of(alloc, filling)?;
     let mut words = Vec::with_capacity(alloc, sources.len())?;
     'sources: for source in sources {
-        words.push(u64::from(is_in(&spots, *source, filling)))?;
+        let bit = is_in(&spots, *source, filling);
+        words.push(Word::new([u64::from(bit), 0, 0, 0]))?;
     }
     Ok(words)
 }

@@ -1,58 +1,62 @@
 -- The words of sources in a block.
-use Rattle.std.proofs.Common.{◌≡◌, ℕ, ◌+◌, ◌-◌, ◌*◌, ◌%◌, ◌^◌, ◌<◌, ◌≤◌, ◌==◌, true, false, sym, ap, ◌∙◌, arith}
+use Rattle.std.proofs.Common.{◌≡◌, ℕ, ◌+◌, ◌-◌, ◌*◌, ◌%◌, ◌^◌, ◌<◌, ◌≤◌, ◌==◌, true, false, List, sym, ap, ◌∙◌, arith}
 use Rattle.std.proofs.Math.Nat.{pow-le-pow_right}
 use Rattle.std.proofs.lemmas.Nat.{pow-add}
 use Rattle.std.proofs.lemmas.Bool.{agree_below, agree_below_at}
 use Rattle.std.proofs.lemmas.Nat.Bits.{bit_at_cat_high, bit_at_cat_low}
 use Rattle.std.specs.Int.{bit_at}
-use Rattle.xr_cone_nodes.specs.Lanes.{in_lane}
+use Rattle.xr_cone_nodes.specs.Lanes.{HasLanes, in_lane}
 use Rattle.xr_cone_nodes.specs.Nodes.{number_bits}
-use Rattle.xr_cone_nodes.proofs.LaneBits.{lane_ones, lane_zero}
 use Rattle.xr_enum.specs.Blocks.{IsWordOf}
 
 -- The low bits of a number are those of its lane, the others those of its block.
-low_bits : (block lane source : ℕ) → source < 6 → number_bits (64 * block + lane) source ≡ number_bits lane source
+low_bits : (block lane source : ℕ) → source < 8 → number_bits (256 * block + lane) source ≡ number_bits lane source
 low_bits block lane source less =
-    let turned : 64 * block + lane ≡ block * 2 ^ 6 + lane = omega arith in
-    ap (λ n. number_bits n source) turned ∙ ap (λ bit. bit == 1) (bit_at_cat_low block 6 lane source less)
+    let turned : 256 * block + lane ≡ block * 2 ^ 8 + lane = omega arith in
+    ap (λ n. number_bits n source) turned ∙ ap (λ bit. bit == 1) (bit_at_cat_low block 8 lane source less)
 
-high_bits : (block lane bit : ℕ) → lane < 64 → number_bits (64 * block + lane) (bit + 6) ≡ (bit_at block bit == 1)
+high_bits : (block lane bit : ℕ) → lane < 256 → number_bits (256 * block + lane) (bit + 8) ≡ (bit_at block bit == 1)
 high_bits block lane bit less =
-    let turned : 64 * block + lane ≡ block * 2 ^ 6 + lane = omega arith in
-    let back : bit + 6 - 6 ≡ bit = omega arith in
-    ap (λ n. number_bits n (bit + 6)) turned
-    ∙ ap (λ b. b == 1) (bit_at_cat_high block 6 lane (bit + 6) less (omega arith) ∙ ap (bit_at block) back)
+    let turned : 256 * block + lane ≡ block * 2 ^ 8 + lane = omega arith in
+    let back : bit + 8 - 8 ≡ bit = omega arith in
+    ap (λ n. number_bits n (bit + 8)) turned
+    ∙ ap (λ b. b == 1) (bit_at_cat_high block 8 lane (bit + 8) less (omega arith) ∙ ap (bit_at block) back)
 
--- So the words of the first six sources are the same in each block,
-pub low_same : (block source word : ℕ) → source < 6 → IsWordOf 0 source word → IsWordOf block source word
+-- So the words of the first eight sources are the same in each block,
+pub low_same : (block source : ℕ) (word : List ℕ) → source < 8 → IsWordOf 0 source word → IsWordOf block source word
 low_same block source word less is lane within = is lane within
     ∙ low_bits 0 lane source less ∙ sym (low_bits block lane source less)
 
 -- as their bits show, lane by lane;
-pub low_by_lanes : (source word : ℕ)
-    → agree_below (in_lane word) (λ lane. number_bits (64 * 0 + lane) source) 64 ≡ true → IsWordOf 0 source word
+pub low_by_lanes : (source : ℕ) (word : List ℕ)
+    → agree_below (in_lane word) (λ lane. number_bits (256 * 0 + lane) source) 256 ≡ true → IsWordOf 0 source word
 low_by_lanes source word agree lane less =
-    agree_below_at (in_lane word) (λ lane. number_bits (64 * 0 + lane) source) 64 lane agree less
+    agree_below_at (in_lane word) (λ lane. number_bits (256 * 0 + lane) source) 256 lane agree less
 
 -- and those of the others have one bit in all lanes.
-pub high_ones : (block bit : ℕ) → bit_at block bit ≡ 1 → IsWordOf block (bit + 6) (2 ^ 64 - 1)
-high_ones block bit one lane less =
-    lane_ones lane less ∙ sym (high_bits block lane bit less ∙ ap (λ b. b == 1) one)
+pub high_ones : (block bit : ℕ) (word : List ℕ) → bit_at block bit ≡ 1 → HasLanes word (λ lane. true)
+    → IsWordOf block (bit + 8) word
+high_ones block bit word one all lane less =
+    all lane less ∙ sym (high_bits block lane bit less ∙ ap (λ b. b == 1) one)
 
-pub high_none : (block bit : ℕ) → (bit_at block bit == 1) ≡ false → IsWordOf block (bit + 6) 0
-high_none block bit none lane less = lane_zero lane ∙ sym (high_bits block lane bit less ∙ none)
+pub high_none : (block bit : ℕ) (word : List ℕ) → (bit_at block bit == 1) ≡ false → HasLanes word (λ lane. false)
+    → IsWordOf block (bit + 8) word
+high_none block bit word none all lane less = all lane less ∙ sym (high_bits block lane bit less ∙ none)
 
 -- How many blocks there are.
-power_small : (k : ℕ) → k ≤ 6 → 2 ^ k ≤ 64
+power_small : (k : ℕ) → k ≤ 8 → 2 ^ k ≤ 256
 power_small k low = pow-le-pow_right (omega arith) low
 
-pub one_block : (sources : ℕ) → sources < 6 → 2 ^ sources ≤ 64
+power_smaller : (k : ℕ) → k ≤ 4 → 2 ^ k ≤ 16
+power_smaller k low = pow-le-pow_right (omega arith) low
+
+pub one_block : (sources : ℕ) → sources < 8 → 2 ^ sources ≤ 256
 one_block sources less = power_small sources (omega arith)
 
-pub more_blocks : (sources : ℕ) → 6 ≤ sources → sources ≤ 12
-    → (2 ^ sources ≤ 64 * (1 * 2 ^ (sources - 6) % 2 ^ 64)) × (1 * 2 ^ (sources - 6) % 2 ^ 64 ≤ 64)
+pub more_blocks : (sources : ℕ) → 8 ≤ sources → sources ≤ 12
+    → (2 ^ sources ≤ 256 * (1 * 2 ^ (sources - 8) % 2 ^ 64)) × (1 * 2 ^ (sources - 8) % 2 ^ 64 ≤ 16)
 more_blocks sources low few =
-    let small = power_small (sources - 6) (omega arith) in
-    let whole : 6 + (sources - 6) ≡ sources = omega arith in
-    let split : 2 ^ sources ≡ 64 * 2 ^ (sources - 6) = ap (λ n. 2 ^ n) (sym whole) ∙ pow-add 2 6 (sources - 6) in
+    let small = power_smaller (sources - 8) (omega arith) in
+    let whole : 8 + (sources - 8) ≡ sources = omega arith in
+    let split : 2 ^ sources ≡ 256 * 2 ^ (sources - 8) = ap (λ n. 2 ^ n) (sym whole) ∙ pow-add 2 8 (sources - 8) in
     (omega (arith, small, split), omega (arith, small))

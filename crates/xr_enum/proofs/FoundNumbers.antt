@@ -45,11 +45,19 @@ ones_64 : (b l : ℕ) → l < 64 → count_ones (64 * b + l) ≡ count_ones b + 
 ones_64 b l less =
     half_step (64 * b + l) (32 * b + l / 2) b l (omega arith) (omega arith) (ones_32 b (l / 2) (omega arith))
 
+ones_128 : (b l : ℕ) → l < 128 → count_ones (128 * b + l) ≡ count_ones b + count_ones l
+ones_128 b l less =
+    half_step (128 * b + l) (64 * b + l / 2) b l (omega arith) (omega arith) (ones_64 b (l / 2) (omega arith))
+
+ones_256 : (b l : ℕ) → l < 256 → count_ones (256 * b + l) ≡ count_ones b + count_ones l
+ones_256 b l less =
+    half_step (256 * b + l) (128 * b + l / 2) b l (omega arith) (omega arith) (ones_128 b (l / 2) (omega arith))
+
 -- Of two lanes of a block the one with more ones has the number with more ones.
-pub more_ones : (block lane rest n : ℕ) → lane < 64 → rest < 64 → 64 * block + rest ≡ n
-    → count_ones lane ≤ count_ones rest → count_ones (64 * block + lane) ≤ count_ones n
+pub more_ones : (block lane rest n : ℕ) → lane < 256 → rest < 256 → 256 * block + rest ≡ n
+    → count_ones lane ≤ count_ones rest → count_ones (256 * block + lane) ≤ count_ones n
 more_ones block lane rest n lane_less rest_less whole fewer_ones =
-    omega (arith, ones_64 block lane lane_less, ones_64 block rest rest_less, ap count_ones whole, fewer_ones)
+    omega (arith, ones_256 block lane lane_less, ones_256 block rest rest_less, ap count_ones whole, fewer_ones)
 
 -- A bit isn't two.
 agrees_not : (bit base : Bool) → bit ≡ base → bit ≡ not base → ⊥
@@ -108,18 +116,18 @@ module _ (nodes : List Node) (first mid end : ℕ) (up : first ≤ mid) (on : mi
 
 -- A block with no fewer ones adds nothing.
 pub block_left : (nodes : List Node) (block : ℕ) (found : Option ℕ) → has_no_fewer block found ≡ true
-    → IsFoundIn nodes 0 (64 * block) found → IsFoundIn nodes 0 (64 * (block + 1)) found
+    → IsFoundIn nodes 0 (256 * block) found → IsFoundIn nodes 0 (256 * (block + 1)) found
 block_left nodes block None left before = cc
 block_left nodes block (Some m) left before = record {
   above = before.above;
   below = omega (arith, before.below);
   other = before.other;
   least = λ k low high other. ⊎_elim
-      (λ (less : k < 64 * block). before.least k low less other)
-      (λ (more : 64 * block ≤ k).
-      (let rest : ℕ = k - 64 * block in
-      let rest_less : rest < 64 = omega (arith, more, high) in
-      let whole : 64 * block + rest ≡ k = omega (arith, more) in
-      omega (arith, leb-true (count_ones m) (count_ones block) left, ones_64 block rest rest_less, ap count_ones whole)))
-      (cases_lt k (64 * block));
+      (λ (less : k < 256 * block). before.least k low less other)
+      (λ (more : 256 * block ≤ k).
+      (let rest : ℕ = k - 256 * block in
+      let rest_less : rest < 256 = omega (arith, more, high) in
+      let whole : 256 * block + rest ≡ k = omega (arith, more) in
+      omega (arith, leb-true (count_ones m) (count_ones block) left, ones_256 block rest rest_less, ap count_ones whole)))
+      (cases_lt k (256 * block));
 }

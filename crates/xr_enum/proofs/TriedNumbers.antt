@@ -1,5 +1,5 @@
 -- The numbers of the fillings that are tried.
-use Rattle.std.proofs.Common.{◌≡◌, ℕ, ◌+◌, ◌-◌, ◌*◌, ◌/◌, ◌%◌, ◌^◌, ◌<◌, ◌≤◌, ◌==◌, List, length, sym, ap, ◌∙◌, arith, ⊎_elim}
+use Rattle.std.proofs.Common.{◌≡◌, ℕ, ◌+◌, ◌-◌, ◌*◌, ◌/◌, ◌%◌, ◌^◌, ◌<◌, ◌≤◌, ◌==◌, List, [], length, sym, ap, ◌∙◌, arith, ⊎_elim}
 use Rattle.std.proofs.Math.ListN.{get_or-eq_default}
 use Rattle.std.proofs.Math.Path.{fun_ext}
 use Rattle.std.proofs.lemmas.Bool.{cases_lt}
@@ -8,7 +8,7 @@ use Rattle.xr_model.specs.declared.line.Body.TheVariants.{Enumerated}
 use Rattle.xr_wave.specs.Contents.{Contents, next_number}
 use Rattle.xr_wave.specs.Token.{HoldsNext}
 use Rattle.xr_cone_nodes.proofs.ConeLaws.{enumerated_law}
-use Rattle.xr_cone_nodes.proofs.LaneBits.{lane_zero}
+use Rattle.xr_cone_nodes.proofs.LaneBits.{lane_none}
 use Rattle.xr_cone_nodes.specs.declared.node.Node.{Node}
 use Rattle.xr_cone_nodes.specs.Lanes.{in_lane, lane_of, root_in_lane}
 use Rattle.xr_cone_nodes.specs.Nodes.{by_sources, nothing, number_bits, root_bit, sources_of}
@@ -18,47 +18,47 @@ use Rattle.xr_enum.specs.Found.{AgreeIn, IsLeastIn, bit_by}
 use Rattle.xr_enum.proofs.FoundNumbers.{more_ones}
 
 -- In a lane the words of a block are the bits of its number.
-pub lane_is : (given : List ℕ) (block lane : ℕ) → length given ≡ 12 → IsBlock block given → lane < 64 → block < 64
-    → lane_of given lane ≡ number_bits (64 * block + lane)
+pub lane_is : (given : List (List ℕ)) (block lane : ℕ) → length given ≡ 12 → IsBlock block given → lane < 256 → block < 16
+    → lane_of given lane ≡ number_bits (256 * block + lane)
 lane_is given block lane long is less within = fun_ext (λ source. ⊎_elim
     (λ (low : source < 12). is source low lane less)
-    (λ (past : 12 ≤ source). ap (λ word. in_lane word lane) (get_or-eq_default given 0 (omega (arith, long, past)))
-    ∙ lane_zero lane ∙ sym (ap (λ bit. bit == 1) (bit_at_above (64 * block + lane) 12 source (omega arith) past)))
+    (λ (past : 12 ≤ source). ap (λ word. in_lane word lane) (get_or-eq_default given [] (omega (arith, long, past)))
+    ∙ lane_none lane ∙ sym (ap (λ bit. bit == 1) (bit_at_above (256 * block + lane) 12 source (omega arith) past)))
     (cases_lt source 12))
 
 -- So the root has in a lane the bit by its number.
-pub lane_bit : (nodes : List Node) (given : List ℕ) (block lane : ℕ) → length given ≡ 12 → IsBlock block given
-    → lane < 64 → block < 64 → root_in_lane nodes given lane ≡ bit_by nodes (64 * block + lane)
+pub lane_bit : (nodes : List Node) (given : List (List ℕ)) (block lane : ℕ) → length given ≡ 12 → IsBlock block given
+    → lane < 256 → block < 16 → root_in_lane nodes given lane ≡ bit_by nodes (256 * block + lane)
 lane_bit nodes given block lane long is less within =
     ap (λ bits. root_bit (by_sources nodes bits) nodes) (lane_is given block lane long is less within)
 
 -- The lane of a number is that of its rest.
-pub lane_of_number : (given : List ℕ) (number : ℕ) → length given ≡ 12 → IsBlock (number / 64) given
-    → number < 2 ^ 12 → lane_of given (number % 64) ≡ number_bits number
+pub lane_of_number : (given : List (List ℕ)) (number : ℕ) → length given ≡ 12 → IsBlock (number / 256) given
+    → number < 2 ^ 12 → lane_of given (number % 256) ≡ number_bits number
 lane_of_number given number long is small =
-    let whole : 64 * (number / 64) + number % 64 ≡ number = omega arith in
-    lane_is given (number / 64) (number % 64) long is (omega arith) (omega arith) ∙ ap number_bits whole
+    let whole : 256 * (number / 256) + number % 256 ≡ number = omega arith in
+    lane_is given (number / 256) (number % 256) long is (omega arith) (omega arith) ∙ ap number_bits whole
 
 -- Where the lanes of a block agree with the empty filling, so do its numbers.
-pub block_agrees : (nodes : List Node) (given : List ℕ) (block : ℕ) → length given ≡ 12 → IsBlock block given
-    → block < 64 → AllAgree nodes given → AgreeIn nodes (64 * block) (64 * (block + 1))
+pub block_agrees : (nodes : List Node) (given : List (List ℕ)) (block : ℕ) → length given ≡ 12 → IsBlock block given
+    → block < 16 → AllAgree nodes given → AgreeIn nodes (256 * block) (256 * (block + 1))
 block_agrees nodes given block long is within agree number low high =
-    let lane : ℕ = number - 64 * block in
-    let less : lane < 64 = omega (arith, low, high) in
-    let whole : 64 * block + lane ≡ number = omega (arith, low) in
+    let lane : ℕ = number - 256 * block in
+    let less : lane < 256 = omega (arith, low, high) in
+    let whole : 256 * block + lane ≡ number = omega (arith, low) in
     ap (bit_by nodes) (sym whole) ∙ sym (lane_bit nodes given block lane long is less within) ∙ agree lane less
 
 -- The number of the lane with the least ones has the least ones.
-pub block_least : (nodes : List Node) (given : List ℕ) (block lane : ℕ) → length given ≡ 12 → IsBlock block given
-    → block < 64 → IsLeastOther nodes given lane → IsLeastIn nodes (64 * block) (64 * (block + 1)) (64 * block + lane)
+pub block_least : (nodes : List Node) (given : List (List ℕ)) (block lane : ℕ) → length given ≡ 12 → IsBlock block given
+    → block < 16 → IsLeastOther nodes given lane → IsLeastIn nodes (256 * block) (256 * (block + 1)) (256 * block + lane)
 block_least nodes given block lane long is within found = record {
   above = omega arith;
   below = omega (arith, found.within);
   other = sym (lane_bit nodes given block lane long is found.within within) ∙ found.differs;
   least = λ n low high other.
-      (let rest : ℕ = n - 64 * block in
-      let less : rest < 64 = omega (arith, low, high) in
-      let whole : 64 * block + rest ≡ n = omega (arith, low) in
+      (let rest : ℕ = n - 256 * block in
+      let less : rest < 256 = omega (arith, low, high) in
+      let whole : 256 * block + rest ≡ n = omega (arith, low) in
       let differs : Differs nodes given rest =
       lane_bit nodes given block rest long is less within ∙ ap (bit_by nodes) whole ∙ other in
       more_ones block lane rest n found.within less whole (found.least rest less differs));

@@ -11,7 +11,7 @@ use crate::blocks::{fill_block, number_blocks};
 use crate::found::found_upto;
 use std::alloc::Global;
 use xr_base::Memory;
-use xr_cone_nodes::{Cone, Words};
+use xr_cone_nodes::{Cone, Word, Words};
 use xr_pair::pair_of_lane;
 use xr_wave::{How, Pair, Settled, Wave};
 
@@ -25,7 +25,7 @@ pub enum Decided {
     Both(Pair),
 }
 
-/// Decides the next place. Takes 8 bytes a node, and a filling.
+/// Decides the next place. Takes 32 bytes a node, and a filling.
 pub fn decide(alloc: Global, wave: &Wave<'_>, cone: &Cone) -> Result<Decided, Memory>
     requires cone { IsNextCone wave.now cone.now.nodes }
     requires few { length (sources_of cone.now.nodes) ≤ 12 }
@@ -60,7 +60,7 @@ fn pair_of_number(
     ensures other { let other = chosen (sources_of cone.now.nodes) (number_bits number) in
         IfOk result (λ pair. other_of (root_bit nothing cone.now.nodes) pair ≡ other) }
 {
-    let mut given = [0; 12];
-    fill_block(&mut given, number / 64);
-    pair_of_lane(alloc, wave, cone, &given, (number % 64) as u32)
+    let mut given = [Word::zeros(); 12];
+    fill_block(&mut given, number / 256);
+    pair_of_lane(alloc, wave, cone, &given, (number % 256) as u32)
 }

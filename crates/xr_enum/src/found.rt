@@ -5,7 +5,7 @@ ghost use Rattle.std.specs.Prelude.{◌≡◌, ◌+◌, ◌*◌, ◌<◌, ◌≤
 ghost use Rattle.xr_enum.specs.Found.{IsFoundIn, fewer, fewer_of, has_no_fewer};
 
 use crate::blocks::fill_block;
-use xr_cone_nodes::{Cone, Words};
+use xr_cone_nodes::{Cone, Word, Words};
 use xr_pair::other_lane;
 
 /// What is found up to the end of a block, from what is found before it. A block whose numbers all have as many ones is
@@ -17,9 +17,9 @@ pub fn found_upto(
     found: Option<usize>,
 ) -> Option<usize>
     requires room { words.old.nodes ≡ length cone.now.nodes }
-    requires block { block < 64 }
-    requires found { IsFoundIn cone.now.nodes 0 (64 * block) found }
-    ensures found { IsFoundIn cone.now.nodes 0 (64 * (block + 1)) result }
+    requires block { block < 16 }
+    requires found { IsFoundIn cone.now.nodes 0 (256 * block) found }
+    ensures found { IsFoundIn cone.now.nodes 0 (256 * (block + 1)) result }
     ensures room { words.new.nodes ≡ words.old.nodes }
 {
     if has_no_fewer(block, found) {
@@ -31,15 +31,15 @@ pub fn found_upto(
 /// What is found in a block.
 fn found_in(cone: &Cone, words: &mut Words, block: usize) -> Option<usize>
     requires room { words.old.nodes ≡ length cone.now.nodes }
-    requires block { block < 64 }
-    ensures found { IsFoundIn cone.now.nodes (64 * block) (64 * (block + 1)) result }
+    requires block { block < 16 }
+    ensures found { IsFoundIn cone.now.nodes (256 * block) (256 * (block + 1)) result }
     ensures room { words.new.nodes ≡ words.old.nodes }
 {
-    let mut given = [0; 12];
+    let mut given = [Word::zeros(); 12];
     fill_block(&mut given, block);
     match other_lane(cone, words, &given) {
         None => None,
-        Some(lane) => Some(64 * block + lane as usize),
+        Some(lane) => Some(256 * block + lane as usize),
     }
 }
 

@@ -1,4 +1,4 @@
-//! A place decided by trying all fillings of its sources, 64 at once.
+//! A place decided by trying all fillings of its sources, 256 at once.
 //!
 //! Start at specs/Blocks.antt, then at `decide`.
 #![tactic(auto)]

@@ -22,7 +22,7 @@ pair_holds c zero one zero_is one_is gives_zero gives_one = record {
   gives_one = gives_one;
 }
 
-module _ (c : Contents) (nodes : List Node) (is : IsNextCone c nodes) (given : List ℕ) (lane : ℕ)
+module _ (c : Contents) (nodes : List Node) (is : IsNextCone c nodes) (given : List (List ℕ)) (lane : ℕ)
     (differs : root_in_lane nodes given lane ≡ not (root_bit nothing nodes)) where
   other : List Place
   other = chosen (sources_of nodes) (lane_of given lane)

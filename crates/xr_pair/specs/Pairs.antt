@@ -1,5 +1,5 @@
--- When two fillings are no pair, and when 64 fillings of the sources agree.
-use Rattle.std.specs.Prelude.{◌≡◌, ℕ, ◌<◌, ◌≤◌, Bool, true, false, Option, None, Some, List, count_ones, nat_le, not, if◌then◌else◌}
+-- When two fillings are no pair, and when 256 fillings of the sources agree.
+use Rattle.std.specs.Prelude.{◌≡◌, ℕ, ◌<◌, ◌≤◌, Bool, true, false, List, count_ones, not}
 use Rattle.xr_design.specs.declared.place.Place.{Place}
 use Rattle.xr_wave.specs.Contents.{Contents, next_number}
 use Rattle.xr_wave.specs.Token.{PairToken}
@@ -25,34 +25,26 @@ IsRefusal c zero one NotOne = (next_bit c zero ≡ false) × (next_bit c one ≡
 IsRefusal c zero one Memory = Unit {0}
 
 -- In each lane the root has its bit of the empty filling.
-abbrev pub AllAgree : List Node → List ℕ → Type 0
-AllAgree nodes given = (lane : ℕ) → lane < 64 → root_in_lane nodes given lane ≡ root_bit nothing nodes
+abbrev pub AllAgree : List Node → List (List ℕ) → Type 0
+AllAgree nodes given = (lane : ℕ) → lane < 256 → root_in_lane nodes given lane ≡ root_bit nothing nodes
 
 -- In a lane it has the other one.
-abbrev pub Differs : List Node → List ℕ → ℕ → Type 0
+abbrev pub Differs : List Node → List (List ℕ) → ℕ → Type 0
 Differs nodes given lane = root_in_lane nodes given lane ≡ not (root_bit nothing nodes)
 
 -- It has the other one in a lane whose number is among those with the least ones.
-pub record IsLeastOther (nodes : List Node) (given : List ℕ) (lane : ℕ) : Type 0 where
-  pub within : lane < 64
+pub record IsLeastOther (nodes : List Node) (given : List (List ℕ)) (lane : ℕ) : Type 0 where
+  pub within : lane < 256
   pub differs : Differs nodes given lane
-  pub least : (other : ℕ) → other < 64 → Differs nodes given other → count_ones lane ≤ count_ones other
+  pub least : (other : ℕ) → other < 256 → Differs nodes given other → count_ones lane ≤ count_ones other
 
 -- Of a pair the filling that gives another bit than some.
 abbrev pub other_of : Bool → PairToken → List Place
 other_of true token = token.zero
 other_of false token = token.one
 
--- A word has no 1, or a lane has one, its number being among those with the least ones.
-abbrev pub HasNone : ℕ → Type 0
-HasNone word = (lane : ℕ) → lane < 64 → in_lane word lane ≡ false
-
-pub record IsLeast (word lane : ℕ) : Type 0 where
-  pub within : lane < 64
+-- A word has a 1 in a lane whose number is among those with the least ones.
+pub record IsLeast (word : List ℕ) (lane : ℕ) : Type 0 where
+  pub within : lane < 256
   pub one : in_lane word lane ≡ true
-  pub least : (other : ℕ) → other < 64 → in_lane word other ≡ true → count_ones lane ≤ count_ones other
-
--- Of two lanes, if there are two, the first where its number has no more ones.
-abbrev pub IsLesser : Option ℕ → ℕ → ℕ → Type 0
-IsLesser None second lane = lane ≡ second
-IsLesser (Some first) second lane = lane ≡ (if nat_le (count_ones first) (count_ones second) then first else second)
+  pub least : (other : ℕ) → other < 256 → in_lane word other ≡ true → count_ones lane ≤ count_ones other

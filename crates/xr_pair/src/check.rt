@@ -34,7 +34,7 @@ impl From<Memory> for BadPair {
 }
 
 /// The token of the next place, where the world of the first filling gives 0 there and that of the second gives 1.
-/// Takes 8 bytes a node and a source of the cone, and a set of a filling's places.
+/// Takes 32 bytes a node and a source of the cone, and a set of a filling's places.
 pub fn check_pair(
     alloc: Global,
     wave: &Wave<'_>,

@@ -1,32 +1,68 @@
 //! The lane of a 1 in a word.
 
-ghost use Rattle.std.specs.Prelude.{MatchOption};
-ghost use Rattle.xr_pair.specs.Pairs.{HasNone, IsLeast, IsLesser};
+ghost use Rattle.std.specs.Prelude.{◌≡◌, ◌≤◌, ◌==◌, MatchOption, count_ones};
+ghost use Rattle.xr_cone_nodes.specs.Lanes.{HasLanes, HasNone};
+ghost use Rattle.xr_pair.specs.Pairs.{IsLeast};
 
-use xr_cone_nodes::in_lane;
+use xr_cone_nodes::Word;
 
 /// A lane in which the word has a 1, of these one whose number has the least ones.
-pub fn least_lane(word: u64) -> Option<u32>
+pub fn least_lane(word: Word) -> Option<u32>
     ensures { MatchOption result (HasNone word) (IsLeast word) }
 {
-    if word == 0 {
-        return None;
-    }
-    let mut least = None;
-    'lanes: for lane in 0..64 {
-        if in_lane(word, lane) {
-            least = Some(lesser(least, lane));
+    'counts: for count in 0..9 {
+        match word.and(lanes_with(count)).first() {
+            Some(lane) => return Some(lane),
+            None => {}
         }
     }
-    least
+    None
 }
 
-/// Of two lanes the one whose number has fewer ones.
-fn lesser(first: Option<u32>, second: u32) -> u32
-    ensures { IsLesser first second result }
+/// 1 in the lanes whose numbers have so many ones.
+fn lanes_with(count: u32) -> Word
+    requires { count ≤ 8 }
+    ensures { HasLanes result (λ lane. count_ones lane == count) }
 {
-    match first {
-        Some(first) if first.count_ones() <= second.count_ones() => first,
-        _ => second,
+    match count {
+        0 => Word::new([1, 0, 0, 0]),
+        1 => Word::new([0x0000_0001_0001_0116, 1, 1, 0]),
+        2 => Word::new([
+            0x0001_0116_0116_1668,
+            0x0000_0001_0001_0116,
+            0x0000_0001_0001_0116,
+            1,
+        ]),
+        3 => Word::new([
+            0x0116_1668_1668_6880,
+            0x0001_0116_0116_1668,
+            0x0001_0116_0116_1668,
+            0x0000_0001_0001_0116,
+        ]),
+        4 => Word::new([
+            0x1668_6880_6880_8000,
+            0x0116_1668_1668_6880,
+            0x0116_1668_1668_6880,
+            0x0001_0116_0116_1668,
+        ]),
+        5 => Word::new([
+            0x6880_8000_8000_0000,
+            0x1668_6880_6880_8000,
+            0x1668_6880_6880_8000,
+            0x0116_1668_1668_6880,
+        ]),
+        6 => Word::new([
+            0x8000_0000_0000_0000,
+            0x6880_8000_8000_0000,
+            0x6880_8000_8000_0000,
+            0x1668_6880_6880_8000,
+        ]),
+        7 => Word::new([
+            0,
+            0x8000_0000_0000_0000,
+            0x8000_0000_0000_0000,
+            0x6880_8000_8000_0000,
+        ]),
+        _ => Word::new([0, 0, 0, 0x8000_0000_0000_0000]),
     }
 }

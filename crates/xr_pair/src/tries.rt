@@ -1,4 +1,4 @@
-//! 64 fillings at once against the empty one.
+//! 256 fillings at once against the empty one.
 
 ghost use Rattle.std.specs.Prelude.{◌≡◌, ◌<◌, ◌↔◌, IfOk, IfSome, IsNone, MatchOption, length};
 ghost use Rattle.xr_cone_nodes.specs.Lanes.{lane_of};
@@ -9,16 +9,16 @@ ghost use Rattle.xr_pair.specs.Pairs.{AllAgree, Differs, IsLeastOther, IsNextCon
 use crate::lanes::least_lane;
 use std::alloc::Global;
 use xr_base::{Items, Memory};
-use xr_cone_nodes::{Cone, Words, turned};
+use xr_cone_nodes::{Cone, Word, Words};
 use xr_wave::{Pair, Wave};
 
-/// Tries the 64 fillings in which source i has the bits of given[i], or 0 where there is no such word. Where one gives
-/// the place another bit than the empty filling, the two are its pair. Takes 8 bytes a node, and a filling.
+/// Tries the 256 fillings in which source i has the bits of given[i], or 0 where there is no such word. Where one gives
+/// the place another bit than the empty filling, the two are its pair. Takes 32 bytes a node, and a filling.
 pub fn try_words(
     alloc: Global,
     wave: &Wave<'_>,
     cone: &Cone,
-    given: &[u64],
+    given: &[Word],
 ) -> Result<Option<Pair>, Memory>
     requires { IsNextCone wave.now cone.now.nodes }
     ensures holds { IfOk result (λ found. IfSome found (λ pair. LineHolds wave.now (pair_line pair))) }
@@ -34,7 +34,7 @@ pub fn try_in(
     wave: &Wave<'_>,
     cone: &Cone,
     words: &mut Words,
-    given: &[u64],
+    given: &[Word],
 ) -> Result<Option<Pair>, Memory>
     requires cone { IsNextCone wave.now cone.now.nodes }
     requires room { words.old.nodes ≡ length cone.now.nodes }
@@ -53,13 +53,13 @@ pub fn try_in(
 
 /// A lane whose filling gives the place another bit than the empty one, of these one whose number has the least ones.
 /// Takes no memory.
-pub fn other_lane(cone: &Cone, words: &mut Words, given: &[u64]) -> Option<u32>
+pub fn other_lane(cone: &Cone, words: &mut Words, given: &[Word]) -> Option<u32>
     requires { words.old.nodes ≡ length cone.now.nodes }
     ensures lane { MatchOption result (AllAgree cone.now.nodes given.now) (IsLeastOther cone.now.nodes given.now) }
     ensures room { words.new.nodes ≡ words.old.nodes }
 {
     let word = words.root(cone, given);
-    least_lane(turned(word, cone.base()))
+    least_lane(word.turned(cone.base()))
 }
 
 /// The pair of the empty filling and that of a lane, in the order that the empty one says. Takes memory for a filling.
@@ -67,11 +67,11 @@ pub fn pair_of_lane(
     alloc: Global,
     wave: &Wave<'_>,
     cone: &Cone,
-    given: &[u64],
+    given: &[Word],
     lane: u32,
 ) -> Result<Pair, Memory>
     requires cone { IsNextCone wave.now cone.now.nodes }
-    requires lane { lane < 64 }
+    requires lane { lane < 256 }
     requires differs { Differs cone.now.nodes given.now lane }
     ensures holds { IfOk result (λ pair. LineHolds wave.now (pair_line pair)) }
     ensures other { let other = chosen (sources_of cone.now.nodes) (lane_of given.now lane) in

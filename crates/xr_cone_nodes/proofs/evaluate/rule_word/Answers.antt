@@ -2,15 +2,20 @@
 use Rattle.std.proofs.Common.{get_or}
 use Rattle.std.proofs.lemmas.List.{get_or_default}
 use Rattle.xr_cell.specs.declared.value.Value.TheVariants.{X, Zero}
-use Rattle.xr_cone_nodes.proofs.LaneWords.{covers_more, covers_all}
+use Rattle.xr_cone_nodes.proofs.LaneWords.{covers_none, covers_more, covers_all}
 use Rattle.xr_cone_nodes.proofs.evaluate.rule_word.Goals as goal
+
+pub values-init : goal.values-init
+values-init c =
+    covers_none c.args.arguments.now c.args.values.now c.args.words.now c.args.own c.zeros-word.result
+    c.zeros-word.ensures
 
 pub values-preserved : goal.values-preserved
 values-preserved c =
-    covers_more c.args.arguments.now c.args.values.now c.args.words.now c.args.own c.values.word
-    c.part_word-word.result c.values.number (get_or c.args.values.now c.values.number Zero)
+    covers_more c.args.arguments.now c.args.values.now c.args.words.now c.args.own c.values.word c.part_word.result
+    c.or-word.result c.values.number (get_or c.args.values.now c.values.number Zero)
     (get_or_default c.args.values.now c.values.number Zero X c.values-test.true) c.values.invariant
-    c.part_word-word.ensures
+    c.part_word.ensures c.or-word.ensures
 
 pub returns : goal.returns
 returns c = covers_all c.args.arguments.now c.args.values.now c.args.words.now c.args.own c.values.word c.values.number

@@ -1,6 +1,6 @@
 -- The places so far are those that are chosen of the sources so far.
-use Rattle.std.proofs.Common.{◌≡◌, ◌∙◌, ap, sym, take}
-use Rattle.xr_cone_nodes.specs.Lanes.{in_lane, lane_of}
+use Rattle.std.proofs.Common.{◌≡◌, ◌∙◌, sym, take}
+use Rattle.xr_cone_nodes.specs.Lanes.{lane_of}
 use Rattle.xr_cone_nodes.specs.Nodes.{chosen, no_node}
 use Rattle.xr_cone_nodes.proofs.PickedLists.{chosen_more}
 use Rattle.xr_cone_nodes.proofs.lanes.chosen_places.Goals as goal
@@ -11,6 +11,6 @@ sources-preserved c =
     let bits = lane_of c.args.given.now c.args.lane in
     let before : c.sources.places.items ≡ chosen (take c.sources.source sources) bits = c.sources.invariant in
     let bit : c.in_lane-is_chosen.result ≡ bits c.sources.source =
-    c.in_lane-is_chosen.ensures ∙ ap (λ word. in_lane word c.args.lane) c.word_at.ensures in
+    c.in_lane-is_chosen.ensures ∙ c.word_at.ensures c.args.lane c.requires in
     c.in_ok-add_if.ensures
     ∙ rw (before, bit) (sym (chosen_more sources bits c.sources.source no_node.place c.sources-test.true))

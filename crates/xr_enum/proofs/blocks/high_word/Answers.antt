@@ -7,9 +7,11 @@ use Rattle.xr_enum.proofs.blocks.high_word.Goals as goal
 
 pub returns-then-block-bit-eq1 : goal.returns-then-block-bit-eq1
 returns-then-block-bit-eq1 c =
-    high_ones c.args.block c.args.bit (sym (shr_and_one c.args.block c.args.bit) ∙ c.if-block-bit-eq1.true)
+    high_ones c.args.block c.args.bit c.ones.result (sym (shr_and_one c.args.block c.args.bit) ∙ c.if-block-bit-eq1.true)
+    c.ones.ensures
 
 pub returns-else-block-bit-eq1 : goal.returns-else-block-bit-eq1
 returns-else-block-bit-eq1 c =
-    high_none c.args.block c.args.bit
+    high_none c.args.block c.args.bit c.zeros.result
     (ne_eqb _ 1 (λ one. c.if-block-bit-eq1.false (shr_and_one c.args.block c.args.bit ∙ one)))
+    c.zeros.ensures

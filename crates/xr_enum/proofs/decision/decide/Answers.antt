@@ -17,5 +17,5 @@ from_law-settled-requires-clause-law c =
     let past = c.tries-test.false in
     let all = rw c.in-None.is at c.tries.invariant.1 in
     rw c.base.ensures
-    (all_settle c.args.wave.now c.args.cone.now.nodes (64 * c.tries.block) c.requires.cone c.requires.few
+    (all_settle c.args.wave.now c.args.cone.now.nodes (256 * c.tries.block) c.requires.cone c.requires.few
     (omega (arith, enough, past)) all)

@@ -1,6 +1,6 @@
--- The lane so far is the least of those so far.
-use Rattle.xr_pair.proofs.LeastLanes.{FoundBelow}
+-- The lanes whose numbers have fewer ones have none.
+use Rattle.xr_pair.proofs.LeastLanes.{NoneWithFewer}
 use Rattle.xr_pair.proofs.lanes.least_lane.Given as goal
 
-abbrev pub invariant-lanes : goal.invariant-lanes
-invariant-lanes l = FoundBelow l.word l.lane l.least
+abbrev pub invariant-counts : goal.invariant-counts
+invariant-counts l = NoneWithFewer l.word l.count
