@@ -1,5 +1,6 @@
 -- The places at which a test holds are a filling.
-use Rattle.std.proofs.Common.{◌≡◌, ℕ, ◌<◌, ◌≤◌, Bool, List, [], ◌∷◌, length, map, sym, subst, arith}
+use Rattle.std.proofs.Common.{◌≡◌, ℕ, suc, ◌+◌, ◌<◌, ◌≤◌, Bool, true, false, List, [], ◌∷◌, ◌++◌, if◌then◌else◌, length, map, refl, sym, ap, ◌∙◌, subst, arith}
+use Rattle.std.proofs.lemmas.List.{map-append}
 use Rattle.std.specs.List.{AllByRecursion}
 use Rattle.xr_design.specs.declared.place.Place.{Place}
 use Rattle.xr_design.specs.Filling.{IsFilling}
@@ -13,6 +14,33 @@ use Rattle.xr_wave.specs.Contents.{Contents, IsWave, job}
 -- The places of the first numbers at which a test holds.
 abbrev pub chosen_places : Job → (ℕ → Bool) → ℕ → List Place
 chosen_places j test n = map (place_at j) (places_where test n)
+
+-- One number more: its place comes behind the others where the test holds.
+with_next : (j : Job) (xs : List ℕ) (n : ℕ) (b : Bool) → b ≡ true
+    → map (place_at j) xs ++ place_at j n ∷ [] ≡ map (place_at j) (if b then xs ++ n ∷ [] else xs)
+with_next j xs n true h = sym (map-append (place_at j) xs (n ∷ []))
+with_next j xs n false h = cc
+
+without_next : (j : Job) (xs : List ℕ) (n : ℕ) (b : Bool) → b ≡ false
+    → map (place_at j) xs ≡ map (place_at j) (if b then xs ++ n ∷ [] else xs)
+without_next j xs n true h = cc
+without_next j xs n false h = refl
+
+pub chosen_more : (j : Job) (test : ℕ → Bool) (n : ℕ) (old new : List Place) (place : Place)
+    → old ≡ chosen_places j test n → new ≡ old ++ place ∷ [] → place ≡ place_at j n → test n ≡ true
+    → new ≡ chosen_places j test (n + 1)
+chosen_more j test n old new place is more at h =
+    let next : suc n ≡ n + 1 = omega arith in
+    subst (λ (m : ℕ). new ≡ chosen_places j test m) next
+    (more ∙ ap (λ (l : List Place). l ++ place ∷ []) is ∙ ap (λ (p : Place). chosen_places j test n ++ p ∷ []) at
+    ∙ with_next j (places_where test n) n (test n) h)
+
+pub chosen_same : (j : Job) (test : ℕ → Bool) (n : ℕ) (old new : List Place)
+    → old ≡ chosen_places j test n → new ≡ old → test n ≡ false → new ≡ chosen_places j test (n + 1)
+chosen_same j test n old new is same h =
+    let next : suc n ≡ n + 1 = omega arith in
+    subst (λ (m : ℕ). new ≡ chosen_places j test m) next
+    (same ∙ is ∙ without_next j (places_where test n) n (test n) h)
 
 all_further : (xs : List ℕ) (n m : ℕ) → n ≤ m → AllByRecursion (λ k. k < n) xs → AllByRecursion (λ k. k < m) xs
 all_further [] n m up all = tt

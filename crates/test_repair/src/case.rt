@@ -5,8 +5,8 @@ use crate::drawn::put_drawn;
 use crate::recording::vcd_of;
 use crate::repaired::compare_facts;
 use crate::replayed::compare_rows;
-use crate::words::{first_word, number_of, text_of};
-use std::alloc::Global;
+use crate::words::{first_word, is_word, number_of, text_of};
+use std::alloc::{AllocError, Global};
 use test_cases::{Part, PartKind, Parts, Report, Section};
 use xr_base::Memory;
 use xr_design::StartRule;
@@ -35,6 +35,16 @@ impl Texts {
         }
     }
 
+    fn take_sections(
+        &mut self,
+        alloc: Global,
+        common: Section<'_>,
+        section: Section<'_>,
+    ) -> Result<(), Memory> {
+        self.take_all(alloc, common.parts())?;
+        self.take_all(alloc, section.parts())
+    }
+
     fn take_all(&mut self, alloc: Global, parts: Parts<'_>) -> Result<(), Memory> {
         for part in parts {
             self.take(alloc, part)?;
@@ -52,17 +62,20 @@ impl Texts {
 
     fn take_words(&mut self, alloc: Global, words: &str) -> Result<(), Memory> {
         let (word, rest) = first_word(words);
-        match word {
-            "rounds" => self.rounds = number_of(rest).clamp(1, 16) as u32,
-            "conflicts" => self.conflicts = number_of(rest).clamp(1, 100_000) as u32,
-            "start" => self.start = StartRule::Recorded,
-            "chain" => put_chain(alloc, &mut self.netlist, rest)?,
-            "made" => self.take_drawn(alloc, rest)?,
-            _ => {
-                self.forced.extend_from_slice(words.as_bytes())?;
-                self.forced.push(b'\n')?;
-            }
+        match setting_of(word) {
+            Setting::Rounds => self.rounds = number_of(rest).clamp(1, 16) as u32,
+            Setting::Conflicts => self.conflicts = number_of(rest).clamp(1, 100_000) as u32,
+            Setting::Start => self.start = StartRule::Recorded,
+            Setting::Chain => put_chain(alloc, &mut self.netlist, rest)?,
+            Setting::Drawn => self.take_drawn(alloc, rest)?,
+            Setting::Force => self.take_force(words)?,
         }
+        Ok(())
+    }
+
+    fn take_force(&mut self, words: &str) -> Result<(), AllocError> {
+        self.forced.extend_from_slice(words.as_bytes())?;
+        self.forced.push(b'\n')?;
         Ok(())
     }
 
@@ -74,13 +87,45 @@ impl Texts {
     }
 
     fn take_file(&mut self, alloc: Global, part: Part<'_>) -> Result<(), Memory> {
-        let content = part.content(alloc)?;
         match text_of(part.head) {
-            "netlist" => self.netlist.extend_from_slice(content.as_slice())?,
-            "recording" => self.recording = vcd_of(alloc, text_of(content.as_slice()))?,
-            _ => self.recording = content,
+            "netlist" => self.take_netlist(alloc, part)?,
+            "recording" => self.take_short(alloc, part)?,
+            _ => self.recording = part.content(alloc)?,
         }
         Ok(())
+    }
+
+    fn take_netlist(&mut self, alloc: Global, part: Part<'_>) -> Result<(), AllocError> {
+        let content = part.content(alloc)?;
+        self.netlist.extend_from_slice(content.as_slice())
+    }
+
+    fn take_short(&mut self, alloc: Global, part: Part<'_>) -> Result<(), AllocError> {
+        let content = part.content(alloc)?;
+        self.recording = vcd_of(alloc, text_of(content.as_slice()))?;
+        Ok(())
+    }
+}
+
+/// What a line of words sets.
+#[derive(Clone, Copy)]
+enum Setting {
+    Rounds,
+    Conflicts,
+    Start,
+    Chain,
+    Drawn,
+    Force,
+}
+
+fn setting_of(word: &str) -> Setting {
+    match word {
+        "rounds" => Setting::Rounds,
+        "conflicts" => Setting::Conflicts,
+        "start" => Setting::Start,
+        "chain" => Setting::Chain,
+        "made" => Setting::Drawn,
+        _ => Setting::Force,
     }
 }
 
@@ -91,15 +136,29 @@ pub fn run_case(
     common: Section<'_>,
     section: Section<'_>,
 ) -> Result<(), Memory> {
+    let texts = texts_of(alloc, common, section)?;
+    compare_parts(alloc, report, &texts, section)?;
+    report.end_case();
+    Ok(())
+}
+
+fn texts_of(alloc: Global, common: Section<'_>, section: Section<'_>) -> Result<Texts, Memory> {
     let mut texts = Texts::new(alloc);
-    texts.take_all(alloc, common.parts())?;
-    texts.take_all(alloc, section.parts())?;
+    texts.take_sections(alloc, common, section)?;
+    Ok(texts)
+}
+
+fn compare_parts(
+    alloc: Global,
+    report: &mut Report,
+    texts: &Texts,
+    section: Section<'_>,
+) -> Result<(), Memory> {
     for part in section.parts() {
         if part.kind == PartKind::Want {
-            compare_part(alloc, report, &texts, part)?;
+            compare_part(alloc, report, texts, part)?;
         }
     }
-    report.end_case();
     Ok(())
 }
 
@@ -109,7 +168,7 @@ fn compare_part(
     texts: &Texts,
     part: Part<'_>,
 ) -> Result<(), Memory> {
-    if text_of(part.head) == "replay" {
+    if is_word(text_of(part.head), "replay") {
         compare_rows(alloc, report, texts, part)
     } else {
         compare_facts(alloc, report, texts, part)

@@ -1,13 +1,14 @@
 //! What is found of a place: its class, its mark, its line, its sources, what its cone reads.
 
+ghost use Rattle.std.specs.Prelude.{IfOk, IfSome};
+ghost use Rattle.xr_cone.specs.Boundary.{IsSomeCone};
 ghost use Rattle.xr_wave.specs.Contents.{IsWritten};
 
 use crate::pairs::{put_checked, put_pair};
 use crate::places::{named_place, put_place, put_places};
-use crate::words::first_word;
+use crate::words::{first_word, put, put_number};
 use crate::worlds::put_agreement;
-use std::alloc::{AllocError, Global};
-use std::fmt::Write;
+use std::alloc::Global;
 use xr_base::Memory;
 use xr_cone::{Cone, boundary, trace_at};
 use xr_design::{Mark, Place};
@@ -15,55 +16,100 @@ use xr_model::{Body, Class};
 use xr_report::counts_of;
 use xr_wave::Wave;
 
+/// What a line asks for.
+#[derive(Clone, Copy)]
+enum Verb {
+    Lines,
+    Counts,
+    All,
+    Class,
+    Mark,
+    Line,
+    Sources,
+    Boundary,
+    Pair,
+    CheckPair,
+    Other,
+}
+
+fn verb_of(word: &str) -> Verb {
+    match word {
+        "lines" => Verb::Lines,
+        "counts" => Verb::Counts,
+        "all" => Verb::All,
+        "class" => Verb::Class,
+        "mark" => Verb::Mark,
+        "line" => Verb::Line,
+        "sources" => Verb::Sources,
+        "boundary" => Verb::Boundary,
+        "pair" => Verb::Pair,
+        "check_pair" => Verb::CheckPair,
+        _ => Verb::Other,
+    }
+}
+
 /// What a line of facts should be.
 pub fn answer(alloc: Global, wave: &Wave<'_>, line: &str) -> Result<String, Memory> {
-    let (verb, rest) = first_word(line);
     let mut out = String::new(alloc);
-    match verb {
-        "lines" => write!(out, "lines {}", wave.lines().len())?,
-        "counts" => put_counts(&mut out, wave)?,
-        "all" => put_agreement(alloc, &mut out, wave)?,
-        _ => put_found(alloc, &mut out, wave, verb, rest)?,
-    }
+    put_answer(alloc, &mut out, wave, line)?;
     Ok(out)
 }
 
-fn put_counts(out: &mut String, wave: &Wave<'_>) -> Result<(), AllocError> {
+fn put_answer(alloc: Global, out: &mut String, wave: &Wave<'_>, line: &str) -> Result<(), Memory> {
+    let (word, rest) = first_word(line);
+    match verb_of(word) {
+        Verb::Lines => put_number(out, "lines ", wave.lines().len() as u64, ""),
+        Verb::Counts => put_counts(out, wave),
+        Verb::All => put_agreement(alloc, out, wave),
+        verb => put_named(alloc, out, wave, word, verb, rest),
+    }
+}
+
+fn put_counts(out: &mut String, wave: &Wave<'_>) -> Result<(), Memory> {
     let counts = counts_of(wave);
-    write!(
-        out,
-        "counts known {} repaired {}",
-        counts.known, counts.repaired
-    )?;
-    write!(
-        out,
-        " unknown {} undecided {}",
-        counts.unknown, counts.undecided
-    )
+    put_number(out, "counts known ", u64::from(counts.known), "")?;
+    put_number(out, " repaired ", u64::from(counts.repaired), "")?;
+    put_number(out, " unknown ", u64::from(counts.unknown), "")?;
+    put_number(out, " undecided ", u64::from(counts.undecided), "")
+}
+
+/// Puts what is found of the place that words name.
+fn put_named(
+    alloc: Global,
+    out: &mut String,
+    wave: &Wave<'_>,
+    word: &str,
+    verb: Verb,
+    words: &str,
+) -> Result<(), Memory> {
+    let Some(place) = named_place(alloc, wave, words)? else {
+        return put(out, "no such place");
+    };
+    put(out, word)?;
+    out.push(' ')?;
+    put_place(alloc, out, wave, place)?;
+    out.push(' ')?;
+    put_found(alloc, out, wave, verb, place)
 }
 
 fn put_found(
     alloc: Global,
     out: &mut String,
     wave: &Wave<'_>,
-    verb: &str,
-    words: &str,
-) -> Result<(), Memory> {
-    let Some(place) = named_place(alloc, wave, words)? else {
-        return Ok(out.push_str("no such place")?);
-    };
-    write!(out, "{verb} ")?;
-    put_place(alloc, out, wave, place)?;
-    out.push(' ')?;
+    verb: Verb,
+    place: Place,
+) -> Result<(), Memory>
+    requires { IsWritten wave.now place }
+{
     match verb {
-        "class" => put_class(alloc, out, wave, place),
-        "mark" => Ok(put_mark(out, wave, place)?),
-        "line" => Ok(put_line(out, wave, place)?),
-        "sources" => put_sources(alloc, out, wave, place),
-        "boundary" => put_boundary(alloc, out, wave, place),
-        "pair" => put_pair(alloc, out, wave, place),
-        "check_pair" => put_checked(alloc, out, wave, place),
-        _ => Ok(out.push_str("is not asked for")?),
+        Verb::Class => put_class(alloc, out, wave, place),
+        Verb::Mark => put_mark(out, wave, place),
+        Verb::Line => put_line(out, wave, place),
+        Verb::Sources => put_sources(alloc, out, wave, place),
+        Verb::Boundary => put_boundary(alloc, out, wave, place),
+        Verb::Pair => put_pair(alloc, out, wave, place),
+        Verb::CheckPair => put_checked(alloc, out, wave, place),
+        _ => put(out, "is not asked for"),
     }
 }
 
@@ -71,58 +117,71 @@ fn put_class(alloc: Global, out: &mut String, wave: &Wave<'_>, place: Place) -> 
     requires { IsWritten wave.now place }
 {
     match wave.class_at(place) {
-        Class::Done => out.push_str("done")?,
-        Class::Local(bit) => write!(out, "local {}", u8::from(bit))?,
-        Class::Free => out.push_str("free")?,
-        Class::Carried(from, inverted) => {
-            out.push_str("carried ")?;
-            put_place(alloc, out, wave, from)?;
-            out.push_str(if inverted { " inverted" } else { "" })?;
-        }
-        Class::Line => out.push_str("line")?,
+        Class::Done => put(out, "done"),
+        Class::Local(bit) => put(out, if bit { "local 1" } else { "local 0" }),
+        Class::Free => put(out, "free"),
+        Class::Carried(from, inverted) => put_carried(alloc, out, wave, from, inverted),
+        Class::Line => put(out, "line"),
     }
+}
+
+fn put_carried(
+    alloc: Global,
+    out: &mut String,
+    wave: &Wave<'_>,
+    from: Place,
+    inverted: bool,
+) -> Result<(), Memory> {
+    put(out, "carried ")?;
+    put_place(alloc, out, wave, from)?;
+    put(out, if inverted { " inverted" } else { "" })
+}
+
+fn put_mark(out: &mut String, wave: &Wave<'_>, place: Place) -> Result<(), Memory>
+    requires { IsWritten wave.now place }
+{
+    put(out, mark_word(wave.mark(place)))?;
+    out.push(wave.value(place).letter() as char)?;
     Ok(())
 }
 
-fn put_mark(out: &mut String, wave: &Wave<'_>, place: Place) -> Result<(), AllocError>
-    requires { IsWritten wave.now place }
-{
-    out.push_str(match wave.mark(place) {
+fn mark_word(mark: Mark) -> &'static str {
+    match mark {
         Mark::Certain => "certain ",
         Mark::Unknown => "unknown ",
         Mark::Undecided => "undecided ",
-    })?;
-    out.push(wave.value(place).letter() as char)
-}
-
-fn put_line(out: &mut String, wave: &Wave<'_>, place: Place) -> Result<(), AllocError> {
-    match wave.lines().iter().find(|line| line.place == place) {
-        Some(line) => put_body(out, &line.body),
-        None => out.push_str("none"),
     }
 }
 
-fn put_body(out: &mut String, body: &Body) -> Result<(), AllocError> {
+fn put_line(out: &mut String, wave: &Wave<'_>, place: Place) -> Result<(), Memory> {
+    match wave.lines().iter().find(|line| line.place == place) {
+        Some(line) => put(out, body_word(&line.body)),
+        None => put(out, "none"),
+    }
+}
+
+fn body_word(body: &Body) -> &'static str {
     match body {
-        Body::Enumerated(bit) => write!(out, "enumerated {}", u8::from(*bit)),
-        Body::Refuted(bit, _) => write!(out, "refuted {}", u8::from(*bit)),
-        Body::Pair(_, _) => out.push_str("pair"),
-        Body::Undecided(_) => out.push_str("undecided"),
+        Body::Enumerated(false) => "enumerated 0",
+        Body::Enumerated(true) => "enumerated 1",
+        Body::Refuted(false, _) => "refuted 0",
+        Body::Refuted(true, _) => "refuted 1",
+        Body::Pair(_, _) => "pair",
+        Body::Undecided(_) => "undecided",
     }
 }
 
 fn put_sources(alloc: Global, out: &mut String, wave: &Wave<'_>, place: Place) -> Result<(), Memory>
     requires { IsWritten wave.now place }
 {
-    out.push_str("= ")?;
+    put(out, "= ")?;
     match cone_of(alloc, wave, place)? {
         Some(cone) => put_places(alloc, out, wave, cone.sources()),
-        None => Ok(out.push_str("no line")?),
+        None => put(out, "no line"),
     }
 }
 
 /// Puts the certain places that the cone of a place reads.
-#[tactic(auto, using(crate::proofs::WavePlaces::some_cone))]
 fn put_boundary(
     alloc: Global,
     out: &mut String,
@@ -131,20 +190,25 @@ fn put_boundary(
 ) -> Result<(), Memory>
     requires { IsWritten wave.now place }
 {
-    out.push_str("= ")?;
-    match wave.class_at(place) {
-        Class::Line => {
-            let cone = trace_at(alloc, wave, place)?;
-            let places = boundary(alloc, wave, &cone)?;
-            put_places(alloc, out, wave, places.as_slice())
-        }
-        _ => Ok(out.push_str("no line")?),
+    put(out, "= ")?;
+    match cone_of(alloc, wave, place)? {
+        Some(cone) => put_read(alloc, out, wave, &cone),
+        None => put(out, "no line"),
     }
 }
 
+fn put_read(alloc: Global, out: &mut String, wave: &Wave<'_>, cone: &Cone) -> Result<(), Memory>
+    requires { IsSomeCone wave.now cone.now.nodes }
+{
+    let places = boundary(alloc, wave, cone)?;
+    put_places(alloc, out, wave, places.as_slice())
+}
+
 /// The cone of a place whose class is line.
+#[tactic(auto, using(crate::proofs::WavePlaces::some_cone))]
 pub fn cone_of(alloc: Global, wave: &Wave<'_>, place: Place) -> Result<Option<Cone>, Memory>
     requires { IsWritten wave.now place }
+    ensures { IfOk result (λ found. IfSome found (λ cone. IsSomeCone wave.now cone.nodes)) }
 {
     match wave.class_at(place) {
         Class::Line => Ok(Some(trace_at(alloc, wave, place)?)),

@@ -9,7 +9,7 @@ ghost use Rattle.xr_design.specs.Job.{number_of};
 
 use crate::places::step_of;
 use crate::replayed::net_named;
-use crate::words::first_word;
+use crate::words::{first_word, is_word};
 use std::alloc::Global;
 use xr_base::Memory;
 use xr_cell::Value;
@@ -42,18 +42,27 @@ fn event_of(alloc: Global, circuit: &Circuit<'_>, line: &str) -> Result<Option<E
     let (time, rest) = first_word(rest);
     let (_, rest) = first_word(rest);
     let (round, rest) = first_word(rest);
-    let (name, value) = first_word(rest);
-    let Some(step) = step_of(circuit.stim, time, round) else {
-        return Ok(None);
-    };
+    match step_of(circuit.stim, time, round) {
+        Some(step) => event_in(alloc, circuit, step, is_word(verb, "force"), rest),
+        None => Ok(None),
+    }
+}
+
+/// The event of the words `NET VALUE` or `NET` in a step.
+fn event_in(
+    alloc: Global,
+    circuit: &Circuit<'_>,
+    step: u32,
+    forces: bool,
+    words: &str,
+) -> Result<Option<Event>, Memory>
+    requires { CircuitFits circuit.now }
+{
+    let (name, letter) = first_word(words);
     let Some(net) = net_named(alloc, circuit, name)? else {
         return Ok(None);
     };
-    let value = if verb == "force" {
-        Some(value_of(value))
-    } else {
-        None
-    };
+    let value = if forces { Some(value_of(letter)) } else { None };
     Ok(Some(Event { step, net, value }))
 }
 

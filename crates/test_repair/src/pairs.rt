@@ -1,16 +1,19 @@
 //! The fillings that show a place unknown.
 
+ghost use Rattle.xr_pair.specs.Pairs.{IsNextCone};
 ghost use Rattle.xr_wave.specs.Contents.{IsWritten};
 ghost use Rattle.xr_wave.specs.Token.{IsLineNext};
+ghost use Rattle.std.specs.Bool.{OnTrue};
 
 use crate::places::put_places;
-use std::alloc::{AllocError, Global};
+use crate::words::put;
+use std::alloc::Global;
 use xr_base::{Items, Memory};
-use xr_cone::trace;
-use xr_design::{Place, count_places};
+use xr_cone::{Cone, trace};
+use xr_design::Place;
 use xr_model::Class;
 use xr_pair::{BadPair, check_pair};
-use xr_wave::Wave;
+use xr_wave::{Pair, Wave};
 
 /// Puts the two fillings of a place.
 pub fn put_pair(
@@ -21,15 +24,23 @@ pub fn put_pair(
 ) -> Result<(), Memory>
     requires { IsWritten wave.now place }
 {
-    out.push_str("= ")?;
+    put(out, "= ")?;
     match wave.pair_of(alloc, place)? {
-        Some((zero, one)) => {
-            put_places(alloc, out, wave, zero.as_slice())?;
-            out.push_str(" and ")?;
-            put_places(alloc, out, wave, one.as_slice())
-        }
-        None => Ok(out.push_str("none")?),
+        Some((zero, one)) => put_both(alloc, out, wave, zero.as_slice(), one.as_slice()),
+        None => put(out, "none"),
     }
+}
+
+fn put_both(
+    alloc: Global,
+    out: &mut String,
+    wave: &Wave<'_>,
+    zero: &[Place],
+    one: &[Place],
+) -> Result<(), Memory> {
+    put_places(alloc, out, wave, zero)?;
+    put(out, " and ")?;
+    put_places(alloc, out, wave, one)
 }
 
 /// Puts how two empty fillings are refused at a place, which is the first whose class is line.
@@ -39,53 +50,75 @@ pub fn put_checked(
     wave: &Wave<'_>,
     place: Place,
 ) -> Result<(), Memory> {
-    let Some(reached) = first_line(alloc, wave)? else {
-        return Ok(out.push_str("is not reached")?);
-    };
-    if reached.class() != Class::Line || reached.next_place() != Some(place) {
-        return Ok(out.push_str("is not the first")?);
+    match first_line(alloc, wave)? {
+        Some(reached) => put_refusal(alloc, out, reached, place),
+        None => put(out, "is not reached"),
     }
-    Ok(put_refusal(alloc, out, reached)?)
 }
 
 /// The wave up to the first place whose class is line.
 fn first_line<'a>(alloc: Global, wave: &Wave<'a>) -> Result<Option<Wave<'a>>, Memory> {
+    let unwritten = unwritten(alloc, wave)?;
+    Ok(unwritten.advance_to_line().ok())
+}
+
+/// The wave of which nothing is written.
+fn unwritten<'a>(alloc: Global, wave: &Wave<'a>) -> Result<Wave<'a>, Memory> {
     let circuit = wave.circuit();
-    let mut reached = Wave::new(
+    Wave::new(
         alloc,
         circuit.design,
         circuit.order,
         circuit.stim,
         wave.replayed(),
         1,
-    )?;
-    for _ in 0..count_places(&circuit) {
-        match reached.class() {
-            Class::Done | Class::Line => return Ok(Some(reached)),
-            _ => match reached.advance() {
-                Ok(further) => reached = further,
-                Err(_) => return Ok(None),
-            },
-        }
-    }
-    Ok(Some(reached))
+    )
 }
 
-fn put_refusal(alloc: Global, out: &mut String, wave: Wave<'_>) -> Result<(), AllocError>
+fn put_refusal(
+    alloc: Global,
+    out: &mut String,
+    reached: Wave<'_>,
+    place: Place,
+) -> Result<(), Memory> {
+    if !is_line_at(&reached, place) {
+        return put(out, "is not the first");
+    }
+    put(out, refusal_of(alloc, reached))
+}
+
+/// Whether the next place is this one, and its class line.
+fn is_line_at(wave: &Wave<'_>, place: Place) -> bool
+    ensures { OnTrue result (IsLineNext wave.now) }
+{
+    wave.class() == Class::Line && wave.next_place() == Some(place)
+}
+
+fn refusal_of(alloc: Global, wave: Wave<'_>) -> &'static str
     requires { IsLineNext wave }
 {
-    let Ok(cone) = trace(alloc, &wave) else {
-        return out.push_str("memory");
-    };
-    let zero = Items::from_vec(Vec::new(alloc));
-    let one = Items::from_vec(Vec::new(alloc));
-    match check_pair(alloc, &wave, &cone, zero, one) {
+    match empty_pair(alloc, &wave) {
         Ok(pair) => {
             let _ = wave.abandon_pair(pair);
-            out.push_str("is a pair")
+            "is a pair"
         }
-        Err(BadPair::NotZero) => out.push_str("not zero"),
-        Err(BadPair::NotOne) => out.push_str("not one"),
-        Err(BadPair::Memory) => out.push_str("memory"),
+        Err(BadPair::NotZero) => "not zero",
+        Err(BadPair::NotOne) => "not one",
+        Err(BadPair::Memory) => "memory",
     }
+}
+
+fn empty_pair(alloc: Global, wave: &Wave<'_>) -> Result<Pair, BadPair>
+    requires { IsLineNext wave.now }
+{
+    let cone = trace(alloc, wave)?;
+    checked_pair(alloc, wave, &cone)
+}
+
+fn checked_pair(alloc: Global, wave: &Wave<'_>, cone: &Cone) -> Result<Pair, BadPair>
+    requires { IsNextCone wave.now cone.now.nodes }
+{
+    let zero = Items::from_vec(Vec::new(alloc));
+    let one = Items::from_vec(Vec::new(alloc));
+    check_pair(alloc, wave, cone, zero, one)
 }

@@ -4,11 +4,11 @@ ghost use Rattle.std.specs.Prelude.{◌≡◌, ◌<◌, IfOk, IfSome, length};
 ghost use Rattle.xr_design.specs.Fits.{place_at};
 ghost use Rattle.xr_wave.specs.Contents.{IsWritten, job};
 
-use crate::words::{first_word, number_of};
-use std::alloc::{AllocError, Global};
+use crate::words::{first_word, number_of, put};
+use std::alloc::Global;
 use std::fmt::Write;
 use xr_base::Memory;
-use xr_design::{Place, Stim, spot_of};
+use xr_design::{Design, Place, Stim, spot_of};
 use xr_wave::Wave;
 
 /// The written place of a number.
@@ -32,12 +32,19 @@ pub fn named_place(alloc: Global, wave: &Wave<'_>, words: &str) -> Result<Option
     let (_, rest) = first_word(rest);
     let (round, rest) = first_word(rest);
     let (name, _) = first_word(rest);
-    let Some(step) = step_of(wave.stim(), time, round) else {
-        return Ok(None);
-    };
+    match step_of(wave.stim(), time, round) {
+        Some(step) => place_in(alloc, wave, step, name),
+        None => Ok(None),
+    }
+}
+
+/// The place of a net in a step.
+fn place_in(alloc: Global, wave: &Wave<'_>, step: u32, name: &str) -> Result<Option<Place>, Memory>
+    ensures { IfOk result (λ found. IfSome found (IsWritten wave.now)) }
+{
     for number in 0..wave.count() {
         let place = place_of(wave, number);
-        if place.step == step && is_named(alloc, wave, place, name)? {
+        if place.step == step && is_named(alloc, wave.design(), place.net, name)? {
             return Ok(Some(place));
         }
     }
@@ -55,12 +62,12 @@ pub fn step_of(stim: &Stim, time: &str, round: &str) -> Option<u32> {
     u32::try_from(first.checked_add(round)?).ok()
 }
 
-fn is_named(alloc: Global, wave: &Wave<'_>, place: Place, name: &str) -> Result<bool, Memory> {
-    let design = wave.design();
-    if place.net as usize >= design.nets.as_slice().len() {
+/// Whether a net has this written name.
+fn is_named(alloc: Global, design: &Design, net: u32, name: &str) -> Result<bool, Memory> {
+    if net as usize >= design.nets.as_slice().len() {
         return Ok(false);
     }
-    let written = design.written_name(alloc, place.net)?;
+    let written = design.written_name(alloc, net)?;
     Ok(written.as_slice() == name.as_bytes())
 }
 
@@ -71,28 +78,44 @@ pub fn put_place(
     wave: &Wave<'_>,
     place: Place,
 ) -> Result<(), Memory> {
-    let design = wave.design();
+    put_spot(alloc, out, wave.design(), wave.stim(), place)
+}
+
+fn put_spot(
+    alloc: Global,
+    out: &mut String,
+    design: &Design,
+    stim: &Stim,
+    place: Place,
+) -> Result<(), Memory> {
     if place.net as usize >= design.nets.as_slice().len() {
-        return Ok(out.push_str("no net")?);
+        return put(out, "no net");
     }
-    let name = design.written_name(alloc, place.net)?;
-    put_step(out, wave.stim(), place.step)?;
-    for byte in name.as_slice() {
+    put_step(out, stim, place.step)?;
+    put_name(alloc, out, design, place.net)
+}
+
+/// Puts the written name of a net.
+fn put_name(alloc: Global, out: &mut String, design: &Design, net: u32) -> Result<(), Memory>
+    requires { net < length design.now.nets }
+{
+    let name = design.written_name(alloc, net)?;
+    put_bytes(out, name.as_slice())
+}
+
+fn put_bytes(out: &mut String, bytes: &[u8]) -> Result<(), Memory> {
+    for byte in bytes {
         out.push(*byte as char)?;
     }
     Ok(())
 }
 
-fn put_step(out: &mut String, stim: &Stim, step: u32) -> Result<(), AllocError> {
+fn put_step(out: &mut String, stim: &Stim, step: u32) -> Result<(), Memory> {
     let moment = step.checked_div(stim.rounds).unwrap_or(0);
     let round = step.checked_rem(stim.rounds).unwrap_or(0);
-    let time = stim
-        .times
-        .as_slice()
-        .get(moment as usize)
-        .copied()
-        .unwrap_or(0);
-    write!(out, "#{time} round {round} ")
+    let time = stim.times.as_slice().get(moment as usize).copied();
+    write!(out, "#{} round {round} ", time.unwrap_or(0))?;
+    Ok(())
 }
 
 /// Puts places with commas between them, or `nothing`.
@@ -103,11 +126,11 @@ pub fn put_places(
     places: &[Place],
 ) -> Result<(), Memory> {
     if places.is_empty() {
-        return Ok(out.push_str("nothing")?);
+        return put(out, "nothing");
     }
     for (index, place) in places.iter().enumerate() {
         if index > 0 {
-            out.push_str(", ")?;
+            put(out, ", ")?;
         }
         put_place(alloc, out, wave, *place)?;
     }

@@ -35,22 +35,66 @@ fn repair_and_compare(
     texts: &Texts,
     facts: Part<'_>,
 ) -> Result<&'static str, Memory> {
-    let Ok(netlist) = read_netlist(alloc, texts.netlist.as_slice(), "top") else {
+    let Some(netlist) = netlist_of(alloc, texts) else {
         return Ok("no design");
     };
-    let Some(recorded) = recorded_of(alloc, &netlist, texts)? else {
+    repair_netlist(alloc, report, texts, facts, &netlist)
+}
+
+fn repair_netlist(
+    alloc: Global,
+    report: &mut Report,
+    texts: &Texts,
+    facts: Part<'_>,
+    netlist: &Netlist,
+) -> Result<&'static str, Memory>
+    requires { FitsNetlist netlist.now }
+{
+    let Some(recorded) = recorded_of(alloc, netlist, texts)? else {
         return Ok("no recording");
     };
-    let Ok(history) = replay_and_compare(alloc, &netlist, &recorded) else {
+    repair_recorded(alloc, report, texts.conflicts, facts, netlist, &recorded)
+}
+
+fn repair_recorded(
+    alloc: Global,
+    report: &mut Report,
+    conflicts: u32,
+    facts: Part<'_>,
+    netlist: &Netlist,
+    recorded: &Recorded,
+) -> Result<&'static str, Memory>
+    requires netlist { FitsNetlist netlist.now }
+    requires recorded { FitsRecorded netlist.now.design recorded.now }
+{
+    let Some(history) = replay_and_compare(alloc, netlist, recorded).ok() else {
         return Ok("no replay");
     };
-    let Ok(wave) = wave_of(alloc, &netlist, &recorded, &history, texts.conflicts) else {
+    let Some(wave) = wave_of(alloc, netlist, recorded, &history, conflicts).ok() else {
         return Ok("no waveform");
     };
-    compare_lines(alloc, report, &wave, facts)?;
+    compare_wave(alloc, report, &wave, facts)
+}
+
+fn compare_wave(
+    alloc: Global,
+    report: &mut Report,
+    wave: &Wave<'_>,
+    facts: Part<'_>,
+) -> Result<&'static str, Memory> {
+    let content = facts.content(alloc)?;
+    compare_lines(alloc, report, wave, facts.line, content.as_slice())?;
     Ok("a repair")
 }
 
+/// The netlist of a case.
+pub fn netlist_of(alloc: Global, texts: &Texts) -> Option<Netlist>
+    ensures { IfSome result FitsNetlist }
+{
+    read_netlist(alloc, texts.netlist.as_slice(), "top").ok()
+}
+
+/// The recording of a case.
 pub fn recorded_of(
     alloc: Global,
     netlist: &Netlist,
@@ -65,10 +109,7 @@ pub fn recorded_of(
     }
     let scope = [Bytes::from_vec(Vec::from_slice(alloc, b"dut")?)];
     let rounds = texts.rounds.clamp(1, 16);
-    match read_recording(alloc, netlist, text, &scope, rounds, texts.start) {
-        Ok(recorded) => Ok(Some(recorded)),
-        Err(_) => Ok(None),
-    }
+    Ok(read_recording(alloc, netlist, text, &scope, rounds, texts.start).ok())
 }
 
 fn wave_of<'a>(
@@ -96,13 +137,13 @@ fn compare_lines(
     alloc: Global,
     report: &mut Report,
     wave: &Wave<'_>,
-    facts: Part<'_>,
+    first: usize,
+    text: &[u8],
 ) -> Result<(), Memory> {
-    let content = facts.content(alloc)?;
-    for line in Lines::new(content.as_slice()) {
+    for line in Lines::new(text) {
         if !line.is_idle() {
             let got = answer(alloc, wave, text_of(line.text))?;
-            let at = facts.line.saturating_add(line.number);
+            let at = first.saturating_add(line.number);
             report.compare(at, line.text, got.as_str().as_bytes())?;
         }
     }

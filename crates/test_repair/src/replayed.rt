@@ -1,6 +1,6 @@
 //! The replay of a job under forces, and what nets show and keep in it.
 
-ghost use Rattle.std.specs.Prelude.{◌≡◌, IfOk};
+ghost use Rattle.std.specs.Prelude.{◌≡◌, ◌<◌, IfOk};
 ghost use Rattle.xr_design.specs.Circuit.{CircuitFits, job_in};
 ghost use Rattle.xr_design.specs.Filling.{IsPlace};
 ghost use Rattle.xr_design.specs.Handed.{HasPlaces};
@@ -10,14 +10,14 @@ ghost use Rattle.xr_job.specs.Recorded.{FitsRecorded};
 
 use crate::case::Texts;
 use crate::forced::{forces_of, is_place};
-use crate::repaired::recorded_of;
-use crate::words::{first_word, text_of};
-use std::alloc::{AllocError, Global};
+use crate::repaired::{netlist_of, recorded_of};
+use crate::words::{first_word, is_word, text_of};
+use std::alloc::Global;
 use test_cases::{Lines, Part, Report};
 use xr_base::Memory;
 use xr_cell::Value;
 use xr_design::{Circuit, History, Place, width_of};
-use xr_job::{Netlist, Recorded, put_compare_line, read_netlist, replay_and_compare};
+use xr_job::{Netlist, Recorded, put_compare_line, replay_and_compare};
 use xr_replay::replay;
 
 /// Replays a job under its forces, and compares what is found with the lines of a part.
@@ -38,22 +38,81 @@ fn replay_and_look(
     texts: &Texts,
     rows: Part<'_>,
 ) -> Result<&'static str, Memory> {
-    let Ok(netlist) = read_netlist(alloc, texts.netlist.as_slice(), "top") else {
+    let Some(netlist) = netlist_of(alloc, texts) else {
         return Ok("no design");
     };
-    let Some(recorded) = recorded_of(alloc, &netlist, texts)? else {
+    replay_netlist(alloc, report, texts, rows, &netlist)
+}
+
+fn replay_netlist(
+    alloc: Global,
+    report: &mut Report,
+    texts: &Texts,
+    rows: Part<'_>,
+    netlist: &Netlist,
+) -> Result<&'static str, Memory>
+    requires { FitsNetlist netlist.now }
+{
+    let Some(recorded) = recorded_of(alloc, netlist, texts)? else {
         return Ok("no recording");
     };
-    let history = replayed(alloc, &netlist, &recorded, texts)?;
+    replay_recorded(alloc, report, texts, rows, netlist, &recorded)?;
+    Ok("a replay")
+}
+
+fn replay_recorded(
+    alloc: Global,
+    report: &mut Report,
+    texts: &Texts,
+    rows: Part<'_>,
+    netlist: &Netlist,
+    recorded: &Recorded,
+) -> Result<(), Memory>
+    requires netlist { FitsNetlist netlist.now }
+    requires recorded { FitsRecorded netlist.now.design recorded.now }
+{
+    let history = replayed(alloc, netlist, recorded, texts)?;
+    compare_history(alloc, report, rows, netlist, recorded, &history)
+}
+
+fn compare_history(
+    alloc: Global,
+    report: &mut Report,
+    rows: Part<'_>,
+    netlist: &Netlist,
+    recorded: &Recorded,
+    history: &History,
+) -> Result<(), Memory>
+    requires netlist { FitsNetlist netlist.now }
+    requires recorded { FitsRecorded netlist.now.design recorded.now }
+    requires places { HasPlaces (job_of_texts netlist.now recorded.now) history.now }
+{
     let content = rows.content(alloc)?;
     for line in Lines::new(content.as_slice()) {
         if !line.is_idle() {
-            let got = row_for(alloc, &netlist, &recorded, &history, text_of(line.text))?;
             let at = rows.line.saturating_add(line.number);
-            report.compare(at, line.text, got.as_slice())?;
+            compare_row(alloc, report, at, line.text, netlist, recorded, history)?;
         }
     }
-    Ok("a replay")
+    Ok(())
+}
+
+fn compare_row(
+    alloc: Global,
+    report: &mut Report,
+    at: usize,
+    text: &[u8],
+    netlist: &Netlist,
+    recorded: &Recorded,
+    history: &History,
+) -> Result<(), Memory>
+    requires netlist { FitsNetlist netlist.now }
+    requires recorded { FitsRecorded netlist.now.design recorded.now }
+    requires places { HasPlaces (job_of_texts netlist.now recorded.now) history.now }
+{
+    let mut got = Vec::new(alloc);
+    put_answer(alloc, &mut got, netlist, recorded, history, text_of(text))?;
+    Ok(report.compare(at, text, got.as_slice())?)
 }
 
 /// The replay under the forces of a case.
@@ -69,13 +128,7 @@ fn replayed(
 {
     let circuit = circuit_of(netlist, recorded);
     let forces = forces_of(alloc, &circuit, text_of(texts.forced.as_slice()))?;
-    replay(
-        alloc,
-        &netlist.design,
-        &netlist.order,
-        &recorded.stim,
-        &forces,
-    )
+    replay(alloc, circuit.design, circuit.order, circuit.stim, &forces)
 }
 
 fn circuit_of<'a>(netlist: &'a Netlist, recorded: &'a Recorded) -> Circuit<'a>
@@ -91,49 +144,77 @@ fn circuit_of<'a>(netlist: &'a Netlist, recorded: &'a Recorded) -> Circuit<'a>
     }
 }
 
-/// What a line should be: `shown NET = 0000 1111`, `kept NET = 0000 1111`, a moment behind the other with a value for each
-/// round, or `compare` and how the recording compares with the replay without forces.
-fn row_for(
+/// Puts what a line should be: `shown NET = 0000 1111`, `kept NET = 0000 1111`, a moment behind the other with a value for
+/// each round, or `compare` and how the recording compares with the replay without forces.
+fn put_answer(
     alloc: Global,
+    out: &mut Vec<u8>,
     netlist: &Netlist,
     recorded: &Recorded,
     history: &History,
     line: &str,
-) -> Result<Vec<u8>, Memory>
+) -> Result<(), Memory>
     requires netlist { FitsNetlist netlist.now }
     requires recorded { FitsRecorded netlist.now.design recorded.now }
     requires places { HasPlaces (job_of_texts netlist.now recorded.now) history.now }
 {
     let (verb, rest) = first_word(line);
-    let (name, _) = first_word(rest);
-    if verb == "compare" {
-        return compared(alloc, netlist, recorded);
+    if is_word(verb, "compare") {
+        return put_compared(alloc, out, netlist, recorded);
     }
+    let (name, _) = first_word(rest);
     let circuit = circuit_of(netlist, recorded);
-    let mut out = Vec::from_slice(alloc, verb.as_bytes())?;
-    let Some(net) = net_named(alloc, &circuit, name)? else {
-        out.extend_from_slice(b" of no net")?;
-        return Ok(out);
-    };
-    out.extend_from_slice(b" ")?;
-    out.extend_from_slice(name.as_bytes())?;
-    out.extend_from_slice(b" =")?;
-    put_row(&mut out, &circuit, history, net, verb == "kept")?;
-    Ok(out)
+    put_named(alloc, out, &circuit, history, verb, name)
 }
 
-/// How the recording compares with the replay.
-fn compared(alloc: Global, netlist: &Netlist, recorded: &Recorded) -> Result<Vec<u8>, Memory>
+/// Puts the row of a net.
+fn put_named(
+    alloc: Global,
+    out: &mut Vec<u8>,
+    circuit: &Circuit<'_>,
+    history: &History,
+    verb: &str,
+    name: &str,
+) -> Result<(), Memory>
+    requires fits { CircuitFits circuit.now }
+    requires places { HasPlaces (job_in circuit.now) history.now }
+{
+    put(out, verb)?;
+    match net_named(alloc, circuit, name)? {
+        Some(net) => {
+            put_head(out, name)?;
+            put_row(out, circuit, history, net, is_word(verb, "kept"))
+        }
+        None => put(out, " of no net"),
+    }
+}
+
+fn put_head(out: &mut Vec<u8>, name: &str) -> Result<(), Memory> {
+    put(out, " ")?;
+    put(out, name)?;
+    put(out, " =")
+}
+
+fn put(out: &mut Vec<u8>, text: &str) -> Result<(), Memory> {
+    out.extend_from_slice(text.as_bytes())?;
+    Ok(())
+}
+
+/// Puts how the recording compares with the replay.
+fn put_compared(
+    alloc: Global,
+    out: &mut Vec<u8>,
+    netlist: &Netlist,
+    recorded: &Recorded,
+) -> Result<(), Memory>
     requires netlist { FitsNetlist netlist.now }
     requires recorded { FitsRecorded netlist.now.design recorded.now }
 {
-    let mut out = Vec::from_slice(alloc, b"compare ")?;
-    let Err(cause) = replay_and_compare(alloc, netlist, recorded) else {
-        out.extend_from_slice(b"agrees")?;
-        return Ok(out);
-    };
-    put_compare_line(alloc, &mut out, &cause)?;
-    Ok(out)
+    put(out, "compare ")?;
+    match replay_and_compare(alloc, netlist, recorded).err() {
+        Some(cause) => Ok(put_compare_line(alloc, out, &cause)?),
+        None => put(out, "agrees"),
+    }
 }
 
 /// The net of a written name.
@@ -141,12 +222,18 @@ pub fn net_named(alloc: Global, circuit: &Circuit<'_>, name: &str) -> Result<Opt
     requires { CircuitFits circuit.now }
 {
     for net in 0..width_of(circuit) {
-        let written = circuit.design.written_name(alloc, net as u32)?;
-        if written.as_slice() == name.as_bytes() {
+        if has_name(alloc, circuit, net as u32, name)? {
             return Ok(Some(net as u32));
         }
     }
     Ok(None)
+}
+
+fn has_name(alloc: Global, circuit: &Circuit<'_>, net: u32, name: &str) -> Result<bool, Memory>
+    requires { net < (job_in circuit.now).width }
+{
+    let written = circuit.design.written_name(alloc, net)?;
+    Ok(written.as_slice() == name.as_bytes())
 }
 
 /// A value for each round, with a space before each moment.
@@ -156,7 +243,7 @@ fn put_row(
     history: &History,
     net: u32,
     kept: bool,
-) -> Result<(), AllocError>
+) -> Result<(), Memory>
     requires fits { CircuitFits circuit.now }
     requires places { HasPlaces (job_in circuit.now) history.now }
 {
@@ -165,13 +252,25 @@ fn put_row(
         if step % rounds == 0 {
             out.push(b' ')?;
         }
-        let place = Place {
-            step: step as u32,
-            net,
-        };
-        if is_place(circuit, place) {
-            out.push(value_at(circuit, history, place, kept).letter())?;
-        }
+        let step = step as u32;
+        put_value(out, circuit, history, Place { step, net }, kept)?;
+    }
+    Ok(())
+}
+
+/// Puts the value at a place, where it is one.
+fn put_value(
+    out: &mut Vec<u8>,
+    circuit: &Circuit<'_>,
+    history: &History,
+    place: Place,
+    kept: bool,
+) -> Result<(), Memory>
+    requires fits { CircuitFits circuit.now }
+    requires places { HasPlaces (job_in circuit.now) history.now }
+{
+    if is_place(circuit, place) {
+        out.push(value_at(circuit, history, place, kept).letter())?;
     }
     Ok(())
 }

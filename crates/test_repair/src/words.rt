@@ -1,6 +1,8 @@
 //! Words of a line.
 
+use std::fmt::Write;
 use std::str;
+use xr_base::Memory;
 
 /// The text of some bytes; those that are none are empty.
 pub fn text_of(bytes: &[u8]) -> &str {
@@ -15,4 +17,19 @@ pub fn first_word(words: &str) -> (&str, &str) {
 /// The number that a word is, 0 where it is none.
 pub fn number_of(word: &str) -> u64 {
     word.parse::<u64>().unwrap_or(0)
+}
+
+pub fn is_word(text: &str, word: &str) -> bool {
+    text == word
+}
+
+pub fn put(out: &mut String, text: &str) -> Result<(), Memory> {
+    out.push_str(text)?;
+    Ok(())
+}
+
+/// Puts a number between two texts.
+pub fn put_number(out: &mut String, before: &str, number: u64, behind: &str) -> Result<(), Memory> {
+    write!(out, "{before}{number}{behind}")?;
+    Ok(())
 }

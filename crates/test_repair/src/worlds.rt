@@ -1,13 +1,15 @@
 //! Places against the worlds of all fillings of their sources.
 
-ghost use Rattle.xr_wave.specs.Contents.{IsWritten};
+ghost use Rattle.std.specs.Prelude.{◌<◌, IfOk, length};
+ghost use Rattle.xr_design.specs.Filling.{IsFilling};
+ghost use Rattle.xr_wave.specs.Contents.{IsWritten, job};
 ghost use Rattle.xr_world.specs.View.{HasWritten};
 
 use crate::facts::cone_of;
 use crate::fillings::{bits_of, filling_of};
 use crate::places::{place_of, put_place};
-use std::alloc::Global;
-use std::fmt::Write;
+use crate::words::{put, put_number};
+use std::alloc::{AllocError, Global};
 use xr_base::Memory;
 use xr_cell::Value;
 use xr_cone::Cone;
@@ -29,36 +31,81 @@ struct Given {
 /// Puts whether the places agree with all worlds, or the first that doesn't.
 pub fn put_agreement(alloc: Global, out: &mut String, wave: &Wave<'_>) -> Result<(), Memory> {
     let cones = cones_of(alloc, wave)?;
-    let sources = sources_of(alloc, wave, cones.as_slice())?;
+    put_agreeing(alloc, out, wave, cones.as_slice())
+}
+
+/// The same, with the cones.
+fn put_agreeing(
+    alloc: Global,
+    out: &mut String,
+    wave: &Wave<'_>,
+    cones: &[Option<Cone>],
+) -> Result<(), Memory> {
+    let sources = sources_of(alloc, wave, cones)?;
     let count = sources.iter().filter(|source| **source).count();
     if count > SOURCES {
-        return Ok(write!(out, "all {count} sources are too many")?);
+        return put_number(out, "all ", count as u64, " sources are too many");
     }
+    put_tried(alloc, out, wave, cones, sources.as_slice(), 1 << count)
+}
+
+/// The same, with so many fillings of the sources.
+fn put_tried(
+    alloc: Global,
+    out: &mut String,
+    wave: &Wave<'_>,
+    cones: &[Option<Cone>],
+    sources: &[bool],
+    fillings: u64,
+) -> Result<(), Memory> {
+    let mut given = nothing_given(alloc, wave.count())?;
+    match try_fillings(alloc, wave, cones, sources, fillings, given.as_mut_slice())? {
+        Some((number, place)) => {
+            put_number(out, "all worlds of filling ", number, " differ at ")?;
+            put_place(alloc, out, wave, place)
+        }
+        None => put_marks(alloc, out, wave, given.as_slice()),
+    }
+}
+
+fn nothing_given(alloc: Global, count: usize) -> Result<Vec<Given>, AllocError> {
     let nothing = Given {
         zero: false,
         one: false,
     };
-    let mut given = vec![in alloc; nothing; wave.count()]?;
-    for number in 0..1u64 << count {
-        let sources = sources.as_slice();
-        if let Some(place) = try_filling(
-            alloc,
-            wave,
-            cones.as_slice(),
-            sources,
-            number,
-            &mut given,
-        )? {
-            write!(out, "all worlds of filling {number} differ at ")?;
-            return put_place(alloc, out, wave, place);
+    vec![in alloc; nothing; count]
+}
+
+/// Notes what the worlds of so many fillings give; the first filling with a place at which its worlds or its cone differ.
+fn try_fillings(
+    alloc: Global,
+    wave: &Wave<'_>,
+    cones: &[Option<Cone>],
+    sources: &[bool],
+    fillings: u64,
+    given: &mut [Given],
+) -> Result<Option<(u64, Place)>, Memory> {
+    for number in 0..fillings {
+        if let Some(place) = try_filling(alloc, wave, cones, sources, number, given)? {
+            return Ok(Some((number, place)));
         }
     }
-    match first_wrong(alloc, wave, given.as_slice())? {
+    Ok(None)
+}
+
+/// Puts whether the marks are what the worlds gave.
+fn put_marks(
+    alloc: Global,
+    out: &mut String,
+    wave: &Wave<'_>,
+    given: &[Given],
+) -> Result<(), Memory> {
+    match first_wrong(alloc, wave, given)? {
         Some(place) => {
-            out.push_str("all marks but that of ")?;
+            put(out, "all marks but that of ")?;
             put_place(alloc, out, wave, place)
         }
-        None => Ok(write!(out, "all {} places agree", wave.count())?),
+        None => put_number(out, "all ", wave.count() as u64, " places agree"),
     }
 }
 
@@ -75,13 +122,18 @@ fn cones_of(alloc: Global, wave: &Wave<'_>) -> Result<Vec<Option<Cone>>, Memory>
 fn sources_of(alloc: Global, wave: &Wave<'_>, cones: &[Option<Cone>]) -> Result<Vec<bool>, Memory> {
     let mut sources = Vec::new(alloc);
     for number in 0..wave.count() {
-        let source = match cones.get(number) {
-            Some(Some(cone)) => is_own_source(cone),
-            _ => wave.class_at(place_of(wave, number)) == Class::Free,
-        };
-        sources.push(source)?;
+        sources.push(is_source(wave, cones, number))?;
     }
     Ok(sources)
+}
+
+fn is_source(wave: &Wave<'_>, cones: &[Option<Cone>], number: usize) -> bool
+    requires { number < length wave.now.written }
+{
+    match cones.get(number) {
+        Some(Some(cone)) => is_own_source(cone),
+        _ => wave.class_at(place_of(wave, number)) == Class::Free,
+    }
 }
 
 fn is_own_source(cone: &Cone) -> bool {
@@ -98,22 +150,42 @@ fn try_filling(
     number: u64,
     given: &mut [Given],
 ) -> Result<Option<Place>, Memory> {
-    let few = filling_of(
-        alloc,
-        wave,
-        bits_of(alloc, sources, number, false)?.as_slice(),
-    )?;
-    let many = filling_of(
-        alloc,
-        wave,
-        bits_of(alloc, sources, number, true)?.as_slice(),
-    )?;
-    let world = fill(alloc, wave, &few)?;
-    let other = fill(alloc, wave, &many)?;
-    if let Some(place) = note_worlds(wave, &world, &other, given) {
-        return Ok(Some(place));
+    let filling = numbered_filling(alloc, wave, sources, number, false)?;
+    let world = fill(alloc, wave, &filling)?;
+    match note_world(alloc, wave, &world, sources, number, given)? {
+        Some(place) => Ok(Some(place)),
+        None => first_other(alloc, wave, cones, &filling, &world),
     }
-    first_other(alloc, wave, cones, &few, &world)
+}
+
+/// The filling of a number, with a bit for each place that is no source.
+fn numbered_filling(
+    alloc: Global,
+    wave: &Wave<'_>,
+    sources: &[bool],
+    number: u64,
+    others: bool,
+) -> Result<Filling, Memory>
+    ensures { IfOk result (IsFilling (job wave.now)) }
+{
+    let bits = bits_of(alloc, sources, number, others)?;
+    filling_of(alloc, wave, bits.as_slice())
+}
+
+/// Notes the bits of a world, up to the first that is another where all that are no sources are filled.
+fn note_world(
+    alloc: Global,
+    wave: &Wave<'_>,
+    world: &World,
+    sources: &[bool],
+    number: u64,
+    given: &mut [Given],
+) -> Result<Option<Place>, Memory>
+    requires { HasWritten wave.now world.now }
+{
+    let filling = numbered_filling(alloc, wave, sources, number, true)?;
+    let other = fill(alloc, wave, &filling)?;
+    Ok(note_worlds(wave, world, &other, given))
 }
 
 /// Notes the bits of a world, up to the first that is another in another world.
@@ -127,12 +199,16 @@ fn note_worlds(wave: &Wave<'_>, world: &World, other: &World, given: &mut [Given
         if bit != other.value(place) {
             return Some(place);
         }
-        if let Some(given) = given.get_mut(number) {
-            given.zero |= !bit;
-            given.one |= bit;
-        }
+        note_bit(given, number, bit);
     }
     None
+}
+
+fn note_bit(given: &mut [Given], number: usize, bit: bool) {
+    if let Some(given) = given.get_mut(number) {
+        given.zero |= !bit;
+        given.one |= bit;
+    }
 }
 
 /// The first place whose cone gives another bit than the world.
@@ -147,8 +223,9 @@ fn first_other(
 {
     for number in 0..wave.count() {
         let place = place_of(wave, number);
+        let bit = world.value(place);
         if let Some(Some(cone)) = cones.get(number) {
-            if cone.value(alloc, filling)? != world.value(place) {
+            if cone.value(alloc, filling)? != bit {
                 return Ok(Some(place));
             }
         }
@@ -160,32 +237,30 @@ fn first_other(
 fn first_wrong(alloc: Global, wave: &Wave<'_>, given: &[Given]) -> Result<Option<Place>, Memory> {
     for number in 0..wave.count() {
         let place = place_of(wave, number);
-        let right = match given.get(number) {
-            Some(
-                Given {
-                    zero: true,
-                    one: true,
-                },
-            ) => is_unknown(alloc, wave, place)?,
-            Some(
-                Given {
-                    zero: false,
-                    one: true,
-                },
-            ) => is_certain(wave, place, Value::One),
-            Some(
-                Given {
-                    zero: true,
-                    one: false,
-                },
-            ) => is_certain(wave, place, Value::Zero),
-            _ => false,
-        };
-        if !right {
+        if !is_right(alloc, wave, place, given.get(number).copied())? {
             return Ok(Some(place));
         }
     }
     Ok(None)
+}
+
+fn is_right(
+    alloc: Global,
+    wave: &Wave<'_>,
+    place: Place,
+    given: Option<Given>,
+) -> Result<bool, Memory>
+    requires { IsWritten wave.now place }
+{
+    let Some(given) = given else {
+        return Ok(false);
+    };
+    match (given.zero, given.one) {
+        (true, true) => is_unknown(alloc, wave, place),
+        (false, true) => Ok(is_certain(wave, place, Value::One)),
+        (true, false) => Ok(is_certain(wave, place, Value::Zero)),
+        (false, false) => Ok(false),
+    }
 }
 
 fn is_certain(wave: &Wave<'_>, place: Place, value: Value) -> bool
@@ -199,11 +274,32 @@ fn is_unknown(alloc: Global, wave: &Wave<'_>, place: Place) -> Result<bool, Memo
     requires { IsWritten wave.now place }
 {
     match wave.pair_of(alloc, place)? {
-        Some((zero, one)) => {
-            let low = fill(alloc, wave, &zero)?.value(place);
-            let high = fill(alloc, wave, &one)?.value(place);
-            Ok(!low && high && wave.mark(place) == Mark::Unknown)
-        }
+        Some((zero, one)) => give_both(alloc, wave, place, &zero, &one),
         None => Ok(false),
     }
+}
+
+fn give_both(
+    alloc: Global,
+    wave: &Wave<'_>,
+    place: Place,
+    zero: &Filling,
+    one: &Filling,
+) -> Result<bool, Memory>
+    requires place { IsWritten wave.now place }
+    requires zero { IsFilling (job wave.now) zero.now }
+    requires one { IsFilling (job wave.now) one.now }
+{
+    let low = bit_of(alloc, wave, place, zero)?;
+    let high = bit_of(alloc, wave, place, one)?;
+    Ok(!low && high && wave.mark(place) == Mark::Unknown)
+}
+
+/// The bit of a place in the world of a filling.
+fn bit_of(alloc: Global, wave: &Wave<'_>, place: Place, filling: &Filling) -> Result<bool, Memory>
+    requires place { IsWritten wave.now place }
+    requires filling { IsFilling (job wave.now) filling.now }
+{
+    let world = fill(alloc, wave, filling)?;
+    Ok(world.value(place))
 }

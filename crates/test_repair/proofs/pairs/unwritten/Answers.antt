@@ -1,6 +1,6 @@
 -- The history is that of the wave.
 use Rattle.test_repair.proofs.WavePlaces.{handed_again}
-use Rattle.test_repair.proofs.pairs.first_line.Goals as goal
+use Rattle.test_repair.proofs.pairs.unwritten.Goals as goal
 
 pub new-requires-clause-handed : goal.new-requires-clause-handed
 new-requires-clause-handed c =
