@@ -88,9 +88,7 @@ fn are_apart(
     ensures { IfOk result (λ yes. yes ≡ spec.are_apart definitions.now [] (items_in items.now)) }
 {
     let mut names = NameSet::new(alloc);
-    let apart = are_new(&mut names, definitions, items);
-    drop(names);
-    apart
+    are_new(&mut names, definitions, items)
 }
 
 /// Whether no two instances of modules have one name, and none has one of these, which then have theirs.

@@ -51,9 +51,7 @@ fn find_design(alloc: Global, source: &Source, top: &str) -> Result<Design, Elab
     ensures refused { IfErr result (λ e. e ≢ OutOfMemory → Elaborates source.now top.now (Err e)) }
 {
     let definitions = Definitions::new(alloc, source)?;
-    let design = design_in(alloc, &definitions, top);
-    drop(definitions);
-    design
+    design_in(alloc, &definitions, top)
 }
 
 /// The design of a text whose definitions have names of their own.
@@ -98,9 +96,7 @@ fn nets_with(
 {
     let idle = Idle::new(alloc, definitions, modules)?;
     let library = Library::new(definitions, udps, modules, &idle);
-    let nets = nets_of(alloc, &library, top.as_bytes());
-    drop(idle);
-    nets
+    nets_of(alloc, &library, top.as_bytes())
 }
 
 /// The nets of the module of a name, as the top.
@@ -148,9 +144,7 @@ fn add_top<'t>(
 {
     let prefix = Items::from_vec(Vec::new(alloc));
     let mut scope = library.module(k).open(alloc, prefix, nets)?;
-    let added = add_top_items(alloc, library, &mut scope, nets, k);
-    drop(scope);
-    added
+    add_top_items(alloc, library, &mut scope, nets, k)
 }
 
 /// The items of the module at a position, once it is open as the top.

@@ -183,9 +183,7 @@ fn add_inner<'t>(
     ensures same { clocks.new ≡ clocks.old }
 {
     let mut inner = join(alloc, scope, nets, library.module(k), item)?;
-    let added = add_below(alloc, library, clocks, path, room, &mut inner, nets, k);
-    drop(inner);
-    added
+    add_below(alloc, library, clocks, path, room, &mut inner, nets, k)
 }
 
 /// The items of the module at a position once it is open behind this path, which may have `room` modules more.

@@ -40,9 +40,7 @@ fn are_quiet(
     ensures { IfOk result (λ yes. yes ≡ spec.are_quiet definitions.now levels.now level [] items.now) }
 {
     let mut names = NameSet::new(alloc);
-    let quiet = note_all(&mut names, definitions, levels, level, items);
-    drop(names);
-    quiet
+    note_all(&mut names, definitions, levels, level, items)
 }
 
 /// Whether each item is quiet behind these names, which then have theirs.

@@ -38,8 +38,8 @@ add_items-returns-clause-made t c =
     leads_last c.args.library.now c.args.path.now c.args.room _ _ (here_of c.items.scope c.items.nets) c.requires.some small
     (items_none c.to_do-items.result.now c.items.item-index c.items-test.false) c.items.invariant.leads
 
-pub add_inner-add_below-added-requires : goal.add_inner-add_below-added-requires
-add_inner-add_below-added-requires t c =
+pub add_inner-add_below-requires : goal.add_inner-add_below-requires
+add_inner-add_below-requires t c =
     let new : c.in_ok-inner.inner.instances ≡ [] =
     inner_new c.args.item.now c.module.result.now (here_of c.args.scope.now c.args.nets.now) c.join.new.scope c.in_ok-inner.inner c.join.new.nets c.in_ok-inner.ensures in
     search (rules, new)
@@ -49,4 +49,4 @@ add_inner-returns-clause-made t c =
     let here = here_of c.args.scope.now c.args.nets.now in
     let joint : joined c.args.item.now (module_of c.args.library.now c.args.k) here ≡ Ok (c.join.new.scope, here_of c.in_ok-inner.inner c.join.new.nets) = search rules in
     instance_gives c.args.library.now c.args.path.now c.args.room c.args.k c.args.item.now here c.join.new.scope c.in_ok-inner.inner c.join.new.nets c.requires.found c.requires.entered joint
-    c.add_below-added.new.nets c.add_below-added.result c.add_below-added.ensures.made
+    c.add_below.new.nets c.add_below.result c.add_below.ensures.made
