@@ -1,7 +1,7 @@
 -- How a run ends: with its row, and the line of the refusal behind what was printed.
 use Rattle.std.specs.Prelude.{◌≡◌, ◌≢◌, ◌⊎◌, ℕ, ◌≤◌, List, ◌++◌, Contains, Result, Ok, Err, IsTrue, Bool}
 use Rattle.xr_shelf.specs.Shelf.{View, Rose}
-use Rattle.xr_shelf.specs.Calls.{Gained}
+use Rattle.xr_shelf.specs.Calls.{Gained, GainedLess}
 use Rattle.xr_shelf.specs.Sink.{SinkView}
 use Rattle.xr_cli_words.specs.Line.{Values, IsRepair, IsOutside}
 use Rattle.xr_cli.specs.Refusal.{line, memory_text, status_of, text_of}
@@ -10,7 +10,7 @@ use Rattle.xr_cli.specs.Rows.{Start, Row, RefusedRow, DoneRow, netlist_text, rec
 use Rattle.xr_cli.specs.declared.refusal.Refusal.{Refusal}
 
 -- The line of a refusal was printed, or with want of memory that of this: the sink gained a prefix. With the refusal's
--- own status it is that line, and whole where no count rose.
+-- own status it is that line, and whole where no count rose; with another status that line isn't whole.
 pub record LinePrinted (told : Bool) (refusal : Refusal) (old new : SinkView) (status : ℕ) : Type 0 where
   pub is : (status ≡ status_of refusal) ⊎ (status ≡ 20)
   pub later : old.faults ≤ new.faults
@@ -18,6 +18,8 @@ pub record LinePrinted (told : Bool) (refusal : Refusal) (old new : SinkView) (s
       → Gained (line (text_of refusal)) old new ⊎ ((status ≡ 20) × Gained (line memory_text) old new)
   pub whole : status ≢ 20 → IsTrue told
       → (new.bytes ≡ old.bytes ++ line (text_of refusal)) ⊎ Rose old.faults new.faults
+  pub less : status ≢ status_of refusal → IsTrue told
+      → GainedLess (line (text_of refusal)) old new ⊎ Gained (line memory_text) old new
 
 -- The run ended by a refusal.
 pub record EndsBy (s : Start) (shelf : View) (sink : SinkView) (status : ℕ) (refusal : Refusal) : Type 0 where

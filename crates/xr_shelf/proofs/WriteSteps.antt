@@ -1,5 +1,5 @@
 -- The turns of the loops that write and print.
-use Rattle.std.proofs.Common.{◌≡◌, ℕ, ◌+◌, List, ◌++◌, take, drop, sym, ◌∙◌, ap, arith, length-drop, Option, Some, inr, Ok, Err, Bool, subst}
+use Rattle.std.proofs.Common.{◌≡◌, ℕ, ◌+◌, ◌<◌, List, length, length-take-le, ◌++◌, take, drop, sym, ◌∙◌, ap, arith, length-drop, Option, Some, inr, Ok, Err, Bool, subst}
 use Rattle.std.proofs.Math.Seq.{take-add}
 use Rattle.xr_shelf.specs.declared.fault.IoErr.{IoErr}
 use Rattle.xr_shelf.specs.declared.fault.WriteErr.TheVariants.{Fault as WriteFault}
@@ -22,11 +22,12 @@ print_grows told text done count old mid new turn given =
       within = omega (arith, turn.within, step.bound, length-drop done text);
     }
 
-pub print_fails : (told : Bool) (text : List ℕ) (done : ℕ) (old mid new : SinkView) (e : IoErr) (rest : List ℕ) → PrintTurn told text done old mid → SinkStep told mid new rest (Err e) → PrintAll told text old new (Err (write_err e))
-print_fails told text done old mid new e rest turn step = record {
+pub print_fails : (told : Bool) (text : List ℕ) (done : ℕ) (old mid new : SinkView) (e : IoErr) (rest : List ℕ) → PrintTurn told text done old mid → done < length text → SinkStep told mid new rest (Err e) → PrintAll told text old new (Err (write_err e))
+print_fails told text done old mid new e rest turn left step = record {
   later = omega (arith, turn.later, step.later);
   whole = tt;
   part = λ t. (take done text, step.err t ∙ turn.wrote t, front done text);
+  less = λ t. (take done text, step.err t ∙ turn.wrote t, front done text, omega (arith, left, length-take-le done text turn.within));
   fault = λ h. let is : write_err e ≡ WriteFault = cc in rose_behind _ _ _ turn.later (step.fault (ap (λ (x : IoErr). Err x) (write_failed e is)));
   kept = λ not. kept_write e _ step.counts not ∙ turn.kept;
 }

@@ -1,5 +1,5 @@
 -- What it means to read a whole file, to write a whole file and to print a whole text.
-use Rattle.std.specs.Prelude.{◌≡◌, ◌⊎◌, ℕ, ◌+◌, ◌<◌, ◌≤◌, List, ◌++◌, length, Some, Result, IsErrOf, OnOk, IfOk, IsTrue, Bool, Vec}
+use Rattle.std.specs.Prelude.{◌≡◌, ◌⊎◌, ℕ, ◌+◌, ◌<◌, ◌≤◌, List, ◌++◌, length, Some, Result, IsErrOf, OnOk, OnErr, IfOk, IsTrue, Bool, Vec}
 use Rattle.std.specs.declared.alloc.Global.{Global}
 use Rattle.xr_shelf.specs.Shelf.{View, Files, Nothing, Opened, Later, SameCounts, Rose, OthersKept, Prefix, held}
 use Rattle.xr_shelf.specs.Sink.{SinkView}
@@ -41,10 +41,17 @@ pub record WriteAll (told : Bool) (name bytes : List ℕ) (old new : View) (resu
 abbrev pub Gained : List ℕ → SinkView → SinkView → Type 0
 Gained text old new = (gained : List ℕ) × (new.bytes ≡ old.bytes ++ gained) × Prefix gained text
 
--- A whole text printed: the sink gained all of it, or a prefix. Where the count rose in the call, the answer is Fault.
+-- It gained a prefix of the text, and not all of it.
+abbrev pub GainedLess : List ℕ → SinkView → SinkView → Type 0
+GainedLess text old new =
+    (gained : List ℕ) × (new.bytes ≡ old.bytes ++ gained) × Prefix gained text × (length gained < length text)
+
+-- A whole text printed: the sink gained all of it, or less where the answer is an error. Where the count rose in the call,
+-- the answer is Fault.
 pub record PrintAll (told : Bool) (text : List ℕ) (old new : SinkView) (result : Result Unit WriteErr) : Type 0 where
   pub later : old.faults ≤ new.faults
   pub whole : OnOk result (IsTrue told → new.bytes ≡ old.bytes ++ text)
   pub part : IsTrue told → Gained text old new
+  pub less : OnErr result (IsTrue told → GainedLess text old new)
   pub fault : IsErrOf result WriteFault → Rose old.faults new.faults
   pub kept : (IsErrOf result WriteFault → ⊥) → new.faults ≡ old.faults

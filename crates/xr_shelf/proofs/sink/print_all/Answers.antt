@@ -7,7 +7,7 @@ use Rattle.xr_shelf.proofs.sink.print_all.Goals as goal
 pub returns-in_err-count : goal.returns-in_err-count
 returns-in_err-count g c =
     let is : c.from_residual.result ≡ Err (write_err c.in_err-count.field-0.0) = search rules in
-    rw is (print_fails _ _ _ _ _ _ _ _ c.turns.invariant c.in_err-count.ensures)
+    rw is (print_fails _ _ _ _ _ _ _ _ c.turns.invariant (search rules) c.in_err-count.ensures)
 
 pub turns-preserved : goal.turns-preserved
 turns-preserved g c = print_grows _ _ _ _ _ _ _ c.turns.invariant c.in_ok-count.ensures
