@@ -23,7 +23,7 @@ pub fn run_prefixes(alloc: Global, report: &mut Report, cases: &[u8]) -> Result<
     Ok(())
 }
 
-/// Puts the line behind the text, and compares the marks of the prefixes that end within it.
+/// Puts the line after the text, and compares the marks of the prefixes that end within it.
 fn run_line(
     alloc: Global,
     report: &mut Report,

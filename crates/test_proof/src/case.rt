@@ -1,7 +1,7 @@
 //! A line of a case file: a call, and what must come.
 
 use crate::answer::Answer;
-use crate::dimacs::{Formula, formula_of, numbers_of};
+use crate::dimacs::{formula_of, numbers_of};
 use crate::families::Family;
 use crate::logs::{ROOMS, fresh, refuting};
 use crate::searches::solved;
@@ -10,6 +10,7 @@ use std::rt::Files;
 use std::{fs, io, str};
 use test_cases::{Line, Report};
 use xr_base::Memory;
+use xr_proof::Cnf;
 
 /// Does what a line says, and compares what it answered.
 pub(crate) fn run_case<R: Files + AllocGlobal>(
@@ -83,10 +84,7 @@ fn text_of<R: Files + AllocGlobal>(rt: &R, part: &str) -> io::Result<String> {
 }
 
 /// A formula, and the numbers of a log.
-fn parts_of<R: Files + AllocGlobal>(
-    rt: &R,
-    parts: &str,
-) -> io::Result<Option<(Formula, Vec<i32>)>> {
+fn parts_of<R: Files + AllocGlobal>(rt: &R, parts: &str) -> io::Result<Option<(Cnf, Vec<i32>)>> {
     let (formula, log) = parts.split_once(" | ").unwrap_or((parts, "none"));
     let formula = text_of(rt, formula)?;
     let log = text_of(rt, log)?;
@@ -99,7 +97,8 @@ fn parts_of<R: Files + AllocGlobal>(
     Ok(Some((formula, numbers)))
 }
 
-/// `check FORMULA | LOG` in each room; `flip PLACE FORMULA | LOG` with the log's number at a place, from 0, made its complement.
+/// `check FORMULA | LOG` in each room; `flip PLACE FORMULA | LOG` with the log's number at a place, from 0, made its
+/// complement.
 fn check<R: Files + AllocGlobal>(
     rt: &R,
     compare: &mut Compare<'_>,
@@ -161,8 +160,8 @@ fn search<R: Files + AllocGlobal>(
     Ok(())
 }
 
-/// `every CLAUSES VARIABLES LIMIT`, `drawn COUNT CLAUSES VARIABLES LIMIT`, and `held` with one of these behind it, which answers how
-/// many answers hold.
+/// `every CLAUSES VARIABLES LIMIT`, `drawn COUNT CLAUSES VARIABLES LIMIT`, and `held` with one of these after it,
+/// which answers how many answers hold.
 fn family(alloc: Global, verb: &str, rest: &str) -> Result<Answer, Memory> {
     match verb {
         "held" => {

@@ -1,22 +1,15 @@
-//! Formulas and logs in DIMACS: numbers with white space between them, each clause ended by 0; a line that begins with `c` is a
-//! comment, and `p cnf VARIABLES CLAUSES` stands before a formula's clauses.
+//! Formulas and logs in DIMACS: numbers with white space between them, each clause ended by 0; a line that begins
+//! with `c` is a comment, and `p cnf VARIABLES CLAUSES` stands before a formula's clauses.
 
-ghost use Rattle.std.specs.Prelude.{◌≤◌, IfOk, IfSome};
+ghost use Rattle.std.specs.Prelude.{IfOk, IfSome};
+ghost use Rattle.std.specs.List.{All};
+ghost use Rattle.xr_proof.specs.Assignment.{HasNoZero};
 ghost use Rattle.xr_proof.specs.Log.{Fit};
 
 use std::alloc::{AllocError, Global};
 use std::mem;
 use xr_base::Items;
 use xr_proof::{Clause, Cnf, Log};
-
-/// A formula whose variables are within its number.
-#[derive(Drop)]
-pub(crate) struct Formula {
-    pub cnf: Cnf,
-
-    ghost small: { cnf.vars ≤ 2147483647 },
-    ghost fits: { Fit cnf.vars cnf.clauses },
-}
 
 /// The numbers of a text; none where a word is none.
 pub(crate) fn numbers_of(alloc: Global, text: &str) -> Result<Option<Vec<i32>>, AllocError> {
@@ -56,33 +49,32 @@ fn vars_of(text: &str) -> u32 {
 }
 
 /// The formula of a text; none where a clause has no 0 or a variable over the number.
-pub(crate) fn formula_of(alloc: Global, text: &str) -> Result<Option<Formula>, AllocError> {
+pub(crate) fn formula_of(alloc: Global, text: &str) -> Result<Option<Cnf>, AllocError> {
     match numbers_of(alloc, text)? {
         Some(numbers) => formula_over(alloc, numbers.as_slice(), vars_of(text)),
         None => Ok(None),
     }
 }
 
-/// The formula of these clauses over so many variables.
+/// The formula of these clauses over a given number of variables.
 pub(crate) fn formula_over(
     alloc: Global,
     numbers: &[i32],
     vars: u32,
-) -> Result<Option<Formula>, AllocError> {
+) -> Result<Option<Cnf>, AllocError> {
     if vars > 2147483647 {
         return Ok(None);
     }
     let Some(clauses) = clauses_of(alloc, numbers, vars)? else {
         return Ok(None);
     };
-    let cnf = Cnf {
+    Ok(Some(Cnf {
         vars,
         clauses: Items::from_vec(clauses),
-    };
-    Ok(Some(Formula { cnf }))
+    }))
 }
 
-/// The log of these clauses over so many variables.
+/// The log of these clauses over a given number of variables.
 pub(crate) fn log_of(alloc: Global, numbers: &[i32], vars: u32) -> Result<Option<Log>, AllocError>
     ensures { IfOk result (λ o. IfSome o (λ log. Fit vars log)) }
 {
@@ -93,7 +85,8 @@ pub(crate) fn log_of(alloc: Global, numbers: &[i32], vars: u32) -> Result<Option
 }
 
 fn clauses_of(alloc: Global, numbers: &[i32], vars: u32) -> Result<Option<Vec<Clause>>, AllocError>
-    ensures { IfOk result (λ o. IfSome o (λ clauses. Fit vars clauses.items)) }
+    ensures fit { IfOk result (λ o. IfSome o (λ clauses. Fit vars clauses.items)) }
+    ensures no_zero { IfOk result (λ o. IfSome o (λ clauses. All HasNoZero clauses.items)) }
 {
     let mut clauses = Vec::new(alloc);
     let mut literals = Vec::new(alloc);

@@ -9,7 +9,7 @@ use xr_base::Memory;
 /// No family has more variables.
 const VARS: u32 = 12;
 
-/// A family: formulas of so many clauses over so many variables.
+/// A family: formulas of a given number of clauses over a given number of variables.
 #[derive(Clone, Copy)]
 pub(crate) struct Family {
     pub clauses: u32,
@@ -17,8 +17,8 @@ pub(crate) struct Family {
 }
 
 impl Family {
-    /// Each formula whose clauses have ascending numbers. Clause number m has the ternary digits of m: 0 leaves a variable out, 1 is
-    /// its literal, 2 the complement.
+    /// Each formula whose clauses have ascending numbers. Clause number m has the ternary digits of m: 0 leaves a
+    /// variable out, 1 is its literal, 2 the complement.
     pub(crate) fn every(self, alloc: Global, limit: u32) -> Result<Answer, Memory> {
         let mut tally = Tally::new();
         let kinds = 3u64.saturating_pow(self.vars);
@@ -66,7 +66,8 @@ impl Family {
         Ok(())
     }
 
-    /// So many formulas of clauses with three literals, drawn from a seed of their own. A clause may hold a variable twice.
+    /// `count` formulas of clauses with three literals, drawn from a seed of their own. A clause may hold a variable
+    /// twice.
     pub(crate) fn drawn(self, alloc: Global, count: u32, limit: u32) -> Result<Answer, Memory> {
         let mut tally = Tally::new();
         for seed in 0..count {
@@ -117,7 +118,7 @@ impl Draw {
         self.state >> 16
     }
 
-    /// A literal of one of so many variables.
+    /// A literal of one of a given number of variables.
     fn literal(&mut self, vars: u32) -> i32 {
         let variable = self.next().checked_rem(vars.min(VARS)).unwrap_or(0) + 1;
         if self.next() % 2 == 0 {

@@ -3,10 +3,10 @@
 ghost use Rattle.std.specs.Prelude.{◌≡◌, IfOk};
 
 use crate::answer::Answer;
-use crate::dimacs::{Formula, log_of};
+use crate::dimacs::log_of;
 use std::alloc::Global;
 use xr_base::Memory;
-use xr_proof::{Checker, Log};
+use xr_proof::{Checker, Cnf, Log};
 
 /// Room for clauses that are watched and literals that are listed; none is a checker without.
 pub(crate) const ROOMS: [Option<(usize, usize)>; 5] = [
@@ -17,18 +17,12 @@ pub(crate) const ROOMS: [Option<(usize, usize)>; 5] = [
     Some((1000, 1000)),
 ];
 
-fn checker_of(
-    alloc: Global,
-    formula: &Formula,
-    room: Option<(usize, usize)>,
-) -> Result<Checker, Memory>
-    ensures { IfOk result (λ checker. checker ≡ formula.now.cnf.vars) }
+fn checker_of(alloc: Global, formula: &Cnf, room: Option<(usize, usize)>) -> Result<Checker, Memory>
+    ensures { IfOk result (λ checker. checker ≡ formula.now.vars) }
 {
     match room {
-        Some((clauses, literals)) => {
-            Checker::with_room(alloc, formula.cnf.vars, clauses, literals)
-        }
-        None => Checker::new(alloc, formula.cnf.vars),
+        Some((clauses, literals)) => { Checker::with_room(alloc, formula.vars, clauses, literals) }
+        None => Checker::new(alloc, formula.vars),
     }
 }
 
@@ -36,32 +30,32 @@ fn checker_of(
 pub(crate) fn refuting(
     alloc: Global,
     room: Option<(usize, usize)>,
-    formula: &Formula,
+    formula: &Cnf,
     numbers: &[i32],
 ) -> Result<Answer, Memory> {
-    let Some(log) = log_of(alloc, numbers, formula.cnf.vars)? else {
+    let Some(log) = log_of(alloc, numbers, formula.vars)? else {
         return Ok(Answer::Unread);
     };
     let mut checker = checker_of(alloc, formula, room)?;
-    Ok(match checker.check(&formula.cnf, log) {
+    Ok(match checker.check(formula, log) {
         Ok(token) => back(token.into_log(), numbers, Answer::Refuted),
         Err(bad) => back(bad.log, numbers, Answer::Line(bad.line)),
     })
 }
 
-/// Whether the log of these numbers is fresh and has so many clauses, or its first line that breaks the rules.
+/// Whether the log of these numbers is fresh and has `limit` clauses, or its first line that breaks the rules.
 pub(crate) fn fresh(
     alloc: Global,
     room: Option<(usize, usize)>,
-    formula: &Formula,
+    formula: &Cnf,
     numbers: &[i32],
     limit: u32,
 ) -> Result<Answer, Memory> {
-    let Some(log) = log_of(alloc, numbers, formula.cnf.vars)? else {
+    let Some(log) = log_of(alloc, numbers, formula.vars)? else {
         return Ok(Answer::Unread);
     };
     let mut checker = checker_of(alloc, formula, room)?;
-    Ok(match checker.check_fresh(&formula.cnf, log, limit) {
+    Ok(match checker.check_fresh(formula, log, limit) {
         Ok(token) => back(token.into_log(), numbers, Answer::Fresh),
         Err(bad) => back(bad.log, numbers, Answer::Line(bad.line)),
     })

@@ -1,29 +1,28 @@
 //! Formulas that are solved, each answer checked: a model clause by clause, a log by the checker.
 
-ghost use Rattle.std.specs.Prelude.{◌≡◌, ◌≤◌, IfOk};
+ghost use Rattle.std.specs.Prelude.{◌≡◌, IfOk};
 
 use crate::answer::Answer;
-use crate::dimacs::Formula;
 use std::alloc::Global;
 use xr_base::Memory;
 use xr_proof::{Checker, Clause, Cnf};
 use xr_sat::{Outcome, solve};
 
 /// The outcome within the limit; a log that the checker refuses has its line.
-pub(crate) fn solved(alloc: Global, formula: &Formula, limit: u32) -> Result<Answer, Memory> {
+pub(crate) fn solved(alloc: Global, formula: &Cnf, limit: u32) -> Result<Answer, Memory> {
     if limit == 0 {
         return Ok(Answer::Unread);
     }
-    match solve(alloc, &formula.cnf, limit)? {
-        Outcome::Model(model) => Ok(if is_model(&formula.cnf, model.into_vec().as_slice()) {
+    match solve(alloc, formula, limit)? {
+        Outcome::Model(model) => Ok(if is_model(formula, model.into_vec().as_slice()) {
             Answer::Model
         } else {
             Answer::NoModel
         }),
         Outcome::Refuted(token) => {
             let log = token.into_log();
-            let mut checker = roomy(alloc, &formula.cnf, log.as_slice())?;
-            match checker.check(&formula.cnf, log) {
+            let mut checker = roomy(alloc, formula, log.as_slice())?;
+            match checker.check(formula, log) {
                 Ok(token) => {
                     let _log = token.into_log();
                     Ok(Answer::Refuted)
@@ -33,8 +32,8 @@ pub(crate) fn solved(alloc: Global, formula: &Formula, limit: u32) -> Result<Ans
         }
         Outcome::Limit(token) => {
             let log = token.into_log();
-            let mut checker = roomy(alloc, &formula.cnf, log.as_slice())?;
-            match checker.check_fresh(&formula.cnf, log, limit) {
+            let mut checker = roomy(alloc, formula, log.as_slice())?;
+            match checker.check_fresh(formula, log, limit) {
                 Ok(token) => {
                     let _log = token.into_log();
                     Ok(Answer::Limit)
@@ -47,7 +46,6 @@ pub(crate) fn solved(alloc: Global, formula: &Formula, limit: u32) -> Result<Ans
 
 /// A checker with room for a formula and a log.
 fn roomy(alloc: Global, cnf: &Cnf, log: &[Clause]) -> Result<Checker, Memory>
-    requires { cnf.now.vars ≤ 2147483647 }
     ensures { IfOk result (λ checker. checker ≡ cnf.now.vars) }
 {
     let query = cnf.clauses.as_slice();

@@ -10,7 +10,7 @@ use crate::words::{first_word, put, put_number};
 use crate::worlds::put_agreement;
 use std::alloc::Global;
 use xr_base::Memory;
-use xr_cone::{Cone, boundary, trace_at};
+use xr_cone::{Cone, boundary, certain_boundary, trace_at};
 use xr_design::{Mark, Place};
 use xr_model::{Body, Class};
 use xr_report::counts_of;
@@ -27,6 +27,7 @@ enum Verb {
     Line,
     Sources,
     Boundary,
+    CertainBoundary,
     Pair,
     CheckPair,
     Other,
@@ -42,6 +43,7 @@ fn verb_of(word: &str) -> Verb {
         "line" => Verb::Line,
         "sources" => Verb::Sources,
         "boundary" => Verb::Boundary,
+        "certain_boundary" => Verb::CertainBoundary,
         "pair" => Verb::Pair,
         "check_pair" => Verb::CheckPair,
         _ => Verb::Other,
@@ -106,7 +108,8 @@ fn put_found(
         Verb::Mark => put_mark(out, wave, place),
         Verb::Line => put_line(out, wave, place),
         Verb::Sources => put_sources(alloc, out, wave, place),
-        Verb::Boundary => put_boundary(alloc, out, wave, place),
+        Verb::Boundary => put_boundary(alloc, out, wave, place, false),
+        Verb::CertainBoundary => put_boundary(alloc, out, wave, place, true),
         Verb::Pair => put_pair(alloc, out, wave, place),
         Verb::CheckPair => put_checked(alloc, out, wave, place),
         _ => put(out, "is not asked for"),
@@ -181,26 +184,37 @@ fn put_sources(alloc: Global, out: &mut String, wave: &Wave<'_>, place: Place) -
     }
 }
 
-/// Puts the certain places that the cone of a place reads.
+/// Puts the boundary of the cone of a place, or the certain places of it alone.
 fn put_boundary(
     alloc: Global,
     out: &mut String,
     wave: &Wave<'_>,
     place: Place,
+    certain: bool,
 ) -> Result<(), Memory>
     requires { IsWritten wave.now place }
 {
     put(out, "= ")?;
     match cone_of(alloc, wave, place)? {
-        Some(cone) => put_read(alloc, out, wave, &cone),
+        Some(cone) => put_read(alloc, out, wave, &cone, certain),
         None => put(out, "no line"),
     }
 }
 
-fn put_read(alloc: Global, out: &mut String, wave: &Wave<'_>, cone: &Cone) -> Result<(), Memory>
+fn put_read(
+    alloc: Global,
+    out: &mut String,
+    wave: &Wave<'_>,
+    cone: &Cone,
+    certain: bool,
+) -> Result<(), Memory>
     requires { IsSomeCone wave.now cone.now.nodes }
 {
-    let places = boundary(alloc, wave, cone)?;
+    let places = if certain {
+        certain_boundary(alloc, wave, cone)?
+    } else {
+        boundary(alloc, wave, cone)?
+    };
     put_places(alloc, out, wave, places.as_slice())
 }
 

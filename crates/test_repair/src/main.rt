@@ -26,7 +26,8 @@
 //! - `mark PLACE`: `certain 1`, `unknown z`, `undecided x`, with the value that is shown.
 //! - `line PLACE`: `enumerated 0`, `refuted 1`, `pair`, `undecided`, `none`.
 //! - `sources PLACE = PLACE, PLACE`, of the cone of a place whose class is line.
-//! - `boundary PLACE = PLACE, PLACE`, the certain places that the rules of that cone read.
+//! - `boundary PLACE = PLACE, PLACE`, the places that the rules of that cone read and that aren't in it, and
+//!   `certain_boundary PLACE = PLACE, PLACE`, the certain ones of them.
 //! - `pair PLACE = nothing and PLACE, PLACE`: the two fillings of an unknown place.
 //! - `check_pair PLACE not one`: what two empty fillings are refused with, at the first place whose class is line.
 //!

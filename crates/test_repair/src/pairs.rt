@@ -1,6 +1,6 @@
 //! The fillings that show a place unknown.
 
-ghost use Rattle.xr_pair.specs.Pairs.{IsNextCone};
+ghost use Rattle.xr_cone_nodes.specs.Traced.{IsNextCone};
 ghost use Rattle.xr_wave.specs.Contents.{IsWritten};
 ghost use Rattle.xr_wave.specs.Token.{IsLineNext};
 ghost use Rattle.std.specs.Bool.{OnTrue};

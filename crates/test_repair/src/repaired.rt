@@ -5,6 +5,7 @@ ghost use Rattle.xr_design.specs.Handed.{IsReplay};
 ghost use Rattle.xr_job.specs.Compared.{job_in};
 ghost use Rattle.xr_job.specs.Netlist.{FitsNetlist};
 ghost use Rattle.xr_job.specs.Recorded.{FitsRecorded};
+ghost use Rattle.xr_wave.specs.Contents.{IsLimit};
 
 use crate::case::Texts;
 use crate::facts::answer;
@@ -129,8 +130,15 @@ fn wave_of<'a>(
         &netlist.order,
         &recorded.stim,
         history,
-        conflicts.max(1),
+        limit_of(conflicts),
     )
+}
+
+/// The nearest limit that a search may have.
+fn limit_of(conflicts: u32) -> u32
+    ensures { IsLimit result }
+{
+    conflicts.clamp(1, 100_000)
 }
 
 fn compare_lines(

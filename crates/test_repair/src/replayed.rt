@@ -17,7 +17,7 @@ use test_cases::{Lines, Part, Report};
 use xr_base::Memory;
 use xr_cell::Value;
 use xr_design::{Circuit, History, Place, width_of};
-use xr_job::{Netlist, Recorded, put_compare_line, replay_and_compare};
+use xr_job::{CompareErr, Netlist, Recorded, put_compare_line, replay_and_compare};
 use xr_replay::replay;
 
 /// Replays a job under its forces, and compares what is found with the lines of a part.
@@ -211,9 +211,10 @@ fn put_compared(
     requires recorded { FitsRecorded netlist.now.design recorded.now }
 {
     put(out, "compare ")?;
-    match replay_and_compare(alloc, netlist, recorded).err() {
-        Some(cause) => Ok(put_compare_line(alloc, out, &cause)?),
-        None => put(out, "agrees"),
+    match replay_and_compare(alloc, netlist, recorded) {
+        Ok(_) => put(out, "agrees"),
+        Err(CompareErr::Refused(cause)) => Ok(put_compare_line(alloc, out, &cause)?),
+        Err(CompareErr::Memory) => Err(Memory),
     }
 }
 

@@ -1,6 +1,7 @@
 //! The calls of a script.
 
 use crate::answer::{Answer, done, quoted};
+use crate::delivered::deliver_two;
 use std::alloc::{AllocError, Global};
 use xr_shelf::{MemShelf, MemSink, Shelf, print_all, read_all, write_all};
 
@@ -18,7 +19,7 @@ fn unquoted(text: &str) -> &str {
     text.strip_suffix('"').unwrap_or(text)
 }
 
-/// A name and what stands behind it.
+/// A name and what stands after it.
 fn named(words: &str) -> (&str, &str) {
     words.split_once(' ').unwrap_or((words, ""))
 }
@@ -28,7 +29,7 @@ fn number_of(word: &str) -> u64 {
 }
 
 impl Outside {
-    /// No file; a call moves at most so many bytes, and at least one.
+    /// No file; a call moves at most a given number of bytes, and at least one.
     pub fn new(alloc: Global, piece: u64) -> Outside {
         let piece = (piece as usize).max(1);
         Outside {
@@ -45,6 +46,7 @@ impl Outside {
             "put" | "long" | "fail" => self.set_up(verb, rest),
             "get" | "faults" | "printed" | "sink" => self.look(verb, rest),
             "read_all" | "write_all" | "print_all" => self.whole(verb, rest),
+            "deliver" => deliver_two(self.alloc, &mut self.shelf, &mut self.sink, rest),
             _ => self.step(verb, rest),
         }
     }
@@ -60,7 +62,7 @@ impl Outside {
         }
     }
 
-    /// Puts a file of so many bytes `x`.
+    /// Puts a file of a given number of bytes `x`.
     fn put_long(&mut self, name: &str, count: u64) -> Result<Answer, AllocError> {
         let bytes = vec![in self.alloc; b'x'; count as usize]?;
         Ok(done(self.shelf.put(name, bytes.as_slice())))
@@ -137,7 +139,7 @@ impl Outside {
         }
     }
 
-    /// Reads to so many zero bytes: what the call answered, and the bytes, each 0 shown as a point.
+    /// Reads into a given number of zero bytes: what the call answered, and the bytes, each 0 shown as a point.
     fn read(&mut self, room: u64) -> Result<Answer, AllocError> {
         let mut buffer = vec![in self.alloc; 0u8; room as usize]?;
         let answer = self.shelf.read(buffer.as_mut_slice());

@@ -3,6 +3,7 @@
 
 mod answer;
 mod calls;
+mod delivered;
 mod script;
 
 use script::run_section;

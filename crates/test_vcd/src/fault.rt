@@ -25,7 +25,7 @@ pub fn fault_of(alloc: Global, text: &[u8]) -> Result<String, AllocError> {
     }
 }
 
-/// The same of changes behind the declarations of `changes.txt`: the byte is counted from the first of the changes.
+/// The same of changes after the declarations of `changes.txt`: the byte is counted from the first of the changes.
 pub fn fault_of_changes(alloc: Global, changes: &[u8]) -> Result<String, AllocError> {
     let mut text = Vec::from_slice(alloc, DECLARATIONS.as_bytes())?;
     text.extend_from_slice(changes)?;
@@ -35,7 +35,7 @@ pub fn fault_of_changes(alloc: Global, changes: &[u8]) -> Result<String, AllocEr
     }
 }
 
-/// The byte of a refusal behind the first bytes, and its words.
+/// The byte of a refusal after the first bytes, and its words.
 pub fn words_of(alloc: Global, refusal: VcdErr, first: usize) -> Result<String, AllocError> {
     match refusal.fault() {
         Some(fault) => format!(in alloc; "{} {fault}", fault.at().saturating_sub(first)),

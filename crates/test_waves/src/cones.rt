@@ -12,7 +12,7 @@ use xr_cell::Value;
 use xr_cnf::clauses;
 use xr_cone::{Cone, trace, trace_at};
 use xr_cone_choices::{Choice, minimal_choices};
-use xr_cone_nodes::{NodeBody, Word, Words};
+use xr_cone_nodes::{ConeLanes, LaneBits, NodeBody};
 use xr_design::{Filling, Place};
 use xr_model::Class;
 use xr_wave::Wave;
@@ -117,7 +117,7 @@ fn an_exclusive_or_rests_on_both(rt: HostRuntime) -> Result<(), Fail> {
     check_both_xors(&rt, rt.alloc(), &job)
 }
 
-/// Compares what a filling of the second source alone gives the cone, by itself and in a word of two sources.
+/// Compares what a filling of the second source alone gives the cone, by itself and in lanes of two sources.
 fn check_fillings(rt: &impl Abort, alloc: Global, cone: &Cone) -> Result<(), Fail> {
     let one = Items::from_vec([Place { step: 0, net: 1 }].to_vec(alloc)?);
     check_filling(rt, alloc, cone, &one)
@@ -127,22 +127,25 @@ fn check_filling(rt: &impl Abort, alloc: Global, cone: &Cone, one: &Filling) -> 
     assert_eq!(rt; cone.sources().len(), 2);
     assert!(rt; !cone.base());
     assert!(rt; cone.value(alloc, one)?);
-    check_word(rt, alloc, cone)?;
+    check_lanes(rt, alloc, cone)?;
     let chosen = cone.chosen(alloc, &[low(0b0011), low(0b0101)], 2)?;
     assert_eq!(rt; chosen.as_slice(), one.as_slice());
     Ok(())
 }
 
-fn check_word(rt: &impl Abort, alloc: Global, cone: &Cone) -> Result<(), Fail> {
+fn check_lanes(rt: &impl Abort, alloc: Global, cone: &Cone) -> Result<(), Fail> {
     assert_eq!(rt; cone.sources().len(), 2);
-    let mut words = Words::new(alloc, cone)?;
-    assert_eq!(rt; words.root(cone, &[low(0b0011), low(0b0101)]), low(0b0110));
+    let mut lane_table = ConeLanes::new(alloc, cone)?;
+    assert_eq!(rt;
+        lane_table.root(cone, &[low(0b0011), low(0b0101)]),
+        low(0b0110)
+    );
     Ok(())
 }
 
-/// The word that has a number's bits in its first lanes.
-fn low(bits: u64) -> Word {
-    Word::new([bits, 0, 0, 0])
+/// The lanes that have a number's bits in its first lanes.
+fn low(bits: u64) -> LaneBits {
+    LaneBits::new([bits, 0, 0, 0])
 }
 
 fn check_fillings_of(rt: &impl Abort, alloc: Global, job: &Job) -> Result<(), Fail>

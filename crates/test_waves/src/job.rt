@@ -12,7 +12,7 @@ use xr_base::Items;
 use xr_cell::Value;
 use xr_design::{Bytes, Forces, History, StartRule};
 use xr_job::{
-    CompareErr, Netlist, Recorded, put_compare_line, read_netlist, read_recording,
+    CompareRefusal, Netlist, Recorded, put_compare_line, read_netlist, read_recording,
     replay_and_compare,
 };
 use xr_repair::repair;
@@ -126,7 +126,7 @@ fn an_inverter_is_replayed(rt: HostRuntime) -> Result<(), Fail> {
 #[test]
 fn a_disagreement_has_its_line(rt: HostRuntime) -> Result<(), Fail> {
     let alloc = rt.alloc();
-    let refusal = CompareErr::Disagrees {
+    let refusal = CompareRefusal::Disagrees {
         time: 10,
         name: Items::from_vec(b"z".to_vec(alloc)?),
         recorded: Value::One,

@@ -12,7 +12,7 @@ use Rattle.xr_design.specs.Job.{Job, places_of}
 use Rattle.xr_design.specs.Rule.{arguments}
 use Rattle.xr_design.specs.World.{decided}
 use Rattle.xr_design.proofs.Rules.{arguments_below}
-use Rattle.xr_model.specs.Class.{carried_or_line, flipped, is_bit, is_carried_from}
+use Rattle.xr_model.specs.Class.{carried_or_line, flipped, is_bit, is_carrier}
 use Rattle.xr_model.specs.Mask.{mask_of, masked}
 use Rattle.xr_model.specs.Places.{among}
 use Rattle.xr_model.specs.declared.class.ClassByNumber.TheVariants.{Line}
@@ -118,7 +118,7 @@ decided_unknown Z bit unknown = refl
 copy_fails : (j : Job) (c : ℕ → Value) (place : ℕ) (us : List ℕ) (m from : ℕ) (inverted bit : Bool) (v : Value)
     → Contains (arguments j c place) from → v ≡ value_by_number j c place us m
     → (is_unknown (c from) ≡ true → masked us m from ≡ bit) → is_bit v (flipped inverted bit) ≡ false
-    → is_carried_from j c place from inverted ≡ false
+    → is_carrier j c place from inverted ≡ false
 copy_fails j c place us m from inverted bit v contains v_is chosen fails = by (is_unknown (c from)) refl
   where
     by : (b : Bool) → is_unknown (c from) ≡ b → b && passes j c place (Copies from inverted) ≡ false
@@ -130,14 +130,14 @@ copy_fails j c place us m from inverted bit v contains v_is chosen fails = by (i
 
 pub first_fails : (j : Job) (c : ℕ → Value) (place : ℕ) (us : List ℕ) (from : ℕ) (inverted : Bool) (v : Value)
     → Contains (arguments j c place) from → v ≡ value_by_number j c place us 0
-    → is_bit v (flipped inverted false) ≡ false → is_carried_from j c place from inverted ≡ false
+    → is_bit v (flipped inverted false) ≡ false → is_carrier j c place from inverted ≡ false
 first_fails j c place us from inverted v contains v_is fails =
     copy_fails j c place us 0 from inverted false v contains v_is (λ unknown. none_chosen us from) fails
 
 pub last_fails : (j : Job) → Fits j → (c : ℕ → Value) (place : ℕ) → place < places_of j → (us : List ℕ) (from : ℕ)
     (inverted : Bool) (v : Value) → us ≡ uncertain_places j c place → Contains (arguments j c place) from
     → v ≡ value_by_number j c place us (2 ^ length us - 1) → is_bit v (flipped inverted true) ≡ false
-    → is_carried_from j c place from inverted ≡ false
+    → is_carrier j c place from inverted ≡ false
 last_fails j fits c place within us from inverted v us_is contains v_is fails =
     copy_fails j c place us (2 ^ length us - 1) from inverted true v contains v_is
     (λ unknown. all_chosen us from (subst (λ xs. among xs from ≡ true) (sym us_is)
@@ -152,7 +152,7 @@ last_fails j fits c place within us from inverted v us_is contains v_is fails =
 
 -- Where no place of a list is one that another is carried from in the other way, it is the first in this way.
 abbrev NoneIs : Job → (ℕ → Value) → ℕ → Bool → List ℕ → Type 0
-NoneIs j c place inverted places = AllByRecursion (λ from. is_carried_from j c place from inverted ≡ false) places
+NoneIs j c place inverted places = AllByRecursion (λ from. is_carrier j c place from inverted ≡ false) places
 
 one_way : (j : Job) (c : ℕ → Value) (place : ℕ) (inverted : Bool) (places : List ℕ)
     → NoneIs j c place (not inverted) places

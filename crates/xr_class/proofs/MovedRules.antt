@@ -20,7 +20,7 @@ use Rattle.xr_design.specs.Replay.{table_of}
 use Rattle.xr_design.specs.Rule.{as_values, register_rule, rule, rule_of}
 use Rattle.xr_design.proofs.Rules.{rule_reads}
 use Rattle.xr_model.specs.Assignment.{assigned, for_every}
-use Rattle.xr_model.specs.Class.{are_equal, carries_on, class_of, is_bit, is_free, is_local, is_never_unknown}
+use Rattle.xr_model.specs.Class.{are_equal, is_carried_on, class_of, is_bit, is_free, is_local, is_never_unknown}
 use Rattle.xr_model.specs.Yields.{flipped_value}
 use Rattle.xr_model.specs.declared.class.ClassByNumber.{ClassByNumber}
 use Rattle.xr_model.specs.declared.class.ClassByNumber.TheVariants.{Local, Free, Carried, Line}
@@ -47,7 +47,7 @@ as_it_is One = refl
 as_it_is X = refl
 as_it_is Z = refl
 
-agrees_on : (c : ℕ → Value) (class : ClassByNumber) (back : ℕ) (v : Value) → carries_on class back ≡ true
+agrees_on : (c : ℕ → Value) (class : ClassByNumber) (back : ℕ) (v : Value) → is_carried_on class back ≡ true
     → AgreesWith c class v → v ≡ c back
 agrees_on c (Local bit) back v on agrees = cc
 agrees_on c Free back v on agrees = cc
@@ -62,7 +62,7 @@ kept_value j c place step net agree less kept =
     let here : ℕ = at j step net in
     let back : ℕ = at j (step - 1) net in
     let equal : Bool = are_equal (c here) (c back) in
-    let on : Bool = carries_on (class_of j c here) back in
+    let on : Bool = is_carried_on (class_of j c here) back in
     ⊎_elim (λ (h : equal ≡ true). same_value (c here) (c back) h)
     (λ (h : on ≡ true). agrees_on c (class_of j c here) back (c here) h (agree here less))
     (or_cases equal on (and_parts (not (step == 0)) (equal || on) kept).1)

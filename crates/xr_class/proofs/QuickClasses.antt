@@ -10,7 +10,7 @@ use Rattle.xr_design.specs.Job.{Job, at, net_of, places_of, step_of}
 use Rattle.xr_design.specs.Rule.{arguments, arguments_of, born, known_or, rule, rule_of}
 use Rattle.xr_design.specs.World.{decided}
 use Rattle.xr_model.specs.Assignment.{assigned, for_every}
-use Rattle.xr_model.specs.Class.{before, carried_or_line, class_of, is_bit, is_carried_from, is_free, is_local, keeps, passes_on, passes_on_of}
+use Rattle.xr_model.specs.Class.{before, carried_or_line, class_of, is_bit, is_carrier, is_free, is_local, keeps, passes_on, passes_on_of}
 use Rattle.xr_model.specs.Mask.{masked}
 use Rattle.xr_model.specs.declared.class.ClassByNumber.{ClassByNumber}
 use Rattle.xr_model.specs.declared.class.ClassByNumber.TheVariants.{Local, Free, Carried, Line}
@@ -126,13 +126,13 @@ open_copy j c place net driver chosen unknown =
         (λ bits. ap (λ v. is_bit v (assigned c bits from)) (given bits)
         ∙ ap (λ b. is_bit (bit_value (bits from)) b) (chosen (bits from)) ∙ bit_own (bits from))
 
-    carried : is_carried_from j c place from false ≡ true
+    carried : is_carrier j c place from false ≡ true
     carried = rw (unknown, copies) refl
 
     line : carried_or_line j c place (arguments j c place) ≡ Carried from false
     line = ap (carried_or_line j c place) (copy_reads j c place net driver)
         ∙ ap (λ b. if b then Carried from false
-        else if is_carried_from j c place from true then Carried from true else Line) carried
+        else if is_carrier j c place from true then Carried from true else Line) carried
 
 -- Where the rule gives one value for every assignment, the class is the value's.
 pub class_given : (j : Job) (c : ℕ → Value) (place : ℕ) (v : Value)

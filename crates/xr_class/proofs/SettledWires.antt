@@ -1,5 +1,5 @@
 -- Places all of whose arguments are certain: their drivers make of these what their rules make for every assignment.
-use Rattle.std.proofs.Common.{◌≡◌, ℕ, ◌+◌, ◌-◌, ◌*◌, ◌%◌, ◌<◌, ◌≤◌, ◌==◌, not, Bool, true, false, List, [], ◌∷◌, length, map, refl, sym, ap, ◌∙◌, arith, subst, if◌then◌else◌}
+use Rattle.std.proofs.Common.{◌≡◌, ℕ, ◌+◌, ◌-◌, ◌*◌, ◌%◌, ◌<◌, ◌≤◌, ◌==◌, not, Bool, true, false, None, Some, ⊎_elim, List, [], ◌∷◌, length, map, refl, sym, ap, ◌∙◌, arith, subst, if◌then◌else◌}
 use Rattle.std.specs.List.{list_all}
 use Rattle.std.proofs.lemmas.Bool.{and_parts, ne_eqb}
 use Rattle.std.proofs.lemmas.List.{length-map}
@@ -14,11 +14,12 @@ use Rattle.xr_design.specs.declared.design.Table.{Table}
 use Rattle.xr_design.specs.Fits.{Fits, FitsDriver, FitsTable}
 use Rattle.xr_design.specs.Job.{Job, at, net_of, places_of, step_of}
 use Rattle.xr_design.specs.Order.{net_pins, position_of}
-use Rattle.xr_design.specs.Register.{has_uncertain_clock, looks_before, pins_at, updated}
+use Rattle.xr_design.specs.Register.{has_uncertain_clock, pins_at, two_back, updated}
 use Rattle.xr_design.specs.Replay.{table_of}
-use Rattle.xr_design.specs.Rule.{as_values, places_at, register_rule, rule, rule_of}
+use Rattle.xr_design.specs.Rule.{as_values, old_places, places_at, places_back, register_rule, rule, rule_of}
 use Rattle.xr_design.specs.World.{decided}
 use Rattle.xr_design.proofs.Rules.{AgreeOn, spot, updated_reads}
+use Rattle.xr_design.proofs.TwoBack.{back_either}
 use Rattle.xr_model.specs.Assignment.{assigned}
 use Rattle.xr_wiring.specs.Wired.{placed}
 use Rattle.xr_wiring.proofs.Jobs.{table_few}
@@ -121,10 +122,13 @@ places_stand j c bits step pins known = each (net_pins pins) known
         let parts = and_parts (not (is_unknown (c (at j step net)))) (nets_known j c step nets) known in
         (stands (c (at j step net)) (bits (at j step net)) parts.0, each nets parts.1)
 
-unless : (first : Bool) (f g : ℕ → Value) (places : List ℕ) → AgreeOn f g places
-    → AgreeOn f g (if first then [] else places)
-unless true f g places agree = tt
-unless false f g places agree = agree
+back_agree : (j : Job) (f g : ℕ → Value) (step : ℕ) (pins : List Pin) → 0 < step
+    → AgreeOn f g (places_at j (step - 2) pins) → AgreeOn f g (old_places j step pins)
+back_agree j f g step pins later agree = ⊎_elim
+    (λ (none : two_back j step ≡ None). subst (λ back. AgreeOn f g (places_back j pins back)) (sym none) tt)
+    (λ (some : two_back j step ≡ Some (step - 2)).
+    subst (λ back. AgreeOn f g (places_back j pins back)) (sym some) agree)
+    (back_either j step later)
 
 either_way : (first unclocked : Bool) (start v w : Value) → first ≡ false → w ≡ v
     → (if first then start else if unclocked then v else w) ≡ v
@@ -149,7 +153,7 @@ register_settled j c place latching later driver sees = class_given j c place _ 
     ∙ either_way (step == 0) (has_uncertain_clock j c step latching) _ (updated j c (c own) step latching) _
     (ne_eqb step 0 (λ e. omega (arith, e, later)))
     (updated_reads j (as_values (assigned c bits)) c (bit_value (assigned c bits own)) (c own) step latching
-    (unless (looks_before j step) (as_values (assigned c bits)) c (places_at j (step - 2) latching.pins)
+    (back_agree j (as_values (assigned c bits)) c step latching.pins later
     (places_stand j c bits (step - 2) latching.pins sees.old))
     (places_stand j c bits (step - 1) latching.pins sees.new)
     (stands (c own) (bits own) sees.own))

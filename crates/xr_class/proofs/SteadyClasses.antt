@@ -19,7 +19,7 @@ use Rattle.xr_design.specs.Register.{has_uncertain_clock, updated}
 use Rattle.xr_design.specs.Rule.{arguments, rule}
 use Rattle.xr_design.proofs.Rules.{back_two, position_in, rule_reads}
 use Rattle.xr_model.specs.Assignment.{assigned, for_every}
-use Rattle.xr_model.specs.Class.{before, carried_or_line, carries_on, class_of, flipped, is_bit, is_carried_from, is_free, is_local, is_never_unknown, passes_on, passes_on_of}
+use Rattle.xr_model.specs.Class.{before, carried_or_line, is_carried_on, class_of, flipped, is_bit, is_carrier, is_free, is_local, is_never_unknown, passes_on, passes_on_of}
 use Rattle.xr_model.specs.Yields.{is_line}
 use Rattle.xr_model.specs.declared.class.ClassByNumber.{ClassByNumber}
 use Rattle.xr_model.specs.declared.class.ClassByNumber.TheVariants.{Local, Free, Carried, Line}
@@ -43,7 +43,7 @@ by_tests false false from rest none = none
 line_open : (j : Job) (c : ℕ → Value) (place : ℕ) (places : List ℕ)
     → is_plain (carried_or_line j c place places) ≡ false
 line_open j c place [] = refl
-line_open j c place (from ∷ others) = by_tests (is_carried_from j c place from false) (is_carried_from j c place from true)
+line_open j c place (from ∷ others) = by_tests (is_carrier j c place from false) (is_carrier j c place from true)
     from (carried_or_line j c place others) (line_open j c place others)
 
 either_open : (on : Bool) (from : ℕ) (rest : ClassByNumber) → is_plain rest ≡ false
@@ -142,7 +142,7 @@ copy_known j c place from inverted says passes =
     (for_every j c place (λ bits. is_bit (rule j c bits place) (flipped inverted (bits from)))) h.1).1 bits)))
     says
 
-pub carried_on : (class : ClassByNumber) (back : ℕ) → carries_on class back ≡ true → class ≡ Carried back false
+pub carried_on : (class : ClassByNumber) (back : ℕ) → is_carried_on class back ≡ true → class ≡ Carried back false
 carried_on (Local bit) back on = cc
 carried_on Free back on = cc
 carried_on (Carried from false) back on =
@@ -152,7 +152,7 @@ carried_on Line back on = cc
 
 pub carrying_known : (j : Job) → Fits j → (c : ℕ → Value) (place : ℕ) (table : Table) (pins : List Pin)
     → place < places_of j → j.driver (net_of j place) ≡ Cell table pins
-    → carries_on (class_of j c place) (before j place) ≡ true → is_never_unknown j c place ≡ true
+    → is_carried_on (class_of j c place) (before j place) ≡ true → is_never_unknown j c place ≡ true
 carrying_known j fits c place table pins within driver on =
     let class : class_of j c place ≡ Carried (before j place) false =
     carried_on (class_of j c place) (before j place) on in

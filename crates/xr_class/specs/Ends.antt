@@ -3,7 +3,7 @@ use Rattle.std.specs.Prelude.{◌≡◌, ℕ, ◌-◌, ◌^◌, ◌&&◌, Bool, 
 use Rattle.xr_cell.specs.declared.value.Value.{Value}
 use Rattle.xr_cell.specs.declared.value.Value.TheVariants.{Zero, One, X, Z}
 use Rattle.xr_design.specs.Job.{Job}
-use Rattle.xr_model.specs.Class.{is_bit, is_carried_from}
+use Rattle.xr_model.specs.Class.{is_bit, is_carrier}
 use Rattle.xr_model.specs.declared.class.ClassByNumber.{ClassByNumber}
 use Rattle.xr_model.specs.declared.class.ClassByNumber.TheVariants.{Carried, Line}
 use Rattle.xr_class.specs.declared.ends.Ends.{Ends}
@@ -34,5 +34,5 @@ inverted_by first last =
 abbrev pub copied_or_line : Job → (ℕ → Value) → ℕ → Bool → List ℕ → ClassByNumber
 copied_or_line j certain place inverted [] = Line
 copied_or_line j certain place inverted (from ∷ others) =
-    if is_carried_from j certain place from inverted then Carried from inverted
+    if is_carrier j certain place from inverted then Carried from inverted
     else copied_or_line j certain place inverted others

@@ -4,7 +4,7 @@ use Rattle.xr_cell.specs.declared.value.Value.{Value}
 use Rattle.xr_cell.specs.declared.value.Value.TheVariants.{Zero, One, X, Z}
 use Rattle.xr_cell.specs.Value.{bit_value}
 use Rattle.xr_design.specs.Job.{Job, step_of}
-use Rattle.xr_model.specs.Class.{are_equal, before, carries_on, class_of}
+use Rattle.xr_model.specs.Class.{are_equal, before, is_carried_on, class_of}
 use Rattle.xr_model.specs.Yields.{flipped_value, is_line}
 use Rattle.xr_model.specs.declared.class.ClassByNumber.{ClassByNumber}
 use Rattle.xr_model.specs.declared.class.ClassByNumber.TheVariants.{Local, Free, Carried, Line}
@@ -30,8 +30,8 @@ keeps_by step here back carries = not (step == 0) && (are_equal here back || car
 abbrev pub keeps_since : Job → (ℕ → Value) → ℕ → Value → Bool → Bool
 keeps_since j certain place here carries = keeps_by (step_of j place) here (certain (before j place)) carries
 
-abbrev pub place_carries : Job → (ℕ → Value) → ℕ → Bool
-place_carries j certain place = carries_on (class_of j certain place) (before j place)
+abbrev pub place_is_carried_on : Job → (ℕ → Value) → ℕ → Bool
+place_is_carried_on j certain place = is_carried_on (class_of j certain place) (before j place)
 
 abbrev pub facts : Bool → Bool → Bool → Bool → Facts
 facts carries plain line keeps = record { carries = carries; plain = plain; line = line; keeps = keeps }
@@ -39,7 +39,7 @@ facts carries plain line keeps = record { carries = carries; plain = plain; line
 -- They, by the step and the class of a place, the place before it, and the certain values of both; and those of a place.
 abbrev pub facts_by : ℕ → ℕ → ClassByNumber → Value → Value → Facts
 facts_by step back class here value_back =
-    facts (carries_on class back) (is_plain class) (is_line class) (keeps_by step here value_back (carries_on class back))
+    facts (is_carried_on class back) (is_plain class) (is_line class) (keeps_by step here value_back (is_carried_on class back))
 
 abbrev pub facts_of : Job → (ℕ → Value) → ℕ → Facts
 facts_of j certain place =

@@ -70,7 +70,7 @@ pub fn kept_class<E: Earlier>(
     requires agrees { AgreeBefore (job_in circuit.now) (E.reads earlier.now) (place + 1) }
     ensures { result ≡ class_of (job_in circuit.now) (E.reads earlier.now) place }
 {
-    if earlier.carries_on(place) {
+    if earlier.is_carried_on(place) {
         ClassByNumber::Carried(place_before(circuit, place), false)
     } else if earlier.is_plain(place) {
         plain_class(earlier.value(place))

@@ -10,7 +10,7 @@ pub trait Earlier: Source {
     ghost facts: { Self → ℕ → Facts };
 
     /// Whether the class of the place of a number is Carried from the step before, as it is.
-    fn carries_on(&self, place: usize) -> bool
+    fn is_carried_on(&self, place: usize) -> bool
         requires { Self.has self.now place }
         ensures { result ≡ (facts self.now place).carries };
 

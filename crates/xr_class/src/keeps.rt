@@ -16,7 +16,7 @@ ghost use Rattle.xr_class.specs.Keeps.{cell_chooses, cell_passes, driver_passes,
 
 use crate::earlier::Earlier;
 use crate::every::passes_every;
-use crate::ruled::place_of;
+use crate::ruled::number_at;
 use crate::test::Test;
 use xr_cell::Value;
 use xr_design::{
@@ -94,7 +94,7 @@ fn is_later_round(circuit: &Circuit<'_>, spot: Spot) -> bool
     requires { CircuitFits circuit.now }
     ensures { result ≡ not (spot.step % (job_in circuit.now).rounds == 0) }
 {
-    spot.step % circuit.stim.rounds as usize != 0
+    !circuit.begins_moment(spot.step)
 }
 
 fn cell_passes<E: Earlier>(
@@ -215,7 +215,7 @@ pub fn net_keeps<E: Earlier>(
     requires small { step * (job_in circuit.now).width + (job_in circuit.now).width ≤ 2 ^ 27 }
     ensures { result ≡ net_keeps (job_in circuit.now) (E.reads earlier.now) step net }
 {
-    earlier.keeps(place_of(circuit, step, net))
+    earlier.keeps(number_at(circuit, step, net))
 }
 
 /// Whether a net keeps at a place, given its certain value there and whether its class is Carried from the step before,

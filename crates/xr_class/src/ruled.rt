@@ -7,14 +7,13 @@ ghost use Rattle.xr_design.specs.Circuit.{job_in, CircuitFits, IsSpot};
 ghost use Rattle.xr_design.specs.Fits.{FitsDriver, FitsRegister};
 ghost use Rattle.xr_design.specs.Job.{at, places_of};
 ghost use Rattle.xr_design.specs.Order.{net_pins, arguments_of_driver};
-ghost use Rattle.xr_design.specs.Register.{looks_before};
 ghost use Rattle.xr_design.specs.Rule.{arguments, arguments_of, born_arguments, places_at, old_places, register_arguments};
 ghost use Rattle.xr_class.specs.Arguments.{looked_places};
 
 use crate::arguments::ArgumentsByNumber;
 use xr_design::{
-    Circuit, Driver, Latching, Pin, Source, Spot, StartRule, clock_is_uncertain, driver_at,
-    recorded_at, spot_of, width_of,
+    Circuit, Driver, Latching, Pin, Source, Spot, clock_is_uncertain, driver_at, recorded_at,
+    spot_of, width_of,
 };
 
 /// The argument places of a place, in the order in which its rule names them, with doubles. Takes no memory.
@@ -64,7 +63,7 @@ fn driver_arguments<C: Source>(
 }
 
 /// The number of a net's place at a step.
-pub fn place_of(circuit: &Circuit<'_>, step: usize, net: u32) -> usize
+pub fn number_at(circuit: &Circuit<'_>, step: usize, net: u32) -> usize
     requires fits { CircuitFits circuit.now }
     requires net { net < (job_in circuit.now).width }
     requires small { step * (job_in circuit.now).width + (job_in circuit.now).width ≤ 2 ^ 27 }
@@ -80,7 +79,7 @@ fn one_place(circuit: &Circuit<'_>, step: usize, net: u32) -> ArgumentsByNumber
     ensures { result ≡ at (job_in circuit.now) step net ∷ [] }
 {
     let mut arguments = ArgumentsByNumber::new();
-    arguments.push(place_of(circuit, step, net));
+    arguments.push(number_at(circuit, step, net));
     arguments
 }
 
@@ -89,7 +88,7 @@ fn born_places(circuit: &Circuit<'_>, place: usize, spot: Spot) -> ArgumentsByNu
     requires spot { IsSpot (job_in circuit.now) place spot }
     ensures { result ≡ born_arguments (job_in circuit.now) spot.step spot.net }
 {
-    if spot.step % circuit.stim.rounds as usize == 0 {
+    if circuit.begins_moment(spot.step) {
         ArgumentsByNumber::new()
     } else {
         one_place(circuit, spot.step - 1, spot.net as u32)
@@ -119,7 +118,7 @@ fn push_places(circuit: &Circuit<'_>, arguments: &mut ArgumentsByNumber, step: u
         [] => {}
         [pin, rest @ ..] => {
             if let Pin::Net(net) = *pin {
-                arguments.push(place_of(circuit, step, net));
+                arguments.push(number_at(circuit, step, net));
             }
             push_places(circuit, arguments, step, rest)
         }
@@ -163,7 +162,7 @@ fn looked_at(
     let pins = latching.pins.as_slice();
     let mut arguments = old_arguments(circuit, spot.step, pins);
     push_places(circuit, &mut arguments, spot.step - 1, pins);
-    arguments.push(place_of(circuit, spot.step - 1, spot.net as u32));
+    arguments.push(number_at(circuit, spot.step - 1, spot.net as u32));
     arguments
 }
 
@@ -176,16 +175,8 @@ fn old_arguments(circuit: &Circuit<'_>, step: usize, pins: &[Pin]) -> ArgumentsB
     ensures places { result ≡ old_places (job_in circuit.now) step pins.now }
     ensures few { length result ≤ 6 }
 {
-    if looks_before(circuit, step) {
-        ArgumentsByNumber::new()
-    } else {
-        pin_places(circuit, step.saturating_sub(2), pins)
+    match circuit.two_back(step) {
+        None => ArgumentsByNumber::new(),
+        Some(earlier) => pin_places(circuit, earlier, pins),
     }
-}
-
-/// Whether a register that looks two steps back from a step sees nothing there.
-fn looks_before(circuit: &Circuit<'_>, step: usize) -> bool
-    ensures { result ≡ looks_before (job_in circuit.now) step }
-{
-    step == 1 && matches!(circuit.stim.start, StartRule::Cold)
 }

@@ -54,7 +54,7 @@ pub fn cell_class<E: Earlier>(
         plain_class(earlier.value(back))
     } else if !cell_chooses(table, pins) {
         ClassByNumber::Carried(back, false)
-    } else if earlier.carries_on(back) {
+    } else if earlier.is_carried_on(back) {
         ClassByNumber::Carried(back, false)
     } else {
         tried_class(circuit, earlier, place)

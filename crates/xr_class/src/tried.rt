@@ -6,7 +6,7 @@ ghost use Rattle.xr_cell.specs.declared.value.Value.{Value as AnyValue};
 ghost use Rattle.xr_design.specs.Circuit.{job_in, CircuitFits};
 ghost use Rattle.xr_design.specs.Job.{places_of};
 ghost use Rattle.xr_design.specs.Rule.{arguments};
-ghost use Rattle.xr_model.specs.Class.{is_carried_from};
+ghost use Rattle.xr_model.specs.Class.{is_carrier};
 ghost use Rattle.xr_class.specs.Arguments.{uncertain_places};
 ghost use Rattle.xr_class.specs.Ends as spec;
 ghost use Rattle.xr_class.specs.Ends.{AreEnds};
@@ -129,7 +129,7 @@ fn copied_or_line<C: Source>(
 {
     let ruled = ruled_arguments(circuit, certain, place);
     'rest: for from in ruled.as_slice() {
-        if is_carried_from(circuit, certain, place, uncertain, *from, inverted) {
+        if is_carrier(circuit, certain, place, uncertain, *from, inverted) {
             return ClassByNumber::Carried(*from, inverted);
         }
     }
@@ -137,7 +137,7 @@ fn copied_or_line<C: Source>(
 }
 
 /// Whether a place is carried from one of its argument places, as it is or inverted.
-fn is_carried_from<C: Source>(
+fn is_carrier<C: Source>(
     circuit: &Circuit<'_>,
     certain: &C,
     place: usize,
@@ -151,7 +151,7 @@ fn is_carried_from<C: Source>(
     requires few { length uncertain.now ≤ 13 }
     requires uncertain { uncertain.now ≡ uncertain_places (job_in circuit.now) (C.reads certain.now) place }
     requires from { Contains (arguments (job_in circuit.now) (C.reads certain.now) place) from }
-    ensures { result ≡ is_carried_from (job_in circuit.now) (C.reads certain.now) place from inverted }
+    ensures { result ≡ is_carrier (job_in circuit.now) (C.reads certain.now) place from inverted }
 {
     if certain.value(from).is_known() {
         return false;

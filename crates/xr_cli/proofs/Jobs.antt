@@ -2,7 +2,7 @@
 use Rattle.std.proofs.Common.{◌≡◌, ◌∙◌, ℕ, ◌+◌, ◌*◌, ◌<◌, ◌≤◌, ap, arith}
 use Rattle.std.proofs.lemmas.Nat.{mul-add-lt}
 use Rattle.std.proofs.Math.Nat.{mul-le-mul_right}
-use Rattle.xr_design.specs.Circuit.{FitsCircuit}
+use Rattle.xr_design.specs.Circuit.{PartsFit}
 use Rattle.xr_design.specs.Filling.{IsPlace}
 use Rattle.xr_design.specs.Fits.{Fits, place_at}
 use Rattle.xr_design.specs.Handed.{IsReplay, shown_of}
@@ -26,7 +26,7 @@ pub fits_job : (n : ANetlist) (r : Recorded) → FitsJob n r → Fits (job_in n 
 fits_job n r fits =
     job_fits n.design n.order r.stim fits.netlist.design fits.netlist.order fits.recorded.stim fits.recorded.some_round fits.recorded.few_rounds
 
-pub circuit_fits : (n : ANetlist) (r : Recorded) → FitsJob n r → FitsCircuit n.design n.order r.stim
+pub circuit_fits : (n : ANetlist) (r : Recorded) → FitsJob n r → PartsFit n.design n.order r.stim
 circuit_fits n r fits = record { fits_job = fits_job n r fits; fits_stim = fits.recorded.stim }
 
 module _ (j : Job) (fits : Fits j) where

@@ -1,14 +1,12 @@
 -- Lemmas on the program.
-mod Bounds
-mod Delivering
-mod Excluding
 mod Faults
+mod FoundPlaces
 mod Headlines
-mod Joins
 mod Jobs
+mod Lawfully
 mod Lines
+mod ObjectingOnce
 mod OneStimulus
-mod Preparing
+mod Runs
 mod Scopes
-mod Statuses
-mod Told
+mod Walk

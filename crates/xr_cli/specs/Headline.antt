@@ -1,25 +1,30 @@
 -- What a repair promises, a field a sentence.
-use Rattle.std.specs.Prelude.{◌≡◌, ℕ, ◌<◌, Bool, List, length, slice_index, Contains}
+use Rattle.std.specs.Prelude.{◌≡◌, ◌≢◌, ℕ, ◌<◌, Bool, true, List, length, slice_index, Contains}
 use Rattle.xr_cell.specs.declared.value.Value.{Value}
-use Rattle.xr_cell.specs.Value.{IsKnown, bit_value}
+use Rattle.xr_cell.specs.Value.{IsKnown, bit_value, is_unknown}
 use Rattle.xr_design.specs.Job.{Job, at, places_of}
 use Rattle.xr_design.specs.Settled.{last_step}
-use Rattle.xr_design.specs.Waveform.{HasPair, Settles, written_at}
-use Rattle.xr_design.specs.declared.waveform.Mark.TheVariants.{Certain, Unknown, Undecided}
+use Rattle.xr_design.specs.Waveform.{Settles, certain, written_at}
+use Rattle.xr_design.specs.declared.waveform.Mark.TheVariants.{Undecided}
 use Rattle.xr_design.specs.declared.waveform.Written.{Written}
 use Rattle.xr_match.specs.declared.binding.Bound.{Bound}
 use Rattle.xr_model.specs.Sound.{HasLicence, IsDecided, Sound}
-use Rattle.xr_model.specs.Yields.{Yields}
+use Rattle.xr_model.specs.Growth.{Holds}
+use Rattle.xr_model.specs.Line.{GivesBoth}
+use Rattle.xr_model.specs.Stated.{stated}
 use Rattle.xr_model.specs.declared.line.Line.{Line as ALine}
 use Rattle.xr_vcd.specs.Recording.{value_at}
-use Rattle.xr_design.specs.Handed.{IsReplay, shown_of}
+use Rattle.xr_design.specs.Handed.{shown_of}
 use Rattle.xr_design.specs.History.{HistoryView}
 use Rattle.xr_job.specs.Compared.{job_in}
 use Rattle.xr_job.specs.declared.netlist.Netlist.{Netlist as ANetlist}
 use Rattle.xr_job.specs.declared.recorded.Recorded.{Recorded}
 use Rattle.xr_out.specs.Text.{vcd_text}
-use Rattle.xr_cli_words.specs.Line.{Values}
-use Rattle.xr_cli.specs.Repair.{IsJob}
+use Rattle.xr_report.specs.Bits.{bit_lines}
+use Rattle.xr_wave.specs.Contents.{Contents}
+use Rattle.xr_words.specs.Words.{RepairValues}
+use Rattle.xr_cli.specs.Repair.{Agrees}
+use Rattle.xr_cli.specs.Texts.{IsJob}
 
 -- A bit of a bound variable in a moment, and the place that shows it: its net at the moment's last step.
 pub record IsBit (n : ANetlist) (r : Recorded) (moment : ℕ) (b : Bound) (bit : ℕ) : Type 0 where
@@ -40,34 +45,52 @@ abbrev pub Shows : Job → List Written → HistoryView → Type 0
 Shows j waveform history =
     (place : ℕ) → place < places_of j → shown_of j history place ≡ (written_at waveform place).value
 
--- The texts stand for a job; there are a waveform of all its places and lines, so that:
-pub record Headline (w : Values) (netlist recording vcd : List ℕ) : Type 0 where
+-- The wave of a job with what is written and the lines.
+abbrev pub wave_of : ANetlist → Recorded → HistoryView → ℕ → List Written → List ALine → Contents
+wave_of n r replay conflicts waveform lines = record {
+  design = n.design;
+  order = n.order;
+  stim = r.stim;
+  history = replay;
+  limit = conflicts;
+  written = waveform;
+  lines = lines;
+}
+
+-- The texts stand for a job whose recording agrees with its replay; there are a waveform of all its places and lines,
+-- so that:
+pub record Headline (w : RepairValues) (netlist recording vcd report : List ℕ) : Type 0 where
   pub n : ANetlist
   pub r : Recorded
-  pub job : IsJob w netlist recording n r
+  pub job : IsJob w.job netlist recording n r
+  pub replay : HistoryView
+  pub agrees : Agrees n r replay
   pub waveform : List Written
   pub lines : List ALine
   pub whole : length waveform ≡ places_of (job_in n r)
+  -- The waveform is sound for the replay, and the lines yield it.
+  pub holds : Holds (job_in n r) w.conflicts (shown_of (job_in n r) replay) waveform lines
   -- V is the text of what the waveform shows.
   pub shown : HistoryView
   pub shows : Shows (job_in n r) waveform shown
   pub vcd_is : vcd ≡ vcd_text n.design r.binding r.stim shown
-  -- Each bit that is shown known, its search ended, has that value in the two-valued circuit under every filling.
-  pub known : ForBits n r (λ place recorded. (written_at waveform place).mark ≡ Certain
-      → (bit : Bool) × ((written_at waveform place).value ≡ bit_value bit) × Settles (job_in n r) waveform place bit)
-  -- Each bit that is shown unknown has two fillings that give 0 and 1.
-  pub unknown : ForBits n r (λ place recorded. (written_at waveform place).mark ≡ Unknown
-      → HasPair (job_in n r) waveform place)
+  -- The report tells what became of each recorded bit that is x or z.
+  pub report_is : report ≡ bit_lines (wave_of n r replay w.conflicts waveform lines) r.binding
+  -- Each bit that V shows known, its search ended, has that value in the two-valued circuit under every filling.
+  pub known : ForBits n r (λ place recorded. (bit : Bool) → shown_of (job_in n r) shown place ≡ bit_value bit
+      → (written_at waveform place).mark ≢ Undecided → Settles (job_in n r) waveform place bit)
+  -- Each bit that V shows unknown, its search ended, has two fillings that are listed, in a line or by a class: the
+  -- first gives 0, the second 1.
+  pub unknown : ForBits n r (λ place recorded. is_unknown (shown_of (job_in n r) shown place) ≡ true
+      → (written_at waveform place).mark ≢ Undecided
+      → GivesBoth (job_in n r) waveform place (stated (job_in n r) (certain waveform) lines place))
   -- Each other bit is marked undecided, with its licence: more than 12 sources, and a log of as many clauses as the
   -- words say.
   pub undecided : ForBits n r (λ place recorded. (written_at waveform place).mark ≡ Undecided
       → HasLicence (job_in n r) w.conflicts waveform lines place)
   -- The bits that the recording knows stand.
-  pub stand : ForBits n r (λ place recorded. IsKnown recorded → (written_at waveform place).value ≡ recorded)
-  -- The lines yield the waveform for the replay.
-  pub replay : HistoryView
-  pub replay_is : IsReplay (job_in n r) replay
-  pub yields : Yields (job_in n r) w.conflicts (shown_of (job_in n r) replay) waveform lines
-  -- Where nothing is undecided, no other waveform is sound.
-  pub only : IsDecided waveform → (other : List Written) (more : List ALine) → length other ≡ places_of (job_in n r)
-      → Sound (job_in n r) w.conflicts (shown_of (job_in n r) replay) other more → IsDecided other → other ≡ waveform
+  pub stand : ForBits n r (λ place recorded. IsKnown recorded → shown_of (job_in n r) shown place ≡ recorded)
+  -- Where no place is undecided, no other waveform without undecided places is sound, whatever its lines and its limit.
+  pub only : IsDecided waveform → (limit : ℕ) (other : List Written) (more : List ALine)
+      → length other ≡ places_of (job_in n r) → Sound (job_in n r) limit (shown_of (job_in n r) replay) other more
+      → IsDecided other → other ≡ waveform

@@ -1,7 +1,9 @@
 -- Definitions of the program.
-pub mod Refusal
+pub mod Cause
 pub mod Repair
+pub mod Phases
+pub mod Texts
 pub mod Headline
-pub mod Files
-pub mod Rows
+pub mod Answers
+pub mod Commands
 pub mod Ends

@@ -1,21 +1,22 @@
-//! The program as one call: `run`, in `program.rt`, whose contract is `specs/Ends.antt`, the rows of `specs/Rows.antt`
-//! and, at status 0, `specs/Headline.antt`.
+//! The program as one call. Start at `run`, whose clauses are `specs/Ends.antt` and, at status 0,
+//! `specs/Headline.antt`.
 //!
-//! A run goes by these files: `program.rt` (words to a command, and the line of a refusal), `commands/repair.rt` (the
-//! command, phase by phase), `job.rt` (files to a design, a recording of it and its stimulus), `files.rt` (files read
-//! and written, the report printed), `repaired.rt` (the walk over all places, and its texts), `objection.rt` (a place
-//! that is found otherwise), `refusal.rt` and `line.rt` (a refusal and its line). Each phase names its own refusals; a
-//! row says by cases on the answer what stood before, the cause, and what the shelf and the sink hold.
+//! A run goes by these files: `program.rt` (words to a command), `commands/repair.rt` (the command, phase by phase as
+//! in `specs/Phases.antt`), `job.rt` and `judged.rt` (files to a design and a recording of it), `repaired.rt` (the walk
+//! over all places, and its texts), `objection.rt` (a place that is found otherwise), `cause.rt` and `line.rt` (what
+//! texts are refused for, and its line). How files are read and written, and how a run ends, is xr_run's.
 #![tactic(auto)]
 
+mod cause;
 mod commands;
-mod files;
 mod job;
+mod judged;
+mod laws;
 mod line;
 mod objection;
 mod program;
-mod refusal;
 mod repaired;
 mod scope;
 
+pub use laws::answers_say_what_is_promised;
 pub use program::run;

@@ -1,11 +1,11 @@
-//! What is told of a place that is found otherwise than the replay knows it.
+//! What the line of a refusal has of a place that is found otherwise than the replay knows it.
 
 ghost use Rattle.std.specs.Prelude.{◌≡◌, IfOk, count_by};
 ghost use Rattle.xr_design.specs.Filling.{IsPlace};
 ghost use Rattle.xr_job.specs.Compared.{job_in};
 ghost use Rattle.xr_cli.specs.Repair.{FitsJob, is_undecided_body, is_undecided_line, objection_of};
 
-use crate::refusal::Objection;
+use crate::cause::Objection;
 use std::alloc::Global;
 use xr_base::Memory;
 use xr_design::Bytes;
@@ -18,22 +18,22 @@ pub fn objection_of(
     alloc: Global,
     netlist: &Netlist,
     recorded: &Recorded,
-    told: &Optimistic,
+    found: &Optimistic,
 ) -> Result<Objection, Memory>
     requires fits { FitsJob netlist.now recorded.now }
-    requires place { IsPlace (job_in netlist.now recorded.now) told.now.place }
-    ensures { IfOk result (λ o. o ≡ objection_of netlist.now recorded.now told.now) }
+    requires place { IsPlace (job_in netlist.now recorded.now) found.now.place }
+    ensures { IfOk result (λ o. o ≡ objection_of netlist.now recorded.now found.now) }
 {
     let rounds = recorded.stim.rounds;
-    let moment = told.place.step / rounds;
-    let name = netlist.design.written_name(alloc, told.place.net)?;
+    let moment = found.place.step / rounds;
+    let name = netlist.design.written_name(alloc, found.place.net)?;
     Ok(Objection {
         time: recorded.stim.times.as_slice()[moment as usize],
-        round: told.place.step % rounds,
+        round: found.place.step % rounds,
         name: Bytes::from_vec(name),
-        replayed: told.replayed,
-        found: told.found,
-        undecided: count_undecided(told.lines.as_slice()),
+        replayed: found.replayed,
+        found: found.found,
+        undecided: count_undecided(found.lines.as_slice()),
     })
 }
 

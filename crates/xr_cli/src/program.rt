@@ -1,26 +1,28 @@
 //! The program as one call.
 
-ghost use Rattle.std.specs.Prelude.{◌≡◌, ◌≤◌, IsTrue};
-ghost use Rattle.xr_shelf.specs.Calls.{Gained};
-ghost use Rattle.xr_cli.specs.Refusal.{line, memory_text};
-ghost use Rattle.xr_cli.specs.Rows.{Row, start_of};
-ghost use Rattle.xr_cli.specs.Ends.{Comes, LinePrinted, Ran};
+ghost use Rattle.std.specs.Prelude.{◌≡◌, ◌≤◌, List, ℕ};
+ghost use Rattle.xr_run.specs.Ends.{Comes, RanWords};
+ghost use Rattle.xr_run.specs.Rows.{start_of, start_with};
+ghost use Rattle.xr_words.specs.Words.{Means, OfRepair, repair_values, values_of};
+ghost use Rattle.xr_cli.specs.Commands.{commands};
+ghost use Rattle.xr_cli.specs.Ends.{AreRepaired, Done, RefusesTexts};
 
-use crate::commands::repair::run_repair;
-use crate::line::line_of;
-use crate::refusal::Refusal;
+use crate::commands::repair::Repair;
 use std::alloc::Global;
-use xr_cli_words::read_words;
-use xr_shelf::{Shelf, Sink, WriteErr, print_all};
-
-/// The exit status of want of memory.
-const MEMORY: u8 = 20;
+use xr_run::{refuse_memory, refuse_words, run_command};
+use xr_shelf::{Shelf, Sink};
+use xr_words::{Command, RepairWords, read_words};
 
 /// Runs the words on the shelf, prints to the sink, and answers the exit status.
-///
-/// No file is in hand at the end, but after want of memory and where a text is too long.
 pub fn run<S: Shelf, O: Sink>(alloc: Global, words: &[String], shelf: &mut S, out: &mut O) -> u8
-    ensures { Comes (start_of words.now S.told O.told (S.view shelf.old) (O.view out.old))
+    ensures comes { Comes commands (start_of words.now S.told O.told (S.view shelf.old) (O.view out.old))
+        (S.view shelf.new) (O.view out.new) result }
+    ensures done { result ≡ 0 → Done (start_of words.now S.told O.told (S.view shelf.old) (O.view out.old))
+        (S.view shelf.new) (O.view out.new) }
+    ensures refused { 5 ≤ result → result ≤ 19
+        → RefusesTexts (start_of words.now S.told O.told (S.view shelf.old) (O.view out.old))
+        (S.view shelf.new) (O.view out.new) result }
+    ensures complete { AreRepaired (start_of words.now S.told O.told (S.view shelf.old) (O.view out.old))
         (S.view shelf.new) (O.view out.new) result }
 {
     ended(alloc, words, shelf, out)
@@ -28,50 +30,36 @@ pub fn run<S: Shelf, O: Sink>(alloc: Global, words: &[String], shelf: &mut S, ou
 
 /// The run, by its row.
 fn ended<S: Shelf, O: Sink>(alloc: Global, words: &[String], shelf: &mut S, out: &mut O) -> u8
-    ensures { Ran (start_of words.now S.told O.told (S.view shelf.old) (O.view out.old))
+    ensures { RanWords commands (start_of words.now S.told O.told (S.view shelf.old) (O.view out.old))
         (S.view shelf.new) (O.view out.new) result }
 {
-    match answer(alloc, words, shelf, out) {
-        Ok(()) => 0,
-        Err(refusal) => refuse(alloc, refusal, out),
+    match read_words(alloc, words) {
+        Ok(Some(command)) => run_words(alloc, command, shelf, out),
+        Ok(None) => refuse_words(out),
+        Err(_) => refuse_memory(out),
     }
 }
 
-/// Reads the words, and runs their command.
-fn answer<S: Shelf, O: Sink>(
+/// Runs a line of the set.
+fn run_words<S: Shelf, O: Sink>(
     alloc: Global,
-    words: &[String],
+    command: Command<'_>,
     shelf: &mut S,
     out: &mut O,
-) -> Result<(), Refusal>
-    ensures { Row (start_of words.now S.told O.told (S.view shelf.old) (O.view out.old))
+) -> u8
+    ensures { (line : List (List ℕ)) → Means line (values_of command.entry)
+        → RanWords commands (start_with line S.told O.told (S.view shelf.old) (O.view out.old))
         (S.view shelf.new) (O.view out.new) result }
 {
-    let Some(words) = read_words(words) else {
-        return Err(Refusal::Usage);
-    };
-    run_repair(alloc, words, shelf, out)
+    let words = words_of(command);
+    run_command(alloc, &Repair { words }, shelf, out)
 }
 
-/// Prints the line of a refusal, and answers its status. A fault of the sink doesn't change it.
-fn refuse<O: Sink>(alloc: Global, refusal: Refusal, out: &mut O) -> u8
-    ensures { LinePrinted O.told refusal (O.view out.old) (O.view out.new) result }
+/// The words of the command.
+fn words_of<'a>(command: Command<'a>) -> RepairWords<'a>
+    ensures { values_of command.entry ≡ OfRepair (repair_values result) }
 {
-    let Ok(text) = line_of(alloc, &refusal) else {
-        return refuse_for_memory(out);
-    };
-    match print_all(out, text.as_slice()) {
-        Err(WriteErr::Memory) => MEMORY,
-        _ => refusal.status(),
+    match command {
+        Command::Repair(words) => words,
     }
-}
-
-/// Prints the line of want of memory, and answers its status.
-fn refuse_for_memory<O: Sink>(out: &mut O) -> u8
-    ensures status { result ≡ 20 }
-    ensures later { (O.view out.old).faults ≤ (O.view out.new).faults }
-    ensures gained { IsTrue O.told → Gained (line memory_text) (O.view out.old) (O.view out.new) }
-{
-    let _ = print_all(out, b"refused: memory\n");
-    MEMORY
 }

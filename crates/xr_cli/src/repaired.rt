@@ -1,56 +1,75 @@
 //! The repair of a job, and its texts.
 
-ghost use Rattle.std.specs.Prelude.{◌≡◌, ◌<◌, IfErr, IfOk};
+ghost use Rattle.std.specs.Prelude.{◌≡◌, IfErr, IfOk};
 ghost use Rattle.xr_design.specs.Handed.{IsReplay};
 ghost use Rattle.xr_job.specs.Compared.{job_in};
-ghost use Rattle.xr_cli.specs.Repair.{AreTexts, FitsJob, IsMade, IsRepairedBy, IsWaveOf, JobRefused, WalkRefused};
+ghost use Rattle.xr_out.specs.Text as out;
+ghost use Rattle.xr_report.specs.Bits as report;
+ghost use Rattle.xr_wave.specs.Contents.{IsLimit};
+ghost use Rattle.xr_wave.specs.Shown.{ShowsWave};
+ghost use Rattle.xr_run.specs.Prepared.{IsJudgedBy, PreparedAlone, answer_of};
+ghost use Rattle.xr_words.specs.Words.{repair_values};
+ghost use Rattle.xr_cli.specs.Phases.{HasTexts, repaired_phases, walk_cause, walk_phases};
+ghost use Rattle.xr_cli.specs.Repair.{FitsJob, IsRepairedBy, IsWaveOf, WalkComes};
 
-use crate::job::Job;
+use crate::cause::Refused;
+use crate::judged::compared;
 use crate::objection::objection_of;
-use crate::refusal::Refusal;
 use std::alloc::Global;
 use xr_base::Memory;
 use xr_design::History;
-use xr_job::{Netlist, Recorded, replay_and_compare};
+use xr_job::{Netlist, Recorded};
 use xr_out::vcd_text;
 use xr_repair::{RepairErr, repair};
 use xr_report::bit_lines;
+use xr_run::{Output, Ready, Refusal, Report};
 use xr_wave::Wave;
+use xr_words::RepairWords;
 
-/// The texts of a repair.
-#[derive(Debug, Drop)]
-pub struct Texts {
-    /// The repaired recording.
-    pub vcd: Vec<u8>,
-    /// What is printed.
-    pub report: Vec<u8>,
+/// What the words ask of a job.
+pub fn repaired<'a>(
+    alloc: Global,
+    words: &RepairWords<'a>,
+    netlist: &Netlist,
+    recorded: &Recorded,
+) -> Result<Ready<'a>, Refusal<Refused>>
+    requires fits { FitsJob netlist.now recorded.now }
+    ensures { PreparedAlone (repaired_phases (repair_values words.now) netlist.now recorded.now) answer_of result }
+{
+    let history = compared(alloc, netlist, recorded)?;
+    walked(alloc, words, netlist, recorded, &history)
 }
 
-/// The texts of the repair of a job, with so many clauses a search.
-pub fn repaired_texts(alloc: Global, job: &Job, conflicts: u32) -> Result<Texts, Refusal>
-    requires fits { FitsJob job.now.netlist job.now.recorded }
-    requires conflicts { 0 < conflicts }
-    ensures made { IfOk result (λ t. IsMade conflicts job.now.netlist job.now.recorded t.vcd.items t.report.items) }
-    ensures refused { IfErr result (JobRefused conflicts job.now.netlist job.now.recorded) }
+/// The walk over the places of a job that agrees, and its texts.
+fn walked<'a>(
+    alloc: Global,
+    words: &RepairWords<'a>,
+    netlist: &Netlist,
+    recorded: &Recorded,
+    history: &History,
+) -> Result<Ready<'a>, Refusal<Refused>>
+    requires fits { FitsJob netlist.now recorded.now }
+    requires replay { IsReplay (job_in netlist.now recorded.now) history.now }
+    ensures { PreparedAlone (walk_phases (repair_values words.now) netlist.now recorded.now) answer_of result }
 {
-    let history = replay_and_compare(alloc, &job.netlist, &job.recorded)?;
-    let wave = repaired(alloc, &job.netlist, &job.recorded, &history, conflicts)?;
-    Ok(texts_of(alloc, job, &wave)?)
+    let wave = wave_of(alloc, netlist, recorded, history, words.conflicts)?;
+    let shown = wave.history(alloc)?;
+    Ok(texts_of(alloc, words, netlist, recorded, &wave, &shown)?)
 }
 
 /// The finished wave of a job.
-fn repaired<'a>(
+fn wave_of<'b>(
     alloc: Global,
-    netlist: &'a Netlist,
-    recorded: &'a Recorded,
-    history: &'a History,
+    netlist: &'b Netlist,
+    recorded: &'b Recorded,
+    history: &'b History,
     conflicts: u32,
-) -> Result<Wave<'a>, Refusal>
+) -> Result<Wave<'b>, Refusal<Refused>>
     requires fits { FitsJob netlist.now recorded.now }
     requires replay { IsReplay (job_in netlist.now recorded.now) history.now }
-    requires conflicts { 0 < conflicts }
+    requires conflicts { IsLimit conflicts }
     ensures repaired { IfOk result (IsRepairedBy conflicts netlist.now recorded.now history.now) }
-    ensures refused { IfErr result (WalkRefused conflicts netlist.now recorded.now history.now) }
+    ensures refused { IfErr result (IsJudgedBy (WalkComes conflicts netlist.now recorded.now) walk_cause) }
 {
     match repair(
         alloc,
@@ -61,27 +80,38 @@ fn repaired<'a>(
         conflicts,
     ) {
         Ok(wave) => Ok(wave),
-        Err(RepairErr::Optimistic(told)) => Err(Refusal::Optimistic {
-            objection: objection_of(alloc, netlist, recorded, &told)?,
+        Err(RepairErr::Optimistic(found)) => Err(Refusal::Text {
+            cause: Refused::Optimistic(objection_of(alloc, netlist, recorded, &found)?),
         }),
         Err(RepairErr::Memory) => Err(Refusal::Memory),
     }
 }
 
 /// The texts of a finished wave of a job.
-fn texts_of(alloc: Global, job: &Job, wave: &Wave<'_>) -> Result<Texts, Memory>
-    requires fits { FitsJob job.now.netlist job.now.recorded }
-    requires wave { IsWaveOf job.now.netlist job.now.recorded wave.now }
-    ensures { IfOk result (λ t. AreTexts job.now.netlist job.now.recorded wave.now t.vcd.items t.report.items) }
+fn texts_of<'a>(
+    alloc: Global,
+    words: &RepairWords<'a>,
+    netlist: &Netlist,
+    recorded: &Recorded,
+    wave: &Wave<'_>,
+    shown: &History,
+) -> Result<Ready<'a>, Memory>
+    requires fits { FitsJob netlist.now recorded.now }
+    requires wave { IsWaveOf netlist.now recorded.now wave.now }
+    requires shows { ShowsWave wave.now shown.now }
+    ensures { IfOk result (λ ready.
+        HasTexts (repair_values words.now) netlist.now recorded.now wave.now (answer_of ready)) }
 {
-    let shown = wave.history(alloc)?;
     let vcd = vcd_text(
         alloc,
-        &job.netlist.design,
-        &job.recorded.binding,
-        &job.recorded.stim,
-        &shown,
+        &netlist.design,
+        &recorded.binding,
+        &recorded.stim,
+        shown,
     )?;
-    let report = bit_lines(alloc, wave, &job.recorded.binding)?;
-    Ok(Texts { vcd, report })
+    let report = Report::new(alloc, bit_lines(alloc, wave, &recorded.binding)?)?;
+    let output = Output::new(alloc, words.vcd, vcd)?;
+    let mut outputs = Vec::new(alloc);
+    outputs.push(output)?;
+    Ok(Ready { outputs, report })
 }

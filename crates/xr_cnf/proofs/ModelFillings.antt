@@ -9,7 +9,7 @@ use Rattle.xr_design.specs.Fits.{place_at}
 use Rattle.xr_design.specs.Order.{position_of}
 use Rattle.xr_design.specs.Waveform.{certain}
 use Rattle.xr_model.specs.Class.{class_of, flipped}
-use Rattle.xr_model.specs.Cone.{denied_value, in_cone, is_born, is_carried, is_source, source_filling}
+use Rattle.xr_model.specs.Cone.{denied_value, in_cone, reads_filling, is_carried, is_source, source_filling}
 use Rattle.xr_model.specs.Line.{GivesBoth}
 use Rattle.xr_model.specs.Query.{valuation_of, variables}
 use Rattle.xr_model.specs.Root.{Root}
@@ -46,7 +46,7 @@ module _ (c : Contents) (root : ℕ) (nodes : List Node) (is : IsConeOf c root n
   valued = valuation_of (job c) (certain c.written) root model
 
   abbrev chosen : ℕ → Bool
-  chosen place = is_born (job c) (certain c.written) place && valued place
+  chosen place = reads_filling (job c) (certain c.written) place && valued place
 
   own_value : (p : ℕ) → p < length nodes
       → is_carried (class_of (job c) (certain c.written) (slice_index (cone_in c root) p)) ≡ false
@@ -57,7 +57,7 @@ module _ (c : Contents) (root : ℕ) (nodes : List Node) (is : IsConeOf c root n
       ∙ ap model (variable_number c root nodes is p less free)
 
   either_way : (p : ℕ) → p < length nodes → (b : Bool)
-      → is_born (job c) (certain c.written) (slice_index (cone_in c root) p) ≡ b
+      → reads_filling (job c) (certain c.written) (slice_index (cone_in c root) p) ≡ b
       → (b && model (variables_of (take p nodes))) ≡ (b && valued (slice_index (cone_in c root) p))
   either_way p less false born = refl
   either_way p less true born = sym (own_value p less (not-true _ (and_parts _ _ born).0))
@@ -66,7 +66,7 @@ module _ (c : Contents) (root : ℕ) (nodes : List Node) (is : IsConeOf c root n
   picked_at p less =
       let born = node_born c root nodes is p less in
       ap (λ b. b && model (variables_of (take p nodes))) born
-      ∙ either_way p less (is_born (job c) (certain c.written) (slice_index (cone_in c root) p)) refl
+      ∙ either_way p less (reads_filling (job c) (certain c.written) (slice_index (cone_in c root) p)) refl
 
   prefix : (n : ℕ) → n ≤ length nodes
       → picked_places nodes model n ≡ map (place_at (job c)) (filter chosen (take n (cone_in c root)))
@@ -115,7 +115,7 @@ module _ (c : Contents) (root : ℕ) (nodes : List Node) (is : IsConeOf c root n
       (picked_same (λ p. in_cone (job c) (certain c.written) root p && chosen p)
       (λ p. is_source (job c) (certain c.written) root p && valued p) (root + 1)
       (λ p less. sym (and_assoc (in_cone (job c) (certain c.written) root p)
-      (is_born (job c) (certain c.written) p) (valued p))))
+      (reads_filling (job c) (certain c.written) p) (valued p))))
 
 -- The places that are picked are the filling, whichever place of a wave the nodes are the cone of,
 pub picked_filling : (nodes : List Node) (values : List Bool) (filling : List Place)
@@ -131,7 +131,7 @@ picked_pair nodes values filling same c root is has =
     (pair_of [] f)))
     (sym (picked_filling nodes values filling same c root is))
     (model_pair (job c) (fits c root nodes is) c.written root (assigned values) is.reach.within (seen c root nodes is)
-    (λ clause of. All-contains (IsMet (assigned values)) has.query clause has.is_model.met
+    (λ clause of. All-contains (IsMet (assigned values)) has.query.clauses clause has.is_model.met
     (has.is_query.all clause of))))
 
 -- One node after another.

@@ -1,25 +1,27 @@
 -- What is shown of the next place by the answers of a search on its query.
 use Rattle.std.proofs.Common.{◌≡◌, ◌<◌, List, length, sym, ap, ◌∙◌, subst}
 use Rattle.std.specs.Prelude.{ℤ}
+use Rattle.std.specs.List.{All}
 use Rattle.std.proofs.lemmas.List.{length-map}
 use Rattle.xr_design.specs.Fits.{place_at}
+use Rattle.xr_proof.specs.Assignment.{HasNoZero}
 use Rattle.xr_model.specs.declared.line.Body.TheVariants.{Refuted, Undecided}
 use Rattle.xr_cone_nodes.specs.declared.node.Node.{Node}
 use Rattle.xr_cone_nodes.specs.Nodes.{nothing, root_bit, sources_of}
-use Rattle.xr_cone_nodes.specs.Traced.{sources_in}
+use Rattle.xr_cone_nodes.specs.Traced.{IsNextCone, sources_in}
 use Rattle.xr_cone_nodes.proofs.ConeLaws.{base_law, sources_law}
 use Rattle.xr_wave.specs.Contents.{Contents, job, next_number}
 use Rattle.xr_wave.specs.Token.{HoldsNext}
-use Rattle.xr_cnf.specs.Answers.{IsNextCone, IsFreshNext, RefutesNext}
+use Rattle.xr_cnf.specs.Answers.{IsFreshNext, RefutesNext}
 
 -- A log that refutes the query shows the bit that the query denies.
 pub refuted_next : (c : Contents) (nodes : List Node) (log : List (List ℤ)) → IsNextCone c nodes → RefutesNext c log
-    → HoldsNext c (Refuted (root_bit nothing nodes) log)
-refuted_next c nodes log is refutes = record {
+    → All HasNoZero log → HoldsNext c (Refuted (root_bit nothing nodes) log)
+refuted_next c nodes log is refutes no_zero = record {
   denied = sym (base_law c (next_number c) nodes is);
   query = refutes.query;
   is_query = refutes.is_query;
-  literals = refutes.literals;
+  literals = no_zero;
   refutes = refutes.refutes;
 }
 

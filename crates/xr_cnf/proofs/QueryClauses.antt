@@ -1,11 +1,11 @@
 -- The clauses over the nodes of a cone are those of its query.
-use Rattle.std.proofs.Common.{◌≡◌, ℕ, zero, suc, ◌+◌, ◌-◌, ◌<◌, ◌&&◌, not, Bool, true, false, List, [], ◌∷◌, ◌++◌, length, map, refl, sym, ap, ◌∙◌, arith, add-one, subst, inl, inr, ⊎_elim, Contains, slice_index, length-append}
+use Rattle.std.proofs.Common.{◌≡◌, ◌≢◌, ℕ, zero, suc, ◌+◌, ◌-◌, ◌<◌, ◌&&◌, not, Bool, true, false, List, [], ◌∷◌, ◌++◌, length, map, refl, sym, ap, ◌∙◌, arith, add-one, subst, inl, inr, ⊎_elim, Contains, slice_index, length-append}
 use Rattle.std.specs.Prelude.{ℤ}
 use Rattle.std.proofs.Math.ListN.{get_or-append}
 use Rattle.std.proofs.Math.Seq.{get_or-append_seam}
 use Rattle.std.proofs.lemmas.Bool.{and_from, and_parts}
 use Rattle.std.proofs.lemmas.List.{length-map}
-use Rattle.std.specs.List.{AllByRecursion}
+use Rattle.std.specs.List.{AllByRecursion, AllPairs}
 use Rattle.std.specs.List.Sorted.{IsStrictlyIncreasing}
 use Rattle.xr_cell.specs.declared.value.Value.{Value}
 use Rattle.xr_design.specs.Job.{Job}
@@ -15,11 +15,12 @@ use Rattle.xr_model.specs.Class.{class_of}
 use Rattle.xr_model.specs.Cone.{essentials, in_cone, is_carried, is_essential, table}
 use Rattle.xr_model.specs.Node.{IsBody, IsRuled, NodeBody, carried, ruled, table_of, upto}
 use Rattle.xr_model.specs.Places.{among, places_where}
-use Rattle.xr_model.specs.Query.{IsChoice, IsClause, IsConeClause, IsQuery, denial, literal}
+use Rattle.xr_model.specs.Query.{IsChoice, IsClause, IsConeClause, IsQuery, denial, literal, variables}
 use Rattle.xr_model.proofs.ArgumentPositions.{Matches, choice_matched}
 use Rattle.xr_model.proofs.Cones.{cone_self, cone_within}
 use Rattle.xr_model.proofs.ConeModels.{found_at, found_within}
 use Rattle.xr_model.proofs.PlacesWhere.{contains_among, in_picked, picked_in, picked_rises}
+use Rattle.xr_proof.specs.declared.clause.Cnf.{Cnf}
 use Rattle.xr_wave.specs.Contents.{Contents, job}
 use Rattle.xr_cone_nodes.specs.declared.node.Node.{Node}
 use Rattle.xr_cone_nodes.specs.Nodes.{body_at, nothing, root_bit}
@@ -255,13 +256,16 @@ module _ (c : Contents) (root : ℕ) (nodes : List Node) (is : IsConeOf c root n
       ∙ ap (λ b. literal (job c) (certain c.written) root root (not b) ∷ []) (base_law c root nodes is)
 
   -- So the clauses of the nodes with the denial are the query.
-  pub query_of_nodes : (query : List (List ℤ)) → AreQueryClauses nodes literals (root_bit nothing nodes) query
+  pub query_of_nodes : (query : Cnf) → AreQueryClauses nodes literals (root_bit nothing nodes) query.clauses
+      → query.vars ≡ length (variables (job c) (certain c.written) root) → AllPairs (λ a b. a ≢ b) query.clauses
       → IsQuery (job c) (certain c.written) root query
-  query_of_nodes query of = record {
+  query_of_nodes query of vars once = record {
+    vars = vars;
     each = λ clause at. ⊎_elim (λ (node : IsNodeClause nodes literals clause). inl (node_cone clause node))
         (λ (e : clause ≡ denial_of literals (root_bit nothing nodes)). inr (e ∙ denial_same)) (of.each clause at);
     all = λ clause is_query. ⊎_elim
         (λ (cone : IsConeClause (job c) (certain c.written) root clause). of.of_nodes clause (cone_node clause cone))
         (λ (e : clause ≡ denial (job c) (certain c.written) root).
-        subst (Contains query) (denial_same ∙ sym e) of.denial) is_query;
+        subst (Contains query.clauses) (denial_same ∙ sym e) of.denial) is_query;
+    once = once;
   }

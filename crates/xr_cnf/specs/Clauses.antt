@@ -1,13 +1,15 @@
 -- Clauses over nodes: those of the minimal choices of their tables.
-use Rattle.std.specs.Prelude.{◌≡◌, ℕ, ◌-◌, ◌<◌, ◌⊎◌, Bool, List, [], ◌∷◌, ◌++◌, length, not, slice_index, ℤ, Contains}
+use Rattle.std.specs.Prelude.{◌≡◌, ◌≢◌, ℕ, ◌-◌, ◌<◌, ◌⊎◌, Bool, List, [], ◌∷◌, ◌++◌, length, not, slice_index, ℤ, Contains}
+use Rattle.std.specs.List.{AllPairs}
 use Rattle.xr_cell.specs.declared.value.Value.{Value}
 use Rattle.xr_model.specs.Node.{ruled, table_of, upto}
 use Rattle.xr_model.specs.Query.{IsChoice, IsClause}
+use Rattle.xr_proof.specs.Log.{Fit}
 use Rattle.xr_cone_nodes.specs.declared.node.Node.{Node}
 use Rattle.xr_cone_nodes.specs.declared.node.NodeBody.{NodeBody as Body}
 use Rattle.xr_cone_nodes.specs.declared.node.NodeBody.TheVariants.{Carried, Rule}
 use Rattle.xr_cone_nodes.specs.Nodes.{body_at}
-use Rattle.xr_cnf.specs.Literals.{literal_at, says}
+use Rattle.xr_cnf.specs.Literals.{literal_at, says, variables_of}
 
 -- What is said of the arguments of a node, by their numbers, and of the node itself, by the number behind them.
 abbrev pub node_says : List ℤ → List ℕ → ℕ → ℕ → Bool → ℤ
@@ -47,3 +49,9 @@ pub record AreQueryClauses (nodes : List Node) (literals : List ℤ) (base : Boo
       → IsNodeClause nodes literals clause ⊎ (clause ≡ denial_of literals base)
   pub of_nodes : (clause : List ℤ) → IsNodeClause nodes literals clause → Contains query clause
   pub denial : Contains query (denial_of literals base)
+
+-- Lists are these clauses, each once, and no variable of them is over the number of the nodes' variables.
+pub record AreMade (nodes : List Node) (literals : List ℤ) (base : Bool) (clauses : List (List ℤ)) : Type 0 where
+  pub of_query : AreQueryClauses nodes literals base clauses
+  pub once : AllPairs (λ a b. a ≢ b) clauses
+  pub fit : Fit (variables_of nodes) clauses

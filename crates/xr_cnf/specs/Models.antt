@@ -1,5 +1,5 @@
 -- The fillings of models of a query.
-use Rattle.std.specs.Prelude.{◌≡◌, ℕ, zero, suc, ◌&&◌, Bool, List, [], ◌∷◌, ◌++◌, take, ℤ, if◌then◌else◌}
+use Rattle.std.specs.Prelude.{◌≡◌, ℕ, zero, suc, ◌&&◌, Bool, List, [], ◌∷◌, ◌++◌, take, if◌then◌else◌}
 use Rattle.xr_design.specs.declared.place.Place.{Place}
 use Rattle.xr_design.specs.Waveform.{certain}
 use Rattle.xr_model.specs.Cone.{source_filling}
@@ -7,12 +7,13 @@ use Rattle.xr_model.specs.Line.{GivesBoth}
 use Rattle.xr_model.specs.Query.{valuation_of}
 use Rattle.xr_model.specs.Stated.{pair_of, swapped}
 use Rattle.xr_proof.specs.Assignment.{IsModel, assigned}
+use Rattle.xr_proof.specs.declared.clause.Cnf.{Cnf}
 use Rattle.xr_cone_nodes.specs.declared.node.Node.{Node}
 use Rattle.xr_cone_nodes.specs.Nodes.{is_source_node, node_at, nothing, root_bit}
 use Rattle.xr_cone_nodes.specs.Traced.{IsConeOf}
 use Rattle.xr_wave.specs.Contents.{Contents, job}
-use Rattle.xr_cnf.specs.Answers.{IsQueryAt}
 use Rattle.xr_cnf.specs.Literals.{variables_of}
+use Rattle.xr_cnf.specs.Query.{IsQueryOf}
 
 -- A model picks a node that is a source and whose variable it gives 1.
 abbrev pub is_picked : List Node → (ℕ → Bool) → ℕ → Bool
@@ -33,12 +34,11 @@ IsModelFilling nodes values filling = (c : Contents) (root : ℕ) → IsConeOf c
     → filling ≡ source_filling (job c) (certain c.written) root
     (valuation_of (job c) (certain c.written) root (assigned values))
 
--- Values are a model of a list that is the query of a place.
+-- Values are a model of the query of a place.
 pub record HasModel (c : Contents) (root : ℕ) (values : List Bool) : Type 0 where
-  pub vars : ℕ
-  pub query : List (List ℤ)
-  pub is_query : IsQueryAt c root query
-  pub is_model : IsModel vars query values
+  pub query : Cnf
+  pub is_query : IsQueryOf c root query
+  pub is_model : IsModel query.vars query.clauses values
 
 -- Then the empty filling and that one give the place both bits.
 abbrev pub GivesPair : List Node → List Bool → List Place → Type 0

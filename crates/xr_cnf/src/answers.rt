@@ -1,9 +1,13 @@
 //! What the answers of a search on the query of a cone are worth.
 
 ghost use Rattle.std.specs.Prelude.{◌≡◌, ◌<◌, length};
+ghost use Rattle.std.specs.List.{All};
+ghost use Rattle.xr_proof.specs.Assignment.{HasNoZero};
 ghost use Rattle.xr_cone_nodes.specs.Nodes.{nothing, root_bit, sources_of};
 ghost use Rattle.xr_wave.specs.Token.{LineHolds, bit_of, budget_line, settled_line};
-ghost use Rattle.xr_cnf.specs.Answers.{IsFreshNext, IsNextCone, RefutesNext};
+ghost use Rattle.xr_wave.specs.declared.token.How.TheVariants.{Refuted as RefutedHow};
+ghost use Rattle.xr_cnf.specs.Answers.{IsFreshNext, RefutesNext};
+ghost use Rattle.xr_cone_nodes.specs.Traced.{IsNextCone};
 
 use xr_cone_nodes::Cone;
 use xr_proof::{Exhausted, Refuted};
@@ -15,7 +19,9 @@ pub fn conclude(wave: &Wave<'_>, cone: &Cone, proof: Refuted) -> Settled
     requires cone { IsNextCone wave.now cone.now.nodes }
     requires refutes { RefutesNext wave.now proof }
     ensures holds { LineHolds wave.now (settled_line result) }
+    ensures how { result.how ≡ RefutedHow (root_bit nothing cone.now.nodes) proof }
     ensures bit { bit_of result.how ≡ root_bit nothing cone.now.nodes }
+    ensures no_zero { All HasNoZero proof }
 {
     Settled::from_law(wave, How::Refuted(cone.base(), proof.into_log()))
 }
@@ -27,7 +33,9 @@ pub fn give_up(wave: &Wave<'_>, cone: &Cone, proof: Exhausted) -> Budget
     requires many { 12 < length (sources_of cone.now.nodes) }
     requires fresh { IsFreshNext wave.now proof }
     requires long { length proof ≡ wave.now.limit }
-    ensures { LineHolds wave.now (budget_line result) }
+    ensures log { result.log ≡ proof }
+    ensures no_zero { All HasNoZero proof }
+    ensures holds { LineHolds wave.now (budget_line result) }
 {
     Budget::from_law(wave, proof.into_log())
 }

@@ -53,7 +53,7 @@ fn literal_of(literals: &[i32], variables: u32, body: &NodeBody) -> i32
     }
 }
 
-/// How many variables there are behind a node, from how many there are before it.
+/// How many variables there are after a node, from how many there are before it.
 pub fn variables_with(variables: u32, body: &NodeBody) -> u32
     requires { variables < 2 ^ 27 }
     ensures { result ≡ variables_with variables body.now }

@@ -1,12 +1,12 @@
 //! The query of a cone.
 
-ghost use Rattle.std.specs.Prelude.{◌≡◌, ◌^◌, ◌<◌, ◌∷◌, ◌++◌, [], IfOk, OnOk, length};
+ghost use Rattle.std.specs.Prelude.{◌≡◌, ◌^◌, ◌<◌, ◌≤◌, ◌∷◌, ◌++◌, [], IfOk, OnOk, length};
 ghost use Rattle.std.specs.List.{All};
 ghost use Rattle.xr_cone_nodes.specs.Nodes.{AreNodes, StandsAt};
-ghost use Rattle.xr_cnf.specs.Clauses.{IsBodyClause, IsNodeClause, denial_of};
+ghost use Rattle.xr_cnf.specs.Clauses.{AreMade, IsBodyClause, IsNodeClause, denial_of};
 ghost use Rattle.xr_cnf.specs.Growth.{IsGrown};
 ghost use Rattle.xr_cnf.specs.Literals.{AreLiterals, IsLiteral};
-ghost use Rattle.xr_cnf.specs.Query.{IsQueryOfNodes, IsSmall};
+ghost use Rattle.xr_cnf.specs.Query.{IsQueryOfNodes};
 
 use crate::lists::Lists;
 use crate::literals::{literals_of, turned, variables_of};
@@ -14,24 +14,39 @@ use crate::tables::{Table, add_table};
 use std::alloc::Global;
 use xr_base::{Items, Memory};
 use xr_cone_nodes::{Cone, Node, NodeBody};
-use xr_proof::Cnf;
+use xr_proof::{Clause, Cnf};
 
 /// The query of a cone: the clauses of all minimal choices of its tables, and the denial of its base, each once. Takes
 /// four bytes a node, and for each clause about 50 and four a literal, in steps that double.
 pub fn clauses(alloc: Global, cone: &Cone) -> Result<Cnf, Memory>
     ensures query { IfOk result (λ cnf. IsQueryOfNodes cone.now.nodes cnf) }
-    ensures fits { IfOk result (λ cnf. IsSmall cnf) }
+    ensures few { IfOk result (λ cnf. cnf.vars ≤ 2 ^ 27) }
 {
     let nodes = cone.nodes();
     let literals = literals_of(alloc, nodes)?;
-    let mut lists = Lists::new(alloc);
-    add_nodes(alloc, &mut lists, nodes, &literals)?;
-    add_denial(alloc, &mut lists, &literals, cone.base())?;
-    let clauses = lists.into_clauses(alloc)?;
+    let clauses = clauses_over(alloc, nodes, &literals, cone.base())?;
     Ok(Cnf {
         vars: variables_of(nodes) as u32,
         clauses: Items::from_vec(clauses),
     })
+}
+
+/// The clauses over the literals of nodes, each once.
+fn clauses_over(
+    alloc: Global,
+    nodes: &[Node],
+    literals: &[i32],
+    base: bool,
+) -> Result<Vec<Clause>, Memory>
+    requires nodes { AreNodes nodes.now }
+    requires literals { AreLiterals nodes.now literals.now }
+    ensures { IfOk result (λ clauses. AreMade nodes.now literals.now base clauses.items) }
+{
+    let mut lists = Lists::new(alloc);
+    add_nodes(alloc, &mut lists, nodes, literals)?;
+    add_denial(alloc, &mut lists, literals, base)?;
+    let clauses = lists.into_clauses(alloc)?;
+    Ok(clauses)
 }
 
 /// Adds the clauses of all nodes.

@@ -1,13 +1,15 @@
--- The certain boundary of a cone, from what its nodes read.
-use Rattle.std.proofs.Common.{◌≡◌, ℕ, ◌+◌, ◌<◌, ◌≤◌, ◌==◌, ◌&&◌, ◌||◌, Bool, true, false, not, List, [], ◌∷◌, ◌++◌, length, map, reverse, slice_index, take, refl, sym, ap, ◌∙◌, subst, arith, ⊎_elim, append_assoc}
+-- The boundary of a cone, from what its nodes read.
+use Rattle.std.proofs.Common.{◌≡◌, ℕ, ◌+◌, ◌<◌, ◌≤◌, ◌==◌, ◌&&◌, ◌||◌, Bool, true, false, not, List, [], ◌∷◌, ◌++◌, filter, if◌then◌else◌, Result, Ok, Err, IfOk, Global, Vec, length, map, reverse, slice_index, take, refl, sym, ap, ◌∙◌, subst, arith, ⊎_elim, append-nil, append_assoc}
 use Rattle.std.specs.List.{AllByRecursion, list_any}
 use Rattle.std.specs.List.Sorted.{IsStrictlyIncreasing}
 use Rattle.std.proofs.Math.Seq.{take-length}
 use Rattle.std.proofs.lemmas.Bool.{and_parts, eq-eqb, eqb-true, or_cases}
 use Rattle.std.proofs.lemmas.List.{length-map, reverse-append, take_more}
+use Rattle.std.proofs.lemmas.List.Elements.{filter-append}
 use Rattle.std.proofs.lemmas.List.Folds.{list_any-append}
 use Rattle.std.proofs.lemmas.Map.Views.{any-filter_same}
-use Rattle.xr_cell.specs.declared.value.Value.{Value}
+use Rattle.xr_base.specs.declared.memory.Memory.{Memory}
+use Rattle.xr_design.specs.declared.place.Place.{Place}
 use Rattle.xr_design.specs.Filling.{IsPlace}
 use Rattle.xr_design.specs.Fits.{Fits, place_at}
 use Rattle.xr_design.specs.Job.{Job, number_of, places_of}
@@ -27,7 +29,7 @@ use Rattle.xr_cone_nodes.specs.declared.node.NodeBody.{NodeBody as Body}
 use Rattle.xr_cone_nodes.specs.declared.node.NodeBody.TheVariants.{Carried, Rule}
 use Rattle.xr_cone_nodes.specs.Nodes.{body_at, body_of, node_at, place_of_node}
 use Rattle.xr_cone_nodes.specs.Traced.{IsConeOf, cone_in}
-use Rattle.xr_cone.specs.Boundary.{IsPlaceIn, boundary_in, is_boundary, is_outside_in, number_in, read_in, reads}
+use Rattle.xr_cone.specs.Boundary.{IsBoundary, IsCertainBoundary, IsFallingBoundary, IsPlaceIn, is_certain_in, boundary_in, is_boundary, is_outside, number_in, read_in, reads}
 use Rattle.xr_cone.specs.InWave.{IsInReach}
 use Rattle.xr_cone.specs.Reached.{AddsAll, AreTaken, IsFalling, TakesGreatest}
 use Rattle.xr_cone.proofs.NumberBits.{index_among}
@@ -102,24 +104,24 @@ module _ (c : Contents) (root : ℕ) (nodes : List Node) (is : IsConeOf c root n
 -- What a node's place reads.
 pub read_among : (c : Contents) (cone places : List ℕ) (body : Body) (place k : ℕ)
     → IsBody (job c) (certain c.written) places place (body_of body)
-    → among (read_in c cone body place) k ≡ is_outside_in c cone k && reads (job c) (certain c.written) k place
+    → among (read_in c cone body place) k ≡ is_outside cone k && reads (job c) (certain c.written) k place
 read_among c cone places (Carried node inverted) place k is =
-    sym (ap (λ class. is_outside_in c cone k
+    sym (ap (λ class. is_outside cone k
     && (not (is_carried class) && among (argument_places (job c) (certain c.written) place) k)) is.class
-    ∙ and_nothing (is_outside_in c cone k))
+    ∙ and_nothing (is_outside cone k))
 read_among c cone places (Rule arguments values) place k is =
-    any-filter_same (λ i. i == k) (is_outside_in c cone) (is_outside_in c cone k)
-    (λ i e. ap (is_outside_in c cone) (eqb-true i k e)) (argument_places (job c) (certain c.written) place)
-    ∙ sym (ap (λ b. is_outside_in c cone k
+    any-filter_same (λ i. i == k) (is_outside cone) (is_outside cone k)
+    (λ i e. ap (is_outside cone) (eqb-true i k e)) (argument_places (job c) (certain c.written) place)
+    ∙ sym (ap (λ b. is_outside cone k
     && (not b && among (argument_places (job c) (certain c.written) place) k)) is.free)
 
 -- What the first places of a cone read.
 abbrev pub AreRead : Contents → List ℕ → ℕ → List ℕ → Type 0
 AreRead c cone position reached = (k : ℕ)
-    → among reached k ≡ is_outside_in c cone k && list_any (reads (job c) (certain c.written) k) (take position cone)
+    → among reached k ≡ is_outside cone k && list_any (reads (job c) (certain c.written) k) (take position cone)
 
 pub none_read : (c : Contents) (cone reached : List ℕ) → reached ≡ [] → AreRead c cone 0 reached
-none_read c cone reached none k = ap (λ ks. among ks k) none ∙ sym (and_nothing (is_outside_in c cone k))
+none_read c cone reached none k = ap (λ ks. among ks k) none ∙ sym (and_nothing (is_outside cone k))
 
 pub more_read : (c : Contents) (cone places old new : List ℕ) (body : Body) (position : ℕ) → position < length cone
     → IsBody (job c) (certain c.written) places (slice_index cone position) (body_of body)
@@ -127,9 +129,9 @@ pub more_read : (c : Contents) (cone places old new : List ℕ) (body : Body) (p
     → AreRead c cone (position + 1) new
 more_read c cone places old new body position less is so adds k =
     adds k ∙ ap (λ b. b || among old k) (read_among c cone places body (slice_index cone position) k is)
-    ∙ ap (λ b. (is_outside_in c cone k && reads (job c) (certain c.written) k (slice_index cone position)) || b) (so k)
-    ∙ spread (is_outside_in c cone k) (reads (job c) (certain c.written) k (slice_index cone position)) (list_any (reads (job c) (certain c.written) k) (take position cone))
-    ∙ sym (ap (λ b. is_outside_in c cone k && b) (ap (list_any (reads (job c) (certain c.written) k)) (take_more cone position 0 less)
+    ∙ ap (λ b. (is_outside cone k && reads (job c) (certain c.written) k (slice_index cone position)) || b) (so k)
+    ∙ spread (is_outside cone k) (reads (job c) (certain c.written) k (slice_index cone position)) (list_any (reads (job c) (certain c.written) k) (take position cone))
+    ∙ sym (ap (λ b. is_outside cone k && b) (ap (list_any (reads (job c) (certain c.written) k)) (take_more cone position 0 less)
     ∙ list_any-append (reads (job c) (certain c.written) k) (take position cone) (slice_index cone position ∷ [])))
 
 -- Places that are taken, and those that wait.
@@ -185,23 +187,73 @@ module _ (c : Contents) (root : ℕ) (nodes : List Node) (is : IsConeOf c root n
     (read : AreRead c numbers position reached) (taken_are : AreTaken reached taken) where
   members : (k : ℕ) → among taken k ≡ is_boundary (job c) (certain c.written) root k
   members k = taken_are.same k ∙ read k
-      ∙ ap (λ ks. is_outside_in c numbers k && list_any (reads (job c) (certain c.written) k) ks)
+      ∙ ap (λ ks. is_outside numbers k && list_any (reads (job c) (certain c.written) k) ks)
       (ap (λ n. take n numbers) whole ∙ take-length numbers)
-      ∙ ap (λ ks. is_outside_in c ks k && list_any (reads (job c) (certain c.written) k) ks) same
+      ∙ ap (λ ks. is_outside ks k && list_any (reads (job c) (certain c.written) k) ks) same
 
   low : (k : ℕ) → among taken k ≡ true → k < root
   low k at = reader_below c root k (cone_in c root)
       (among_all (λ p. p ≤ root) (cone_in c root) (none_over c root nodes is))
-      (and_parts (is_outside_in c (cone_in c root) k) (list_any (reads (job c) (certain c.written) k) (cone_in c root))
+      (and_parts (is_outside (cone_in c root) k) (list_any (reads (job c) (certain c.written) k) (cone_in c root))
       (sym (members k) ∙ at)).1
 
   pub boundary_is : reverse taken ≡ boundary_in c root
   boundary_is = falling_is root (is_boundary (job c) (certain c.written) root) taken taken_are.falls
       (among_all (λ k. k < root) taken low) (λ k less. members k)
 
+  pub boundary_written : AllByRecursion (λ k. k < length c.written) taken
+  boundary_written = among_all (λ k. k < length c.written) taken (λ k at.
+      (let less = low k at in let top = is.reach.written in omega (arith, less, top)))
+
   pub boundary_within : AllByRecursion (λ k. k < places_of (job c)) taken
   boundary_within = among_all (λ k. k < places_of (job c)) taken (λ k at.
       (let less = low k at in let top = is.reach.within in omega (arith, less, top)))
+
+-- What is taken of what all places of the cone read.
+pub falling : (result : Result (Vec ℕ Global) Memory) (c : Contents) (nodes : List Node) (root : ℕ) → IsConeOf c root nodes
+    → (numbers reached : List ℕ) (position : ℕ) → ((r : ℕ) → IsConeOf c r nodes → numbers ≡ cone_in c r)
+    → position ≡ length numbers → AreRead c numbers position reached → IfOk result (λ taken. AreTaken reached taken.items)
+    → IfOk result (λ taken. IsFallingBoundary c nodes taken.items)
+falling (Ok taken) c nodes root is numbers reached position same whole read taken_are = record {
+  are = λ r of_r. boundary_is c r nodes of_r numbers reached taken.items position (same r of_r) whole read taken_are;
+  written = boundary_written c root nodes is numbers reached taken.items position (same root is) whole read taken_are;
+  within = boundary_within c root nodes is numbers reached taken.items position (same root is) whole read taken_are;
+}
+falling (Err e) c nodes root is numbers reached position same whole read taken_are = tt
+
+-- The certain ones among places are places.
+pub all_filter : (P : ℕ → Type 0) (test : ℕ → Bool) (ks : List ℕ) → AllByRecursion P ks → AllByRecursion P (filter test ks)
+all_filter P test [] all = tt
+all_filter P test (k ∷ ks) all =
+    elim (test k) as (λ b. AllByRecursion P (if b then k ∷ filter test ks else filter test ks))
+    [ true ↦ (all.0, all_filter P test ks all.1) | false ↦ all_filter P test ks all.1 ]
+
+put_if : (b : Bool) (k : ℕ) (ks : List ℕ) → reverse (if b then k ∷ ks else ks) ≡ reverse ks ++ (if b then k ∷ [] else [])
+put_if true k ks = reverse-append (k ∷ []) ks
+put_if false k ks = sym (append-nil (reverse ks))
+
+reverse_filter : (test : ℕ → Bool) (ks : List ℕ) → reverse (filter test ks) ≡ filter test (reverse ks)
+reverse_filter test [] = refl
+reverse_filter test (k ∷ ks) = put_if (test k) k (filter test ks)
+    ∙ ap (λ xs. xs ++ (if test k then k ∷ [] else [])) (reverse_filter test ks)
+    ∙ sym (ap (filter test) (reverse-append (k ∷ []) ks) ∙ filter-append test (reverse ks) (k ∷ []))
+
+-- Places by numbers that fall are the boundary,
+pub boundary_of : (c : Contents) (nodes : List Node) (numbers : List ℕ) (j : Job) (places : List Place)
+    → IsFallingBoundary c nodes numbers → j ≡ job c → places ≡ map (place_at j) (reverse numbers)
+    → IsBoundary c nodes places
+boundary_of c nodes numbers j places are same is root of_root =
+    is ∙ ap (λ (k : Job). map (place_at k) (reverse numbers)) same ∙ ap (map (place_at (job c))) (are.are root of_root)
+
+-- and the certain ones of them its certain places.
+pub certain_boundary_of : (c : Contents) (nodes : List Node) (numbers certain : List ℕ) (j : Job) (places : List Place)
+    → IsFallingBoundary c nodes numbers → certain ≡ filter (is_certain_in c) numbers → j ≡ job c
+    → places ≡ map (place_at j) (reverse certain) → IsCertainBoundary c nodes places
+certain_boundary_of c nodes numbers certain j places are some same is root of_root =
+    is ∙ ap (λ (k : Job). map (place_at k) (reverse certain)) same
+    ∙ ap (λ ks. map (place_at (job c)) (reverse ks)) some
+    ∙ ap (map (place_at (job c))) (reverse_filter (is_certain_in c) numbers)
+    ∙ ap (λ ks. map (place_at (job c)) (filter (is_certain_in c) ks)) (are.are root of_root)
 
 -- The nodes as they are read one by one.
 module _ (c : Contents) (root : ℕ) (nodes : List Node) (is : IsConeOf c root nodes) where
@@ -227,13 +279,6 @@ module _ (c : Contents) (root : ℕ) (nodes : List Node) (is : IsConeOf c root n
       body = subst (λ (n : Node). IsBody (job c) (certain c.written) (cone_in c root) (slice_index numbers position)
           (body_of n.body)) (sym node_is) (subst (λ (ks : List ℕ). IsBody (job c) (certain c.written) (cone_in c root)
           (slice_index ks position) (body_at nodes position)) (sym same) (is.bodies position less))
-
--- What a place reads is written.
-pub arguments_written : (j : Job) (known : ℕ → Value) (place n : ℕ) (places : List ℕ)
-    → places ≡ argument_places j known place → place ≤ n → AllByRecursion (λ k. k < n) places
-arguments_written j known place n places same up =
-    subst (AllByRecursion (λ k. k < n)) (sym same) (among_all (λ k. k < n) (argument_places j known place) (λ k at.
-    (let less = (in_picked (among (arguments j known place)) place k at).0 in omega (arith, less, up))))
 
 pub not_true : (b : Bool) → (b ≡ true → ⊥) → false ≡ b
 not_true true never = absurd (never refl)

@@ -1,5 +1,5 @@
 -- What a place rests on stays as the wave grows, and what is kept of places stays right.
-use Rattle.std.proofs.Common.{◌≡◌, ◌==◌, ◌⊎◌, inl, inr, ⊎_elim, ℕ, zero, suc, ◌<◌, ◌≤◌, refl, Option, None, Some, IfSome, IsSome, if◌then◌else◌, List, [], ◌∷◌, ◌++◌, length, length-append, slice_index_or, slice_set, sym, ap, ◌∙◌, subst, arith}
+use Rattle.std.proofs.Common.{◌≡◌, ◌==◌, inl, inr, ⊎_elim, ℕ, zero, suc, ◌<◌, ◌≤◌, refl, Option, None, Some, IfSome, IsSome, if◌then◌else◌, List, [], ◌∷◌, ◌++◌, append-nil, append_assoc, length, length-append, slice_index_or, slice_set, sym, ap, ◌∙◌, subst, arith}
 use Rattle.std.proofs.lemmas.Bool.{cases_eq, eq-eqb, eqb-true}
 use Rattle.std.proofs.lemmas.Grind.{get_or-set_at}
 use Rattle.std.proofs.lemmas.List.{get_or-set_other}
@@ -19,7 +19,7 @@ use Rattle.xr_model.proofs.ConesBefore.{essentials_local}
 use Rattle.xr_model.proofs.FactsBefore.{certain_grown}
 use Rattle.xr_wave.specs.Contents.{Contents, job}
 use Rattle.xr_cone.specs.InWave.{IsBodyIn}
-use Rattle.xr_cone.specs.Known.{IsKnown, IsRightOf, IsSameKnown, Keeps, TracerView, known_in, known_of, slot_of, told_of}
+use Rattle.xr_cone.specs.Known.{IsKnown, IsRightOf, IsSameKnown, Keeps, TracerView, TracersStay, known_in, known_of, slot_of, body_for}
 use Rattle.xr_cone.specs.Table.{value_on}
 use Rattle.xr_cone.specs.Traced.{IsBodyOf}
 use Rattle.xr_cone.specs.declared.traced.Traced.{Traced}
@@ -65,13 +65,40 @@ known_grows c d tracer v fits same grown right place body is =
           (λ k less. certain_grown c.written v k (omega (arith, less, up))) was.is));
     }
 
--- A slot tells of the place that stands in it alone.
-told_here : (place : ℕ) (body : TracedBody) → told_of place (Some (record { place = place; body = body })) ≡ Some body
-told_here place body = ap (λ b. if b then Some body else None) (eq-eqb place place refl)
+-- None is.
+known_same : (c d : Contents) (tracer : TracerView) → job d ≡ job c → d.written ≡ c.written → IsRightOf c tracer
+    → IsRightOf d tracer
+known_same c d tracer same all right place body is =
+    let was = right place body is in
+    record {
+      reach = record {
+        written = subst (λ (ws : List Written). place ≤ length ws) (sym all) was.reach.written;
+        within = subst (λ (j : Job). place < places_of j) (sym same) was.reach.within;
+      };
+      is = subst (λ (j : Job). IsBodyOf j (certain d.written) place body) (sym same)
+          (subst (λ ws. IsBodyOf (job c) (certain ws) place body) (sym all) was.is);
+    }
 
-told_alone : (place k : ℕ) (body b : TracedBody) → told_of k (Some (record { place = place; body = body })) ≡ Some b
+-- More are.
+known_after : (c d : Contents) (tracer : TracerView) (more : List Written) → Fits (job c) → job d ≡ job c
+    → d.written ≡ c.written ++ more → IsRightOf c tracer → IsRightOf d tracer
+known_after c d tracer [] fits same grown right = known_same c d tracer same (grown ∙ append-nil c.written) right
+known_after c d tracer (v ∷ more) fits same grown right =
+    known_after (record c { written = c.written ++ v ∷ [] }) d tracer more fits same
+    (grown ∙ sym (append_assoc c.written (v ∷ []) more))
+    (known_grows c (record c { written = c.written ++ v ∷ [] }) tracer v fits refl refl right)
+
+pub tracers_stay : TracersStay
+tracers_stay c d tracer wave grown right =
+    known_after c d tracer grown.more wave.fits.fits_job grown.same grown.written right
+
+-- A slot tells of the place that stands in it alone.
+body_here : (place : ℕ) (body : TracedBody) → body_for place (Some (record { place = place; body = body })) ≡ Some body
+body_here place body = ap (λ b. if b then Some body else None) (eq-eqb place place refl)
+
+body_alone : (place k : ℕ) (body b : TracedBody) → body_for k (Some (record { place = place; body = body })) ≡ Some b
     → (place ≡ k) × (body ≡ b)
-told_alone place k body b is =
+body_alone place k body b is =
     let parts = cond_some (place == k) body b is in (eqb-true place k parts.0, parts.1)
 
 -- A place comes in.
@@ -80,12 +107,12 @@ pub comes_in : (old middle : List (Option Traced)) (place : ℕ) (body : TracedB
     → Keeps (record { slots = old }) place body
     (record { slots = slice_set middle (slot_of place) (Some (record { place = place; body = body })) })
 comes_in old middle place body same less = record {
-  here = ap (told_of place) (get_or-set_at middle slot slot stands None refl less) ∙ told_here place body;
+  here = ap (body_for place) (get_or-set_at middle slot slot stands None refl less) ∙ body_here place body;
   others = λ k b is. ⊎_elim
-      (λ (e : slot_of k ≡ slot). inl (told_alone place k body b
-      (sym (ap (told_of k) (get_or-set_at middle slot (slot_of k) stands None e less)) ∙ is)))
+      (λ (e : slot_of k ≡ slot). inl (body_alone place k body b
+      (sym (ap (body_for k) (get_or-set_at middle slot (slot_of k) stands None e less)) ∙ is)))
       (λ (e : slot_of k ≡ slot → ⊥). inr (sym (same k)
-      ∙ (sym (ap (told_of k) (get_or-set_other middle slot (slot_of k) stands None e)) ∙ is)))
+      ∙ (sym (ap (body_for k) (get_or-set_other middle slot (slot_of k) stands None e)) ∙ is)))
       (cases_eq (slot_of k) slot);
 }
   where
@@ -105,7 +132,7 @@ empty_more (x ∷ xs) (suc i) = empty_more xs i
 pub same_more : (old slots more : List (Option Traced)) → IsSameKnown old slots → more ≡ slots ++ None ∷ []
     → IsSameKnown old more
 same_more old slots more same is place =
-    ap (λ xs. known_in xs place) is ∙ ap (told_of place) (empty_more slots (slot_of place)) ∙ same place
+    ap (λ xs. known_in xs place) is ∙ ap (body_for place) (empty_more slots (slot_of place)) ∙ same place
 
 -- What is known of a place is what it rests on.
 pub known_body : (c : Contents) (tracer : TracerView) (place : ℕ) (P : TracedBody → Type 0) → IsRightOf c tracer

@@ -1,6 +1,5 @@
 -- Lemmas on cones as they are traced.
 mod BoundaryPlaces
-mod CircuitPlaces
 mod ConeNodes
 mod EssentialBits
 mod HeapPlaces

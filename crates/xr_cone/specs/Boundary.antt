@@ -1,12 +1,12 @@
--- The certain boundary of a cone: the certain places that its places read and that aren't of it.
-use Rattle.std.specs.Prelude.{◌≡◌, ℕ, ◌&&◌, Bool, not, List, [], filter, map}
-use Rattle.std.specs.List.{list_any}
+-- The boundary of a cone: the places that its places read and that aren't of it, and which of these are certain.
+use Rattle.std.specs.Prelude.{◌≡◌, ℕ, ◌<◌, ◌&&◌, Bool, not, List, [], filter, length, map, reverse}
+use Rattle.std.specs.List.{AllByRecursion, list_any}
 use Rattle.xr_cell.specs.declared.value.Value.{Value}
 use Rattle.xr_cell.specs.Value.{is_unknown}
 use Rattle.xr_design.specs.declared.place.Place.{Place}
 use Rattle.xr_design.specs.Filling.{IsPlace}
 use Rattle.xr_design.specs.Fits.{place_at}
-use Rattle.xr_design.specs.Job.{Job, number_of}
+use Rattle.xr_design.specs.Job.{Job, number_of, places_of}
 use Rattle.xr_design.specs.Waveform.{certain}
 use Rattle.xr_model.specs.Assignment.{argument_places}
 use Rattle.xr_model.specs.Class.{class_of}
@@ -22,14 +22,14 @@ use Rattle.xr_cone_nodes.specs.Traced.{IsConeOf}
 abbrev pub reads : Job → (ℕ → Value) → ℕ → ℕ → Bool
 reads j certain k place = not (is_carried (class_of j certain place)) && among (argument_places j certain place) k
 
--- A place is certain, and isn't one of some places.
-abbrev pub is_outside : (ℕ → Value) → List ℕ → ℕ → Bool
-is_outside certain places k = not (is_unknown (certain k)) && not (among places k)
+-- A place isn't one of some places.
+abbrev pub is_outside : List ℕ → ℕ → Bool
+is_outside places k = not (among places k)
 
--- A boundary place is certain and outside of the cone, and a place of the cone reads it.
+-- A boundary place is outside of the cone, and a place of the cone reads it.
 abbrev pub is_boundary : Job → (ℕ → Value) → ℕ → ℕ → Bool
 is_boundary j certain root k =
-    is_outside certain (cone j certain root) k && list_any (reads j certain k) (cone j certain root)
+    is_outside (cone j certain root) k && list_any (reads j certain k) (cone j certain root)
 
 abbrev pub boundary : Job → (ℕ → Value) → ℕ → List ℕ
 boundary j certain root = places_where (is_boundary j certain root) root
@@ -37,15 +37,32 @@ boundary j certain root = places_where (is_boundary j certain root) root
 abbrev pub boundary_in : Contents → ℕ → List ℕ
 boundary_in c root = boundary (job c) (certain c.written) root
 
+-- The certain boundary are its certain places.
+abbrev pub is_certain_in : Contents → ℕ → Bool
+is_certain_in c k = not (is_unknown (certain c.written k))
+
+abbrev pub certain_boundary_in : Contents → ℕ → List ℕ
+certain_boundary_in c root = filter (is_certain_in c) (boundary_in c root)
+
 -- Nodes are the cone of some place of a wave.
 pub record IsSomeCone (c : Contents) (nodes : List Node) : Type 0 where
   pub root : ℕ
   pub is : IsConeOf c root nodes
 
--- Places are its certain boundary places, in place order.
+-- Places are its boundary places, in place order, or the certain ones of them.
 abbrev pub IsBoundary : Contents → List Node → List Place → Type 0
 IsBoundary c nodes places =
     (root : ℕ) → IsConeOf c root nodes → places ≡ map (place_at (job c)) (boundary_in c root)
+
+abbrev pub IsCertainBoundary : Contents → List Node → List Place → Type 0
+IsCertainBoundary c nodes places =
+    (root : ℕ) → IsConeOf c root nodes → places ≡ map (place_at (job c)) (certain_boundary_in c root)
+
+-- Numbers of places are those of the boundary, from the greatest to the least, each of a written place of the job.
+pub record IsFallingBoundary (c : Contents) (nodes : List Node) (numbers : List ℕ) : Type 0 where
+  pub are : (root : ℕ) → IsConeOf c root nodes → reverse numbers ≡ boundary_in c root
+  pub written : AllByRecursion (λ k. k < length c.written) numbers
+  pub within : AllByRecursion (λ k. k < places_of (job c)) numbers
 
 -- The number of a node's place, which is one of a job.
 abbrev pub number_in : Job → Node → ℕ
@@ -54,11 +71,8 @@ number_in j node = number_of j node.place
 abbrev pub IsPlaceIn : Job → Node → Type 0
 IsPlaceIn j node = IsPlace j node.place
 
--- What a node with a body at a place reads that is certain and outside of some places.
-abbrev pub is_outside_in : Contents → List ℕ → ℕ → Bool
-is_outside_in c places k = is_outside (certain c.written) places k
-
+-- What a node with a body at a place reads that is outside of some places.
 abbrev pub read_in : Contents → List ℕ → Body → ℕ → List ℕ
 read_in c places (Carried node inverted) place = []
 read_in c places (Rule arguments values) place =
-    filter (is_outside_in c places) (argument_places (job c) (certain c.written) place)
+    filter (is_outside places) (argument_places (job c) (certain c.written) place)

@@ -1,6 +1,7 @@
 -- What is kept between traces of what places rest on.
-use Rattle.std.specs.Prelude.{◌≡◌, ◌⊎◌, ◌%◌, ◌==◌, ℕ, List, Option, None, Some, slice_index_or, if◌then◌else◌}
-use Rattle.xr_wave.specs.Contents.{Contents}
+use Rattle.std.specs.Prelude.{◌≡◌, ◌⊎◌, ◌%◌, ◌==◌, ◌++◌, ℕ, List, Option, None, Some, slice_index_or, if◌then◌else◌}
+use Rattle.xr_design.specs.declared.waveform.Written.{Written}
+use Rattle.xr_wave.specs.Contents.{Contents, IsWave, job}
 use Rattle.xr_cone.specs.InWave.{IsBodyIn, IsInReach}
 use Rattle.xr_cone.specs.declared.traced.Traced.{Traced}
 use Rattle.xr_cone.specs.declared.traced.TracedBody.{TracedBody}
@@ -13,13 +14,13 @@ pub record TracerView : Type 0 where
 abbrev pub slot_of : ℕ → ℕ
 slot_of place = place % 262144
 
--- What a slot tells of a place.
-abbrev pub told_of : ℕ → Option Traced → Option TracedBody
-told_of place None = None
-told_of place (Some traced) = if traced.place == place then Some traced.body else None
+-- What a slot has for a place.
+abbrev pub body_for : ℕ → Option Traced → Option TracedBody
+body_for place None = None
+body_for place (Some traced) = if traced.place == place then Some traced.body else None
 
 abbrev pub known_in : List (Option Traced) → ℕ → Option TracedBody
-known_in slots place = told_of place (slice_index_or slots (slot_of place) None)
+known_in slots place = body_for place (slice_index_or slots (slot_of place) None)
 
 -- What is known of a place, if anything is.
 abbrev pub known_of : TracerView → ℕ → Option TracedBody
@@ -36,6 +37,16 @@ pub record IsKnown (c : Contents) (place : ℕ) (body : TracedBody) : Type 0 whe
 -- All that is known is right of a wave.
 abbrev pub IsRightOf : Contents → TracerView → Type 0
 IsRightOf c tracer = (place : ℕ) (body : TracedBody) → known_of tracer place ≡ Some body → IsKnown c place body
+
+-- Places are written after those of a wave, and the job stays.
+pub record IsGrown (c d : Contents) : Type 0 where
+  pub same : job d ≡ job c
+  pub more : List Written
+  pub written : d.written ≡ c.written ++ more
+
+-- A tracer that is right of a wave stays so, whatever is written next.
+abbrev pub TracersStay : Type 0
+TracersStay = (c d : Contents) (tracer : TracerView) → IsWave c → IsGrown c d → IsRightOf c tracer → IsRightOf d tracer
 
 -- Some slots tell the same as others.
 abbrev pub IsSameKnown : List (Option Traced) → List (Option Traced) → Type 0

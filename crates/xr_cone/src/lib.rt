@@ -4,15 +4,15 @@
 //! next, so each place of the cone is looked at once. The greatest stands apart and the others wait in a heap, which a
 //! way of carried places leaves alone. A place costs its class, and where it isn't carried one evaluation of its rule
 //! for each choice of bits for its uncertain arguments, at most 2^13; a tracer keeps what it rests on, so that it costs
-//! this once. Nothing grows with the wave but the slots of a tracer, up to their bound. Start at `trace`; `boundary`
-//! gives the certain places that a cone reads.
+//! this once. Nothing grows with the wave but the slots of a tracer, up to their bound. Start at
+//! `Tracer::trace`; `trace` and `trace_at` are for one cone alone, `boundary` and `certain_boundary` for what its rules read.
 #![tactic(auto)]
 
 mod descent;
 mod heap;
+mod laws;
 mod noted;
 mod outside;
-mod places;
 mod positions;
 mod reached;
 mod table;
@@ -20,7 +20,9 @@ mod traced;
 mod tracer;
 mod tracing;
 
-pub use outside::boundary;
+pub use laws::tracers_stay_right;
+pub use outside::{boundary, certain_boundary};
 pub use tracer::Tracer;
 pub use tracing::{trace, trace_at};
+pub use xr_cone_choices::{Choice, minimal_choices};
 pub use xr_cone_nodes::{Cone, Node, NodeBody};

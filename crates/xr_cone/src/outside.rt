@@ -1,4 +1,4 @@
-//! The certain boundary of a cone: the certain places that the rules of its places read.
+//! The boundary of a cone: the places that the rules of its places read and that aren't in it, certain or not.
 
 ghost use Rattle.std.specs.Prelude.{◌≡◌, ℕ, ◌<◌, ◌≤◌, [], ◌∷◌, length, map, reverse, slice_index, filter, IfOk, OnOk, if◌then◌else◌};
 ghost use Rattle.std.specs.List.{AllByRecursion};
@@ -8,11 +8,10 @@ ghost use Rattle.xr_design.specs.Filling.{IsPlace};
 ghost use Rattle.xr_design.specs.Fits.{place_at};
 ghost use Rattle.xr_design.specs.Job.{places_of};
 ghost use Rattle.xr_model.specs.Places.{among};
-ghost use Rattle.xr_cone.specs.Boundary.{IsBoundary, IsPlaceIn, IsSomeCone, is_outside_in, number_in, read_in};
+ghost use Rattle.xr_cone.specs.Boundary.{IsBoundary, IsCertainBoundary, IsFallingBoundary, IsPlaceIn, IsSomeCone, is_certain_in, is_outside, number_in, read_in};
 ghost use Rattle.xr_cone.specs.InWave.{IsInReach};
 ghost use Rattle.xr_cone.specs.Reached.{AddsAll, AreTaken};
 
-use crate::places::{number_of, place_of};
 use crate::reached::Reached;
 use std::alloc::Global;
 use xr_base::Memory;
@@ -21,11 +20,30 @@ use xr_cone_nodes::{Cone, Node, NodeBody};
 use xr_design::{Circuit, Place, Source};
 use xr_wave::Wave;
 
-/// The certain boundary places of a cone, in place order: the certain argument places of those of its places that
-/// aren't carried, which aren't in the cone. Takes 8 bytes for each place of the cone, and for each that they read.
+/// The boundary places of a cone, in place order: the argument places of those of its places that aren't carried, which
+/// aren't in the cone. Takes 8 bytes for each place of the cone, and for each that they read.
 pub fn boundary(alloc: Global, wave: &Wave<'_>, cone: &Cone) -> Result<Vec<Place>, Memory>
     requires { IsSomeCone wave.now cone.now.nodes }
     ensures { IfOk result (λ places. IsBoundary wave.now cone.now.nodes places.items) }
+{
+    let falling = falling_boundary(alloc, wave, cone)?;
+    places_back(alloc, &wave.circuit(), falling)
+}
+
+/// The certain ones of the boundary places of a cone, in place order. Takes memory as `boundary` does.
+pub fn certain_boundary(alloc: Global, wave: &Wave<'_>, cone: &Cone) -> Result<Vec<Place>, Memory>
+    requires { IsSomeCone wave.now cone.now.nodes }
+    ensures { IfOk result (λ places. IsCertainBoundary wave.now cone.now.nodes places.items) }
+{
+    let falling = falling_boundary(alloc, wave, cone)?;
+    let certain = certain_of(alloc, wave, falling.as_slice())?;
+    places_back(alloc, &wave.circuit(), certain)
+}
+
+/// The numbers of the boundary places, the greatest first.
+fn falling_boundary(alloc: Global, wave: &Wave<'_>, cone: &Cone) -> Result<Vec<usize>, Memory>
+    requires { IsSomeCone wave.now cone.now.nodes }
+    ensures { IfOk result (λ numbers. IsFallingBoundary wave.now cone.now.nodes numbers.items) }
 {
     let circuit = wave.circuit();
     let nodes = cone.nodes();
@@ -40,9 +58,28 @@ pub fn boundary(alloc: Global, wave: &Wave<'_>, cone: &Cone) -> Result<Vec<Place
             &mut reached,
         )?;
     }
-    let falling = taken_of(alloc, reached)?;
-    let places = places_back(alloc, &circuit, falling)?;
-    Ok(places)
+    taken_of(alloc, reached)
+}
+
+/// Those of some written places that are certain.
+fn certain_of(alloc: Global, wave: &Wave<'_>, numbers: &[usize]) -> Result<Vec<usize>, Memory>
+    requires { AllByRecursion (λ k. k < length wave.now.written) numbers.now }
+    ensures { IfOk result (λ certain. certain.items ≡ filter (is_certain_in wave.now) numbers.now) }
+{
+    let mut certain = Vec::new(alloc);
+    'numbers: for number in numbers {
+        if is_certain(wave, *number) {
+            certain.push(*number)?;
+        }
+    }
+    Ok(certain)
+}
+
+fn is_certain(wave: &Wave<'_>, number: usize) -> bool
+    requires { number < length wave.now.written }
+    ensures { result ≡ is_certain_in wave.now number }
+{
+    Source::value(wave, number).is_known()
 }
 
 fn numbers_of(alloc: Global, circuit: &Circuit<'_>, nodes: &[Node]) -> Result<Vec<usize>, Memory>
@@ -52,12 +89,12 @@ fn numbers_of(alloc: Global, circuit: &Circuit<'_>, nodes: &[Node]) -> Result<Ve
 {
     let mut numbers = Vec::with_capacity(alloc, nodes.len())?;
     'nodes: for node in nodes {
-        numbers.push(number_of(circuit, node.place))?;
+        numbers.push(circuit.number_of(node.place))?;
     }
     Ok(numbers)
 }
 
-/// What a place reads that is certain and outside of the cone comes in.
+/// What a place reads that is outside of the cone comes in.
 fn add_read(
     wave: &Wave<'_>,
     cone: &[usize],
@@ -75,36 +112,22 @@ fn add_read(
         NodeBody::Carried { .. } => Ok(()),
         NodeBody::Rule { .. } => {
             let arguments = argument_places(&wave.circuit(), wave, cone[position]);
-            add_outside(wave, cone, arguments.as_slice(), reached)
+            add_outside(cone, arguments.as_slice(), reached)
         }
     }
 }
 
-/// Those of some places that are certain and outside of the cone come in.
-fn add_outside(
-    wave: &Wave<'_>,
-    cone: &[usize],
-    places: &[usize],
-    reached: &mut Reached,
-) -> Result<(), Memory>
-    requires rising { IsStrictlyIncreasing cone.now }
-    requires written { AllByRecursion (λ k. k < length wave.now.written) places.now }
-    ensures { OnOk result (AddsAll reached.old (filter (is_outside_in wave.now cone.now) places.now) reached.new) }
+/// Those of some places that are outside of the cone come in.
+fn add_outside(cone: &[usize], places: &[usize], reached: &mut Reached) -> Result<(), Memory>
+    requires { IsStrictlyIncreasing cone.now }
+    ensures { OnOk result (AddsAll reached.old (filter (is_outside cone.now) places.now) reached.new) }
 {
     'places: for place in places {
-        if is_outside(wave, cone, *place) {
+        if !is_among(cone, *place) {
             reached.insert(*place)?;
         }
     }
     Ok(())
-}
-
-fn is_outside(wave: &Wave<'_>, cone: &[usize], place: usize) -> bool
-    requires rising { IsStrictlyIncreasing cone.now }
-    requires written { place < length wave.now.written }
-    ensures { result ≡ is_outside_in wave.now cone.now place }
-{
-    Source::value(wave, place).is_known() && !is_among(cone, place)
 }
 
 fn is_among(places: &[usize], place: usize) -> bool
@@ -140,7 +163,7 @@ fn places_back(
 {
     let mut places = Vec::with_capacity(alloc, numbers.len())?;
     'rest: while let Some(number) = numbers.pop() {
-        places.push(place_of(circuit, number))?;
+        places.push(circuit.place_of(number))?;
     }
     Ok(places)
 }

@@ -4,8 +4,9 @@ ghost use Rattle.std.specs.Prelude.{◌≡◌, ◌<◌, ◌^◌, true, length, s
 ghost use Rattle.std.specs.List.{AllByRecursion};
 ghost use Rattle.std.specs.List.Sorted.{IsStrictlyIncreasing};
 ghost use Rattle.xr_model.specs.Places.{among};
+ghost use Rattle.xr_wave.specs.Contents.{Contents};
 ghost use Rattle.xr_cone.specs.InWave.{IsInReach};
-ghost use Rattle.xr_cone.specs.Known.{IsRightOf, IsSameKnown, Keeps, KnowsNothing, known_of, slot_of, told_of};
+ghost use Rattle.xr_cone.specs.Known.{IsRightOf, IsSameKnown, Keeps, KnowsNothing, known_of, slot_of, body_for};
 ghost use Rattle.xr_cone.specs.Placed.{IsPlaced};
 ghost use Rattle.xr_cone.specs.Reached.{AddsAll};
 ghost use Rattle.xr_cone.specs.Traced.{supports_in};
@@ -24,7 +25,7 @@ use xr_wave::Wave;
 /// How many slots there are at most.
 const SLOTS: usize = 262_144;
 
-/// What places rest on, as earlier traces found it: it stays so while the wave grows. Each place has a slot by its
+/// What places rest on, as earlier traces found it: it stays so while the wave grows (`tracers_stay_right`). Each place has a slot by its
 /// number, in which the one that came last is kept. Contracts see the slots. Takes some 200 bytes for each of at most
 /// 262,144 slots, and the tables of more than 16 values.
 #[derive(Drop)]
@@ -45,7 +46,8 @@ impl Model for Tracer {
 impl Tracer {
     /// Nothing is known. Takes no memory.
     pub fn new(alloc: Global) -> Tracer
-        ensures { KnowsNothing result }
+        ensures nothing { KnowsNothing result }
+        ensures right { (c : Contents) → IsRightOf c result }
     {
         Tracer {
             slots: Vec::new(alloc),
@@ -81,7 +83,7 @@ impl Tracer {
         ensures { option_copied result ≡ known_of self.now place }
     {
         match slot_at(self.slots.as_slice(), slot_of(place)) {
-            Some(traced) => told_of(traced, place),
+            Some(traced) => body_for(traced, place),
             None => None,
         }
     }
@@ -160,9 +162,9 @@ fn slot_at(slots: &[Option<Traced>], slot: usize) -> Option<&Traced>
     }
 }
 
-/// What a slot tells of a place, from what stands there.
-fn told_of(traced: &Traced, place: usize) -> Option<&TracedBody>
-    ensures { option_copied result ≡ told_of place (Some traced.now) }
+/// What a slot has for a place, from what stands there.
+fn body_for(traced: &Traced, place: usize) -> Option<&TracedBody>
+    ensures { option_copied result ≡ body_for place (Some traced.now) }
 {
     if traced.place == place {
         Some(&traced.body)

@@ -10,7 +10,6 @@ ghost use Rattle.xr_cone.specs.InWave.{IsInReach};
 ghost use Rattle.xr_cone.specs.Known.{IsRightOf};
 
 use crate::descent::trace_places;
-use crate::places::{number_of, place_of};
 use crate::tracer::Tracer;
 use std::alloc::Global;
 use xr_base::Memory;
@@ -34,7 +33,7 @@ pub fn trace_at(alloc: Global, wave: &Wave<'_>, place: Place) -> Result<Cone, Me
     ensures { IfOk result (λ cone. IsConeOf wave.now (number_of (job wave.now) place) cone.nodes) }
 {
     let mut tracer = Tracer::new(alloc);
-    trace_root(alloc, wave, &mut tracer, number_of(&wave.circuit(), place))
+    trace_root(alloc, wave, &mut tracer, wave.circuit().number_of(place))
 }
 
 impl Tracer {
@@ -72,7 +71,7 @@ fn trace_root(
         tracer.find(alloc, wave, place)?;
         let body = tracer.place_body(alloc, places.as_slice(), place)?;
         nodes.push(Node {
-            place: place_of(&circuit, place),
+            place: circuit.place_of(place),
             body,
         })?;
         tracer.hint(place, places.len());

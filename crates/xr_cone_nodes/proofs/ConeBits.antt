@@ -15,7 +15,7 @@ use Rattle.xr_design.specs.Fits.{Fits, place_at}
 use Rattle.xr_design.specs.Job.{places_of}
 use Rattle.xr_design.specs.Waveform.{certain}
 use Rattle.xr_design.specs.World.{bit_at, decided}
-use Rattle.xr_model.specs.Cone.{in_cone, is_born, is_source, sources}
+use Rattle.xr_model.specs.Cone.{in_cone, reads_filling, is_source, sources}
 use Rattle.xr_model.specs.Mask.{mask_of}
 use Rattle.xr_model.specs.Node.{node_bit}
 use Rattle.xr_model.specs.Places.{places_where}
@@ -110,7 +110,7 @@ module _ (c : Contents) (root : ℕ) (nodes : List Node) (is : IsConeOf c root n
 
   -- The sources among the nodes are those of the cone.
   pub node_born : (p : ℕ) → p < length nodes
-      → is_source_node (node_at nodes p) ≡ is_born (job c) (certain c.written) (slice_index (cone_in c root) p)
+      → is_source_node (node_at nodes p) ≡ reads_filling (job c) (certain c.written) (slice_index (cone_in c root) p)
   node_born p less = body_born (job c) fits (certain c.written) (cone_in c root) (slice_index (cone_in c root) p) p
       (node_at nodes p).body (place_within p less) (is.are_nodes.each p less) (is.bodies p less)
 
@@ -166,9 +166,9 @@ module _ (c : Contents) (root : ℕ) (nodes : List Node) (is : IsConeOf c root n
   -- The sources, in place order.
   pub sources_are : sources_of nodes ≡ map (place_at (job c)) (sources (job c) (certain c.written) root)
   sources_are =
-      filters_match place_of_node (place_at (job c)) is_source_node (is_born (job c) (certain c.written)) no_node 0
+      filters_match place_of_node (place_at (job c)) is_source_node (reads_filling (job c) (certain c.written)) no_node 0
       nodes (cone_in c root) is.places (λ p less. node_born p less)
-      ∙ ap (map (place_at (job c))) (sym (places_both inside_cone (is_born (job c) (certain c.written)) (root + 1)))
+      ∙ ap (map (place_at (job c))) (sym (places_both inside_cone (reads_filling (job c) (certain c.written)) (root + 1)))
 
   -- How many stand before a place.
   pub sources_counted : (p : ℕ) → p < length nodes
@@ -176,7 +176,7 @@ module _ (c : Contents) (root : ℕ) (nodes : List Node) (is : IsConeOf c root n
       ≡ length (places_where (is_source (job c) (certain c.written) root) (slice_index (cone_in c root) p))
   sources_counted p less =
       let within : p < length (cone_in c root) = (let l = count in omega (arith, l, less)) in
-      let born = is_born (job c) (certain c.written) in
+      let born = reads_filling (job c) (certain c.written) in
       let fronts : map place_of_node (take p nodes) ≡ map (place_at (job c)) (take p (cone_in c root)) =
       sym (take-map place_of_node p nodes) ∙ ap (take p) is.places ∙ take-map (place_at (job c)) p (cone_in c root) in
       let match : map place_of_node (filter is_source_node (take p nodes))

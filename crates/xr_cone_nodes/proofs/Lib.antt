@@ -1,8 +1,8 @@
 -- Lemmas on the nodes of cones.
 pub mod ConeBits
 pub mod ConeLaws
-pub mod LaneBits
-pub mod LaneWords
+pub mod EachLane
+pub mod LaneTables
 pub mod ListedPlaces
 pub mod ListedSpots
 pub mod NodeSources

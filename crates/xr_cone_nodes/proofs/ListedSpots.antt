@@ -9,7 +9,7 @@ use Rattle.std.specs.Set.{is_member}
 use Rattle.xr_design.specs.declared.place.Place.{Place}
 use Rattle.xr_cone_nodes.specs.declared.node.Node.{Node}
 use Rattle.xr_cone_nodes.specs.Lanes.{in_lane, lane_of}
-use Rattle.xr_cone_nodes.specs.Listed.{listed_word, spot_cmp, spot_of}
+use Rattle.xr_cone_nodes.specs.Listed.{listed_lanes, spot_cmp, spot_of}
 use Rattle.xr_cone_nodes.specs.Nodes.{is_listed, is_same_place, no_node, source_at, sources_of}
 use Rattle.xr_cone_nodes.specs.Traced.{AreListed}
 
@@ -46,10 +46,10 @@ first_lane : (b : Bool) → in_lane ((if b then 1 else 0) ∷ 0 ∷ 0 ∷ 0 ∷ 
 first_lane true = refl
 first_lane false = refl
 
--- The words that a filling gives the sources have their bits in the first lane.
-pub words_listed : (nodes : List Node) (filling : List Place) (given : List (List ℕ))
-    → given ≡ map (listed_word filling) (sources_of nodes) → AreListed nodes filling (lane_of given 0)
-words_listed nodes filling given are source less =
-    ap (λ words. lane_of words 0 source) are
-    ∙ ap (λ word. in_lane word 0) (get_or-map (listed_word filling) (sources_of nodes) source no_node.place [] less)
+-- The lanes that a filling gives the sources have their bits in the first lane.
+pub table_listed : (nodes : List Node) (filling : List Place) (given : List (List ℕ))
+    → given ≡ map (listed_lanes filling) (sources_of nodes) → AreListed nodes filling (lane_of given 0)
+table_listed nodes filling given are source less =
+    ap (λ lane_table. lane_of lane_table 0 source) are
+    ∙ ap (λ lane_bits. in_lane lane_bits 0) (get_or-map (listed_lanes filling) (sources_of nodes) source no_node.place [] less)
     ∙ first_lane (is_listed filling (source_at nodes source))

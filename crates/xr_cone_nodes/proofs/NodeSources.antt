@@ -16,7 +16,7 @@ use Rattle.xr_design.specs.Job.{Job, places_of}
 use Rattle.xr_design.specs.Rule.{arguments, rule}
 use Rattle.xr_model.specs.Assignment.{assigned}
 use Rattle.xr_model.specs.Class.{class_of, is_never_unknown}
-use Rattle.xr_model.specs.Cone.{essentials, is_born, is_carried, is_essential, table}
+use Rattle.xr_model.specs.Cone.{essentials, reads_filling, is_carried, is_essential, table}
 use Rattle.xr_model.specs.Mask.{mask_of, masked}
 use Rattle.xr_model.specs.Node.{IsBody}
 use Rattle.xr_model.proofs.AssignmentNumbers.{along, mask_small}
@@ -170,7 +170,7 @@ born_on carried never is = rw is refl
 -- A node's body is that of a source exactly where its place is one.
 pub body_born : (j : Job) → Fits j → (c : ℕ → Value) (places : List ℕ) (place position : ℕ) (body : Body)
     → place < places_of j → StandsAt position body → IsBody j c places place (body_of body)
-    → is_source_body body ≡ is_born j c place
+    → is_source_body body ≡ reads_filling j c place
 body_born j fits c places place position (Carried node inverted) within stands is =
     sym (born_off (is_carried (class_of j c place)) (is_never_unknown j c place) (ap is_carried is.class))
 body_born j fits c places place position (Rule arguments values) within stands is =

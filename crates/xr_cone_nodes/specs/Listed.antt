@@ -17,6 +17,6 @@ spot_cmp x y = ordering_then (nat_cmp x.0 y.0) (nat_cmp x.1 y.1)
 abbrev pub HasSpots : List Place → BTreeSet (ℕ × ℕ) → Type 0
 HasSpots filling spots = tree.IsFromIterResult spot_cmp (map spot_of filling) spots
 
--- The word of a source that has its bit in a filling: in the first lane.
-abbrev pub listed_word : List Place → Place → List ℕ
-listed_word filling place = (if is_listed filling place then 1 else 0) ∷ 0 ∷ 0 ∷ 0 ∷ []
+-- The lanes of a source that has its bit in a filling: in the first lane.
+abbrev pub listed_lanes : List Place → Place → List ℕ
+listed_lanes filling place = (if is_listed filling place then 1 else 0) ∷ 0 ∷ 0 ∷ 0 ∷ []

@@ -8,7 +8,7 @@ use Rattle.xr_model.specs.Cone.{cone, denied_value, is_carried, sources}
 use Rattle.xr_model.specs.Laws.{InReach, world_over}
 use Rattle.xr_model.specs.Line.{IsEnumerated, IsOfSources}
 use Rattle.xr_model.specs.Node.{IsBody}
-use Rattle.xr_wave.specs.Contents.{Contents, IsWave, class_in, job}
+use Rattle.xr_wave.specs.Contents.{Contents, IsWave, class_in, job, next_number}
 use Rattle.xr_cone_nodes.specs.declared.node.Node.{Node}
 use Rattle.xr_cone_nodes.specs.Nodes.{AreNodes, body_at, by_sources, chosen, is_listed, nothing, number_bits, place_of_node, root_bit, source_at, sources_of}
 
@@ -35,6 +35,10 @@ pub record IsConeOf (c : Contents) (root : ℕ) (nodes : List Node) : Type 0 whe
   pub bodies : (position : ℕ) → position < length nodes
       → IsBody (job c) (certain c.written) (cone_in c root) (slice_index (cone_in c root) position)
       (body_at nodes position)
+
+-- They are the cone of the next place.
+abbrev pub IsNextCone : Contents → List Node → Type 0
+IsNextCone c nodes = IsConeOf c (next_number c) nodes
 
 -- The sources of the nodes are those of the cone.
 abbrev pub SourcesLaw : Type 0

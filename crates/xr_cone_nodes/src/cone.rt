@@ -5,11 +5,11 @@ ghost use Rattle.xr_cone_nodes.specs.Lanes.{HasLanes, lane_of, root_in_lane};
 ghost use Rattle.xr_cone_nodes.specs.Nodes.{AreNodes, chosen, is_source_node, nothing, root_bit, sources_of};
 ghost use Rattle.xr_cone_nodes.specs.Traced.{IsWorldBit};
 
-use crate::evaluate::root_word;
+use crate::evaluate::root_lanes;
+use crate::lane_bits::LaneBits;
 use crate::lanes::chosen_places;
-use crate::listed::listed_words;
+use crate::listed::listed_table;
 use crate::node::Node;
-use crate::word::Word;
 use std::alloc::Global;
 use std::marker::Model;
 use xr_base::{Items, Memory};
@@ -79,14 +79,14 @@ impl Cone {
     pub fn value(&self, alloc: Global, filling: &Filling) -> Result<bool, Memory>
         ensures world { IfOk result (IsWorldBit self.now.nodes filling.now) }
     {
-        let given = listed_words(alloc, filling.as_slice(), self.sources())?;
-        let mut words = vec![in alloc; Word::zeros(); self.nodes.len()]?;
-        let word = self.root_word(&given, words.as_mut_slice());
-        Ok(word.in_lane(0))
+        let given = listed_table(alloc, filling.as_slice(), self.sources())?;
+        let mut lane_table = vec![in alloc; LaneBits::zeros(); self.nodes.len()]?;
+        let lane_bits = self.root_lanes(&given, lane_table.as_mut_slice());
+        Ok(lane_bits.in_lane(0))
     }
 
-    /// The filling that lists the sources whose words have a 1 in a lane. Takes 8 bytes for each of them.
-    pub fn chosen(&self, alloc: Global, given: &[Word], lane: u32) -> Result<Filling, Memory>
+    /// The filling that lists the sources whose lanes have a 1 in a lane. Takes 8 bytes for each of them.
+    pub fn chosen(&self, alloc: Global, given: &[LaneBits], lane: u32) -> Result<Filling, Memory>
         requires { lane < 256 }
         ensures { IfOk result (λ filling. filling ≡ chosen (sources_of self.now.nodes) (lane_of given.now lane)) }
     {
@@ -94,11 +94,16 @@ impl Cone {
         Ok(Items::from_vec(places))
     }
 
-    pub(crate) fn root_word(&self, given: &[Word], words: &mut [Word]) -> Word
-        requires { length words.old ≡ length self.now.nodes }
+    pub(crate) fn root_lanes(&self, given: &[LaneBits], lane_table: &mut [LaneBits]) -> LaneBits
+        requires { length lane_table.old ≡ length self.now.nodes }
         ensures { HasLanes result (root_in_lane self.now.nodes given.now) }
     {
-        root_word(self.nodes.as_slice(), self.births.as_slice(), given, words)
+        root_lanes(
+            self.nodes.as_slice(),
+            self.births.as_slice(),
+            given,
+            lane_table,
+        )
     }
 }
 
@@ -125,7 +130,7 @@ fn base_of(alloc: Global, nodes: &[Node], births: &[bool]) -> Result<bool, Memor
     requires births { births.now ≡ map is_source_node nodes.now }
     ensures { IfOk result (λ base. base ≡ root_bit nothing nodes.now) }
 {
-    let mut words = vec![in alloc; Word::zeros(); nodes.len()]?;
-    let word = root_word(nodes, births, &[], words.as_mut_slice());
-    Ok(word.in_lane(0))
+    let mut lane_table = vec![in alloc; LaneBits::zeros(); nodes.len()]?;
+    let lane_bits = root_lanes(nodes, births, &[], lane_table.as_mut_slice());
+    Ok(lane_bits.in_lane(0))
 }

@@ -1,30 +1,30 @@
-//! Lanes of words, and the fillings that they stand for.
+//! Lanes, and the fillings that they stand for.
 
 ghost use Rattle.std.specs.Prelude.{◌≡◌, ◌<◌, ◌++◌, ◌∷◌, [], IfOk, OnOk, if◌then◌else◌};
 ghost use Rattle.xr_cone_nodes.specs.Lanes.{HasLanes, lane_of};
 ghost use Rattle.xr_cone_nodes.specs.Nodes.{chosen};
 
-use crate::word::Word;
+use crate::lane_bits::LaneBits;
 use std::alloc::Global;
 use xr_base::Memory;
 use xr_design::Place;
 
-/// A word of some, or 0 past the last.
-pub fn word_at(words: &[Word], position: usize) -> Word
-    ensures { HasLanes result (λ lane. lane_of words.now lane position) }
+/// Lanes of some, or 0 past the last.
+pub fn lane_bits_at(lane_table: &[LaneBits], position: usize) -> LaneBits
+    ensures { HasLanes result (λ lane. lane_of lane_table.now lane position) }
 {
-    if position < words.len() {
-        words[position]
+    if position < lane_table.len() {
+        lane_table[position]
     } else {
-        Word::zeros()
+        LaneBits::zeros()
     }
 }
 
-/// The sources whose words have a 1 in a lane.
+/// The sources whose lanes have a 1 in a lane.
 pub fn chosen_places(
     alloc: Global,
     sources: &[Place],
-    given: &[Word],
+    given: &[LaneBits],
     lane: u32,
 ) -> Result<Vec<Place>, Memory>
     requires { lane < 256 }
@@ -32,7 +32,7 @@ pub fn chosen_places(
 {
     let mut places = Vec::new(alloc);
     'sources: for source in 0..sources.len() {
-        let is_chosen = word_at(given, source).in_lane(lane);
+        let is_chosen = lane_bits_at(given, source).in_lane(lane);
         add_if(&mut places, sources[source], is_chosen)?;
     }
     Ok(places)

@@ -1,3 +1,5 @@
+pub mod Ascending
+pub mod DrivenLemmas
 pub mod Exact
 pub mod Follows
 pub mod Gates
@@ -11,4 +13,6 @@ pub mod Prefix
 pub mod Reaching
 pub mod Replays
 pub mod Rules
+mod ShownLemmas
+pub mod TwoBack
 pub mod Worlds

@@ -14,7 +14,7 @@ use Rattle.xr_design.specs.declared.design.Table.TheVariants.{Gate, Udp}
 use Rattle.xr_design.specs.declared.design.Driver.{Driver}
 use Rattle.xr_design.specs.declared.design.Driver.TheVariants.{Input, Undriven, Constant, Copy, Cell, Register}
 use Rattle.xr_design.specs.Job.{Job, at, step_of, net_of, places_of}
-use Rattle.xr_design.specs.Fits.{Fits, FitsDriver, is_dead, chooses, chooses_of}
+use Rattle.xr_design.specs.Fits.{Fits, FitsDriver, is_dead, may_read_filling, chooses_of}
 use Rattle.xr_design.specs.Register.{pins_at}
 use Rattle.xr_design.specs.Rule.{rule, rule_of, known_or, as_values}
 use Rattle.xr_design.specs.World.{decided, bit_at, world, world_bit, IsWorld}
@@ -112,7 +112,7 @@ rule_of_known j c b step net (Cell (Udp number) pins) fits idle = cc
 rule_of_known j c b step net (Register latching) fits idle = cc
 
 -- Where a world may not read its filling, the rule is known.
-pub rule_known : (j : Job) (c : ℕ → Value) (f : ℕ → Bool) (place : ℕ) → Fits j → place < places_of j → chooses j place ≡ false → IsKnown (rule j c f place)
+pub rule_known : (j : Job) (c : ℕ → Value) (f : ℕ → Bool) (place : ℕ) → Fits j → place < places_of j → may_read_filling j place ≡ false → IsKnown (rule j c f place)
 unfolding rule
 rule_known j c f place fits within idle =
     rule_of_known j c f (step_of j place) (net_of j place) (j.driver (net_of j place)) (fits.pins (net_of j place) (spot j fits place within).net) idle
@@ -128,15 +128,15 @@ decided_agree v x y false known agree = decided_known v x y (known refl)
 decided_agree v x y true known agree = ap (decided v) (agree refl)
 
 -- Fillings that agree where a world may read them have the same world.
-pub worlds_agree : (j : Job) (c : ℕ → Value) (f g : ℕ → Bool) (n : ℕ) → Fits j → n ≤ places_of j → ((i : ℕ) → i < n → chooses j i ≡ true → f i ≡ g i) → world j c f n ≡ world j c g n
+pub worlds_agree : (j : Job) (c : ℕ → Value) (f g : ℕ → Bool) (n : ℕ) → Fits j → n ≤ places_of j → ((i : ℕ) → i < n → may_read_filling j i ≡ true → f i ≡ g i) → world j c f n ≡ world j c g n
 unfolding world
 worlds_agree j c f g zero fits within agree = refl
 worlds_agree j c f g (suc n) fits within agree =
     let earlier = worlds_agree j c f g n fits (omega arith) (λ i less. agree i (omega arith)) in
     let bits = world j c g n in
-    let here : decided (rule j c (bit_at bits) n) (f n) ≡ decided (rule j c (bit_at bits) n) (g n) = decided_agree (rule j c (bit_at bits) n) (f n) (g n) (chooses j n) (rule_known j c (bit_at bits) n fits (omega arith)) (agree n (omega arith)) in
+    let here : decided (rule j c (bit_at bits) n) (f n) ≡ decided (rule j c (bit_at bits) n) (g n) = decided_agree (rule j c (bit_at bits) n) (f n) (g n) (may_read_filling j n) (rule_known j c (bit_at bits) n fits (omega arith)) (agree n (omega arith)) in
     rw (earlier, here) refl
 
 -- They have the same bit of each place.
-pub world_bits_agree : (j : Job) (c : ℕ → Value) (f g : ℕ → Bool) (place : ℕ) → Fits j → place < places_of j → ((i : ℕ) → i ≤ place → chooses j i ≡ true → f i ≡ g i) → world_bit j c f place ≡ world_bit j c g place
+pub world_bits_agree : (j : Job) (c : ℕ → Value) (f g : ℕ → Bool) (place : ℕ) → Fits j → place < places_of j → ((i : ℕ) → i ≤ place → may_read_filling j i ≡ true → f i ≡ g i) → world_bit j c f place ≡ world_bit j c g place
 world_bits_agree j c f g place fits within agree = ap (λ bits. bit_at bits place) (worlds_agree j c f g (place + 1) fits (omega arith) (λ i less. agree i (omega arith)))

@@ -8,7 +8,7 @@ use Rattle.xr_design.specs.declared.stim.Stim.{Stim}
 use Rattle.xr_design.specs.declared.circuit.Circuit.{Circuit}
 use Rattle.xr_design.specs.declared.circuit.Spot.{Spot}
 
-pub record FitsCircuit (design : Design) (order : List ℕ) (stim : Stim) : Type 0 where
+pub record PartsFit (design : Design) (order : List ℕ) (stim : Stim) : Type 0 where
   pub fits_job : Fits (job_of design order stim)
   pub fits_stim : FitsStim design stim
 
@@ -18,7 +18,7 @@ job_in circuit = job_of circuit.design.now circuit.order.now circuit.stim.now
 
 -- A circuit fits where its parts do.
 abbrev pub CircuitFits : Circuit → Type 0
-CircuitFits circuit = FitsCircuit circuit.design.now circuit.order.now circuit.stim.now
+CircuitFits circuit = PartsFit circuit.design.now circuit.order.now circuit.stim.now
 
 -- A spot of a job is the step, the moment, the position and the net of one of its places.
 pub record IsSpot (j : Job) (place : ℕ) (spot : Spot) : Type 0 where

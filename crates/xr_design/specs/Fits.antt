@@ -100,8 +100,8 @@ chooses_of j step net (Register latching) = true
 
 -- Where a world may read its filling: at round 0 of an input that isn't recorded known and of a net without a driver, at
 -- a gate with a dead pin, and at any primitive. At any other place the rule gives 0 or 1.
-abbrev pub chooses : Job → ℕ → Bool
-chooses j place = chooses_of j (step_of j place) (net_of j place) (j.driver (net_of j place))
+abbrev pub may_read_filling : Job → ℕ → Bool
+may_read_filling j place = chooses_of j (step_of j place) (net_of j place) (j.driver (net_of j place))
 
 -- The place of a number.
 abbrev pub place_at : Job → ℕ → Place

@@ -1,6 +1,8 @@
 -- Which histories are handed in: the replay, or a blank one.
 use Rattle.std.specs.Prelude.{◌≡◌, ◌⊎◌, ℕ, ◌<◌, Option, None, length, slice_index_or}
 use Rattle.xr_cell.specs.declared.value.Value.{Value}
+use Rattle.xr_design.specs.Circuit.{CircuitFits, job_in}
+use Rattle.xr_design.specs.declared.circuit.Circuit.{Circuit}
 use Rattle.xr_design.specs.Job.{Job, places_of}
 use Rattle.xr_design.specs.Fits.{place_at}
 use Rattle.xr_design.specs.History.{HistoryView, held_in}
@@ -17,6 +19,12 @@ shown_of j history place = (held_of j history place).shown
 pub record HasPlaces (j : Job) (history : HistoryView) : Type 0 where
   pub nets : history.nets ≡ j.width
   pub all : length history.places ≡ places_of j
+
+-- A history shows something at a place of a circuit that fits.
+pub record ShowsPlace (circuit : Circuit) (history : HistoryView) (place : ℕ) : Type 0 where
+  pub fits : CircuitFits circuit
+  pub places : HasPlaces (job_in circuit) history
+  pub within : place < places_of (job_in circuit)
 
 -- A history is the replay under forces.
 pub record IsReplayUnder (j : Job) (forced : ℕ → Option Value) (history : HistoryView) : Type 0 where

@@ -7,8 +7,10 @@ use Rattle.xr_design.specs.Order.{IsOrder}
 use Rattle.xr_design.specs.Design.{FitsDesign}
 use Rattle.xr_design.specs.Stim.{FitsStim}
 use Rattle.xr_design.specs.declared.design.Design.{Design}
+use Rattle.xr_design.specs.declared.design.Driver.{Driver}
 use Rattle.xr_design.specs.declared.stim.Stim.{Stim}
 use Rattle.xr_design.specs.Fits.{Fits}
+use Rattle.xr_design.specs.Replay.{Held, driven, kept, kept_by}
 use Rattle.xr_design.specs.Rule.{rule, arguments}
 use Rattle.xr_design.specs.World.{IsWorld, world_bit}
 use Rattle.xr_design.specs.Waveform.{Written, IsExact, Shows}
@@ -40,3 +42,7 @@ ExactIsUnique = (j : Job) (shown : ℕ → Value) (v w : List Written) → Fits 
 -- A design, its order and a stimulus that fit make a job that fits.
 abbrev pub JobsFit : Type 0
 JobsFit = (design : Design) (order : List ℕ) (stim : Stim) → FitsDesign design → IsOrder (driver_in design) (length design.nets) order → FitsStim design stim → 0 < stim.rounds → stim.rounds ≤ 16 → Fits (job_of design order stim)
+
+-- A driver keeps what it gives where it is a register, and else nothing.
+abbrev pub KeepsWhatItGives : Type 0
+KeepsWhatItGives = (j : Job) (earlier : ℕ → Held) (step net : ℕ) (driver : Driver) → kept j earlier step net driver ≡ kept_by driver (driven j earlier step net driver)

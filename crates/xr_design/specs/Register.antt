@@ -1,5 +1,5 @@
 -- What a register sees of its pins, and what it makes of them. The replay, the rule and the settled test share this.
-use Rattle.std.specs.Prelude.{ℕ, ◌-◌, ◌==◌, ◌&&◌, ◌||◌, Bool, true, false, List, map, slice_index_or, length, if◌then◌else◌}
+use Rattle.std.specs.Prelude.{ℕ, ◌-◌, ◌==◌, ◌&&◌, ◌||◌, Bool, Option, None, Some, List, map, slice_index_or, length, if◌then◌else◌}
 use Rattle.std.specs.Int.{bit_at}
 use Rattle.xr_cell.specs.Below.{any_below}
 use Rattle.xr_cell.specs.declared.value.Value.{Value}
@@ -23,22 +23,27 @@ pin_of nets Dead = X
 abbrev pub pins_at : Job → (ℕ → Value) → ℕ → List Pin → List Value
 pins_at j values step pins = map (pin_of (λ net. values (at j step net))) pins
 
-abbrev pub is_cold : StartRule → Bool
-is_cold Cold = true
-is_cold Recorded = false
+-- Step 1 sees two steps back what stands before step 0: nothing where registers start cold, step 0 where they start as
+-- recorded.
+abbrev pub before_start : StartRule → Option ℕ
+before_start Cold = None
+before_start Recorded = Some 0
 
--- At step 1 a register that starts cold looks two steps back to where nothing is known.
-abbrev pub looks_before : Job → ℕ → Bool
-looks_before j step = (step == 1) && is_cold j.start_rule
+-- The step that a later step sees two steps back.
+abbrev pub two_back : Job → ℕ → Option ℕ
+two_back j step = if step == 1 then before_start j.start_rule else Some (step - 2)
 
--- There each pin is x, and no pin is certain.
+-- Where nothing stands each pin is x, and no pin is certain.
 abbrev pub early_pins : List Pin → List Value
 early_pins pins = map (λ (pin : Pin). X) pins
 
--- A register at a later step looks two steps back and one step back. Two steps back from step 1 is step 0 again, which
--- stands for the step before it where registers start as recorded.
+abbrev pub pins_back : Job → (ℕ → Value) → List Pin → Option ℕ → List Value
+pins_back j values pins None = early_pins pins
+pins_back j values pins (Some step) = pins_at j values step pins
+
+-- A register at a later step looks two steps back and one step back.
 abbrev pub old_pins : Job → (ℕ → Value) → ℕ → List Pin → List Value
-old_pins j values step pins = if looks_before j step then early_pins pins else pins_at j values (step - 2) pins
+old_pins j values step pins = pins_back j values pins (two_back j step)
 
 abbrev pub new_pins : Job → (ℕ → Value) → ℕ → List Pin → List Value
 new_pins j values step pins = pins_at j values (step - 1) pins

@@ -50,6 +50,19 @@ kept j earlier step net (Copy argument) = X
 kept j earlier step net (Cell table pins) = X
 kept j earlier step net (Register latching) = register_kept j earlier step net latching
 
+-- What it keeps by the value that it gives.
+abbrev pub kept_by : Driver → Value → Value
+kept_by Input given = X
+kept_by Undriven given = X
+kept_by (Constant bit) given = X
+kept_by (Copy argument) given = X
+kept_by (Cell table pins) given = X
+kept_by (Register latching) given = given
+
+-- Places that show these values, where the net in hand kept this one step before.
+abbrev pub seen : (ℕ → Value) → Value → ℕ → Held
+seen values was place = record { shown = values place; kept = was }
+
 -- A forced place shows the forced value in place of its driver's.
 unfoldable pub held_at : Job → (ℕ → Option Value) → (ℕ → Held) → ℕ → Held
 held_at j forced earlier place = record {

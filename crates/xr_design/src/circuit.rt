@@ -1,12 +1,15 @@
 //! A circuit: a design with its order and its stimulus, and what stands at its places.
 
-ghost use Rattle.std.specs.Prelude.{◌≡◌, ◌*◌, ◌<◌, ◌/◌};
-ghost use Rattle.xr_design.specs.Job.{places_of};
+ghost use Rattle.std.specs.Prelude.{◌≡◌, ◌↔◌, ◌*◌, ◌<◌, ◌/◌, ◌%◌, ◌==◌, IfSome, IsTrue};
 ghost use Rattle.xr_design.specs.Circuit.{job_in, CircuitFits, IsSpot};
+ghost use Rattle.xr_design.specs.Filling.{IsPlace};
+ghost use Rattle.xr_design.specs.Fits.{place_at};
+ghost use Rattle.xr_design.specs.Job.{number_of, places_of};
 ghost use Rattle.xr_design.specs.Register as spec;
 
 use crate::design::{Design, Driver};
 use crate::order::Order;
+use crate::place::Place;
 use crate::stim::{StartRule, Stim};
 use xr_cell::Value;
 
@@ -24,6 +27,62 @@ pub struct Spot {
     pub step: usize,
     pub position: usize,
     pub net: usize,
+}
+
+impl Circuit<'_> {
+    /// The place of a number.
+    pub fn place_of(&self, number: usize) -> Place
+        requires fits { CircuitFits self.now }
+        requires within { number < places_of (job_in self.now) }
+        ensures { result ≡ place_at (job_in self.now) number }
+    {
+        let spot = spot_of(self, number);
+        Place {
+            step: spot.step as u32,
+            net: spot.net as u32,
+        }
+    }
+
+    /// The number of a place.
+    pub fn number_of(&self, place: Place) -> usize
+        requires fits { CircuitFits self.now }
+        requires within { IsPlace (job_in self.now) place }
+        ensures number { result ≡ number_of (job_in self.now) place }
+        ensures within { result < places_of (job_in self.now) }
+    {
+        place.step as usize * width_of(self) + self.order.position(place.net) as usize
+    }
+
+    /// Whether it is a place of the job.
+    pub fn has_place(&self, place: Place) -> bool
+        requires { CircuitFits self.now }
+        ensures { IsTrue result ↔ IsPlace (job_in self.now) place }
+    {
+        let steps = self.stim.times.as_slice().len() * self.stim.rounds as usize;
+        (place.step as usize) < steps && (place.net as usize) < width_of(self)
+    }
+
+    /// Whether a moment begins at a step.
+    pub fn begins_moment(&self, step: usize) -> bool
+        ensures { result ≡ (step % (job_in self.now).rounds == 0) }
+    {
+        step % self.stim.rounds as usize == 0
+    }
+
+    /// The step that a later step sees two steps back.
+    pub fn two_back(&self, step: usize) -> Option<usize>
+        requires { 0 < step }
+        ensures step { result ≡ spec.two_back (job_in self.now) step }
+        ensures before { IfSome result (λ earlier. earlier < step) }
+    {
+        if step > 1 {
+            return Some(step - 2);
+        }
+        match self.stim.start {
+            StartRule::Cold => None,
+            StartRule::Recorded => Some(0),
+        }
+    }
 }
 
 /// How many nets there are.
@@ -73,13 +132,6 @@ pub fn start_at(circuit: &Circuit<'_>, net: usize) -> Value
     ensures { result ≡ (job_in circuit.now).start net }
 {
     circuit.stim.starts.as_slice()[net]
-}
-
-/// Whether a register that looks two steps back from a step sees nothing there.
-pub fn looks_before(circuit: &Circuit<'_>, step: usize) -> bool
-    ensures { result ≡ spec.looks_before (job_in circuit.now) step }
-{
-    step == 1 && matches!(circuit.stim.start, StartRule::Cold)
 }
 
 /// What the recording has for an input at a step.

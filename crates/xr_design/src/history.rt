@@ -1,6 +1,8 @@
 //! What each place shows and keeps.
 
-ghost use Rattle.std.specs.Prelude.{◌≡◌, ◌+◌, ◌*◌, ◌<◌, ◌≤◌, ◌^◌, IfOk, length};
+ghost use Rattle.std.specs.Prelude.{◌≡◌, ℕ, List, ◌+◌, ◌*◌, ◌<◌, ◌≤◌, ◌^◌, IfOk, length};
+ghost use Rattle.xr_design.specs.Handed.{IsBlank};
+ghost use Rattle.xr_design.specs.Job.{job_of};
 ghost use Rattle.xr_design.specs.History.{HasPlace, blank_history, held_in, index_in, repeated, two_bits, value_of_bits, with_held};
 
 use crate::design::Design;
@@ -37,8 +39,8 @@ impl History {
     pub fn blank(alloc: Global, design: &Design, stim: &Stim) -> Result<History, Memory>
         requires nets { length design.now.nets ≤ 2 ^ 20 }
         requires places { length design.now.nets * (length stim.now.times * stim.now.rounds) ≤ 2 ^ 27 }
-        requires steps { length stim.now.times * stim.now.rounds ≤ 2 ^ 32 }
-        ensures { IfOk result (λ h. h ≡ blank_history design.now stim.now) }
+        ensures all { IfOk result (λ h. h ≡ blank_history design.now stim.now) }
+        ensures blank { (order : List ℕ) → IfOk result (IsBlank (job_of design.now order stim.now)) }
     {
         let nets = design.nets.as_slice().len();
         let steps = stim.times.as_slice().len() * stim.rounds as usize;

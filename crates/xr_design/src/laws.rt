@@ -32,6 +32,11 @@ pub fn worlds_are_unique()
     ensures { spec.WorldsAreUnique }
 {}
 
+/// A driver keeps what it gives where it is a register, and else nothing.
+pub fn keeps_what_it_gives()
+    ensures { spec.KeepsWhatItGives }
+{}
+
 /// There is at most one waveform that is exact at each place and shows a history.
 pub fn exact_is_unique()
     ensures { spec.ExactIsUnique }

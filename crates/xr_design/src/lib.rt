@@ -6,6 +6,8 @@
 
 mod circuit;
 mod design;
+mod driven;
+mod filling;
 mod force;
 mod history;
 mod laws;
@@ -15,6 +17,7 @@ mod place;
 mod reads;
 mod register;
 mod rule;
+mod shown;
 mod stim;
 mod waveform;
 
@@ -22,11 +25,13 @@ pub use circuit::{
     Circuit, Spot, count_places, driver_at, recorded_at, spot_of, start_at, width_of,
 };
 pub use design::{Design, Driver, Latching, Net, Pin, Table};
+pub use driven::{driven_value, kept_value};
+pub use filling::is_filling;
 pub use force::{Event, Forces};
 pub use history::History;
 pub use laws::{
-    arguments_stand_before, exact_is_unique, jobs_fit, rule_reads_arguments, rule_reads_earlier,
-    worlds_are_unique, worlds_exist,
+    arguments_stand_before, exact_is_unique, jobs_fit, keeps_what_it_gives, rule_reads_arguments,
+    rule_reads_earlier, worlds_are_unique, worlds_exist,
 };
 pub use name::{Bytes, Name, NamePart};
 pub use order::Order;
@@ -34,5 +39,6 @@ pub use place::{Filling, Place};
 pub use reads::{AsValues, BitSource, Source, net_value, pin_values};
 pub use register::{clock_is_uncertain, updated_value};
 pub use rule::{rule_value, table_value};
+pub use shown::Shown;
 pub use stim::{StartRule, Stim};
 pub use waveform::{Mark, Written};

@@ -10,7 +10,7 @@ ghost use Rattle.xr_design.specs.Fits.{FitsRegister, FitsPrimitive};
 ghost use Rattle.xr_design.specs.Job.{primitive_of};
 ghost use Rattle.xr_design.specs.Register.{old_pins, new_pins, updated, has_unknown_clock, has_uncertain_clock};
 
-use crate::circuit::{Circuit, looks_before};
+use crate::circuit::Circuit;
 use crate::design::{Latching, Pin};
 use crate::reads::{Source, pin_values};
 use xr_cell::{Udp, Value};
@@ -31,15 +31,9 @@ fn old_values<S: Source>(
     ensures values { take (length latching.now.pins) result ≡
         old_pins (job_in circuit.now) (S.reads source.now) step latching.now.pins }
 {
-    if looks_before(circuit, step) {
-        [Value::X; 10]
-    } else {
-        pin_values(
-            circuit,
-            source,
-            step.saturating_sub(2),
-            latching.pins.as_slice(),
-        )
+    match circuit.two_back(step) {
+        None => [Value::X; 10],
+        Some(earlier) => pin_values(circuit, source, earlier, latching.pins.as_slice()),
     }
 }
 

@@ -5,13 +5,14 @@ ghost use Rattle.xr_cell.specs.declared.value.Value.{Value as AnyValue};
 ghost use Rattle.xr_design.specs.Circuit.{job_in, CircuitFits, IsSpot, Reach};
 ghost use Rattle.xr_design.specs.Fits.{Standing, FitsDriver, FitsRegister, FitsTable};
 ghost use Rattle.xr_design.specs.Job.{places_of};
-ghost use Rattle.xr_design.specs.Order.{arguments_of_driver, net_pins};
+ghost use Rattle.xr_design.specs.Order.{arguments_of_driver};
 ghost use Rattle.xr_design.specs.Replay.{table_of};
-ghost use Rattle.xr_design.specs.Rule.{born, cell_rule, known_or, register_rule, rule, rule_of};
+ghost use Rattle.xr_design.specs.Rule.{born, known_or, register_rule, rule, rule_of};
 
 use crate::circuit::{Circuit, Spot, driver_at, recorded_at, spot_of, start_at};
-use crate::design::{Driver, Latching, Pin, Table};
-use crate::reads::{AsValues, BitSource, Source, net_value, pin_values};
+use crate::design::{Driver, Latching, Table};
+use crate::driven::cell_value;
+use crate::reads::{AsValues, BitSource, Source, net_value};
 use crate::register::{clock_is_uncertain, updated_value};
 use xr_cell::{Value, gate_value};
 
@@ -68,7 +69,7 @@ fn ruled_value<C: Source, B: BitSource>(
         Driver::Copy(net) => net_value(circuit, &AsValues { source: bits }, spot.step, *net),
         Driver::Cell(table, pins) => cell_value(
             circuit,
-            bits,
+            &AsValues { source: bits },
             place,
             spot,
             *table,
@@ -90,7 +91,7 @@ fn born_value<B: BitSource>(circuit: &Circuit<'_>, bits: &B, place: usize, spot:
     requires bits { (k : ℕ) → k < place → B.has bits.now k }
     ensures { result ≡ born (job_in circuit.now) (B.bits bits.now) spot.step spot.net }
 {
-    if spot.step % circuit.stim.rounds as usize == 0 {
+    if circuit.begins_moment(spot.step) {
         Value::X
     } else {
         net_value(
@@ -100,25 +101,6 @@ fn born_value<B: BitSource>(circuit: &Circuit<'_>, bits: &B, place: usize, spot:
             spot.net as u32,
         )
     }
-}
-
-fn cell_value<B: BitSource>(
-    circuit: &Circuit<'_>,
-    bits: &B,
-    place: usize,
-    spot: Spot,
-    table: Table,
-    pins: &[Pin],
-) -> Value
-    requires fits { CircuitFits circuit.now }
-    requires spot { IsSpot (job_in circuit.now) place spot }
-    requires before { Standing (job_in circuit.now) spot.position (net_pins pins.now) }
-    requires table { FitsTable (job_in circuit.now).udps table (length pins.now) }
-    requires bits { (k : ℕ) → k < place → B.has bits.now k }
-    ensures { result ≡ cell_rule (job_in circuit.now) (B.bits bits.now) spot.step table pins.now }
-{
-    let values = pin_values(circuit, &AsValues { source: bits }, spot.step, pins);
-    table_value(circuit, table, &values[..pins.len()])
 }
 
 /// The value of a cell's table.

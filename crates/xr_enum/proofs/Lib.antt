@@ -1,4 +1,4 @@
 -- Lemmas on decisions by enumeration.
-pub mod BlockWords
+pub mod BlockLanes
 pub mod FoundNumbers
 pub mod TriedNumbers

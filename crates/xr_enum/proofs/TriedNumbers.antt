@@ -8,21 +8,22 @@ use Rattle.xr_model.specs.declared.line.Body.TheVariants.{Enumerated}
 use Rattle.xr_wave.specs.Contents.{Contents, next_number}
 use Rattle.xr_wave.specs.Token.{HoldsNext}
 use Rattle.xr_cone_nodes.proofs.ConeLaws.{enumerated_law}
-use Rattle.xr_cone_nodes.proofs.LaneBits.{lane_none}
+use Rattle.xr_cone_nodes.proofs.EachLane.{lane_none}
 use Rattle.xr_cone_nodes.specs.declared.node.Node.{Node}
 use Rattle.xr_cone_nodes.specs.Lanes.{in_lane, lane_of, root_in_lane}
 use Rattle.xr_cone_nodes.specs.Nodes.{by_sources, nothing, number_bits, root_bit, sources_of}
-use Rattle.xr_pair.specs.Pairs.{AllAgree, Differs, IsLeastOther, IsNextCone}
+use Rattle.xr_pair.specs.Pairs.{AllAgree, Differs, IsLeastOther}
+use Rattle.xr_cone_nodes.specs.Traced.{IsNextCone}
 use Rattle.xr_enum.specs.Blocks.{IsBlock}
 use Rattle.xr_enum.specs.Found.{AgreeIn, IsLeastIn, bit_by}
 use Rattle.xr_enum.proofs.FoundNumbers.{more_ones}
 
--- In a lane the words of a block are the bits of its number.
+-- In a lane the lanes of a block are the bits of its number.
 pub lane_is : (given : List (List ℕ)) (block lane : ℕ) → length given ≡ 12 → IsBlock block given → lane < 256 → block < 16
     → lane_of given lane ≡ number_bits (256 * block + lane)
 lane_is given block lane long is less within = fun_ext (λ source. ⊎_elim
     (λ (low : source < 12). is source low lane less)
-    (λ (past : 12 ≤ source). ap (λ word. in_lane word lane) (get_or-eq_default given [] (omega (arith, long, past)))
+    (λ (past : 12 ≤ source). ap (λ lane_bits. in_lane lane_bits lane) (get_or-eq_default given [] (omega (arith, long, past)))
     ∙ lane_none lane ∙ sym (ap (λ bit. bit == 1) (bit_at_above (256 * block + lane) 12 source (omega arith) past)))
     (cases_lt source 12))
 

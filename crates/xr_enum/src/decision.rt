@@ -4,14 +4,15 @@ ghost use Rattle.std.specs.Prelude.{◌≡◌, ◌<◌, ◌≤◌, ◌^◌, IfOk
 ghost use Rattle.xr_cone_nodes.specs.Nodes.{chosen, nothing, number_bits, root_bit, sources_of};
 ghost use Rattle.xr_enum.specs.Decision.{IsDecision};
 ghost use Rattle.xr_enum.specs.Found.{IsOther};
-ghost use Rattle.xr_pair.specs.Pairs.{IsNextCone, other_of};
+ghost use Rattle.xr_pair.specs.Pairs.{other_of};
+ghost use Rattle.xr_cone_nodes.specs.Traced.{IsNextCone};
 ghost use Rattle.xr_wave.specs.Token.{LineHolds, pair_line};
 
 use crate::blocks::{fill_block, number_blocks};
 use crate::found::found_upto;
 use std::alloc::Global;
 use xr_base::Memory;
-use xr_cone_nodes::{Cone, Word, Words};
+use xr_cone_nodes::{Cone, ConeLanes, LaneBits};
 use xr_pair::pair_of_lane;
 use xr_wave::{How, Pair, Settled, Wave};
 
@@ -32,10 +33,10 @@ pub fn decide(alloc: Global, wave: &Wave<'_>, cone: &Cone) -> Result<Decided, Me
     ensures { IfOk result (IsDecision wave.now cone.now.nodes) }
 {
     let sources = cone.sources().len();
-    let mut words = Words::new(alloc, cone)?;
+    let mut lane_table = ConeLanes::new(alloc, cone)?;
     let mut found = None;
     'tries: for block in 0..number_blocks(sources) {
-        found = found_upto(cone, &mut words, block, found);
+        found = found_upto(cone, &mut lane_table, block, found);
     }
     match found {
         Some(number) => Ok(Decided::Both(pair_of_number(alloc, wave, cone, number)?)),
@@ -60,7 +61,7 @@ fn pair_of_number(
     ensures other { let other = chosen (sources_of cone.now.nodes) (number_bits number) in
         IfOk result (λ pair. other_of (root_bit nothing cone.now.nodes) pair ≡ other) }
 {
-    let mut given = [Word::zeros(); 12];
+    let mut given = [LaneBits::zeros(); 12];
     fill_block(&mut given, number / 256);
     pair_of_lane(alloc, wave, cone, &given, (number % 256) as u32)
 }

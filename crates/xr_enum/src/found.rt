@@ -5,39 +5,39 @@ ghost use Rattle.std.specs.Prelude.{◌≡◌, ◌+◌, ◌*◌, ◌<◌, ◌≤
 ghost use Rattle.xr_enum.specs.Found.{IsFoundIn, fewer, fewer_of, has_no_fewer};
 
 use crate::blocks::fill_block;
-use xr_cone_nodes::{Cone, Word, Words};
+use xr_cone_nodes::{Cone, ConeLanes, LaneBits};
 use xr_pair::other_lane;
 
 /// What is found up to the end of a block, from what is found before it. A block whose numbers all have as many ones is
 /// left out.
 pub fn found_upto(
     cone: &Cone,
-    words: &mut Words,
+    lane_table: &mut ConeLanes,
     block: usize,
     found: Option<usize>,
 ) -> Option<usize>
-    requires room { words.old.nodes ≡ length cone.now.nodes }
+    requires room { lane_table.old.nodes ≡ length cone.now.nodes }
     requires block { block < 16 }
     requires found { IsFoundIn cone.now.nodes 0 (256 * block) found }
     ensures found { IsFoundIn cone.now.nodes 0 (256 * (block + 1)) result }
-    ensures room { words.new.nodes ≡ words.old.nodes }
+    ensures room { lane_table.new.nodes ≡ lane_table.old.nodes }
 {
     if has_no_fewer(block, found) {
         return found;
     }
-    fewer(found, found_in(cone, words, block))
+    fewer(found, found_in(cone, lane_table, block))
 }
 
 /// What is found in a block.
-fn found_in(cone: &Cone, words: &mut Words, block: usize) -> Option<usize>
-    requires room { words.old.nodes ≡ length cone.now.nodes }
+fn found_in(cone: &Cone, lane_table: &mut ConeLanes, block: usize) -> Option<usize>
+    requires room { lane_table.old.nodes ≡ length cone.now.nodes }
     requires block { block < 16 }
     ensures found { IsFoundIn cone.now.nodes (256 * block) (256 * (block + 1)) result }
-    ensures room { words.new.nodes ≡ words.old.nodes }
+    ensures room { lane_table.new.nodes ≡ lane_table.old.nodes }
 {
-    let mut given = [Word::zeros(); 12];
+    let mut given = [LaneBits::zeros(); 12];
     fill_block(&mut given, block);
-    match other_lane(cone, words, &given) {
+    match other_lane(cone, lane_table, &given) {
         None => None,
         Some(lane) => Some(256 * block + lane as usize),
     }

@@ -1,8 +1,9 @@
--- What a fault beside the replay numbers is there.
-use Rattle.std.proofs.Common.{◌≡◌, inl, inr, ℕ, zero, suc, ◌<◌, ◌==◌, Bool, true, false, List, [], ◌∷◌, length, get_or, Option, None, Some, Result, Ok, Err, refl, sym, ap, subst, ◌∙◌, arith, eq-eqb}
+-- What the first fault of a recording numbers is there, and the answer reports it.
+use Rattle.std.proofs.Common.{◌≡◌, inl, inr, ℕ, zero, suc, ◌<◌, ◌==◌, Bool, true, false, List, [], ◌∷◌, length, get_or}
+use Rattle.std.proofs.Common.{Option, None, Some, Result, Ok, Err, refl, sym, ap, subst, ◌∙◌, arith, eq-eqb}
 use Rattle.std.specs.Prelude.{find, unwrap_or, All, IsOk, slice_index_or}
 use Rattle.std.proofs.lemmas.Bool.Decides.{eqb_tells}
-use Rattle.xr_design.specs.Circuit.{FitsCircuit}
+use Rattle.xr_design.specs.Circuit.{PartsFit}
 use Rattle.xr_design.specs.Job.{Job}
 use Rattle.xr_design.specs.declared.design.Design.{Design}
 use Rattle.xr_design.proofs.OrdersFit.{job_fits}
@@ -21,12 +22,15 @@ use Rattle.xr_replay.specs.declared.differ.Differ.TheVariants as differ
 use Rattle.xr_job.specs.Netlist.{FitsNetlist}
 use Rattle.xr_job.specs.Compared.{IsReplayAnswer, IsThere, bound_in, job_in, refusal_for}
 use Rattle.xr_job.specs.declared.compare_refusal.CompareErr.{CompareErr}
+use Rattle.xr_job.specs.declared.compare_refusal.CompareErr.TheVariants.{Refused}
+use Rattle.xr_job.specs.declared.compare_refusal.CompareRefusal.{CompareRefusal}
 use Rattle.xr_job.specs.Recorded.{FitsRecorded}
 use Rattle.xr_job.specs.declared.netlist.Netlist.{Netlist}
 use Rattle.xr_job.specs.declared.recorded.Recorded.{Recorded}
 
 -- The circuit of a job fits.
-pub circuit_fits : (netlist : Netlist) (recorded : Recorded) → FitsNetlist netlist → FitsRecorded netlist.design recorded → FitsCircuit netlist.design netlist.order recorded.stim
+pub circuit_fits : (netlist : Netlist) (recorded : Recorded) → FitsNetlist netlist
+    → FitsRecorded netlist.design recorded → PartsFit netlist.design netlist.order recorded.stim
 circuit_fits netlist recorded fits own = record {
   fits_job = job_fits netlist.design netlist.order recorded.stim fits.design fits.order own.stim own.some_round own.few_rounds;
   fits_stim = own.stim;
@@ -46,18 +50,22 @@ found_later p b bounds is = rw is refl
 
 -- Bound variables with one number are as wide.
 module _ (recording : Recording) (number : ℕ) where
-  wide_here : (b : Bound) (bounds : List Bound) → IsOf recording b → (b.variable == number) ≡ true → length (bound_in (b ∷ bounds) number).bits ≡ width_at recording number
+  wide_here : (b : Bound) (bounds : List Bound) → IsOf recording b → (b.variable == number) ≡ true
+      → length (bound_in (b ∷ bounds) number).bits ≡ width_at recording number
   wide_here b bounds known is =
       let found : find (λ (c : Bound). c.variable == number) (b ∷ bounds) ≡ Some b = found_here (λ (c : Bound). c.variable == number) b bounds is in
       let same : b.variable ≡ number = one_number b.variable number is in
       ap (λ (o : Option Bound). length (unwrap_or o no_variable).bits) found ∙ (known.wide ∙ ap (width_at recording) same)
 
-  wide_later : (b : Bound) (bounds : List Bound) (w : ℕ) → length (bound_in bounds number).bits ≡ w → (b.variable == number) ≡ false → length (bound_in (b ∷ bounds) number).bits ≡ w
+  wide_later : (b : Bound) (bounds : List Bound) (w : ℕ) → length (bound_in bounds number).bits ≡ w
+      → (b.variable == number) ≡ false → length (bound_in (b ∷ bounds) number).bits ≡ w
   wide_later b bounds w wide is =
       let found = found_later (λ (c : Bound). c.variable == number) b bounds is in
       ap (λ (o : Option Bound). length (unwrap_or o no_variable).bits) found ∙ wide
 
-  found_wide : (bounds : List Bound) (place : ℕ) → place < length bounds → All (IsOf recording) bounds → (slice_index_or bounds place no_variable).variable ≡ number → length (bound_in bounds number).bits ≡ width_at recording number
+  found_wide : (bounds : List Bound) (place : ℕ) → place < length bounds → All (IsOf recording) bounds
+      → (slice_index_or bounds place no_variable).variable ≡ number
+      → length (bound_in bounds number).bits ≡ width_at recording number
   found_wide [] place within known same = absurd (omega arith)
   found_wide (b ∷ bounds) zero within known same = wide_here b bounds (known 0 b (omega arith)) (eq-eqb b.variable number same)
   found_wide (b ∷ bounds) (suc place) within known same =
@@ -79,7 +87,8 @@ module _ (netlist : Netlist) (recorded : Recorded) (own : FitsRecorded netlist.d
       let bit_in = fault.first in
       let here = own.variables fault.place no_variable fault.within in
       let wide = found_wide recorded.recording variable recorded.binding.bound fault.place fault.within own.variables fault.variable_is in
-      let same : length (bound_in recorded.binding.bound variable).bits ≡ length (bound_at recorded.binding fault.place).bits = wide ∙ sym (here.wide ∙ ap (width_at recorded.recording) fault.variable_is) in
+      let same : length (bound_in recorded.binding.bound variable).bits ≡ length (bound_at recorded.binding fault.place).bits =
+      wide ∙ sym (here.wide ∙ ap (width_at recorded.recording) fault.variable_is) in
       (rw same bit_in.within, moment_in moment first.within)
 
 -- A variable that is found is one of the bound ones.
@@ -93,7 +102,9 @@ found_fits P p (c ∷ bounds) b all found =
     by_test true is later = (let same : Some c ≡ Some b = sym (found_here p c bounds is) ∙ found in let one : c ≡ b = cc in subst P one (all 0 c (omega arith)))
     by_test false is later = later (sym (found_later p c bounds is) ∙ found)
 
-pub found_net : (design : Design) (binding : Binding) (number bit : ℕ) (b : Bound) → FitsBinding design binding → find (λ (c : Bound). c.variable == number) binding.bound ≡ Some b → bit < length (bound_in binding.bound number).bits → get_or b.bits bit 0 < length design.nets
+pub found_net : (design : Design) (binding : Binding) (number bit : ℕ) (b : Bound) → FitsBinding design binding
+    → find (λ (c : Bound). c.variable == number) binding.bound ≡ Some b
+    → bit < length (bound_in binding.bound number).bits → get_or b.bits bit 0 < length design.nets
 found_net design binding number bit b fits found within =
     let own : FitsBound design b = found_fits (FitsBound design) (λ (c : Bound). c.variable == number) binding.bound b fits.each found in
     let same : bound_in binding.bound number ≡ b = ap (λ (o : Option Bound). unwrap_or o no_variable) found in
@@ -103,15 +114,16 @@ found_net design binding number bit b fits found within =
 pub unforced : (j : Job) (events : List Event) (history : HistoryView) → events ≡ [] → IsReplayUnder j (forced_by j events) history → IsReplay j history
 unforced j events history none is = subst (λ (l : List Event). IsReplayUnder j (forced_by j l) history) none is
 
--- Where the recording is compared: a fault is told as it is.
-pub answer_refused : (netlist : Netlist) (recorded : Recorded) (d : Differ) (told : CompareErr) (result : Result (Unit {0}) Differ) → result ≡ Err d
+-- Where the recording is compared: a fault is reported as it is.
+pub answer_refused : (netlist : Netlist) (recorded : Recorded) (d : Differ) (refusal : CompareRefusal) (result : Result (Unit {0}) Differ) → result ≡ Err d
     → (IsFaultless (job_in netlist recorded) recorded.recording recorded.binding → IsOk result)
-    → TellsFirst (job_in netlist recorded) recorded.recording recorded.binding result → told ≡ refusal_for netlist recorded d
-    → (answer : Result HistoryView CompareErr) → answer ≡ Err told → IsReplayAnswer netlist recorded answer
-answer_refused netlist recorded d told result is faultless first named answer ends = record {
+    → TellsFirst (job_in netlist recorded) recorded.recording recorded.binding result → refusal ≡ refusal_for netlist recorded d
+    → (answer : Result HistoryView CompareErr) → answer ≡ Err (Refused refusal) → IsReplayAnswer netlist recorded answer
+answer_refused netlist recorded d refusal result is faultless first named answer ends = record {
   replayed = λ none. absurd (not_ok result d is (faultless none));
   refused = λ e refused. inl (
-      ends ∙ ap Err (named ∙ (ap (refusal_for netlist recorded) (same_fault result d refused.differ is (first refused.differ refused.first)) ∙ sym refused.told)));
+      ends ∙ ap (λ (r : CompareRefusal). Err (Refused r))
+      (named ∙ (ap (refusal_for netlist recorded) (same_fault result d refused.differ is (first refused.differ refused.first)) ∙ sym refused.reported)));
 }
   where
     not_ok : (r : Result (Unit {0}) Differ) (x : Differ) → r ≡ Err x → IsOk r → ⊥

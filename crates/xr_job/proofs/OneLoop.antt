@@ -1,5 +1,6 @@
 -- A design has one order or one loop that is told.
-use Rattle.std.proofs.Common.{◌≡◌, ℕ, zero, suc, ◌+◌, ◌-◌, ◌<◌, ◌≤◌, List, length, take, drop, get_or, slice_index, Some, refl, sym, ap, ◌∙◌, subst, arith, inl, inr, add-one}
+use Rattle.std.proofs.Common.{◌≡◌, ℕ, zero, suc, ◌+◌, ◌-◌, ◌<◌, ◌≤◌, List, length, take, drop, get_or, slice_index}
+use Rattle.std.proofs.Common.{Some, refl, sym, ap, ◌∙◌, subst, arith, inl, inr, add-one}
 use Rattle.std.specs.List.{Contains}
 use Rattle.std.proofs.lemmas.Bool.{cases_lt}
 use Rattle.std.proofs.lemmas.List.{ext_get_or, get_or-take}
@@ -43,14 +44,15 @@ module _ (driver : ℕ → Driver) (width : ℕ) where
       let size : length a ≡ length b = long ∙ sym wide in
       sym (take-length a) ∙ both ∙ (ap (λ (k : ℕ). take k b) size ∙ take-length b)
 
-  -- A listing behind which nothing can come is no shorter than another.
+  -- A listing after which nothing can come is no shorter than another.
   stuck_long : (a b : List ℕ) → IsListing driver width a → IsListing driver width b → ((net : ℕ) → IsNext driver width a net → ⊥) → length a < length b → ⊥
   stuck_long a b first second stuck less =
       let both = agree a b first second (length a) (omega arith) (omega arith) in
       let all : take (length a) b ≡ a = sym both ∙ take-length a in
       stuck (slice_index b (length a)) (subst (λ (l : List ℕ). IsNext driver width l (slice_index b (length a))) all (second (length a) less))
 
-  one_listing : (a b : List ℕ) → IsListing driver width a → IsListing driver width b → ((net : ℕ) → IsNext driver width a net → ⊥) → ((net : ℕ) → IsNext driver width b net → ⊥) → a ≡ b
+  one_listing : (a b : List ℕ) → IsListing driver width a → IsListing driver width b
+      → ((net : ℕ) → IsNext driver width a net → ⊥) → ((net : ℕ) → IsNext driver width b net → ⊥) → a ≡ b
   one_listing a b first second stuck ended = elim (cases_lt (length a) (length b)) as (λ _. a ≡ b) [
     | inl less ↦ absurd (stuck_long a b first second stuck less)
     | inr other ↦ elim (cases_lt (length b) (length a)) as (λ _. a ≡ b) [
@@ -72,7 +74,8 @@ module _ (driver : ℕ → Driver) (width : ℕ) where
         | inr more ↦ (let both = agree order told.listed is.next told.listing (length order) (omega arith) more in
             let inside : there.0 < length told.listed = (let h = there.1 in omega (arith, h)) in
             let same : get_or told.listed there.0 0 ≡ net =
-            sym (get_or-take (length order) told.listed there.0 0 there.1) ∙ (ap (λ (l : List ℕ). get_or l there.0 0) (sym both ∙ take-length order) ∙ there.2) in
+            sym (get_or-take (length order) told.listed there.0 0 there.1)
+            ∙ (ap (λ (l : List ℕ). get_or l there.0 0) (sym both ∙ take-length order) ∙ there.2) in
             start.unlisted (subst (λ (n : ℕ). Contains told.listed n) same (Contains-get_or told.listed there.0 0 inside)))
       ]
 

@@ -1,5 +1,5 @@
 -- A recording's text comes to one outcome.
-use Rattle.std.proofs.Common.{◌≡◌, ◌≢◌, ◌⊎◌, inl, inr, ⊎_elim, ℕ, Bool, true, false, List, Option, Some, Result, Ok, Err, IfOk, IfErr, length, refl, sym, ap, subst, ◌∙◌, arith}
+use Rattle.std.proofs.Common.{◌≡◌, inl, inr, ℕ, Bool, true, false, List, Option, Some, Result, Ok, Err, IfOk, IfErr, length, refl, sym, ap, subst, ◌∙◌, arith}
 use Rattle.std.proofs.lemmas.Bool.{cases_lt}
 use Rattle.xr_vcd.specs.Recording.{Recording}
 use Rattle.xr_vcd.specs.RecordingFault.{fault_of}
@@ -15,10 +15,13 @@ use Rattle.xr_match.specs.declared.binding.Bound.{Bound}
 use Rattle.xr_match.specs.declared.refusal.BindErr.{BindErr}
 use Rattle.xr_match.specs.declared.refusal.BindErr.TheVariants as cause
 use Rattle.xr_job.specs.Names.{IsVariableName, variable_name}
-use Rattle.xr_job.specs.Recorded.{IsFaulty, IsRecorded, IsRecordingAlone, IsRecordingAnswer, IsRefusedRecording, IsSame, IsUnbound, RecordingComes, Tells}
+use Rattle.xr_job.specs.Recorded.{IfRecordingRefused, IsFaulty, IsRecorded, IsRecordingAlone, IsRecordingAnswer}
+use Rattle.xr_job.specs.Recorded.{IsRefusedRecording, IsSame, IsUnbound, RecordingComes, Reports}
 use Rattle.xr_job.specs.declared.recorded.Recorded.{Recorded}
 use Rattle.xr_job.specs.declared.recording_refusal.RecordingErr.{RecordingErr}
-use Rattle.xr_job.specs.declared.recording_refusal.RecordingErr.TheVariants.{Grammar, NoScope, RangeDiffers, MissingInput, TooLarge, Memory}
+use Rattle.xr_job.specs.declared.recording_refusal.RecordingErr.TheVariants.{Refused, Memory}
+use Rattle.xr_job.specs.declared.recording_refusal.RecordingRefusal.{RecordingRefusal}
+use Rattle.xr_job.specs.declared.recording_refusal.RecordingRefusal.TheVariants.{Grammar, NoScope, RangeDiffers, MissingInput, TooLarge}
 use Rattle.xr_job.proofs.OneText.{one_fault, one_said, said_without_fault}
 
 both : (b : Bool) → b ≡ true → b ≡ false → ⊥
@@ -71,7 +74,8 @@ module _ (design : Design) (recording : Recording) (scope : List (List ℕ)) (ro
   one_cause (cause.RangeDiffers v) cause.Memory first second = absurd second
   one_cause (cause.MissingInput m) cause.NoScope first second = absurd (both (has_scope scope recording.scopes) (let m = first.matches in m.there) second)
   one_cause (cause.MissingInput m) (cause.RangeDiffers w) first second = absurd (matches_or_first design recording scope w first.matches second.first)
-  one_cause (cause.MissingInput m) (cause.MissingInput n) first second = ap cause.MissingInput (one_least design (bounds_of design scope recording) m n first.least second.least)
+  one_cause (cause.MissingInput m) (cause.MissingInput n) first second =
+      ap cause.MissingInput (one_least design (bounds_of design scope recording) m n first.least second.least)
   one_cause (cause.MissingInput m) (cause.TooLarge p) first second = absurd (all_or_least design (bounds_of design scope recording) m second.inputs first.least)
   one_cause (cause.MissingInput m) cause.Memory first second = absurd second
   one_cause (cause.TooLarge p) cause.NoScope first second = absurd (both (has_scope scope recording.scopes) (let m = first.matches in m.there) second)
@@ -99,17 +103,20 @@ module _ (design : Design) (recording : Recording) (scope : List (List ℕ)) (ro
 same_variable : (v w : Variable) → Some v ≡ Some w → v ≡ w
 same_variable v w same = cc
 
-one_name : (scope : List (List ℕ)) (recording : Recording) (number : ℕ) (a b : List ℕ) → IsVariableName scope recording number a → IsVariableName scope recording number b → a ≡ b
+one_name : (scope : List (List ℕ)) (recording : Recording) (number : ℕ) (a b : List ℕ)
+    → IsVariableName scope recording number a → IsVariableName scope recording number b → a ≡ b
 one_name scope recording number a b first second =
     first.named ∙ (ap (variable_name scope recording) (same_variable first.variable second.variable (sym first.is ∙ second.is)) ∙ sym second.named)
 
--- A cause is told in one way.
-one_telling : (design : Design) (recording : Recording) (scope : List (List ℕ)) (c : BindErr) (e f : RecordingErr) → Tells design recording scope c e → Tells design recording scope c f → e ≡ f
-one_telling design recording scope cause.NoScope e f first second = first ∙ sym second
-one_telling design recording scope (cause.RangeDiffers v) e f first second = first.tells ∙ (ap RangeDiffers (one_name scope recording v first.name second.name first.is second.is) ∙ sym second.tells)
-one_telling design recording scope (cause.MissingInput n) e f first second = first ∙ sym second
-one_telling design recording scope (cause.TooLarge p) e f first second = first ∙ sym second
-one_telling design recording scope cause.Memory e f first second = first ∙ sym second
+-- A cause is reported in one way.
+one_report : (design : Design) (recording : Recording) (scope : List (List ℕ)) (c : BindErr) (e f : RecordingRefusal)
+    → Reports design recording scope c e → Reports design recording scope c f → e ≡ f
+one_report design recording scope cause.NoScope e f first second = first ∙ sym second
+one_report design recording scope (cause.RangeDiffers v) e f first second =
+    first.reports ∙ (ap RangeDiffers (one_name scope recording v first.name second.name first.is second.is) ∙ sym second.reports)
+one_report design recording scope (cause.MissingInput n) e f first second = first ∙ sym second
+one_report design recording scope (cause.TooLarge p) e f first second = first ∙ sym second
+one_report design recording scope cause.Memory e f first second = absurd first
 
 same_recording_fault : (a b : RecordingFault) → Some a ≡ Some b → a ≡ b
 same_recording_fault a b same = cc
@@ -119,20 +126,20 @@ one_faulty text a b first second =
     same_recording_fault a b (sym first.says ∙ (ap fault_of (one_fault text first.cause second.cause first.first second.first) ∙ second.says))
 
 -- A refusal is the first fault of the text, or that of a recording.
-data Refused (text : List ℕ) (design : Design) (scope : List (List ℕ)) (rounds : ℕ) (e : RecordingErr) : Type 0 where
-  faulty : (fault : RecordingFault) → e ≡ Grammar fault → IsFaulty text fault → Refused text design scope rounds e
-  alone : IsRecordingAlone text design scope rounds e → Refused text design scope rounds e
+data RefusedAs (text : List ℕ) (design : Design) (scope : List (List ℕ)) (rounds : ℕ) (e : RecordingRefusal) : Type 0 where
+  faulty : (fault : RecordingFault) → e ≡ Grammar fault → IsFaulty text fault → RefusedAs text design scope rounds e
+  alone : IsRecordingAlone text design scope rounds e → RefusedAs text design scope rounds e
 
-refused_as : (text : List ℕ) (design : Design) (scope : List (List ℕ)) (rounds : ℕ) (e : RecordingErr) → IsRefusedRecording text design scope rounds e → Refused text design scope rounds e
+refused_as : (text : List ℕ) (design : Design) (scope : List (List ℕ)) (rounds : ℕ) (e : RecordingRefusal)
+    → IsRefusedRecording text design scope rounds e → RefusedAs text design scope rounds e
 refused_as text design scope rounds (Grammar fault) refused = faulty fault refl refused
 refused_as text design scope rounds (NoScope name) refused = alone refused
 refused_as text design scope rounds (RangeDiffers name) refused = alone refused
 refused_as text design scope rounds (MissingInput name) refused = alone refused
 refused_as text design scope rounds (TooLarge places) refused = alone refused
-refused_as text design scope rounds Memory refused = absurd refused
 
 module _ (text : List ℕ) (design : Design) (scope : List (List ℕ)) (rounds : ℕ) where
-  one_alone : (e f : RecordingErr) → IsRecordingAlone text design scope rounds e → IsRecordingAlone text design scope rounds f → e ≡ f
+  one_alone : (e f : RecordingRefusal) → IsRecordingAlone text design scope rounds e → IsRecordingAlone text design scope rounds f → e ≡ f
   one_alone e f first second =
       let same = one_said text second.recording first.recording second.says first.says in
       let there : IsUnbound design first.recording scope rounds f = subst (λ (r : Recording). IsUnbound design r scope rounds f) same second.unbound in
@@ -141,46 +148,45 @@ module _ (text : List ℕ) (design : Design) (scope : List (List ℕ)) (rounds :
       one_unbound : (recording : Recording) → IsUnbound design recording scope rounds e → IsUnbound design recording scope rounds f → e ≡ f
       one_unbound recording here there =
           let causes = one_cause design recording scope rounds there.cause here.cause there.refused here.refused in
-          one_telling design recording scope here.cause e f here.tells (subst (λ (c : BindErr). Tells design recording scope c f) causes there.tells)
+          one_report design recording scope here.cause e f here.reports
+          (subst (λ (c : BindErr). Reports design recording scope c f) causes there.reports)
 
-  one_refused : (e f : RecordingErr) → Refused text design scope rounds e → Refused text design scope rounds f → e ≡ f
+  one_refused : (e f : RecordingRefusal) → RefusedAs text design scope rounds e → RefusedAs text design scope rounds f → e ≡ f
   one_refused e f (faulty a is first) (faulty b other second) = is ∙ (ap (λ (x : RecordingFault). Grammar x) (one_faulty text a b first second) ∙ sym other)
   one_refused e f (faulty a is first) (alone second) = absurd (said_without_fault text second.recording first.cause second.says first.first)
   one_refused e f (alone first) (faulty b other second) = absurd (said_without_fault text first.recording second.cause first.says second.first)
   one_refused e f (alone first) (alone second) = one_alone e f first second
 
-  recorded_or_refused : (start : StartRule) (r : Recorded) (e : RecordingErr) → IsRecorded text design scope rounds start r → Refused text design scope rounds e → ⊥
+  recorded_or_refused : (start : StartRule) (r : Recorded) (e : RecordingRefusal)
+      → IsRecorded text design scope rounds start r → RefusedAs text design scope rounds e → ⊥
   recorded_or_refused start r e is (faulty a same first) = said_without_fault text r.recording first.cause is.says first.first
   recorded_or_refused start r e is (alone other) =
       let same = one_said text r.recording other.recording is.says other.says in
       let unbound : IsUnbound design r.recording scope rounds e = subst (λ (x : Recording). IsUnbound design x scope rounds e) (sym same) other.unbound in
       bound_or_cause design r.recording scope rounds r.binding unbound.cause is.bound unbound.refused
 
-  one_recorded : (start : StartRule) (a b : Recorded) → IsRecorded text design scope rounds start a → IsRecorded text design scope rounds start b → (a.recording ≡ b.recording) × (a.binding ≡ b.binding)
+  one_recorded : (start : StartRule) (a b : Recorded) → IsRecorded text design scope rounds start a
+      → IsRecorded text design scope rounds start b → (a.recording ≡ b.recording) × (a.binding ≡ b.binding)
   one_recorded start a b first second =
       let same = one_said text a.recording b.recording first.says second.says in
-      let there : IsBinding design a.recording scope rounds b.binding = subst (λ (x : Recording). IsBinding design x scope rounds b.binding) (sym same) second.bound in
+      let there : IsBinding design a.recording scope rounds b.binding =
+      subst (λ (x : Recording). IsBinding design x scope rounds b.binding) (sym same) second.bound in
       (same, one_binding design a.recording scope rounds a.binding b.binding first.bound there)
 
   -- The law.
-  pub one_recording : (start : StartRule) (a b : Result Recorded RecordingErr) → RecordingComes text design scope rounds start a → RecordingComes text design scope rounds start b → IsSame a b
+  pub one_recording : (start : StartRule) (a b : Result Recorded RecordingRefusal)
+      → RecordingComes text design scope rounds start a → RecordingComes text design scope rounds start b → IsSame a b
   one_recording start (Ok a) (Ok b) first second = one_recorded start a b first second
   one_recording start (Ok a) (Err f) first second = recorded_or_refused start a f first (refused_as text design scope rounds f second)
   one_recording start (Err e) (Ok b) first second = recorded_or_refused start b e second (refused_as text design scope rounds e first)
-  one_recording start (Err e) (Err f) first second = one_refused e f (refused_as text design scope rounds e first) (refused_as text design scope rounds f second)
+  one_recording start (Err e) (Err f) first second =
+      one_refused e f (refused_as text design scope rounds e first) (refused_as text design scope rounds f second)
 
   -- What a call answers, but for memory, is what the text comes to.
-  came : (start : StartRule) (result : Result Recorded RecordingErr) → IfOk result (IsRecorded text design scope rounds start) → IfErr result (λ e. e ≢ Memory → IsRefusedRecording text design scope rounds e)
-      → (result ≡ Err Memory) ⊎ RecordingComes text design scope rounds start result
-  came start (Ok recorded) is refused = inr is
-  came start (Err (Grammar fault)) is refused = inr (refused (λ same. cc))
-  came start (Err (NoScope name)) is refused = inr (refused (λ same. cc))
-  came start (Err (RangeDiffers name)) is refused = inr (refused (λ same. cc))
-  came start (Err (MissingInput name)) is refused = inr (refused (λ same. cc))
-  came start (Err (TooLarge places)) is refused = inr (refused (λ same. cc))
-  came start (Err Memory) is refused = inl refl
-
-  pub recording_answer : (start : StartRule) (result : Result Recorded RecordingErr) → IfOk result (IsRecorded text design scope rounds start) → IfErr result (λ e. e ≢ Memory → IsRefusedRecording text design scope rounds e)
+  pub recording_answer : (start : StartRule) (result : Result Recorded RecordingErr)
+      → IfOk result (IsRecorded text design scope rounds start)
+      → IfErr result (IfRecordingRefused (IsRefusedRecording text design scope rounds))
       → IsRecordingAnswer text design scope rounds start result
-  recording_answer start result is refused = λ outcome comes.
-      ⊎_elim inr (λ own. inl (one_recording start result outcome own comes)) (came start result is refused)
+  recording_answer start (Ok recorded) is refused = λ outcome comes. one_recording start (Ok recorded) outcome is comes
+  recording_answer start (Err (Refused refusal)) is refused = λ outcome comes. one_recording start (Err refusal) outcome refused comes
+  recording_answer start (Err Memory) is refused = λ outcome comes. tt

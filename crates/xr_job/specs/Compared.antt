@@ -1,4 +1,4 @@
--- What a job comes to beside its recording: the replay, or its first fault.
+-- What a job comes to when its replay is compared with its recording: the replay, or the first fault.
 use Rattle.std.specs.Prelude.{◌≡◌, ◌⊎◌, ℕ, ◌<◌, ◌==◌, List, Result, Ok, Err, IsOk, find, length, slice_index, unwrap_or}
 use Rattle.xr_design.specs.Handed.{IsReplay}
 use Rattle.xr_design.specs.History.{HistoryView}
@@ -12,7 +12,9 @@ use Rattle.xr_job.specs.Names.{net_name}
 use Rattle.xr_job.specs.declared.netlist.Netlist.{Netlist}
 use Rattle.xr_job.specs.declared.recorded.Recorded.{Recorded}
 use Rattle.xr_job.specs.declared.compare_refusal.CompareErr.{CompareErr}
-use Rattle.xr_job.specs.declared.compare_refusal.CompareErr.TheVariants.{Disagrees, Unsettled, Memory}
+use Rattle.xr_job.specs.declared.compare_refusal.CompareErr.TheVariants.{Refused, Memory}
+use Rattle.xr_job.specs.declared.compare_refusal.CompareRefusal.{CompareRefusal}
+use Rattle.xr_job.specs.declared.compare_refusal.CompareRefusal.TheVariants.{Disagrees, Unsettled}
 
 abbrev pub job_in : Netlist → Recorded → Job
 job_in netlist recorded = job_of netlist.design netlist.order recorded.stim
@@ -26,32 +28,39 @@ abbrev pub net_of_bit : Binding → ℕ → ℕ → ℕ
 net_of_bit binding variable bit = slice_index (bound_in binding.bound variable).bits bit
 
 -- A fault by the time of its moment and the written name of its net.
-abbrev pub refusal_for : Netlist → Recorded → Differ → CompareErr
+abbrev pub refusal_for : Netlist → Recorded → Differ → CompareRefusal
 refusal_for netlist recorded (differ.Unsettled net moment kept next) =
     Unsettled (slice_index recorded.recording.times moment) (net_name netlist.design net) kept next
 refusal_for netlist recorded (differ.Disagrees variable bit moment was replayed) =
     Disagrees (slice_index recorded.recording.times moment)
     (net_name netlist.design (net_of_bit recorded.binding variable bit)) was replayed
 
--- The first fault of the recording beside the replay.
-pub record IsRefusedReplay (netlist : Netlist) (recorded : Recorded) (e : CompareErr) : Type 0 where
+-- The first fault of the recording, compared with the replay.
+pub record IsRefusedReplay (netlist : Netlist) (recorded : Recorded) (refusal : CompareRefusal) : Type 0 where
   pub differ : Differ
   pub first : IsFirstFault (job_in netlist recorded) recorded.recording recorded.binding differ
-  pub told : e ≡ refusal_for netlist recorded differ
+  pub reported : refusal ≡ refusal_for netlist recorded differ
 
 -- What the job comes to.
-abbrev pub ReplayComes : Netlist → Recorded → Result HistoryView CompareErr → Type 0
+abbrev pub ReplayComes : Netlist → Recorded → Result HistoryView CompareRefusal → Type 0
 ReplayComes netlist recorded (Ok history) =
     IsReplay (job_in netlist recorded) history
     × IsFaultless (job_in netlist recorded) recorded.recording recorded.binding
-ReplayComes netlist recorded (Err e) = IsRefusedReplay netlist recorded e
+ReplayComes netlist recorded (Err refusal) = IsRefusedReplay netlist recorded refusal
 
--- The job's replay has no fault exactly where the answer is one, and a fault is told as it is, unless memory runs out.
+-- An error that is a refusal is of this kind.
+abbrev pub IfCompareRefused : (CompareRefusal → Type 0) → CompareErr → Type 0
+IfCompareRefused P (Refused refusal) = P refusal
+IfCompareRefused P Memory = Unit {0}
+
+-- The job's replay has no fault exactly where the answer is one, and a fault is reported as it is, unless memory runs
+-- out.
 pub record IsReplayAnswer (netlist : Netlist) (recorded : Recorded)
     (result : Result HistoryView CompareErr) : Type 0 where
   pub replayed : IsFaultless (job_in netlist recorded) recorded.recording recorded.binding
       → IsOk result ⊎ (result ≡ Err Memory)
-  pub refused : (e : CompareErr) → IsRefusedReplay netlist recorded e → (result ≡ Err e) ⊎ (result ≡ Err Memory)
+  pub refused : (refusal : CompareRefusal) → IsRefusedReplay netlist recorded refusal
+      → (result ≡ Err (Refused refusal)) ⊎ (result ≡ Err Memory)
 
 -- What a fault numbers is there.
 abbrev pub IsThere : Netlist → Recorded → Differ → Type 0

@@ -6,12 +6,12 @@ use Rattle.xr_netlist_grammar.specs.Fault.{fault_at as grammar_at, fault_words a
 use Rattle.xr_elab_nets.specs.Fault.{fault_at, fault_name, fault_words}
 use Rattle.xr_elab_nets.specs.declared.fault.ElabFault.{ElabFault}
 use Rattle.xr_vcd.specs.RecordingFault.{place_of, text_of}
-use Rattle.xr_job.specs.declared.netlist_refusal.NetlistErr.{NetlistErr}
-use Rattle.xr_job.specs.declared.netlist_refusal.NetlistErr.TheVariants as netlist
-use Rattle.xr_job.specs.declared.recording_refusal.RecordingErr.{RecordingErr}
-use Rattle.xr_job.specs.declared.recording_refusal.RecordingErr.TheVariants as recording
-use Rattle.xr_job.specs.declared.compare_refusal.CompareErr.{CompareErr}
-use Rattle.xr_job.specs.declared.compare_refusal.CompareErr.TheVariants as compare
+use Rattle.xr_job.specs.declared.netlist_refusal.NetlistRefusal.{NetlistRefusal}
+use Rattle.xr_job.specs.declared.netlist_refusal.NetlistRefusal.TheVariants as netlist
+use Rattle.xr_job.specs.declared.recording_refusal.RecordingRefusal.{RecordingRefusal}
+use Rattle.xr_job.specs.declared.recording_refusal.RecordingRefusal.TheVariants as recording
+use Rattle.xr_job.specs.declared.compare_refusal.CompareRefusal.{CompareRefusal}
+use Rattle.xr_job.specs.declared.compare_refusal.CompareRefusal.TheVariants as compare
 
 -- a byte and what is wrong there
 abbrev pub fault_text : ℕ → List ℕ → List ℕ
@@ -41,12 +41,11 @@ design_line fault = design_text (fault_at fault) (fault_name fault) (fault_words
 abbrev pub loop_line : List (List ℕ) → List ℕ
 loop_line names = codes "refused: loop" ++ spaced names
 
-abbrev pub netlist_line : NetlistErr → List ℕ
+abbrev pub netlist_line : NetlistRefusal → List ℕ
 netlist_line (netlist.Grammar fault) =
     codes "refused: netlist at " ++ fault_text (grammar_at fault) (grammar_words fault)
 netlist_line (netlist.Design fault) = design_line fault
 netlist_line (netlist.Loop names) = loop_line names
-netlist_line netlist.Memory = codes "refused: memory"
 
 -- `refused: recording: WORD NAME`
 abbrev pub unbound_line : List ℕ → List ℕ → List ℕ
@@ -56,13 +55,12 @@ unbound_line words name = codes "refused: recording: " ++ named_text words name
 abbrev pub places_line : ℕ → List ℕ
 places_line places = codes "refused: too large places " ++ decimal places
 
-abbrev pub recording_line : RecordingErr → List ℕ
+abbrev pub recording_line : RecordingRefusal → List ℕ
 recording_line (recording.Grammar fault) = codes "refused: recording at " ++ fault_text (place_of fault) (text_of fault)
 recording_line (recording.NoScope name) = unbound_line (codes "no scope") name
 recording_line (recording.RangeDiffers name) = unbound_line (codes "range differs") name
 recording_line (recording.MissingInput name) = unbound_line (codes "missing input") name
 recording_line (recording.TooLarge places) = places_line places
-recording_line recording.Memory = codes "refused: memory"
 
 abbrev pub spot_text : ℕ → List ℕ → List ℕ
 spot_text time name = decimal time ++ (codes " " ++ name)
@@ -82,26 +80,22 @@ unsettled_line time name kept next =
     codes "refused: unsettled #" ++ (spot_text time name
     ++ (value_text (codes " kept ") kept ++ value_text (codes " next ") next))
 
-abbrev pub compare_line : CompareErr → List ℕ
+abbrev pub compare_line : CompareRefusal → List ℕ
 compare_line (compare.Disagrees time name recorded replayed) = disagrees_line time name recorded replayed
 compare_line (compare.Unsettled time name kept next) = unsettled_line time name kept next
-compare_line compare.Memory = codes "refused: memory"
 
-abbrev pub netlist_status : NetlistErr → ℕ
+abbrev pub netlist_status : NetlistRefusal → ℕ
 netlist_status (netlist.Grammar fault) = 5
 netlist_status (netlist.Design fault) = 5
 netlist_status (netlist.Loop names) = 6
-netlist_status netlist.Memory = 20
 
-abbrev pub recording_status : RecordingErr → ℕ
+abbrev pub recording_status : RecordingRefusal → ℕ
 recording_status (recording.Grammar fault) = 7
 recording_status (recording.NoScope name) = 7
 recording_status (recording.RangeDiffers name) = 7
 recording_status (recording.MissingInput name) = 7
 recording_status (recording.TooLarge places) = 11
-recording_status recording.Memory = 20
 
-abbrev pub compare_status : CompareErr → ℕ
+abbrev pub compare_status : CompareRefusal → ℕ
 compare_status (compare.Disagrees time name recorded replayed) = 8
 compare_status (compare.Unsettled time name kept next) = 9
-compare_status compare.Memory = 20

@@ -25,14 +25,14 @@ dotted [] = []
 dotted (name ∷ names) = name ++ dots_before names
 
 -- A variable is named by its scopes below the scope path and its reference, as recorded and without a range directly
--- behind, joined by dots.
-abbrev pub dots_behind : List (List ℕ) → List ℕ
-dots_behind [] = []
-dots_behind (name ∷ names) = name ++ (codes "." ++ dots_behind names)
+-- after it, joined by dots.
+abbrev pub dots_after : List (List ℕ) → List ℕ
+dots_after [] = []
+dots_after (name ∷ names) = name ++ (codes "." ++ dots_after names)
 
 abbrev pub variable_name : List (List ℕ) → Recording → Variable → List ℕ
 variable_name scope recording v =
-    dots_behind (drop (length scope) (path_at recording.scopes v.scope)) ++ without_range v.direct v.reference
+    dots_after (drop (length scope) (path_at recording.scopes v.scope)) ++ without_range v.direct v.reference
 
 -- The variable with this number has this name.
 pub record IsVariableName (scope : List (List ℕ)) (recording : Recording) (number : ℕ) (name : List ℕ) : Type 0 where

@@ -1,6 +1,6 @@
 -- What a recording's text comes to for a design: a recording whose variables are bound, and the stimulus that they
 -- give; or the first refusal.
-use Rattle.std.specs.Prelude.{◌≡◌, ◌⊎◌, ℕ, ◌<◌, ◌≤◌, List, Some, Result, Ok, Err, length, All}
+use Rattle.std.specs.Prelude.{◌≡◌, ℕ, ◌<◌, ◌≤◌, List, Some, Result, Ok, Err, length, All}
 use Rattle.xr_vcd.specs.Faults.{FirstFault, Says}
 use Rattle.xr_vcd.specs.Recording.{Recording}
 use Rattle.xr_vcd.specs.RecordingFault.{fault_of}
@@ -20,7 +20,10 @@ use Rattle.xr_match.specs.declared.refusal.BindErr.TheVariants as cause
 use Rattle.xr_job.specs.Names.{IsVariableName, dotted, net_name}
 use Rattle.xr_job.specs.declared.recorded.Recorded.{Recorded}
 use Rattle.xr_job.specs.declared.recording_refusal.RecordingErr.{RecordingErr}
-use Rattle.xr_job.specs.declared.recording_refusal.RecordingErr.TheVariants.{Grammar, NoScope, RangeDiffers, MissingInput, TooLarge, Memory}
+use Rattle.xr_job.specs.declared.recording_refusal.RecordingErr.TheVariants.{Refused, Memory}
+use Rattle.xr_job.specs.declared.recording_refusal.RecordingRefusal.{RecordingRefusal}
+use Rattle.xr_job.specs.declared.recording_refusal.RecordingRefusal.TheVariants.{Grammar, NoScope, RangeDiffers}
+use Rattle.xr_job.specs.declared.recording_refusal.RecordingRefusal.TheVariants.{MissingInput, TooLarge}
 
 -- The text says a recording, its variables are bound, and this is the stimulus that they give.
 pub record IsRecorded (text : List ℕ) (design : Design) (scope : Texts) (rounds : ℕ)
@@ -36,61 +39,72 @@ pub record IsFaulty (text : List ℕ) (fault : RecordingFault) : Type 0 where
   pub says : fault_of cause ≡ Some fault
 
 -- The refusal names the variable with a number.
-pub record TellsVariable (recording : Recording) (scope : Texts) (number : ℕ) (e : RecordingErr) : Type 0 where
+pub record ReportsVariable (recording : Recording) (scope : Texts) (number : ℕ)
+    (refusal : RecordingRefusal) : Type 0 where
   pub name : List ℕ
   pub is : IsVariableName scope recording number name
-  pub tells : e ≡ RangeDiffers name
+  pub reports : refusal ≡ RangeDiffers name
 
 -- The refusal names what the cause numbers.
-abbrev pub Tells : Design → Recording → Texts → BindErr → RecordingErr → Type 0
-Tells design recording scope cause.NoScope e = e ≡ NoScope (dotted scope)
-Tells design recording scope (cause.RangeDiffers variable) e = TellsVariable recording scope variable e
-Tells design recording scope (cause.MissingInput net) e = e ≡ MissingInput (net_name design net)
-Tells design recording scope (cause.TooLarge places) e = e ≡ TooLarge places
-Tells design recording scope cause.Memory e = e ≡ Memory
+abbrev pub Reports : Design → Recording → Texts → BindErr → RecordingRefusal → Type 0
+Reports design recording scope cause.NoScope refusal = refusal ≡ NoScope (dotted scope)
+Reports design recording scope (cause.RangeDiffers variable) refusal = ReportsVariable recording scope variable refusal
+Reports design recording scope (cause.MissingInput net) refusal = refusal ≡ MissingInput (net_name design net)
+Reports design recording scope (cause.TooLarge places) refusal = refusal ≡ TooLarge places
+Reports design recording scope cause.Memory refusal = ⊥
 
 -- The variables aren't bound, and the refusal names the first cause.
 pub record IsUnbound (design : Design) (recording : Recording) (scope : Texts) (rounds : ℕ)
-    (e : RecordingErr) : Type 0 where
+    (refusal : RecordingRefusal) : Type 0 where
   pub cause : BindErr
   pub refused : bind.IsRefusal design recording scope rounds cause
-  pub tells : Tells design recording scope cause e
+  pub reports : Reports design recording scope cause refusal
 
 -- The text says a recording whose variables aren't bound.
 pub record IsRecordingAlone (text : List ℕ) (design : Design) (scope : Texts) (rounds : ℕ)
-    (e : RecordingErr) : Type 0 where
+    (refusal : RecordingRefusal) : Type 0 where
   pub recording : Recording
   pub says : Says text recording
-  pub unbound : IsUnbound design recording scope rounds e
+  pub unbound : IsUnbound design recording scope rounds refusal
 
--- Each refusal by its cause; want of memory is none of the text's.
-abbrev pub IsRefusedRecording : List ℕ → Design → Texts → ℕ → RecordingErr → Type 0
+-- Each refusal by its cause.
+abbrev pub IsRefusedRecording : List ℕ → Design → Texts → ℕ → RecordingRefusal → Type 0
 IsRefusedRecording text design scope rounds (Grammar fault) = IsFaulty text fault
-IsRefusedRecording text design scope rounds Memory = ⊥
-IsRefusedRecording text design scope rounds e = IsRecordingAlone text design scope rounds e
+IsRefusedRecording text design scope rounds refusal = IsRecordingAlone text design scope rounds refusal
 
 -- What the text comes to.
-abbrev pub RecordingComes : List ℕ → Design → Texts → ℕ → StartRule → Result Recorded RecordingErr → Type 0
+abbrev pub RecordingComes : List ℕ → Design → Texts → ℕ → StartRule → Result Recorded RecordingRefusal → Type 0
 RecordingComes text design scope rounds start (Ok recorded) = IsRecorded text design scope rounds start recorded
-RecordingComes text design scope rounds start (Err e) = IsRefusedRecording text design scope rounds e
+RecordingComes text design scope rounds start (Err refusal) = IsRefusedRecording text design scope rounds refusal
 
--- Two answers are the same: the same recording and binding, which give one stimulus, or the same refusal.
-abbrev pub IsSame : Result Recorded RecordingErr → Result Recorded RecordingErr → Type 0
+-- Two outcomes are the same: the same recording and binding, which give one stimulus, or the same refusal.
+abbrev pub IsSame : Result Recorded RecordingRefusal → Result Recorded RecordingRefusal → Type 0
 IsSame (Ok a) (Ok b) = (a.recording ≡ b.recording) × (a.binding ≡ b.binding)
-IsSame (Ok a) (Err f) = ⊥
-IsSame (Err e) (Ok b) = ⊥
-IsSame (Err e) (Err f) = e ≡ f
+IsSame (Ok a) (Err refusal) = ⊥
+IsSame (Err refusal) (Ok b) = ⊥
+IsSame (Err refusal) (Err other) = refusal ≡ other
+
+-- An error that is a refusal is of this kind.
+abbrev pub IfRecordingRefused : (RecordingRefusal → Type 0) → RecordingErr → Type 0
+IfRecordingRefused P (Refused refusal) = P refusal
+IfRecordingRefused P Memory = Unit {0}
+
+-- An answer is this outcome, unless memory ran out.
+abbrev pub AnswersRecording : Result Recorded RecordingErr → Result Recorded RecordingRefusal → Type 0
+AnswersRecording (Ok recorded) outcome = IsSame (Ok recorded) outcome
+AnswersRecording (Err (Refused refusal)) outcome = IsSame (Err refusal) outcome
+AnswersRecording (Err Memory) outcome = Unit {0}
 
 -- The answer is what the text comes to, unless memory runs out.
 abbrev pub IsRecordingAnswer : List ℕ → Design → Texts → ℕ → StartRule → Result Recorded RecordingErr → Type 0
 IsRecordingAnswer text design scope rounds start result =
-    (outcome : Result Recorded RecordingErr) → RecordingComes text design scope rounds start outcome
-    → IsSame result outcome ⊎ (result ≡ Err Memory)
+    (outcome : Result Recorded RecordingRefusal) → RecordingComes text design scope rounds start outcome
+    → AnswersRecording result outcome
 
 -- The law: a text comes to one outcome.
 abbrev pub RecordingsComeToOne : Type 0
 RecordingsComeToOne = (text : List ℕ) (design : Design) (scope : Texts) (rounds : ℕ) (start : StartRule)
-    (a b : Result Recorded RecordingErr) → RecordingComes text design scope rounds start a
+    (a b : Result Recorded RecordingRefusal) → RecordingComes text design scope rounds start a
     → RecordingComes text design scope rounds start b → IsSame a b
 
 -- A binding fits the recording that it is of.

@@ -1,6 +1,6 @@
 //! The replay of a job, compared with its recording.
 
-ghost use Rattle.std.specs.Prelude.{◌≡◌, ◌≢◌, ◌<◌, ◌==◌, ◌↔◌, IfOk, IfErr, IsOk, find, length, option_map};
+ghost use Rattle.std.specs.Prelude.{◌≡◌, ◌<◌, ◌==◌, ◌↔◌, IfOk, IfErr, IsOk, find, length, option_map};
 ghost use Rattle.xr_design.specs.Handed.{IsReplay};
 ghost use Rattle.xr_match.specs.Binding.{FitsBinding};
 ghost use Rattle.xr_replay.specs.Fault.{IsFaultless, IsFirstFault, TellsFirst};
@@ -8,9 +8,8 @@ ghost use Rattle.xr_job.specs.Compared as spec;
 ghost use Rattle.xr_job.specs.Names.{net_name};
 ghost use Rattle.xr_job.specs.Netlist.{FitsNetlist};
 ghost use Rattle.xr_job.specs.Recorded.{FitsRecorded};
-ghost use Rattle.xr_job.specs.declared.compare_refusal.CompareErr.TheVariants.{Memory as OutOfMemory};
 
-use crate::compare_refusal::CompareErr;
+use crate::compare_refusal::{CompareErr, CompareRefusal};
 use crate::names::name_of;
 use crate::netlist::Netlist;
 use crate::recorded::Recorded;
@@ -31,7 +30,7 @@ pub fn replay_and_compare(
     ensures replay { IfOk result (IsReplay (spec.job_in netlist.now recorded.now)) }
     ensures agrees { IfOk result (λ _.
         IsFaultless (spec.job_in netlist.now recorded.now) recorded.now.recording recorded.now.binding) }
-    ensures refused { IfErr result (λ e. e ≢ OutOfMemory → spec.IsRefusedReplay netlist.now recorded.now e) }
+    ensures refused { IfErr result (spec.IfCompareRefused (spec.IsRefusedReplay netlist.now recorded.now)) }
     ensures exact { spec.IsReplayAnswer netlist.now recorded.now result }
 {
     let forces = Forces::empty(alloc);
@@ -44,11 +43,13 @@ pub fn replay_and_compare(
     )?;
     match compared(netlist, recorded, &history) {
         Ok(()) => Ok(history),
-        Err(differ) => Err(told(alloc, netlist, recorded, differ)?),
+        Err(differ) => Err(CompareErr::Refused(report_difference(
+            alloc, netlist, recorded, differ,
+        )?)),
     }
 }
 
-/// The first fault of the recording beside the replay.
+/// The first fault of the recording, compared with the replay.
 fn compared(netlist: &Netlist, recorded: &Recorded, history: &History) -> Result<(), Differ>
     requires netlist { FitsNetlist netlist.now }
     requires recorded { FitsRecorded netlist.now.design recorded.now }
@@ -71,15 +72,15 @@ fn compared(netlist: &Netlist, recorded: &Recorded, history: &History) -> Result
 }
 
 /// A fault by the time of its moment and the written name of its net.
-fn told(
+fn report_difference(
     alloc: Global,
     netlist: &Netlist,
     recorded: &Recorded,
     differ: Differ,
-) -> Result<CompareErr, Memory>
+) -> Result<CompareRefusal, Memory>
     requires there { spec.IsThere netlist.now recorded.now differ }
     requires binding { FitsBinding netlist.now.design recorded.now.binding }
-    ensures { IfOk result (λ e. e ≡ spec.refusal_for netlist.now recorded.now differ) }
+    ensures { IfOk result (λ refusal. refusal ≡ spec.refusal_for netlist.now recorded.now differ) }
 {
     match differ {
         Differ::Unsettled {
@@ -87,7 +88,7 @@ fn told(
             moment,
             kept,
             next,
-        } => Ok(CompareErr::Unsettled {
+        } => Ok(CompareRefusal::Unsettled {
             time: recorded.recording.times()[moment as usize],
             name: name_of(alloc, &netlist.design, net)?,
             kept,
@@ -99,7 +100,7 @@ fn told(
             moment,
             recorded: was,
             replayed,
-        } => Ok(CompareErr::Disagrees {
+        } => Ok(CompareRefusal::Disagrees {
             time: recorded.recording.times()[moment as usize],
             name: bit_name(alloc, netlist, recorded, variable, bit)?,
             recorded: was,

@@ -1,12 +1,13 @@
-//! Why a recording is refused beside the replay.
+//! Why a recording is refused when the replay of its inputs is compared with it.
 
 use xr_base::Memory;
 use xr_cell::Value;
 use xr_design::Bytes;
 
-/// The first fault of a recording beside the replay of its inputs. A time is in the recording's ticks.
+/// The first fault of a recording when the replay of its inputs is compared with it. A time is in the recording's
+/// ticks.
 #[derive(Debug, Drop)]
-pub enum CompareErr {
+pub enum CompareRefusal {
     /// A bit whose recorded value isn't what the replay shows at the moment's last round, by its net's written name.
     Disagrees {
         time: u64,
@@ -21,11 +22,17 @@ pub enum CompareErr {
         kept: Value,
         next: Value,
     },
+}
+
+/// Why there is no replay that agrees with a recording.
+#[derive(Debug, Drop)]
+pub enum CompareErr {
+    Refused(CompareRefusal),
     /// There was no memory.
     Memory,
 }
 
-impl CompareErr {
+impl CompareRefusal {
     ghost use Rattle.std.specs.Prelude.{◌≡◌};
     ghost use Rattle.xr_job.specs.Lines.{compare_status};
 
@@ -34,9 +41,8 @@ impl CompareErr {
         ensures { result ≡ compare_status self.now }
     {
         match self {
-            CompareErr::Disagrees { .. } => 8,
-            CompareErr::Unsettled { .. } => 9,
-            CompareErr::Memory => 20,
+            CompareRefusal::Disagrees { .. } => 8,
+            CompareRefusal::Unsettled { .. } => 9,
         }
     }
 }
@@ -45,7 +51,7 @@ impl From<Memory> for CompareErr {
     ghost use Rattle.std.specs.Prelude.{◌≡◌};
     ghost use Rattle.xr_job.specs.declared.compare_refusal.CompareErr.TheVariants.{Memory as OutOfMemory};
 
-    ghost from_gives = { λ _ refusal. refusal ≡ OutOfMemory };
+    ghost from_gives = { λ _ e. e ≡ OutOfMemory };
 
     fn from(_: Memory) -> Self {
         CompareErr::Memory

@@ -3,9 +3,9 @@
 ghost use Rattle.std.specs.Prelude.{◌≡◌, ◌++◌, OnOk, decimal};
 ghost use Rattle.xr_job.specs.Lines as spec;
 
-use crate::compare_refusal::CompareErr;
-use crate::netlist_refusal::NetlistErr;
-use crate::recording_refusal::RecordingErr;
+use crate::compare_refusal::CompareRefusal;
+use crate::netlist_refusal::NetlistRefusal;
+use crate::recording_refusal::RecordingRefusal;
 use std::alloc::{AllocError, Global};
 use xr_cell::Value;
 use xr_design::Bytes;
@@ -15,19 +15,18 @@ use xr_elab_nets::ElabFault;
 pub fn put_netlist_line(
     alloc: Global,
     text: &mut Vec<u8>,
-    refusal: &NetlistErr,
+    refusal: &NetlistRefusal,
 ) -> Result<(), AllocError>
     ensures { OnOk result (text.new.items ≡ text.old.items ++ spec.netlist_line refusal.now) }
 {
     match refusal {
-        NetlistErr::Grammar { fault } => {
+        NetlistRefusal::Grammar { fault } => {
             put(text, b"refused: netlist at ")?;
             let words = format!(in alloc; "{fault}")?;
             put_fault(alloc, text, fault.at(), words.as_bytes())
         }
-        NetlistErr::Design { fault } => put_design_fault(alloc, text, fault),
-        NetlistErr::Loop { names } => put_loop(text, names.as_slice()),
-        NetlistErr::Memory => put(text, b"refused: memory"),
+        NetlistRefusal::Design { fault } => put_design_fault(alloc, text, fault),
+        NetlistRefusal::Loop { names } => put_loop(text, names.as_slice()),
     }
 }
 
@@ -72,21 +71,28 @@ fn put_spaced(text: &mut Vec<u8>, names: &[Bytes]) -> Result<(), AllocError>
 pub fn put_recording_line(
     alloc: Global,
     text: &mut Vec<u8>,
-    refusal: &RecordingErr,
+    refusal: &RecordingRefusal,
 ) -> Result<(), AllocError>
     ensures { OnOk result (text.new.items ≡ text.old.items ++ spec.recording_line refusal.now) }
 {
     match refusal {
-        RecordingErr::Grammar { fault } => {
+        RecordingRefusal::Grammar { fault } => {
             put(text, b"refused: recording at ")?;
             let words = format!(in alloc; "{fault}")?;
             put_fault(alloc, text, fault.at(), words.as_bytes())
         }
-        RecordingErr::NoScope { name } => put_unbound(text, b"no scope", name.as_slice()),
-        RecordingErr::RangeDiffers { name } => put_unbound(text, b"range differs", name.as_slice()),
-        RecordingErr::MissingInput { name } => put_unbound(text, b"missing input", name.as_slice()),
-        RecordingErr::TooLarge { places } => put_places(alloc, text, *places),
-        RecordingErr::Memory => put(text, b"refused: memory"),
+        RecordingRefusal::NoScope { name } => put_unbound(text, b"no scope", name.as_slice()),
+        RecordingRefusal::RangeDiffers { name } => put_unbound(
+            text,
+            b"range differs",
+            name.as_slice(),
+        ),
+        RecordingRefusal::MissingInput { name } => put_unbound(
+            text,
+            b"missing input",
+            name.as_slice(),
+        ),
+        RecordingRefusal::TooLarge { places } => put_places(alloc, text, *places),
     }
 }
 
@@ -106,28 +112,27 @@ fn put_places(alloc: Global, text: &mut Vec<u8>, places: u64) -> Result<(), Allo
     Ok(())
 }
 
-/// Puts the line of a refusal beside the replay.
+/// Puts the line of a refusal that the replay gives.
 pub fn put_compare_line(
     alloc: Global,
     text: &mut Vec<u8>,
-    refusal: &CompareErr,
+    refusal: &CompareRefusal,
 ) -> Result<(), AllocError>
     ensures { OnOk result (text.new.items ≡ text.old.items ++ spec.compare_line refusal.now) }
 {
     match refusal {
-        CompareErr::Disagrees {
+        CompareRefusal::Disagrees {
             time,
             name,
             recorded,
             replayed,
         } => put_disagreement(alloc, text, *time, name.as_slice(), *recorded, *replayed),
-        CompareErr::Unsettled {
+        CompareRefusal::Unsettled {
             time,
             name,
             kept,
             next,
         } => put_unsettled(alloc, text, *time, name.as_slice(), *kept, *next),
-        CompareErr::Memory => put(text, b"refused: memory"),
     }
 }
 

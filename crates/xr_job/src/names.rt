@@ -38,13 +38,13 @@ pub fn joined(alloc: Global, names: &[Bytes]) -> Result<Bytes, Memory>
     let mut text = Vec::new(alloc);
     if let [first, rest @ ..] = names {
         text.extend_from_slice(first.as_slice())?;
-        put_behind(&mut text, rest)?;
+        put_dots_before(&mut text, rest)?;
     }
     Ok(Items::from_vec(text))
 }
 
 /// Puts names, each with a dot before it.
-fn put_behind(text: &mut Vec<u8>, names: &[Bytes]) -> Result<(), AllocError>
+fn put_dots_before(text: &mut Vec<u8>, names: &[Bytes]) -> Result<(), AllocError>
     ensures { OnOk result (text.new.items ≡ text.old.items ++ spec.dots_before names.now) }
 {
     'names: for name in names {
@@ -54,8 +54,8 @@ fn put_behind(text: &mut Vec<u8>, names: &[Bytes]) -> Result<(), AllocError>
     Ok(())
 }
 
-/// The name of a variable: its scopes below the scope path and its reference, without a range directly behind, joined by
-/// dots.
+/// The name of a variable: its scopes below the scope path and its reference, without a range directly after it, joined
+/// by dots.
 pub fn variable_name(
     alloc: Global,
     recording: &Recording,
@@ -68,12 +68,12 @@ pub fn variable_name(
     let variable = &recording.variables()[number as usize];
     let path = path_of(alloc, recording, variable.scope)?;
     let mut text = Vec::new(alloc);
-    put_before(&mut text, below(path.as_slice(), scope.len()))?;
+    put_dots_after(&mut text, below(path.as_slice(), scope.len()))?;
     text.extend_from_slice(variable.bare_reference())?;
     Ok(Items::from_vec(text))
 }
 
-/// The names behind the first so many.
+/// The names after the first `count`.
 fn below(path: &[Bytes], count: usize) -> &[Bytes]
     ensures { result.now ≡ drop count path.now }
 {
@@ -84,9 +84,9 @@ fn below(path: &[Bytes], count: usize) -> &[Bytes]
     }
 }
 
-/// Puts names, each with a dot behind it.
-fn put_before(text: &mut Vec<u8>, names: &[Bytes]) -> Result<(), AllocError>
-    ensures { OnOk result (text.new.items ≡ text.old.items ++ spec.dots_behind names.now) }
+/// Puts names, each with a dot after it.
+fn put_dots_after(text: &mut Vec<u8>, names: &[Bytes]) -> Result<(), AllocError>
+    ensures { OnOk result (text.new.items ≡ text.old.items ++ spec.dots_after names.now) }
 {
     'names: for name in names {
         text.extend_from_slice(name.as_slice())?;

@@ -1,15 +1,14 @@
 //! The netlist of a job.
 
-ghost use Rattle.std.specs.Prelude.{◌≢◌, IfOk, IfErr, length};
+ghost use Rattle.std.specs.Prelude.{IfOk, IfErr, length};
 ghost use Rattle.xr_netlist_grammar.specs.Whole.{IsWhole};
 ghost use Rattle.xr_design.specs.Design.{FitsDesign};
 ghost use Rattle.xr_design.specs.Job.{driver_in};
 ghost use Rattle.xr_design.specs.Order.{IsOrder};
 ghost use Rattle.xr_job.specs.Netlist as spec;
-ghost use Rattle.xr_job.specs.declared.netlist_refusal.NetlistErr.TheVariants.{Memory as OutOfMemory};
 
 use crate::names::written_names;
-use crate::netlist_refusal::NetlistErr;
+use crate::netlist_refusal::{NetlistErr, NetlistRefusal};
 use std::alloc::Global;
 use xr_design::{Design, Order};
 use xr_elab::elaborate;
@@ -27,11 +26,11 @@ pub struct Netlist {
     pub order: Order,
 }
 
-/// The design that a text stands for, with the module named `top` as its top, and the order of its nets; or why there is
-/// none.
+/// The design that a text stands for, with the module named `top` as its top, and the order of its nets; or why there
+/// is none.
 pub fn read_netlist(alloc: Global, text: &[u8], top: &str) -> Result<Netlist, NetlistErr>
     ensures netlist { IfOk result (λ netlist. spec.IsOrdered text.now top.now netlist.design netlist.order) }
-    ensures refused { IfErr result (λ e. e ≢ OutOfMemory → spec.IsRefusedNetlist text.now top.now e) }
+    ensures refused { IfErr result (spec.IfNetlistRefused (spec.IsRefusedNetlist text.now top.now)) }
     ensures exact { spec.IsNetlistAnswer text.now top.now result }
     ensures fits { IfOk result spec.FitsNetlist }
 {
@@ -40,7 +39,7 @@ pub fn read_netlist(alloc: Global, text: &[u8], top: &str) -> Result<Netlist, Ne
 
 fn find_netlist(alloc: Global, text: &[u8], top: &str) -> Result<Netlist, NetlistErr>
     ensures netlist { IfOk result (λ netlist. spec.IsOrdered text.now top.now netlist.design netlist.order) }
-    ensures refused { IfErr result (λ e. e ≢ OutOfMemory → spec.IsRefusedNetlist text.now top.now e) }
+    ensures refused { IfErr result (spec.IfNetlistRefused (spec.IsRefusedNetlist text.now top.now)) }
     ensures fits { IfOk result (λ netlist. FitsDesign netlist.design) }
 {
     let tree = parse(alloc, text)?;
@@ -53,7 +52,7 @@ fn find_netlist(alloc: Global, text: &[u8], top: &str) -> Result<Netlist, Netlis
 fn design_of(alloc: Global, tree: &Source, top: &str) -> Result<Design, NetlistErr>
     requires { IsWhole tree.now }
     ensures design { IfOk result (spec.IsDesignIn tree.now top.now) }
-    ensures refused { IfErr result (λ e. e ≢ OutOfMemory → spec.HasNoDesign tree.now top.now e) }
+    ensures refused { IfErr result (spec.IfNetlistRefused (spec.HasNoDesign tree.now top.now)) }
     ensures fits { IfOk result FitsDesign }
 {
     if tree.primitives.as_slice().len() >= MANY_PRIMITIVES {
@@ -67,13 +66,13 @@ fn design_of(alloc: Global, tree: &Source, top: &str) -> Result<Design, NetlistE
 fn order_of(alloc: Global, design: &Design) -> Result<Order, NetlistErr>
     requires { FitsDesign design.now }
     ensures order { IfOk result (IsOrder (driver_in design.now) (length design.now.nets)) }
-    ensures refused { IfErr result (λ e. e ≢ OutOfMemory → spec.HasLoopIn design.now e) }
+    ensures refused { IfErr result (spec.IfNetlistRefused (spec.HasLoopIn design.now)) }
 {
     match order(alloc, design) {
         Ok(order) => Ok(order),
         Err(OrderErr::Loop { nets }) => {
             let names = written_names(alloc, design, nets.as_slice())?;
-            Err(NetlistErr::Loop { names })
+            Err(NetlistErr::Refused(NetlistRefusal::Loop { names }))
         }
         Err(OrderErr::Memory) => Err(NetlistErr::Memory),
     }

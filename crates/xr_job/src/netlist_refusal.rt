@@ -7,18 +7,24 @@ use xr_netlist_grammar::{NetlistFault, ParseErr};
 
 /// Why a netlist is refused: the first cause, in this order.
 #[derive(Debug, Drop)]
-pub enum NetlistErr {
+pub enum NetlistRefusal {
     /// The text is none of the grammar.
     Grammar { fault: NetlistFault },
     /// The text's tree has no design.
     Design { fault: ElabFault },
     /// The design has a loop of these nets, by their written names, from net to argument.
     Loop { names: Items<Bytes> },
+}
+
+/// Why there is no netlist.
+#[derive(Debug, Drop)]
+pub enum NetlistErr {
+    Refused(NetlistRefusal),
     /// There was no memory.
     Memory,
 }
 
-impl NetlistErr {
+impl NetlistRefusal {
     ghost use Rattle.std.specs.Prelude.{◌≡◌};
     ghost use Rattle.xr_job.specs.Lines.{netlist_status};
 
@@ -27,23 +33,22 @@ impl NetlistErr {
         ensures { result ≡ netlist_status self.now }
     {
         match self {
-            NetlistErr::Grammar { .. } => 5,
-            NetlistErr::Design { .. } => 5,
-            NetlistErr::Loop { .. } => 6,
-            NetlistErr::Memory => 20,
+            NetlistRefusal::Grammar { .. } => 5,
+            NetlistRefusal::Design { .. } => 5,
+            NetlistRefusal::Loop { .. } => 6,
         }
     }
 }
 
 impl From<ParseErr> for NetlistErr {
     ghost use Rattle.std.specs.Prelude.{◌≡◌};
-    ghost use Rattle.xr_job.specs.Refusals.{grammar_refusal};
+    ghost use Rattle.xr_job.specs.Refusals.{grammar_err};
 
-    ghost from_gives = { λ cause refusal. refusal ≡ grammar_refusal cause };
+    ghost from_gives = { λ cause e. e ≡ grammar_err cause };
 
     fn from(cause: ParseErr) -> Self {
         match cause.fault() {
-            Some(fault) => NetlistErr::Grammar { fault },
+            Some(fault) => NetlistErr::Refused(NetlistRefusal::Grammar { fault }),
             None => NetlistErr::Memory,
         }
     }
@@ -51,13 +56,13 @@ impl From<ParseErr> for NetlistErr {
 
 impl From<ElabErr> for NetlistErr {
     ghost use Rattle.std.specs.Prelude.{◌≡◌};
-    ghost use Rattle.xr_job.specs.Refusals.{design_refusal};
+    ghost use Rattle.xr_job.specs.Refusals.{design_err};
 
-    ghost from_gives = { λ cause refusal. refusal ≡ design_refusal cause };
+    ghost from_gives = { λ cause e. e ≡ design_err cause };
 
     fn from(cause: ElabErr) -> Self {
         match cause.fault() {
-            Some(fault) => NetlistErr::Design { fault },
+            Some(fault) => NetlistErr::Refused(NetlistRefusal::Design { fault }),
             None => NetlistErr::Memory,
         }
     }
@@ -67,7 +72,7 @@ impl From<Memory> for NetlistErr {
     ghost use Rattle.std.specs.Prelude.{◌≡◌};
     ghost use Rattle.xr_job.specs.declared.netlist_refusal.NetlistErr.TheVariants.{Memory as OutOfMemory};
 
-    ghost from_gives = { λ _ refusal. refusal ≡ OutOfMemory };
+    ghost from_gives = { λ _ e. e ≡ OutOfMemory };
 
     fn from(_: Memory) -> Self {
         NetlistErr::Memory

@@ -1,14 +1,13 @@
 //! The recording of a job.
 
-ghost use Rattle.std.specs.Prelude.{◌≢◌, ◌<◌, ◌≤◌, ◌^◌, IfOk, IfErr, length};
+ghost use Rattle.std.specs.Prelude.{◌<◌, ◌≤◌, ◌^◌, IfOk, IfErr, length};
 ghost use Rattle.xr_design.specs.Design.{FitsDesign};
 ghost use Rattle.xr_job.specs.Netlist.{FitsNetlist};
 ghost use Rattle.xr_job.specs.Recorded as spec;
-ghost use Rattle.xr_job.specs.declared.recording_refusal.RecordingErr.TheVariants.{Memory as OutOfMemory};
 
 use crate::names::{joined, name_of, variable_name};
 use crate::netlist::Netlist;
-use crate::recording_refusal::RecordingErr;
+use crate::recording_refusal::{RecordingErr, RecordingRefusal};
 use std::alloc::Global;
 use xr_base::Memory;
 use xr_design::{Bytes, Design, StartRule, Stim};
@@ -23,8 +22,8 @@ pub struct Recorded {
     pub stim: Stim,
 }
 
-/// What a text records of a design in a scope, for a replay of so many rounds whose registers start by a rule; or why
-/// there is none.
+/// What a text records of a design in a scope, for a replay of a given number of rounds whose registers start by a
+/// rule; or why there is none.
 pub fn read_recording(
     alloc: Global,
     netlist: &Netlist,
@@ -39,8 +38,8 @@ pub fn read_recording(
     requires round { 1 ≤ rounds }
     requires rounds { rounds ≤ 16 }
     ensures recorded { IfOk result (spec.IsRecorded text.now netlist.now.design scope.now rounds start) }
-    ensures refused { IfErr result (λ e.
-        e ≢ OutOfMemory → spec.IsRefusedRecording text.now netlist.now.design scope.now rounds e) }
+    ensures refused { IfErr result (spec.IfRecordingRefused
+        (spec.IsRefusedRecording text.now netlist.now.design scope.now rounds)) }
     ensures exact { spec.IsRecordingAnswer text.now netlist.now.design scope.now rounds start result }
     ensures fits { IfOk result (spec.FitsRecorded netlist.now.design) }
 {
@@ -61,8 +60,8 @@ fn find_recording(
     requires round { 1 ≤ rounds }
     requires rounds { rounds ≤ 16 }
     ensures recorded { IfOk result (spec.IsRecorded text.now design.now scope.now rounds start) }
-    ensures refused { IfErr result (λ e.
-        e ≢ OutOfMemory → spec.IsRefusedRecording text.now design.now scope.now rounds e) }
+    ensures refused { IfErr result (spec.IfRecordingRefused
+        (spec.IsRefusedRecording text.now design.now scope.now rounds)) }
     ensures fits { IfOk result (spec.FitsRecorded design.now) }
 {
     let recording = read_vcd(alloc, text)?;
@@ -88,37 +87,39 @@ fn bind_variables(
     requires round { 1 ≤ rounds }
     requires rounds { rounds ≤ 16 }
     ensures bound { IfOk result (spec.IsBoundTo design.now recording.now scope.now rounds) }
-    ensures refused { IfErr result (λ e.
-        e ≢ OutOfMemory → spec.IsUnbound design.now recording.now scope.now rounds e) }
+    ensures refused { IfErr result (spec.IfRecordingRefused
+        (spec.IsUnbound design.now recording.now scope.now rounds)) }
 {
     match bind(alloc, design, recording, scope, rounds) {
         Ok(binding) => Ok(binding),
-        Err(cause) => Err(told(alloc, design, recording, scope, cause)?),
+        Err(cause) => Err(RecordingErr::Refused(report_cause(
+            alloc, design, recording, scope, cause,
+        )?)),
     }
 }
 
 /// A refusal with the names that it prints.
-fn told(
+fn report_cause(
     alloc: Global,
     design: &Design,
     recording: &Recording,
     scope: &[Bytes],
     cause: BindErr,
-) -> Result<RecordingErr, Memory>
+) -> Result<RecordingRefusal, Memory>
     requires { spec.IsNamed design.now recording.now scope.now cause }
-    ensures { IfOk result (λ e. spec.Tells design.now recording.now scope.now cause e) }
+    ensures { IfOk result (spec.Reports design.now recording.now scope.now cause) }
 {
     match cause {
-        BindErr::NoScope => Ok(RecordingErr::NoScope {
+        BindErr::NoScope => Ok(RecordingRefusal::NoScope {
             name: joined(alloc, scope)?,
         }),
-        BindErr::RangeDiffers { variable } => Ok(RecordingErr::RangeDiffers {
+        BindErr::RangeDiffers { variable } => Ok(RecordingRefusal::RangeDiffers {
             name: variable_name(alloc, recording, scope, variable)?,
         }),
-        BindErr::MissingInput { net } => Ok(RecordingErr::MissingInput {
+        BindErr::MissingInput { net } => Ok(RecordingRefusal::MissingInput {
             name: name_of(alloc, design, net)?,
         }),
-        BindErr::TooLarge { places } => Ok(RecordingErr::TooLarge { places }),
-        BindErr::Memory => Ok(RecordingErr::Memory),
+        BindErr::TooLarge { places } => Ok(RecordingRefusal::TooLarge { places }),
+        BindErr::Memory => Err(Memory),
     }
 }

@@ -6,23 +6,29 @@ use xr_vcd::{RecordingFault, VcdErr};
 
 /// Why a recording of a design is refused: the first cause, in this order.
 #[derive(Debug, Drop)]
-pub enum RecordingErr {
+pub enum RecordingRefusal {
     /// The text is none of the grammar.
     Grammar { fault: RecordingFault },
     /// No scope of the recording has the scope path, which is this word.
     NoScope { name: Bytes },
-    /// The first variable whose width or range isn't that of the nets that it names: its scopes below the scope path and
-    /// its reference, joined by dots.
+    /// The first variable whose width or range isn't that of the nets that it names: its scopes below the scope path
+    /// and its reference, joined by dots.
     RangeDiffers { name: Bytes },
     /// The least net that is an input and is no bit of a bound variable, by its written name.
     MissingInput { name: Bytes },
-    /// More than 2^27 places: so many.
+    /// More than 2^27 places, and how many.
     TooLarge { places: u64 },
+}
+
+/// Why there is no recording of a design.
+#[derive(Debug, Drop)]
+pub enum RecordingErr {
+    Refused(RecordingRefusal),
     /// There was no memory.
     Memory,
 }
 
-impl RecordingErr {
+impl RecordingRefusal {
     ghost use Rattle.std.specs.Prelude.{◌≡◌};
     ghost use Rattle.xr_job.specs.Lines.{recording_status};
 
@@ -31,25 +37,24 @@ impl RecordingErr {
         ensures { result ≡ recording_status self.now }
     {
         match self {
-            RecordingErr::Grammar { .. } => 7,
-            RecordingErr::NoScope { .. } => 7,
-            RecordingErr::RangeDiffers { .. } => 7,
-            RecordingErr::MissingInput { .. } => 7,
-            RecordingErr::TooLarge { .. } => 11,
-            RecordingErr::Memory => 20,
+            RecordingRefusal::Grammar { .. } => 7,
+            RecordingRefusal::NoScope { .. } => 7,
+            RecordingRefusal::RangeDiffers { .. } => 7,
+            RecordingRefusal::MissingInput { .. } => 7,
+            RecordingRefusal::TooLarge { .. } => 11,
         }
     }
 }
 
 impl From<VcdErr> for RecordingErr {
     ghost use Rattle.std.specs.Prelude.{◌≡◌};
-    ghost use Rattle.xr_job.specs.Refusals.{recording_refusal};
+    ghost use Rattle.xr_job.specs.Refusals.{recording_err};
 
-    ghost from_gives = { λ cause refusal. refusal ≡ recording_refusal cause };
+    ghost from_gives = { λ cause e. e ≡ recording_err cause };
 
     fn from(cause: VcdErr) -> Self {
         match cause.fault() {
-            Some(fault) => RecordingErr::Grammar { fault },
+            Some(fault) => RecordingErr::Refused(RecordingRefusal::Grammar { fault }),
             None => RecordingErr::Memory,
         }
     }
@@ -59,7 +64,7 @@ impl From<Memory> for RecordingErr {
     ghost use Rattle.std.specs.Prelude.{◌≡◌};
     ghost use Rattle.xr_job.specs.declared.recording_refusal.RecordingErr.TheVariants.{Memory as OutOfMemory};
 
-    ghost from_gives = { λ _ refusal. refusal ≡ OutOfMemory };
+    ghost from_gives = { λ _ e. e ≡ OutOfMemory };
 
     fn from(_: Memory) -> Self {
         RecordingErr::Memory

@@ -1,6 +1,7 @@
 -- Lemmas of xr_match.
 pub mod NameLemmas
 pub mod BitLemmas
+pub mod BoundBitLemmas
 pub mod HoldLemmas
 pub mod KeyLemmas
 pub mod SolidLemmas
@@ -10,3 +11,4 @@ pub mod StimLemmas
 pub mod HolderLemmas
 pub mod Written
 pub mod Parts
+pub mod Stimuli

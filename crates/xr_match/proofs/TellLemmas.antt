@@ -97,7 +97,7 @@ good_by design recording number v (Bits bits) at some wide fits =
     let w = fits.wide in
     let good : IsGood design recording (bound_of design recording number v bits) = record {
       of = record { known = slice_get_within recording.variables number v at; wide = w ∙ sym (ap width_of at) };
-      fits = record { some = omega (arith, w, some); nets = fits.nets };
+      fits = record { some = omega (arith, w, some); few = (let e : length bits ≤ v.width = omega (arith, w) in omega (arith, e, wide)); nets = fits.nets };
       held = record { nets = fits.nets; few = (let e : length bits ≤ v.width = omega (arith, w) in omega (arith, e, wide)) };
     } in
     All-push (IsGood design recording) [] (bound_of design recording number v bits) (All-nil (IsGood design recording)) good

@@ -1,6 +1,7 @@
 -- Definitions of xr_match: which variables of a recording name which nets, what keeps them from being bound, and the stimulus.
 pub mod Binding
 pub mod Bits
+pub mod BoundBits
 pub mod Bounds
 pub mod Holding
 pub mod Keys

@@ -56,11 +56,12 @@ pub record IsRow (design : Design) (value : ℕ → Value) (row : List Value) : 
   pub long : length row ≡ length design.nets
   pub values : (net : ℕ) → net < length design.nets → slice_index_or row net X ≡ value net
 
--- The moments are the recording's, each with a row of values of the inputs.
+-- The moments are the recording's, each with a row of values of the inputs, and no row is beside them.
 pub record IsStimOf (design : Design) (recording : Recording) (bound : List Bound) (rounds : ℕ) (rule : StartRule) (stim : Stim) : Type 0 where
   pub times : stim.times ≡ recording.times
   pub as_many : stim.rounds ≡ rounds
   pub started : stim.start ≡ rule
+  pub many : length stim.inputs ≡ length recording.times
   pub rows : (moment : ℕ) → moment < length recording.times → IsRow design (input_value design recording bound moment) (slice_index_or stim.inputs moment [])
   pub starts : IsRow design (start_value design recording bound rule) stim.starts
 

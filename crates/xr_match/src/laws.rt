@@ -1,8 +1,18 @@
-//! The law of bound bits, the contract of a function that does nothing.
+//! The laws of bound bits and of stimuli, each the contract of a function that does nothing.
 
 ghost use Rattle.xr_match.specs.Laws as spec;
 
 /// The bits of a variable that is bound are a part of the nets of a name that it tells, in their order.
 pub fn bits_stand_in_order()
     ensures { spec.BitsStandInOrder }
+{}
+
+/// A recording whose variables are bound has one stimulus.
+pub fn one_stimulus()
+    ensures { spec.OneStimulus }
+{}
+
+/// Each bit that a walk gives is of one of the moments, and of a net of the design.
+pub fn bits_are_there()
+    ensures { spec.BitsAreThere }
 {}

@@ -5,6 +5,7 @@
 mod binder;
 mod binding;
 mod bits;
+mod bound_bits;
 mod inputs;
 mod laws;
 mod matcher;
@@ -16,6 +17,7 @@ mod variables;
 
 pub use binder::bind;
 pub use binding::{Binding, Bound};
-pub use laws::bits_stand_in_order;
+pub use bound_bits::{BoundBit, BoundBits};
+pub use laws::{bits_are_there, bits_stand_in_order, one_stimulus};
 pub use refusal::BindErr;
 pub use stimulus::stim_of;

@@ -29,7 +29,7 @@ each_passes test [] passes = refl
 each_passes test (x ∷ xs) passes = rw (passes x, each_passes test xs passes) refl
 
 -- The choice that agrees with some bits on the places.
-abbrev chosen : List ℕ → (ℕ → Bool) → ℕ → Bool
+abbrev pub chosen : List ℕ → (ℕ → Bool) → ℕ → Bool
 chosen [] bits = λ place. false
 chosen (first ∷ places) bits = with_bit first (bits first) (chosen places bits)
 
@@ -39,7 +39,7 @@ either_passes : (test : (ℕ → Bool) → Bool) (first : ℕ) (other : ℕ → 
 either_passes test first other false zeros ones = zeros
 either_passes test first other true zeros ones = ones
 
-chosen_passes : (test : (ℕ → Bool) → Bool) (places : List ℕ) (bits : ℕ → Bool) → list_all test (choices places) ≡ true
+pub chosen_passes : (test : (ℕ → Bool) → Bool) (places : List ℕ) (bits : ℕ → Bool) → list_all test (choices places) ≡ true
     → test (chosen places bits) ≡ true
 chosen_passes test [] bits all = (and_parts (test (λ place. false)) true all).0
 chosen_passes test (first ∷ places) bits all =
@@ -70,7 +70,7 @@ all_along P Q (x ∷ xs) more all = (more x all.0, all_along P Q xs more all.1)
 itself : (first : ℕ) (bits other : ℕ → Bool) → with_bit first (bits first) other first ≡ bits first
 itself first bits other = grind arith
 
-chosen_agrees : (places : List ℕ) (bits : ℕ → Bool) → AgreeOn (chosen places bits) bits places
+pub chosen_agrees : (places : List ℕ) (bits : ℕ → Bool) → AgreeOn (chosen places bits) bits places
 chosen_agrees [] bits = tt
 chosen_agrees (first ∷ places) bits = (
   itself first bits (chosen places bits),

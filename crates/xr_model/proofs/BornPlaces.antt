@@ -9,7 +9,7 @@ use Rattle.xr_design.specs.World.{decided}
 use Rattle.xr_design.proofs.Rules.{AgreeBelow, rule_local, rule_reads}
 use Rattle.xr_design.proofs.Worlds.{decided_known}
 use Rattle.xr_model.specs.Class.{class_of, flipped, is_never_unknown}
-use Rattle.xr_model.specs.Cone.{is_born, is_carried}
+use Rattle.xr_model.specs.Cone.{reads_filling, is_carried}
 use Rattle.xr_model.specs.declared.class.ClassByNumber.{ClassByNumber}
 use Rattle.xr_model.specs.declared.class.ClassByNumber.TheVariants.{Local, Free, Carried, Line}
 use Rattle.xr_model.proofs.CarryLaw.{TrueWorld, world_every, shorter, carry, known_unless}
@@ -50,7 +50,7 @@ born_one j fits c f g v w place Line false seen_v seen_w agree is never_is same 
     seen_w agree (same refl)
 
 born_below : (j : Job) → Fits j → (c : ℕ → Value) (f g v w : ℕ → Bool) (n place : ℕ) → place < n
-    → TrueWorld j c f v place → TrueWorld j c g w place → ((k : ℕ) → k ≤ place → is_born j c k ≡ true → f k ≡ g k)
+    → TrueWorld j c f v place → TrueWorld j c g w place → ((k : ℕ) → k ≤ place → reads_filling j c k ≡ true → f k ≡ g k)
     → v place ≡ w place
 born_below j fits c f g v w zero place below seen_v seen_w same = absurd (omega arith)
 born_below j fits c f g v w (suc n) place below seen_v seen_w same =
@@ -60,6 +60,6 @@ born_below j fits c f g v w (suc n) place below seen_v seen_w same =
 
 -- Fillings that agree at the born places up to a place have worlds with the same bit there.
 pub born_worlds : (j : Job) → Fits j → (c : ℕ → Value) (f g v w : ℕ → Bool) (place : ℕ) → TrueWorld j c f v place
-    → TrueWorld j c g w place → ((k : ℕ) → k ≤ place → is_born j c k ≡ true → f k ≡ g k) → v place ≡ w place
+    → TrueWorld j c g w place → ((k : ℕ) → k ≤ place → reads_filling j c k ≡ true → f k ≡ g k) → v place ≡ w place
 born_worlds j fits c f g v w place seen_v seen_w same = born_below j fits c f g v w (suc place) place (omega arith)
     seen_v seen_w same

@@ -17,15 +17,16 @@ use Rattle.xr_design.specs.declared.design.Driver.TheVariants.{Input, Undriven, 
 use Rattle.xr_design.specs.Job.{Job, at, step_of, net_of, places_of, primitive_of}
 use Rattle.xr_design.specs.Order.{net_pins, position_of, arguments_of_driver}
 use Rattle.xr_design.specs.Fits.{Fits, FitsDriver, StandsBefore}
-use Rattle.xr_design.specs.Register.{looks_before, is_cold, pins_at, old_pins, updated, has_uncertain_clock}
+use Rattle.xr_design.specs.Register.{pins_at, old_pins, updated, has_uncertain_clock}
 use Rattle.xr_design.specs.Replay.{table_of}
 use Rattle.xr_design.specs.Rule.{rule, rule_of, arguments, as_values, known_or}
 use Rattle.xr_design.specs.World.{decided}
+use Rattle.xr_design.proofs.TwoBack.{old_later}
 use Rattle.xr_design.proofs.OrderLemmas.{net_at_position}
 use Rattle.xr_design.proofs.Rules.{AgreeOn, rule_reads, arguments_below, spot, position_in, back_one, later_round}
 use Rattle.xr_design.proofs.Worlds.{decided_known}
 use Rattle.xr_model.specs.Assignment.{assigned, for_every}
-use Rattle.xr_model.specs.Class.{is_bit, flipped, is_local, is_free, is_never_unknown, is_carried_from, are_equal, carries_on, keeps, passes_on, passes_on_of, before, class_in, classes, class_of}
+use Rattle.xr_model.specs.Class.{is_bit, flipped, is_local, is_free, is_never_unknown, is_carrier, are_equal, is_carried_on, keeps, passes_on, passes_on_of, before, class_in, classes, class_of}
 use Rattle.xr_model.specs.declared.class.ClassByNumber.{ClassByNumber}
 use Rattle.xr_model.specs.declared.class.ClassByNumber.TheVariants.{Local, Free, Carried, Line}
 use Rattle.xr_model.proofs.Assignments.{every_passes}
@@ -93,7 +94,7 @@ free_world j fits c f w place seen free =
 
 -- A place whose rule copies an argument place has its bit in every world, or its complement.
 copied_world : (j : Job) → Fits j → (c : ℕ → Value) (f w : ℕ → Bool) (place from : ℕ) (inverted : Bool)
-    → TrueWorld j c f w place → Contains (arguments j c place) from → is_carried_from j c place from inverted ≡ true
+    → TrueWorld j c f w place → Contains (arguments j c place) from → is_carrier j c place from inverted ≡ true
     → w place ≡ flipped inverted (w from)
 copied_world j fits c f w place from inverted seen argument carried =
     let parts = and_parts (is_unknown (c from))
@@ -137,7 +138,7 @@ as_it_is : (inverted : Bool) → not inverted ≡ true → inverted ≡ false
 as_it_is false h = refl
 as_it_is true h = cc
 
-carried_on : (class : ClassByNumber) (before : ℕ) → carries_on class before ≡ true → class ≡ Carried before false
+carried_on : (class : ClassByNumber) (before : ℕ) → is_carried_on class before ≡ true → class ≡ Carried before false
 carried_on (Local bit) before on = cc
 carried_on Free before on = cc
 carried_on (Carried from inverted) before on =
@@ -163,7 +164,7 @@ keeps_world : (j : Job) → Fits j → (c : ℕ → Value) (f w : ℕ → Bool) 
     → TrueWorld j c f w place → Carries w class place → net < j.width → at j step net < place
     → keeps j c class step net ≡ true → w (at j step net) ≡ w (at j (step - 1) net)
 keeps_world j fits c f w class place step net seen carries within earlier kept =
-    let parts = and_parts (not (step == 0)) (are_equal (c (at j step net)) (c (at j (step - 1) net)) || carries_on
+    let parts = and_parts (not (step == 0)) (are_equal (c (at j step net)) (c (at j (step - 1) net)) || is_carried_on
     (class (at j step net)) (at j (step - 1) net)) kept in
     let before_it : at j (step - 1) net < at j step net = back_one j.width step (position_of j.order net)
     (position_of j.order net) (later step parts.0) (position_in j fits net within) in
@@ -172,12 +173,12 @@ keeps_world j fits c f w class place step net seen carries within earlier kept =
     λ h. same_bits (c (at j step net)) (c (at j (step - 1) net)) (w (at j step net)) (w (at j (step - 1) net)) h
     (λ bit is. seen.exact (at j step net) bit earlier is)
     (λ bit is. seen.exact (at j (step - 1) net) bit (omega (arith, before_it, earlier)) is) in
-    let on : carries_on (class (at j step net)) (at j (step - 1) net) ≡ true
+    let on : is_carried_on (class (at j step net)) (at j (step - 1) net) ≡ true
     → w (at j step net) ≡ w (at j (step - 1) net) =
     λ h. carries.law (at j step net) (at j (step - 1) net) false earlier
     (carried_on (class (at j step net)) (at j (step - 1) net) h) in
     ⊎_elim equal on (or_cases (are_equal (c (at j step net)) (c (at j (step - 1) net)))
-    (carries_on (class (at j step net)) (at j (step - 1) net)) parts.1)
+    (is_carried_on (class (at j step net)) (at j (step - 1) net)) parts.1)
 
 -- Pins that all keep at a step have there the values that they had one step before.
 pins_keep : (j : Job) → Fits j → (c : ℕ → Value) (f w : ℕ → Bool) (class : ℕ → ClassByNumber) (place step : ℕ)
@@ -325,9 +326,8 @@ passes_world_of j fits c f w class place (Register latching) seen carries is dri
     )) driver.nets in
     let same : pins_at j (as_values w) (step - 1) pins ≡ pins_at j (as_values w) (step - 1 - 1) pins = pins_keep j fits
     c f w class place (step - 1) pins seen carries earlier parts.1 in
-    let old : old_pins j (as_values w) step pins ≡ pins_at j (as_values w) (step - 1) pins = unless
-    (looks_before j step) _ _ (ap (λ first. first && is_cold j.start_rule) behind.1)
-    ∙ ap (λ k. pins_at j (as_values w) k pins) (sym behind.2) ∙ sym same in
+    let old : old_pins j (as_values w) step pins ≡ pins_at j (as_values w) (step - 1) pins = old_later
+    j (as_values w) step pins (ltb-true 1 step first.0) ∙ ap (λ k. pins_at j (as_values w) k pins) (sym behind.2) ∙ sym same in
     let idle : updated j (as_values w) (bit_value (w (before j place))) step latching ≡ bit_value (w (before j place)) =
     ap (λ values. next (primitive_of j.udps latching.udp) latching.clocks values
     (pins_at j (as_values w) (step - 1) pins) (bit_value (w (before j place)))) old

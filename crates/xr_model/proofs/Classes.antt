@@ -9,7 +9,7 @@ use Rattle.xr_cell.specs.Value.{bit_value}
 use Rattle.xr_design.specs.Job.{Job, at}
 use Rattle.xr_design.specs.Rule.{arguments}
 use Rattle.xr_design.proofs.Prefix.{prefix}
-use Rattle.xr_model.specs.Class.{is_bit, is_local, is_free, is_carried_from, passes_on, carried_or_line, before, class_by, class_in, classes, class_of}
+use Rattle.xr_model.specs.Class.{is_bit, is_local, is_free, is_carrier, passes_on, carried_or_line, before, class_by, class_in, classes, class_of}
 use Rattle.xr_model.specs.declared.class.ClassByNumber.{ClassByNumber}
 use Rattle.xr_model.specs.declared.class.ClassByNumber.TheVariants.{Local, Free, Carried, Line}
 
@@ -28,7 +28,7 @@ ClassSays j c class place (Local bit) = is_local j c place bit ≡ true
 ClassSays j c class place Free = is_free j c place ≡ true
 ClassSays j c class place (Carried from inverted) =
     ((passes_on j c class place ≡ true) × (from ≡ before j place) × (inverted ≡ false)) ⊎ Contains (arguments j c place)
-    from × (is_carried_from j c place from inverted ≡ true)
+    from × (is_carrier j c place from inverted ≡ true)
 ClassSays j c class place Line = Unit {0}
 
 -- What holds of each element holds of one.
@@ -66,7 +66,7 @@ carried_says : (j : Job) (c : ℕ → Value) (class : ℕ → ClassByNumber) (pl
     → ClassSays j c class place (carried_or_line j c place places)
 carried_says j c class place [] are = tt
 carried_says j c class place (from ∷ others) are =
-    pick_one (ClassSays j c class place) (is_carried_from j c place from false) (is_carried_from j c place from true)
+    pick_one (ClassSays j c class place) (is_carrier j c place from false) (is_carrier j c place from true)
     from (carried_or_line j c place others) (λ h. inr (are from (in_front from others), h))
     (λ h. inr (are from (in_front from others), h))
     (carried_says j c class place others (λ k at. are k (behind from k others at)))

@@ -15,7 +15,7 @@ use Rattle.xr_design.specs.Rule.{rule, arguments, old_places, places_at}
 use Rattle.xr_design.specs.World.{decided}
 use Rattle.xr_design.proofs.Rules.{AgreeBelow, rule_local, arguments_below, arguments_certain, spot, position_in, back_one, clock_reads, agree_on, old_below, new_below}
 use Rattle.xr_model.specs.Assignment.{assigned, for_every}
-use Rattle.xr_model.specs.Class.{is_bit, flipped, is_local, is_free, is_never_unknown, is_carried_from, keeps, passes_on_of, carried_or_line, class_by, class_in, classes, class_of}
+use Rattle.xr_model.specs.Class.{is_bit, flipped, is_local, is_free, is_never_unknown, is_carrier, keeps, passes_on_of, carried_or_line, class_by, class_in, classes, class_of}
 use Rattle.xr_model.specs.declared.class.ClassByNumber.{ClassByNumber}
 use Rattle.xr_model.proofs.Assignments.{every_same}
 use Rattle.xr_model.proofs.CarryLaw.{behind_one, nets_along}
@@ -48,7 +48,7 @@ never_unknown_same j fits c d place within agree =
     (λ bits. ap (λ v. not (is_unknown v)) (rule_assigned j fits c d bits place within agree))
 
 carried_same : (j : Job) → Fits j → (c d : ℕ → Value) (place from : ℕ) (inverted : Bool) → place < places_of j
-    → AgreeBelow c d place → from < place → is_carried_from j c place from inverted ≡ is_carried_from j d place from
+    → AgreeBelow c d place → from < place → is_carrier j c place from inverted ≡ is_carrier j d place from
     inverted
 carried_same j fits c d place from inverted within agree less =
     let every : for_every j c place (λ bits. is_bit (rule j c bits place) (flipped inverted (bits from))) ≡ for_every j

@@ -14,6 +14,7 @@ use Rattle.xr_design.specs.Order.{position_of}
 use Rattle.xr_design.proofs.OrderLemmas.{net_at_position, position_within}
 use Rattle.xr_proof.specs.Assignment.{IsMet, HasNoZero}
 use Rattle.xr_proof.specs.Log.{Refutes}
+use Rattle.xr_proof.specs.declared.clause.Cnf.{Cnf}
 use Rattle.xr_model.specs.Places.{among, places_where}
 use Rattle.xr_model.specs.Class.{class_of, flipped}
 use Rattle.xr_model.specs.Root.{Root, root_of}
@@ -279,13 +280,14 @@ model_back j fits c root n model within less =
     ∙ ap model (position_rises vs n (picked_rises (is_variable j c root) (root + 1)) less)
 
 -- A log that refutes the query shows that every consistent valuation gives the place the value that is denied.
-pub refuted_bit : (j : Job) → Fits j → (c : ℕ → Value) (root : ℕ) (v : ℕ → Bool) (query log : List (List ℤ))
-    → root < places_of j → IsConsistent j c root v → IsQuery j c root query → All HasNoZero log → Refutes query log
+pub refuted_bit : (j : Job) → Fits j → (c : ℕ → Value) (root : ℕ) (v : ℕ → Bool) (query : Cnf)
+    → (log : List (List ℤ)) → root < places_of j → IsConsistent j c root v → IsQuery j c root query
+    → All HasNoZero log → Refutes query.clauses log
     → v root ≡ denied_value j c root
 refuted_bit j fits c root v query log within consistent is no_zero refutes =
     ⊎_elim (λ (h : flipped (not (denied_value j c root)) (v root) ≡ true). is_bit (v root) (denied_value j c root) h)
     (λ (h : flipped (not (denied_value j c root)) (v root) ≡ false).
-    absurd (never_met query log refutes no_zero (model_of j c root v)
+    absurd (never_met query.clauses log refutes no_zero (model_of j c root v)
     (λ clause at. met (ap not h) clause (is.each clause at))))
     (cases_Bool (flipped (not (denied_value j c root)) (v root)))
   where

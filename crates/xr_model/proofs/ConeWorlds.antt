@@ -11,7 +11,7 @@ use Rattle.xr_design.specs.World.{decided}
 use Rattle.xr_design.proofs.Rules.{AgreeOn}
 use Rattle.xr_model.specs.Places.{among}
 use Rattle.xr_model.specs.Class.{class_of, flipped, is_never_unknown}
-use Rattle.xr_model.specs.Cone.{essentials, supports_by, supports, in_cone, is_carried, is_born, is_source, table, IsConsistent}
+use Rattle.xr_model.specs.Cone.{essentials, supports_by, supports, in_cone, is_carried, reads_filling, is_source, table, IsConsistent}
 use Rattle.xr_model.specs.declared.class.ClassByNumber.{ClassByNumber}
 use Rattle.xr_model.specs.declared.class.ClassByNumber.TheVariants.{Local, Free, Carried, Line}
 use Rattle.xr_model.proofs.BornPlaces.{never_known}
@@ -141,7 +141,7 @@ pub source_worlds : (j : Job) → Fits j → (c : ℕ → Value) (f g v w : ℕ 
     → v k ≡ w k
 source_worlds j fits c f g v w root k seen_v seen_w same inside =
     below j fits c root f v w (suc k) k (omega arith) seen_v (world_consistent j fits c g w root seen_w)
-    (λ i source open_. same i source ∙ sym (own i (and_parts (in_cone j c root i) (is_born j c i) source).0 open_))
+    (λ i source open_. same i source ∙ sym (own i (and_parts (in_cone j c root i) (reads_filling j c i) source).0 open_))
     inside
   where
     own : (i : ℕ) → in_cone j c root i ≡ true → (IsKnown (table j c i w) → ⊥) → w i ≡ g i

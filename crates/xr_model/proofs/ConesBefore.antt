@@ -1,5 +1,5 @@
 -- Cones, sources and queries depend on the certain values before their place alone.
-use Rattle.std.proofs.Common.{◌≡◌, ℕ, zero, suc, ◌+◌, ◌<◌, ◌≤◌, ◌&&◌, not, Bool, true, false, List, [], ◌∷◌, ◌++◌, refl, sym, ap, ◌∙◌, arith, subst, inl, inr, ⊎_elim, Contains}
+use Rattle.std.proofs.Common.{◌≡◌, ℕ, zero, suc, ◌+◌, ◌<◌, ◌≤◌, ◌&&◌, not, Bool, true, false, List, [], ◌∷◌, ◌++◌, length, refl, sym, ap, ◌∙◌, arith, subst, inl, inr, ⊎_elim, Contains}
 use Rattle.std.specs.Prelude.{ℤ}
 use Rattle.std.proofs.Math.Path.{fun_ext}
 use Rattle.xr_cell.specs.declared.value.Value.{Value}
@@ -11,11 +11,12 @@ use Rattle.xr_design.specs.Rule.{rule}
 use Rattle.xr_design.specs.World.{decided}
 use Rattle.xr_design.proofs.Rules.{AgreeBelow, rule_local, arguments_certain}
 use Rattle.xr_design.proofs.Worlds.{world_bit_local}
+use Rattle.xr_proof.specs.declared.clause.Cnf.{Cnf}
 use Rattle.xr_model.specs.Places.{among, places_where}
 use Rattle.xr_model.specs.Assignment.{with_bit, assigned, for_every}
 use Rattle.xr_model.specs.Class.{class_of, flipped}
 use Rattle.xr_model.specs.Root.{Root, root_of}
-use Rattle.xr_model.specs.Cone.{is_carried, is_born, are_alike, is_essential, essentials, supports_by, supports, cone_by, cone_at, cones, in_cone, cone, is_source, sources, only, table, denied_value}
+use Rattle.xr_model.specs.Cone.{is_carried, reads_filling, are_alike, is_essential, essentials, supports_by, supports, cone_by, cone_at, cones, in_cone, cone, is_source, sources, only, table, denied_value}
 use Rattle.xr_model.specs.Query.{is_variable, variables, signed, literal, IsChoice, IsClause, IsConeClause, denial, IsQueryClause, IsQuery}
 use Rattle.xr_model.proofs.Assignments.{every_same}
 use Rattle.xr_model.proofs.Cones.{cone_within}
@@ -89,7 +90,7 @@ both_same : (a b x y : Bool) → a ≡ b → x ≡ y → a && x ≡ b && y
 both_same a b x y first second = rw (first, second) refl
 
 born_same : (j : Job) → Fits j → (c d : ℕ → Value) (k : ℕ) → k < places_of j → AgreeBelow c d k
-    → is_born j c k ≡ is_born j d k
+    → reads_filling j c k ≡ reads_filling j d k
 born_same j fits c d k within agree = both_same _ _ _ _
     (ap (λ class. not (is_carried class)) (class_local j fits c d k within agree))
     (ap not (never_unknown_same j fits c d k within agree))
@@ -177,12 +178,14 @@ query_clause_moved j fits c d root clause within agree (inl is) = inl
 query_clause_moved j fits c d root clause within agree (inr is) = inr (is ∙ denial_moved j fits c d root within agree)
 
 -- The query of a place.
-pub query_moved : (j : Job) → Fits j → (c d : ℕ → Value) (root : ℕ) (query : List (List ℤ)) → root < places_of j
+pub query_moved : (j : Job) → Fits j → (c d : ℕ → Value) (root : ℕ) (query : Cnf) → root < places_of j
     → AgreeBelow c d root → IsQuery j c root query → IsQuery j d root query
 query_moved j fits c d root query within agree is = record {
+  vars = is.vars ∙ ap length (variables_local j fits c d root within agree);
   each = λ clause at. query_clause_moved j fits c d root clause within agree (is.each clause at);
   all = λ clause member. is.all clause (query_clause_moved j fits d c root clause within (λ k less. sym (agree k less))
       member);
+  once = is.once;
 }
 
 pub denied_moved : (j : Job) → Fits j → (c d : ℕ → Value) (root : ℕ) (bit : Bool) → root < places_of j

@@ -4,6 +4,7 @@ pub mod AssignmentNumbers
 pub mod Assignments
 pub mod BodyGives
 pub mod BornPlaces
+mod Carriers
 pub mod CarryLaw
 pub mod ChoiceNumbers
 pub mod ClassFromClasses

@@ -1,20 +1,24 @@
 -- The query of the multiplexer has the clauses that stand in specs/WorkedMultiplexer, and no other.
-use Rattle.std.proofs.Common.{◌≡◌, ℕ, zero, suc, ◌<◌, ◌==◌, ◌||◌, not, Bool, true, false, List, [], ◌∷◌, map, refl, sym, ap, ◌∙◌, arith, subst, inl, inr, ◌⊎◌, ⊎_elim, Contains}
+use Rattle.std.proofs.Common.{◌≡◌, ◌≢◌, ℕ, zero, suc, ◌<◌, ◌≤◌, lit≤, ◌==◌, ◌||◌, not, Bool, true, false, List, [], ◌∷◌, length, map, refl, sym, ap, ◌∙◌, arith, subst, inl, inr, ◌⊎◌, ⊎_elim, Contains}
 use Rattle.std.specs.Prelude.{ℤ, pos, negsuc, nat_abs}
+use Rattle.std.specs.List.{All, AllPairs}
 use Rattle.std.specs.List.Sorted.{IsStrictlyIncreasing}
 use Rattle.std.proofs.lemmas.Bool.{eqb-true, or_cases}
 use Rattle.std.proofs.lemmas.Bool.Decides.{eqb_tells}
+use Rattle.std.proofs.lemmas.List.Elements.{All-cons, All-nil}
+use Rattle.std.proofs.lemmas.List.Kept.{AllPairs-cons}
 use Rattle.xr_cell.specs.declared.value.Value.TheVariants.{X}
 use Rattle.xr_cell.specs.Value.{bit_value}
 use Rattle.xr_design.specs.Rule.{rule, arguments}
+use Rattle.xr_proof.specs.Log.{Fit}
 use Rattle.xr_model.specs.Places.{among}
 use Rattle.xr_model.specs.Assignment.{with_bit, for_every}
 use Rattle.xr_model.specs.Class.{classes, class_of}
 use Rattle.xr_model.specs.Cone.{is_carried, essentials, cones, in_cone, table}
 use Rattle.xr_model.specs.Query.{literal, Forces, IsChoice, IsClause, IsConeClause, IsQueryClause}
-use Rattle.xr_model.specs.WorkedMultiplexer.{mux, certain_data, mux_query, MuxQuery}
+use Rattle.xr_model.specs.WorkedMultiplexer.{mux, certain_data, mux_clauses, MuxQuery}
 use Rattle.xr_model.proofs.ChoiceNumbers.{split, above, rest_rises, clause_one}
-use Rattle.xr_model.proofs.WorkedMultiplexer.{mux_essentials, a_literal, not_a_literal, b_literal, not_b_literal, y_literal, denial_is, s_table, y_table, y_inside, y_free}
+use Rattle.xr_model.proofs.WorkedMultiplexer.{mux_essentials, a_literal, not_a_literal, b_literal, not_b_literal, y_literal, denial_is, s_table, y_table, y_inside, y_free, mux_variables}
 
 -- A choice for y takes bits of a and b.
 taken : (chosen : ℕ → Bool) → ((k : ℕ) → chosen k ≡ true → among (essentials mux certain_data 6) k ≡ true) → (k : ℕ)
@@ -179,7 +183,7 @@ one_of_variable l m (x ∷ xs) rises at_l at_m same =
 y_clause : (chosen bits : ℕ → Bool) (bit : Bool) (clause : List ℤ)
     → IsChoice (essentials mux certain_data 6) (table mux certain_data 6) chosen bits bit
     → IsClause (literal mux certain_data 6) 6 chosen bits bit clause → (a b u v : Bool) → chosen 4 ≡ a → chosen 5 ≡ b
-    → bits 4 ≡ u → bits 5 ≡ v → Contains mux_query clause
+    → bits 4 ≡ u → bits 5 ≡ v → Contains mux_clauses clause
 y_clause chosen bits bit clause choice is = by
   where
     either : (k : ℕ) → chosen k ≡ true → (k ≡ 4) ⊎ (k ≡ 5)
@@ -200,13 +204,13 @@ y_clause chosen bits bit clause choice is = by
     at_bit : true ≡ bit → IsClause (literal mux certain_data 6) 6 chosen bits true clause
     at_bit one = subst (λ b. IsClause (literal mux certain_data 6) 6 chosen bits b clause) (sym one) is
 
-    first : chosen 4 ≡ true → chosen 5 ≡ false → bits 4 ≡ true → true ≡ bit → Contains mux_query clause
-    first on none one bit_is = subst (Contains mux_query)
+    first : chosen 4 ≡ true → chosen 5 ≡ false → bits 4 ≡ true → true ≡ bit → Contains mux_clauses clause
+    first on none one bit_is = subst (Contains mux_clauses)
         (clause_one (literal mux certain_data 6) 6 chosen bits true (negsuc 0 ∷ pos 2 ∷ []) clause
         (a_clause chosen bits on (a_only none) one) (at_bit bit_is)) (0, omega arith, refl)
 
-    second : chosen 4 ≡ false → chosen 5 ≡ true → bits 5 ≡ true → true ≡ bit → Contains mux_query clause
-    second none on one bit_is = subst (Contains mux_query)
+    second : chosen 4 ≡ false → chosen 5 ≡ true → bits 5 ≡ true → true ≡ bit → Contains mux_clauses clause
+    second none on one bit_is = subst (Contains mux_clauses)
         (clause_one (literal mux certain_data 6) 6 chosen bits true (pos 1 ∷ pos 2 ∷ []) clause
         (b_clause chosen bits on (b_only none) one) (at_bit bit_is)) (1, omega arith, refl)
 
@@ -231,7 +235,7 @@ y_clause chosen bits bit clause choice is = by
         (ap (λ b. literal mux certain_data 6 5 (not b)) zero_b ∙ b_literal) (is.denies 5 on_b) in
         let same : pos 1 ≡ negsuc 0 = one_of_variable (pos 1) (negsuc 0) clause is.ascends a b refl in cc
 
-    by : (a b u v : Bool) → chosen 4 ≡ a → chosen 5 ≡ b → bits 4 ≡ u → bits 5 ≡ v → Contains mux_query clause
+    by : (a b u v : Bool) → chosen 4 ≡ a → chosen 5 ≡ b → bits 4 ≡ u → bits 5 ≡ v → Contains mux_clauses clause
     by false false u v at_a at_b is_u is_v = no_bit (value false false (off 4 at_a) (off 5 at_b))
         (value true true (off 4 at_a) (off 5 at_b))
     by true false false v at_a at_b is_u is_v = no_bit (value false false (λ on. sym is_u) (off 5 at_b))
@@ -291,14 +295,14 @@ open_bit true e = cc
 abbrev Makes : List ℤ → ℕ → Type 0
 Makes clause place = (bit : Bool) (chosen bits : ℕ → Bool) → is_carried (class_of mux certain_data place) ≡ false
     → IsChoice (essentials mux certain_data place) (table mux certain_data place) chosen bits bit
-    → IsClause (literal mux certain_data 6) place chosen bits bit clause → Contains mux_query clause
+    → IsClause (literal mux certain_data 6) place chosen bits bit clause → Contains mux_clauses clause
 
 any_clause : (clause : List ℤ) (place : ℕ) → in_cone mux certain_data 6 place ≡ true → Makes clause place
 any_clause clause place inside = cone_cases place inside (Makes clause)
     (λ bit chosen bits free choice is. open_bit bit (sym (s_table bits) ∙ choice.forces bits (λ k on. refl)))
-    (λ bit chosen bits free choice is. carried_at 3 ns_carried (Contains mux_query clause) free)
-    (λ bit chosen bits free choice is. carried_at 4 a_carried (Contains mux_query clause) free)
-    (λ bit chosen bits free choice is. carried_at 5 b_carried (Contains mux_query clause) free)
+    (λ bit chosen bits free choice is. carried_at 3 ns_carried (Contains mux_clauses clause) free)
+    (λ bit chosen bits free choice is. carried_at 4 a_carried (Contains mux_clauses clause) free)
+    (λ bit chosen bits free choice is. carried_at 5 b_carried (Contains mux_clauses clause) free)
     (λ bit chosen bits free choice is. y_clause chosen bits bit clause choice is (chosen 4) (chosen 5) (bits 4) (bits 5)
     refl refl refl refl)
 
@@ -306,7 +310,7 @@ split_clause : (x l : List ℤ) (xs : List (List ℤ)) → Contains (x ∷ xs) l
 split_clause x l xs (zero, less, is) = inl (sym is)
 split_clause x l xs (suc k, less, is) = inr (k, omega arith, is)
 
-each_clause : (clause : List ℤ) → Contains mux_query clause → IsQueryClause mux certain_data 6 clause
+each_clause : (clause : List ℤ) → Contains mux_clauses clause → IsQueryClause mux certain_data 6 clause
 each_clause clause at =
     ⊎_elim (λ (e : clause ≡ negsuc 0 ∷ pos 2 ∷ []). inl (subst (IsConeClause mux certain_data 6) (sym e) a_is))
     (λ (at : Contains ((pos 1 ∷ pos 2 ∷ []) ∷ (negsuc 1 ∷ []) ∷ []) clause). ⊎_elim
@@ -318,10 +322,48 @@ each_clause clause at =
     (split_clause (pos 1 ∷ pos 2 ∷ []) clause ((negsuc 1 ∷ []) ∷ []) at))
     (split_clause (negsuc 0 ∷ pos 2 ∷ []) clause ((pos 1 ∷ pos 2 ∷ []) ∷ (negsuc 1 ∷ []) ∷ []) at)
 
-all_clauses : (clause : List ℤ) → IsQueryClause mux certain_data 6 clause → Contains mux_query clause
+all_clauses : (clause : List ℤ) → IsQueryClause mux certain_data 6 clause → Contains mux_clauses clause
 all_clauses clause (inl is) = any_clause clause is.place is.inside is.bit is.chosen is.bits is.free is.choice
     is.is_clause
-all_clauses clause (inr is) = subst (Contains mux_query) (sym (is ∙ denial_is)) (2, omega arith, refl)
+all_clauses clause (inr is) = subst (Contains mux_clauses) (sym (is ∙ denial_is)) (2, omega arith, refl)
+
+-- The literals are those of the two variables, and no two clauses are equal.
+few_variables : Fit 2 mux_clauses
+few_variables = All-cons Low (negsuc 0 ∷ pos 2 ∷ []) ((pos 1 ∷ pos 2 ∷ []) ∷ (negsuc 1 ∷ []) ∷ [])
+    (two (negsuc 0) (pos 2) (omega arith) (omega arith))
+    (All-cons Low (pos 1 ∷ pos 2 ∷ []) ((negsuc 1 ∷ []) ∷ [])
+    (two (pos 1) (pos 2) (omega arith) (omega arith))
+    (All-cons Low (negsuc 1 ∷ []) [] (All-cons Small (negsuc 1) [] (omega arith) (All-nil Small)) (All-nil Low)))
+  where
+    Small : ℤ → Type 0
+    Small l = nat_abs l ≤ 2
+
+    Low : List ℤ → Type 0
+    Low clause = All Small clause
+
+    two : (l m : ℤ) → Small l → Small m → All Small (l ∷ m ∷ [])
+    two l m a b = All-cons Small l (m ∷ []) a (All-cons Small m [] b (All-nil Small))
+
+each_apart : AllPairs (λ (a : List ℤ) b. a ≢ b) mux_clauses
+each_apart = AllPairs-cons Apart (negsuc 0 ∷ pos 2 ∷ []) ((pos 1 ∷ pos 2 ∷ []) ∷ (negsuc 1 ∷ []) ∷ [])
+    (All-cons (Apart (negsuc 0 ∷ pos 2 ∷ [])) (pos 1 ∷ pos 2 ∷ []) ((negsuc 1 ∷ []) ∷ []) (λ e. cc)
+    (All-cons (Apart (negsuc 0 ∷ pos 2 ∷ [])) (negsuc 1 ∷ []) [] (λ e. cc) (All-nil (Apart (negsuc 0 ∷ pos 2 ∷ [])))))
+    (AllPairs-cons Apart (pos 1 ∷ pos 2 ∷ []) ((negsuc 1 ∷ []) ∷ [])
+    (All-cons (Apart (pos 1 ∷ pos 2 ∷ [])) (negsuc 1 ∷ []) [] (λ e. cc) (All-nil (Apart (pos 1 ∷ pos 2 ∷ []))))
+    (AllPairs-cons Apart (negsuc 1 ∷ []) [] (All-nil (Apart (negsuc 1 ∷ []))) (λ i j d less within. absurd (omega arith))))
+  where
+    Apart : List ℤ → List ℤ → Type 0
+    Apart a b = a ≢ b
 
 pub mux_query_is : MuxQuery
-mux_query_is = record { each = each_clause; all = all_clauses }
+mux_query_is = (
+  record { vars = 2; clauses = mux_clauses; few = lit≤ tt; fit = few_variables },
+  refl,
+  refl,
+  record {
+    vars = sym (ap length mux_variables);
+    each = each_clause;
+    all = all_clauses;
+    once = each_apart;
+  },
+)

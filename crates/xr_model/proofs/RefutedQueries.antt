@@ -7,7 +7,7 @@ use Rattle.std.proofs.Math.ListN.{get_or-append}
 use Rattle.std.proofs.Math.Seq.{get_or-append_seam}
 use Rattle.xr_proof.specs.Assignment.{value_of, IsMet, HasNoZero, assigned}
 use Rattle.xr_proof.specs.Log.{Refutes}
-use Rattle.xr_proof.proofs.Laws.{all_from}
+use Rattle.xr_proof.proofs.ClosedSets.{all_from}
 use Rattle.xr_proof.proofs.Sound.{no_model}
 
 -- The first n values of an assignment as a list.

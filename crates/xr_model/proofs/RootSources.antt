@@ -11,7 +11,7 @@ use Rattle.xr_design.specs.Waveform.{written_at, certain}
 use Rattle.xr_model.specs.Places.{places_where}
 use Rattle.xr_model.specs.Class.{class_of}
 use Rattle.xr_model.specs.Root.{Root, root_of}
-use Rattle.xr_model.specs.Cone.{essentials, supports_by, in_cone, is_carried, is_born, is_source, sources}
+use Rattle.xr_model.specs.Cone.{essentials, supports_by, in_cone, is_carried, reads_filling, is_source, sources}
 use Rattle.xr_model.specs.Sound.{HasLicence, SoundBy, Sound}
 use Rattle.xr_model.specs.declared.class.ClassByNumber.{ClassByNumber}
 use Rattle.xr_model.specs.declared.class.ClassByNumber.TheVariants.{Local, Free, Carried, Line}
@@ -38,7 +38,7 @@ nowhere false born none = refl
 nowhere true born none = none
 
 not_born : (j : Job) (c : ℕ → Value) (place from : ℕ) (inverted : Bool) → class_of j c place ≡ Carried from inverted
-    → is_born j c place ≡ false
+    → reads_filling j c place ≡ false
 not_born j c place from inverted is = rw is refl
 
 -- A carried place has the sources of the place that it is carried from.
@@ -47,7 +47,7 @@ source_carried : (j : Job) → Fits j → (c : ℕ → Value) (place from k : �
 source_carried j fits c place from k inverted within is = ⊎_elim here elsewhere (cases_Bool (place == k))
   where
     born : Bool
-    born = is_born j c k
+    born = reads_filling j c k
 
     cone : in_cone j c place k ≡ (place == k) || (in_cone j c from k || false)
     cone = cone_is j fits c place k within ∙ ap (λ class. (place == k) || list_any (λ support. in_cone j c support k)
@@ -55,21 +55,21 @@ source_carried j fits c place from k inverted within is = ⊎_elim here elsewher
 
     here : (place == k) ≡ true → is_source j c place k ≡ is_source j c from k
     here same =
-        let none : is_born j c k ≡ false = subst (λ i. is_born j c i ≡ false) (eqb-true place k same)
+        let none : reads_filling j c k ≡ false = subst (λ i. reads_filling j c i ≡ false) (eqb-true place k same)
         (not_born j c place from inverted is) in
-        nowhere (in_cone j c place k) (is_born j c k) none ∙ sym (nowhere (in_cone j c from k) (is_born j c k) none)
+        nowhere (in_cone j c place k) (reads_filling j c k) none ∙ sym (nowhere (in_cone j c from k) (reads_filling j c k) none)
 
     elsewhere : (place == k) ≡ false → is_source j c place k ≡ is_source j c from k
     elsewhere other =
-        ap (λ inside. inside && is_born j c k) (cone ∙ ap (λ first. first || (in_cone j c from k || false)) other)
-        ∙ one_support (in_cone j c from k) (is_born j c k)
+        ap (λ inside. inside && reads_filling j c k) (cone ∙ ap (λ first. first || (in_cone j c from k || false)) other)
+        ∙ one_support (in_cone j c from k) (reads_filling j c k)
 
 not_source : (j : Job) → Fits j → (c : ℕ → Value) (root k : ℕ) → root < places_of j → root < k
     → is_source j c root k ≡ false
 not_source j fits c root k within behind =
     ⊎_elim (λ (h : is_source j c root k ≡ true).
     (let low = cone_within j fits c root k within
-    (and_parts (in_cone j c root k) (is_born j c k) h).0 in absurd (omega (arith, low, behind))))
+    (and_parts (in_cone j c root k) (reads_filling j c k) h).0 in absurd (omega (arith, low, behind))))
     (λ (h : is_source j c root k ≡ false). h) (cases_Bool (is_source j c root k))
 
 places_same : (p q : ℕ → Bool) (n : ℕ) → ((k : ℕ) → p k ≡ q k) → places_where p n ≡ places_where q n

@@ -8,7 +8,7 @@ use Rattle.xr_design.specs.Filling.{IsFilling, bit_of}
 use Rattle.xr_design.specs.Fits.{Fits}
 use Rattle.xr_design.proofs.Numbers.{filling_at, bit_of_at}
 use Rattle.xr_model.specs.Places.{among, places_where}
-use Rattle.xr_model.specs.Cone.{in_cone, is_born, is_source, sources, source_filling}
+use Rattle.xr_model.specs.Cone.{in_cone, reads_filling, is_source, sources, source_filling}
 use Rattle.xr_model.proofs.Cones.{cone_within}
 use Rattle.xr_model.proofs.PlacesWhere.{picked_in, in_picked, picked_rises, among_all}
 
@@ -52,7 +52,7 @@ source_given j fits c root bits k within source =
     test place = is_source j c root place && bits place
 
     inside : in_cone j c root k ≡ true
-    inside = (and_parts (in_cone j c root k) (is_born j c k) source).0
+    inside = (and_parts (in_cone j c root k) (reads_filling j c k) source).0
 
     low : k < root + 1
     low = (let up = cone_within j fits c root k within inside in omega (arith, up))
@@ -68,6 +68,6 @@ source_given j fits c root bits k within source =
 pub source_among : (j : Job) → Fits j → (c : ℕ → Value) (root k : ℕ) → root < places_of j → is_source j c root k ≡ true
     → among (sources j c root) k ≡ true
 source_among j fits c root k within source =
-    let inside : in_cone j c root k ≡ true = (and_parts (in_cone j c root k) (is_born j c k) source).0 in
+    let inside : in_cone j c root k ≡ true = (and_parts (in_cone j c root k) (reads_filling j c k) source).0 in
     let up = cone_within j fits c root k within inside in
     picked_in (is_source j c root) (root + 1) k (omega (arith, up)) source

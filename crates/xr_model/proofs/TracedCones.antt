@@ -16,7 +16,7 @@ use Rattle.xr_model.specs.Places.{among}
 use Rattle.xr_model.specs.Assignment.{assigned}
 use Rattle.xr_model.specs.Class.{class_of}
 use Rattle.xr_model.specs.Cone.{is_carried, is_essential, essentials, supports_by, supports, Reaches, itself, further, table}
-use Rattle.xr_model.specs.Sound.{IsCarried, FollowsClass, SoundBy, Sound}
+use Rattle.xr_model.specs.Sound.{FollowsCarrier, FollowsClass, SoundBy, Sound}
 use Rattle.xr_model.specs.Mask.{masked, mask_of}
 use Rattle.xr_model.specs.declared.class.ClassByNumber.{ClassByNumber}
 use Rattle.xr_model.specs.declared.class.ClassByNumber.TheVariants.{Local, Free, Carried, Line}
@@ -115,7 +115,7 @@ pub sound_carries : (j : Job) (limit : ℕ) → Fits j → (shown : ℕ → Valu
     → Sound j limit shown waveform lines → CarriesUncertain j (certain waveform) (length waveform)
 unfolding certain
 sound_carries j limit fits shown waveform lines sound k from inverted less is open_ =
-    let follows : IsCarried inverted (written_at waveform from) (written_at waveform k) =
+    let follows : FollowsCarrier inverted (written_at waveform from) (written_at waveform k) =
     subst (λ class. FollowsClass (written_at waveform) class (written_at waveform k)) is (sound.classes k less) in
     mark_open (written_at waveform from).mark (written_at waveform from).value
     (λ e. sound_open j limit waveform lines k (written_at waveform k).mark (written_at waveform k).value

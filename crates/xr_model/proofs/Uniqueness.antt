@@ -21,21 +21,15 @@ use Rattle.xr_model.proofs.WrittenPlaces.{written_moved}
 use Rattle.xr_model.proofs.ClassesBefore.{class_local}
 use Rattle.xr_model.proofs.Roots.{carried_below}
 
-exact_by : (j : Job) (limit : ℕ) (waveform : List Written) (lines : List ALine) (place : ℕ) (mark : Mark)
+pub exact_by : (j : Job) (limit : ℕ) (waveform : List Written) (lines : List ALine) (place : ℕ) (mark : Mark)
     (value : Value) → (mark ≡ Undecided → ⊥) → SoundBy j limit waveform lines place mark value
     → ExactBy j waveform place mark value
 exact_by j limit waveform lines place Certain Zero decided sound = sound
 exact_by j limit waveform lines place Certain One decided sound = sound
 exact_by j limit waveform lines place Certain X decided sound = sound
 exact_by j limit waveform lines place Certain Z decided sound = sound
-exact_by j limit waveform lines place Unknown value decided sound = record {
-  zero = (stated j (certain waveform) lines place).zero;
-  one = (stated j (certain waveform) lines place).one;
-  zero_filling = sound.zero_filling;
-  one_filling = sound.one_filling;
-  gives_zero = sound.gives_zero;
-  gives_one = sound.gives_one;
-}
+exact_by j limit waveform lines place Unknown value decided sound =
+    record { pair = stated j (certain waveform) lines place; gives = sound }
 exact_by j limit waveform lines place Undecided value decided sound = absurd (decided refl)
 
 pub sound_exact : (j : Job) (limit : ℕ) (shown : ℕ → Value) (waveform : List Written) (lines : List ALine)

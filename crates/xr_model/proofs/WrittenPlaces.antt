@@ -8,7 +8,7 @@ use Rattle.xr_design.specs.declared.waveform.Written.{Written}
 use Rattle.xr_design.specs.declared.waveform.Mark.{Mark}
 use Rattle.xr_design.specs.declared.waveform.Mark.TheVariants.{Certain, Unknown, Undecided}
 use Rattle.xr_model.specs.Yields.{uncertain, flipped_value, carried_of, written_by}
-use Rattle.xr_model.specs.Sound.{IsCarried, FollowsClass, IsOptimistic}
+use Rattle.xr_model.specs.Sound.{FollowsCarrier, FollowsClass, IsOptimistic}
 use Rattle.xr_model.specs.declared.class.ClassByNumber.{ClassByNumber}
 use Rattle.xr_model.specs.declared.class.ClassByNumber.TheVariants.{Local, Free, Carried, Line}
 use Rattle.xr_model.specs.declared.line.Body.{Body}
@@ -56,7 +56,7 @@ honest_open Unknown value shown honest is known = honest known
 honest_open Undecided value shown honest is known = cc
 
 carried_follows : (inverted : Bool) (from : Written) (mark : Mark) (value shown : Value) → from.mark ≡ mark
-    → from.value ≡ value → IsCarried inverted from (carried_of inverted mark value shown)
+    → from.value ≡ value → FollowsCarrier inverted from (carried_of inverted mark value shown)
 carried_follows inverted from Certain value shown mark_is value_is =
     record { mark = sym mark_is; value = λ e. ap (flipped_value inverted) (sym value_is) }
 carried_follows inverted from Unknown value shown mark_is value_is = record { mark = sym mark_is; value = λ e. cc }
@@ -75,7 +75,7 @@ pub follows_moved : (e g : ℕ → Written) (class : ClassByNumber) (x : Written
     → FollowsClass g class x
 follows_moved e g (Local bit) x same follows = follows
 follows_moved e g Free x same follows = follows
-follows_moved e g (Carried from inverted) x same follows = subst (λ w. IsCarried inverted w x) (same from inverted refl)
+follows_moved e g (Carried from inverted) x same follows = subst (λ w. FollowsCarrier inverted w x) (same from inverted refl)
     follows
 follows_moved e g Line x same follows = follows
 

@@ -42,8 +42,8 @@ abbrev pub is_never_unknown : Job → (ℕ → Value) → ℕ → Bool
 is_never_unknown j certain place = for_every j certain place (λ bits. not (is_unknown (rule j certain bits place)))
 
 -- It gives the bit of an uncertain argument place for every assignment, or its complement.
-abbrev pub is_carried_from : Job → (ℕ → Value) → ℕ → ℕ → Bool → Bool
-is_carried_from j certain place from inverted =
+abbrev pub is_carrier : Job → (ℕ → Value) → ℕ → ℕ → Bool → Bool
+is_carrier j certain place from inverted =
     is_unknown (certain from)
     && for_every j certain place (λ bits. is_bit (rule j certain bits place) (flipped inverted (bits from)))
 
@@ -51,18 +51,18 @@ is_carried_from j certain place from inverted =
 abbrev pub are_equal : Value → Value → Bool
 are_equal x y = (is_zero x && is_zero y) || (is_one x && is_one y)
 
-abbrev pub carries_on : ClassByNumber → ℕ → Bool
-carries_on (Local bit) before = false
-carries_on Free before = false
-carries_on (Carried from inverted) before = (from == before) && not inverted
-carries_on Line before = false
+abbrev pub is_carried_on : ClassByNumber → ℕ → Bool
+is_carried_on (Local bit) before = false
+is_carried_on Free before = false
+is_carried_on (Carried from inverted) before = (from == before) && not inverted
+is_carried_on Line before = false
 
 -- A net keeps at a step where its place and the one a step before are certain with the same value, or where the class
 -- of its place is Carried from the one a step before, as it is.
 abbrev pub keeps : Job → (ℕ → Value) → (ℕ → ClassByNumber) → ℕ → ℕ → Bool
 keeps j certain class step net =
     not (step == 0) && (are_equal (certain (at j step net)) (certain (at j (step - 1) net))
-    || carries_on (class (at j step net)) (at j (step - 1) net))
+    || is_carried_on (class (at j step net)) (at j (step - 1) net))
 
 -- A place at a later step passes its net's bit on: an input that isn't recorded known, and a net without a driver, at a
 -- later round; a copy whose argument keeps; a cell whose net pins all keep and whose rule gives x for no assignment; a
@@ -87,8 +87,8 @@ passes_on j certain class place =
 abbrev pub carried_or_line : Job → (ℕ → Value) → ℕ → List ℕ → ClassByNumber
 carried_or_line j certain place [] = Line
 carried_or_line j certain place (from ∷ others) =
-    if is_carried_from j certain place from false then Carried from false
-    else if is_carried_from j certain place from true then Carried from true
+    if is_carrier j certain place from false then Carried from false
+    else if is_carrier j certain place from true then Carried from true
     else carried_or_line j certain place others
 
 -- The place of the same net a step before.

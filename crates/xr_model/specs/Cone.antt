@@ -23,8 +23,8 @@ is_carried (Carried from inverted) = true
 is_carried Line = false
 
 -- Where a world may read its filling: at a place that isn't carried and whose rule gives x for some assignment.
-abbrev pub is_born : Job → (ℕ → Value) → ℕ → Bool
-is_born j certain place = not (is_carried (class_of j certain place)) && not (is_never_unknown j certain place)
+abbrev pub reads_filling : Job → (ℕ → Value) → ℕ → Bool
+reads_filling j certain place = not (is_carried (class_of j certain place)) && not (is_never_unknown j certain place)
 
 -- Two values are the same, all four told apart.
 abbrev pub are_alike : Value → Value → Bool
@@ -100,7 +100,7 @@ cone j certain root = places_where (in_cone j certain root) (root + 1)
 
 -- Its sources: those that aren't carried and at which the rule gives x for some assignment.
 abbrev pub is_source : Job → (ℕ → Value) → ℕ → ℕ → Bool
-is_source j certain root place = in_cone j certain root place && is_born j certain place
+is_source j certain root place = in_cone j certain root place && reads_filling j certain place
 
 abbrev pub sources : Job → (ℕ → Value) → ℕ → List ℕ
 sources j certain root = places_where (is_source j certain root) (root + 1)

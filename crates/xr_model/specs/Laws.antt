@@ -14,9 +14,10 @@ use Rattle.xr_design.specs.Waveform.{written_at, certain, Settles}
 use Rattle.xr_design.specs.World.{world_bit}
 use Rattle.xr_proof.specs.Assignment.{HasNoZero, IsMet}
 use Rattle.xr_proof.specs.Log.{Refutes}
+use Rattle.xr_proof.specs.declared.clause.Cnf.{Cnf}
 use Rattle.xr_model.specs.Places.{among}
 use Rattle.xr_model.specs.Assignment.{argument_places}
-use Rattle.xr_model.specs.Class.{flipped, class_by, class_of}
+use Rattle.xr_model.specs.Class.{flipped, class_by, class_of, is_carrier}
 use Rattle.xr_model.specs.Cone.{in_cone, Reaches, is_source, sources, source_filling, IsConsistent, denied_value}
 use Rattle.xr_model.specs.Query.{IsConeClause, IsQuery, variables, model_of, valuation_of}
 use Rattle.xr_model.specs.Line.{BodyHolds, BodyGives}
@@ -54,6 +55,13 @@ ArgumentsLaw = (j : Job) (certain : ℕ → Value) (place k : ℕ) → Fits j �
 abbrev pub ClassLaw : Type 0
 ClassLaw = (j : Job) (certain : ℕ → Value) (place : ℕ) → Fits j → place < places_of j
     → class_of j certain place ≡ class_by j certain (class_of j certain) place
+
+-- A place is carried from one argument place at most, as it is or inverted.
+abbrev pub CarrierLaw : Type 0
+CarrierLaw = (j : Job) (certain : ℕ → Value) (place from other : ℕ) (inverted turned : Bool)
+    → among (arguments j certain place) from ≡ true → among (arguments j certain place) other ≡ true
+    → is_carrier j certain place from inverted ≡ true → is_carrier j certain place other turned ≡ true
+    → (from ≡ other) × (inverted ≡ turned)
 
 -- The carry law: in the world of every filling a carried place has the bit of the place that it is carried from, or its
 -- complement where the class says inverted.
@@ -114,8 +122,8 @@ ModelsAreConsistent = (j : Job) (certain : ℕ → Value) (root : ℕ) (model : 
 
 -- Where a log refutes the query of a place, the world of every filling gives the denied value.
 abbrev pub RefutedLaw : Type 0
-RefutedLaw = InSound (λ j waveform. (place : ℕ) (query log : List (List ℤ)) → InReach j waveform place
-    → IsQuery j (certain waveform) place query → All HasNoZero log → Refutes query log
+RefutedLaw = InSound (λ j waveform. (place : ℕ) (query : Cnf) (log : List (List ℤ)) → InReach j waveform place
+    → IsQuery j (certain waveform) place query → All HasNoZero log → Refutes query.clauses log
     → Settles j waveform place (denied_value j (certain waveform) place))
 
 -- A body that holds gives what it says: every filling's bit, or the two fillings.

@@ -5,23 +5,18 @@ use Rattle.xr_design.specs.declared.waveform.Written.{Written}
 use Rattle.xr_design.specs.Job.{Job}
 use Rattle.xr_design.specs.Filling.{IsFilling, bit_of}
 use Rattle.xr_design.specs.Waveform.{certain, Settles}
+pub use Rattle.xr_design.specs.Waveform.{GivesBoth}
 use Rattle.xr_design.specs.World.{world_bit}
 use Rattle.xr_design.specs.declared.place.Place.{Place}
 use Rattle.xr_proof.specs.Assignment.{HasNoZero}
 use Rattle.xr_proof.specs.Log.{Refutes, AreFresh}
+use Rattle.xr_proof.specs.declared.clause.Cnf.{Cnf}
 use Rattle.xr_model.specs.Places.{among}
 use Rattle.xr_model.specs.Cone.{sources, denied_value}
 use Rattle.xr_model.specs.Query.{IsQuery}
-use Rattle.xr_model.specs.Stated.{Stated, pair_of}
+use Rattle.xr_model.specs.Stated.{pair_of}
 use Rattle.xr_model.specs.declared.line.Body.{Body}
 use Rattle.xr_model.specs.declared.line.Body.TheVariants.{Enumerated, Refuted, Pair, Undecided}
-
--- The worlds of two fillings give 0 and 1 at a place.
-pub record GivesBoth (j : Job) (waveform : List Written) (place : ℕ) (stated : Stated) : Type 0 where
-  pub zero_filling : IsFilling j stated.zero
-  pub one_filling : IsFilling j stated.one
-  pub gives_zero : world_bit j (certain waveform) (bit_of j stated.zero) place ≡ false
-  pub gives_one : world_bit j (certain waveform) (bit_of j stated.one) place ≡ true
 
 -- A filling lists sources of the place alone.
 abbrev pub IsOfSources : Job → List Written → ℕ → List Place → Type 0
@@ -37,17 +32,17 @@ pub record IsEnumerated (j : Job) (waveform : List Written) (place : ℕ) (bit :
 -- The bit is the one that the query of the place denies, and the log refutes the query.
 pub record IsRefuted (j : Job) (waveform : List Written) (place : ℕ) (bit : Bool) (log : List (List ℤ)) : Type 0 where
   pub denied : denied_value j (certain waveform) place ≡ bit
-  pub query : List (List ℤ)
+  pub query : Cnf
   pub is_query : IsQuery j (certain waveform) place query
   pub literals : All HasNoZero log
-  pub refutes : Refutes query log
+  pub refutes : Refutes query.clauses log
 
 -- The licence of a place: it has more than 12 sources, and the log is fresh for its query and as long as the limit.
 pub record IsLicence (j : Job) (limit : ℕ) (waveform : List Written) (place : ℕ) (log : List (List ℤ)) : Type 0 where
   pub many : 12 < length (sources j (certain waveform) place)
-  pub query : List (List ℤ)
+  pub query : Cnf
   pub is_query : IsQuery j (certain waveform) place query
-  pub fresh : AreFresh query log
+  pub fresh : AreFresh query.clauses log
   pub long : length log ≡ limit
 
 -- When a body holds at a place. All of these read the certain values before the place alone.

@@ -26,13 +26,13 @@ pub record IsRuled (j : Job) (certain : ℕ → Value) (places : List ℕ) (plac
   pub are_values : (bits : ℕ → Bool)
       → slice_index_or values (mask_of (essentials j certain place) bits) X ≡ table j certain place bits
 
-pub record IsCarriedFrom (j : Job) (certain : ℕ → Value) (places : List ℕ) (place node : ℕ)
+pub record HasCarrier (j : Job) (certain : ℕ → Value) (places : List ℕ) (place node : ℕ)
     (inverted : Bool) : Type 0 where
   pub within : node < length places
   pub class : class_of j certain place ≡ Carried (slice_index places node) inverted
 
 abbrev pub IsBody : Job → (ℕ → Value) → List ℕ → ℕ → NodeBody → Type 0
-IsBody j certain places place (carried node inverted) = IsCarriedFrom j certain places place node inverted
+IsBody j certain places place (carried node inverted) = HasCarrier j certain places place node inverted
 IsBody j certain places place (ruled arguments values) = IsRuled j certain places place arguments values
 
 -- The bit of a node, from the bits of nodes by position and its filling's bit.

@@ -1,11 +1,13 @@
 -- The query of a place: the clauses whose models are the consistent valuations of its cone that give it another value
 -- than the empty filling does.
-use Rattle.std.specs.Prelude.{◌≡◌, ℕ, ℤ, pos, negsuc, suc, ◌+◌, ◌&&◌, ◌⊎◌, Bool, true, false, List, [], ◌∷◌, map, nat_abs, not, slice_index, Contains}
+use Rattle.std.specs.Prelude.{◌≡◌, ◌≢◌, ℕ, ℤ, pos, negsuc, suc, ◌+◌, ◌&&◌, ◌⊎◌, Bool, true, false, List, [], ◌∷◌, length, map, nat_abs, not, slice_index, Contains}
+use Rattle.std.specs.List.{AllPairs}
 use Rattle.std.specs.List.Sorted.{IsStrictlyIncreasing}
 use Rattle.xr_cell.specs.declared.value.Value.{Value}
 use Rattle.xr_cell.specs.Value.{bit_value}
 use Rattle.xr_design.specs.Job.{Job}
 use Rattle.xr_design.specs.Order.{position_of}
+use Rattle.xr_proof.specs.declared.clause.Cnf.{Cnf}
 use Rattle.xr_model.specs.Assignment.{with_bit}
 use Rattle.xr_model.specs.Places.{among, places_where}
 use Rattle.xr_model.specs.Class.{class_of, flipped}
@@ -75,10 +77,12 @@ denial j certain root = literal j certain root root (not (denied_value j certain
 abbrev pub IsQueryClause : Job → (ℕ → Value) → ℕ → List ℤ → Type 0
 IsQueryClause j certain root clause = IsConeClause j certain root clause ⊎ (clause ≡ denial j certain root)
 
--- The query of a place is any list of exactly these clauses.
-pub record IsQuery (j : Job) (certain : ℕ → Value) (root : ℕ) (query : List (List ℤ)) : Type 0 where
-  pub each : (clause : List ℤ) → Contains query clause → IsQueryClause j certain root clause
-  pub all : (clause : List ℤ) → IsQueryClause j certain root clause → Contains query clause
+-- The query of a place is a formula over its variables of exactly these clauses, each of which stands once.
+pub record IsQuery (j : Job) (certain : ℕ → Value) (root : ℕ) (query : Cnf) : Type 0 where
+  pub vars : query.vars ≡ length (variables j certain root)
+  pub each : (clause : List ℤ) → Contains query.clauses clause → IsQueryClause j certain root clause
+  pub all : (clause : List ℤ) → IsQueryClause j certain root clause → Contains query.clauses clause
+  pub once : AllPairs (λ a b. a ≢ b) query.clauses
 
 -- The model of a valuation: the bits of the variables' places.
 abbrev pub model_of : Job → (ℕ → Value) → ℕ → (ℕ → Bool) → ℕ → Bool

@@ -19,7 +19,7 @@ use Rattle.xr_model.specs.declared.line.Line.{Line as ALine}
 use Rattle.xr_model.specs.declared.line.Body.TheVariants.{Undecided as Budget}
 
 -- What a carried place has, from the place that it is carried from.
-pub record IsCarried (inverted : Bool) (from written : Written) : Type 0 where
+pub record FollowsCarrier (inverted : Bool) (from written : Written) : Type 0 where
   pub mark : written.mark ≡ from.mark
   pub value : from.mark ≡ Certain → written.value ≡ flipped_value inverted from.value
 
@@ -28,7 +28,7 @@ pub record IsCarried (inverted : Bool) (from written : Written) : Type 0 where
 abbrev pub FollowsClass : (ℕ → Written) → ClassByNumber → Written → Type 0
 FollowsClass earlier (Local bit) written = written ≡ certain_bit bit
 FollowsClass earlier Free written = written.mark ≡ Unknown
-FollowsClass earlier (Carried from inverted) written = IsCarried inverted (earlier from) written
+FollowsClass earlier (Carried from inverted) written = FollowsCarrier inverted (earlier from) written
 FollowsClass earlier Line written = Unit {0}
 
 -- The licence of a place stands in the line of its root.

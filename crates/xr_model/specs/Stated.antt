@@ -4,6 +4,7 @@ use Rattle.xr_cell.specs.declared.value.Value.{Value}
 use Rattle.xr_design.specs.declared.place.Place.{Place}
 use Rattle.xr_design.specs.Job.{Job, number_of}
 use Rattle.xr_design.specs.Fits.{place_at}
+pub use Rattle.xr_design.specs.Waveform.{Stated}
 use Rattle.xr_model.specs.Class.{class_of}
 use Rattle.xr_model.specs.Root.{Root, root_of}
 use Rattle.xr_model.specs.declared.class.ClassByNumber.{ClassByNumber}
@@ -16,11 +17,6 @@ use Rattle.xr_model.specs.declared.line.Body.TheVariants.{Enumerated, Refuted, P
 abbrev pub body_at : Job → List ALine → ℕ → Option Body
 body_at j [] place = None
 body_at j (line ∷ lines) place = if number_of j line.place == place then Some line.body else body_at j lines place
-
--- Two fillings, the first for 0 and the second for 1.
-pub record Stated : Type 0 where
-  pub zero : List Place
-  pub one : List Place
 
 abbrev pub pair_of : List Place → List Place → Stated
 pair_of first second = record { zero = first; one = second }

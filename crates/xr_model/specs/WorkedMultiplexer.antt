@@ -10,6 +10,7 @@ use Rattle.xr_design.specs.declared.design.Table.TheVariants.{Gate}
 use Rattle.xr_design.specs.declared.design.Pin.TheVariants.{Net}
 use Rattle.xr_design.specs.declared.stim.StartRule.TheVariants.{Cold}
 use Rattle.xr_design.specs.Job.{Job}
+use Rattle.xr_proof.specs.declared.clause.Cnf.{Cnf}
 use Rattle.xr_model.specs.Cone.{essentials, cone, sources, denied_value}
 use Rattle.xr_model.specs.Query.{variables, IsQuery}
 use Rattle.xr_model.specs.WorkedClasses.{AreClasses}
@@ -58,8 +59,9 @@ abbrev pub MuxDenied : Type 0
 MuxDenied = denied_value mux certain_data 6 ≡ true
 
 -- 'not a, or y', 'not b, or y', and 'not y'. 'a, or b, or not y' is a tautology, since b is the complement of a.
-abbrev pub mux_query : List (List ℤ)
-mux_query = (negsuc 0 ∷ pos 2 ∷ []) ∷ (pos 1 ∷ pos 2 ∷ []) ∷ (negsuc 1 ∷ []) ∷ []
+abbrev pub mux_clauses : List (List ℤ)
+mux_clauses = (negsuc 0 ∷ pos 2 ∷ []) ∷ (pos 1 ∷ pos 2 ∷ []) ∷ (negsuc 1 ∷ []) ∷ []
 
+-- The query is the formula of these over the two variables.
 abbrev pub MuxQuery : Type 0
-MuxQuery = IsQuery mux certain_data 6 mux_query
+MuxQuery = (query : Cnf) × (query.vars ≡ 2) × (query.clauses ≡ mux_clauses) × IsQuery mux certain_data 6 query

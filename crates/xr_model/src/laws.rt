@@ -12,6 +12,11 @@ pub fn class_is_first()
     ensures { spec.ClassLaw }
 {}
 
+/// A place is carried from one argument place at most, as it is or inverted.
+pub fn carriers_are_one()
+    ensures { spec.CarrierLaw }
+{}
+
 /// In every world a carried place has the bit of the place that it is carried from, or its complement.
 pub fn carried_places_follow()
     ensures { spec.CarryLaw }

@@ -11,8 +11,8 @@ pub mod worked;
 
 pub use class::{Class, ClassByNumber};
 pub use laws::{
-    arguments_are_read, bodies_give, carried_places_follow, class_is_first, cones_are_reached,
-    few_sources_are_decided, lines_yield_one, models_are_consistent, refuted_queries_settle,
-    sound_waveforms_are_one, waveforms_stay_sound, worlds_are_consistent,
+    arguments_are_read, bodies_give, carried_places_follow, carriers_are_one, class_is_first,
+    cones_are_reached, few_sources_are_decided, lines_yield_one, models_are_consistent,
+    refuted_queries_settle, sound_waveforms_are_one, waveforms_stay_sound, worlds_are_consistent,
 };
 pub use line::{Body, Line};

@@ -1,11 +1,12 @@
--- Words and marks are told apart by their codes.
+-- Keywords and marks differ in their codes.
 use Rattle.std.proofs.Common.{◌≡◌, List, [], ◌∷◌, refl, ap, sym, ◌∙◌, get_or}
 use Rattle.xr_netlist_grammar.specs.Lexemes.{code}
 use Rattle.xr_netlist_grammar.specs.declared.fixed.Fixed.{Fixed}
 use Rattle.xr_netlist_grammar.specs.declared.fixed.Fixed.TheVariants as fixed
 
 all : List Fixed
-all = fixed.Module ∷ fixed.Endmodule ∷ fixed.Input ∷ fixed.Output ∷ fixed.Wire ∷ fixed.Tri ∷ fixed.Supply0 ∷ fixed.Supply1 ∷ fixed.Reg ∷ fixed.Assign ∷ fixed.Specify ∷ fixed.Endspecify ∷ fixed.Primitive ∷ fixed.Endprimitive ∷ fixed.Table ∷ fixed.Endtable ∷ fixed.Initial ∷ fixed.Open ∷ fixed.Close ∷ fixed.SquareOpen ∷ fixed.SquareClose ∷ fixed.BraceOpen ∷ fixed.BraceClose ∷ fixed.Comma ∷ fixed.Semi ∷ fixed.Colon ∷ fixed.Equals ∷ fixed.Dot ∷ fixed.Hash ∷ fixed.Star ∷ []
+all =
+    fixed.Module ∷ fixed.Endmodule ∷ fixed.Input ∷ fixed.Output ∷ fixed.Wire ∷ fixed.Tri ∷ fixed.Supply0 ∷ fixed.Supply1 ∷ fixed.Reg ∷ fixed.Assign ∷ fixed.Specify ∷ fixed.Endspecify ∷ fixed.Primitive ∷ fixed.Endprimitive ∷ fixed.Table ∷ fixed.Endtable ∷ fixed.Initial ∷ fixed.Open ∷ fixed.Close ∷ fixed.SquareOpen ∷ fixed.SquareClose ∷ fixed.BraceOpen ∷ fixed.BraceClose ∷ fixed.Comma ∷ fixed.Semi ∷ fixed.Colon ∷ fixed.Equals ∷ fixed.Dot ∷ fixed.Hash ∷ fixed.Star ∷ []
 
 at_code : (f : Fixed) → get_or all (code f) fixed.Module ≡ f
 unfolding all

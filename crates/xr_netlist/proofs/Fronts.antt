@@ -6,7 +6,7 @@ use Rattle.xr_text.specs.Left.{Left, first}
 use Rattle.xr_text.specs.declared.token.Token.{Token}
 use Rattle.xr_text.specs.declared.token.Kind.{Kind}
 use Rattle.xr_text.specs.declared.token.Kind.TheVariants as kind
-use Rattle.xr_netlist_grammar.specs.Lexemes.{Lexeme, named, Tok, entry_or, word_table, word_of, mark_of, first_mark, lexeme_of, tok_of, words_of}
+use Rattle.xr_netlist_grammar.specs.Lexemes.{Lexeme, named, TokenAt, entry_or, keyword_table, name_lexeme, mark_of, first_mark, lexeme_of, token_of, tokens_of}
 use Rattle.xr_netlist.specs.Ahead.{is_stop, ahead, LieWithin}
 use Rattle.std.proofs.lemmas.List.Elements.{All-rest}
 
@@ -29,9 +29,9 @@ entry_goes_on (e ∷ es) text o h k =
     ]
     in cases (is_stop e.1) refl h
 
-word_goes_on : (text : List ℕ) → is_stop (word_of text) ≡ false
-unfolding word_of go_on
-word_goes_on text = entry_goes_on word_table text (named text false) refl refl
+name_goes_on : (text : List ℕ) → is_stop (name_lexeme text) ≡ false
+unfolding name_lexeme go_on
+name_goes_on text = entry_goes_on keyword_table text (named text false) refl refl
 
 mark_goes_on : (b : ℕ) → is_stop (mark_of b) ≡ false
 mark_goes_on b = search (rules, chosen) depth 20
@@ -41,13 +41,14 @@ first_mark_goes_on [] = refl
 first_mark_goes_on (b ∷ bs) = mark_goes_on b
 
 lexeme_goes_on : (k : Kind) (bytes : List ℕ) → is_stop (lexeme_of k bytes) ≡ false
-lexeme_goes_on kind.Name bytes = word_goes_on bytes
+lexeme_goes_on kind.Name bytes = name_goes_on bytes
 lexeme_goes_on kind.Escaped bytes = refl
 lexeme_goes_on kind.Number bytes = refl
 lexeme_goes_on kind.Text bytes = refl
 lexeme_goes_on kind.Mark bytes = first_mark_goes_on bytes
 
-pub tells_on : (text : List ℕ) (t : Token) (here : Tok) (old new : Left) → old ≡ first t new → here ≡ tok_of text t → words_of text old ≡ ahead here (words_of text new)
+pub tells_on : (text : List ℕ) (t : Token) (here : TokenAt) (old new : Left) → old ≡ first t new
+    → here ≡ token_of text t → tokens_of text old ≡ ahead here (tokens_of text new)
 tells_on text t here old new h k = rw (h, k, lexeme_goes_on t.kind (slice_range text t.start t.«end»)) refl
 
 pub rest_within : (size : ℕ) (t : Token) (old new : Left) → old ≡ first t new → LieWithin size old.tokens → LieWithin size new.tokens

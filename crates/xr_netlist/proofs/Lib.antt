@@ -1,3 +1,4 @@
+-- Lemmas for the reader of netlists: numbers, keywords, tokens and steps of runs.
 pub mod Numbers
 pub mod Fronts
 pub mod Codes

@@ -1,5 +1,7 @@
 -- Numbers by their digits.
-use Rattle.std.proofs.Common.{◌≡◌, ◌≢◌, ℕ, suc, ◌+◌, ◌*◌, ◌/◌, ◌^◌, ◌≤◌, ◌<◌, ◌⊎◌, inl, inr, Bool, true, false, not, List, [], ◌∷◌, length, drop, filter, get_or, refl, sym, ap, subst, ◌∙◌, ◌==◌, ◌&&◌, ◌||◌, nat_eq, nat_le, nat_lt, arith, if◌then◌else◌, Option, Some, None, option_and_then}
+use Rattle.std.proofs.Common.{◌≡◌, ◌≢◌, ℕ, suc, ◌+◌, ◌*◌, ◌/◌, ◌^◌, ◌≤◌, ◌<◌, ◌⊎◌, inl, inr, Bool, true, false, not}
+use Rattle.std.proofs.Common.{List, [], ◌∷◌, length, drop, filter, get_or, refl, sym, ap, subst, ◌∙◌, ◌==◌, ◌&&◌, ◌||◌}
+use Rattle.std.proofs.Common.{nat_eq, nat_le, nat_lt, arith, if◌then◌else◌, Option, Some, None, option_and_then}
 use Rattle.std.proofs.Math.Nat.{le-mul_of_pos_right, div-eq_of_lt, lt-div-mul-add}
 use Rattle.std.proofs.Math.Pow.{pow_mono}
 use Rattle.std.proofs.lemmas.Bool.Decides.{nat_tests, eqb_tells, leb_tells}
@@ -20,12 +22,12 @@ above n m h = grind (arith, nat_tests)
 
 -- ---- digits with `_` between, byte by byte
 
--- behind a byte that is a digit or not
+-- after a byte that is a digit or not
 abbrev pub go_on : ℕ → Bool → List ℕ → Bool
 go_on base is_end [] = is_end
 go_on base is_end (b ∷ bs) = (is_digit_of base b || (b == 95)) && go_on base (is_digit_of base b) bs
 
--- whether the last byte is a digit, behind one that is or not
+-- whether the last byte is a digit, after one that is or not
 ends_behind : ℕ → Bool → List ℕ → Bool
 ends_behind base is_end [] = is_end
 ends_behind base is_end (b ∷ bs) = ends_behind base (is_digit_of base b) bs
@@ -98,7 +100,8 @@ int_too_big text n (d ∷ ds) h l k =
     let big : 2147483648 ≤ number_from 10 0 text = rw h (omega arith) in
     rw (above (number_from 10 0 text) 2147483648 big, and_false (are_digits text)) refl
 
-pub too_wide : (base : ℕ) (text : List ℕ) (value : ℕ) (rest : List ℕ) → spaced_number base text ≡ number_from base value (filter (λ b. not (b == 95)) rest) → 1 ≤ length rest → 2 ≤ base
+pub too_wide : (base : ℕ) (text : List ℕ) (value : ℕ) (rest : List ℕ)
+    → spaced_number base text ≡ number_from base value (filter (λ b. not (b == 95)) rest) → 1 ≤ length rest → 2 ≤ base
     → get_or rest 0 0 ≢ 95 → ¬ (value * base + worth (get_or rest 0 0) < 2 ^ 128)
     → (if are_spaced_digits base text && nat_lt (spaced_number base text) (2 ^ 128) then Some (spaced_number base text) else None) ≡ None
 too_wide base text value [] h l k p q = absurd (omega arith)
@@ -132,7 +135,8 @@ quotient_zero n m h =
     ]
 
 -- a choice, then a step
-pub chosen_then : {Y : Type 0} (c : Bool) (n : ℕ) (r : Option ℕ) (k : ℕ → Option Y) → r ≡ (if c then Some n else None) → (if c then k n else None) ≡ option_and_then k r
+pub chosen_then : {Y : Type 0} (c : Bool) (n : ℕ) (r : Option ℕ) (k : ℕ → Option Y) → r ≡ (if c then Some n else None)
+    → (if c then k n else None) ≡ option_and_then k r
 chosen_then true n r k h = rw h refl
 chosen_then false n r k h = rw h refl
 

@@ -1,8 +1,8 @@
--- A token that was read ahead, and what is left behind it.
+-- A token that was read ahead, and what is left after it.
 use Rattle.std.specs.Prelude.{ℕ, ◌+◌, ◌<◌, ◌≤◌, ◌^◌, List, [], ◌∷◌, length, All, Bool, true, false, cond}
 use Rattle.xr_text.specs.Left.{Left}
 use Rattle.xr_text.specs.declared.token.Token.{Token}
-use Rattle.xr_netlist_grammar.specs.Lexemes.{Lexeme, ending, broken, Tok, Words}
+use Rattle.xr_netlist_grammar.specs.Lexemes.{Lexeme, ending, broken, TokenAt, TokenStream}
 
 -- what ends a text
 abbrev pub is_stop : Lexeme → Bool
@@ -10,8 +10,8 @@ is_stop ending = true
 is_stop (broken e) = true
 is_stop _ = false
 
-abbrev pub ahead : Tok → Words → Words
-ahead here w = cond (is_stop here.what) (record { words = []; stop = here }) (record { words = here ∷ w.words; stop = w.stop })
+abbrev pub ahead : TokenAt → TokenStream → TokenStream
+ahead here w = cond (is_stop here.what) (record { tokens = []; stop = here }) (record { tokens = here ∷ w.tokens; stop = w.stop })
 
 -- each token has bytes, and lies within a text of that size
 abbrev pub LieWithin : ℕ → List Token → Type 0

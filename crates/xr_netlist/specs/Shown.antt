@@ -4,7 +4,7 @@ use Rattle.std.specs.Borrow.{Bor}
 use Rattle.xr_netlist_grammar.specs.Lexemes as spec
 use Rattle.xr_netlist.specs.declared.lexeme.Lexeme.{Lexeme}
 use Rattle.xr_netlist.specs.declared.lexeme.Lexeme.TheVariants.{Quoted, Gate, Named, Number, Mark, Quotation, Ending, Broken}
-use Rattle.xr_netlist.specs.declared.lexeme.Tok.{Tok}
+use Rattle.xr_netlist.specs.declared.lexeme.TokenAt.{TokenAt}
 use Rattle.xr_netlist.specs.declared.lexeme.Name.{Name}
 use Rattle.xr_netlist_grammar.specs.declared.tree.Word.{Word}
 
@@ -18,13 +18,13 @@ shown Quotation = spec.quotation
 shown Ending = spec.ending
 shown (Broken e) = spec.broken e
 
-abbrev pub shown_tok : Tok → spec.Tok
-shown_tok t = spec.tok t.at (shown t.what)
+abbrev pub shown_token : TokenAt → spec.TokenAt
+shown_token t = spec.token_at t.at (shown t.what)
 
 abbrev pub word_of_name : Name → Word
 word_of_name n = spec.word_at n.at n.text.now n.escaped
 
--- the first of some symbols and those behind it, or none
+-- the first of some symbols and those after it, or none
 abbrev pub AreSymbols : List ℕ → Option (ℕ × Bor (List ℕ)) → Type 0
 AreSymbols symbols None = symbols ≡ []
 AreSymbols symbols (Some p) = symbols ≡ p.0 ∷ p.1.now

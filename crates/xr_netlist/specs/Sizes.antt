@@ -3,7 +3,7 @@ use Rattle.std.specs.Prelude.{ℕ, ◌^◌, List, ◌==◌, ◌&&◌, nat_le, na
 use Rattle.xr_netlist_grammar.specs.Bytes.{are_digits, number_from}
 use Rattle.xr_netlist_grammar.specs.Numbers.{are_spaced_digits, spaced_number}
 
--- the size of a literal, 1 to 128, where a quotation mark stands behind it
+-- the size of a literal, 1 to 128, where a quotation mark stands after it
 abbrev pub size_in : List ℕ → ℕ → Option ℕ
 size_in text quote =
     let n = number_from 10 0 text in if are_digits text && (quote == 39) && nat_le 1 n && nat_le n 128 then Some n else None

@@ -22,20 +22,20 @@ use xr_netlist_grammar::{
     ParseErr, Word,
 };
 
-// gates = kind [ delay ] gate { "," gate } ";", behind its kind
+// gates = kind [ delay ] gate { "," gate } ";", after its kind
 pub fn gates(
     alloc: Global,
     kind: GateKind,
     at: usize,
-    words: &mut Reader<'_>,
+    tokens: &mut Reader<'_>,
     items: &mut Vec<Item>,
 ) -> Result<(), ParseErr>
     ensures reads { ReadsItems (λ u. spec.gate_kind u kind at) items.old
-        words.old result (λ _. spec.in_items) items.new words.new }
-    ensures shortens { Shortens words.old result words.new }
+        tokens.old result (λ _. spec.in_items) items.new tokens.new }
+    ensures shortens { Shortens tokens.old result tokens.new }
 {
-    may_delay(words)?;
-    'gates: while gate(alloc, kind, at, words, items)? {}
+    may_delay(tokens)?;
+    'gates: while gate(alloc, kind, at, tokens, items)? {}
     Ok(())
 }
 
@@ -45,70 +45,74 @@ fn gate(
     alloc: Global,
     kind: GateKind,
     at: usize,
-    words: &mut Reader<'_>,
+    tokens: &mut Reader<'_>,
     items: &mut Vec<Item>,
 ) -> Result<bool, ParseErr>
-    ensures reads { ReadsItems (λ u. spec.gate_name u kind at) items.old words.old result
-        (λ more u. cond more (spec.gate_name u kind at) (spec.in_items u)) items.new words.new }
-    ensures shortens { Shortens words.old result words.new }
+    ensures reads { ReadsItems (λ u. spec.gate_name u kind at) items.old tokens.old result
+        (λ more u. cond more (spec.gate_name u kind at) (spec.in_items u)) items.new tokens.new }
+    ensures shortens { Shortens tokens.old result tokens.new }
 {
-    let _ = words.take_name();
-    words.expect(Fixed::Open)?;
-    let terminals = terminals(alloc, words)?;
+    let _ = tokens.take_name();
+    tokens.expect(Fixed::Open)?;
+    let terminals = terminals(alloc, tokens)?;
     items.push(Item::Gate(GateItem {
         kind,
         at,
         terminals: Items::from_vec(terminals),
     }))?;
-    words.more(Fixed::Semi)
+    tokens.more(Fixed::Semi)
 }
 
 // expr { "," expr } ")"
-fn terminals(alloc: Global, words: &mut Reader<'_>) -> Result<Vec<Expr>, ParseErr>
+fn terminals(alloc: Global, tokens: &mut Reader<'_>) -> Result<Vec<Expr>, ParseErr>
     ensures reads { (u : Under) (kind : gate_kinds) (at : ℕ)
-        → Reads (spec.expr_start (terminal u kind at [])) words.old result
-        (λ es. spec.after_gate (with_item u (gate_of kind at es.items)) kind at) words.new }
-    ensures shortens { Shortens words.old result words.new }
+        → Reads (spec.expr_start (terminal u kind at [])) tokens.old result
+        (λ es. spec.after_gate (with_item u (gate_of kind at es.items)) kind at) tokens.new }
+    ensures shortens { Shortens tokens.old result tokens.new }
 {
     let mut list = Vec::new(alloc);
     'list: loop {
-        list.push(expr(alloc, words)?)?;
-        if !words.more(Fixed::Close)? {
+        list.push(expr(alloc, tokens)?)?;
+        if !tokens.more(Fixed::Close)? {
             return Ok(list);
         }
     }
 }
 
-// assigns = "assign" [ delay ] assign { "," assign } ";", behind its first word; assign = expr "=" expr
-pub fn assigns(alloc: Global, words: &mut Reader<'_>, items: &mut Vec<Item>) -> Result<(), ParseErr>
-    ensures reads { ReadsItems spec.assign items.old words.old result (λ _. spec.in_items) items.new words.new }
-    ensures shortens { Shortens words.old result words.new }
+// assigns = "assign" [ delay ] assign { "," assign } ";", after its keyword; assign = expr "=" expr
+pub fn assigns(
+    alloc: Global,
+    tokens: &mut Reader<'_>,
+    items: &mut Vec<Item>,
+) -> Result<(), ParseErr>
+    ensures reads { ReadsItems spec.assign items.old tokens.old result (λ _. spec.in_items) items.new tokens.new }
+    ensures shortens { Shortens tokens.old result tokens.new }
 {
-    may_delay(words)?;
+    may_delay(tokens)?;
     'assigns: loop {
-        let left = expr(alloc, words)?;
-        words.expect(Fixed::Equals)?;
-        let right = expr(alloc, words)?;
+        let left = expr(alloc, tokens)?;
+        tokens.expect(Fixed::Equals)?;
+        let right = expr(alloc, tokens)?;
         items.push(Item::Assign(left, right))?;
-        if !words.more(Fixed::Semi)? {
+        if !tokens.more(Fixed::Semi)? {
             return Ok(());
         }
     }
 }
 
-// instances = name [ delay ] instance { "," instance } ";", behind its name
+// instances = name [ delay ] instance { "," instance } ";", after its name
 pub fn instances(
     alloc: Global,
     definition: Name<'_>,
-    words: &mut Reader<'_>,
+    tokens: &mut Reader<'_>,
     items: &mut Vec<Item>,
 ) -> Result<(), ParseErr>
     ensures reads { let d = word_of_name definition.entry in
-        ReadsItems (λ u. spec.definition u d) items.old words.old result (λ _. spec.in_items) items.new words.new }
-    ensures shortens { Shortens words.old result words.new }
+        ReadsItems (λ u. spec.definition u d) items.old tokens.old result (λ _. spec.in_items) items.new tokens.new }
+    ensures shortens { Shortens tokens.old result tokens.new }
 {
-    may_delay(words)?;
-    'instances: while instance(alloc, definition, words, items)? {}
+    may_delay(tokens)?;
+    'instances: while instance(alloc, definition, tokens, items)? {}
     Ok(())
 }
 
@@ -117,23 +121,23 @@ pub fn instances(
 fn instance(
     alloc: Global,
     definition: Name<'_>,
-    words: &mut Reader<'_>,
+    tokens: &mut Reader<'_>,
     items: &mut Vec<Item>,
 ) -> Result<bool, ParseErr>
     ensures reads { let d = word_of_name definition.entry in
-        ReadsItems (λ u. spec.instance_name u d) items.old words.old result
-        (λ more u. cond more (spec.instance_name u d) (spec.in_items u)) items.new words.new }
-    ensures shortens { Shortens words.old result words.new }
+        ReadsItems (λ u. spec.instance_name u d) items.old tokens.old result
+        (λ more u. cond more (spec.instance_name u d) (spec.in_items u)) items.new tokens.new }
+    ensures shortens { Shortens tokens.old result tokens.new }
 {
-    let name = words.take_name();
-    words.expect(Fixed::Open)?;
-    let connections = connections(alloc, words)?;
+    let name = tokens.take_name();
+    tokens.expect(Fixed::Open)?;
+    let connections = connections(alloc, tokens)?;
     items.push(Item::Instance(InstanceItem {
         definition: definition.word(alloc)?,
         name: may_word(alloc, name)?,
         connections,
     }))?;
-    words.more(Fixed::Semi)
+    tokens.more(Fixed::Semi)
 }
 
 fn may_word(alloc: Global, name: Option<Name<'_>>) -> Result<Option<Word>, AllocError>
@@ -147,26 +151,26 @@ fn may_word(alloc: Global, name: Option<Name<'_>>) -> Result<Option<Word>, Alloc
 
 // [ positional | named ] ")"
 #[tactic(auto, using(crate::proofs::Runs::positional_starts, crate::proofs::Runs::reads_on))]
-fn connections(alloc: Global, words: &mut Reader<'_>) -> Result<Connections, ParseErr>
-    ensures reads { ReadsConnections spec.connections words.old result words.new }
-    ensures shortens { Shortens words.old result words.new }
+fn connections(alloc: Global, tokens: &mut Reader<'_>) -> Result<Connections, ParseErr>
+    ensures reads { ReadsConnections spec.connections tokens.old result tokens.new }
+    ensures shortens { Shortens tokens.old result tokens.new }
 {
-    if words.take(Fixed::Close) {
+    if tokens.take(Fixed::Close) {
         Ok(Connections::Positional(Items::from_vec(Vec::new(alloc))))
-    } else if words.take(Fixed::Dot) {
-        named(alloc, words)
+    } else if tokens.take(Fixed::Dot) {
+        named(alloc, tokens)
     } else {
-        positional(alloc, words)
+        positional(alloc, tokens)
     }
 }
 
 // positional = [ expr ] { "," [ expr ] }, up to its ")"
-fn positional(alloc: Global, words: &mut Reader<'_>) -> Result<Connections, ParseErr>
-    ensures reads { ReadsConnections (λ u d n. spec.connection u d n []) words.old result words.new }
-    ensures shortens { Shortens words.old result words.new }
+fn positional(alloc: Global, tokens: &mut Reader<'_>) -> Result<Connections, ParseErr>
+    ensures reads { ReadsConnections (λ u d n. spec.connection u d n []) tokens.old result tokens.new }
+    ensures shortens { Shortens tokens.old result tokens.new }
 {
     let mut list = Vec::new(alloc);
-    'list: while connection(alloc, words, &mut list)? {}
+    'list: while connection(alloc, tokens, &mut list)? {}
     Ok(Connections::Positional(Items::from_vec(list)))
 }
 
@@ -175,62 +179,62 @@ fn positional(alloc: Global, words: &mut Reader<'_>) -> Result<Connections, Pars
 #[tactic(auto, using(crate::proofs::Runs::connection_starts, crate::proofs::Runs::reads_on))]
 fn connection(
     alloc: Global,
-    words: &mut Reader<'_>,
+    tokens: &mut Reader<'_>,
     list: &mut Vec<Connection>,
 ) -> Result<bool, ParseErr>
     ensures reads { (u : Under) (d : word) (n : Option word)
-        → Reads (spec.connection u d n list.old.items) words.old result
+        → Reads (spec.connection u d n list.old.items) tokens.old result
         (λ more. cond more (spec.connection u d n list.new.items)
-        (spec.after_instance (with_item u (instance_of d n (Positional list.new.items))) d)) words.new }
-    ensures shortens { Shortens words.old result words.new }
+        (spec.after_instance (with_item u (instance_of d n (Positional list.new.items))) d)) tokens.new }
+    ensures shortens { Shortens tokens.old result tokens.new }
 {
-    let at = words.at();
-    if words.take(Fixed::Close) {
+    let at = tokens.at();
+    if tokens.take(Fixed::Close) {
         list.push(Connection { at, value: None })?;
         return Ok(false);
     }
-    if words.take(Fixed::Comma) {
+    if tokens.take(Fixed::Comma) {
         list.push(Connection { at, value: None })?;
         return Ok(true);
     }
-    let value = expr(alloc, words)?;
+    let value = expr(alloc, tokens)?;
     list.push(Connection {
         at: value.at,
         value: Some(value),
     })?;
-    words.more(Fixed::Close)
+    tokens.more(Fixed::Close)
 }
 
-// named = connection { "," connection }, behind its first "." and up to its ")"
-fn named(alloc: Global, words: &mut Reader<'_>) -> Result<Connections, ParseErr>
-    ensures reads { ReadsConnections (λ u d n. spec.connection_port u d n []) words.old result words.new }
-    ensures shortens { Shortens words.old result words.new }
+// named = connection { "," connection }, after its first "." and up to its ")"
+fn named(alloc: Global, tokens: &mut Reader<'_>) -> Result<Connections, ParseErr>
+    ensures reads { ReadsConnections (λ u d n. spec.connection_port u d n []) tokens.old result tokens.new }
+    ensures shortens { Shortens tokens.old result tokens.new }
 {
     let mut list = Vec::new(alloc);
     'list: loop {
-        list.push(named_connection(alloc, words)?)?;
-        if !words.more(Fixed::Close)? {
+        list.push(named_connection(alloc, tokens)?)?;
+        if !tokens.more(Fixed::Close)? {
             return Ok(Connections::Named(Items::from_vec(list)));
         }
-        words.expect(Fixed::Dot)?;
+        tokens.expect(Fixed::Dot)?;
     }
 }
 
-// connection = "." name "(" [ expr ] ")", behind its "."
+// connection = "." name "(" [ expr ] ")", after its "."
 #[tactic(auto, using(crate::proofs::Runs::named_starts))]
-fn named_connection(alloc: Global, words: &mut Reader<'_>) -> Result<NamedConnection, ParseErr>
+fn named_connection(alloc: Global, tokens: &mut Reader<'_>) -> Result<NamedConnection, ParseErr>
     ensures reads { (u : Under) (d : word) (n : Option word) (cs : List named_kind)
         → Reads (spec.connection_port u d n cs)
-        words.old result (λ c. spec.after_connection u d n (cs ++ c ∷ [])) words.new }
-    ensures shortens { Shortens words.old result words.new }
+        tokens.old result (λ c. spec.after_connection u d n (cs ++ c ∷ [])) tokens.new }
+    ensures shortens { Shortens tokens.old result tokens.new }
 {
-    let port = words.word(alloc)?;
-    words.expect(Fixed::Open)?;
-    if words.take(Fixed::Close) {
+    let port = tokens.word(alloc)?;
+    tokens.expect(Fixed::Open)?;
+    if tokens.take(Fixed::Close) {
         return Ok(NamedConnection { port, value: None });
     }
-    let value = expr(alloc, words)?;
-    words.expect(Fixed::Close)?;
+    let value = expr(alloc, tokens)?;
+    tokens.expect(Fixed::Close)?;
     Ok(NamedConnection {
         port,
         value: Some(value),

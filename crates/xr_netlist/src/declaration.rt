@@ -13,53 +13,53 @@ use crate::skip::may_delay;
 use std::alloc::Global;
 use xr_netlist_grammar::{Declare, Fixed, Item, NetKind, ParseErr};
 
-// range = "[" int ":" int "]", behind its "["
-fn range(words: &mut Reader<'_>) -> Result<(u32, u32), ParseErr>
+// range = "[" int ":" int "]", after its "["
+fn range(tokens: &mut Reader<'_>) -> Result<(u32, u32), ParseErr>
     ensures reads { (k : Ranged)
-        → Reads (spec.range_first k) words.old result (λ r. after_range k (Some r)) words.new }
-    ensures shortens { Shortens words.old result words.new }
+        → Reads (spec.range_first k) tokens.old result (λ r. after_range k (Some r)) tokens.new }
+    ensures shortens { Shortens tokens.old result tokens.new }
 {
-    let first = words.int()?;
-    words.expect(Fixed::Colon)?;
-    let second = words.int()?;
-    words.expect(Fixed::SquareClose)?;
+    let first = tokens.int()?;
+    tokens.expect(Fixed::Colon)?;
+    let second = tokens.int()?;
+    tokens.expect(Fixed::SquareClose)?;
     Ok((first, second))
 }
 
 // [ "wire" ] [ range ]
 /// The range of ports, which is that of the port before where none stands here.
 pub fn wire_range(
-    words: &mut Reader<'_>,
+    tokens: &mut Reader<'_>,
     had: Option<(u32, u32)>,
 ) -> Result<Option<(u32, u32)>, ParseErr>
     ensures port { (u : Under) (what : net_kinds)
-        → Reads (spec.port_direction u what had) words.old result (λ r. spec.port_word u what r) words.new }
+        → Reads (spec.port_direction u what had) tokens.old result (λ r. spec.port_name u what r) tokens.new }
     ensures declared { had ≡ None → (u : Under) (what : net_kinds)
-        → Reads (spec.direction u what) words.old result (λ r. spec.declared_name u what r) words.new }
-    ensures shortens { OnOk result (length words.new.words ≤ length words.old.words) }
+        → Reads (spec.direction u what) tokens.old result (λ r. spec.declared_name u what r) tokens.new }
+    ensures shortens { OnOk result (length tokens.new.tokens ≤ length tokens.old.tokens) }
 {
-    let _ = words.take(Fixed::Wire);
-    if words.take(Fixed::SquareOpen) {
-        Ok(Some(range(words)?))
+    let _ = tokens.take(Fixed::Wire);
+    if tokens.take(Fixed::SquareOpen) {
+        Ok(Some(range(tokens)?))
     } else {
         Ok(had)
     }
 }
 
-// directed = dir [ "wire" ] [ range ] name { "," name } ";", behind its dir
+// directed = dir [ "wire" ] [ range ] name { "," name } ";", after its dir
 #[tactic(auto, using(crate::proofs::Runs::reads_on))]
 pub fn directed(
     alloc: Global,
     what: NetKind,
-    words: &mut Reader<'_>,
+    tokens: &mut Reader<'_>,
     items: &mut Vec<Item>,
 ) -> Result<(), ParseErr>
     ensures reads { ReadsItems (λ u. spec.direction u what) items.old
-        words.old result (λ _. spec.in_items) items.new words.new }
-    ensures shortens { Shortens words.old result words.new }
+        tokens.old result (λ _. spec.in_items) items.new tokens.new }
+    ensures shortens { Shortens tokens.old result tokens.new }
 {
-    let range = wire_range(words, None)?;
-    names(alloc, what, range, words, items)
+    let range = wire_range(tokens, None)?;
+    names(alloc, what, range, tokens, items)
 }
 
 // name { "," name } ";"
@@ -67,55 +67,55 @@ pub fn names(
     alloc: Global,
     what: NetKind,
     range: Option<(u32, u32)>,
-    words: &mut Reader<'_>,
+    tokens: &mut Reader<'_>,
     items: &mut Vec<Item>,
 ) -> Result<(), ParseErr>
     ensures reads { ReadsItems (λ u. spec.declared_name u what range) items.old
-        words.old result (λ _. spec.in_items) items.new words.new }
-    ensures shortens { Shortens words.old result words.new }
+        tokens.old result (λ _. spec.in_items) items.new tokens.new }
+    ensures shortens { Shortens tokens.old result tokens.new }
 {
     'names: loop {
-        let name = words.word(alloc)?;
+        let name = tokens.word(alloc)?;
         items.push(Item::Declare(Declare {
             what,
             range,
             name,
             value: None,
         }))?;
-        if !words.more(Fixed::Semi)? {
+        if !tokens.more(Fixed::Semi)? {
             return Ok(());
         }
     }
 }
 
-// nets = net [ range ] [ delay ] dname { "," dname } ";", behind its net
+// nets = net [ range ] [ delay ] dname { "," dname } ";", after its net
 pub fn nets(
     alloc: Global,
     what: NetKind,
-    words: &mut Reader<'_>,
+    tokens: &mut Reader<'_>,
     items: &mut Vec<Item>,
 ) -> Result<(), ParseErr>
     ensures reads { ReadsItems (λ u. spec.net_kind u what) items.old
-        words.old result (λ _. spec.in_items) items.new words.new }
-    ensures shortens { Shortens words.old result words.new }
+        tokens.old result (λ _. spec.in_items) items.new tokens.new }
+    ensures shortens { Shortens tokens.old result tokens.new }
 {
-    let range = net_range(words)?;
-    'nets: while net(alloc, what, range, words, items)? {}
+    let range = net_range(tokens)?;
+    'nets: while net(alloc, what, range, tokens, items)? {}
     Ok(())
 }
 
 // [ range ] [ delay ]
 #[tactic(auto, using(crate::proofs::Runs::net_no_range))]
-fn net_range(words: &mut Reader<'_>) -> Result<Option<(u32, u32)>, ParseErr>
+fn net_range(tokens: &mut Reader<'_>) -> Result<Option<(u32, u32)>, ParseErr>
     ensures reads { (u : Under) (what : net_kinds)
-        → Reads (spec.net_kind u what) words.old result (λ r. spec.net_name u what r) words.new }
-    ensures shortens { OnOk result (length words.new.words ≤ length words.old.words) }
+        → Reads (spec.net_kind u what) tokens.old result (λ r. spec.net_name u what r) tokens.new }
+    ensures shortens { OnOk result (length tokens.new.tokens ≤ length tokens.old.tokens) }
 {
     let mut bits = None;
-    if words.take(Fixed::SquareOpen) {
-        bits = Some(range(words)?);
+    if tokens.take(Fixed::SquareOpen) {
+        bits = Some(range(tokens)?);
     }
-    may_delay(words)?;
+    may_delay(tokens)?;
     Ok(bits)
 }
 
@@ -125,17 +125,17 @@ fn net(
     alloc: Global,
     what: NetKind,
     range: Option<(u32, u32)>,
-    words: &mut Reader<'_>,
+    tokens: &mut Reader<'_>,
     items: &mut Vec<Item>,
 ) -> Result<bool, ParseErr>
-    ensures reads { ReadsItems (λ u. spec.net_name u what range) items.old words.old result
-        (λ more u. cond more (spec.net_name u what range) (spec.in_items u)) items.new words.new }
-    ensures shortens { Shortens words.old result words.new }
+    ensures reads { ReadsItems (λ u. spec.net_name u what range) items.old tokens.old result
+        (λ more u. cond more (spec.net_name u what range) (spec.in_items u)) items.new tokens.new }
+    ensures shortens { Shortens tokens.old result tokens.new }
 {
-    let name = words.word(alloc)?;
+    let name = tokens.word(alloc)?;
     let mut value = None;
-    if takes_value(what) && words.take(Fixed::Equals) {
-        value = Some(expr(alloc, words)?);
+    if takes_value(what) && tokens.take(Fixed::Equals) {
+        value = Some(expr(alloc, tokens)?);
     }
     items.push(Item::Declare(Declare {
         what,
@@ -143,7 +143,7 @@ fn net(
         name,
         value,
     }))?;
-    words.more(Fixed::Semi)
+    tokens.more(Fixed::Semi)
 }
 
 fn takes_value(what: NetKind) -> bool

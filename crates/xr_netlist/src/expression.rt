@@ -14,21 +14,21 @@ use xr_base::Items;
 use xr_netlist_grammar::{Expr, Fixed, ParseErr, Part, PartKind, Word};
 
 // expr = name | name "[" int "]" | name "[" int ":" int "]" | literal | "{" expr { "," expr } "}"
-pub fn expr(alloc: Global, words: &mut Reader<'_>) -> Result<Expr, ParseErr>
+pub fn expr(alloc: Global, tokens: &mut Reader<'_>) -> Result<Expr, ParseErr>
     ensures reads { (k : Context) → Reads (spec.expr_start k)
-        words.old result (λ e. spec.after_part k e.at 0 e.parts) words.new }
-    ensures shortens { Shortens words.old result words.new }
+        tokens.old result (λ e. spec.after_part k e.at 0 e.parts) tokens.new }
+    ensures shortens { Shortens tokens.old result tokens.new }
 {
-    let at = words.at();
+    let at = tokens.at();
     // most expressions have one part
     let mut parts = Vec::with_capacity(alloc, 1)?;
     let mut depth: u64 = 0;
     'parts: loop {
-        'opens: while words.take(Fixed::BraceOpen) {
+        'opens: while tokens.take(Fixed::BraceOpen) {
             depth += 1;
         }
-        parts.push(part(alloc, words)?)?;
-        'closes: while depth > 0 && words.take(Fixed::BraceClose) {
+        parts.push(part(alloc, tokens)?)?;
+        'closes: while depth > 0 && tokens.take(Fixed::BraceClose) {
             depth -= 1;
         }
         if depth == 0 {
@@ -37,45 +37,45 @@ pub fn expr(alloc: Global, words: &mut Reader<'_>) -> Result<Expr, ParseErr>
                 parts: Items::from_vec(parts),
             });
         }
-        words.expect(Fixed::Comma)?;
+        tokens.expect(Fixed::Comma)?;
     }
 }
 
 // part = name | name "[" int "]" | name "[" int ":" int "]" | literal
-fn part(alloc: Global, words: &mut Reader<'_>) -> Result<Part, ParseErr>
-    requires { is_fixed fixed.BraceOpen (head words.old).what ≡ false }
+fn part(alloc: Global, tokens: &mut Reader<'_>) -> Result<Part, ParseErr>
+    requires { is_fixed fixed.BraceOpen (head tokens.old).what ≡ false }
     ensures reads { (k : Context) (at d : ℕ) (ps : List part_of)
-        → Reads (spec.expr k at d ps) words.old result (λ p. spec.after_part k at d (ps ++ p ∷ [])) words.new }
-    ensures shortens { Shortens words.old result words.new }
+        → Reads (spec.expr k at d ps) tokens.old result (λ p. spec.after_part k at d (ps ++ p ∷ [])) tokens.new }
+    ensures shortens { Shortens tokens.old result tokens.new }
 {
-    let at = words.at();
-    let Some(name) = words.take_name() else {
-        let (size, value) = words.literal()?;
+    let at = tokens.at();
+    let Some(name) = tokens.take_name() else {
+        let (size, value) = tokens.literal()?;
         return Ok(Part {
             at,
             what: PartKind::Literal(size, value),
         });
     };
-    let what = select(name.word(alloc)?, words)?;
+    let what = select(name.word(alloc)?, tokens)?;
     Ok(Part { at: name.at, what })
 }
 
 // [ "[" int [ ":" int ] "]" ]
-fn select(name: Word, words: &mut Reader<'_>) -> Result<PartKind, ParseErr>
+fn select(name: Word, tokens: &mut Reader<'_>) -> Result<PartKind, ParseErr>
     ensures reads { (k : Context) (at d : ℕ) (ps : List part_of)
-        → Reads (spec.after_part_name k at d ps name) words.old result
-        (λ what. spec.after_part k at d (ps ++ record { at = name.at; what = what } ∷ [])) words.new }
-    ensures shortens { OnOk result (length words.new.words ≤ length words.old.words) }
+        → Reads (spec.after_part_name k at d ps name) tokens.old result
+        (λ what. spec.after_part k at d (ps ++ record { at = name.at; what = what } ∷ [])) tokens.new }
+    ensures shortens { OnOk result (length tokens.new.tokens ≤ length tokens.old.tokens) }
 {
-    if !words.take(Fixed::SquareOpen) {
+    if !tokens.take(Fixed::SquareOpen) {
         return Ok(PartKind::Whole(name));
     }
-    let first = words.int()?;
-    if words.take(Fixed::SquareClose) {
+    let first = tokens.int()?;
+    if tokens.take(Fixed::SquareClose) {
         return Ok(PartKind::Bit(name, first));
     }
-    words.expect(Fixed::Colon)?;
-    let second = words.int()?;
-    words.expect(Fixed::SquareClose)?;
+    tokens.expect(Fixed::Colon)?;
+    let second = tokens.int()?;
+    tokens.expect(Fixed::SquareClose)?;
     Ok(PartKind::Slice(name, first, second))
 }

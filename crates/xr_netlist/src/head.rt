@@ -30,36 +30,36 @@ pub struct Direction {
 
 // head = [ "(" [ ports ] ")" ]
 #[tactic(auto, using(crate::proofs::Runs::reads_on, crate::proofs::Runs::no_ports))]
-pub fn module_head(alloc: Global, words: &mut Reader<'_>) -> Result<Head, ParseErr>
-    ensures reads { ReadsHead spec.after_name words.old result words.new }
-    ensures shortens { OnOk result (length words.new.words ≤ length words.old.words) }
+pub fn module_head(alloc: Global, tokens: &mut Reader<'_>) -> Result<Head, ParseErr>
+    ensures reads { ReadsHead spec.after_name tokens.old result tokens.new }
+    ensures shortens { OnOk result (length tokens.new.tokens ≤ length tokens.old.tokens) }
 {
-    if !words.take(Fixed::Open) || words.take(Fixed::Close) {
+    if !tokens.take(Fixed::Open) || tokens.take(Fixed::Close) {
         return Ok(Head {
             ports: Vec::new(alloc),
             items: Vec::new(alloc),
         });
     }
-    if words.take(Fixed::Input) {
-        declared_ports(alloc, NetKind::Input, words)
-    } else if words.take(Fixed::Output) {
-        declared_ports(alloc, NetKind::Output, words)
+    if tokens.take(Fixed::Input) {
+        declared_ports(alloc, NetKind::Input, tokens)
+    } else if tokens.take(Fixed::Output) {
+        declared_ports(alloc, NetKind::Output, tokens)
     } else {
-        plain_ports(alloc, words)
+        plain_ports(alloc, tokens)
     }
 }
 
 // name { "," name } ")"
 #[tactic(auto, using(crate::proofs::Runs::plain_port))]
-fn plain_ports(alloc: Global, words: &mut Reader<'_>) -> Result<Head, ParseErr>
-    requires { BeginsNoPort (head_of words.old).what }
-    ensures reads { ReadsHead spec.first_port words.old result words.new }
-    ensures shortens { Shortens words.old result words.new }
+fn plain_ports(alloc: Global, tokens: &mut Reader<'_>) -> Result<Head, ParseErr>
+    requires { BeginsNoPort (head_of tokens.old).what }
+    ensures reads { ReadsHead spec.first_port tokens.old result tokens.new }
+    ensures shortens { Shortens tokens.old result tokens.new }
 {
     let mut ports = Vec::new(alloc);
     'ports: loop {
-        ports.push(words.word(alloc)?)?;
-        if !words.more(Fixed::Close)? {
+        ports.push(tokens.word(alloc)?)?;
+        if !tokens.more(Fixed::Close)? {
             return Ok(Head {
                 ports,
                 items: Vec::new(alloc),
@@ -68,10 +68,10 @@ fn plain_ports(alloc: Global, words: &mut Reader<'_>) -> Result<Head, ParseErr>
     }
 }
 
-// port { "," port } ")", behind its first direction
-fn declared_ports(alloc: Global, what: NetKind, words: &mut Reader<'_>) -> Result<Head, ParseErr>
-    ensures reads { ReadsHead (λ b n. spec.port_direction (under b n [] []) what None) words.old result words.new }
-    ensures shortens { Shortens words.old result words.new }
+// port { "," port } ")", after its first direction
+fn declared_ports(alloc: Global, what: NetKind, tokens: &mut Reader<'_>) -> Result<Head, ParseErr>
+    ensures reads { ReadsHead (λ b n. spec.port_direction (under b n [] []) what None) tokens.old result tokens.new }
+    ensures shortens { Shortens tokens.old result tokens.new }
 {
     let mut head = Head {
         ports: Vec::new(alloc),
@@ -79,12 +79,12 @@ fn declared_ports(alloc: Global, what: NetKind, words: &mut Reader<'_>) -> Resul
     };
     let mut direction = Direction { what, range: None };
     'ports: loop {
-        direction.range = wire_range(words, direction.range)?;
-        port(alloc, direction, words, &mut head.ports, &mut head.items)?;
-        if !words.more(Fixed::Close)? {
+        direction.range = wire_range(tokens, direction.range)?;
+        port(alloc, direction, tokens, &mut head.ports, &mut head.items)?;
+        if !tokens.more(Fixed::Close)? {
             return Ok(head);
         }
-        direction = next_direction(words, direction);
+        direction = next_direction(tokens, direction);
     }
 }
 
@@ -92,18 +92,18 @@ fn declared_ports(alloc: Global, what: NetKind, words: &mut Reader<'_>) -> Resul
 fn port(
     alloc: Global,
     direction: Direction,
-    words: &mut Reader<'_>,
+    tokens: &mut Reader<'_>,
     ports: &mut Vec<Word>,
     items: &mut Vec<Item>,
 ) -> Result<(), ParseErr>
     ensures reads { (b : source) (n : word)
-        → Reads (spec.port_word (under b n ports.old.items items.old.items) direction.what direction.range)
-        words.old result
+        → Reads (spec.port_name (under b n ports.old.items items.old.items) direction.what direction.range)
+        tokens.old result
         (λ _. spec.after_declared_port (under b n ports.new.items items.new.items) direction.what
-        direction.range) words.new }
-    ensures shortens { Shortens words.old result words.new }
+        direction.range) tokens.new }
+    ensures shortens { Shortens tokens.old result tokens.new }
 {
-    let name = words.name()?;
+    let name = tokens.name()?;
     ports.push(name.word(alloc)?)?;
     items.push(Item::Declare(Declare {
         what: direction.what,
@@ -116,18 +116,18 @@ fn port(
 
 /// The direction of a port, which is that of the port before where none stands here.
 #[tactic(auto, using(crate::proofs::Runs::undirected))]
-fn next_direction(words: &mut Reader<'_>, had: Direction) -> Direction
+fn next_direction(tokens: &mut Reader<'_>, had: Direction) -> Direction
     ensures reads { (u : Under)
-        → goes (spec.declared_port u had.what had.range) words.old
-        ≡ goes (spec.port_direction u result.what result.range) words.new }
-    ensures shortens { length words.new.words ≤ length words.old.words }
+        → goes (spec.declared_port u had.what had.range) tokens.old
+        ≡ goes (spec.port_direction u result.what result.range) tokens.new }
+    ensures shortens { length tokens.new.tokens ≤ length tokens.old.tokens }
 {
-    if words.take(Fixed::Input) {
+    if tokens.take(Fixed::Input) {
         Direction {
             what: NetKind::Input,
             range: None,
         }
-    } else if words.take(Fixed::Output) {
+    } else if tokens.take(Fixed::Output) {
         Direction {
             what: NetKind::Output,
             range: None,

@@ -2,9 +2,9 @@
 
 ghost use Rattle.std.specs.Prelude.{◌≡◌, IfOk, ◌<◌, ◌≤◌, length};
 ghost use Rattle.xr_netlist_grammar.specs.Lexemes as spec;
-ghost use Rattle.xr_netlist.specs.Shown.{shown, shown_tok, HasSymbols};
+ghost use Rattle.xr_netlist.specs.Shown.{shown, shown_token, HasSymbols};
 
-use crate::keyword::{is_word_left_out, word};
+use crate::keyword::{is_keyword_left_out, name_lexeme};
 use crate::table_symbol::{first_byte, fixed_symbol, only_byte};
 use std::alloc::{AllocError, Global};
 use xr_base::Items;
@@ -27,7 +27,7 @@ pub enum Lexeme<'a> {
 
 /// A token and its first byte.
 #[derive(Clone, Copy)]
-pub struct Tok<'a> {
+pub struct TokenAt<'a> {
     pub at: usize,
     pub what: Lexeme<'a>,
 }
@@ -57,20 +57,20 @@ impl<'a> Name<'a> {
 }
 
 /// A token of a text.
-pub fn read_token<'a>(text: &'a [u8], token: Token) -> Tok<'a>
+pub fn read_token<'a>(text: &'a [u8], token: Token) -> TokenAt<'a>
     requires order { token.start < token.end }
     requires within { token.end ≤ length text.now }
-    ensures { shown_tok result ≡ spec.tok_of text.now token }
+    ensures { shown_token result ≡ spec.token_of text.now token }
 {
     let bytes = &text[token.start..token.end];
     let what = match token.kind {
-        Kind::Name => word(bytes),
+        Kind::Name => name_lexeme(bytes),
         Kind::Escaped => Lexeme::Named(&bytes[1..], true),
         Kind::Number => Lexeme::Number(bytes),
         Kind::Text => Lexeme::Quotation,
         Kind::Mark => mark(bytes[0]),
     };
-    Tok {
+    TokenAt {
         at: token.start,
         what,
     }
@@ -97,21 +97,21 @@ fn mark(b: u8) -> Lexeme<'static>
     }
 }
 
-impl<'a> Tok<'a> {
+impl<'a> TokenAt<'a> {
     /// Whether an item that begins so is left out by the profile.
     pub fn is_left_out(self) -> bool
-        ensures { result ≡ spec.is_left_out (shown_tok self.entry).what }
+        ensures { result ≡ spec.is_left_out (shown_token self.entry).what }
     {
         match self.what {
             Lexeme::Quoted(Fixed::Initial) => true,
-            Lexeme::Named(text, false) => is_word_left_out(text),
+            Lexeme::Named(text, false) => is_keyword_left_out(text),
             _ => false,
         }
     }
 
-    /// Its symbols in a table, the first one and those behind it.
+    /// Its symbols in a table, the first one and those after it.
     pub fn symbols(self) -> Option<(u8, &'a [u8])>
-        ensures { HasSymbols (shown_tok self.entry).what result }
+        ensures { HasSymbols (shown_token self.entry).what result }
     {
         match self.what {
             Lexeme::Named(text, false) => first_byte(text),
@@ -124,7 +124,7 @@ impl<'a> Tok<'a> {
 
     /// Why it may not stand here.
     pub fn fault(self) -> ParseErr
-        ensures { result ≡ spec.fault_of (shown_tok self.entry) }
+        ensures { result ≡ spec.fault_of (shown_token self.entry) }
     {
         match self.what {
             Lexeme::Broken(fault) => ParseErr::Lex(fault),

@@ -18,16 +18,16 @@ use std::alloc::Global;
 use xr_base::Items;
 use xr_netlist_grammar::{Fixed, Item, Module, NetKind, ParseErr};
 
-// module = "module" name head ";" { item } "endmodule", behind its first word
-pub fn module(alloc: Global, words: &mut Reader<'_>) -> Result<Module, ParseErr>
+// module = "module" name head ";" { item } "endmodule", after its keyword
+pub fn module(alloc: Global, tokens: &mut Reader<'_>) -> Result<Module, ParseErr>
     ensures reads { (b : source) → Reads (spec.module_name b)
-        words.old result (λ m. spec.top (joined b (one_module m))) words.new }
-    ensures shortens { Shortens words.old result words.new }
+        tokens.old result (λ m. spec.top (joined b (one_module m))) tokens.new }
+    ensures shortens { Shortens tokens.old result tokens.new }
 {
-    let name = words.name()?;
-    let Head { ports, mut items } = module_head(alloc, words)?;
-    words.expect(Fixed::Semi)?;
-    fill(alloc, words, &mut items)?;
+    let name = tokens.name()?;
+    let Head { ports, mut items } = module_head(alloc, tokens)?;
+    tokens.expect(Fixed::Semi)?;
+    fill(alloc, tokens, &mut items)?;
     Ok(Module {
         name: name.word(alloc)?,
         ports: Items::from_vec(ports),
@@ -36,53 +36,53 @@ pub fn module(alloc: Global, words: &mut Reader<'_>) -> Result<Module, ParseErr>
 }
 
 // { item } "endmodule"
-fn fill(alloc: Global, words: &mut Reader<'_>, items: &mut Vec<Item>) -> Result<(), ParseErr>
+fn fill(alloc: Global, tokens: &mut Reader<'_>, items: &mut Vec<Item>) -> Result<(), ParseErr>
     ensures reads { ReadsItems spec.in_items items.old
-        words.old result (λ _ u. spec.top (closed u)) items.new words.new }
-    ensures shortens { Shortens words.old result words.new }
+        tokens.old result (λ _ u. spec.top (closed u)) items.new tokens.new }
+    ensures shortens { Shortens tokens.old result tokens.new }
 {
-    'items: while !words.take(Fixed::Endmodule) {
-        item(alloc, words, items)?;
+    'items: while !tokens.take(Fixed::Endmodule) {
+        item(alloc, tokens, items)?;
     }
     Ok(())
 }
 
 // item = attribute | directed | nets | "reg" names | gates | instances | assigns | specify
 #[tactic(auto, using(crate::proofs::Runs::reads_on))]
-fn item(alloc: Global, words: &mut Reader<'_>, items: &mut Vec<Item>) -> Result<(), ParseErr>
-    requires { is_fixed fixed.Endmodule (head words.old).what ≡ false }
-    ensures reads { ReadsItems spec.in_items items.old words.old result (λ _. spec.in_items) items.new words.new }
-    ensures shortens { Shortens words.old result words.new }
+fn item(alloc: Global, tokens: &mut Reader<'_>, items: &mut Vec<Item>) -> Result<(), ParseErr>
+    requires { is_fixed fixed.Endmodule (head tokens.old).what ≡ false }
+    ensures reads { ReadsItems spec.in_items items.old tokens.old result (λ _. spec.in_items) items.new tokens.new }
+    ensures shortens { Shortens tokens.old result tokens.new }
 {
-    if words.take(Fixed::Open) {
-        attribute(words)?;
+    if tokens.take(Fixed::Open) {
+        attribute(tokens)?;
         Ok(())
-    } else if let Some(what) = take_direction(words) {
-        directed(alloc, what, words, items)
-    } else if let Some(what) = take_net(words) {
-        nets(alloc, what, words, items)
-    } else if words.take(Fixed::Reg) {
-        names(alloc, NetKind::Reg, None, words, items)
-    } else if words.take(Fixed::Assign) {
-        assigns(alloc, words, items)
-    } else if words.take(Fixed::Specify) {
-        specify(words)?;
+    } else if let Some(what) = take_direction(tokens) {
+        directed(alloc, what, tokens, items)
+    } else if let Some(what) = take_net(tokens) {
+        nets(alloc, what, tokens, items)
+    } else if tokens.take(Fixed::Reg) {
+        names(alloc, NetKind::Reg, None, tokens, items)
+    } else if tokens.take(Fixed::Assign) {
+        assigns(alloc, tokens, items)
+    } else if tokens.take(Fixed::Specify) {
+        specify(tokens)?;
         Ok(())
     } else {
-        cell(alloc, words, items)
+        cell(alloc, tokens, items)
     }
 }
 
 // dir = "input" | "output"
-fn take_direction(words: &mut Reader<'_>) -> Option<NetKind>
+fn take_direction(tokens: &mut Reader<'_>) -> Option<NetKind>
     ensures begins { IfSome result (λ what. (u : Under)
-        → goes (spec.in_items u) words.old ≡ goes (spec.direction u what) words.new) }
-    ensures shortens { IfSome result (λ _. length words.new.words < length words.old.words) }
-    ensures none { IfNone result ((words.new ≡ words.old) × BeginsNoDirection (head words.old).what) }
+        → goes (spec.in_items u) tokens.old ≡ goes (spec.direction u what) tokens.new) }
+    ensures shortens { IfSome result (λ _. length tokens.new.tokens < length tokens.old.tokens) }
+    ensures none { IfNone result ((tokens.new ≡ tokens.old) × BeginsNoDirection (head tokens.old).what) }
 {
-    if words.take(Fixed::Input) {
+    if tokens.take(Fixed::Input) {
         Some(NetKind::Input)
-    } else if words.take(Fixed::Output) {
+    } else if tokens.take(Fixed::Output) {
         Some(NetKind::Output)
     } else {
         None
@@ -90,17 +90,17 @@ fn take_direction(words: &mut Reader<'_>) -> Option<NetKind>
 }
 
 // net = "wire" | "tri" | "supply0" | "supply1"
-fn take_net(words: &mut Reader<'_>) -> Option<NetKind>
+fn take_net(tokens: &mut Reader<'_>) -> Option<NetKind>
     ensures begins { IfSome result (λ what. (u : Under)
-        → goes (spec.in_items u) words.old ≡ goes (spec.net_kind u what) words.new) }
-    ensures shortens { IfSome result (λ _. length words.new.words < length words.old.words) }
-    ensures none { IfNone result ((words.new ≡ words.old) × BeginsNoNet (head words.old).what) }
+        → goes (spec.in_items u) tokens.old ≡ goes (spec.net_kind u what) tokens.new) }
+    ensures shortens { IfSome result (λ _. length tokens.new.tokens < length tokens.old.tokens) }
+    ensures none { IfNone result ((tokens.new ≡ tokens.old) × BeginsNoNet (head tokens.old).what) }
 {
-    if words.take(Fixed::Wire) || words.take(Fixed::Tri) {
+    if tokens.take(Fixed::Wire) || tokens.take(Fixed::Tri) {
         Some(NetKind::Wire)
-    } else if words.take(Fixed::Supply0) {
+    } else if tokens.take(Fixed::Supply0) {
         Some(NetKind::Supply0)
-    } else if words.take(Fixed::Supply1) {
+    } else if tokens.take(Fixed::Supply1) {
         Some(NetKind::Supply1)
     } else {
         None
@@ -109,18 +109,18 @@ fn take_net(words: &mut Reader<'_>) -> Option<NetKind>
 
 // gates | instances
 #[tactic(auto, using(crate::proofs::Runs::reads_on, crate::proofs::Runs::left_out))]
-fn cell(alloc: Global, words: &mut Reader<'_>, items: &mut Vec<Item>) -> Result<(), ParseErr>
-    requires { BeginsNone (head words.old).what }
-    ensures reads { ReadsItems spec.in_items items.old words.old result (λ _. spec.in_items) items.new words.new }
-    ensures shortens { Shortens words.old result words.new }
+fn cell(alloc: Global, tokens: &mut Reader<'_>, items: &mut Vec<Item>) -> Result<(), ParseErr>
+    requires { BeginsNone (head tokens.old).what }
+    ensures reads { ReadsItems spec.in_items items.old tokens.old result (λ _. spec.in_items) items.new tokens.new }
+    ensures shortens { Shortens tokens.old result tokens.new }
 {
-    let at = words.at();
-    if let Some(kind) = words.take_gate() {
-        return gates(alloc, kind, at, words, items);
+    let at = tokens.at();
+    if let Some(kind) = tokens.take_gate() {
+        return gates(alloc, kind, at, tokens, items);
     }
-    if words.is_left_out() {
+    if tokens.is_left_out() {
         return Err(ParseErr::OutOfProfile { at });
     }
-    let definition = words.name()?;
-    instances(alloc, definition, words, items)
+    let definition = tokens.name()?;
+    instances(alloc, definition, tokens, items)
 }

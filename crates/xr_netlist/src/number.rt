@@ -6,7 +6,7 @@ ghost use Rattle.xr_netlist_grammar.specs.Bytes as bytes;
 ghost use Rattle.xr_netlist_grammar.specs.Numbers as spec;
 ghost use Rattle.xr_netlist.specs.Sizes.{size_in, narrow_number};
 
-use crate::keyword::is_word;
+use crate::keyword::is_spelled;
 use xr_cell::Value;
 
 /// An int: digits, at most 2^31 - 1.
@@ -41,11 +41,11 @@ pub fn int_of(text: &[u8]) -> Option<u32>
 pub fn bit_of(text: &[u8]) -> Option<Value>
     ensures { result ≡ spec.bit_of text.now }
 {
-    if is_word(text, b"1'b0") || is_word(text, b"0") {
+    if is_spelled(text, b"1'b0") || is_spelled(text, b"0") {
         Some(Value::Zero)
-    } else if is_word(text, b"1'b1") || is_word(text, b"1") {
+    } else if is_spelled(text, b"1'b1") || is_spelled(text, b"1") {
         Some(Value::One)
-    } else if is_word(text, b"1'bx") {
+    } else if is_spelled(text, b"1'bx") {
         Some(Value::X)
     } else {
         None
@@ -61,7 +61,7 @@ pub fn literal_of(text: &[u8]) -> Option<(u32, u128)>
     literal_behind(size, &text[size.len()..])
 }
 
-/// A literal, by its size and what stands behind the size.
+/// A literal, by its size and what stands after the size.
 fn literal_behind(size: &[u8], rest: &[u8]) -> Option<(u32, u128)>
     ensures { result ≡ spec.literal_behind size.now rest.now }
 {
@@ -87,7 +87,7 @@ fn leading_digits(text: &[u8]) -> &[u8]
     &text[..text.len() - rest.len()]
 }
 
-/// The size of a literal, 1 to 128, where a quotation mark stands behind it.
+/// The size of a literal, 1 to 128, where a quotation mark stands after it.
 #[tactic(auto, unfolding(xr_netlist_grammar::specs::Numbers::int_of))]
 fn size_of(text: &[u8], quote: u8) -> Option<u32>
     ensures size { result ≡ size_in text.now quote }

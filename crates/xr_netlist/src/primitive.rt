@@ -26,21 +26,21 @@ struct Pins {
     declarations: Vec<PrimDeclare>,
 }
 
-// primitive = "primitive" name "(" pins ")" ";" { declaration } "table" rows "endprimitive", behind its first word
-pub fn primitive(alloc: Global, words: &mut Reader<'_>) -> Result<Primitive, ParseErr>
+// primitive = "primitive" name "(" pins ")" ";" { declaration } "table" rows "endprimitive", after its keyword
+pub fn primitive(alloc: Global, tokens: &mut Reader<'_>) -> Result<Primitive, ParseErr>
     ensures reads { (b : source) → Reads (spec.primitive_name b)
-        words.old result (λ p. spec.top (joined b (one_primitive p))) words.new }
-    ensures shortens { Shortens words.old result words.new }
+        tokens.old result (λ p. spec.top (joined b (one_primitive p))) tokens.new }
+    ensures shortens { Shortens tokens.old result tokens.new }
 {
-    let name = words.name()?;
-    words.expect(Fixed::Open)?;
+    let name = tokens.name()?;
+    tokens.expect(Fixed::Open)?;
     let Pins {
         ports,
         mut declarations,
-    } = port_list(alloc, words)?;
-    declare_all(alloc, words, &mut declarations)?;
-    let rows = rows(alloc, is_sequential(&declarations), words)?;
-    words.expect(Fixed::Endprimitive)?;
+    } = port_list(alloc, tokens)?;
+    declare_all(alloc, tokens, &mut declarations)?;
+    let rows = rows(alloc, is_sequential(&declarations), tokens)?;
+    tokens.expect(Fixed::Endprimitive)?;
     Ok(Primitive {
         name: name.word(alloc)?,
         ports: Items::from_vec(ports),
@@ -52,16 +52,16 @@ pub fn primitive(alloc: Global, words: &mut Reader<'_>) -> Result<Primitive, Par
 // ";" { declaration } "table"
 fn declare_all(
     alloc: Global,
-    words: &mut Reader<'_>,
+    tokens: &mut Reader<'_>,
     declarations: &mut Vec<PrimDeclare>,
 ) -> Result<(), ParseErr>
     ensures reads { ReadsPins spec.primitive_head_end declarations.old
-        words.old result spec.first_row declarations.new words.new }
-    ensures shortens { Shortens words.old result words.new }
+        tokens.old result spec.first_row declarations.new tokens.new }
+    ensures shortens { Shortens tokens.old result tokens.new }
 {
-    words.expect(Fixed::Semi)?;
-    'declarations: while !words.take(Fixed::Table) {
-        declaration(alloc, words, declarations)?;
+    tokens.expect(Fixed::Semi)?;
+    'declarations: while !tokens.take(Fixed::Table) {
+        declaration(alloc, tokens, declarations)?;
     }
     Ok(())
 }
@@ -76,27 +76,27 @@ fn is_sequential(declarations: &[PrimDeclare]) -> bool
 
 // pins = name { "," name } | declared_pins, up to their ")"
 #[tactic(auto, using(crate::proofs::Runs::reads_on))]
-fn port_list(alloc: Global, words: &mut Reader<'_>) -> Result<Pins, ParseErr>
-    ensures reads { ReadsPortList spec.first_pin words.old result words.new }
-    ensures shortens { Shortens words.old result words.new }
+fn port_list(alloc: Global, tokens: &mut Reader<'_>) -> Result<Pins, ParseErr>
+    ensures reads { ReadsPortList spec.first_pin tokens.old result tokens.new }
+    ensures shortens { Shortens tokens.old result tokens.new }
 {
-    if words.take(Fixed::Output) {
-        declared_pins(alloc, words)
+    if tokens.take(Fixed::Output) {
+        declared_pins(alloc, tokens)
     } else {
-        plain_pins(alloc, words)
+        plain_pins(alloc, tokens)
     }
 }
 
 #[tactic(auto, using(crate::proofs::Runs::plain_pin))]
-fn plain_pins(alloc: Global, words: &mut Reader<'_>) -> Result<Pins, ParseErr>
-    requires { is_fixed fixed.Output (head words.old).what ≡ false }
-    ensures reads { ReadsPortList spec.first_pin words.old result words.new }
-    ensures shortens { Shortens words.old result words.new }
+fn plain_pins(alloc: Global, tokens: &mut Reader<'_>) -> Result<Pins, ParseErr>
+    requires { is_fixed fixed.Output (head tokens.old).what ≡ false }
+    ensures reads { ReadsPortList spec.first_pin tokens.old result tokens.new }
+    ensures shortens { Shortens tokens.old result tokens.new }
 {
     let mut ports = Vec::new(alloc);
     'pins: loop {
-        ports.push(words.word(alloc)?)?;
-        if !words.more(Fixed::Close)? {
+        ports.push(tokens.word(alloc)?)?;
+        if !tokens.more(Fixed::Close)? {
             return Ok(Pins {
                 ports,
                 declarations: Vec::new(alloc),
@@ -105,14 +105,14 @@ fn plain_pins(alloc: Global, words: &mut Reader<'_>) -> Result<Pins, ParseErr>
     }
 }
 
-// declared_pins = "output" output "," "input" name { "," [ "input" ] name }, behind its first word
-fn declared_pins(alloc: Global, words: &mut Reader<'_>) -> Result<Pins, ParseErr>
-    ensures reads { ReadsPortList spec.output_pin words.old result words.new }
-    ensures shortens { Shortens words.old result words.new }
+// declared_pins = "output" output "," "input" name { "," [ "input" ] name }, after its keyword
+fn declared_pins(alloc: Global, tokens: &mut Reader<'_>) -> Result<Pins, ParseErr>
+    ensures reads { ReadsPortList spec.output_pin tokens.old result tokens.new }
+    ensures shortens { Shortens tokens.old result tokens.new }
 {
     let mut declarations = Vec::new(alloc);
-    let mut ports = output_pin(alloc, words, &mut declarations)?;
-    input_pins(alloc, words, &mut ports, &mut declarations)?;
+    let mut ports = output_pin(alloc, tokens, &mut declarations)?;
+    input_pins(alloc, tokens, &mut ports, &mut declarations)?;
     Ok(Pins {
         ports,
         declarations,
@@ -122,17 +122,17 @@ fn declared_pins(alloc: Global, words: &mut Reader<'_>) -> Result<Pins, ParseErr
 // output [ "=" bit ] ","
 fn output_pin(
     alloc: Global,
-    words: &mut Reader<'_>,
+    tokens: &mut Reader<'_>,
     declarations: &mut Vec<PrimDeclare>,
 ) -> Result<Vec<Word>, ParseErr>
     requires { declarations.old.items ≡ [] }
     ensures reads { (b : source) (n : word)
-        → Reads (spec.output_pin b n) words.old result
-        (λ ps. spec.first_input (within b n ps.items declarations.new.items [])) words.new }
-    ensures shortens { Shortens words.old result words.new }
+        → Reads (spec.output_pin b n) tokens.old result
+        (λ ps. spec.first_input (within b n ps.items declarations.new.items [])) tokens.new }
+    ensures shortens { Shortens tokens.old result tokens.new }
 {
-    let name = output(alloc, words, declarations)?;
-    start_value(alloc, name, words, declarations)?;
+    let name = output(alloc, tokens, declarations)?;
+    start_value(alloc, name, tokens, declarations)?;
     let mut ports = Vec::new(alloc);
     ports.push(name.word(alloc)?)?;
     Ok(ports)
@@ -141,57 +141,57 @@ fn output_pin(
 // "input" name { "," [ "input" ] name } ")"
 fn input_pins(
     alloc: Global,
-    words: &mut Reader<'_>,
+    tokens: &mut Reader<'_>,
     ports: &mut Vec<Word>,
     declarations: &mut Vec<PrimDeclare>,
 ) -> Result<(), ParseErr>
     ensures reads { (b : source) (n : word)
-        → Reads (spec.first_input (within b n ports.old.items declarations.old.items [])) words.old result
-        (λ _. spec.primitive_head_end (within b n ports.new.items declarations.new.items [])) words.new }
-    ensures shortens { Shortens words.old result words.new }
+        → Reads (spec.first_input (within b n ports.old.items declarations.old.items [])) tokens.old result
+        (λ _. spec.primitive_head_end (within b n ports.new.items declarations.new.items [])) tokens.new }
+    ensures shortens { Shortens tokens.old result tokens.new }
 {
-    words.expect(Fixed::Input)?;
+    tokens.expect(Fixed::Input)?;
     'inputs: loop {
-        let name = words.name()?;
+        let name = tokens.name()?;
         ports.push(name.word(alloc)?)?;
         declare(alloc, PrimKind::Input, name, declarations)?;
-        if !words.more(Fixed::Close)? {
+        if !tokens.more(Fixed::Close)? {
             return Ok(());
         }
-        may_input(words);
+        may_input(tokens);
     }
 }
 
 // [ "input" ]
 #[tactic(auto, using(crate::proofs::Runs::undirected_input))]
-fn may_input(words: &mut Reader<'_>)
-    ensures reads { (p : Within) → goes (spec.input_pin p) words.old ≡ goes (spec.input_name p) words.new }
-    ensures shortens { length words.new.words ≤ length words.old.words }
+fn may_input(tokens: &mut Reader<'_>)
+    ensures reads { (p : Within) → goes (spec.input_pin p) tokens.old ≡ goes (spec.input_name p) tokens.new }
+    ensures shortens { length tokens.new.tokens ≤ length tokens.old.tokens }
 {
-    let _ = words.take(Fixed::Input);
+    let _ = tokens.take(Fixed::Input);
 }
 
 // output = [ "reg" ] name
 fn output<'a>(
     alloc: Global,
-    words: &mut Reader<'a>,
+    tokens: &mut Reader<'a>,
     declarations: &mut Vec<PrimDeclare>,
 ) -> Result<Name<'a>, ParseErr>
     ensures pin { declarations.old.items ≡ [] → (b : source) (n : word)
-        → Reads (spec.output_pin b n) words.old result
+        → Reads (spec.output_pin b n) tokens.old result
         (λ w. spec.after_output (within b n (word_of_name w ∷ []) declarations.new.items [])
-        (word_of_name w)) words.new }
+        (word_of_name w)) tokens.new }
     ensures declared { ReadsPins spec.output_declared declarations.old
-        words.old result spec.declared_semi declarations.new words.new }
-    ensures shortens { Shortens words.old result words.new }
+        tokens.old result spec.declared_semi declarations.new tokens.new }
+    ensures shortens { Shortens tokens.old result tokens.new }
 {
-    if words.take(Fixed::Reg) {
-        let name = words.name()?;
+    if tokens.take(Fixed::Reg) {
+        let name = tokens.name()?;
         declare(alloc, PrimKind::Output, name, declarations)?;
         declare(alloc, PrimKind::Reg, name, declarations)?;
         return Ok(name);
     }
-    let name = words.name()?;
+    let name = tokens.name()?;
     declare(alloc, PrimKind::Output, name, declarations)?;
     Ok(name)
 }
@@ -200,20 +200,20 @@ fn output<'a>(
 fn start_value(
     alloc: Global,
     name: Name<'_>,
-    words: &mut Reader<'_>,
+    tokens: &mut Reader<'_>,
     declarations: &mut Vec<PrimDeclare>,
 ) -> Result<(), ParseErr>
     ensures reads { let w = word_of_name name.entry in
         ReadsPins (λ p. spec.after_output p w) declarations.old
-        words.old result spec.first_input declarations.new words.new }
-    ensures shortens { Shortens words.old result words.new }
+        tokens.old result spec.first_input declarations.new tokens.new }
+    ensures shortens { Shortens tokens.old result tokens.new }
 {
-    if !words.take(Fixed::Equals) {
-        return words.expect(Fixed::Comma);
+    if !tokens.take(Fixed::Equals) {
+        return tokens.expect(Fixed::Comma);
     }
-    let value = words.bit()?;
+    let value = tokens.bit()?;
     declare(alloc, PrimKind::Initial(value), name, declarations)?;
-    words.expect(Fixed::Comma)
+    tokens.expect(Fixed::Comma)
 }
 
 fn declare(
@@ -234,43 +234,43 @@ fn declare(
 #[tactic(auto, using(crate::proofs::Runs::reads_on))]
 fn declaration(
     alloc: Global,
-    words: &mut Reader<'_>,
+    tokens: &mut Reader<'_>,
     declarations: &mut Vec<PrimDeclare>,
 ) -> Result<(), ParseErr>
-    requires { is_fixed fixed.Table (head words.old).what ≡ false }
+    requires { is_fixed fixed.Table (head tokens.old).what ≡ false }
     ensures reads { ReadsPins spec.in_primitive declarations.old
-        words.old result spec.in_primitive declarations.new words.new }
-    ensures shortens { Shortens words.old result words.new }
+        tokens.old result spec.in_primitive declarations.new tokens.new }
+    ensures shortens { Shortens tokens.old result tokens.new }
 {
-    if words.take(Fixed::Output) {
-        output(alloc, words, declarations)?;
-        words.expect(Fixed::Semi)
-    } else if words.take(Fixed::Reg) {
-        declare(alloc, PrimKind::Reg, words.name()?, declarations)?;
-        words.expect(Fixed::Semi)
-    } else if words.take(Fixed::Input) {
-        inputs(alloc, words, declarations)
-    } else if words.take(Fixed::Initial) {
-        initial(alloc, words, declarations)?;
-        words.expect(Fixed::Semi)
+    if tokens.take(Fixed::Output) {
+        output(alloc, tokens, declarations)?;
+        tokens.expect(Fixed::Semi)
+    } else if tokens.take(Fixed::Reg) {
+        declare(alloc, PrimKind::Reg, tokens.name()?, declarations)?;
+        tokens.expect(Fixed::Semi)
+    } else if tokens.take(Fixed::Input) {
+        inputs(alloc, tokens, declarations)
+    } else if tokens.take(Fixed::Initial) {
+        initial(alloc, tokens, declarations)?;
+        tokens.expect(Fixed::Semi)
     } else {
-        Err(words.peek().fault())
+        Err(tokens.peek().fault())
     }
 }
 
 // name { "," name } ";"
 fn inputs(
     alloc: Global,
-    words: &mut Reader<'_>,
+    tokens: &mut Reader<'_>,
     declarations: &mut Vec<PrimDeclare>,
 ) -> Result<(), ParseErr>
     ensures reads { ReadsPins spec.input_declared declarations.old
-        words.old result spec.in_primitive declarations.new words.new }
-    ensures shortens { Shortens words.old result words.new }
+        tokens.old result spec.in_primitive declarations.new tokens.new }
+    ensures shortens { Shortens tokens.old result tokens.new }
 {
     'inputs: loop {
-        declare(alloc, PrimKind::Input, words.name()?, declarations)?;
-        if !words.more(Fixed::Semi)? {
+        declare(alloc, PrimKind::Input, tokens.name()?, declarations)?;
+        if !tokens.more(Fixed::Semi)? {
             return Ok(());
         }
     }
@@ -279,16 +279,16 @@ fn inputs(
 // name "=" bit
 fn initial(
     alloc: Global,
-    words: &mut Reader<'_>,
+    tokens: &mut Reader<'_>,
     declarations: &mut Vec<PrimDeclare>,
 ) -> Result<(), ParseErr>
     ensures reads { ReadsPins spec.initial_declared declarations.old
-        words.old result spec.declared_semi declarations.new words.new }
-    ensures shortens { Shortens words.old result words.new }
+        tokens.old result spec.declared_semi declarations.new tokens.new }
+    ensures shortens { Shortens tokens.old result tokens.new }
 {
-    let name = words.name()?;
-    words.expect(Fixed::Equals)?;
-    let value = words.bit()?;
+    let name = tokens.name()?;
+    tokens.expect(Fixed::Equals)?;
+    let value = tokens.bit()?;
     declare(alloc, PrimKind::Initial(value), name, declarations)?;
     Ok(())
 }

@@ -2,11 +2,11 @@
 
 ghost use Rattle.std.specs.Prelude.{◌≡◌, ◌-◌, ◌≤◌, ◌==◌, length};
 ghost use Rattle.std.specs.Bool.{OnTrue};
-ghost use Rattle.xr_netlist_grammar.specs.Lexemes.{words_of, code};
-ghost use Rattle.xr_netlist.specs.Shown.{shown_tok};
+ghost use Rattle.xr_netlist_grammar.specs.Lexemes.{tokens_of, code};
+ghost use Rattle.xr_netlist.specs.Shown.{shown_token};
 ghost use Rattle.xr_netlist.specs.Ahead.{ahead, LieWithin};
 
-use crate::lexeme::{Lexeme, Name, Tok, read_token};
+use crate::lexeme::{Lexeme, Name, TokenAt, read_token};
 use crate::number::{bit_of, int_of, literal_of};
 use std::alloc::Global;
 use std::marker::Model;
@@ -19,36 +19,36 @@ use xr_text::{LexErr, Lexer};
 pub struct Reader<'a> {
     text: &'a [u8],
     lexer: Lexer<'a>,
-    here: Tok<'a>,
+    here: TokenAt<'a>,
 }
 
 impl<'a> Model for Reader<'a> {
     ghost use Rattle.std.specs.Prelude.{length};
-    ghost use Rattle.xr_netlist_grammar.specs.Lexemes.{Words, words_of};
-    ghost use Rattle.xr_netlist.specs.Shown.{shown_tok};
+    ghost use Rattle.xr_netlist_grammar.specs.Lexemes.{TokenStream, tokens_of};
+    ghost use Rattle.xr_netlist.specs.Shown.{shown_token};
     ghost use Rattle.xr_netlist.specs.Ahead.{ahead, CanRead};
 
-    ghost Value = { Words };
+    ghost Value = { TokenStream };
 
-    ghost view = { λ r. ahead (shown_tok r.here) (words_of r.text.now r.lexer) };
+    ghost view = { λ r. ahead (shown_token r.here) (tokens_of r.text.now r.lexer) };
 
     ghost invariant = { λ r. CanRead (length r.text.now) r.lexer };
 }
 
 /// The next token, or what stands at the end.
-fn fetch<'a>(text: &'a [u8], lexer: &mut Lexer<'_>) -> Tok<'a>
+fn fetch<'a>(text: &'a [u8], lexer: &mut Lexer<'_>) -> TokenAt<'a>
     requires { LieWithin (length text.now) lexer.old.tokens }
-    ensures reads { words_of text.now lexer.old ≡ ahead (shown_tok result) (words_of text.now lexer.new) }
+    ensures reads { tokens_of text.now lexer.old ≡ ahead (shown_token result) (tokens_of text.now lexer.new) }
     ensures within { LieWithin (length text.now) lexer.new.tokens }
     ensures fewer { length lexer.new.tokens ≤ length lexer.old.tokens - 1 }
 {
     match lexer.next_token() {
         Ok(Some(token)) => read_token(text, token),
-        Ok(None) => Tok {
+        Ok(None) => TokenAt {
             at: text.len(),
             what: Lexeme::Ending,
         },
-        Err(fault) => Tok {
+        Err(fault) => TokenAt {
             at: fault.at(),
             what: Lexeme::Broken(fault),
         },
@@ -68,22 +68,22 @@ impl<'a> Reader<'a> {
     ghost use Rattle.std.specs.Bool.{OnTrue};
     ghost use Rattle.xr_text.specs.Left.{Left as left};
     ghost use Rattle.xr_text.specs.Tokens.{Tokens};
-    ghost use Rattle.xr_netlist_grammar.specs.Lexemes.{words_of, head, gate_kind_of, int_at, bit_at, literal_at, is_left_out};
-    ghost use Rattle.xr_netlist.specs.Shown.{shown_tok};
+    ghost use Rattle.xr_netlist_grammar.specs.Lexemes.{tokens_of, head, gate_kind_of, int_at, bit_at, literal_at, is_left_out};
+    ghost use Rattle.xr_netlist.specs.Shown.{shown_token};
     ghost use Rattle.xr_netlist.specs.Reads.{TakesFixed, ExpectsFixed, TakesName, ExpectsName, ExpectsWord, TakesAs, ExpectsAs, GoesOn, TakesSymbols, TakesSymbol, ExpectsFew, Skips, Ends};
 
     pub fn new(text: &'a [u8]) -> Reader<'a>
         ensures told { (told : left) × Tokens 0 text.now told }
-        ensures words { (told : left) → Tokens 0 text.now told → result ≡ words_of text.now told }
+        ensures tokens { (told : left) → Tokens 0 text.now told → result ≡ tokens_of text.now told }
     {
         let mut lexer = Lexer::new(text);
         let here = fetch(text, &mut lexer);
         Reader { text, lexer, here }
     }
 
-    pub fn peek(&self) -> Tok<'a>
-        ensures head { shown_tok result ≡ head self.now }
-        ensures few { length self.now.words < 2 ^ 64 }
+    pub fn peek(&self) -> TokenAt<'a>
+        ensures head { shown_token result ≡ head self.now }
+        ensures few { length self.now.tokens < 2 ^ 64 }
     {
         self.here
     }
@@ -91,15 +91,15 @@ impl<'a> Reader<'a> {
     /// The byte of the next token.
     pub fn at(&self) -> usize
         ensures place { result ≡ (head self.now).at }
-        ensures few { length self.now.words < 2 ^ 64 }
+        ensures few { length self.now.tokens < 2 ^ 64 }
     {
         self.peek().at
     }
 
     /// Whether an item that begins here is left out by the profile.
     pub fn is_left_out(&self) -> bool
-        ensures word { result ≡ is_left_out (head self.now).what }
-        ensures within { OnTrue result (self.now.words ≢ []) }
+        ensures left_out { result ≡ is_left_out (head self.now).what }
+        ensures within { OnTrue result (self.now.tokens ≢ []) }
     {
         self.here.is_left_out()
     }
@@ -213,7 +213,7 @@ impl<'a> Reader<'a> {
         Err(here.fault())
     }
 
-    /// Whether a list goes on behind a comma, or is closed.
+    /// Whether a list goes on after a comma, or is closed.
     pub fn more(&mut self, close: Fixed) -> Result<bool, ParseErr>
         ensures { GoesOn close self.old result self.new }
     {
@@ -224,7 +224,7 @@ impl<'a> Reader<'a> {
         Ok(false)
     }
 
-    /// The symbols of a table that a token has, the first one and those behind it.
+    /// The symbols of a table that a token has, the first one and those after it.
     pub fn take_symbols(&mut self) -> Option<(u8, &'a [u8])>
         ensures { TakesSymbols self.old result self.new }
     {

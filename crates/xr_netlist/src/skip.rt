@@ -13,93 +13,93 @@ ghost use Rattle.xr_netlist.specs.Reads.{Reads, Shortens};
 use crate::reader::Reader;
 use xr_netlist_grammar::{Fixed, ParseErr};
 
-// attribute = "(" "*" tokens "*" ")", behind its "("
+// attribute = "(" "*" tokens "*" ")", after its "("
 #[tactic(auto, using(crate::proofs::Runs::star_goes_on))]
-pub fn attribute(words: &mut Reader<'_>) -> Result<(), ParseErr>
-    ensures reads { (k : Place) → Reads (spec.attr_open k) words.old result (λ _. after_attr k) words.new }
-    ensures shortens { Shortens words.old result words.new }
+pub fn attribute(tokens: &mut Reader<'_>) -> Result<(), ParseErr>
+    ensures reads { (k : Place) → Reads (spec.attr_open k) tokens.old result (λ _. after_attr k) tokens.new }
+    ensures shortens { Shortens tokens.old result tokens.new }
 {
-    words.expect(Fixed::Star)?;
-    star(words)?;
-    'stars: while !words.take(Fixed::Close) {
-        star(words)?;
+    tokens.expect(Fixed::Star)?;
+    star(tokens)?;
+    'stars: while !tokens.take(Fixed::Close) {
+        star(tokens)?;
     }
     Ok(())
 }
 
-/// Reads up to a star, and behind it.
-fn star(words: &mut Reader<'_>) -> Result<(), ParseErr>
-    ensures reads { (k : Place) → Reads (spec.in_attr k) words.old result (λ _. spec.attr_star k) words.new }
-    ensures shortens { Shortens words.old result words.new }
+/// Reads up to a star, and after it.
+fn star(tokens: &mut Reader<'_>) -> Result<(), ParseErr>
+    ensures reads { (k : Place) → Reads (spec.in_attr k) tokens.old result (λ _. spec.attr_star k) tokens.new }
+    ensures shortens { Shortens tokens.old result tokens.new }
 {
-    'tokens: while !words.take(Fixed::Star) {
-        words.skip()?;
+    'tokens: while !tokens.take(Fixed::Star) {
+        tokens.skip()?;
     }
     Ok(())
 }
 
-// specify = "specify" tokens "endspecify", behind its first word
-pub fn specify(words: &mut Reader<'_>) -> Result<(), ParseErr>
-    ensures reads { (u : Under) → Reads (spec.in_specify u) words.old result (λ _. spec.in_items u) words.new }
-    ensures shortens { Shortens words.old result words.new }
+// specify = "specify" tokens "endspecify", after its keyword
+pub fn specify(tokens: &mut Reader<'_>) -> Result<(), ParseErr>
+    ensures reads { (u : Under) → Reads (spec.in_specify u) tokens.old result (λ _. spec.in_items u) tokens.new }
+    ensures shortens { Shortens tokens.old result tokens.new }
 {
-    'tokens: while !words.take(Fixed::Endspecify) {
-        words.skip()?;
+    'tokens: while !tokens.take(Fixed::Endspecify) {
+        tokens.skip()?;
     }
     Ok(())
 }
 
 // [ delay ]
 #[tactic(auto, using(crate::proofs::Runs::reads_on, crate::proofs::Runs::no_delay))]
-pub fn may_delay(words: &mut Reader<'_>) -> Result<(), ParseErr>
+pub fn may_delay(tokens: &mut Reader<'_>) -> Result<(), ParseErr>
     ensures net { (u : Under) (what : net_kinds) (r : Range)
-        → Reads (spec.net_ranged u what r) words.old result (λ _. spec.net_name u what r) words.new }
+        → Reads (spec.net_ranged u what r) tokens.old result (λ _. spec.net_name u what r) tokens.new }
     ensures gate { (u : Under) (kind : gate_kinds) (at : ℕ)
-        → Reads (spec.gate_kind u kind at) words.old result (λ _. spec.gate_name u kind at) words.new }
+        → Reads (spec.gate_kind u kind at) tokens.old result (λ _. spec.gate_name u kind at) tokens.new }
     ensures instance { (u : Under) (d : word)
-        → Reads (spec.definition u d) words.old result (λ _. spec.instance_name u d) words.new }
-    ensures assign { (u : Under) → Reads (spec.assign u) words.old result (λ _. spec.expr_start (left u)) words.new }
-    ensures shortens { OnOk result (length words.new.words ≤ length words.old.words) }
+        → Reads (spec.definition u d) tokens.old result (λ _. spec.instance_name u d) tokens.new }
+    ensures assign { (u : Under) → Reads (spec.assign u) tokens.old result (λ _. spec.expr_start (left u)) tokens.new }
+    ensures shortens { OnOk result (length tokens.new.tokens ≤ length tokens.old.tokens) }
 {
-    if words.take(Fixed::Hash) {
-        delay(words)?;
+    if tokens.take(Fixed::Hash) {
+        delay(tokens)?;
     }
     Ok(())
 }
 
-// delay = "#" int [ "." int ] | "#" "(" tokens ")", behind its "#"
+// delay = "#" int [ "." int ] | "#" "(" tokens ")", after its "#"
 #[tactic(auto, using(crate::proofs::Runs::reads_on, crate::proofs::Runs::no_fraction))]
-fn delay(words: &mut Reader<'_>) -> Result<(), ParseErr>
-    ensures reads { (k : Delayed) → Reads (spec.delay k) words.old result (λ _. after_delay k) words.new }
-    ensures shortens { Shortens words.old result words.new }
+fn delay(tokens: &mut Reader<'_>) -> Result<(), ParseErr>
+    ensures reads { (k : Delayed) → Reads (spec.delay k) tokens.old result (λ _. after_delay k) tokens.new }
+    ensures shortens { Shortens tokens.old result tokens.new }
 {
-    if words.take(Fixed::Open) {
-        return parenthesized(words);
+    if tokens.take(Fixed::Open) {
+        return parenthesized(tokens);
     }
-    words.int()?;
-    if words.take(Fixed::Dot) {
-        words.int()?;
+    tokens.int()?;
+    if tokens.take(Fixed::Dot) {
+        tokens.int()?;
     }
     Ok(())
 }
 
 /// Reads up to the parenthesis that closes one before.
-fn parenthesized(words: &mut Reader<'_>) -> Result<(), ParseErr>
-    ensures reads { (k : Delayed) → Reads (spec.in_delay k 0) words.old result (λ _. after_delay k) words.new }
-    ensures shortens { Shortens words.old result words.new }
+fn parenthesized(tokens: &mut Reader<'_>) -> Result<(), ParseErr>
+    ensures reads { (k : Delayed) → Reads (spec.in_delay k 0) tokens.old result (λ _. after_delay k) tokens.new }
+    ensures shortens { Shortens tokens.old result tokens.new }
 {
-    let _ = words.at();
+    let _ = tokens.at();
     let mut depth: u64 = 0;
     'tokens: loop {
-        if words.take(Fixed::Close) {
+        if tokens.take(Fixed::Close) {
             if depth == 0 {
                 return Ok(());
             }
             depth -= 1;
-        } else if words.take(Fixed::Open) {
+        } else if tokens.take(Fixed::Open) {
             depth += 1;
         } else {
-            words.skip()?;
+            tokens.skip()?;
         }
     }
 }

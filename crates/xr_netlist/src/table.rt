@@ -23,32 +23,32 @@ use xr_netlist_grammar::{Fixed, ParseErr};
 pub fn rows(
     alloc: Global,
     sequential: bool,
-    words: &mut Reader<'_>,
+    tokens: &mut Reader<'_>,
 ) -> Result<Vec<RawRow>, ParseErr>
     ensures reads { (b : source) (n : word) (ps : List word) (ds : List declares) → is_sequential ds ≡ sequential
-        → Reads (spec.first_row (within b n ps ds [])) words.old result
-        (λ rs. spec.primitive_end (within b n ps ds rs.items)) words.new }
-    ensures shortens { Shortens words.old result words.new }
+        → Reads (spec.first_row (within b n ps ds [])) tokens.old result
+        (λ rs. spec.primitive_end (within b n ps ds rs.items)) tokens.new }
+    ensures shortens { Shortens tokens.old result tokens.new }
 {
     let mut rows = Vec::new(alloc);
     'rows: loop {
-        rows.push(row(alloc, sequential, words)?)?;
-        if words.take(Fixed::Endtable) {
+        rows.push(row(alloc, sequential, tokens)?)?;
+        if tokens.take(Fixed::Endtable) {
             return Ok(rows);
         }
     }
 }
 
 // row = entry { entry } ":" [ symbol ":" ] symbol ";"
-fn row(alloc: Global, sequential: bool, words: &mut Reader<'_>) -> Result<RawRow, ParseErr>
+fn row(alloc: Global, sequential: bool, tokens: &mut Reader<'_>) -> Result<RawRow, ParseErr>
     ensures reads { (p : Within) → is_sequential p.declarations ≡ sequential
-        → Reads (spec.first_row p) words.old result (λ r. spec.in_rows (with_row p r)) words.new }
-    ensures shortens { Shortens words.old result words.new }
+        → Reads (spec.first_row p) tokens.old result (λ r. spec.in_rows (with_row p r)) tokens.new }
+    ensures shortens { Shortens tokens.old result tokens.new }
 {
-    let entries = entries(alloc, words)?;
-    let state = state(sequential, words)?;
-    let output = column(words)?;
-    words.expect(Fixed::Semi)?;
+    let entries = entries(alloc, tokens)?;
+    let state = state(sequential, tokens)?;
+    let output = column(tokens)?;
+    tokens.expect(Fixed::Semi)?;
     Ok(RawRow {
         entries: Items::from_vec(entries),
         state,
@@ -57,33 +57,33 @@ fn row(alloc: Global, sequential: bool, words: &mut Reader<'_>) -> Result<RawRow
 }
 
 // entry { entry } ":"
-fn entries(alloc: Global, words: &mut Reader<'_>) -> Result<Vec<Symbol>, ParseErr>
+fn entries(alloc: Global, tokens: &mut Reader<'_>) -> Result<Vec<Symbol>, ParseErr>
     ensures reads { (p : Within) → Reads (spec.first_row p)
-        words.old result (λ es. after_entries p es.items) words.new }
-    ensures shortens { Shortens words.old result words.new }
+        tokens.old result (λ es. after_entries p es.items) tokens.new }
+    ensures shortens { Shortens tokens.old result tokens.new }
 {
     let mut entries = Vec::new(alloc);
-    entry(words, &mut entries)?;
-    'entries: while !words.take(Fixed::Colon) {
-        entry(words, &mut entries)?;
+    entry(tokens, &mut entries)?;
+    'entries: while !tokens.take(Fixed::Colon) {
+        entry(tokens, &mut entries)?;
     }
     Ok(entries)
 }
 
 /// The symbols of one token, or a change.
-fn entry(words: &mut Reader<'_>, entries: &mut Vec<Symbol>) -> Result<(), ParseErr>
+fn entry(tokens: &mut Reader<'_>, entries: &mut Vec<Symbol>) -> Result<(), ParseErr>
     ensures first { entries.old.items ≡ [] → (p : Within)
-        → Reads (spec.first_row p) words.old result (λ _. spec.in_row p entries.new.items) words.new }
-    ensures next { is_fixed fixed.Colon (head words.old).what ≡ false → (p : Within)
-        → Reads (spec.in_row p entries.old.items) words.old result (λ _. spec.in_row p entries.new.items) words.new }
-    ensures shortens { Shortens words.old result words.new }
+        → Reads (spec.first_row p) tokens.old result (λ _. spec.in_row p entries.new.items) tokens.new }
+    ensures next { is_fixed fixed.Colon (head tokens.old).what ≡ false → (p : Within)
+        → Reads (spec.in_row p entries.old.items) tokens.old result (λ _. spec.in_row p entries.new.items) tokens.new }
+    ensures shortens { Shortens tokens.old result tokens.new }
 {
-    if let Some((first, more)) = words.take_symbols() {
+    if let Some((first, more)) = tokens.take_symbols() {
         push_singles(entries, first, more)?;
         return Ok(());
     }
-    words.expect(Fixed::Open)?;
-    entries.push(change(words)?)?;
+    tokens.expect(Fixed::Open)?;
+    entries.push(change(tokens)?)?;
     Ok(())
 }
 
@@ -100,57 +100,57 @@ fn push_singles(entries: &mut Vec<Symbol>, first: u8, more: &[u8]) -> Result<(),
 }
 
 // [ symbol ":" ], in a sequential primitive alone
-fn state(sequential: bool, words: &mut Reader<'_>) -> Result<Option<Symbol>, ParseErr>
+fn state(sequential: bool, tokens: &mut Reader<'_>) -> Result<Option<Symbol>, ParseErr>
     ensures reads { (p : Within) (es : List symbol) → is_sequential p.declarations ≡ sequential
-        → Reads (after_entries p es) words.old result (λ st. spec.row_output p es st) words.new }
-    ensures shortens { OnOk result (length words.new.words ≤ length words.old.words) }
+        → Reads (after_entries p es) tokens.old result (λ st. spec.row_output p es st) tokens.new }
+    ensures shortens { OnOk result (length tokens.new.tokens ≤ length tokens.old.tokens) }
 {
     if !sequential {
         return Ok(None);
     }
-    let symbol = column(words)?;
-    words.expect(Fixed::Colon)?;
+    let symbol = column(tokens)?;
+    tokens.expect(Fixed::Colon)?;
     Ok(Some(symbol))
 }
 
 /// The symbol of a column for the state or the output.
 #[tactic(auto, using(crate::proofs::Runs::reads_on))]
-fn column(words: &mut Reader<'_>) -> Result<Symbol, ParseErr>
+fn column(tokens: &mut Reader<'_>) -> Result<Symbol, ParseErr>
     ensures state { (p : Within) (es : List symbol)
-        → Reads (spec.row_state p es) words.old result (λ s. spec.after_state p es s) words.new }
+        → Reads (spec.row_state p es) tokens.old result (λ s. spec.after_state p es s) tokens.new }
     ensures output { (p : Within) (es : List symbol) (st : Option symbol)
-        → Reads (spec.row_output p es st) words.old result (λ s. spec.after_output_symbol p es st s) words.new }
-    ensures shortens { Shortens words.old result words.new }
+        → Reads (spec.row_output p es st) tokens.old result (λ s. spec.after_output_symbol p es st s) tokens.new }
+    ensures shortens { Shortens tokens.old result tokens.new }
 {
-    if let Some(byte) = words.take_symbol() {
+    if let Some(byte) = tokens.take_symbol() {
         return Ok(Symbol::Single(byte));
     }
-    words.expect(Fixed::Open)?;
-    change(words)
+    tokens.expect(Fixed::Open)?;
+    change(tokens)
 }
 
-// change = "(" byte byte ")", behind its "("
-fn change(words: &mut Reader<'_>) -> Result<Symbol, ParseErr>
-    ensures reads { (k : Column) → Reads (spec.change_first k) words.old result (λ s. after_symbol k s) words.new }
-    ensures shortens { Shortens words.old result words.new }
+// change = "(" byte byte ")", after its "("
+fn change(tokens: &mut Reader<'_>) -> Result<Symbol, ParseErr>
+    ensures reads { (k : Column) → Reads (spec.change_first k) tokens.old result (λ s. after_symbol k s) tokens.new }
+    ensures shortens { Shortens tokens.old result tokens.new }
 {
-    let (first, second) = two_symbols(words)?;
-    words.expect(Fixed::Close)?;
+    let (first, second) = two_symbols(tokens)?;
+    tokens.expect(Fixed::Close)?;
     Ok(Symbol::Change(first, second))
 }
 
 /// Two bytes, in one token or two.
-fn two_symbols(words: &mut Reader<'_>) -> Result<(u8, u8), ParseErr>
+fn two_symbols(tokens: &mut Reader<'_>) -> Result<(u8, u8), ParseErr>
     ensures reads { (k : Column) → Reads (spec.change_first k)
-        words.old result (λ p. spec.change_close k p.0 p.1) words.new }
-    ensures shortens { Shortens words.old result words.new }
+        tokens.old result (λ p. spec.change_close k p.0 p.1) tokens.new }
+    ensures shortens { Shortens tokens.old result tokens.new }
 {
-    let (first, second) = words.few_symbols()?;
+    let (first, second) = tokens.few_symbols()?;
     if let Some(second) = second {
         return Ok((first, second));
     }
-    match words.take_symbol() {
+    match tokens.take_symbol() {
         Some(second) => Ok((first, second)),
-        None => Err(words.peek().fault()),
+        None => Err(tokens.peek().fault()),
     }
 }

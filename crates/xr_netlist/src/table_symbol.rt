@@ -6,7 +6,7 @@ ghost use Rattle.xr_netlist.specs.Shown.{AreSymbols};
 
 use xr_netlist_grammar::Fixed;
 
-/// The bytes of a token, the first one and those behind it.
+/// The bytes of a token, the first one and those after it.
 pub fn first_byte<'a>(text: &'a [u8]) -> Option<(u8, &'a [u8])>
     ensures { AreSymbols text.now result }
 {

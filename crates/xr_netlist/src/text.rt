@@ -16,7 +16,7 @@ use std::alloc::Global;
 use xr_base::Items;
 use xr_netlist_grammar::{Fixed, ParseErr, Source};
 
-/// What a netlist text stands for. The words of the tree are copies, so the text may be let go. Time and memory are in
+/// What a netlist text stands for. The names of the tree are copies, so the text may be let go. Time and memory are in
 /// proportion to the text and to the tree, where the name of a definition stands once for each of its instances.
 pub fn parse(alloc: Global, bytes: &[u8]) -> Result<Source, ParseErr>
     // What is read is in the grammar.
@@ -30,25 +30,25 @@ pub fn parse(alloc: Global, bytes: &[u8]) -> Result<Source, ParseErr>
     // A refusal is that of the first token with which no text of the grammar goes on.
     ensures first { IfErr result (λ e. IfSome (fault_in e) (IsRefused bytes.now)) }
 {
-    let mut words = Reader::new(bytes);
-    source(alloc, &mut words)
+    let mut tokens = Reader::new(bytes);
+    source(alloc, &mut tokens)
 }
 
 // text = { attribute | module | primitive }
-fn source(alloc: Global, words: &mut Reader<'_>) -> Result<Source, ParseErr>
-    ensures { Answers result words.old }
+fn source(alloc: Global, tokens: &mut Reader<'_>) -> Result<Source, ParseErr>
+    ensures { Answers result tokens.old }
 {
     let mut modules = Vec::new(alloc);
     let mut primitives = Vec::new(alloc);
     'texts: loop {
-        if words.take(Fixed::Module) {
-            modules.push(module(alloc, words)?)?;
-        } else if words.take(Fixed::Primitive) {
-            primitives.push(primitive(alloc, words)?)?;
-        } else if words.take(Fixed::Open) {
-            attribute(words)?;
+        if tokens.take(Fixed::Module) {
+            modules.push(module(alloc, tokens)?)?;
+        } else if tokens.take(Fixed::Primitive) {
+            primitives.push(primitive(alloc, tokens)?)?;
+        } else if tokens.take(Fixed::Open) {
+            attribute(tokens)?;
         } else {
-            words.end()?;
+            tokens.end()?;
             return Ok(Source {
                 modules: Items::from_vec(modules),
                 primitives: Items::from_vec(primitives),

@@ -1,3 +1,4 @@
+-- The rules and the machine of the grammar say the same, and refuse at the same token.
 pub mod Found
 pub mod Follows
 pub mod Accepts

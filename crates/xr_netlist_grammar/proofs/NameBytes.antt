@@ -1,5 +1,7 @@
 -- The names of a text are spelled as names, and its numbers are small.
-use Rattle.std.proofs.Common.{◌≡◌, ℕ, ◌+◌, ◌-◌, ◌<◌, ◌≤◌, ◌^◌, List, [], ◌∷◌, ◌++◌, take, append_assoc, length-append, length, map, Bool, true, false, cond, ◌&&◌, nat_lt, nat_le, if◌then◌else◌, ◌==◌, take_while, Option, Some, None, refl, sym, ap, subst, ◌∙◌, arith, rules, drop}
+use Rattle.std.proofs.Common.{◌≡◌, ℕ, ◌+◌, ◌-◌, ◌<◌, ◌≤◌, ◌^◌, List, [], ◌∷◌, ◌++◌, take, append_assoc, length-append}
+use Rattle.std.proofs.Common.{length, map, Bool, true, false, cond, ◌&&◌, nat_lt, nat_le, if◌then◌else◌, ◌==◌}
+use Rattle.std.proofs.Common.{take_while, Option, Some, None, refl, sym, ap, subst, ◌∙◌, arith, rules, drop}
 use Rattle.std.specs.Prelude.{slice_range}
 use Rattle.std.specs.Str.{bytes_eq}
 use Rattle.std.proofs.lemmas.Bool.{and_parts, ltb-true, leb-true}
@@ -13,7 +15,7 @@ use Rattle.xr_netlist_grammar.specs.Bytes.{is_digit, are_digits, number_from}
 use Rattle.xr_netlist_grammar.specs.Numbers.{int_of, literal_of, literal_behind, literal_in, base_of, are_spaced_digits, spaced_number}
 use Rattle.xr_netlist_grammar.specs.Whole.{is_name, IsIndex, IsLiteral}
 use Rattle.std.proofs.Math.Seq.{drop-append_seam, take-append_seam}
-use Rattle.xr_netlist_grammar.specs.Lexemes.{Lexeme, named, Tok, entry_or, word_table, word_of, mark_of, first_mark, lexeme_of, tok_of, words_of}
+use Rattle.xr_netlist_grammar.specs.Lexemes.{Lexeme, named, TokenAt, entry_or, keyword_table, name_lexeme, mark_of, first_mark, lexeme_of, token_of, tokens_of}
 
 -- ---- tokens
 
@@ -22,7 +24,7 @@ abbrev pub has_bytes : Lexeme → Bool
 has_bytes (named text escaped) = is_name text escaped
 has_bytes _ = true
 
-abbrev pub Has : List Tok → Type 0
+abbrev pub Has : List TokenAt → Type 0
 Has [] = Unit {0}
 Has (t ∷ ts) = (has_bytes t.what ≡ true) × Has ts
 
@@ -41,9 +43,9 @@ entry_has (e ∷ es) text o h k =
     let both = and_parts (has_bytes e.1) (all_have es) h in
     chosen (bytes_eq text e.0) e.1 (entry_or es text o) both.0 (entry_has es text o both.1 k)
 
-word_has : (text : List ℕ) → is_name text false ≡ true → has_bytes (word_of text) ≡ true
-unfolding word_of all_have
-word_has text h = entry_has word_table text (named text false) refl h
+name_has : (text : List ℕ) → is_name text false ≡ true → has_bytes (name_lexeme text) ≡ true
+unfolding name_lexeme all_have
+name_has text h = entry_has keyword_table text (named text false) refl h
 
 mark_has : (b : ℕ) → has_bytes (mark_of b) ≡ true
 mark_has b = search (rules, chosen) depth 20
@@ -57,7 +59,7 @@ escaped_has [] some h = absurd (omega arith)
 escaped_has (b ∷ bs) some h = h
 
 lexeme_has : (k : Kind) (bytes : List ℕ) → 0 < length bytes → is_spelled k bytes ≡ true → has_bytes (lexeme_of k bytes) ≡ true
-lexeme_has kind.Name bytes some h = word_has bytes h
+lexeme_has kind.Name bytes some h = name_has bytes h
 lexeme_has kind.Escaped bytes some h = escaped_has bytes some h
 lexeme_has kind.Number bytes some h = refl
 lexeme_has kind.Text bytes some h = refl
@@ -67,10 +69,12 @@ lexeme_has kind.Mark bytes some h = first_mark_has bytes
 middle : (before bytes rest : List ℕ) (to : ℕ) → to ≡ length before + length bytes → slice_range (before ++ (bytes ++ rest)) (length before) to ≡ bytes
 middle before bytes rest to h =
     let size : to - length before ≡ length bytes = omega (arith, h) in
-    ap (λ (l : List ℕ). take (to - length before) l) (drop-append_seam before (bytes ++ rest)) ∙ ap (λ (n : ℕ). take n (bytes ++ rest)) size ∙ take-append_seam bytes rest
+    ap (λ (l : List ℕ). take (to - length before) l) (drop-append_seam before (bytes ++ rest))
+    ∙ ap (λ (n : ℕ). take n (bytes ++ rest)) size ∙ take-append_seam bytes rest
 
 -- the tokens of a text, of which some bytes stand before
-tokens_have : (text before : List ℕ) {at : ℕ} {bs : List ℕ} {l : Left} → text ≡ before ++ bs → at ≡ length before → Tokens at bs l → Has (map (tok_of text) l.tokens)
+tokens_have : (text before : List ℕ) {at : ℕ} {bs : List ℕ} {l : Left} → text ≡ before ++ bs → at ≡ length before
+    → Tokens at bs l → Has (map (token_of text) l.tokens)
 tokens_have text before h e Tokens.ends = tt
 tokens_have text before h e (Tokens.skips {rest = rest} s d) =
     let p = skips_piece s in
@@ -83,15 +87,17 @@ tokens_have text before h e (Tokens.reads {rest = rest} {t = t} s d) =
     let split : text ≡ before ++ (p.bytes ++ rest) = h ∙ ap (λ (l : List ℕ). before ++ l) p.is in
     let ends : t.«end» ≡ length before + length p.bytes = omega (arith, p.long, e) in
     let between : slice_range text t.start t.«end» ≡ p.bytes =
-    ap (λ (l : List ℕ). slice_range l t.start t.«end») split ∙ ap (λ (n : ℕ). slice_range (before ++ (p.bytes ++ rest)) n t.«end») begins ∙ middle before p.bytes rest t.«end» ends in
+    ap (λ (l : List ℕ). slice_range l t.start t.«end») split
+    ∙ ap (λ (n : ℕ). slice_range (before ++ (p.bytes ++ rest)) n t.«end») begins
+    ∙ middle before p.bytes rest t.«end» ends in
     let some : 0 < length p.bytes = omega (arith, g.1.onward, g.0, p.long) in
     let has : has_bytes (lexeme_of t.kind (slice_range text t.start t.«end»)) ≡ true =
     ap (λ (l : List ℕ). has_bytes (lexeme_of t.kind l)) between ∙ lexeme_has t.kind p.bytes some r.spelled in
     (has, tokens_have text (before ++ p.bytes) (split ∙ sym (append_assoc before p.bytes rest)) (omega (arith, ends, length-append before p.bytes)) d)
 tokens_have text before h e (Tokens.refuses s) = tt
 
-pub words_have : (text : List ℕ) (l : Left) → Tokens 0 text l → Has (words_of text l).words
-words_have text l d = tokens_have text [] refl refl d
+pub stream_has : (text : List ℕ) (l : Left) → Tokens 0 text l → Has (tokens_of text l).tokens
+stream_has text l d = tokens_have text [] refl refl d
 
 -- ---- numbers
 

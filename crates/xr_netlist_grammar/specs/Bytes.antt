@@ -17,7 +17,7 @@ worth b =
 abbrev pub is_digit_of : ℕ → ℕ → Bool
 is_digit_of base b = nat_lt (worth b) base
 
--- the number that the digits give in a base, behind a number that stands before them
+-- the number that the digits give in a base, after a number that stands before them
 abbrev pub number_from : ℕ → ℕ → List ℕ → ℕ
 number_from base n [] = n
 number_from base n (d ∷ ds) = number_from base (n * base + worth d) ds

@@ -25,7 +25,7 @@ fault_in (refusal.Unexpected at) = Some (Unexpected at)
 fault_in (refusal.OutOfProfile at) = Some (OutOfProfile at)
 fault_in refusal.Memory = None
 
--- The refusal that tells it.
+-- The refusal that reports it.
 abbrev pub refusal_of : NetlistFault → ParseErr
 refusal_of (Lex fault) = refusal.Lex fault
 refusal_of (Unexpected at) = refusal.Unexpected at

@@ -1,6 +1,6 @@
 -- The rules of items (IEEE 1364-2005, annexes A.2 to A.4 and A.7).
 use Rattle.std.specs.Prelude.{◌≡◌, ℕ, List, [], ◌∷◌, ◌++◌, map, true, false, Some, None}
-use Rattle.xr_netlist_grammar.specs.Lexemes.{gate, named as named_lexeme, Tok, tok, is_left_out}
+use Rattle.xr_netlist_grammar.specs.Lexemes.{gate, named as named_lexeme, TokenAt, token_at, is_left_out}
 use Rattle.xr_netlist_grammar.specs.Trees.{Range, declares, declare_of, gate_of, instance_of, connection_of, no_connection, named_of, takes_value}
 use Rattle.xr_netlist_grammar.specs.Rules.{quote, name, OneName, Listed, Until, Attribute, MayDelay, MayRange, WireRange}
 use Rattle.xr_netlist_grammar.specs.Expressions.{Expression}
@@ -31,65 +31,75 @@ pub data Net : Fixed → NetKind → Type 0 where
   supply1 : Net fixed.Supply1 net.Supply1
 
 -- name [ '=' expr ], with '=' for 'wire' and 'tri' alone
-pub data NetName (what : NetKind) (r : Range) : List Tok → List Tok → Item → Type 0 where
-  plain : {w : Word} {ts : List Tok} → NetName what r (name w ∷ ts) ts (declares what r w)
-  valued : {p : ℕ} {w : Word} {ts rest : List Tok} {e : Expr} → takes_value what ≡ true → Expression ts rest e
+pub data NetName (what : NetKind) (r : Range) : List TokenAt → List TokenAt → Item → Type 0 where
+  plain : {w : Word} {ts : List TokenAt} → NetName what r (name w ∷ ts) ts (declares what r w)
+  valued : {p : ℕ} {w : Word} {ts rest : List TokenAt} {e : Expr} → takes_value what ≡ true → Expression ts rest e
       → NetName what r (name w ∷ quote p fixed.Equals ∷ ts) rest (declare_of what r w (Some e))
 
 -- [ name ] '(' expr { ',' expr } ')'
-pub data OneGate (kind : GateKind) (at : ℕ) : List Tok → List Tok → Item → Type 0 where
-  plain : {p q : ℕ} {ts rest : List Tok} {es : List Expr} → Listed Expression ts (quote q fixed.Close ∷ rest) es → OneGate kind at (quote p fixed.Open ∷ ts) rest (gate_of kind at es)
-  named : {p q : ℕ} {w : Word} {ts rest : List Tok} {es : List Expr} → Listed Expression ts (quote q fixed.Close ∷ rest) es
+pub data OneGate (kind : GateKind) (at : ℕ) : List TokenAt → List TokenAt → Item → Type 0 where
+  plain : {p q : ℕ} {ts rest : List TokenAt} {es : List Expr} → Listed Expression ts (quote q fixed.Close ∷ rest) es
+      → OneGate kind at (quote p fixed.Open ∷ ts) rest (gate_of kind at es)
+  named : {p q : ℕ} {w : Word} {ts rest : List TokenAt} {es : List Expr} → Listed Expression ts (quote q fixed.Close ∷ rest) es
       → OneGate kind at (name w ∷ quote p fixed.Open ∷ ts) rest (gate_of kind at es)
 
 -- [ expr ]
-pub data MayConnect : List Tok → List Tok → Connection → Type 0 where
-  none : {t : Tok} {ts : List Tok} → MayConnect (t ∷ ts) (t ∷ ts) (no_connection t.at)
-  some : {ts rest : List Tok} {e : Expr} → Expression ts rest e → MayConnect ts rest (connection_of e)
+pub data MayConnect : List TokenAt → List TokenAt → Connection → Type 0 where
+  none : {t : TokenAt} {ts : List TokenAt} → MayConnect (t ∷ ts) (t ∷ ts) (no_connection t.at)
+  some : {ts rest : List TokenAt} {e : Expr} → Expression ts rest e → MayConnect ts rest (connection_of e)
 
 -- '.' name '(' [ expr ] ')'
-pub data OneNamed : List Tok → List Tok → NamedConnection → Type 0 where
-  none : {p q r : ℕ} {w : Word} {ts : List Tok} → OneNamed (quote p fixed.Dot ∷ name w ∷ quote q fixed.Open ∷ quote r fixed.Close ∷ ts) ts (named_of w None)
-  some : {p q r : ℕ} {w : Word} {ts rest : List Tok} {e : Expr} → Expression ts (quote r fixed.Close ∷ rest) e
+pub data OneNamed : List TokenAt → List TokenAt → NamedConnection → Type 0 where
+  none : {p q r : ℕ} {w : Word} {ts : List TokenAt} → OneNamed (quote p fixed.Dot ∷ name w ∷ quote q fixed.Open ∷ quote r fixed.Close ∷ ts) ts (named_of w None)
+  some : {p q r : ℕ} {w : Word} {ts rest : List TokenAt} {e : Expr} → Expression ts (quote r fixed.Close ∷ rest) e
       → OneNamed (quote p fixed.Dot ∷ name w ∷ quote q fixed.Open ∷ ts) rest (named_of w (Some e))
 
--- Nothing, or [ expr ] { ',' [ expr ] }, or named { ',' named }. Nothing between the parentheses is no connection, and not an empty one.
-pub data Connecting : List Tok → List Tok → Connections → Type 0 where
-  nothing : {ts : List Tok} → Connecting ts ts (Positional [])
-  one : {ts rest : List Tok} {e : Expr} → Expression ts rest e → Connecting ts rest (Positional (connection_of e ∷ []))
-  several : {p : ℕ} {ts mid rest : List Tok} {c : Connection} {cs : List Connection} → MayConnect ts (quote p fixed.Comma ∷ mid) c → Listed MayConnect mid rest cs
+-- Nothing, or [ expr ] { ',' [ expr ] }, or named { ',' named }. Nothing between the parentheses is no connection, and
+-- not an empty one.
+pub data Connecting : List TokenAt → List TokenAt → Connections → Type 0 where
+  nothing : {ts : List TokenAt} → Connecting ts ts (Positional [])
+  one : {ts rest : List TokenAt} {e : Expr} → Expression ts rest e → Connecting ts rest (Positional (connection_of e ∷ []))
+  several : {p : ℕ} {ts mid rest : List TokenAt} {c : Connection} {cs : List Connection}
+      → MayConnect ts (quote p fixed.Comma ∷ mid) c → Listed MayConnect mid rest cs
       → Connecting ts rest (Positional (c ∷ cs))
-  named : {ts rest : List Tok} {cs : List NamedConnection} → Listed OneNamed ts rest cs → Connecting ts rest (Named cs)
+  named : {ts rest : List TokenAt} {cs : List NamedConnection} → Listed OneNamed ts rest cs → Connecting ts rest (Named cs)
 
 -- [ name ] '(' [ conns ] ')'
-pub data OneInstance (d : Word) : List Tok → List Tok → Item → Type 0 where
-  plain : {p q : ℕ} {ts rest : List Tok} {cs : Connections} → Connecting ts (quote q fixed.Close ∷ rest) cs → OneInstance d (quote p fixed.Open ∷ ts) rest (instance_of d None cs)
-  named : {p q : ℕ} {w : Word} {ts rest : List Tok} {cs : Connections} → Connecting ts (quote q fixed.Close ∷ rest) cs
+pub data OneInstance (d : Word) : List TokenAt → List TokenAt → Item → Type 0 where
+  plain : {p q : ℕ} {ts rest : List TokenAt} {cs : Connections} → Connecting ts (quote q fixed.Close ∷ rest) cs
+      → OneInstance d (quote p fixed.Open ∷ ts) rest (instance_of d None cs)
+  named : {p q : ℕ} {w : Word} {ts rest : List TokenAt} {cs : Connections} → Connecting ts (quote q fixed.Close ∷ rest) cs
       → OneInstance d (name w ∷ quote p fixed.Open ∷ ts) rest (instance_of d (Some w) cs)
 
 -- expr '=' expr
-pub data OneAssign : List Tok → List Tok → Item → Type 0 where
-  assign : {p : ℕ} {ts mid rest : List Tok} {l r : Expr} → Expression ts (quote p fixed.Equals ∷ mid) l → Expression mid rest r → OneAssign ts rest (item.Assign l r)
+pub data OneAssign : List TokenAt → List TokenAt → Item → Type 0 where
+  assign : {p : ℕ} {ts mid rest : List TokenAt} {l r : Expr} → Expression ts (quote p fixed.Equals ∷ mid) l
+      → Expression mid rest r → OneAssign ts rest (item.Assign l r)
 
 -- An item leaves one or more items of the tree, and attributes and specify blocks leave none:
--- attr  |  dir [ 'wire' ] [ range ] name { ',' name } ';'  |  net [ range ] [ delay ] dname { ',' dname } ';'  |  'reg' name { ',' name } ';'
--- |  kind [ delay ] ginst { ',' ginst } ';'  |  name [ delay ] inst { ',' inst } ';'  |  'assign' [ delay ] expr '=' expr { ',' expr '=' expr } ';'
+-- attr  |  dir [ 'wire' ] [ range ] name { ',' name } ';'  |  net [ range ] [ delay ] dname { ',' dname } ';'
+-- |  'reg' name { ',' name } ';'  |  kind [ delay ] ginst { ',' ginst } ';'  |  name [ delay ] inst { ',' inst } ';'
+-- |  'assign' [ delay ] expr '=' expr { ',' expr '=' expr } ';'
 -- |  'specify' tokens 'endspecify'
-pub data OneItem : List Tok → List Tok → List Item → Type 0 where
-  attribute : {ts rest : List Tok} → Attribute ts rest → OneItem ts rest []
-  directed : {p q : ℕ} {f : Fixed} {what : NetKind} {r : Range} {ts mid rest : List Tok} {ws : List Word} → Direction f what → WireRange None ts mid r
+pub data OneItem : List TokenAt → List TokenAt → List Item → Type 0 where
+  attribute : {ts rest : List TokenAt} → Attribute ts rest → OneItem ts rest []
+  directed : {p q : ℕ} {f : Fixed} {what : NetKind} {r : Range} {ts mid rest : List TokenAt} {ws : List Word} → Direction f what → WireRange None ts mid r
       → Listed OneName mid (quote q fixed.Semi ∷ rest) ws → OneItem (quote p f ∷ ts) rest (map (declares what r) ws)
-  nets : {p q : ℕ} {f : Fixed} {what : NetKind} {r : Range} {ts mid from rest : List Tok} {is : List Item} → Net f what → MayRange ts mid r → MayDelay mid from
+  nets : {p q : ℕ} {f : Fixed} {what : NetKind} {r : Range} {ts mid from rest : List TokenAt} {is : List Item}
+      → Net f what → MayRange ts mid r → MayDelay mid from
       → Listed (NetName what r) from (quote q fixed.Semi ∷ rest) is → OneItem (quote p f ∷ ts) rest is
-  regs : {p q : ℕ} {ts rest : List Tok} {ws : List Word} → Listed OneName ts (quote q fixed.Semi ∷ rest) ws → OneItem (quote p fixed.Reg ∷ ts) rest (map (declares net.Reg None) ws)
-  gates : {p q : ℕ} {kind : GateKind} {ts mid rest : List Tok} {is : List Item} → MayDelay ts mid → Listed (OneGate kind p) mid (quote q fixed.Semi ∷ rest) is
-      → OneItem (tok p (gate kind) ∷ ts) rest is
-  instances : {q : ℕ} {d : Word} {ts mid rest : List Tok} {is : List Item} → is_left_out (named_lexeme d.text d.escaped) ≡ false → MayDelay ts mid
+  regs : {p q : ℕ} {ts rest : List TokenAt} {ws : List Word} → Listed OneName ts (quote q fixed.Semi ∷ rest) ws
+      → OneItem (quote p fixed.Reg ∷ ts) rest (map (declares net.Reg None) ws)
+  gates : {p q : ℕ} {kind : GateKind} {ts mid rest : List TokenAt} {is : List Item} → MayDelay ts mid
+      → Listed (OneGate kind p) mid (quote q fixed.Semi ∷ rest) is
+      → OneItem (token_at p (gate kind) ∷ ts) rest is
+  instances : {q : ℕ} {d : Word} {ts mid rest : List TokenAt} {is : List Item} → is_left_out (named_lexeme d.text d.escaped) ≡ false → MayDelay ts mid
       → Listed (OneInstance d) mid (quote q fixed.Semi ∷ rest) is → OneItem (name d ∷ ts) rest is
-  assigns : {p q : ℕ} {ts mid rest : List Tok} {is : List Item} → MayDelay ts mid → Listed OneAssign mid (quote q fixed.Semi ∷ rest) is → OneItem (quote p fixed.Assign ∷ ts) rest is
-  specify : {p : ℕ} {ts rest : List Tok} → Until fixed.Endspecify ts rest → OneItem (quote p fixed.Specify ∷ ts) rest []
+  assigns : {p q : ℕ} {ts mid rest : List TokenAt} {is : List Item} → MayDelay ts mid
+      → Listed OneAssign mid (quote q fixed.Semi ∷ rest) is → OneItem (quote p fixed.Assign ∷ ts) rest is
+  specify : {p : ℕ} {ts rest : List TokenAt} → Until fixed.Endspecify ts rest → OneItem (quote p fixed.Specify ∷ ts) rest []
 
 -- { item }
-pub data Items : List Tok → List Tok → List Item → Type 0 where
-  none : {ts : List Tok} → Items ts ts []
-  more : {ts mid rest : List Tok} {is js : List Item} → OneItem ts mid is → Items mid rest js → Items ts rest (is ++ js)
+pub data Items : List TokenAt → List TokenAt → List Item → Type 0 where
+  none : {ts : List TokenAt} → Items ts ts []
+  more : {ts mid rest : List TokenAt} {is js : List Item} → OneItem ts mid is → Items mid rest js → Items ts rest (is ++ js)

@@ -20,9 +20,9 @@ use Rattle.xr_netlist_grammar.specs.declared.tree.GateKind.TheVariants.{Logic, P
 use Rattle.xr_netlist_grammar.specs.declared.tree.Word.{Word}
 
 pub data Lexeme : Type 0 where
-  -- a word or a mark that the grammar quotes
+  -- a keyword or a mark that the grammar quotes
   quoted : Fixed → Lexeme
-  -- a word that is the kind of a gate
+  -- a keyword that is the kind of a gate
   gate : GateKind → Lexeme
   -- any other name, and whether it is escaped
   named : List ℕ → Bool → Lexeme
@@ -37,23 +37,23 @@ pub data Lexeme : Type 0 where
   broken : LexErr → Lexeme
 
 -- a lexeme, and the byte at which it stands
-pub record Tok : Type 0 where
+pub record TokenAt : Type 0 where
   pub at : ℕ
   pub what : Lexeme
 
-abbrev pub tok : ℕ → Lexeme → Tok
-tok at what = record { at = at; what = what }
+abbrev pub token_at : ℕ → Lexeme → TokenAt
+token_at at what = record { at = at; what = what }
 
--- the lexemes of a text, and what stands behind the last one: the end of the text, or what is no token
-pub record Words : Type 0 where
-  pub words : List Tok
-  pub stop : Tok
+-- the lexemes of a text, and what stands after the last one: the end of the text, or what is no token
+pub record TokenStream : Type 0 where
+  pub tokens : List TokenAt
+  pub stop : TokenAt
 
 -- ---- the lexeme of a token
 
--- The words that the grammar quotes.
-abbrev pub word_table : List (List ℕ × Lexeme)
-word_table =
+-- The keywords that the grammar quotes.
+abbrev pub keyword_table : List (List ℕ × Lexeme)
+keyword_table =
     (codes "module", quoted fixed.Module) ∷ (codes "endmodule", quoted fixed.Endmodule)
     ∷ (codes "input", quoted fixed.Input) ∷ (codes "output", quoted fixed.Output)
     ∷ (codes "wire", quoted fixed.Wire) ∷ (codes "tri", quoted fixed.Tri)
@@ -69,7 +69,7 @@ word_table =
     ∷ (codes "table", quoted fixed.Table) ∷ (codes "endtable", quoted fixed.Endtable)
     ∷ (codes "initial", quoted fixed.Initial) ∷ []
 
--- The words that begin items which the profile leaves out. `initial`, which the grammar quotes, is one more.
+-- The keywords that begin items which the profile leaves out. `initial`, which the grammar quotes, is one more.
 abbrev pub left_out : List (List ℕ)
 left_out =
     codes "inout" ∷ codes "always" ∷ codes "parameter" ∷ codes "localparam" ∷ codes "defparam" ∷ codes "generate" ∷ codes "genvar"
@@ -79,14 +79,14 @@ left_out =
     ∷ codes "rnmos" ∷ codes "rpmos" ∷ codes "rcmos" ∷ codes "tran" ∷ codes "tranif0" ∷ codes "tranif1"
     ∷ codes "rtran" ∷ codes "rtranif0" ∷ codes "rtranif1" ∷ []
 
--- what a table has at a word, or else this
+-- what a table has at a keyword, or else this
 abbrev pub entry_or : List (List ℕ × Lexeme) → List ℕ → Lexeme → Lexeme
 entry_or [] text otherwise = otherwise
 entry_or (e ∷ es) text otherwise = if bytes_eq text e.0 then e.1 else entry_or es text otherwise
 
--- A word that the grammar quotes is no plain name.
-unfoldable pub word_of : List ℕ → Lexeme
-word_of text = entry_or word_table text (named text false)
+-- A keyword that the grammar quotes is no plain name.
+unfoldable pub name_lexeme : List ℕ → Lexeme
+name_lexeme text = entry_or keyword_table text (named text false)
 
 -- The marks that the grammar quotes: ( ) [ ] { } , ; : = . # *
 abbrev pub mark_of : ℕ → Lexeme
@@ -113,22 +113,22 @@ first_mark (b ∷ bs) = mark_of b
 
 -- The name of an escaped token is without its backslash.
 abbrev pub lexeme_of : Kind → List ℕ → Lexeme
-lexeme_of kind.Name text = word_of text
+lexeme_of kind.Name text = name_lexeme text
 lexeme_of kind.Escaped text = named (drop 1 text) true
 lexeme_of kind.Number text = number text
 lexeme_of kind.Text text = quotation
 lexeme_of kind.Mark text = first_mark text
 
-abbrev pub tok_of : List ℕ → Token → Tok
-tok_of text token = tok token.start (lexeme_of token.kind (slice_range text token.start token.end))
+abbrev pub token_of : List ℕ → Token → TokenAt
+token_of text token = token_at token.start (lexeme_of token.kind (slice_range text token.start token.end))
 
-abbrev pub stop_of : ℕ → Option LexErr → Tok
-stop_of size None = tok size ending
-stop_of size (Some fault) = tok (place_of fault) (broken fault)
+abbrev pub stop_of : ℕ → Option LexErr → TokenAt
+stop_of size None = token_at size ending
+stop_of size (Some fault) = token_at (place_of fault) (broken fault)
 
 -- the lexemes of the tokens of a text
-abbrev pub words_of : List ℕ → Left → Words
-words_of text left = record { words = map (tok_of text) left.tokens; stop = stop_of (length text) left.fault }
+abbrev pub tokens_of : List ℕ → Left → TokenStream
+tokens_of text left = record { tokens = map (token_of text) left.tokens; stop = stop_of (length text) left.fault }
 
 -- ---- what a lexeme may be read as
 
@@ -179,7 +179,7 @@ abbrev pub name_at : ℕ → Lexeme → Option Word
 name_at at (named text escaped) = Some (word_at at text escaped)
 name_at at _ = None
 
-abbrev pub name_of : Tok → Option Word
+abbrev pub name_of : TokenAt → Option Word
 name_of t = name_at t.at t.what
 
 abbrev pub int_at : Lexeme → Option ℕ
@@ -207,7 +207,8 @@ fixed_symbols fixed.Hash = 35 ∷ []
 fixed_symbols fixed.Star = 42 ∷ []
 fixed_symbols _ = []
 
--- The symbols of a table that a lexeme has: each byte of a plain name or a number, and a mark. A word that the grammar quotes has none.
+-- The symbols of a table that a lexeme has: each byte of a plain name or a number, and a mark. A keyword that the
+-- grammar quotes has none.
 abbrev pub symbols_of : Lexeme → List ℕ
 symbols_of (quoted f) = fixed_symbols f
 symbols_of (named text false) = text
@@ -215,28 +216,28 @@ symbols_of (number text) = text
 symbols_of (mark b) = b ∷ []
 symbols_of _ = []
 
--- a word that the profile leaves out
-unfoldable pub is_word_left_out : List ℕ → Bool
-is_word_left_out text = list_any (λ word. bytes_eq text word) left_out
+-- a keyword that the profile leaves out
+unfoldable pub is_keyword_left_out : List ℕ → Bool
+is_keyword_left_out text = list_any (λ keyword. bytes_eq text keyword) left_out
 
--- Whether an item that begins so is left out by the profile. An escaped name may be spelled like any word.
+-- Whether an item that begins so is left out by the profile. An escaped name may be spelled like any keyword.
 abbrev pub is_left_out : Lexeme → Bool
 is_left_out (quoted fixed.Initial) = true
-is_left_out (named text false) = is_word_left_out text
+is_left_out (named text false) = is_keyword_left_out text
 is_left_out _ = false
 
 -- ---- what stands in front
 
-abbrev pub head_of : List Tok → Tok → Tok
+abbrev pub head_of : List TokenAt → TokenAt → TokenAt
 head_of [] stop = stop
 head_of (t ∷ ts) stop = t
 
-abbrev pub head : Words → Tok
-head w = head_of w.words w.stop
+abbrev pub head : TokenStream → TokenAt
+head w = head_of w.tokens w.stop
 
 -- a token stands in front
-abbrev pub before : Tok → Words → Words
-before t w = record { words = t ∷ w.words; stop = w.stop }
+abbrev pub before : TokenAt → TokenStream → TokenStream
+before t w = record { tokens = t ∷ w.tokens; stop = w.stop }
 
 -- ---- refusals
 
@@ -244,5 +245,5 @@ abbrev pub fault_at : Lexeme → ℕ → ParseErr
 fault_at (broken e) at = Lex e
 fault_at _ at = Unexpected at
 
-abbrev pub fault_of : Tok → ParseErr
+abbrev pub fault_of : TokenAt → ParseErr
 fault_of t = fault_at t.what t.at

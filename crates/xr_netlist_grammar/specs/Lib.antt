@@ -1,3 +1,4 @@
+-- The grammar of netlists: tokens, trees, rules, the machine that reads them, and refusals.
 pub mod Bytes
 pub mod Numbers
 pub mod Lexemes

@@ -3,8 +3,13 @@ use Rattle.std.specs.Prelude.{◌≡◌, ◌≢◌, ℕ, zero, suc, List, [], �
 use Rattle.xr_cell.specs.declared.value.Value.{Value}
 use Rattle.xr_cell.specs.declared.symbol.Symbol.{Symbol}
 use Rattle.xr_cell.specs.declared.symbol.Symbol.TheVariants.{Single, Change}
-use Rattle.xr_netlist_grammar.specs.Lexemes.{Lexeme, ending, Tok, Words, is_fixed, gate_kind_of, name_of, int_at, bit_at, literal_at, symbols_of, is_left_out, fault_of}
-use Rattle.xr_netlist_grammar.specs.Trees.{Range, whole_part, bit_part, slice_part, literal_part, expr_of, declares, declare_of, gate_of, instance_of, connection_of, no_connection, named_of, is_sequential, row_of, singles, nothing, Under, under, with_item, with_port, closed, Within, within, with_declare, with_pin, with_row, closed_primitive, takes_value}
+use Rattle.xr_netlist_grammar.specs.Lexemes.{Lexeme, ending, TokenAt, TokenStream, is_fixed, gate_kind_of, name_of}
+use Rattle.xr_netlist_grammar.specs.Lexemes.{int_at, bit_at, literal_at, symbols_of, is_left_out, fault_of}
+use Rattle.xr_netlist_grammar.specs.Trees.{Range, whole_part, bit_part, slice_part, literal_part, expr_of, declares}
+use Rattle.xr_netlist_grammar.specs.Trees.{declare_of, gate_of, instance_of, connection_of, no_connection, named_of}
+use Rattle.xr_netlist_grammar.specs.Trees.{is_sequential, row_of, singles, nothing, Under, under, with_item, with_port}
+use Rattle.xr_netlist_grammar.specs.Trees.{closed, Within, within, with_declare, with_pin, with_row, closed_primitive}
+use Rattle.xr_netlist_grammar.specs.Trees.{takes_value}
 use Rattle.xr_netlist_grammar.specs.declared.fixed.Fixed.{Fixed}
 use Rattle.xr_netlist_grammar.specs.declared.fixed.Fixed.TheVariants as fixed
 use Rattle.xr_netlist_grammar.specs.declared.refusal.ParseErr.{ParseErr}
@@ -69,7 +74,7 @@ pub data State : Type 0 where
   after_port : Source → Word → List Word → State
   port_direction : Under → NetKind → Range → State
   port_wire : Under → NetKind → Range → State
-  port_word : Under → NetKind → Range → State
+  port_name : Under → NetKind → Range → State
   after_declared_port : Under → NetKind → Range → State
   declared_port : Under → NetKind → Range → State
   head_end : Under → State
@@ -168,26 +173,26 @@ Next = Result State ParseErr
 
 -- ---- tests, each with what follows it and what is tried otherwise
 
-abbrev pub on : Fixed → Tok → State → Next → Next
+abbrev pub on : Fixed → TokenAt → State → Next → Next
 on f t s otherwise = cond (is_fixed f t.what) (Ok s) otherwise
 
 abbrev pub on_some : {X : Type 0} → Option X → (X → State) → Next → Next
 on_some (Some x) f otherwise = Ok (f x)
 on_some None f otherwise = otherwise
 
-abbrev pub on_name : Tok → (Word → State) → Next → Next
+abbrev pub on_name : TokenAt → (Word → State) → Next → Next
 on_name t f otherwise = on_some (name_of t) f otherwise
 
-abbrev pub on_int : Tok → (ℕ → State) → Next → Next
+abbrev pub on_int : TokenAt → (ℕ → State) → Next → Next
 on_int t f otherwise = on_some (int_at t.what) f otherwise
 
-abbrev pub on_bit : Tok → (Value → State) → Next → Next
+abbrev pub on_bit : TokenAt → (Value → State) → Next → Next
 on_bit t f otherwise = on_some (bit_at t.what) f otherwise
 
-abbrev pub on_literal : Tok → (ℕ × ℕ → State) → Next → Next
+abbrev pub on_literal : TokenAt → (ℕ × ℕ → State) → Next → Next
 on_literal t f otherwise = on_some (literal_at t.what) f otherwise
 
-abbrev pub on_gate : Tok → (GateKind → State) → Next → Next
+abbrev pub on_gate : TokenAt → (GateKind → State) → Next → Next
 on_gate t f otherwise = on_some (gate_kind_of t.what) f otherwise
 
 -- the symbols of a token, where it has one or more
@@ -195,7 +200,7 @@ abbrev pub on_bytes : List ℕ → (ℕ → List ℕ → State) → Next → Nex
 on_bytes [] f otherwise = otherwise
 on_bytes (b ∷ bs) f otherwise = Ok (f b bs)
 
-abbrev pub on_symbols : Tok → (ℕ → List ℕ → State) → Next → Next
+abbrev pub on_symbols : TokenAt → (ℕ → List ℕ → State) → Next → Next
 on_symbols t f otherwise = on_bytes (symbols_of t.what) f otherwise
 
 -- the symbols of a token, where it has one
@@ -203,7 +208,7 @@ abbrev pub on_one_byte : List ℕ → (ℕ → State) → Next → Next
 on_one_byte (b ∷ []) f otherwise = Ok (f b)
 on_one_byte _ f otherwise = otherwise
 
-abbrev pub on_symbol : Tok → (ℕ → State) → Next → Next
+abbrev pub on_symbol : TokenAt → (ℕ → State) → Next → Next
 on_symbol t f otherwise = on_one_byte (symbols_of t.what) f otherwise
 
 -- the symbols of a token, where it has one or two
@@ -212,7 +217,7 @@ on_few_bytes (b ∷ []) f g otherwise = Ok (f b)
 on_few_bytes (b ∷ c ∷ []) f g otherwise = Ok (g b c)
 on_few_bytes _ f g otherwise = otherwise
 
-abbrev pub refused : Tok → Next
+abbrev pub refused : TokenAt → Next
 refused t = Err (fault_of t)
 
 -- ---- where parts that stand in several places lead
@@ -222,7 +227,7 @@ after_attr (at_top b) = top b
 after_attr (in_module u) = in_items u
 
 abbrev pub after_range : Ranged → Range → State
-after_range (port_range u what) r = port_word u what r
+after_range (port_range u what) r = port_name u what r
 after_range (declared_range u what) r = declared_name u what r
 after_range (net_range u what) r = net_ranged u what r
 
@@ -232,7 +237,7 @@ after_delay (gate_delay u kind at) = gate_name u kind at
 after_delay (instance_delay u d) = instance_name u d
 after_delay (assign_delay u) = expr_start (left u)
 
--- behind a parenthesis that closes, inside so many others
+-- after a parenthesis that closes, inside a number of others
 abbrev pub leave_delay : Delayed → ℕ → State
 leave_delay k zero = after_delay k
 leave_delay k (suc d) = in_delay k d
@@ -246,7 +251,7 @@ after_symbol (output p es st) s = after_output_symbol p es st s
 -- ---- steps that several states share
 
 -- [ 'wire' ] [ range ] name, a port
-abbrev pub port_step : Under → NetKind → Range → Tok → Next
+abbrev pub port_step : Under → NetKind → Range → TokenAt → Next
 port_step u what r t =
     on fixed.Wire t (port_wire u what r)
     (on fixed.SquareOpen t (range_first (port_range u what))
@@ -254,33 +259,33 @@ port_step u what r t =
     (refused t)))
 
 -- name
-abbrev pub net_name_step : Under → NetKind → Range → Tok → Next
+abbrev pub net_name_step : Under → NetKind → Range → TokenAt → Next
 net_name_step u what r t = on_name t (λ w. after_net u what r w) (refused t)
 
 -- [ name ] '('
-abbrev pub gate_name_step : Under → GateKind → ℕ → Tok → Next
+abbrev pub gate_name_step : Under → GateKind → ℕ → TokenAt → Next
 gate_name_step u kind at t = on fixed.Open t (expr_start (terminal u kind at [])) (on_name t (λ w. gate_open u kind at) (refused t))
 
 -- [ name ] '('
-abbrev pub instance_name_step : Under → Word → Tok → Next
+abbrev pub instance_name_step : Under → Word → TokenAt → Next
 instance_name_step u d t = on fixed.Open t (connections u d None) (on_name t (λ w. instance_open u d (Some w)) (refused t))
 
 -- the start of a part
-abbrev pub expr_step : Context → ℕ → ℕ → List Part → Tok → Next
+abbrev pub expr_step : Context → ℕ → ℕ → List Part → TokenAt → Next
 expr_step k at d ps t =
     on fixed.BraceOpen t (expr k at (suc d) ps)
     (on_name t (λ w. after_part_name k at d ps w)
     (on_literal t (λ l. after_part k at d (ps ++ literal_part t.at l ∷ []))
     (refused t)))
 
-abbrev pub after_delay_step : Delayed → Tok → Next
+abbrev pub after_delay_step : Delayed → TokenAt → Next
 after_delay_step (net_delay u what r) t = net_name_step u what r t
 after_delay_step (gate_delay u kind at) t = gate_name_step u kind at t
 after_delay_step (instance_delay u d) t = instance_name_step u d t
 after_delay_step (assign_delay u) t = expr_step (left u) t.at 0 [] t
 
--- behind an expression
-abbrev pub after_whole : Context → Expr → Tok → Next
+-- after an expression
+abbrev pub after_whole : Context → Expr → TokenAt → Next
 after_whole (terminal u kind at es) e t =
     on fixed.Comma t (expr_start (terminal u kind at (es ++ e ∷ [])))
     (on fixed.Close t (after_gate (with_item u (gate_of kind at (es ++ e ∷ []))) kind at)
@@ -300,24 +305,24 @@ after_whole (connected u d n cs) e t =
     (refused t))
 after_whole (connected_to u d n cs p) e t = on fixed.Close t (after_connection u d n (cs ++ named_of p (Some e) ∷ [])) (refused t)
 
--- behind a part, inside so many braces
-abbrev pub after_expr : Context → ℕ → ℕ → List Part → Tok → Next
+-- after a part, inside a number of braces
+abbrev pub after_expr : Context → ℕ → ℕ → List Part → TokenAt → Next
 after_expr k at zero ps t = after_whole k (expr_of at ps) t
 after_expr k at (suc d) ps t = on fixed.Comma t (expr k at (suc d) ps) (on fixed.BraceClose t (after_part k at d ps) (refused t))
 
 -- the first token of a row
-abbrev pub row_step : Within → Tok → Next → Next
+abbrev pub row_step : Within → TokenAt → Next → Next
 row_step p t otherwise =
     on_symbols t (λ b bs. in_row p (singles (b ∷ bs)))
     (on fixed.Open t (change_first (entry p [])) otherwise)
 
--- behind the entries of a row
+-- after the entries of a row
 abbrev pub after_entries : Within → List Symbol → State
 after_entries p es = cond (is_sequential p.declarations) (row_state p es) (row_output p es None)
 
 -- ---- a step
 
-abbrev pub step : State → Tok → Next
+abbrev pub step : State → TokenAt → Next
 step (top b) t =
     on fixed.Module t (module_name b)
     (on fixed.Primitive t (primitive_name b)
@@ -341,7 +346,7 @@ step (port_wire u what r) t =
     on fixed.SquareOpen t (range_first (port_range u what))
     (on_name t (λ w. after_declared_port (with_port u what r w) what r)
     (refused t))
-step (port_word u what r) t = on_name t (λ w. after_declared_port (with_port u what r w) what r) (refused t)
+step (port_name u what r) t = on_name t (λ w. after_declared_port (with_port u what r w) what r) (refused t)
 step (after_declared_port u what r) t = on fixed.Comma t (declared_port u what r) (on fixed.Close t (head_end u) (refused t))
 step (declared_port u what r) t =
     on fixed.Input t (port_direction u net.Input None)
@@ -495,11 +500,11 @@ step (primitive_end p) t = on fixed.Endprimitive t (top (closed_primitive p)) (r
 
 -- ---- a run
 
-abbrev pub finish_top : Source → Lexeme → Tok → Result Source ParseErr
+abbrev pub finish_top : Source → Lexeme → TokenAt → Result Source ParseErr
 finish_top b ending t = Ok b
 finish_top b _ t = Err (fault_of t)
 
-abbrev pub finish : State → Tok → Result Source ParseErr
+abbrev pub finish : State → TokenAt → Result Source ParseErr
 finish (top b) t = finish_top b t.what t
 finish _ t = Err (fault_of t)
 
@@ -508,15 +513,15 @@ then_run (Ok s) k = k s
 then_run (Err e) k = Err e
 
 -- the answer from a state on
-abbrev pub run : State → List Tok → Tok → Result Source ParseErr
+abbrev pub run : State → List TokenAt → TokenAt → Result Source ParseErr
 run s [] stop = finish s stop
 run s (t ∷ ts) stop = then_run (step s t) (λ next. run next ts stop)
 
-abbrev pub goes : State → Words → Result Source ParseErr
-goes s w = run s w.words w.stop
+abbrev pub goes : State → TokenStream → Result Source ParseErr
+goes s w = run s w.tokens w.stop
 
 -- the answer for a whole text
-abbrev pub parse_of : Words → Result Source ParseErr
+abbrev pub parse_of : TokenStream → Result Source ParseErr
 parse_of w = goes (top nothing) w
 
 -- the refusal, unless there was no memory
@@ -524,6 +529,6 @@ abbrev pub Refuses : Result Source ParseErr → ParseErr → Type 0
 Refuses r e = e ≢ Memory → r ≡ Err e
 
 -- what a reader answers, by the run
-abbrev pub Answers : Result Source ParseErr → Words → Type 0
+abbrev pub Answers : Result Source ParseErr → TokenStream → Type 0
 Answers (Ok s) w = parse_of w ≡ Ok s
 Answers (Err e) w = Refuses (parse_of w) e

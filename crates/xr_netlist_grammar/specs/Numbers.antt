@@ -1,5 +1,6 @@
 -- Numbers of the grammar (IEEE 1364-2005, clause 3.5).
-use Rattle.std.specs.Prelude.{ℕ, ◌^◌, List, [], ◌∷◌, Bool, false, ◌==◌, ◌&&◌, ◌||◌, nat_le, nat_lt, not, length, drop, filter, take_while, if◌then◌else◌, Option, Some, None}
+use Rattle.std.specs.Prelude.{ℕ, ◌^◌, List, [], ◌∷◌, Bool, false, ◌==◌, ◌&&◌, ◌||◌, nat_le, nat_lt, not, length, drop}
+use Rattle.std.specs.Prelude.{filter, take_while, if◌then◌else◌, Option, Some, None}
 use Rattle.std.specs.List.{list_all}
 use Rattle.std.specs.Str.{bytes_eq}
 use lib.Chars.{codes}
@@ -48,13 +49,13 @@ are_spaced_digits base text =
 abbrev pub spaced_number : ℕ → List ℕ → ℕ
 spaced_number base text = number_from base 0 (filter (λ b. not (b == 95)) text)
 
--- a literal of so many bits, by its base and its digits, where its value fits
+-- a literal of a given number of bits, by its base and its digits, where its value fits
 abbrev pub literal_in : ℕ → List ℕ → Option ℕ → Option (ℕ × ℕ)
 literal_in size digits None = None
 literal_in size digits (Some base) =
     if are_spaced_digits base digits && nat_lt (spaced_number base digits) (2 ^ size) then Some (size, spaced_number base digits) else None
 
--- a literal by its size, and what stands behind the size
+-- a literal by its size, and what stands after the size
 abbrev pub literal_behind : List ℕ → List ℕ → Option (ℕ × ℕ)
 literal_behind size [] = None
 literal_behind size (q ∷ []) = None
@@ -62,6 +63,7 @@ literal_behind size (q ∷ b ∷ digits) =
     if are_digits size && (q == 39) && nat_le 1 (number_from 10 0 size) && nat_le (number_from 10 0 size) 128
     then literal_in (number_from 10 0 size) digits (base_of b) else None
 
--- A literal is a size of 1 to 128, `'`, the letter of a base, and digits of that base with `_` between, whose value fits. It has its size and its value.
+-- A literal is a size of 1 to 128, `'`, the letter of a base, and digits of that base with `_` between, whose value
+-- fits. It has its size and its value.
 unfoldable pub literal_of : List ℕ → Option (ℕ × ℕ)
 literal_of text = literal_behind (take_while is_digit text) (drop (length (take_while is_digit text)) text)

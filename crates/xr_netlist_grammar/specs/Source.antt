@@ -2,7 +2,7 @@
 use Rattle.std.specs.Prelude.{◌≡◌, ℕ, List, None}
 use Rattle.xr_text.specs.Left.{Left}
 use Rattle.xr_text.specs.Tokens.{Tokens}
-use Rattle.xr_netlist_grammar.specs.Lexemes.{words_of}
+use Rattle.xr_netlist_grammar.specs.Lexemes.{tokens_of}
 use Rattle.xr_netlist_grammar.specs.Text.{Text}
 use Rattle.xr_netlist_grammar.specs.Refusal.{RefusesFirst}
 use Rattle.xr_netlist_grammar.specs.Fault.{refusal_of}
@@ -13,11 +13,11 @@ use Rattle.xr_netlist_grammar.specs.declared.tree.Source.{Source}
 pub record IsTree (text : List ℕ) (tree : Source) : Type 0 where
   pub left : Left
   pub told : Tokens 0 text left
-  pub parsed : Text (words_of text left).words tree
+  pub parsed : Text (tokens_of text left).tokens tree
   pub whole : left.fault ≡ None
 
 -- A text is none of the grammar, and this is what is wrong with it.
 pub record IsRefused (text : List ℕ) (fault : NetlistFault) : Type 0 where
   pub left : Left
   pub told : Tokens 0 text left
-  pub first : RefusesFirst (words_of text left).words (words_of text left).stop (refusal_of fault)
+  pub first : RefusesFirst (tokens_of text left).tokens (tokens_of text left).stop (refusal_of fault)

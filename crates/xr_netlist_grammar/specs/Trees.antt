@@ -66,7 +66,7 @@ instance_of definition name connections = item.Instance (record { definition = d
 abbrev pub connection_of : Expr → Connection
 connection_of e = record { at = e.at; value = Some e }
 
--- an empty connection, with the byte of the token behind it
+-- an empty connection, with the byte of the token after it
 abbrev pub no_connection : ℕ → Connection
 no_connection at = record { at = at; value = None }
 
@@ -101,7 +101,7 @@ source_of ms ps = record { modules = ms; primitives = ps }
 abbrev pub nothing : Source
 nothing = source_of [] []
 
--- what two texts, one behind the other, stand for
+-- what two texts, one after the other, stand for
 abbrev pub joined : Source → Source → Source
 joined a b = source_of (a.modules ++ b.modules) (a.primitives ++ b.primitives)
 

@@ -23,7 +23,7 @@ use Rattle.xr_netlist_grammar.specs.declared.tree.PrimDeclare.{PrimDeclare}
 use Rattle.xr_netlist_grammar.specs.declared.tree.Primitive.{Primitive}
 use Rattle.xr_netlist_grammar.specs.declared.tree.Source.{Source}
 
--- A name is plain, a letter or `_` with letters, digits, `_` and `$` behind it, or escaped, one or more printable bytes
+-- A name is plain, a letter or `_` with letters, digits, `_` and `$` after it, or escaped, one or more printable bytes
 -- (IEEE 1364-2005, clause 3.7).
 abbrev pub is_name : List ℕ → Bool → Bool
 is_name text escaped =

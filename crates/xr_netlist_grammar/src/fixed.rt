@@ -1,9 +1,9 @@
-//! The words and marks that the grammar quotes.
+//! The keywords and marks that the grammar quotes.
 
 ghost use Rattle.std.specs.Prelude.{◌≡◌};
 ghost use Rattle.xr_netlist_grammar.specs.Lexemes.{code};
 
-/// A word or a mark that the grammar quotes, apart from the kinds of gates.
+/// A keyword or a mark that the grammar quotes, apart from the kinds of gates.
 #[derive(Clone, Copy, Debug, PartialEq, Eq)]
 pub enum Fixed {
     Module,

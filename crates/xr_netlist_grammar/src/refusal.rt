@@ -23,7 +23,7 @@ pub enum ParseErr {
 }
 
 impl ParseErr {
-    /// What is wrong with the text, `None` exactly for want of memory.
+    /// What is wrong with the text, `None` exactly when out of memory.
     pub fn fault(self) -> Option<NetlistFault>
         ensures { result ≡ fault_in self }
     {

@@ -50,7 +50,7 @@ pub struct GateItem {
     pub terminals: Items<Expr>,
 }
 
-/// A connection by position. Where it is empty, `at` is the byte of the token behind it, else of its first token.
+/// A connection by position. Where it is empty, `at` is the byte of the token after it, else of its first token.
 #[derive(Drop)]
 pub struct Connection {
     pub at: usize,

@@ -7,8 +7,8 @@ ghost use Rattle.xr_match.specs.Binding.{FitsBound};
 ghost use Rattle.xr_out.specs.Declarations as spec;
 
 use crate::code::put_code;
-use crate::puts::{put, put_number, put_section};
-use xr_base::Memory;
+use crate::puts::put_section;
+use xr_base::{Memory, put, put_number};
 use xr_design::{Bytes, Design, NamePart};
 use xr_match::Bound;
 

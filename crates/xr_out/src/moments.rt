@@ -8,8 +8,7 @@ ghost use Rattle.xr_out.specs.Steps.{HasStep, HasBits, HasNets};
 
 use crate::bits::Bits;
 use crate::code::put_code;
-use crate::puts::{put, put_number};
-use xr_base::Memory;
+use xr_base::{Memory, put, put_number};
 use xr_design::{History, Place};
 use xr_match::Bound;
 

@@ -10,9 +10,9 @@ ghost use Rattle.xr_out.specs.Text as spec;
 use crate::bits::Bits;
 use crate::declarations::put_declarations;
 use crate::moments::put_moment;
-use crate::puts::{put, put_section};
+use crate::puts::put_section;
 use std::alloc::Global;
-use xr_base::Memory;
+use xr_base::{Memory, put};
 use xr_design::{Bytes, Design, History, Stim};
 use xr_match::{Binding, Bound};
 

@@ -7,27 +7,27 @@ use Rattle.std.specs.Prelude.{count_ones}
 use Rattle.xr_cone_nodes.specs.Lanes.{HasLanes, HasNone, IsOne, in_lane}
 use Rattle.xr_pair.specs.Pairs.{IsLeast}
 
--- The lanes of a word whose numbers have fewer ones than some have no 1.
+-- The lanes whose numbers have fewer ones than some have no 1.
 abbrev pub NoneWithFewer : List ℕ → ℕ → Type 0
-NoneWithFewer word count = (lane : ℕ) → lane < 256 → in_lane word lane ≡ true → count ≤ count_ones lane
+NoneWithFewer lane_bits count = (lane : ℕ) → lane < 256 → in_lane lane_bits lane ≡ true → count ≤ count_ones lane
 
-module _ (word some both : List ℕ) (count : ℕ) (are : HasLanes some (λ lane. count_ones lane == count))
-    (each : HasLanes both (λ lane. in_lane word lane && in_lane some lane)) (before : NoneWithFewer word count)
+module _ (lane_bits some both : List ℕ) (count : ℕ) (are : HasLanes some (λ lane. count_ones lane == count))
+    (each : HasLanes both (λ lane. in_lane lane_bits lane && in_lane some lane)) (before : NoneWithFewer lane_bits count)
   where
-    pub none_more : HasNone both → NoneWithFewer word (count + 1)
+    pub none_more : HasNone both → NoneWithFewer lane_bits (count + 1)
     none_more none lane less one =
         let low = before lane less one in
-        let bit : in_lane word lane && (count_ones lane == count) ≡ false =
-        ap (λ b. in_lane word lane && b) (sym (are lane less)) ∙ sym (each lane less) ∙ none lane less in
+        let bit : in_lane lane_bits lane && (count_ones lane == count) ≡ false =
+        ap (λ b. in_lane lane_bits lane && b) (sym (are lane less)) ∙ sym (each lane less) ∙ none lane less in
         ⊎_elim
         (λ (same : count_ones lane ≡ count).
         absurd (let e : true ≡ false = sym (rw (one, eq-eqb (count_ones lane) count same) refl) ∙ bit in cc))
         (λ (other : count_ones lane ≡ count → ⊥). omega (arith, low, other)) (cases_eq (count_ones lane) count)
 
-    pub least_found : (lane : ℕ) → IsOne both lane → IsLeast word lane
+    pub least_found : (lane : ℕ) → IsOne both lane → IsLeast lane_bits lane
     least_found lane found =
-        let parts = and_parts (in_lane word lane) (count_ones lane == count)
-        (ap (λ b. in_lane word lane && b) (sym (are lane found.0)) ∙ sym (each lane found.0) ∙ found.1) in
+        let parts = and_parts (in_lane lane_bits lane) (count_ones lane == count)
+        (ap (λ b. in_lane lane_bits lane && b) (sym (are lane found.0)) ∙ sym (each lane found.0) ∙ found.1) in
         let same = eqb-true (count_ones lane) count parts.1 in
         record {
           within = found.0;
@@ -47,14 +47,14 @@ ones_few (suc k) n less =
     let few = ones_few k (n / 2) (omega (arith, less, double)) in
     omega (arith, ones_step n, few)
 
-pub none_left : (word : List ℕ) (count : ℕ) → 9 ≤ count → NoneWithFewer word count → HasNone word
-none_left word count all before lane less = ⊎_elim
-    (λ (one : in_lane word lane ≡ true).
+pub none_left : (lane_bits : List ℕ) (count : ℕ) → 9 ≤ count → NoneWithFewer lane_bits count → HasNone lane_bits
+none_left lane_bits count all before lane less = ⊎_elim
+    (λ (one : in_lane lane_bits lane ≡ true).
     absurd (let many = before lane less one in let few = ones_few 8 lane less in omega (arith, many, few, all)))
-    (λ (none : in_lane word lane ≡ false). none) (cases_Bool (in_lane word lane))
+    (λ (none : in_lane lane_bits lane ≡ false). none) (cases_Bool (in_lane lane_bits lane))
 
-pub with_by_lanes : (word : List ℕ) (count : ℕ)
-    → agree_below (in_lane word) (λ lane. count_ones lane == count) 256 ≡ true
-    → HasLanes word (λ lane. count_ones lane == count)
-with_by_lanes word count agree lane less =
-    agree_below_at (in_lane word) (λ lane. count_ones lane == count) 256 lane agree less
+pub with_by_lanes : (lane_bits : List ℕ) (count : ℕ)
+    → agree_below (in_lane lane_bits) (λ lane. count_ones lane == count) 256 ≡ true
+    → HasLanes lane_bits (λ lane. count_ones lane == count)
+with_by_lanes lane_bits count agree lane less =
+    agree_below_at (in_lane lane_bits) (λ lane. count_ones lane == count) 256 lane agree less

@@ -10,7 +10,8 @@ use Rattle.xr_cone_nodes.proofs.ConeLaws.{base_law, chosen_law}
 use Rattle.xr_cone_nodes.specs.declared.node.Node.{Node}
 use Rattle.xr_cone_nodes.specs.Lanes.{lane_of, root_in_lane}
 use Rattle.xr_cone_nodes.specs.Nodes.{chosen, nothing, root_bit, sources_of}
-use Rattle.xr_pair.specs.Pairs.{IsNextCone, next_bit}
+use Rattle.xr_pair.specs.Pairs.{next_bit}
+use Rattle.xr_cone_nodes.specs.Traced.{IsNextCone}
 
 -- Two fillings that give 0 and 1 are a pair,
 pub pair_holds : (c : Contents) (zero one : List Place) → IsFilling (job c) zero → IsFilling (job c) one

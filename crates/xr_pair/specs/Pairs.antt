@@ -6,13 +6,9 @@ use Rattle.xr_wave.specs.Token.{PairToken}
 use Rattle.xr_cone_nodes.specs.declared.node.Node.{Node}
 use Rattle.xr_cone_nodes.specs.Lanes.{in_lane, root_in_lane}
 use Rattle.xr_cone_nodes.specs.Nodes.{nothing, root_bit}
-use Rattle.xr_cone_nodes.specs.Traced.{IsConeOf, world_in}
+use Rattle.xr_cone_nodes.specs.Traced.{world_in}
 use Rattle.xr_pair.specs.declared.check.BadPair.{BadPair}
 use Rattle.xr_pair.specs.declared.check.BadPair.TheVariants.{NotZero, NotOne, Memory}
-
--- The nodes are the cone of the next place.
-abbrev pub IsNextCone : Contents → List Node → Type 0
-IsNextCone c nodes = IsConeOf c (next_number c) nodes
 
 -- The bit of the next place in the world of a filling.
 abbrev pub next_bit : Contents → List Place → Bool
@@ -43,8 +39,8 @@ abbrev pub other_of : Bool → PairToken → List Place
 other_of true token = token.zero
 other_of false token = token.one
 
--- A word has a 1 in a lane whose number is among those with the least ones.
-pub record IsLeast (word : List ℕ) (lane : ℕ) : Type 0 where
+-- Lanes have a 1 in a lane whose number is among those with the least ones.
+pub record IsLeast (lane_bits : List ℕ) (lane : ℕ) : Type 0 where
   pub within : lane < 256
-  pub one : in_lane word lane ≡ true
-  pub least : (other : ℕ) → other < 256 → in_lane word other ≡ true → count_ones lane ≤ count_ones other
+  pub one : in_lane lane_bits lane ≡ true
+  pub least : (other : ℕ) → other < 256 → in_lane lane_bits other ≡ true → count_ones lane ≤ count_ones other

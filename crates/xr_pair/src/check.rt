@@ -4,7 +4,8 @@ ghost use Rattle.std.specs.Prelude.{◌≡◌, IfErr, IfOk};
 ghost use Rattle.xr_design.specs.Filling.{IsFilling};
 ghost use Rattle.xr_wave.specs.Contents.{job};
 ghost use Rattle.xr_wave.specs.Token.{LineHolds, pair_line};
-ghost use Rattle.xr_pair.specs.Pairs.{IsNextCone, IsRefusal};
+ghost use Rattle.xr_pair.specs.Pairs.{IsRefusal};
+ghost use Rattle.xr_cone_nodes.specs.Traced.{IsNextCone};
 
 use std::alloc::Global;
 use xr_base::Memory;

@@ -1,17 +1,17 @@
-//! The lane of a 1 in a word.
+//! The lane of a 1 in lanes.
 
 ghost use Rattle.std.specs.Prelude.{◌≡◌, ◌≤◌, ◌==◌, MatchOption, count_ones};
 ghost use Rattle.xr_cone_nodes.specs.Lanes.{HasLanes, HasNone};
 ghost use Rattle.xr_pair.specs.Pairs.{IsLeast};
 
-use xr_cone_nodes::Word;
+use xr_cone_nodes::LaneBits;
 
-/// A lane in which the word has a 1, of these one whose number has the least ones.
-pub fn least_lane(word: Word) -> Option<u32>
-    ensures { MatchOption result (HasNone word) (IsLeast word) }
+/// A lane in which the bits have a 1, of these one whose number has the least ones.
+pub fn least_lane(lane_bits: LaneBits) -> Option<u32>
+    ensures { MatchOption result (HasNone lane_bits) (IsLeast lane_bits) }
 {
     'counts: for count in 0..9 {
-        match word.and(lanes_with(count)).first() {
+        match lane_bits.and(lanes_with(count)).first() {
             Some(lane) => return Some(lane),
             None => {}
         }
@@ -20,49 +20,49 @@ pub fn least_lane(word: Word) -> Option<u32>
 }
 
 /// 1 in the lanes whose numbers have so many ones.
-fn lanes_with(count: u32) -> Word
+fn lanes_with(count: u32) -> LaneBits
     requires { count ≤ 8 }
     ensures { HasLanes result (λ lane. count_ones lane == count) }
 {
     match count {
-        0 => Word::new([1, 0, 0, 0]),
-        1 => Word::new([0x0000_0001_0001_0116, 1, 1, 0]),
-        2 => Word::new([
+        0 => LaneBits::new([1, 0, 0, 0]),
+        1 => LaneBits::new([0x0000_0001_0001_0116, 1, 1, 0]),
+        2 => LaneBits::new([
             0x0001_0116_0116_1668,
             0x0000_0001_0001_0116,
             0x0000_0001_0001_0116,
             1,
         ]),
-        3 => Word::new([
+        3 => LaneBits::new([
             0x0116_1668_1668_6880,
             0x0001_0116_0116_1668,
             0x0001_0116_0116_1668,
             0x0000_0001_0001_0116,
         ]),
-        4 => Word::new([
+        4 => LaneBits::new([
             0x1668_6880_6880_8000,
             0x0116_1668_1668_6880,
             0x0116_1668_1668_6880,
             0x0001_0116_0116_1668,
         ]),
-        5 => Word::new([
+        5 => LaneBits::new([
             0x6880_8000_8000_0000,
             0x1668_6880_6880_8000,
             0x1668_6880_6880_8000,
             0x0116_1668_1668_6880,
         ]),
-        6 => Word::new([
+        6 => LaneBits::new([
             0x8000_0000_0000_0000,
             0x6880_8000_8000_0000,
             0x6880_8000_8000_0000,
             0x1668_6880_6880_8000,
         ]),
-        7 => Word::new([
+        7 => LaneBits::new([
             0,
             0x8000_0000_0000_0000,
             0x8000_0000_0000_0000,
             0x6880_8000_8000_0000,
         ]),
-        _ => Word::new([0, 0, 0, 0x8000_0000_0000_0000]),
+        _ => LaneBits::new([0, 0, 0, 0x8000_0000_0000_0000]),
     }
 }

@@ -4,28 +4,29 @@ ghost use Rattle.std.specs.Prelude.{◌≡◌, ◌<◌, ◌↔◌, IfOk, IfSome,
 ghost use Rattle.xr_cone_nodes.specs.Lanes.{lane_of};
 ghost use Rattle.xr_cone_nodes.specs.Nodes.{chosen, nothing, root_bit, sources_of};
 ghost use Rattle.xr_wave.specs.Token.{LineHolds, pair_line};
-ghost use Rattle.xr_pair.specs.Pairs.{AllAgree, Differs, IsLeastOther, IsNextCone, other_of};
+ghost use Rattle.xr_pair.specs.Pairs.{AllAgree, Differs, IsLeastOther, other_of};
+ghost use Rattle.xr_cone_nodes.specs.Traced.{IsNextCone};
 
 use crate::lanes::least_lane;
 use std::alloc::Global;
 use xr_base::{Items, Memory};
-use xr_cone_nodes::{Cone, Word, Words};
+use xr_cone_nodes::{Cone, ConeLanes, LaneBits};
 use xr_wave::{Pair, Wave};
 
-/// Tries the 256 fillings in which source i has the bits of given[i], or 0 where there is no such word. Where one gives
+/// Tries the 256 fillings in which source i has the bits of given[i], or 0 where nothing is given. Where one gives
 /// the place another bit than the empty filling, the two are its pair. Takes 32 bytes a node, and a filling.
-pub fn try_words(
+pub fn try_lanes(
     alloc: Global,
     wave: &Wave<'_>,
     cone: &Cone,
-    given: &[Word],
+    given: &[LaneBits],
 ) -> Result<Option<Pair>, Memory>
     requires { IsNextCone wave.now cone.now.nodes }
     ensures holds { IfOk result (λ found. IfSome found (λ pair. LineHolds wave.now (pair_line pair))) }
     ensures none { IfOk result (λ found. IsNone found ↔ AllAgree cone.now.nodes given.now) }
 {
-    let mut words = Words::new(alloc, cone)?;
-    try_in(alloc, wave, cone, &mut words, given)
+    let mut lane_table = ConeLanes::new(alloc, cone)?;
+    try_in(alloc, wave, cone, &mut lane_table, given)
 }
 
 /// The same in room that calls share. Takes memory for a filling alone.
@@ -33,16 +34,16 @@ pub fn try_in(
     alloc: Global,
     wave: &Wave<'_>,
     cone: &Cone,
-    words: &mut Words,
-    given: &[Word],
+    lane_table: &mut ConeLanes,
+    given: &[LaneBits],
 ) -> Result<Option<Pair>, Memory>
     requires cone { IsNextCone wave.now cone.now.nodes }
-    requires room { words.old.nodes ≡ length cone.now.nodes }
+    requires room { lane_table.old.nodes ≡ length cone.now.nodes }
     ensures holds { IfOk result (λ found. IfSome found (λ pair. LineHolds wave.now (pair_line pair))) }
     ensures none { IfOk result (λ found. IsNone found ↔ AllAgree cone.now.nodes given.now) }
-    ensures room { words.new.nodes ≡ words.old.nodes }
+    ensures room { lane_table.new.nodes ≡ lane_table.old.nodes }
 {
-    match other_lane(cone, words, given) {
+    match other_lane(cone, lane_table, given) {
         None => Ok(None),
         Some(lane) => {
             let pair = pair_of_lane(alloc, wave, cone, given, lane)?;
@@ -53,13 +54,13 @@ pub fn try_in(
 
 /// A lane whose filling gives the place another bit than the empty one, of these one whose number has the least ones.
 /// Takes no memory.
-pub fn other_lane(cone: &Cone, words: &mut Words, given: &[Word]) -> Option<u32>
-    requires { words.old.nodes ≡ length cone.now.nodes }
+pub fn other_lane(cone: &Cone, lane_table: &mut ConeLanes, given: &[LaneBits]) -> Option<u32>
+    requires { lane_table.old.nodes ≡ length cone.now.nodes }
     ensures lane { MatchOption result (AllAgree cone.now.nodes given.now) (IsLeastOther cone.now.nodes given.now) }
-    ensures room { words.new.nodes ≡ words.old.nodes }
+    ensures room { lane_table.new.nodes ≡ lane_table.old.nodes }
 {
-    let word = words.root(cone, given);
-    least_lane(word.turned(cone.base()))
+    let lane_bits = lane_table.root(cone, given);
+    least_lane(lane_bits.turned(cone.base()))
 }
 
 /// The pair of the empty filling and that of a lane, in the order that the empty one says. Takes memory for a filling.
@@ -67,7 +68,7 @@ pub fn pair_of_lane(
     alloc: Global,
     wave: &Wave<'_>,
     cone: &Cone,
-    given: &[Word],
+    given: &[LaneBits],
     lane: u32,
 ) -> Result<Pair, Memory>
     requires cone { IsNextCone wave.now cone.now.nodes }

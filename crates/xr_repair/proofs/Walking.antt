@@ -11,12 +11,18 @@ use Rattle.xr_model.specs.Class.{class_of}
 use Rattle.xr_model.specs.declared.class.Class.TheVariants as seen
 use Rattle.xr_model.specs.declared.class.ClassByNumber.{ClassByNumber}
 use Rattle.xr_model.specs.declared.class.ClassByNumber.TheVariants.{Local, Free, Carried, Line}
-use Rattle.xr_model.proofs.Uniqueness.{unique}
+use Rattle.xr_design.proofs.Exact.{one_exact}
+use Rattle.xr_model.proofs.Uniqueness.{sound_exact, unique_certain}
 use Rattle.xr_wave.specs.Advance.{GoesOn, IsAdvanced, IsPlain, more, plain_written, stays, with_written}
-use Rattle.xr_wave.specs.Contents.{Contents, IsWave, class_or_done, job, next_seen}
-use Rattle.xr_wave.specs.Token.{HasNext, IsLineNext}
+use Rattle.xr_wave.specs.Contents.{Contents, IsFinished, IsWave, class_or_done, job, next_seen, shown_in}
+use Rattle.xr_wave.specs.Token.{HasNext, IsLineNext, LineAgrees, with_line}
+use Rattle.xr_model.specs.declared.line.Line.{Line as ALine}
+use Rattle.xr_along.specs.Accepted.{AcceptsLine}
+use Rattle.xr_along.specs.Along.{GoesAlong, by_line}
+use Rattle.xr_along.specs.Along as walk
+use Rattle.xr_along.proofs.Fitted.{along}
 use Rattle.xr_repair.proofs.Objecting.{job_along, refused_along, same_job}
-use Rattle.xr_repair.specs.Repaired.{IsFinished, IsOfJob, IsOnlyOne}
+use Rattle.xr_repair.specs.Repaired.{IsOfJob, IsOnlyOne}
 use Rattle.xr_repair.specs.Step.{IsFurther, IsNextOf, RefusedStep}
 use Rattle.xr_repair.specs.declared.refusal.RepairErr.{RepairErr}
 
@@ -77,9 +83,17 @@ all_written c wave many = omega (arith, wave.holds.sound.within, many)
 
 -- A finished wave is the only one.
 pub only_one : (c : Contents) → IsWave c → IsFinished c → IsOnlyOne c
-only_one c wave finished decided other lines long sound other_decided =
-    unique (job c) c.limit wave.fits.fits_job _ other c.written lines c.lines (long ∙ sym finished)
-    (omega (arith, long)) other_decided decided sound wave.holds.sound
+only_one c wave finished = record {
+  same = λ decided limit other lines long sound other_decided.
+      one_exact (job c) (shown_in c) other c.written wave.fits.fits_job (long ∙ sym finished) sound.within
+      (sound_exact (job c) limit (shown_in c) other lines other_decided sound)
+      (sound_exact (job c) c.limit (shown_in c) c.written c.lines decided wave.holds.sound) sound.shows
+      wave.holds.sound.shows;
+  alike = λ decided limit shown other lines long sound other_decided place less.
+      (let same = unique_certain (job c) limit c.limit wave.fits.fits_job shown (shown_in c) other c.written lines c.lines
+      (long ∙ sym finished) sound.within other_decided decided sound wave.holds.sound place less in
+      record { mark = same.mark; certain_value = same.certain_value });
+}
 
 -- What a tracer knows is right of the next wave too.
 pub right_next : (a : Contents) (tracer : TracerView) (result : Result Contents RepairErr) → IsWave a
@@ -111,3 +125,16 @@ pub refused_further : (a b : Contents) (result : Result Contents RepairErr) → 
     → IfErr result (RefusedStep a)
 refused_further a b (Ok c) same refused = tt
 refused_further a b (Err e) same refused = refused_along a b e same refused
+
+pub never : (b : Bool) → b ≡ true → b ≡ false → ⊥
+never b holds fails = absurd cc
+
+-- A line that is spent goes along.
+pub spent_along : (a b : Contents) (line : ALine) → IsLineNext a → AcceptsLine a line → LineAgrees a line → b ≡ with_line a line
+    → GoesAlong a b
+spent_along a b line next accepts agrees is = subst (GoesAlong a) (sym is) (by_line walk.stays line next accepts agrees)
+
+pub along_all : (a b : Contents) (result : Result Contents RepairErr) → GoesAlong a b → IfOk result (GoesAlong b)
+    → IfOk result (GoesAlong a)
+along_all a b (Ok c) first next = along a b c first next
+along_all a b (Err e) first next = tt

@@ -3,7 +3,8 @@ use Rattle.std.specs.Prelude.{◌≡◌, ◌<◌, ◌++◌, ◌∷◌, [], lengt
 use Rattle.xr_design.specs.declared.waveform.Written.{Written}
 use Rattle.xr_wave.specs.Advance.{IsPlain}
 use Rattle.xr_wave.specs.Contents.{Contents, next_seen}
-use Rattle.xr_wave.specs.Token.{LineHolds, budget_line, pair_line, settled_line}
+use Rattle.xr_along.specs.Accepted.{AcceptsLine}
+use Rattle.xr_wave.specs.Token.{budget_line, pair_line, settled_line}
 use Rattle.xr_repair.specs.Repaired.{IsObjection, IsOfJob}
 use Rattle.xr_repair.specs.declared.found.Found.{Found}
 use Rattle.xr_repair.specs.declared.found.Found.TheVariants.{Settled, Pair, Budget}
@@ -22,13 +23,13 @@ pub record IsFurther (before after : Contents) : Type 0 where
   pub more : length before.written < length after.written
   pub stops : IsPlain (next_seen after) → ⊥
 
--- What is found of the next place holds there.
+-- What is found of the next place is accepted there.
 abbrev pub IsShown : Contents → Found → Type 0
-IsShown c (Settled token) = LineHolds c (settled_line token)
-IsShown c (Pair token) = LineHolds c (pair_line token)
-IsShown c (Budget token) = LineHolds c (budget_line token)
+IsShown c (Settled token) = AcceptsLine c (settled_line token)
+IsShown c (Pair token) = AcceptsLine c (pair_line token)
+IsShown c (Budget token) = AcceptsLine c (budget_line token)
 
 -- The walk ends: at an objection, or for want of memory.
 abbrev pub RefusedStep : Contents → RepairErr → Type 0
-RefusedStep start (Optimistic told) = IsObjection start told
+RefusedStep start (Optimistic optimistic) = IsObjection start optimistic
 RefusedStep start Memory = Unit {0}

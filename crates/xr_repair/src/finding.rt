@@ -1,7 +1,7 @@
 //! What the next place, a Line place, has under all fillings of its cone's sources.
 
 ghost use Rattle.std.specs.Prelude.{◌<◌, ◌≤◌, IfOk, OnOk, length};
-ghost use Rattle.xr_cnf.specs.Answers.{IsNextCone};
+ghost use Rattle.xr_cone_nodes.specs.Traced.{IsNextCone};
 ghost use Rattle.xr_cone.specs.Known.{IsRightOf};
 ghost use Rattle.xr_cone_nodes.specs.Nodes.{sources_of};
 ghost use Rattle.xr_repair.specs.Step.{IsShown};
@@ -21,13 +21,13 @@ use xr_wave::Wave;
 const ENUMERATED: usize = 12;
 
 /// What is shown of the next place.
+#[tactic(auto, using(crate::proofs::Searching::pair_accepted))]
 pub fn find(
     alloc: Global,
     wave: &Wave<'_>,
     tracer: &mut Tracer,
     answers: &mut Answers,
 ) -> Result<Found, Memory>
-    requires limit { 0 < wave.now.limit }
     requires class { IsLineNext wave.now }
     requires right { IsRightOf wave.now tracer.old }
     ensures shown { IfOk result (IsShown wave.now) }
@@ -43,6 +43,7 @@ pub fn find(
     }
 }
 
+#[tactic(auto, using(crate::proofs::Searching::pair_accepted))]
 fn enumerate(alloc: Global, wave: &Wave<'_>, cone: &Cone) -> Result<Found, Memory>
     requires cone { IsNextCone wave.now cone.now.nodes }
     requires few { length (sources_of cone.now.nodes) ≤ 12 }

@@ -2,13 +2,14 @@
 
 ghost use Rattle.std.specs.Prelude.{◌≡◌, ℕ, ◌<◌, IfOk, IfErr};
 ghost use Rattle.xr_cone.specs.Known.{IsRightOf};
-ghost use Rattle.xr_design.specs.Circuit.{FitsCircuit};
+ghost use Rattle.xr_design.specs.Circuit.{PartsFit};
 ghost use Rattle.xr_design.specs.Handed.{IsHandedIn};
 ghost use Rattle.xr_design.specs.Job.{job_of};
-ghost use Rattle.xr_repair.specs.Repaired.{IsFinished, IsOfJob, IsOnlyOne};
+ghost use Rattle.xr_repair.specs.Repaired.{IsOfJob, IsOnlyOne};
+ghost use Rattle.xr_wave.specs.Contents.{IsFinished, IsLimit, IsWave, nothing_written};
 ghost use Rattle.xr_repair.specs.Step.{IsFurther, IsNextOf, RefusedStep};
+ghost use Rattle.xr_along.specs.Along.{GoesAlong};
 ghost use Rattle.xr_wave.specs.Advance.{IsAdvanced};
-ghost use Rattle.xr_wave.specs.Contents.{IsWave, nothing_written};
 ghost use Rattle.xr_wave.specs.Token.{IsLineNext};
 
 use crate::answers::Answers;
@@ -31,11 +32,13 @@ pub fn repair<'a>(
     replayed: &'a History,
     limit: u32,
 ) -> Result<Wave<'a>, RepairErr>
-    requires fits { FitsCircuit design.now order.now stim.now }
+    requires fits { PartsFit design.now order.now stim.now }
     requires handed { IsHandedIn (job_of design.now order.now stim.now) replayed.now }
-    requires limit { 0 < limit }
+    requires limit { IsLimit limit }
     ensures job { let start = nothing_written design.now order.now stim.now replayed.now limit in
         IfOk result (IsOfJob start) }
+    ensures along { let start = nothing_written design.now order.now stim.now replayed.now limit in
+        IfOk result (GoesAlong start) }
     ensures finished { IfOk result IsFinished }
     ensures sound { IfOk result IsWave }
     ensures only { IfOk result IsOnlyOne }
@@ -49,8 +52,8 @@ pub fn repair<'a>(
 /// Writes every place that is left.
 #[tactic(auto, using(crate::proofs::Objecting::refused_along))]
 fn walk<'a>(alloc: Global, wave: Wave<'a>) -> Result<Wave<'a>, RepairErr>
-    requires limit { 0 < wave.limit }
     ensures job { IfOk result (IsOfJob wave.entry) }
+    ensures along { IfOk result (GoesAlong wave.entry) }
     ensures finished { IfOk result IsFinished }
     ensures sound { IfOk result IsWave }
     ensures only { IfOk result IsOnlyOne }
@@ -69,12 +72,13 @@ fn walk<'a>(alloc: Global, wave: Wave<'a>) -> Result<Wave<'a>, RepairErr>
 /// Writes the places up to the next Line place, whose classes say what they are.
 fn advance<'a>(wave: Wave<'a>) -> Result<Wave<'a>, RepairErr>
     ensures ok { IfOk result (IsAdvanced wave.entry) }
+    ensures along { IfOk result (GoesAlong wave.entry) }
     ensures same { IfOk result (IsOfJob wave.entry) }
     ensures err { IfErr result (RefusedStep wave.entry) }
 {
     match wave.advance_to_line() {
         Ok(wave) => Ok(wave),
-        Err(told) => Err(RepairErr::Optimistic(told)),
+        Err(optimistic) => Err(RepairErr::Optimistic(optimistic)),
     }
 }
 
@@ -85,11 +89,11 @@ fn write_next<'a>(
     tracer: &mut Tracer,
     answers: &mut Answers,
 ) -> Result<Wave<'a>, RepairErr>
-    requires limit { 0 < wave.limit }
     requires sound { IsWave wave }
     requires class { IsLineNext wave }
     requires right { IsRightOf wave tracer.old }
     ensures ok { IfOk result (IsFurther wave.entry) }
+    ensures along { IfOk result (GoesAlong wave.entry) }
     ensures right { IfOk result (λ next. IsRightOf next tracer.new) }
     ensures err { IfErr result (RefusedStep wave.entry) }
 {
@@ -104,11 +108,11 @@ fn decide_next<'a>(
     tracer: &mut Tracer,
     answers: &mut Answers,
 ) -> Result<Wave<'a>, RepairErr>
-    requires limit { 0 < wave.limit }
     requires sound { IsWave wave }
     requires class { IsLineNext wave }
     requires right { IsRightOf wave tracer.old }
     ensures ok { IfOk result (IsNextOf wave.entry) }
+    ensures along { IfOk result (GoesAlong wave.entry) }
     ensures right { IfOk result (λ next. IsRightOf next tracer.new) }
     ensures err { IfErr result (RefusedStep wave.entry) }
 {

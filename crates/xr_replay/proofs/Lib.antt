@@ -8,5 +8,6 @@ pub mod Quiet
 pub mod ReadingLemmas
 pub mod Repeats
 pub mod Replays
+pub mod Seeing
 pub mod Sweeps
 pub mod Writing

@@ -1,20 +1,16 @@
 -- Places by step and net, and by number.
-use Rattle.std.proofs.Common.{◌≡◌, ℕ, ◌+◌, ◌*◌, ◌<◌, ◌≤◌, List, [], ◌∷◌, refl, ap, ◌∙◌, arith, slice_index}
+use Rattle.std.proofs.Common.{◌≡◌, ℕ, ◌+◌, ◌*◌, ◌<◌, ◌≤◌, refl, ap, ◌∙◌, arith, slice_index}
 use Rattle.std.proofs.lemmas.Nat.{div-mul-add, mod-mul-add}
 use Rattle.std.proofs.Math.Nat.{mul-le-mul_right, mul_comm}
-use Rattle.std.specs.List.{AllByRecursion}
-use Rattle.xr_design.specs.declared.design.Pin.{Pin}
-use Rattle.xr_design.specs.declared.design.Pin.TheVariants.{Net, Bit, Dead}
 use Rattle.xr_design.specs.declared.place.Place.{Place}
 use Rattle.xr_design.specs.Fits.{Fits, place_at}
 use Rattle.xr_design.specs.Handed.{HasPlaces, held_of, shown_of}
 use Rattle.xr_design.specs.History.{HistoryView, held_in}
 use Rattle.xr_design.specs.Job.{Job, at}
-use Rattle.xr_design.specs.Order.{position_of, net_pins}
-use Rattle.xr_design.specs.Register.{pins_at}
+use Rattle.xr_design.specs.Order.{position_of}
 use Rattle.xr_design.proofs.OrderLemmas.{net_at_position}
 use Rattle.xr_design.proofs.Rules.{position_in}
-use Rattle.xr_replay.specs.Read.{HasStep, pins_in, shown_in}
+use Rattle.xr_replay.specs.Read.{HasStep, shown_in}
 
 -- The place at a position of a step.
 pub place_at_position : (j : Job) (step position : ℕ) → position < j.width → place_at j (step * j.width + position) ≡ record { step = step; net = slice_index j.order position }
@@ -38,13 +34,6 @@ held_at_net j fits history step net within = ap (held_in history) (place_at_net 
 
 pub shown_at_net : (j : Job) → Fits j → (history : HistoryView) (step net : ℕ) → net < j.width → shown_of j history (at j step net) ≡ shown_in history step net
 shown_at_net j fits history step net within = ap (λ place. (held_in history place).shown) (place_at_net j fits step net within)
-
--- The values at pins, by number and by step and net.
-pub pins_there : (j : Job) → Fits j → (history : HistoryView) (step : ℕ) (pins : List Pin) → AllByRecursion (λ net. net < j.width) (net_pins pins) → pins_in history step pins ≡ pins_at j (shown_of j history) step pins
-pins_there j fits history step [] within = refl
-pins_there j fits history step (Net net ∷ pins) within = rw (shown_at_net j fits history step net within.0, pins_there j fits history step pins within.1) refl
-pins_there j fits history step (Bit bit ∷ pins) within = rw (pins_there j fits history step pins within) refl
-pins_there j fits history step (Dead ∷ pins) within = rw (pins_there j fits history step pins within) refl
 
 -- A history with the places of a job has every place of its steps.
 pub has_step : (j : Job) (history : HistoryView) (step : ℕ) → HasPlaces j history → step < j.moments * j.rounds → HasStep history step

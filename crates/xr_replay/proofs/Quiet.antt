@@ -1,5 +1,5 @@
 -- A net that reads what it read one step before shows and keeps what it did there.
-use Rattle.std.proofs.Common.{◌≡◌, ℕ, ◌-◌, ◌*◌, ◌/◌, ◌<◌, ◌==◌, ◌&&◌, Bool, false, Option, List, [], ◌∷◌, slice_index, unwrap_or, refl, sym, ap, ◌∙◌, arith}
+use Rattle.std.proofs.Common.{◌≡◌, ℕ, ◌-◌, ◌*◌, ◌/◌, ◌<◌, ◌==◌, false, Option, List, [], ◌∷◌, slice_index, unwrap_or, refl, sym, ap, ◌∙◌, arith}
 use Rattle.std.proofs.lemmas.Grind.{common_steps}
 use Rattle.std.specs.List.{AllByRecursion}
 use Rattle.xr_cell.specs.declared.value.Value.{Value}
@@ -10,14 +10,16 @@ use Rattle.xr_design.specs.declared.design.Latching.{Latching}
 use Rattle.xr_design.specs.Fits.{Fits, StandsBefore}
 use Rattle.xr_design.specs.Job.{Job, at, primitive_of}
 use Rattle.xr_design.specs.Order.{arguments_of_driver, net_pins, position_of}
-use Rattle.xr_design.specs.Register.{is_cold, looks_before, old_pins, pins_at, updated}
+use Rattle.xr_design.specs.Register.{old_pins, pins_at, updated}
 use Rattle.xr_design.specs.Replay.{Held, driven, held_at, kept, register_kept, table_of}
 use Rattle.xr_replay.specs.Filled.{replayed}
 use Rattle.xr_replay.specs.Still.{AreStillBefore, IsForcedSame, IsRecordedSame, IsStillAt, LooksSame, Stays}
 use Rattle.xr_replay.specs.Sweep.{Rests}
-use Rattle.xr_replay.specs.Read.{kept_by}
+use Rattle.xr_design.specs.Replay.{kept_by}
+use Rattle.xr_design.proofs.TwoBack.{old_later}
 use Rattle.xr_replay.proofs.Places.{net_there}
-use Rattle.xr_replay.proofs.Replays.{kept_driven, pins_same, replayed_is}
+use Rattle.xr_replay.proofs.Replays.{pins_same, replayed_is}
+use Rattle.xr_design.proofs.DrivenLemmas.{kept_driven}
 use Rattle.xr_replay.proofs.Writing.{net_at, net_within, place_within, step_there}
 use Rattle.xr_design.proofs.Rules.{position_in}
 
@@ -45,14 +47,10 @@ has j fits forced step net less within =
     replayed_is j fits forced (at j step net) (place_within j step position less low)
     ∙ rw (steps, nets, kept_driven j (replayed j forced) step net (j.driver net)) refl
 
-second : (step : ℕ) (cold : Bool) → 1 < step → ((step == 1) && cold) ≡ false
-second step cold later = grind (arith, common_steps)
-
 -- A register that saw no change keeps what it kept.
 later_kept : (j : Job) (values : ℕ → Value) (kept : Value) (step : ℕ) (latching : Latching) → 1 < step → pins_at j values (step - 2) latching.pins ≡ pins_at j values (step - 1) latching.pins → updated j values kept step latching ≡ kept
 later_kept j values kept step latching later same =
-    let late : looks_before j step ≡ false = second step (is_cold j.start_rule) later in
-    let old : old_pins j values step latching.pins ≡ pins_at j values (step - 1) latching.pins = rw late same in
+    let old : old_pins j values step latching.pins ≡ pins_at j values (step - 1) latching.pins = old_later j values step latching.pins later ∙ same in
     rw old (next_idle (primitive_of j.udps latching.udp) latching.clocks (pins_at j values (step - 1) latching.pins) kept)
 
 not_first : (step : ℕ) → 0 < step → (step == 0) ≡ false

@@ -17,7 +17,7 @@ use Rattle.xr_design.specs.Replay.{Held, blank, driven, kept, held_at, replay_un
 use Rattle.xr_design.proofs.Prefix.{prefix}
 use Rattle.xr_design.proofs.Rules.{spot, position_in, back_one, old_below, new_below, agree_on, updated_reads}
 use Rattle.xr_replay.specs.Filled.{replayed}
-use Rattle.xr_replay.specs.Read.{kept_by}
+use Rattle.xr_design.proofs.DrivenLemmas.{kept_driven}
 
 -- The replay up to n has n places.
 replay_length : (j : Job) (forced : ℕ → Option Value) (n : ℕ) → length (replay_under j forced n) ≡ n
@@ -82,15 +82,6 @@ driven_local j fits f g step p net within (Copy argument) driver before agree = 
 driven_local j fits f g step p net within (Cell table pins) driver before agree =
     ap (table_of j.udps table) (pins_same (λ n. (f (at j step n)).shown) (λ n. (g (at j step n)).shown) pins (all_by (StandsBefore j p) _ (net_pins pins) (λ n stands. ap (λ (held : Held). held.shown) (agree (at j step n) (let less = stands.before in omega (arith, less)))) before))
 driven_local j fits f g step p net within (Register latching) driver before agree = register_local j fits f g step p net within latching driver agree
-
--- What a driver keeps is what it gives, where it is a register.
-pub kept_driven : (j : Job) (f : ℕ → Held) (step net : ℕ) (driver : Driver) → kept j f step net driver ≡ kept_by driver (driven j f step net driver)
-kept_driven j f step net Input = refl
-kept_driven j f step net Undriven = refl
-kept_driven j f step net (Constant bit) = refl
-kept_driven j f step net (Copy argument) = refl
-kept_driven j f step net (Cell table pins) = refl
-kept_driven j f step net (Register latching) = refl
 
 -- So what a place has depends on the places before alone.
 pub held_local : (j : Job) → Fits j → (forced : ℕ → Option Value) (f g : ℕ → Held) (place : ℕ) → place < places_of j → AgreeBelow f g place → held_at j forced f place ≡ held_at j forced g place

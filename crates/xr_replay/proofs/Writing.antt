@@ -12,9 +12,10 @@ use Rattle.xr_design.specs.Replay.{Held, driven, held_at}
 use Rattle.xr_design.proofs.Numbers.{is_place_at}
 use Rattle.xr_design.proofs.Rules.{spot}
 use Rattle.xr_replay.specs.Filled.{IsFilled, replayed}
-use Rattle.xr_replay.specs.Read.{kept_by}
+use Rattle.xr_design.specs.Replay.{kept_by}
 use Rattle.xr_replay.proofs.Places.{has_step}
-use Rattle.xr_replay.proofs.Replays.{kept_driven, held_local, replayed_is}
+use Rattle.xr_replay.proofs.Replays.{held_local, replayed_is}
+use Rattle.xr_design.proofs.DrivenLemmas.{kept_driven}
 
 -- where a place stands in a history
 abbrev index_of : Job → ℕ → ℕ

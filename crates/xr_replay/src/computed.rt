@@ -2,13 +2,13 @@
 
 ghost use Rattle.std.specs.Prelude.{◌≡◌, ◌+◌, ◌*◌, ◌<◌, unwrap_or};
 ghost use Rattle.xr_design.specs.Circuit.{job_in, CircuitFits};
+ghost use Rattle.xr_design.specs.Replay.{kept_by};
 ghost use Rattle.xr_replay.specs.Forced.{HasForced};
 ghost use Rattle.xr_replay.specs.Going.{FilledBefore, FilledTo, FilledWith, KeepsOthers};
-ghost use Rattle.xr_replay.specs.Read.{kept_by};
 
-use crate::driven::{driven_value, kept_value};
+use crate::driven::given_value;
 use xr_cell::Value;
-use xr_design::{Circuit, Driver, Event, History, Place, driver_at, width_of};
+use xr_design::{Circuit, Driver, Event, History, Place, driver_at, kept_value, width_of};
 
 /// Every place of a step, in the order of the nets. Takes no memory.
 pub fn fill_step(
@@ -49,7 +49,7 @@ pub fn compute_place(
 {
     let net = circuit.order.net(position);
     let driver = driver_at(circuit, net as usize);
-    let value = driven_value(circuit, history, step, net, driver);
+    let value = given_value(circuit, history, step, position, net, driver);
     let (shown, kept) = place_values(forced[net as usize], driver, value);
     history.set(Place { step, net }, shown, kept);
 }

@@ -1,7 +1,7 @@
 //! The comparison of a recording with the replay: the first fault by moment.
 
 ghost use Rattle.std.specs.Prelude.{◌≡◌, ◌+◌, ◌*◌, ◌<◌, ◌↔◌, All, IfErr, IfOk, IsOk, length};
-ghost use Rattle.xr_design.specs.Circuit.{FitsCircuit};
+ghost use Rattle.xr_design.specs.Circuit.{PartsFit};
 ghost use Rattle.xr_design.specs.Handed.{IsReplay};
 ghost use Rattle.xr_design.specs.Job.{job_of};
 ghost use Rattle.xr_match.specs.Binding.{FitsBinding};
@@ -27,7 +27,7 @@ pub fn compare(
     recording: &Recording,
     bound: &Binding,
 ) -> Result<(), Differ>
-    requires fits { FitsCircuit design.now order.now stim.now }
+    requires fits { PartsFit design.now order.now stim.now }
     requires history { IsReplay (job_of design.now order.now stim.now) history.now }
     requires times { recording.now.times ≡ stim.now.times }
     requires bound { FitsBinding design.now bound.now }

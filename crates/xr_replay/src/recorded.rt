@@ -7,7 +7,7 @@ ghost use Rattle.xr_replay.specs.Fault.{Agrees, IsBitFault, IsDisagreementIn, Is
 ghost use Rattle.xr_replay.specs.Sides.{AgreesBeside, AreSides, BitAgreesBeside, job_beside};
 
 use crate::differ::Differ;
-use crate::pins::net_value;
+use crate::held::net_value;
 use crate::sides::{Sides, last_step_of};
 use crate::values::is_same;
 use xr_match::{Binding, Bound};

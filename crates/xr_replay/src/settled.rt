@@ -6,10 +6,9 @@ ghost use Rattle.xr_replay.specs.Fault.{IsUnsettledAt, IsUnsettledIn};
 ghost use Rattle.xr_replay.specs.Sides.{AreSides, SettlesIn, job_beside};
 
 use crate::differ::Differ;
-use crate::pins::net_kept;
-use crate::register::updated_value;
+use crate::held::net_kept;
 use crate::sides::{Sides, last_step_of};
-use xr_design::{Driver, Latching, driver_at};
+use xr_design::{Driver, Latching, Shown, driver_at, updated_value};
 
 /// Whether each register is settled at the last step of a moment, else the first in the order of the nets that isn't.
 /// Takes no memory.
@@ -63,7 +62,11 @@ fn check_register(
 {
     let step = last_step_of(sides, moment);
     let kept = net_kept(&sides.circuit, sides.history, step, net);
-    let next = updated_value(&sides.circuit, sides.history, step + 1, latching, kept);
+    let shown = Shown {
+        circuit: sides.circuit,
+        history: sides.history,
+    };
+    let next = updated_value(&sides.circuit, &shown, kept, step as usize + 1, latching);
     if next == kept {
         return Ok(());
     }

@@ -4,7 +4,7 @@
 //! the places are computed that may differ: their number, and a copy of a byte a place, is what it costs.
 
 ghost use Rattle.std.specs.Prelude.{◌≡◌, ◌+◌, ◌-◌, ◌*◌, ◌<◌, ◌≤◌, IfOk, length};
-ghost use Rattle.xr_design.specs.Circuit.{job_in, CircuitFits, FitsCircuit};
+ghost use Rattle.xr_design.specs.Circuit.{job_in, CircuitFits, PartsFit};
 ghost use Rattle.xr_design.specs.Force.{AreEvents, forced_by};
 ghost use Rattle.xr_design.specs.Handed.{HasPlaces, IsReplayUnder};
 ghost use Rattle.xr_design.specs.Job.{job_of};
@@ -32,7 +32,7 @@ pub fn replay(
     stim: &Stim,
     forces: &Forces,
 ) -> Result<History, Memory>
-    requires fits { FitsCircuit design.now order.now stim.now }
+    requires fits { PartsFit design.now order.now stim.now }
     requires forces { AreEvents (job_of design.now order.now stim.now) forces.now }
     ensures { IfOk result (IsReplayOf design.now order.now stim.now forces.now) }
 {

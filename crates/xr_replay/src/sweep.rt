@@ -13,7 +13,7 @@ ghost use Rattle.xr_replay_due.specs.Readers.{IsTable, readers_of};
 
 use crate::computed::compute_place;
 use crate::fans::Fans;
-use crate::pins::net_value;
+use crate::held::net_value;
 use crate::values::is_same;
 use crate::waiting::Waiting;
 use xr_cell::Value;

@@ -1,4 +1,3 @@
 -- Lemmas of the report.
 mod Counting
-mod Growing
 mod Reach

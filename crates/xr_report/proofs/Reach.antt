@@ -9,8 +9,8 @@ use Rattle.xr_design.specs.declared.place.Place.{Place}
 use Rattle.xr_design.proofs.Handed.{handed_places, has_place, number_within}
 use Rattle.xr_design.proofs.Numbers.{is_place_at, number_of_place_at}
 use Rattle.xr_design.proofs.Reaching.{step_small}
-use Rattle.xr_report.specs.Finished.{HasMoments, IsFinished}
-use Rattle.xr_wave.specs.Contents.{Contents, IsWave, IsWritten, job}
+use Rattle.xr_report.specs.Finished.{HasMoments}
+use Rattle.xr_wave.specs.Contents.{Contents, IsFinished, IsWave, IsWritten, job}
 
 -- A place is written, and the history has it.
 pub record IsThere (c : Contents) (place : Place) : Type 0 where

@@ -1,5 +1,5 @@
 -- The lines of a report that tell what became of the recorded bits that are x or z.
-use Rattle.std.specs.Prelude.{ℕ, ◌+◌, List, [], ◌∷◌, ◌++◌, codes, decimal, if◌then◌else◌}
+use Rattle.std.specs.Prelude.{ℕ, List, [], ◌∷◌, ◌++◌, codes, decimal, length, slice_index, if◌then◌else◌}
 use Rattle.std.specs.List.{flat_map}
 use Rattle.xr_cell.specs.declared.value.Value.{Value}
 use Rattle.xr_cell.specs.Value.{is_unknown, letter_of}
@@ -10,8 +10,9 @@ use Rattle.xr_design.specs.Settled.{last_step}
 use Rattle.xr_design.specs.declared.place.Place.{Place}
 use Rattle.xr_design.specs.declared.waveform.Mark.{Mark}
 use Rattle.xr_design.specs.declared.waveform.Mark.TheVariants.{Certain, Unknown, Undecided}
+use Rattle.xr_match.specs.BoundBits.{bound_bits}
 use Rattle.xr_match.specs.declared.binding.Binding.{Binding}
-use Rattle.xr_match.specs.declared.binding.Bound.{Bound}
+use Rattle.xr_match.specs.declared.bound_bits.BoundBit.{BoundBit}
 use Rattle.xr_report.specs.Lines.{line}
 use Rattle.xr_wave.specs.Contents.{Contents, job, written_of}
 
@@ -39,23 +40,11 @@ told_line c time place =
 abbrev pub bit_line : Contents → ℕ → Place → List ℕ
 bit_line c time place = if is_unknown (recorded_in c place) then told_line c time place else []
 
--- The line of a net at a step.
-abbrev pub net_line : Contents → ℕ → ℕ → ℕ → List ℕ
-net_line c step time net = bit_line c time (record { step = step; net = net })
+-- The line of a bound bit, at the last round of its moment.
+abbrev pub bound_line : Contents → BoundBit → List ℕ
+bound_line c bit =
+    bit_line c (slice_index c.stim.times bit.moment) (record { step = last_step (job c) bit.moment; net = bit.net })
 
--- Those of a variable's bits, from the left.
-abbrev pub variable_lines : Contents → ℕ → ℕ → Bound → List ℕ
-variable_lines c step time b = flat_map (net_line c step time) b.bits
-
--- Those of the variables at a moment's last step.
-abbrev pub moment_lines : Contents → List Bound → ℕ → ℕ → List ℕ
-moment_lines c bound moment time = flat_map (variable_lines c (last_step (job c) moment) time) bound
-
--- Those of the moments from one on.
-abbrev pub lines_from : Contents → List Bound → ℕ → List ℕ → List ℕ
-lines_from c bound moment [] = []
-lines_from c bound moment (time ∷ times) = moment_lines c bound moment time ++ lines_from c bound (moment + 1) times
-
--- The lines of all moments.
+-- The lines of all bound bits, in their order.
 unfoldable pub bit_lines : Contents → Binding → List ℕ
-bit_lines c binding = lines_from c binding.bound 0 c.stim.times
+bit_lines c binding = flat_map (bound_line c) (bound_bits (length c.stim.times) binding.bound)

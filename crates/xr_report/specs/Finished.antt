@@ -1,12 +1,8 @@
--- Waves of which every place is written.
-use Rattle.std.specs.Prelude.{◌≡◌, ℕ, ◌<◌, length}
+-- Steps of which a wave has every place.
+use Rattle.std.specs.Prelude.{ℕ, ◌<◌, length}
 use Rattle.xr_design.specs.History.{HasPlace}
-use Rattle.xr_design.specs.Job.{places_of}
 use Rattle.xr_design.specs.Settled.{last_step}
 use Rattle.xr_wave.specs.Contents.{Contents, IsWritten, job}
-
-abbrev pub IsFinished : Contents → Type 0
-IsFinished c = length c.written ≡ places_of (job c)
 
 -- Each net's place at a step is written, and the history has it.
 pub record HasStep (c : Contents) (step : ℕ) : Type 0 where

@@ -1,17 +1,17 @@
 //! The lines of the recorded bits that are x or z.
 
-ghost use Rattle.std.specs.Prelude.{◌≡◌, ◌+◌, ◌-◌, ◌*◌, ◌<◌, ◌++◌, All, OnOk, IfOk, length};
-ghost use Rattle.std.specs.List.{flat_map};
-ghost use Rattle.xr_match.specs.Binding.{FitsBinding, FitsBound};
+ghost use Rattle.std.specs.Prelude.{◌≡◌, ◌+◌, ◌-◌, ◌*◌, ◌<◌, ◌++◌, OnOk, IfOk, length};
+ghost use Rattle.xr_match.specs.Binding.{FitsBinding};
+ghost use Rattle.xr_match.specs.BoundBits.{IsBitOf};
+ghost use Rattle.xr_wave.specs.Contents.{IsFinished};
 ghost use Rattle.xr_report.specs.Bits as spec;
-ghost use Rattle.xr_report.specs.Finished.{HasMoments, HasStep, IsFinished};
+ghost use Rattle.xr_report.specs.Finished.{HasMoments, HasStep};
 
-use crate::puts::{put, put_number};
 use std::alloc::Global;
-use xr_base::Memory;
+use xr_base::{Memory, put, put_number};
 use xr_cell::Value;
 use xr_design::{Mark, Place, Stim};
-use xr_match::{Binding, Bound};
+use xr_match::{Binding, BoundBit, BoundBits};
 use xr_wave::Wave;
 
 /// The lines of a report, moment by moment: one for each bit of a bound variable whose recorded value is x or z, with
@@ -27,27 +27,30 @@ pub fn bit_lines(alloc: Global, wave: &Wave<'_>, bound: &Binding) -> Result<Vec<
     // With it comes the fact that the history has the places of the wave.
     let _count = wave.count();
     let mut text = Vec::new(alloc);
-    put_moments(alloc, &mut text, wave, bound.bound.as_slice())?;
+    let mut bits = BoundBits::new(wave.stim(), bound.bound.as_slice());
+    'bits: while let Some(bit) = bits.next() {
+        put_bit(alloc, &mut text, wave, bit)?;
+    }
     Ok(text)
 }
 
-fn put_moments(
-    alloc: Global,
-    text: &mut Vec<u8>,
-    wave: &Wave<'_>,
-    bound: &[Bound],
-) -> Result<(), Memory>
+fn put_bit(alloc: Global, text: &mut Vec<u8>, wave: &Wave<'_>, bit: BoundBit) -> Result<(), Memory>
     requires moments { HasMoments wave.now }
-    requires bits { All (FitsBound wave.now.design) bound.now }
-    ensures { OnOk result
-        (text.new.items ≡ text.old.items ++ spec.lines_from wave.now bound.now 0 wave.now.stim.times) }
+    requires bit { IsBitOf wave.now.design (length wave.now.stim.times) bit }
+    ensures { OnOk result (text.new.items ≡ text.old.items ++ spec.bound_line wave.now bit) }
 {
     let stim = wave.stim();
-    'moments: for (moment, time) in stim.times.as_slice().iter().enumerate() {
-        let step = last_step(stim, moment as u32);
-        put_moment(alloc, text, wave, bound, step, *time)?;
-    }
-    Ok(())
+    let place = Place {
+        step: last_step(stim, bit.moment),
+        net: bit.net,
+    };
+    put_place(
+        alloc,
+        text,
+        wave,
+        place,
+        stim.times.as_slice()[bit.moment as usize],
+    )
 }
 
 /// The step of a moment's last round.
@@ -58,45 +61,7 @@ fn last_step(stim: &Stim, moment: u32) -> u32
     moment * stim.rounds + (stim.rounds - 1)
 }
 
-fn put_moment(
-    alloc: Global,
-    text: &mut Vec<u8>,
-    wave: &Wave<'_>,
-    bound: &[Bound],
-    step: u32,
-    time: u64,
-) -> Result<(), Memory>
-    requires step { HasStep wave.now step }
-    requires bits { All (FitsBound wave.now.design) bound.now }
-    ensures { OnOk result
-        (text.new.items ≡ text.old.items ++ flat_map (spec.variable_lines wave.now step time) bound.now) }
-{
-    'variables: for variable in bound {
-        put_variable(alloc, text, wave, variable.bits.as_slice(), step, time)?;
-    }
-    Ok(())
-}
-
-fn put_variable(
-    alloc: Global,
-    text: &mut Vec<u8>,
-    wave: &Wave<'_>,
-    bits: &[u32],
-    step: u32,
-    time: u64,
-) -> Result<(), Memory>
-    requires step { HasStep wave.now step }
-    requires bits { All (λ net. net < length wave.now.design.nets) bits.now }
-    ensures { OnOk result
-        (text.new.items ≡ text.old.items ++ flat_map (spec.net_line wave.now step time) bits.now) }
-{
-    'bits: for net in bits {
-        put_bit(alloc, text, wave, Place { step, net: *net }, time)?;
-    }
-    Ok(())
-}
-
-fn put_bit(
+fn put_place(
     alloc: Global,
     text: &mut Vec<u8>,
     wave: &Wave<'_>,

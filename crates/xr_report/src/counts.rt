@@ -1,13 +1,10 @@
 //! How many places of a wave have which end.
 
 ghost use Rattle.std.specs.Prelude.{◌≡◌, ◌<◌, ◌^◌, length};
-ghost use Rattle.xr_design.specs.Circuit.{job_in, CircuitFits};
-ghost use Rattle.xr_design.specs.Fits.{place_at};
-ghost use Rattle.xr_design.specs.Job.{places_of};
 ghost use Rattle.xr_report.specs.Counts.{counts_of, total, with_place};
 
 use xr_cell::Value;
-use xr_design::{Circuit, Mark, Place, spot_of};
+use xr_design::Mark;
 use xr_wave::Wave;
 
 /// How many written places have which end.
@@ -58,21 +55,8 @@ pub fn counts_of(wave: &Wave<'_>) -> Counts
         undecided: 0,
     };
     'places: for number in 0..count {
-        let place = place_of(&circuit, number);
+        let place = circuit.place_of(number);
         counts.add(wave.mark(place), history.shown(place));
     }
     counts
-}
-
-/// The place of a number.
-fn place_of(circuit: &Circuit<'_>, number: usize) -> Place
-    requires fits { CircuitFits circuit.now }
-    requires within { number < places_of (job_in circuit.now) }
-    ensures { result ≡ place_at (job_in circuit.now) number }
-{
-    let spot = spot_of(circuit, number);
-    Place {
-        step: spot.step as u32,
-        net: spot.net as u32,
-    }
 }

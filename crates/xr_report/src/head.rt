@@ -1,13 +1,13 @@
 //! The first lines of a report.
 
 ghost use Rattle.std.specs.Prelude.{◌≡◌, ◌++◌, OnOk, IfOk, length};
-ghost use Rattle.xr_report.specs.Finished.{IsFinished};
+ghost use Rattle.xr_wave.specs.Contents.{IsFinished};
 ghost use Rattle.xr_report.specs.Head as spec;
 
 use crate::counts::{Counts, counts_of};
-use crate::puts::{put, put_count};
+use crate::puts::put_count;
 use std::alloc::Global;
-use xr_base::Memory;
+use xr_base::{Memory, put};
 use xr_wave::Wave;
 
 /// The first three lines of a report: how many places and moments there are, and how many rounds a moment has; how many

@@ -13,7 +13,7 @@ use Rattle.xr_proof.specs.Log.{AreSameSet, HasNoComplements, IsFresh}
 use Rattle.xr_proof.specs.Status.{literal_at}
 use Rattle.xr_proof.proofs.Codes.{neg-neg, neg_own, literal_cases}
 use Rattle.xr_proof.proofs.Deciding.{follows_if_none}
-use Rattle.xr_proof.proofs.Laws.{all_from, none_resists, wider}
+use Rattle.xr_proof.proofs.ClosedSets.{all_from, none_resists, wider}
 use Rattle.xr_sat.specs.Learn.{IsSparing, AreNeeded, IsExtended, IsAsserting, last_of, front_of}
 use Rattle.xr_sat.specs.Reach.{IsFixed, IsMet}
 use Rattle.xr_sat.proofs.Reaching.{more_taken, left_false}

@@ -19,7 +19,7 @@ use Rattle.xr_proof.specs.declared.trail.Trail.{Trail}
 use Rattle.xr_proof.specs.declared.watch.Watch.{Watch}
 use Rattle.xr_proof.proofs.Bases.{follows_contrary, ready_kept}
 use Rattle.xr_proof.proofs.Deciding.{find_or_none}
-use Rattle.xr_proof.proofs.Laws.{all_from}
+use Rattle.xr_proof.proofs.ClosedSets.{all_from}
 use Rattle.xr_sat.specs.Decide.{AreValued}
 
 pub before_whole : (query log : List (List ℤ)) → before query log (length log) ≡ query ++ log

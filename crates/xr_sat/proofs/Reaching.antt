@@ -17,7 +17,7 @@ use Rattle.xr_proof.specs.declared.watch.Watch.{Watch}
 use Rattle.xr_proof.proofs.Codes.{neg-neg, marked_same, marked_more, marked_cases}
 use Rattle.xr_proof.proofs.Guards.{guarded_map}
 use Rattle.xr_proof.proofs.Assuming.{in_whole}
-use Rattle.xr_proof.proofs.Laws.{all_from, wider}
+use Rattle.xr_proof.proofs.ClosedSets.{all_from, wider}
 use Rattle.xr_proof.proofs.Runs.{growth_none}
 use Rattle.xr_proof.proofs.Trails.{over_none}
 use Rattle.xr_sat.specs.Reach.{IsSettled, IsFrom}

@@ -1,11 +1,10 @@
 //! The search: rounds until a formula is decided or the limit is reached.
 
-ghost use Rattle.std.specs.Prelude.{◌≡◌, ◌≤◌, ◌<◌, ◌+◌, ◌*◌, ◌++◌, ◌∷◌, ◌≢◌, [], true, false, length, IfOk};
+ghost use Rattle.std.specs.Prelude.{◌≡◌, ◌<◌, ◌+◌, ◌*◌, ◌++◌, ◌∷◌, ◌≢◌, [], true, false, length, IfOk};
 ghost use Rattle.std.specs.List.{All};
 ghost use Rattle.xr_proof.specs.Assignment.{HasNoZero};
 ghost use Rattle.xr_proof.specs.Code.{HaveRoom};
 ghost use Rattle.xr_proof.specs.Lines.{IsReady};
-ghost use Rattle.xr_proof.specs.Log.{Fit};
 ghost use Rattle.xr_sat.specs.Decide.{AreValues};
 ghost use Rattle.xr_sat.specs.Outcome.{IsOutcome};
 
@@ -19,12 +18,10 @@ use xr_proof::trail::Trail;
 use xr_proof::watch::Watch;
 use xr_proof::{Clause, Cnf, Exhausted, Log, Model, Refuted};
 
-/// A model of the formula, or a log that refutes it, or a fresh log of `limit` clauses, whichever comes first. A log whose
-/// `limit`-th clause is empty refutes. Takes about 100 bytes for each variable, 24 for each clause of the formula, and for each of the
-/// log 48 and four for each literal, in steps that double.
+/// A model of the formula, or a log that refutes it, or a fresh log of `limit` clauses, whichever comes first. A log
+/// whose `limit`-th clause is empty refutes. Takes about 100 bytes for each variable, 24 for each clause of the
+/// formula, and for each of the log 48 and four for each literal, in steps that double.
 pub fn solve(alloc: Global, cnf: &Cnf, limit: u32) -> Result<Outcome, Memory>
-    requires vars { cnf.now.vars ≤ 2147483647 }
-    requires fit { Fit cnf.now.vars cnf.now.clauses }
     requires some { 0 < limit }
     ensures outcome { IfOk result (IsOutcome cnf.now.clauses cnf.now.vars limit) }
 {
@@ -53,7 +50,6 @@ fn search(
     mut refuted: bool,
 ) -> Result<Outcome, Memory>
     requires query { query.now ≡ cnf.now.clauses }
-    requires vars { cnf.now.vars ≤ 2147483647 }
     requires room { HaveRoom (length trail.old.marks.items) query.now }
     requires no_zero { refuted ≡ false → All HasNoZero query.now }
     requires some { 0 < limit }
@@ -91,8 +87,9 @@ fn search(
     }
 }
 
-/// The log with the empty clause behind it.
+/// The log with the empty clause after it.
 fn close(alloc: Global, mut log: Vec<Clause>) -> Result<Log, AllocError>
+    requires { All HasNoZero log.items }
     ensures { IfOk result (λ closed. closed ≡ log.items ++ [] ∷ []) }
 {
     log.push(Clause::from_vec(Vec::new(alloc)))?;

@@ -39,7 +39,7 @@ opened_not a b h = cc
 pub same_trans : (a b c : View) → SameCounts a b → SameCounts b c → SameCounts a c
 same_trans a b c ab bc = record { reads = λ n. bc.reads n ∙ ab.reads n; writes = λ n. bc.writes n ∙ ab.writes n }
 
--- A count that rose behind one that didn't fall rose.
+-- A count that rose after one that didn't fall rose.
 pub rose_behind : (old mid new : ℕ) → old ≤ mid → Rose mid new → Rose old new
 rose_behind old mid new later rose = record { up = omega (arith, later, rose.up); end = omega (arith, later, rose.end) }
 

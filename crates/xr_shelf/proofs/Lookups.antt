@@ -65,7 +65,7 @@ keeps files m n name held after view is updates same =
     let was = finds files m name (Some held) view is in
     sets_same name after.items (files_of files) (files_of (map file_of n.entries)) (sets files m n name after view updates) (sym was ∙ ap (λ (l : List ℕ). Some l) (sym same))
 
--- A value that grew is the file with more bytes behind it.
+-- A value that grew is the file with more bytes after it.
 pub grows : (files : List File) (m n : Stored) (name more : List ℕ) (held after : Vec ℕ Global) → map file_of m.entries ≡ files → Some held ≡ get_by_text m name → UpdatesBy string_cmp (text_cmp name) m n (Some after) → after.items ≡ held.items ++ more → SetsFile name (bytes_of (files_of files name) ++ more) (files_of files) (files_of (map file_of n.entries))
 grows files m n name more held after view is updates grown =
     let set = sets files m n name after view updates in

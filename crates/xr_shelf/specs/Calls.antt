@@ -9,8 +9,8 @@ use Rattle.xr_shelf.specs.declared.fault.WriteErr.{WriteErr}
 use Rattle.xr_shelf.specs.declared.fault.WriteErr.TheVariants.{Fault as WriteFault}
 
 -- A whole file read: its text, or a fault with a risen count of that very name. Where any count rose in the call, the
--- answer is Fault; so TooLong comes before any fault. Where a file is still in hand after a fault, the file's bytes up to
--- there were within the limit.
+-- answer is Fault; so TooLong comes before any fault. Where a file is still in hand after a fault, the file's bytes up
+-- to there were within the limit.
 pub record ReadAll (told : Bool) (name : List ℕ) (limit : ℕ) (old new : View) (result : Result (Vec ℕ Global) ReadErr) : Type 0 where
   pub later : Later old new
   pub files : new.files ≡ old.files
@@ -46,8 +46,8 @@ abbrev pub GainedLess : List ℕ → SinkView → SinkView → Type 0
 GainedLess text old new =
     (gained : List ℕ) × (new.bytes ≡ old.bytes ++ gained) × Prefix gained text × (length gained < length text)
 
--- A whole text printed: the sink gained all of it, or less where the answer is an error. Where the count rose in the call,
--- the answer is Fault.
+-- A whole text printed: the sink gained all of it, or less where the answer is an error. Where the count rose in the
+-- call, the answer is Fault.
 pub record PrintAll (told : Bool) (text : List ℕ) (old new : SinkView) (result : Result Unit WriteErr) : Type 0 where
   pub later : old.faults ≤ new.faults
   pub whole : OnOk result (IsTrue told → new.bytes ≡ old.bytes ++ text)

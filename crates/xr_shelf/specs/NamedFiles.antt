@@ -21,7 +21,7 @@ pub record SetsFile (name bytes : List ℕ) (old new : Files) : Type 0 where
   pub here : new name ≡ Some bytes
   pub others : OthersKept name old new
 
--- The map is the old one with these bytes behind those of this name.
+-- The map is the old one with these bytes after those of this name.
 abbrev pub AppendsFile : List ℕ → List ℕ → Files → Files → Type 0
 AppendsFile name bytes old new = SetsFile name (bytes_of (old name) ++ bytes) old new
 

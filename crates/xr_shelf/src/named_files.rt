@@ -55,7 +55,7 @@ impl NamedFiles {
         Ok(())
     }
 
-    /// Adds bytes behind those of a file, which it makes where there is none.
+    /// Adds bytes after those of a file, which it makes where there is none.
     pub fn append(&mut self, name: &str, bytes: &[u8]) -> Result<(), Memory>
         ensures ok { OnOk result (AppendsFile name.now bytes.now (files_of self.old) (files_of self.new)) }
         ensures err { OnErr result (SameFiles (files_of self.old) (files_of self.new)) }

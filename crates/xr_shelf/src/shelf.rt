@@ -12,10 +12,11 @@ const BUFFER_BYTES: usize = 65_536;
 
 /// Named files, one of which may be in hand, opened or created.
 ///
-/// A fault at one name tells nothing of another name. A failed call leaves every file as it was, but a failed
+/// A count of faults rises only in a call that fails, so where one rose, some call failed. A fault at one name says
+/// nothing of another name. A failed call leaves every file as it was, but a failed
 /// `create_file` may have emptied the file that it names.
 pub trait Shelf {
-    /// Whether what the files hold is told. No call changes it.
+    /// Whether what the files hold is reported. No call changes it.
     ghost told: { Bool };
 
     /// What is seen of it.
@@ -33,7 +34,7 @@ pub trait Shelf {
     fn create_file(&mut self, name: &str) -> Result<(), IoErr>
         ensures { CreateStep told name.now (view self.old) (view self.new) result };
 
-    /// Writes the first of the bytes behind the created file, and says how many.
+    /// Writes the first of the bytes after the created file, and says how many.
     fn write(&mut self, bytes: &[u8]) -> Result<usize, IoErr>
         requires { (name : List ℕ) × ((view self.old).hand ≡ Created name) }
         ensures { Writes told (view self.old) (view self.new) bytes.now result };
@@ -43,7 +44,7 @@ pub trait Shelf {
         ensures { CloseStep (view self.old) (view self.new) result };
 }
 
-/// All the bytes of a file, of which there are at most `limit`. Takes a buffer of 65,536 bytes beside them.
+/// All the bytes of a file, of which there are at most `limit`. Takes a buffer of 65,536 bytes besides.
 ///
 /// After an `Err` the file may still be in hand; the next file opened or created takes its place.
 pub fn read_all<S: Shelf>(

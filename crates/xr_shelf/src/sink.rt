@@ -6,9 +6,9 @@ ghost use Rattle.xr_shelf.specs.Calls.{PrintAll};
 
 use crate::fault::{IoErr, WriteErr};
 
-/// Where a program prints.
+/// Where a program prints. Its count of faults rises only in a call that fails.
 pub trait Sink {
-    /// Whether the bytes are told. No call changes it.
+    /// Whether the bytes are reported. No call changes it.
     ghost told: { Bool };
 
     /// What is seen of it.

@@ -66,7 +66,7 @@ skips_piece (Skips.nettype n w) = further (joined (name_piece n) (wire_piece w))
 
 -- ---- the bytes of a token
 
--- a letter or `_` with letters, digits, `_` and `$` behind it; a backslash and printable bytes
+-- a letter or `_` with letters, digits, `_` and `$` after it; a backslash and printable bytes
 abbrev pub is_spelled : Kind → List ℕ → Bool
 is_spelled kind.Name bytes = begins is_letter bytes && list_all is_name_byte bytes
 is_spelled kind.Escaped [] = true

@@ -1,11 +1,11 @@
--- How far each rule goes: the place and the bytes behind it add up, and the place is further on.
+-- How far each rule goes: the place and the bytes after it add up, and the place is further on.
 use Rattle.std.proofs.Common.{◌≡◌, ℕ, ◌+◌, ◌-◌, ◌<◌, ◌≤◌, Bool, List, length, take, refl, ap, ◌∙◌, arith, length-append}
 use Rattle.std.proofs.Math.Seq.{take-append_seam}
 use Rattle.xr_text.specs.declared.token.Token.{Token}
 use Rattle.xr_text.specs.Ends.{Longest, Closes, Unquotes, IsName}
 use Rattle.xr_text.specs.Tokens.{Blank, Wire, Skips, Reads}
 
--- the second place is behind the first, and by as many bytes as are gone
+-- the second place is after the first, and by as many bytes as are gone
 pub record Goes (at : ℕ) (bs : List ℕ) (to : ℕ) (rest : List ℕ) : Type 0 where
   pub fits : to + length rest ≡ at + length bs
   pub onward : at ≤ to

@@ -56,7 +56,7 @@ left_refuse at bs f e = left_by at bs (refuse f) e
 pub left_blank : (at : ℕ) (bs : List ℕ) (r : Rest) → blank at bs ≡ Some r → left at bs ≡ left r.at r.bytes
 left_blank at bs r e = left_skip at bs r (blank_step at bs r e)
 
--- the slice behind the first byte
+-- the slice after the first byte
 behind_first : (b : ℕ) (bs : List ℕ) → take (length (b ∷ bs) - 1) (drop 1 (b ∷ bs)) ≡ bs
 behind_first b bs = let e : length (b ∷ bs) - 1 ≡ length bs = omega arith in rw e (take_all (length bs) bs (omega arith))
 
@@ -131,7 +131,7 @@ count (Tokens.skips s d) = let g = skips_goes s in omega (arith, g.fits, g.onwar
 count (Tokens.reads s d) = let g = (reads_goes s).1 in omega (arith, g.fits, g.onward, count d)
 count (Tokens.refuses s) = omega arith
 
--- Tokens that begin at or behind a place begin at or behind a lower one.
+-- Tokens that begin at or after a place begin at or after a lower one.
 ascend_before : (at to : ℕ) (ts : List Token) → at ≤ to → Ascend to ts → Ascend at ts
 ascend_before at to [] h a = tt
 ascend_before at to (t ∷ ts) h a = let low : to ≤ t.start = a.0 in (omega arith, a.1)

@@ -1,4 +1,4 @@
--- The Name `wire` behind `default_nettype`.
+-- The Name `wire` after `default_nettype`.
 use Rattle.std.proofs.Common.{◌≡◌, ℕ, zero, suc, ◌+◌, ◌-◌, ◌≤◌, List, [], ◌∷◌, ◌++◌, length, take, Bool, true, false, ◌==◌, Option, Some, None, refl, sym, ap, subst, ◌∙◌, arith, codes}
 use Rattle.std.specs.Str.{bytes_eq}
 use Rattle.std.proofs.lemmas.Bool.{cond_both}
@@ -29,7 +29,7 @@ enough (suc n) (suc m) r h i =
     ] in
     by (blank r.at r.bytes) refl
 
--- behind a blank the answer is the same
+-- after a blank the answer is the same
 pub wire_blank : (at : ℕ) (bs : List ℕ) (r : Rest) → blank at bs ≡ Some r → wire at bs ≡ wire r.at r.bytes
 unfolding wire
 wire_blank at bs r e =
@@ -46,7 +46,7 @@ longest_front Longest.ended = ([], refl, omega arith)
 longest_front (Longest.stopped h) = ([], refl, omega arith)
 longest_front (Longest.more {b = b} h d) = let r = longest_front d in (b ∷ r.0, ap (λ xs. b ∷ xs) r.1, omega (arith, r.2))
 
--- the bytes between the places, and those behind, are all
+-- the bytes between the places, and those after, are all
 pub word_of : (at : ℕ) (bs : List ℕ) → bs ≡ take ((after is_name_byte at bs).at - at) bs ++ (after is_name_byte at bs).bytes
 word_of at bs =
     let r = after is_name_byte at bs in

@@ -1,4 +1,5 @@
--- Where runs of bytes, comments, texts and names end: relations between a place with the bytes from there on and the place behind with the bytes that are left.
+-- Where runs of bytes, comments, texts and names end: relations between a place with the bytes from there on and the
+-- place after it with the bytes that are left.
 use Rattle.std.specs.Prelude.{◌≡◌, ℕ, ◌+◌, List, [], ◌∷◌, ◌++◌, Bool, true, false, not, ◌==◌, ◌&&◌}
 use Rattle.xr_text.specs.Byte.{newline, quote, star, slash, backslash, is_letter, is_name_byte, begins}
 
@@ -13,12 +14,12 @@ abbrev pub is_close : List ℕ → Bool
 is_close [] = false
 is_close (b ∷ bs) = (b == star) && begins (λ c. c == slash) bs
 
--- to the first `*/`, and behind it
+-- to the first `*/`, and after it
 pub data Closes : ℕ → List ℕ → ℕ → List ℕ → Type 0 where
   here : {at : ℕ} {rest : List ℕ} → Closes at (star ∷ slash ∷ rest) (at + 2) rest
   later : {at to b : ℕ} {bs rest : List ℕ} → is_close (b ∷ bs) ≡ false → Closes (at + 1) bs to rest → Closes at (b ∷ bs) to rest
 
--- behind the byte `before`, to the next `"` on this line that has no backslash directly before it, and behind it
+-- after the byte `before`, to the next `"` on this line that has no backslash directly before it, and after it
 pub data Unquotes : ℕ → ℕ → List ℕ → ℕ → List ℕ → Type 0 where
   here : {before at : ℕ} {rest : List ℕ} → (before == backslash) ≡ false → Unquotes before at (quote ∷ rest) (at + 1) rest
   later : {before at to b : ℕ} {bs rest : List ℕ} → (b == newline) ≡ false → ((b == quote) && not (before == backslash)) ≡ false → Unquotes b (at + 1) bs to rest → Unquotes before at (b ∷ bs) to rest

@@ -24,7 +24,7 @@ refused e = record { tokens = []; fault = Some e }
 abbrev pub first : Token → Left → Left
 first t l = record { tokens = t ∷ l.tokens; fault = l.fault }
 
--- Tokens ascend: each begins at or behind the end of the one before, and the first at or behind this place.
+-- Tokens ascend: each begins at or after the end of the one before, and the first at or after this place.
 abbrev pub Ascend : ℕ → List Token → Type 0
 Ascend at [] = Unit {0}
 Ascend at (t ∷ ts) = (at ≤ t.start) × Ascend t.«end» ts

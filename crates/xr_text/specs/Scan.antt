@@ -27,22 +27,22 @@ pub record Rest : Type 0 where
 abbrev pub rest : ℕ → List ℕ → Rest
 rest at bs = record { at = at; bytes = bs }
 
--- a call's answer is this: the bytes behind, and their place
+-- a call's answer is this: the bytes after it, and their place
 abbrev pub IsBehind : Option Rest → Option (Bor (List ℕ) × ℕ) → Type 0
 IsBehind wanted None = wanted ≡ None
 IsBehind wanted (Some r) = wanted ≡ Some (rest r.1 r.0.now)
 
--- behind as many bytes as pass
+-- after as many bytes as pass
 abbrev pub after : (ℕ → Bool) → ℕ → List ℕ → Rest
 after p at [] = rest at []
 after p at (b ∷ bs) = if p b then after p (at + 1) bs else rest at (b ∷ bs)
 
--- behind the first `*/`, where a star may stand before
+-- after the first `*/`, where a star may stand before
 abbrev pub after_close : Bool → ℕ → List ℕ → Option Rest
 after_close starred at [] = None
 after_close starred at (b ∷ bs) = if starred && (b == slash) then Some (rest (at + 1) bs) else after_close (b == star) (at + 1) bs
 
--- behind the `"` that closes a text, where a byte stands before
+-- after the `"` that closes a text, where a byte stands before
 abbrev pub after_quote : ℕ → ℕ → List ℕ → Option Rest
 after_quote before at [] = None
 after_quote before at (b ∷ bs) =
@@ -50,7 +50,7 @@ after_quote before at (b ∷ bs) =
     else if (b == quote) && not (before == backslash) then Some (rest (at + 1) bs)
     else after_quote b (at + 1) bs
 
--- behind a comment, whose first slash stands before
+-- after a comment, whose first slash stands before
 abbrev pub comment : ℕ → List ℕ → Option Rest
 comment at [] = None
 comment at (b ∷ bs) =
@@ -58,7 +58,7 @@ comment at (b ∷ bs) =
     else if b == star then after_close false (at + 1) bs
     else None
 
--- behind white space or a comment
+-- after white space or a comment
 abbrev pub blank : ℕ → List ℕ → Option Rest
 blank at [] = None
 blank at (b ∷ bs) =
@@ -66,7 +66,7 @@ blank at (b ∷ bs) =
     else if b == slash then comment (at + 1) bs
     else None
 
--- behind the Name `wire`
+-- after the Name `wire`
 abbrev pub wire_here : ℕ → List ℕ → Option Rest
 wire_here at bs =
     let r = after is_name_byte at bs in
@@ -80,11 +80,11 @@ abbrev pub wire_within : ℕ → Rest → Option Rest
 wire_within zero r = None
 wire_within (suc n) r = wire_after (blank r.at r.bytes) (wire_here r.at r.bytes) (wire_within n)
 
--- behind white space, comments and the Name `wire`
+-- after white space, comments and the Name `wire`
 unfoldable pub wire : ℕ → List ℕ → Option Rest
 wire at bs = wire_within (suc (length bs)) (rest at bs)
 
--- behind a directive of this name
+-- after a directive of this name
 abbrev pub directive_of : List ℕ → Rest → Option Rest
 directive_of word r =
     if takes_line word then Some (after is_in_line r.at r.bytes)
@@ -92,11 +92,11 @@ directive_of word r =
     else if bytes_eq word (codes "default_nettype") then wire r.at r.bytes
     else None
 
--- behind a directive, whose backquote stands before
+-- after a directive, whose backquote stands before
 abbrev pub directive : ℕ → List ℕ → Option Rest
 directive at bs = let r = after is_name_byte at bs in directive_of (take (r.at - at) bs) r
 
--- what stands at a place: the end, what is skipped, a token with the bytes behind it, or a fault
+-- what stands at a place: the end, what is skipped, a token with the bytes after it, or a fault
 pub data Step : Type 0 where
   done : Step
   skip : Rest → Step

@@ -35,7 +35,7 @@ stands_alone word = bytes_eq word (codes "celldefine") || bytes_eq word (codes "
 abbrev pub is_unknown : List ℕ → Bool
 is_unknown word = not (takes_line word || stands_alone word || bytes_eq word (codes "default_nettype"))
 
--- What stands between tokens. A directive is a backquote and, directly behind it, a Name.
+-- What stands between tokens. A directive is a backquote and, directly after it, a Name.
 pub data Skips : ℕ → List ℕ → ℕ → List ℕ → Type 0 where
   -- a blank
   blank : {at to : ℕ} {bs rest : List ℕ} → Blank at bs to rest → Skips at bs to rest
@@ -46,13 +46,13 @@ pub data Skips : ℕ → List ℕ → ℕ → List ℕ → Type 0 where
   -- `default_nettype and its `wire`
   nettype : {at mid to : ℕ} {bs more rest : List ℕ} → IsName (codes "default_nettype") (at + 1) bs mid more → Wire mid more to rest → Skips at (backquote ∷ bs) to rest
 
--- A byte begins more than a Mark: a slash a comment before a slash or a star, a backslash an escaped name before a byte 33 to 126,
--- a backquote a directive before a letter or `_`.
+-- A byte begins more than a Mark: a slash a comment before a slash or a star, a backslash an escaped name before a byte
+-- 33 to 126, a backquote a directive before a letter or `_`.
 abbrev pub begins_more : ℕ → List ℕ → Bool
 begins_more b bs =
     (b == slash) && begins (λ c. (c == slash) || (c == star)) bs || (b == backslash) && begins is_printable bs || (b == backquote) && begins is_letter bs
 
--- a token, and the bytes behind it
+-- a token, and the bytes after it
 pub data Reads : ℕ → List ℕ → Token → List ℕ → Type 0 where
   -- a letter or `_`, then letters, digits, `_`, `$`
   name : {at to b : ℕ} {bs rest : List ℕ} → is_letter b ≡ true → Longest is_name_byte (at + 1) bs to rest → Reads at (b ∷ bs) (token Name at to) rest

@@ -6,7 +6,7 @@ ghost use Rattle.xr_text.specs.Scan.{comment as comment_of, blank as blank_of, w
 use crate::bytes::{Class, is_white};
 use crate::ends::{close, run};
 
-/// Behind all white space and comments. An open comment is left.
+/// After all white space and comments. An open comment is left.
 pub fn skip_blanks(bytes: &[u8], start: usize) -> (&[u8], usize)
     requires { start + length bytes.now < 2 ^ 64 }
     ensures tells { left start bytes.now ≡ left result.1 result.0.now }
@@ -24,7 +24,7 @@ pub fn skip_blanks(bytes: &[u8], start: usize) -> (&[u8], usize)
     (rest, at)
 }
 
-/// Behind one byte of white space, or one comment.
+/// After one byte of white space, or one comment.
 #[inline]
 fn blank(bytes: &[u8], start: usize) -> Option<(&[u8], usize)>
     requires { start + length bytes.now < 2 ^ 64 }
@@ -46,7 +46,7 @@ fn blank(bytes: &[u8], start: usize) -> Option<(&[u8], usize)>
     }
 }
 
-/// Behind a comment whose first `/` stands before `bytes`.
+/// After a comment whose first `/` stands before `bytes`.
 fn comment(bytes: &[u8], start: usize) -> Option<(&[u8], usize)>
     requires { start + length bytes.now < 2 ^ 64 }
     ensures reads { IsBehind (comment_of start bytes.now) result }

@@ -8,7 +8,8 @@ use crate::blank::skip_blanks;
 use crate::bytes::Class;
 use crate::ends::run;
 
-/// Behind a directive whose backquote stands before `bytes`, with the bytes and the place there. None where it isn't read.
+/// After a directive whose backquote stands before `bytes`, with the bytes and the place there. None where it isn't
+/// read.
 pub fn directive(bytes: &[u8], start: usize) -> Option<(&[u8], usize)>
     requires { start + length bytes.now < 2 ^ 64 }
     ensures reads { IsBehind (directive_of start bytes.now) result }
@@ -42,7 +43,7 @@ fn stands_alone(word: &[u8]) -> bool
         || word == b"resetall".as_slice()
 }
 
-/// Behind white space, comments and the name `wire`.
+/// After white space, comments and the name `wire`.
 #[tactic(auto, using(crate::proofs::Wires::wire_stands))]
 fn wire(bytes: &[u8], start: usize) -> Option<(&[u8], usize)>
     requires { start + length bytes.now < 2 ^ 64 }

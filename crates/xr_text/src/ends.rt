@@ -1,11 +1,11 @@
-//! Where runs of bytes, comments and texts end. Each answer is the bytes behind, and their place.
+//! Where runs of bytes, comments and texts end. Each answer is the bytes after it, and their place.
 
 ghost use Rattle.std.specs.Prelude.{◌≡◌, ◌+◌, ◌<◌, ◌≤◌, ◌^◌, length, false, IfSome};
 ghost use Rattle.xr_text.specs.Scan.{passes, after, after_close, after_quote, rest as behind, IsBehind};
 
 use crate::bytes::Class;
 
-/// Behind as many bytes of a class as stand here.
+/// After as many bytes of a class as stand here.
 #[inline]
 pub fn run(bytes: &[u8], start: usize, class: Class) -> (&[u8], usize)
     requires { start + length bytes.now < 2 ^ 64 }
@@ -25,7 +25,7 @@ pub fn run(bytes: &[u8], start: usize, class: Class) -> (&[u8], usize)
     (rest, at)
 }
 
-/// Behind the first `*/`.
+/// After the first `*/`.
 pub fn close(bytes: &[u8], start: usize) -> Option<(&[u8], usize)>
     requires { start + length bytes.now < 2 ^ 64 }
     ensures reads { IsBehind (after_close false start bytes.now) result }
@@ -46,7 +46,7 @@ pub fn close(bytes: &[u8], start: usize) -> Option<(&[u8], usize)>
     None
 }
 
-/// Behind the `"` that closes a text whose first `"` stands before `bytes`.
+/// After the `"` that closes a text whose first `"` stands before `bytes`.
 pub fn unquote(bytes: &[u8], start: usize) -> Option<(&[u8], usize)>
     requires { start + length bytes.now < 2 ^ 64 }
     ensures reads { IsBehind (after_quote 34 start bytes.now) result }

@@ -8,8 +8,8 @@ use crate::step::next;
 use crate::token::{LexErr, Token};
 use std::marker::Model;
 
-/// A text, read token by token. Contracts see what is left to tell: the tokens in order, then the fault that ends them, or
-/// none. Takes no memory.
+/// A text, read token by token. Contracts see what is left to tell: the tokens in order, then the fault that ends them,
+/// or none. Takes no memory.
 #[derive(Drop)]
 pub struct Lexer<'a> {
     rest: &'a [u8],
@@ -35,7 +35,7 @@ impl<'a> Lexer<'a> {
         ensures rules { Tokens 0 bytes.now result }
         ensures one { (told : left) → Tokens 0 bytes.now told → told ≡ result }
 
-        // each token begins behind the one before, has bytes, and lies within the text
+        // each token begins after the one before, has bytes, and lies within the text
         ensures ascend { Ascend 0 result.tokens }
         ensures spans { All (λ t. (t.start < t.end) × (t.end ≤ length bytes.now)) result.tokens }
         ensures count { length result.tokens ≤ length bytes.now }

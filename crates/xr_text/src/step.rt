@@ -13,7 +13,7 @@ use crate::directive::directive;
 use crate::ends::{run, unquote};
 use crate::token::{Kind, LexErr, Token};
 
-/// The next token, with the bytes behind it.
+/// The next token, with the bytes after it.
 pub fn next(bytes: &[u8], start: usize) -> Result<Option<(Token, &[u8])>, LexErr>
     requires { start + length bytes.now < 2 ^ 64 }
     ensures tells { MatchResult result
@@ -39,7 +39,7 @@ pub fn next(bytes: &[u8], start: usize) -> Result<Option<(Token, &[u8])>, LexErr
     }
 }
 
-/// The token that begins here, where neither a blank nor a directive does, with the bytes behind it.
+/// The token that begins here, where neither a blank nor a directive does, with the bytes after it.
 fn read(rest: &[u8], at: usize) -> Result<Option<(Token, &[u8])>, LexErr>
     requires fits { at + length rest.now < 2 ^ 64 }
     requires no_blank { spec.blank at rest.now ≡ None }
@@ -59,7 +59,7 @@ fn read(rest: &[u8], at: usize) -> Result<Option<(Token, &[u8])>, LexErr>
     }
 }
 
-/// The token that begins with a byte, with the bytes behind it.
+/// The token that begins with a byte, with the bytes after it.
 fn token(byte: u8, after: &[u8], at: usize) -> Result<(Token, &[u8]), LexErr>
     requires { at + 1 + length after.now < 2 ^ 64 }
     ensures reads { MatchResult result
@@ -89,7 +89,7 @@ fn token(byte: u8, after: &[u8], at: usize) -> Result<(Token, &[u8]), LexErr>
     }
 }
 
-/// The token of a byte and as many of a class behind it.
+/// The token of a byte and as many of a class after it.
 #[inline]
 fn run_token(kind: Kind, class: Class, after: &[u8], at: usize) -> (Token, &[u8])
     requires { at + 1 + length after.now < 2 ^ 64 }

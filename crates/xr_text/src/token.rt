@@ -9,7 +9,7 @@ use std::fmt;
 pub enum Kind {
     /// A letter or `_`, then letters, digits, `_` and `$`.
     Name,
-    /// A backslash, then bytes 33 to 126. The name is what stands behind the backslash.
+    /// A backslash, then bytes 33 to 126. The name is what stands after the backslash.
     Escaped,
     /// A digit, then digits, letters, `_` and `'`.
     Number,

@@ -16,7 +16,7 @@ use Rattle.xr_vcd.specs.declared.kinds.Kind.TheVariants as kind
 use Rattle.xr_vcd.specs.declared.refusal.VcdErr.{VcdErr}
 use Rattle.xr_vcd.specs.declared.refusal.VcdErr.TheVariants.{Syntax, TimeBack, Width}
 
--- behind the declarations these are declared
+-- after the declarations these are declared
 abbrev Has : Declarations → State → Type 0
 Has h (body b dump) = b.declared ≡ h
 Has h (body_note b) = b.declared ≡ h

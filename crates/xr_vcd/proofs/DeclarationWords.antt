@@ -79,7 +79,7 @@ scoped h ts stop r e =
       goes = goes_from (declaring (with_scope h b.word.text)) c.next c.rest stop r c_is.1 c.goes;
     }
 
--- `$upscope $end`, behind `$upscope`, and `$enddefinitions $end` likewise
+-- `$upscope $end`, after `$upscope`, and `$enddefinitions $end` likewise
 
 pub record Ended (next : State) (ts : List Word) (stop : ℕ) (r : Recording) : Type 0 where
   pub end : Word

@@ -26,7 +26,7 @@ is_digit b = nat_le 48 b && nat_le b 57
 abbrev pub are_digits : List ℕ → Bool
 are_digits t = nat_lt 0 (length t) && list_all is_digit t
 
--- The number that digits write behind those of n.
+-- The number that digits write after those of n.
 abbrev pub number_from : ℕ → List ℕ → ℕ
 number_from n [] = n
 number_from n (d ∷ ds) = number_from (n * 10 + (d - 48)) ds
@@ -65,7 +65,8 @@ is_bracketed t = nat_le 2 (length t) && (slice_index t 0 == 91) && (slice_index 
 abbrev pub range_of : List ℕ → Option (ℕ × ℕ)
 range_of t = cond (is_bracketed t) (bounds_of (slice_range t 1 (length t - 1))) None
 
--- the place of the last `[` of these bytes, the first of which is at place n; where there is none, what was found before
+-- the place of the last `[` of these bytes, the first of which is at place n; where there is none, what was found
+-- before
 abbrev pub bracket_from : ℕ → ℕ → List ℕ → ℕ
 bracket_from found n [] = found
 bracket_from found n (b ∷ bs) = bracket_from (cond (b == 91) n found) (n + 1) bs
@@ -73,7 +74,7 @@ bracket_from found n (b ∷ bs) = bracket_from (cond (b == 91) n found) (n + 1) 
 abbrev pub last_bracket : List ℕ → ℕ
 last_bracket t = bracket_from 0 0 t
 
--- the text without a range directly behind it
+-- the text without a range directly after it
 abbrev pub without_range : Bool → List ℕ → List ℕ
 without_range direct t = cond direct (take (last_bracket t) t) t
 
@@ -94,7 +95,7 @@ is_scale t = is_cut_scale t 1 || is_cut_scale t 2 || is_cut_scale t 3
 abbrev pub is_skipped : List ℕ → Bool
 is_skipped t = bytes_eq t (codes "real") || bytes_eq t (codes "realtime") || bytes_eq t (codes "event")
 
--- the bytes behind the first, and the first
+-- the bytes after the first, and the first
 abbrev pub rest_of : List ℕ → List ℕ
 rest_of [] = []
 rest_of (b ∷ bs) = bs

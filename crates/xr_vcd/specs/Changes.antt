@@ -17,7 +17,7 @@ pub record Body : Type 0 where
   pub times : List ℕ
   pub tracks : List (List Change)
 
--- Behind the declarations there is no moment and no change.
+-- After the declarations there is no moment and no change.
 abbrev pub start : Declarations → Body
 start h = record { declared = h; times = []; tracks = replicate (length h.codes) [] }
 
@@ -95,8 +95,8 @@ recorded_so_far b = recorded b.declared b.times b.tracks
 abbrev pub recording_of : Body → Recording
 recording_of b = recorded_so_far (with_moment b)
 
--- How a body is stored: each code has its changes, the last change is in no moment after the last, times ascend, and there are
--- fewer than 2^28 moments.
+-- How a body is stored: each code has its changes, the last change is in no moment after the last, times ascend, and
+-- there are fewer than 2^28 moments.
 pub record IsBody (declared : Declarations) (times : List ℕ) (stored : History) : Type 0 where
   pub known : length stored.tracks ≡ length declared.codes
   pub moments : stored.moment ≤ length times - 1

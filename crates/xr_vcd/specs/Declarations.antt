@@ -6,8 +6,8 @@ use Rattle.xr_vcd.specs.Recording.{Path, path_at, paths_of}
 use Rattle.xr_vcd.specs.declared.variable.Scope.{Scope}
 use Rattle.xr_vcd.specs.declared.variable.Variable.{Variable}
 
--- What is declared so far; the scopes that are entered and not left stand innermost last, and each variable has the number of
--- its code.
+-- What is declared so far; the scopes that are entered and not left stand innermost last, and each variable has the
+-- number of its code.
 pub record Declarations : Type 0 where
   pub timescale : Option (List ℕ)
   pub scopes : List Path
@@ -58,7 +58,7 @@ with_code h text width skipped = record h { codes = h.codes ++ code text width s
 abbrev pub with_kind : Declarations → ℕ → Bool → Declarations
 with_kind h number skipped = record h { codes = with_kind_at h.codes number skipped }
 
--- The name of a variable: its reference as recorded, its range, and whether that stands directly behind the reference.
+-- The name of a variable: its reference as recorded, its range, and whether that stands directly after the reference.
 pub record RecordedName : Type 0 where
   pub reference : List ℕ
   pub range : Option (ℕ × ℕ)
@@ -67,8 +67,8 @@ pub record RecordedName : Type 0 where
 abbrev pub name : List ℕ → Option (ℕ × ℕ) → Bool → RecordedName
 name reference range direct = record { reference = reference; range = range; direct = direct }
 
--- A range directly behind a reference begins at the last `[`, which isn't the first byte. The reference as recorded has it too.
--- What is no range belongs to the reference alone.
+-- A range directly after a reference begins at the last `[`, which isn't the first byte. The reference as recorded has
+-- it too. What is no range belongs to the reference alone.
 abbrev pub name_at : Option (ℕ × ℕ) → ℕ → List ℕ → RecordedName
 name_at None k t = name t None false
 name_at (Some range) k t = cond (k == 0) (name t None false) (name t (Some range) true)
@@ -80,7 +80,7 @@ name_of t = name_at (range_of (drop (last_bracket t) t)) (last_bracket t) t
 abbrev pub variable : ℕ → RecordedName → ℕ → Variable
 variable scope n width = record { scope = scope; reference = n.reference; range = n.range; direct = n.direct; width = width }
 
--- A variable behind the others, and the number of its code.
+-- A variable after the others, and the number of its code.
 abbrev pub with_listed : Declarations → Variable → ℕ → Declarations
 with_listed h v number = record h { variables = h.variables ++ v ∷ []; numbers = h.numbers ++ number ∷ [] }
 
@@ -89,10 +89,10 @@ abbrev pub with_variable : Declarations → Bool → ℕ → ℕ → RecordedNam
 with_variable h skipped number width n =
     cond skipped h (with_listed h (variable (scope_of h) n width) number)
 
--- A variable that is listed behind those of the old declarations stands in the innermost scope that was open.
+-- A variable that is listed after those of the old declarations stands in the innermost scope that was open.
 abbrev pub StandsInnermost : Declarations → Declarations → Type 0
 StandsInnermost old new = (v : Variable) → slice_get new.variables (length old.variables) ≡ Some v → path_at new.scopes v.scope ≡ open_path old
 
--- Behind `$upscope` the scope is open that was so where the one that is left was entered.
+-- After `$upscope` the scope is open that was so where the one that is left was entered.
 abbrev pub Returns : Declarations → Declarations → Type 0
 Returns old new = (outer : Declarations) (scope : ℕ) → old.entered ≡ outer.entered ++ scope ∷ [] → scope_of new ≡ scope_of outer

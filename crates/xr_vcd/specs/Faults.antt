@@ -1,4 +1,4 @@
--- What a text says, and its first fault.
+-- What a text says and its first fault, by runs of the machine that defines the grammar.
 use Rattle.std.specs.Prelude.{◌≡◌, ℕ, List, [], ◌∷◌, ◌++◌, length, Result, Ok, Err, MatchResult}
 use Rattle.xr_vcd.specs.Declarations.{nothing}
 use Rattle.xr_vcd.specs.Machine.{State, Next, step, finish, run}
@@ -16,7 +16,7 @@ beginning = declaring nothing
 abbrev pub Says : List ℕ → Recording → Type 0
 Says text r = run beginning (words_of text) (length text) ≡ Ok r
 
--- A text that says a recording is read, or refused for want of memory alone.
+-- A text that says a recording is read, or refused only when out of memory.
 abbrev pub IsRead : List ℕ → Result Recording VcdErr → Type 0
 IsRead text result = (r : Recording) → Says text r → MatchResult result (λ recording. recording ≡ r) (λ refusal. refusal ≡ Memory)
 

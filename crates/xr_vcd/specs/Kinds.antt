@@ -23,7 +23,8 @@ keyword_kind t =
     (cond (bytes_eq t (codes "$dumpoff") || bytes_eq t (codes "$dumpon")) kind.Off
     (declaration_kind t))))
 
--- A word is told by its first byte: `$` a keyword, `#` a time, a digit a scalar change, `b` a vector change, `r` a real one.
+-- A word is told by its first byte: `$` a keyword, `#` a time, a digit a scalar change, `b` a vector change, `r` a real
+-- one.
 abbrev pub kind_of : List ℕ → Kind
 kind_of [] = kind.Other
 kind_of (b ∷ bs) =

@@ -1,4 +1,6 @@
--- Reading word by word. A state has what was read so far, and says what may stand next.
+-- The grammar of recordings (IEEE 1364-2005, clause 18), defined by a machine that reads word by word: a text is of the
+-- grammar where the machine reads it to its end, and no other relation defines it. A state has what was read so far,
+-- and says what may stand next.
 use Rattle.std.specs.Prelude.{ℕ, List, [], ◌∷◌, ◌++◌, length, Bool, true, false, cond, ◌==◌, ◌&&◌, nat_le, nat_lt, Option, Some, None, Result, Ok, Err}
 use Rattle.xr_vcd.specs.Bytes.{is_end, is_code, are_values, are_digits, number_from, time_of, range_of, is_power, is_unit, is_scale, is_skipped, rest_of}
 use Rattle.xr_vcd.specs.Changes.{Body, start, time_on, scalar_in, vector_in, real_in, recording_of}
@@ -13,8 +15,8 @@ use Rattle.xr_vcd.specs.declared.kinds.Kind.TheVariants as kind
 use Rattle.xr_vcd.specs.declared.refusal.VcdErr.{VcdErr}
 use Rattle.xr_vcd.specs.declared.refusal.VcdErr.TheVariants.{Syntax, Width, DumpOff, Truncated}
 
--- Where the reading stands: before a declaration or in one, then before a change or in one. `Bool` in the states of a variable
--- says that it is skipped, and behind the declarations that a dump is open.
+-- Where the reading stands: before a declaration or in one, then before a change or in one. `Bool` in the states of a
+-- variable says that it is skipped, and after the declarations that a dump is open.
 pub data State : Type 0 where
   declaring : Declarations → State
   note : Declarations → State
@@ -77,7 +79,8 @@ width_on h var skipped t =
     (cond (is_width (number_from 0 t.text)) (Ok (var_code h var skipped (number_from 0 t.text))) (Err (Width t.at)))
     (Err (Syntax t.at))
 
--- A code has one width: the second is refused at its `$var`. Whichever of its variables came first, some is skipped or none.
+-- A code has one width: the second is refused at its `$var`. Whichever of its variables came first, some is skipped or
+-- none.
 abbrev pub code_on : Option Found → Declarations → ℕ → Bool → ℕ → List ℕ → Next
 code_on None h var skipped width t = Ok (var_reference (with_code h t width skipped) skipped (length h.codes) width)
 code_on (Some found) h var skipped width t = cond (found.width == width) (Ok (var_reference (with_kind h found.number skipped) skipped found.number width)) (Err (Width var))
@@ -86,7 +89,7 @@ abbrev pub range_on : Option (ℕ × ℕ) → Declarations → Bool → ℕ → 
 range_on None h skipped number width reference at = Err (Syntax at)
 range_on (Some range) h skipped number width reference at = Ok (var_end h skipped number width reference range)
 
--- Behind the reference: `$end`, or a range in a word of its own.
+-- After the reference: `$end`, or a range in a word of its own.
 abbrev pub behind_on : Declarations → Bool → ℕ → ℕ → List ℕ → Word → Next
 behind_on h skipped number width reference t =
     cond (is_end t.text) (Ok (declaring (with_variable h skipped number width (name_of reference))))

@@ -34,7 +34,7 @@ goes s left = run s left.words left.stop
 abbrev pub goes_on : Next → Left → Result Recording VcdErr
 goes_on next left = then_run next (λ s. goes s left)
 
--- A fault other than want of memory is that of the words.
+-- A fault other than out of memory is that of the words.
 abbrev pub Refuses : Result Recording VcdErr → VcdErr → Type 0
 Refuses r e = e ≢ Memory → r ≡ Err e
 
@@ -48,11 +48,11 @@ abbrev pub ReadsOn : {X : Type 0} → Next → Left → Result X VcdErr → (X �
 ReadsOn s old (Ok x) next new = goes_on s old ≡ goes (next x) new
 ReadsOn s old (Err e) next new = Refuses (goes_on s old) e
 
--- A declaration was read, behind which this is declared.
+-- A declaration was read, after which this is declared.
 abbrev pub ReadsOne : State → Left → Result Unit VcdErr → Declarations → Left → Type 0
 ReadsOne s old result after new = Reads s old result (λ _. declaring after) new
 
--- A code was read, behind which this is declared.
+-- A code was read, after which this is declared.
 abbrev pub ReadsCode : Declarations → ℕ → Bool → ℕ → Left → Result ℕ VcdErr → Declarations → Left → Type 0
 ReadsCode before var skipped width old result after new =
     Reads (var_code before var skipped width) old result (λ number. var_reference after skipped number width) new
@@ -76,7 +76,7 @@ abbrev pub ReadsReference : Left → Result (Bor (List ℕ)) VcdErr → Left →
 ReadsReference old result new =
     (h : Declarations) (skipped : Bool) (number width : ℕ) → Reads (var_reference h skipped number width) old result (λ t. var_range h skipped number width t.now) new
 
--- Behind a range in a word of its own, the end of the variable is read, or refused.
+-- After a range in a word of its own, the end of the variable is read, or refused.
 abbrev pub ReadsVariableEnd : Left → Result Unit VcdErr → Left → Type 0
 ReadsVariableEnd old result new =
     (h : Declarations) (skipped : Bool) (number width : ℕ) (reference : List ℕ) (range : ℕ × ℕ)
@@ -97,7 +97,7 @@ abbrev pub Does : {X : Type 0} → Result X VcdErr → Type 0 → Type 0
 Does (Ok x) p = p
 Does (Err e) p = e ≡ Memory
 
--- The answer is what the words say, or want of memory.
+-- The answer is what the words say, or out of memory.
 abbrev pub Answers : Result Recording VcdErr → Result Recording VcdErr → Type 0
 Answers (Ok r) said = said ≡ Ok r
 Answers (Err e) said = Refuses said e

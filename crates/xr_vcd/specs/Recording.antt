@@ -15,8 +15,8 @@ Path = List (List ℕ)
 abbrev pub path_at : List Path → ℕ → Path
 path_at paths scope = slice_index_or paths scope []
 
--- What a text says: its timescale, the path of each scope, the variables that aren't skipped, the time of each moment, and
--- for each variable the changes of its code, all in the order of the text.
+-- What a text says: its timescale, the path of each scope, the variables that aren't skipped, the time of each moment,
+-- and for each variable the changes of its code, all in the order of the text.
 pub record Recording : Type 0 where
   pub timescale : Option (List ℕ)
   pub scopes : List Path
@@ -40,14 +40,14 @@ value_at r variable bit moment = bit_value (slice_index_or r.changes variable []
 abbrev pub IsValueAt : Recording → ℕ → ℕ → ℕ → Value → Type 0
 IsValueAt r variable bit moment value = IsLastValue (slice_index_or r.changes variable []) (width_at r variable) bit moment value
 
--- A variable stands in one of so many scopes, and its width is 1 to 2^20.
+-- A variable stands in one of a given number of scopes, and its width is 1 to 2^20.
 pub record IsVariable (scopes : ℕ) (v : Variable) : Type 0 where
   pub known : v.scope < scopes
   pub some : 1 ≤ v.width
   pub wide : v.width ≤ 2 ^ 20
 
--- What each recording is: it has a moment, its times ascend strictly, each variable stands in one of its scopes with a width of 1
--- to 2^20, and there is a list of changes for each. There are fewer than 2^28 scopes, variables and moments.
+-- What each recording is: it has a moment, its times ascend strictly, each variable stands in one of its scopes with a
+-- width of 1 to 2^20, and there is a list of changes for each. There are fewer than 2^28 scopes, variables and moments.
 pub record IsRecording (r : Recording) : Type 0 where
   pub moment : 0 < length r.times
   pub ascending : IsStrictlyIncreasing r.times
@@ -57,7 +57,7 @@ pub record IsRecording (r : Recording) : Type 0 where
   pub few_variables : length r.variables < 2 ^ 28
   pub few_moments : length r.times < 2 ^ 28
 
--- The paths of scopes, each with its parent and its name, behind those of the scopes before them.
+-- The paths of scopes, each with its parent and its name, after those of the scopes before them.
 abbrev pub paths_from : List Path → List Scope → List Path
 paths_from paths [] = paths
 paths_from paths (s ∷ ss) = paths_from (paths ++ (path_at paths s.parent ++ s.name ∷ []) ∷ []) ss

@@ -23,7 +23,7 @@ text_of (fault.Width at) = codes "width"
 text_of (fault.DumpOff at) = codes "dump off"
 text_of (fault.Truncated at) = codes "truncated"
 
--- Each refusal but want of memory is a fault of the recording.
+-- Each refusal but out of memory is a fault of the recording.
 abbrev pub fault_of : VcdErr → Option RecordingFault
 fault_of (refusal.Syntax at) = Some (fault.Syntax at)
 fault_of (refusal.UnknownCode at) = Some (fault.UnknownCode at)

@@ -36,8 +36,8 @@ pub data VarOf (own : Word) : List Word → List Word → Type 0 where
   var : {word width code reference : Word} {words rest : List Word} → IsOfKind word kind.Var → RangeEnd words rest
       → VarOf own (word ∷ own ∷ width ∷ code ∷ reference ∷ words) rest
 
--- The words of declarations up to `$enddefinitions`, where the innermost open scope has this path; and the path of the scope that
--- each variable stands in, but of those that are skipped by their kind.
+-- The words of declarations up to `$enddefinitions`, where the innermost open scope has this path; and the path of the
+-- scope that each variable stands in, but of those that are skipped by their kind.
 pub data Declares : Path → List Word → List Path → Type 0 where
   -- `$scope kind name $end`: a scope of this name is open within the one before.
   scope : {path : Path} {word own name end : Word} {words : List Word} {paths : List Path} → IsOfKind word kind.Scope → IsEnd end
@@ -57,7 +57,8 @@ pub data Declares : Path → List Word → List Path → Type 0 where
 abbrev pub paths_of_variables : List Path → List Variable → List Path
 paths_of_variables scopes variables = map (λ v. path_at scopes v.scope) variables
 
--- Each variable of the recording stands in the innermost scope that is open where the text declares it: that scope's path is the
--- names of the `$scope` before its `$var` that no `$upscope` before it has left. At the beginning no scope is open.
+-- Each variable of the recording stands in the innermost scope that is open where the text declares it: that scope's
+-- path is the names of the `$scope` before its `$var` that no `$upscope` before it has left. At the beginning no scope
+-- is open.
 abbrev pub StandInScopes : List ℕ → Recording → Type 0
 StandInScopes text r = Declares [] (words_of text) (paths_of_variables r.scopes r.variables)

@@ -13,8 +13,8 @@ IsTree ss = (k : ℕ) → (d : Scope) → k < length ss → (slice_index_or ss k
 abbrev pub IsEntered : List Scope → List ℕ → Type 0
 IsEntered ss entered = All (λ scope. scope ≤ length ss) entered
 
--- Scopes and variables, and the number of each variable's code: fewer than 2^28 scopes, with the place outside every scope, and
--- fewer than 2^28 variables.
+-- Scopes and variables, and the number of each variable's code: fewer than 2^28 scopes, with the place outside every
+-- scope, and fewer than 2^28 variables.
 pub record AreDeclared (scopes : List Scope) (variables : List Variable) (numbers : List ℕ) : Type 0 where
   pub tree : IsTree scopes
   pub listed : All (IsVariable (length scopes + 1)) variables

@@ -32,7 +32,7 @@ impl<'a> Model for Body<'a> {
     ghost invariant = { λ b. IsBody b.declared b.times.items b.changes };
 }
 
-/// No change of so many codes.
+/// No change of a given number of codes.
 #[tactic(auto, using(std::proofs::lemmas::List::replicate_more))]
 fn open_tracks(alloc: Global, count: usize) -> Result<Changes, Memory>
     ensures { IfOk result (λ changes. changes ≡ record { moment = 0; tracks = replicate count [] }) }
@@ -95,7 +95,7 @@ impl<'a> Body<'a> {
         self.declared.find(code)
     }
 
-    /// A time. More than `LIMIT` are want of memory.
+    /// A time. More than `LIMIT` count as out of memory.
     pub fn add_time(&mut self, at: usize, text: &[u8]) -> Result<(), VcdErr>
         ensures { Gives result self.new (time_on (time_of text.now) self.old at) }
     {

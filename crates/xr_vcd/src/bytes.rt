@@ -159,7 +159,7 @@ pub fn take(text: &[u8], count: usize) -> &[u8]
     }
 }
 
-/// What stands behind the first bytes.
+/// What stands after the first bytes.
 pub fn drop(text: &[u8], count: usize) -> &[u8]
     ensures { result.now ≡ drop count text.now }
 {
@@ -177,7 +177,7 @@ pub fn is_skipped(text: &[u8]) -> bool
     is_word(text, b"real") || is_word(text, b"realtime") || is_word(text, b"event")
 }
 
-/// The bytes behind the first.
+/// The bytes after the first.
 pub fn rest_of(text: &[u8]) -> &[u8]
     ensures { result.now ≡ rest_of text.now }
 {

@@ -8,8 +8,8 @@ use std::marker::Model;
 use xr_base::Memory;
 use xr_cell::Value;
 
-/// A reader of a recording's values that keeps, for each variable, how many of its changes come up to the moment it was read in
-/// last: 8 bytes for each.
+/// A reader of a recording's values that keeps, for each variable, how many of its changes come up to the moment it was
+/// read in last: 8 bytes for each.
 #[derive(Drop)]
 pub struct Cursor<'a> {
     recording: &'a Recording,
@@ -44,8 +44,8 @@ impl<'a> Cursor<'a> {
         self.recording
     }
 
-    /// The value of a bit of a variable, counted from the left, in a moment, any moment. Takes no memory, and constant time on
-    /// average where the moments of each variable ascend.
+    /// The value of a bit of a variable, counted from the left, in a moment, any moment. Takes no memory, and constant
+    /// time on average where the moments of each variable ascend.
     pub fn value(&mut self, variable: u32, bit: u32, moment: u32) -> Value
         requires variable { variable < length self.old.variables }
         requires bit { bit < width_at self.old variable }

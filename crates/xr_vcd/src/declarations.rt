@@ -10,7 +10,7 @@ use std::marker::Model;
 use xr_base::{Items, Memory};
 use xr_vcd_codes::{Codes, Found};
 
-/// There are at most so many scopes, variables and moments, 2^28 - 1: no text of 2^28 bytes has more.
+/// At most this many scopes, variables and moments, 2^28 - 1: no text of 2^28 bytes has more.
 pub const LIMIT: usize = 268_435_455;
 
 /// What is declared so far.
@@ -77,7 +77,7 @@ impl<'a> Declarations<'a> {
         }
     }
 
-    /// Enters a new scope. More than `LIMIT` are want of memory.
+    /// Enters a new scope. More than `LIMIT` count as out of memory.
     pub fn enter(&mut self, name: &[u8]) -> Result<(), VcdErr>
         ensures is { Does result (self.new ≡ with_scope self.old name.now) }
         ensures innermost { OnOk result (open_path self.new ≡ open_path self.old ++ name.now ∷ []) }
@@ -131,7 +131,7 @@ impl<'a> Declarations<'a> {
         self.codes.add_kind(number, skipped);
     }
 
-    /// A variable, which is listed where it isn't skipped. More than `LIMIT`, of codes too, are want of memory.
+    /// A variable, which is listed where it isn't skipped. More than `LIMIT`, of codes too, count as out of memory.
     pub fn add_variable(
         &mut self,
         skipped: bool,
@@ -162,7 +162,7 @@ impl<'a> Declarations<'a> {
         self.list(variable, number as u32)
     }
 
-    /// A variable behind the others, and the number of its code.
+    /// A variable after the others, and the number of its code.
     fn list(&mut self, variable: Variable, number: u32) -> Result<(), VcdErr>
         requires variable { IsVariable (length self.old.scopes) variable }
         requires few { length self.old.variables + 1 < 2 ^ 28 }

@@ -5,7 +5,8 @@ ghost use Rattle.xr_vcd.specs.RecordingFault.{place_of, text_of};
 
 use std::fmt;
 
-/// Why a recording is refused. `at` is the byte, from 0, of the first byte of the word at fault. Its `Display` has the words.
+/// Why a recording is refused. `at` is the byte, from 0, of the first byte of the word at fault. Its `Display` has the
+/// words.
 #[derive(Clone, Copy, Debug, PartialEq, Eq)]
 pub enum RecordingFault {
     /// The word may not stand here.

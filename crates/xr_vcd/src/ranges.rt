@@ -7,7 +7,7 @@ ghost use Rattle.xr_vcd.specs.Naming.{shown_name};
 
 use crate::bytes::{drop, number_within, take};
 
-/// The name of a variable in the text: its reference as recorded, its range, and whether that stands directly behind the
+/// The name of a variable in the text: its reference as recorded, its range, and whether that stands directly after the
 /// reference, which then has it too.
 #[derive(Clone, Copy)]
 pub struct RecordedName<'a> {
@@ -16,7 +16,7 @@ pub struct RecordedName<'a> {
     pub direct: bool,
 }
 
-/// The name that one word gives: a range directly behind the reference begins at the last `[`.
+/// The name that one word gives: a range directly after the reference begins at the last `[`.
 pub fn name_of(text: &[u8]) -> RecordedName<'_>
     ensures { shown_name result ≡ name_of text.now }
 {

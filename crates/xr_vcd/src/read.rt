@@ -18,9 +18,9 @@ use crate::refusal::VcdErr;
 use crate::words::Words;
 use std::alloc::Global;
 
-/// The recording that a text says, or the text's first fault. Time is linear in the text. Memory is of the order of the text: 8
-/// bytes for each change and each moment, 4 more and a byte for each digit of a change of several digits, and what the
-/// declarations take.
+/// The recording that a text says, or the text's first fault. Time is linear in the text. Memory is of the order of the
+/// text: 8 bytes for each change and each moment, 4 more and a byte for each digit of a change of several digits, and
+/// what the declarations take.
 pub fn read_vcd(alloc: Global, bytes: &[u8]) -> Result<Recording, VcdErr>
     requires { length bytes.now ≤ 2 ^ 28 }
     ensures says { IfOk result (λ recording. Says bytes.now recording) }
@@ -41,7 +41,7 @@ fn read_text(alloc: Global, bytes: &[u8]) -> Result<Recording, VcdErr>
     read_body(&mut words, declared)
 }
 
-/// Reads what stands behind the declarations.
+/// Reads what stands after the declarations.
 fn read_body<'a>(words: &mut Words<'a>, declared: Declarations<'a>) -> Result<Recording, VcdErr>
     ensures { Answers result (goes (in_body (start declared.entry) false) words.old) }
 {
@@ -50,7 +50,7 @@ fn read_body<'a>(words: &mut Words<'a>, declared: Declarations<'a>) -> Result<Re
     Ok(body.into_recording())
 }
 
-/// Reads the changes, behind which there is a moment.
+/// Reads the changes, after which there is a moment.
 fn read_moments<'a>(words: &mut Words<'a>, body: &mut Body<'a>) -> Result<(), VcdErr>
     ensures says { OnOk result (goes (in_body body.old false) words.old ≡ Ok (recorded_so_far body.new)) }
     ensures refuses { IfErr result (λ refusal. Refuses (goes (in_body body.old false) words.old) refusal) }

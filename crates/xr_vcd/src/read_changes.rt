@@ -29,7 +29,7 @@ pub fn read_changes<'a>(words: &mut Words<'a>, changed: &mut Body<'a>) -> Result
     Ok(())
 }
 
-/// Reads what begins with this word, in a dump or outside. Whether a dump is open behind it.
+/// Reads what begins with this word, in a dump or outside. Whether a dump is open after it.
 fn read_change(
     at: usize,
     text: &[u8],
@@ -73,7 +73,7 @@ fn read_vector(
     changed.add_vector(at, digits, code_at, code)
 }
 
-// real = ( "r" | "R" ) number white code, behind its first word
+// real = ( "r" | "R" ) number white code, after its first word
 fn read_real(at: usize, words: &mut Words<'_>, changed: &Body<'_>) -> Result<(), VcdErr>
     ensures reads { (dump : Bool) → Reads (real changed.now dump at)
         words.old result (λ _. body changed.now dump) words.new }

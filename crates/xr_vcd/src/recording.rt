@@ -9,8 +9,8 @@ use xr_base::Items;
 use xr_cell::Value;
 use xr_vcd_changes::Changes;
 
-/// A recording. Scopes are numbered in the order of the text, from 1; 0 is the place outside every scope. Variables and moments
-/// are numbered from 0.
+/// A recording. Scopes are numbered in the order of the text, from 1; 0 is the place outside every scope. Variables and
+/// moments are numbered from 0.
 #[derive(Drop)]
 pub struct Recording {
     timescale: Option<Items<u8>>,
@@ -136,8 +136,8 @@ impl Recording {
         self.times.as_slice()
     }
 
-    /// The value of a bit of a variable, counted from the left, in a moment. Takes no memory, and time by the logarithm of the
-    /// number of the variable's changes.
+    /// The value of a bit of a variable, counted from the left, in a moment. Takes no memory, and time by the logarithm
+    /// of the number of the variable's changes.
     pub fn value(&self, variable: u32, bit: u32, moment: u32) -> Value
         requires variable { variable < length self.now.variables }
         requires bit { bit < width_at self.now variable }
@@ -149,7 +149,8 @@ impl Recording {
         value
     }
 
-    /// The same from a hint on: how many changes of the variable come up to some moment. The answer has that number for this one.
+    /// The same from a hint on: how many changes of the variable come up to some moment. The answer has that number for
+    /// this one.
     #[tactic(auto, using(xr_vcd_changes::proofs::LastLemmas::is_last_value))]
     pub(crate) fn value_near(
         &self,

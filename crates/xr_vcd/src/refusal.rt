@@ -28,7 +28,7 @@ pub enum VcdErr {
 }
 
 impl VcdErr {
-    /// The fault of the text, where it isn't want of memory.
+    /// The fault of the text, where it isn't out of memory.
     pub fn fault(self) -> Option<RecordingFault>
         ensures is { result ≡ fault_of self }
         ensures memory { (result ≡ None) ↔ (self ≡ OutOfMemory) }

@@ -11,8 +11,8 @@ pub struct Scope {
     pub name: Items<u8>,
 }
 
-/// A variable. `scope` is a position in the recording's scopes. `reference` is the text as recorded: with its range where that
-/// stands directly behind it, as `direct` says. A range `[i]` is (i, i). `width` is 1 to 2^20.
+/// A variable. `scope` is a position in the recording's scopes. `reference` is the text as recorded: with its range
+/// where that stands directly after it, as `direct` says. A range `[i]` is (i, i). `width` is 1 to 2^20.
 #[derive(Debug, Drop)]
 pub struct Variable {
     pub scope: u32,
@@ -26,7 +26,7 @@ impl Variable {
     ghost use Rattle.std.specs.Prelude.{◌≡◌};
     ghost use Rattle.xr_vcd.specs.Bytes.{without_range};
 
-    /// The reference without a range directly behind it. Takes no memory.
+    /// The reference without a range directly after it. Takes no memory.
     pub fn bare_reference(&self) -> &[u8]
         ensures { result.now ≡ without_range self.now.direct self.now.reference }
     {

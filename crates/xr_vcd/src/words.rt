@@ -67,7 +67,7 @@ impl<'a> Words<'a> {
     }
 }
 
-/// The next word of these bytes, what is left behind it, and the place of that.
+/// The next word of these bytes, what is left after it, and the place of that.
 fn next_word(bytes: &[u8], start: usize) -> (Option<(usize, &[u8])>, &[u8], usize)
     requires { start + length bytes.now < 2 ^ 64 }
     ensures tells { Takes (left_of start bytes.now) result.0 (left_of result.2 result.1.now) }

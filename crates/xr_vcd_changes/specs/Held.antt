@@ -11,7 +11,8 @@ pub record Change : Type 0 where
 abbrev pub change : ℕ → List ℕ → Change
 change moment digits = record { moment = moment; digits = digits }
 
--- What a code holds in a moment, where it held `had` before its changes: the digits of its last change in the moment or before it.
+-- What a code holds in a moment, where it held `had` before its changes: the digits of its last change in the moment or
+-- before it.
 abbrev pub held : ℕ → List Change → List ℕ → List ℕ
 held moment [] had = had
 held moment (c ∷ cs) had = held moment cs (if nat_le c.moment moment then c.digits else had)
@@ -45,7 +46,7 @@ pub record History : Type 0 where
 abbrev pub track_of : List (List Change) → ℕ → List Change
 track_of tracks code = slice_index_or tracks code []
 
--- with a change of the code behind those that it had
+-- with a change of the code after those that it had
 abbrev pub with_change : List (List Change) → ℕ → Change → List (List Change)
 with_change tracks code c = slice_set tracks code (track_of tracks code ++ c ∷ [])
 

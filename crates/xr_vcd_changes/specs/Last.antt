@@ -4,7 +4,7 @@ use Rattle.xr_cell.specs.declared.value.Value.{Value}
 use Rattle.xr_cell.specs.declared.value.Value.TheVariants.{X}
 use Rattle.xr_vcd_changes.specs.Held.{Change, digit_value, extended}
 
--- It comes in the moment or before it, and each change behind it comes after the moment.
+-- It comes in the moment or before it, and each change after it comes after the moment.
 pub record IsLastChange (moment : ℕ) (changes : List Change) (c : Change) : Type 0 where
   pub front : List Change
   pub rest : List Change

@@ -23,7 +23,7 @@ pub record IsTrack (texts moment : ℕ) (entries : List Entry) : Type 0 where
 abbrev pub shown : ℕ → List (List ℕ) → List (List Entry) → History
 shown moment texts tracks = record { moment = moment; tracks = map (changes_of texts) tracks }
 
--- The first entries, so many, come in the moment or before it.
+-- The first entries, a given number of them, come in the moment or before it.
 pub record IsBefore (moment : ℕ) (entries : List Entry) (count : ℕ) : Type 0 where
   pub within : count ≤ length entries
   pub each : (k : ℕ) (d : Entry) → k < count → nat_le (slice_index_or entries k d).moment moment ≡ true
@@ -31,7 +31,7 @@ pub record IsBefore (moment : ℕ) (entries : List Entry) (count : ℕ) : Type 0
 abbrev pub comes_up_to : ℕ → Entry → Bool
 comes_up_to moment entry = nat_le entry.moment moment
 
--- The first entries, so many, come in the moment or before it, and no other does.
+-- The first entries, a given number of them, come in the moment or before it, and no other does.
 abbrev pub ComeUpTo : ℕ → List Entry → ℕ → Type 0
 ComeUpTo moment entries count =
     IsPartitionPoint (λ (e : Entry). comes_up_to moment e ≡ true) (λ (e : Entry). comes_up_to moment e ≡ false) entries count

@@ -1,4 +1,4 @@
--- Texts that stand one behind the other.
+-- Texts that stand one after the other.
 use Rattle.std.specs.Prelude.{◌≡◌, ℕ, ◌<◌, ◌≤◌, List, [], ◌∷◌, length, slice_index_or, slice_range}
 
 -- These bytes, from a start on, cut at these ends.
@@ -15,7 +15,7 @@ IsCut count start (e ∷ es) = (start ≤ e) × IsCut count e es
 abbrev pub singles : List (List ℕ)
 singles = (48 ∷ []) ∷ (49 ∷ []) ∷ (120 ∷ []) ∷ (88 ∷ []) ∷ (122 ∷ []) ∷ (90 ∷ []) ∷ []
 
--- Texts are only added behind those that were there.
+-- Texts are only added after those that were there.
 pub record Grows (old new : List (List ℕ)) : Type 0 where
   pub longer : length old ≤ length new
   pub kept : (n : ℕ) → n < length old → slice_index_or new n [] ≡ slice_index_or old n []

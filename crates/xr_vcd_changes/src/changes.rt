@@ -11,8 +11,8 @@ use std::marker::Model;
 use xr_base::Memory;
 use xr_cell::Value;
 
-/// The changes of codes, each code by its number. A change takes 8 bytes, and one of more than a single digit 4 more and a byte
-/// for each digit.
+/// The changes of codes, each code by its number. A change takes 8 bytes, and one of more than a single digit 4 more
+/// and a byte for each digit.
 #[derive(Drop)]
 pub struct Changes {
     digits: Digits,
@@ -79,8 +79,8 @@ impl Changes {
         track.len()
     }
 
-    /// The value of one bit of a code, counted from the left, in the moment: of a code without a number x. Takes no memory, and
-    /// time by the logarithm of the number of the code's changes.
+    /// The value of one bit of a code, counted from the left, in the moment: of a code without a number x. Takes no
+    /// memory, and time by the logarithm of the number of the code's changes.
     pub fn value(&self, code: usize, width: u32, bit: u32, moment: u32) -> Value
         requires { bit < width }
         ensures is { result ≡ bit_value (track_of self.now.tracks code) width bit moment }
@@ -90,8 +90,8 @@ impl Changes {
         value
     }
 
-    /// The same from a hint on: how many changes of the code came in some moment or before it. The answer has that number for
-    /// this moment, and the time is what lies between; any other hint is as good as none.
+    /// The same from a hint on: how many changes of the code came in some moment or before it. The answer has that
+    /// number for this moment, and the time is what lies between; any other hint is as good as none.
     #[tactic(auto, using(crate::proofs::LastLemmas::is_last_value))]
     pub fn value_near(
         &self,

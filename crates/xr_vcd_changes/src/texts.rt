@@ -1,4 +1,4 @@
-//! Texts one behind the other, by number.
+//! Texts one after the other, by number.
 
 ghost use Rattle.std.specs.Prelude.{◌≡◌, ℕ, ◌+◌, ◌-◌, ◌<◌, ◌≤◌, ◌^◌, [], ◌∷◌, ◌++◌, List, length, OnOk, OnErr, IfOk, slice_index, slice_index_or, slice_range};
 
@@ -42,7 +42,7 @@ impl Texts {
         self.ends.len()
     }
 
-    /// A text behind the others. More than 2^32 - 1 bytes are want of memory.
+    /// A text after the others. More than 2^32 - 1 bytes count as out of memory.
     pub fn push(&mut self, text: &[u8]) -> Result<(), Memory>
         ensures added { OnOk result (self.new ≡ self.old ++ text.now ∷ []) }
         ensures err { OnErr result (self.new ≡ self.old) }

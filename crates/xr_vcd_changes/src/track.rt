@@ -78,7 +78,7 @@ impl Track {
         }
     }
 
-    /// Whether so many are there, and all come in the moment or before it.
+    /// Whether that many are there, and all come in the moment or before it.
     fn is_before(&self, moment: u32, count: usize) -> bool
         requires { IsNonDecreasingBy (λ (e : Entry). e.moment) self.now }
         ensures { result ≡ true → IsBefore moment self.now count }
@@ -100,7 +100,7 @@ impl Track {
     }
 }
 
-/// How many come in the moment or before it, where so many do.
+/// How many come in the moment or before it, where that many do.
 fn count_on(entries: &[Entry], moment: u32, from: usize) -> usize
     requires sorted { IsNonDecreasingBy (λ (e : Entry). e.moment) entries.now }
     requires from { IsBefore moment entries.now from }

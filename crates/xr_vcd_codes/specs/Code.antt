@@ -2,7 +2,8 @@
 use Rattle.std.specs.Prelude.{ℕ, zero, suc, ◌+◌, List, [], ◌∷◌, Bool, not, ◌||◌, Option, Some, None, cond, bytes_eq}
 use Rattle.xr_vcd_codes.specs.declared.codes.Found.{Found}
 
--- A code, its width, and two facts: some variable with it is skipped by its kind, as a real or an event is, and some is listed.
+-- A code, its width, and two facts: some variable with it is skipped by its kind, as a real or an event is, and some is
+-- listed.
 pub record Code : Type 0 where
   pub text : List ℕ
   pub width : ℕ

@@ -5,8 +5,8 @@ use Rattle.std.specs.Map.{lookup}
 use Rattle.xr_vcd_codes.specs.Code.{Code}
 use denote.Ref.{Bor}
 
--- A short code is one to four bytes 33 to 126, of which the fourth is 33 or 34. So are the first 2^20 codes that simulators give,
--- who count in base 94, the least digit first.
+-- A short code is one to four bytes 33 to 126, of which the fourth is 33 or 34. So are the first 2^20 codes that
+-- simulators give, who count in base 94, the least digit first.
 abbrev pub is_slot_byte : ℕ → Bool
 is_slot_byte b = nat_le 33 b && nat_le b 126
 

@@ -11,7 +11,8 @@ use std::alloc::Global;
 use std::marker::Model;
 use xr_base::Memory;
 
-/// A code that was found: its number from 0, its width, whether some variable with it is skipped, and whether some is listed.
+/// A code that was found: its number from 0, its width, whether some variable with it is skipped, and whether some is
+/// listed.
 #[derive(Clone, Copy)]
 pub struct Found {
     pub number: usize,
@@ -20,8 +21,8 @@ pub struct Found {
     pub listed: bool,
 }
 
-/// The codes of a text, in the order of their declaration. A code takes 24 bytes and its place in a table of at most 2,572,125
-/// numbers, or in a map where it isn't short.
+/// The codes of a text, in the order of their declaration. A code takes 24 bytes and its place in a table of at most
+/// 2,572,125 numbers, or in a map where it isn't short.
 #[derive(Drop)]
 pub struct Codes<'a> {
     columns: Columns<'a>,
@@ -81,7 +82,7 @@ impl<'a> Codes<'a> {
         })
     }
 
-    /// A new code, of one variable, which takes the next number. More than 2^32 - 2 codes are want of memory.
+    /// A new code, of one variable, which takes the next number. More than 2^32 - 2 codes count as out of memory.
     pub fn add(&mut self, text: &'a [u8], width: u32, skipped: bool) -> Result<(), Memory>
         requires { find self.old text.now ≡ None }
         ensures { OnOk result (self.new ≡ self.old ++ code text.now width skipped ∷ []) }

@@ -65,7 +65,7 @@ impl<'a> Columns<'a> {
         self.marks[number]
     }
 
-    /// A code behind the others, of one variable.
+    /// A code after the others, of one variable.
     pub fn push(&mut self, text: &'a [u8], width: u32, skipped: bool) -> Result<(), Memory>
         ensures added { OnOk result (self.new ≡ self.old ++ code text.now width skipped ∷ []) }
         ensures err { OnErr result (self.new ≡ self.old) }
@@ -96,7 +96,7 @@ impl<'a> Columns<'a> {
         self.marks[number] = marked(old, skipped);
     }
 
-    /// Keeps so many codes, at most as many as there are.
+    /// Keeps a given number of codes, at most as many as there are.
     pub fn truncate(&mut self, count: usize)
         ensures { self.new ≡ take count self.old }
     {

@@ -4,6 +4,7 @@ mod FoundLines
 mod LineGrowth
 mod NextClass
 mod OneWave
+mod RootPlaces
 mod ShownPlaces
 mod WaveGrowth
 mod Ways

@@ -21,6 +21,7 @@ pub wave_grown : (c : Contents) (x : Written) (new : List ALine) → IsWave c
 wave_grown c x new is next = record {
   fits = is.fits;
   handed = is.handed;
+  limited = is.limited;
   holds = grown (job c) c.limit is.fits.fits_job (shown_in c) c.written c.lines x new is.holds next;
 }
 

@@ -30,12 +30,12 @@ with_written c written = record c { written = c.written ++ written ∷ [] }
 abbrev pub Contradicts : Contents → Written → Type 0
 Contradicts c written = IsOptimistic written.mark written.value (shown_in c (next_number c))
 
--- What is told then: the place, what the history shows there, what is found, x where that isn't certain, and the lines.
-pub record Told (c : Contents) (written : Written) (told : Optimistic) : Type 0 where
-  pub place_is : told.place ≡ place_at (job c) (next_number c)
-  pub replayed_is : told.replayed ≡ shown_in c (next_number c)
-  pub found_is : told.found ≡ certain_by written.mark written.value
-  pub lines_are : told.lines.items ≡ c.lines
+-- What is reported then: the place, what the history shows there, what is found, x where that isn't certain, and the lines.
+pub record Reports (c : Contents) (written : Written) (optimistic : Optimistic) : Type 0 where
+  pub place_is : optimistic.place ≡ place_at (job c) (next_number c)
+  pub replayed_is : optimistic.replayed ≡ shown_in c (next_number c)
+  pub found_is : optimistic.found ≡ certain_by written.mark written.value
+  pub lines_are : optimistic.lines.items ≡ c.lines
 
 -- A wave goes on by places whose class says what they are, one by one, none of which contradicts the history.
 pub data GoesOn (start : Contents) : Contents → Type 0 where
@@ -49,10 +49,10 @@ pub record IsAdvanced (start c : Contents) : Type 0 where
   pub stops : IsPlain (next_seen c) → ⊥
 
 -- It has gone on up to a place that the history knows otherwise.
-pub record IsObjected (start : Contents) (told : Optimistic) : Type 0 where
+pub record IsObjected (start : Contents) (optimistic : Optimistic) : Type 0 where
   pub before : Contents
   pub goes : GoesOn start before
   pub wave : IsWave before
   pub plain : IsPlain (next_seen before)
   pub contradicts : Contradicts before (plain_written before)
-  pub is_told : Told before (plain_written before) told
+  pub reports : Reports before (plain_written before) optimistic

@@ -5,7 +5,7 @@ use Rattle.xr_design.specs.declared.design.Design.{Design}
 use Rattle.xr_design.specs.declared.stim.Stim.{Stim}
 use Rattle.xr_design.specs.declared.place.Place.{Place}
 use Rattle.xr_design.specs.declared.waveform.Written.{Written}
-use Rattle.xr_design.specs.Circuit.{FitsCircuit}
+use Rattle.xr_design.specs.Circuit.{PartsFit}
 use Rattle.xr_design.specs.Filling.{IsPlace}
 use Rattle.xr_design.specs.Fits.{place_at}
 use Rattle.xr_design.specs.Handed.{IsHandedIn, shown_of}
@@ -66,10 +66,16 @@ nothing_written design order stim history limit = record {
 abbrev pub shown_in : Contents → ℕ → Value
 shown_in c = shown_of (job c) c.history
 
--- It is of a circuit that fits and a history of its job; it is sound, and its lines yield it.
+-- How many clauses the log of a licence may have: 1 to 100,000.
+pub record IsLimit (limit : ℕ) : Type 0 where
+  pub some : 0 < limit
+  pub few : limit ≤ 100000
+
+-- It is of a circuit that fits, a history of its job and a limit; it is sound, and its lines yield it.
 pub record IsWave (c : Contents) : Type 0 where
-  pub fits : FitsCircuit c.design c.order c.stim
+  pub fits : PartsFit c.design c.order c.stim
   pub handed : IsHandedIn (job c) c.history
+  pub limited : IsLimit c.limit
   pub holds : Holds (job c) c.limit (shown_in c) c.written c.lines
 
 -- The number of the next place, and the class of a place.

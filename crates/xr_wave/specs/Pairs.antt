@@ -1,5 +1,5 @@
 -- The two fillings of an unknown place, and where the lines are found that state them.
-use Rattle.std.specs.Prelude.{◌≡◌, ℕ, ◌<◌, ◌≤◌, List, length, map, slice_index}
+use Rattle.std.specs.Prelude.{◌≡◌, ℕ, ◌<◌, ◌≤◌, Bool, List, length, map, slice_index}
 use Rattle.std.specs.List.{AllByRecursion}
 use Rattle.std.specs.List.Sorted.{IsStrictlyIncreasing}
 use Rattle.xr_design.specs.declared.place.Place.{Place}
@@ -12,7 +12,7 @@ use Rattle.xr_model.specs.Root.{Root, root_of}
 use Rattle.xr_model.specs.Stated.{Stated, body_at, pair_of, stated, stated_by}
 use Rattle.xr_model.specs.Yields.{places_of_lines}
 use Rattle.xr_model.specs.declared.line.Line.{Line as ALine}
-use Rattle.xr_wave.specs.Contents.{Contents, class_in, job, written_of}
+use Rattle.xr_wave.specs.Contents.{Contents, IsWritten, class_in, job, written_of}
 
 -- What stands at a place is unknown.
 abbrev pub IsUnknown : Contents → Place → Type 0
@@ -36,6 +36,12 @@ root_in c number = root_of (job c) (certain c.written) number
 
 abbrev pub stated_at_root : Contents → ℕ → Stated
 stated_at_root c number = stated_by (job c) (class_in c number) (body_at (job c) c.lines number) number
+
+-- A place and a bit are the root of a written place, and whether the way to it inverts.
+pub record IsRootOf (c : Contents) (written_place : Place) (root : Place × Bool) : Type 0 where
+  pub written : IsWritten c root.0
+  pub place : number_of (job c) root.0 ≡ (root_in c (number_of (job c) written_place)).place
+  pub inverted : root.1 ≡ (root_in c (number_of (job c) written_place)).inverted
 
 -- The numbers of the places of lines.
 abbrev pub numbers_of : Job → List ALine → List ℕ

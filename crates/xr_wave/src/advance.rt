@@ -5,7 +5,7 @@ ghost use Rattle.xr_design.specs.declared.waveform.Mark.TheVariants.{Certain};
 ghost use Rattle.xr_design.specs.Waveform.{written_at};
 ghost use Rattle.xr_model.specs.Sound.{IsOptimistic};
 ghost use Rattle.xr_model.specs.Yields.{carried_of, certain_bit, flipped_value};
-ghost use Rattle.xr_wave.specs.Advance.{Contradicts, IsAdvanced, IsObjected, IsPlain, Told, plain_written, with_written};
+ghost use Rattle.xr_wave.specs.Advance.{Contradicts, IsAdvanced, IsObjected, IsPlain, Reports, plain_written, with_written};
 ghost use Rattle.xr_wave.specs.Contents.{IsWave, next_number, next_seen, shown_in};
 ghost use Rattle.xr_wave.specs.Token.{HasNext};
 
@@ -34,12 +34,12 @@ impl<'a> Wave<'a> {
         requires plain { IsPlain (next_seen self) }
         ensures ok { IfOk result (λ w. w ≡ with_written self.entry (plain_written self.entry)) }
         ensures optimistic { IsErr result ↔ Contradicts self.entry (plain_written self.entry) }
-        ensures told { IfErr result (λ o. Told self.entry (plain_written self.entry) o) }
+        ensures reported { IfErr result (λ o. Reports self.entry (plain_written self.entry) o) }
     {
         let shown = self.shown_next();
         let written = next_written(&self, shown);
         if is_optimistic(written, shown) {
-            return Err(told(self, written, shown));
+            return Err(optimistic_of(self, written, shown));
         }
         Ok(self.write(written))
     }
@@ -47,7 +47,7 @@ impl<'a> Wave<'a> {
     /// Writes each place up to the next Line place, or to the end, as `advance` does. Takes no memory.
     pub fn advance_to_line(self) -> Result<Wave<'a>, Optimistic>
         ensures ok { IfOk result (IsAdvanced self.entry) }
-        ensures told { IfErr result (IsObjected self.entry) }
+        ensures reported { IfErr result (IsObjected self.entry) }
     {
         let mut wave = self;
         'places: while is_plain_next(&wave) {
@@ -72,10 +72,10 @@ fn is_plain_next(wave: &Wave<'_>) -> bool
 }
 
 /// Gives a wave up over its next place.
-pub(crate) fn told(wave: Wave<'_>, written: Written, replayed: Value) -> Optimistic
+pub(crate) fn optimistic_of(wave: Wave<'_>, written: Written, replayed: Value) -> Optimistic
     requires within { HasNext wave }
     requires replayed { replayed ≡ shown_in wave (next_number wave) }
-    ensures { Told wave.entry written result }
+    ensures { Reports wave.entry written result }
 {
     Optimistic {
         place: wave.place_behind(),

@@ -8,7 +8,6 @@ ghost use Rattle.xr_design.specs.Job.{places_of};
 
 use std::marker::Model;
 use xr_design::{Circuit, Place};
-use xr_wave_bytes::place_of;
 
 /// At most 13 places. Contracts see the list.
 #[derive(Debug, Drop)]
@@ -64,7 +63,7 @@ pub(crate) fn places_of_numbers(circuit: &Circuit<'_>, numbers: &[usize]) -> Arg
 {
     let mut arguments = Arguments::new();
     'numbers: for number in numbers {
-        arguments.push(place_of(circuit, *number));
+        arguments.push(circuit.place_of(*number));
     }
     arguments
 }

@@ -1,10 +1,10 @@
 //! Writing the Line places: each spends one token, and appends one line.
 
 ghost use Rattle.std.specs.Prelude.{◌≡◌, ◌↔◌, IsTrue, IfOk, IfErr};
-ghost use Rattle.xr_wave.specs.Advance.{Told};
+ghost use Rattle.xr_wave.specs.Advance.{Reports};
 ghost use Rattle.xr_wave.specs.Token.{HasNext, IsLineNext, LineAgrees, LineContradicts, LineHolds, LineYields, budget_line, pair_line, settled_line, with_line, written_by_line};
 
-use crate::advance::{Optimistic, certain_written, is_optimistic, told};
+use crate::advance::{Optimistic, certain_written, is_optimistic, optimistic_of};
 use crate::token::{Budget, Pair, Settled};
 use crate::wave::Wave;
 use xr_base::Memory;
@@ -82,13 +82,13 @@ impl<'a> Wave<'a> {
         requires class { IsLineNext self }
         requires token { LineHolds self (settled_line proof) }
         requires contradicts { LineContradicts self (settled_line proof) }
-        ensures told { Told self.entry (written_by_line self.entry (settled_line proof)) result }
+        ensures reported { Reports self.entry (written_by_line self.entry (settled_line proof)) result }
         ensures yields { LineYields self.entry (settled_line proof) }
     {
         let shown = self.shown_next();
         let written = certain_written(proof.value());
         let _ = proof.into_line();
-        told(self, written, shown)
+        optimistic_of(self, written, shown)
     }
 
     /// Gives the wave up over its next place, which the history knows and which is unknown. Takes no memory.
@@ -96,7 +96,7 @@ impl<'a> Wave<'a> {
         requires class { IsLineNext self }
         requires token { LineHolds self (pair_line proof) }
         requires contradicts { LineContradicts self (pair_line proof) }
-        ensures told { Told self.entry (written_by_line self.entry (pair_line proof)) result }
+        ensures reported { Reports self.entry (written_by_line self.entry (pair_line proof)) result }
         ensures yields { LineYields self.entry (pair_line proof) }
     {
         let shown = self.shown_next();
@@ -105,7 +105,7 @@ impl<'a> Wave<'a> {
             mark: Mark::Unknown,
         };
         let _ = proof.into_line();
-        told(self, written, shown)
+        optimistic_of(self, written, shown)
     }
 
     /// Gives the wave and a token up where there is no memory. Takes none.

@@ -6,14 +6,13 @@ ghost use Rattle.xr_design.specs.Filling.{IsPlace};
 ghost use Rattle.xr_model.specs.Class.{flipped};
 ghost use Rattle.xr_model.specs.Stated.{body_at, pair_of, stated_in as stated_in_body};
 ghost use Rattle.xr_wave.specs.Contents.{IsWave, IsWritten, job};
-ghost use Rattle.xr_wave.specs.Pairs.{AreInOrder, AreParted, AreStated, GiveBoth, IsUnknown, root_in, stated_at_root, stated_in};
+ghost use Rattle.xr_wave.specs.Pairs.{AreInOrder, AreParted, AreStated, GiveBoth, IsRootOf, IsUnknown, root_in, stated_at_root, stated_in};
 
 use crate::wave::Wave;
 use std::alloc::Global;
 use xr_base::{Items, Memory};
 use xr_design::{Circuit, Filling, Mark, Place};
 use xr_model::{Body, ClassByNumber, Line};
-use xr_wave_bytes::{number_of, place_of};
 
 /// The root of a place, and whether the way to it inverts.
 #[derive(Clone, Copy, Debug)]
@@ -31,12 +30,23 @@ impl<'a> Wave<'a> {
         ensures stated { IfOk result (λ pair. IfSome pair (AreStated self.now place)) }
         ensures both { IfOk result (λ pair. IfSome pair (GiveBoth self.now place)) }
     {
-        let number = number_of(&self.circuit(), place);
+        let number = self.circuit().number_of(place);
         match self.written(number).mark {
             Mark::Unknown => Ok(Some(self.stated(alloc, number)?)),
             Mark::Certain => Ok(None),
             Mark::Undecided => Ok(None),
         }
+    }
+
+    /// The root of a written place, and whether the way to it inverts: in the world of every filling the place has the
+    /// bit of its root, or its complement where the way inverts. Takes no memory.
+    pub fn root_at(&self, place: Place) -> (Place, bool)
+        requires { IsWritten self.now place }
+        ensures { IsRootOf self.now place result }
+    {
+        let circuit = self.circuit();
+        let root = self.root(circuit.number_of(place));
+        (circuit.place_of(root.place), root.inverted)
     }
 
     /// The fillings of a root, swapped where the way to it inverts.
@@ -79,7 +89,7 @@ impl<'a> Wave<'a> {
     {
         let circuit = self.circuit();
         match self.class_by_number(number) {
-            ClassByNumber::Free => free_fillings(alloc, place_of(&circuit, number)),
+            ClassByNumber::Free => free_fillings(alloc, circuit.place_of(number)),
             ClassByNumber::Line => fillings_of(alloc, body_of(&circuit, self.lines(), number)),
             ClassByNumber::Local(_) => no_fillings(alloc),
             ClassByNumber::Carried(_, _) => no_fillings(alloc),
@@ -150,7 +160,7 @@ fn body_if<'l>(circuit: &Circuit<'_>, line: &'l Line, number: usize) -> Option<&
     requires place { IsPlace (job_in circuit.now) line.now.place }
     ensures { option_copied result ≡ body_at (job_in circuit.now) (line.now ∷ []) number }
 {
-    if number_of(circuit, line.place) == number {
+    if circuit.number_of(line.place) == number {
         Some(&line.body)
     } else {
         None
@@ -167,7 +177,7 @@ fn lines_before(circuit: &Circuit<'_>, lines: &[Line], number: usize) -> usize
     let mut high = lines.len();
     'halves: while low < high {
         let middle = low + (high - low) / 2;
-        if number_of(circuit, lines[middle].place) < number {
+        if circuit.number_of(lines[middle].place) < number {
             low = middle + 1;
         } else {
             high = middle;

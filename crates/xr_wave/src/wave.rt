@@ -2,7 +2,7 @@
 
 ghost use Rattle.std.specs.Prelude.{◌≡◌, ◌<◌, ◌≤◌, [], IfOk, IfErr, length, map};
 ghost use Rattle.xr_cell.specs.declared.value.Value.{Value as AnyValue};
-ghost use Rattle.xr_design.specs.Circuit.{FitsCircuit, CircuitFits, job_in};
+ghost use Rattle.xr_design.specs.Circuit.{PartsFit, CircuitFits, job_in};
 ghost use Rattle.xr_design.specs.Fits.{place_at};
 ghost use Rattle.xr_design.specs.Handed.{IsHandedIn};
 ghost use Rattle.xr_design.specs.Job.{job_of, number_of, places_of};
@@ -12,7 +12,7 @@ ghost use Rattle.xr_model.specs.Growth.{NextHolds};
 ghost use Rattle.xr_model.specs.Sound.{Sound};
 ghost use Rattle.xr_model.specs.Yields.{Yields};
 ghost use Rattle.xr_wave.specs.Advance.{with_written};
-ghost use Rattle.xr_wave.specs.Contents.{FromWithin, IsReached, IsWave, IsWritten, arguments_in, class_in, job, next_number, next_place, next_seen, nothing_written, rule_in, shown_in, written_of};
+ghost use Rattle.xr_wave.specs.Contents.{FromWithin, IsLimit, IsReached, IsWave, IsWritten, arguments_in, class_in, job, next_number, next_place, next_seen, nothing_written, rule_in, shown_in, written_of};
 ghost use Rattle.xr_wave_bytes.specs.View.{next_class};
 ghost use Rattle.xr_wave.specs.Token.{HasNext, IsLineNext, LineAgrees, LineHolds, with_line, written_by_line};
 
@@ -23,7 +23,7 @@ use xr_base::Memory;
 use xr_cell::Value;
 use xr_design::{Circuit, Design, History, Mark, Order, Place, Stim, Written, count_places};
 use xr_model::{Class, ClassByNumber, Line};
-use xr_wave_bytes::{Waveform, number_of, place_of};
+use xr_wave_bytes::Waveform;
 
 /// What is known of the places of a circuit so far, in place order, and the lines that say why.
 #[derive(Debug, Drop)]
@@ -54,7 +54,8 @@ impl<'a> Model for Wave<'a> {
 }
 
 impl<'a> Wave<'a> {
-    /// A wave of which nothing is written. Takes a byte for each place, 16 bytes for each net, 8 to 24 for each pin.
+    /// A wave of which nothing is written. `limit` is how many clauses the log of a licence has, 1 to 100,000. Takes a
+    /// byte for each place, 16 bytes for each net, 8 to 24 for each pin.
     pub fn new(
         alloc: Global,
         design: &'a Design,
@@ -63,8 +64,9 @@ impl<'a> Wave<'a> {
         replayed: &'a History,
         limit: u32,
     ) -> Result<Wave<'a>, Memory>
-        requires fits { FitsCircuit design.now order.now stim.now }
+        requires fits { PartsFit design.now order.now stim.now }
         requires handed { IsHandedIn (job_of design.now order.now stim.now) replayed.now }
+        requires limit { IsLimit limit }
         ensures { IfOk result (λ w. w ≡ nothing_written design.now order.now stim.now replayed.now limit) }
     {
         let circuit = Circuit {
@@ -146,7 +148,7 @@ impl<'a> Wave<'a> {
         ensures { result ≡ class_seen (job self.now) (class_in self.now (number_of (job self.now) place)) }
     {
         let circuit = self.circuit();
-        let number = number_of(&circuit, place);
+        let number = circuit.number_of(place);
         seen_class(&circuit, self.class_by_number(number))
     }
 
@@ -166,7 +168,7 @@ impl<'a> Wave<'a> {
         ensures { result ≡ map (place_at (job self.now)) (arguments_in self.now (number_of (job self.now) place)) }
     {
         let circuit = self.circuit();
-        let number = number_of(&circuit, place);
+        let number = circuit.number_of(place);
         let numbers = self.parts.waveform.argument_places(number);
         places_of_numbers(&circuit, numbers.as_slice())
     }
@@ -177,7 +179,7 @@ impl<'a> Wave<'a> {
         requires { IsReached self.now place }
         ensures { result ≡ rule_in self.now (number_of (job self.now) place) bits }
     {
-        let number = number_of(&self.circuit(), place);
+        let number = self.circuit().number_of(place);
         self.parts.waveform.rule_value(number, bits)
     }
 
@@ -186,7 +188,7 @@ impl<'a> Wave<'a> {
         requires { IsWritten self.now place }
         ensures { result ≡ (written_of self.now place).value }
     {
-        self.written(number_of(&self.circuit(), place)).value
+        self.written(self.circuit().number_of(place)).value
     }
 
     /// What is known of a place. Takes no memory.
@@ -194,7 +196,7 @@ impl<'a> Wave<'a> {
         requires { IsWritten self.now place }
         ensures { result ≡ (written_of self.now place).mark }
     {
-        self.written(number_of(&self.circuit(), place)).mark
+        self.written(self.circuit().number_of(place)).mark
     }
 
     /// The lines, one for each Line place that is written, in place order. They yield the waveform, which is sound. No
@@ -313,7 +315,7 @@ fn seen_class(circuit: &Circuit<'_>, class: ClassByNumber) -> Class
     match class {
         ClassByNumber::Local(bit) => Class::Local(bit),
         ClassByNumber::Free => Class::Free,
-        ClassByNumber::Carried(from, inverted) => Class::Carried(place_of(circuit, from), inverted),
+        ClassByNumber::Carried(from, inverted) => Class::Carried(circuit.place_of(from), inverted),
         ClassByNumber::Line => Class::Line,
     }
 }

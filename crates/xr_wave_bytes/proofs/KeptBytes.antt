@@ -10,7 +10,7 @@ use Rattle.xr_design.specs.Fits.{Fits}
 use Rattle.xr_design.specs.Job.{Job, places_of, step_of}
 use Rattle.xr_design.specs.Waveform.{certain, certain_by, written_at}
 use Rattle.xr_design.proofs.Rules.{spot}
-use Rattle.xr_model.specs.Class.{before, carries_on, class_of}
+use Rattle.xr_model.specs.Class.{before, is_carried_on, class_of}
 use Rattle.xr_model.specs.Yields.{is_line}
 use Rattle.xr_model.specs.declared.class.ClassByNumber.{ClassByNumber}
 use Rattle.xr_model.proofs.ClassesBefore.{class_local}
@@ -130,7 +130,7 @@ four_same a b d e p q r s ap_is bq_is dr_is es_is = rw (ap_is, bq_is, dr_is, es_
 
 -- What is found of the class of the next place and of its value are its facts.
 pub facts_found : (step back : ℕ) (class : ClassByNumber) (here value_back : Value) (carries plain line keeps : Bool)
-    → carries ≡ carries_on class back → plain ≡ is_plain class → line ≡ is_line class → keeps ≡ keeps_by step here value_back carries
+    → carries ≡ is_carried_on class back → plain ≡ is_plain class → line ≡ is_line class → keeps ≡ keeps_by step here value_back carries
     → facts carries plain line keeps ≡ facts_by step back class here value_back
 facts_found step back class here value_back carries plain line keeps carries_is plain_is line_is keeps_is =
     four_same carries plain line keeps _ _ _ _ carries_is plain_is line_is (keeps_is ∙ ap (keeps_by step here value_back) carries_is)

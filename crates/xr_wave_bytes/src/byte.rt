@@ -19,7 +19,7 @@ pub fn written_in(byte: u8) -> Written
 }
 
 /// Whether its class carries on from the step before.
-pub fn carries_on(byte: u8) -> bool
+pub fn is_carried_on(byte: u8) -> bool
     ensures { result ≡ (facts_of_byte byte).carries }
 {
     byte / 16 % 2 == 1

@@ -6,7 +6,7 @@ ghost use Rattle.xr_cell.specs.declared.value.Value.{Value as AnyValue};
 ghost use Rattle.xr_design.specs.Circuit.{job_in, CircuitFits};
 ghost use Rattle.xr_design.specs.Job.{places_of};
 ghost use Rattle.xr_design.specs.Waveform.{certain, certain_by};
-ghost use Rattle.xr_model.specs.Class.{before, carries_on};
+ghost use Rattle.xr_model.specs.Class.{before, is_carried_on};
 ghost use Rattle.xr_model.specs.Yields.{is_line};
 ghost use Rattle.xr_class.specs.Facts.{is_plain};
 ghost use Rattle.xr_class.specs.Wires.{AreWiresOf};
@@ -15,7 +15,7 @@ ghost use Rattle.xr_wave_bytes.specs.View.{next_class};
 ghost use Rattle.xr_wave_bytes.specs.Front.{StandsAt};
 ghost use Rattle.xr_wave_bytes.specs.Kept.{BytesTell, IsKept, SayTheSame, StepKeeps, ValuesAgree, facts_next};
 
-use crate::byte::{byte_of, carries_on, is_line, is_plain, keeps, written_in};
+use crate::byte::{byte_of, is_carried_on, is_line, is_plain, keeps, written_in};
 use crate::front::Front;
 use xr_cell::Value;
 use xr_class::{Earlier, class_at, keeps_here, place_before};
@@ -42,8 +42,8 @@ impl<'w> Source for Bytes<'w> {
 impl<'w> Earlier for Bytes<'w> {
     ghost facts = { λ s place. facts_in s.bytes.now place };
 
-    fn carries_on(&self, place: usize) -> bool {
-        carries_on(self.bytes[place])
+    fn is_carried_on(&self, place: usize) -> bool {
+        is_carried_on(self.bytes[place])
     }
 
     fn is_plain(&self, place: usize) -> bool {
@@ -185,7 +185,7 @@ fn is_line_class(next: Option<ClassByNumber>) -> bool
 fn is_carrying_on(circuit: &Circuit<'_>, place: usize, next: Option<ClassByNumber>) -> bool
     requires fits { CircuitFits circuit.now }
     requires within { place < places_of (job_in circuit.now) }
-    ensures { IfSome next (λ class. result ≡ carries_on class (before (job_in circuit.now) place)) }
+    ensures { IfSome next (λ class. result ≡ is_carried_on class (before (job_in circuit.now) place)) }
 {
     match next {
         Some(ClassByNumber::Carried(from, false)) => from == place_before(circuit, place),

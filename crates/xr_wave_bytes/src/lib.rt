@@ -7,9 +7,7 @@
 mod byte;
 mod bytes;
 mod front;
-mod places;
 mod waveform;
 
 pub use bytes::value_if_certain;
-pub use places::{number_of, place_of};
 pub use waveform::Waveform;

@@ -5,7 +5,6 @@ ghost use Rattle.xr_design.specs.Circuit.{job_in, CircuitFits};
 ghost use Rattle.xr_design.specs.Filling.{bit_of};
 ghost use Rattle.xr_world.specs.Left.{Decides, IsLeft};
 
-use crate::places::number_of;
 use xr_design::{Circuit, Place};
 
 /// The filling's bit at the place of a number, and what is left behind it.
@@ -19,7 +18,7 @@ pub fn next_bit<'f>(circuit: &Circuit<'_>, left: &'f [Place], place: usize) -> (
 {
     match left {
         [first, rest @ ..] => {
-            if number_of(circuit, *first) == place {
+            if circuit.number_of(*first) == place {
                 (true, rest)
             } else {
                 (false, left)

@@ -5,7 +5,6 @@
 
 mod bits;
 mod left;
-mod places;
 mod world;
 
 pub use world::{World, fill};

@@ -11,9 +11,20 @@ use std::{env, io};
 use xr_cli::run;
 
 fn main(rt: HostRuntime) -> io::Result<ExitCode> {
-    let words: Vec<String> = env::args(&rt)?.skip(1).collect(rt.alloc())?;
+    let words = words_of(&rt)?;
     let mut shelf = FileShelf::new(&rt, rt.alloc());
     let mut out = OutSink::new(io::writer(&rt));
     let status = run(rt.alloc(), words.as_slice(), &mut shelf, &mut out);
     Ok(ExitCode::from(status))
+}
+
+/// The words of the command line after the program's name. None where one is no UTF-8: neither line is in the set.
+fn words_of(rt: &HostRuntime) -> io::Result<Vec<String>> {
+    match env::args(rt) {
+        Ok(words) => Ok(words.skip(1).collect(rt.alloc())?),
+        Err(error) => match error.kind() {
+            io::ErrorKind::InvalidData => Ok(Vec::new(rt.alloc())),
+            _ => Err(error),
+        },
+    }
 }

@@ -8,6 +8,7 @@ use Rattle.test_proof.proofs.dimacs.clauses_of.Given as goal
 abbrev pub invariant-loop-k : goal.invariant-loop-k
 invariant-loop-k l = record {
   fit : Fit l.vars l.clauses.items;
+  no_zero_so_far : All HasNoZero l.clauses.items;
   small : All (λ n. nat_abs n ≤ l.vars) l.literals.items;
   no_zero : HasNoZero l.literals.items;
 }

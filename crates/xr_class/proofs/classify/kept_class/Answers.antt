@@ -4,17 +4,17 @@ use Rattle.xr_design.specs.Circuit.{job_in}
 use Rattle.xr_model.specs.Class.{before, class_of}
 use Rattle.xr_model.specs.Yields.{is_line}
 use Rattle.xr_model.specs.declared.class.ClassByNumber.TheVariants.{Carried}
-use Rattle.xr_class.specs.Facts.{Facts, is_plain, place_carries, plain_class}
+use Rattle.xr_class.specs.Facts.{Facts, is_plain, place_is_carried_on, plain_class}
 use Rattle.xr_class.proofs.SteadyClasses.{carried_on, line_is, plain_is}
 use Rattle.xr_class.proofs.classify.kept_class.Goals as goal
 
-pub returns-then-carries_on : goal.returns-then-carries_on
-returns-then-carries_on g c =
+pub returns-then-is_carried_on : goal.returns-then-is_carried_on
+returns-then-is_carried_on g c =
     let j = job_in c.args.circuit.now in
     let certain = g.E.Source.reads c.args.earlier.now in
     let place = c.args.place in
-    let on : place_carries j certain place ≡ true = sym (c.carries_on.ensures
-    ∙ ap (λ (facts : Facts). facts.carries) (c.requires.facts place (omega arith))) ∙ c.if-carries_on.true in
+    let on : place_is_carried_on j certain place ≡ true = sym (c.is_carried_on.ensures
+    ∙ ap (λ (facts : Facts). facts.carries) (c.requires.facts place (omega arith))) ∙ c.if-is_carried_on.true in
     ap (λ k. Carried k false) c.place_before.ensures
     ∙ sym (carried_on (class_of j certain place) (before j place) on)
 

@@ -11,6 +11,6 @@ returns g c =
     let j = job_in c.args.circuit.now in
     let certain = g.E.Source.reads c.args.earlier.now in
     let here = at j c.args.step c.args.net in
-    c.keeps.ensures ∙ ap (λ k. (g.E.Earlier.facts c.args.earlier.now k).keeps) c.place_of.ensures
+    c.keeps.ensures ∙ ap (λ k. (g.E.Earlier.facts c.args.earlier.now k).keeps) c.number_at.ensures
     ∙ ap (λ (facts : Facts). facts.keeps) (c.requires.facts here c.requires.net.has_it)
     ∙ keeps_at j c.requires.fits.fits_job certain c.args.step c.args.net c.requires.net.within

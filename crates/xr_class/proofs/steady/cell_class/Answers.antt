@@ -4,7 +4,7 @@ use Rattle.std.proofs.lemmas.Bool.{OnTrue_at, OnTrue_from}
 use Rattle.xr_design.specs.Circuit.{job_in}
 use Rattle.xr_model.specs.Class.{before, class_of, is_never_unknown}
 use Rattle.xr_model.specs.declared.class.ClassByNumber.TheVariants.{Carried}
-use Rattle.xr_class.specs.Facts.{Facts, is_plain, place_carries, plain_class}
+use Rattle.xr_class.specs.Facts.{Facts, is_plain, place_is_carried_on, plain_class}
 use Rattle.xr_class.proofs.SteadyClasses.{carrying_known, steady_open, steady_plain}
 use Rattle.xr_class.proofs.StepBefore.{before_back, more_width}
 use Rattle.xr_class.proofs.WiredPlaces.{cell_here}
@@ -66,8 +66,8 @@ returns-then-not-cell_chooses g c =
     ∙ steady_open j c.requires.fits.fits_job certain place (before j place) (omega (arith, less, all)) steady.kinds open_is
     (steady.passes known)
 
-pub returns-then-carries_on : goal.returns-then-carries_on
-returns-then-carries_on g c =
+pub returns-then-is_carried_on : goal.returns-then-is_carried_on
+returns-then-is_carried_on g c =
     let j = job_in c.args.circuit.now in
     let certain = g.E.Source.reads c.args.earlier.now in
     let place = c.args.place in
@@ -83,9 +83,9 @@ returns-then-carries_on g c =
     let open_is : is_plain (class_of j certain (before j place)) ≡ false =
     sym (c.is_plain.ensures ∙ ap (λ k. (g.E.Earlier.facts c.args.earlier.now k).plain) back
     ∙ ap (λ (facts : Facts). facts.plain) told) ∙ c.if-is_plain.false in
-    let on : place_carries j certain (before j place) ≡ true =
-    sym (c.carries_on.ensures ∙ ap (λ k. (g.E.Earlier.facts c.args.earlier.now k).carries) back
-    ∙ ap (λ (facts : Facts). facts.carries) told) ∙ c.if-carries_on.true in
+    let on : place_is_carried_on j certain (before j place) ≡ true =
+    sym (c.is_carried_on.ensures ∙ ap (λ k. (g.E.Earlier.facts c.args.earlier.now k).carries) back
+    ∙ ap (λ (facts : Facts). facts.carries) told) ∙ c.if-is_carried_on.true in
     let here = cell_here j place c.args.table c.args.pins.now c.requires.stands in
     let known : is_never_unknown j certain place ≡ true = steady.kinds.never
     ∙ carrying_known j c.requires.fits.fits_job certain (before j place) c.args.table here.own

@@ -1,20 +1,31 @@
--- A recording is refused by its text.
-use Rattle.std.proofs.Common.{rules, ◌≡◌, ◌≢◌, ◌∙◌, Err}
-use Rattle.xr_cli_words.specs.Line.{pieces_of}
-use Rattle.xr_cli_words.specs.Read.{values_of}
-use Rattle.xr_job.specs.Recorded.{IsRefusedRecording}
-use Rattle.xr_job.specs.declared.recording_refusal.RecordingErr.TheVariants as recording
-use Rattle.xr_cli.specs.Refusal.{recording_refusal}
-use Rattle.xr_cli.proofs.Preparing.{recording_refused}
+-- The recording is read, then judged.
+use Rattle.std.proofs.Common.{◌∙◌, ℕ, List, [], ◌∷◌, subst}
+use Rattle.xr_design.specs.declared.stim.StartRule.{StartRule}
+use Rattle.xr_run.specs.Phases.{judges}
+use Rattle.xr_run.specs.Prepared.{Judged}
+use Rattle.xr_run.proofs.Then.{judged_prepared, read_then}
+use Rattle.xr_job.specs.Recorded.{RecordingComes}
+use Rattle.xr_words.specs.Words.{job_values}
+use Rattle.xr_cli.specs.Phases.{itself, recording_cause, scope_of}
+use Rattle.xr_cli.specs.Repair.{recording_limit, rule_of}
+use Rattle.xr_cli.specs.declared.cause.Refused.TheVariants.{LongRecording}
 use Rattle.xr_cli.proofs.job.recorded_of.Goals as goal
 
-pub returns-in_err-read_recording-clause-refused : goal.returns-in_err-read_recording-clause-refused
-returns-in_err-read_recording-clause-refused g c =
-    let e = c.in_err-read_recording.field-0.0 in
-    let is : c.from_residual-in_err-read_recording.result ≡ Err (recording_refusal e) = search rules in
-    let text = c.as_slice.result.now in
-    let w = values_of c.args.words in
-    let cause : e ≢ recording.Memory → IsRefusedRecording text c.args.netlist.now.design (pieces_of w.scope) w.rounds e =
-    rw (← c.in_ok-scope.ensures.pieces, ← c.as_slice-2.ensures.value) c.in_err-read_recording.ensures.refused in
-    rw is (recording_refused g.S.Shelf.told w c.args.netlist.now (g.S.Shelf.view c.args.shelf.now) (g.S.Shelf.view c.read_input.new.shelf)
-    text (λ t. c.as_slice.ensures.value ∙ c.in_ok-text.ensures.text t) (rw c.as_slice.ensures.value c.in_ok-text.ensures.fits) e cause)
+pub returns-clause-prepared : goal.returns-clause-prepared
+returns-clause-prepared g c =
+    let told = g.S.Shelf.told in
+    let w = job_values c.args.words.now in
+    let n = c.args.netlist.now in
+    let old = g.S.Shelf.view c.args.shelf.now in
+    let new = g.S.Shelf.view c.read_input.new.shelf in
+    let text = c.in_ok-text.text in
+    let rule = subst (λ (start : StartRule). Judged (RecordingComes c.as_slice.result.now n.design c.as_slice-2.result.now w.rounds start) recording_cause itself c.recorded_in.result)
+    c.rule_of.ensures c.recorded_in.ensures.judged in
+    let a = subst (λ (l : List ℕ). Judged (RecordingComes l n.design c.as_slice-2.result.now w.rounds (rule_of w.start)) recording_cause itself c.recorded_in.result)
+    c.as_slice.ensures.value rule in
+    let b = subst (λ (s : List (List ℕ)). Judged (RecordingComes text.items n.design s w.rounds (rule_of w.start)) recording_cause itself c.recorded_in.result)
+    (c.as_slice-2.ensures.value ∙ c.in_ok-scope.ensures.pieces) a in
+    read_then told (w.recording ∷ []) recording_limit LongRecording
+    (λ (l : List ℕ). judges (RecordingComes l n.design (scope_of w) w.rounds (rule_of w.start)) recording_cause) itself old new new
+    text c.recorded_in.result c.in_ok-text.ensures
+    (judged_prepared told (RecordingComes text.items n.design (scope_of w) w.rounds (rule_of w.start)) recording_cause itself new c.recorded_in.result b)

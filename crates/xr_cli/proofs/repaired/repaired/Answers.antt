@@ -1,18 +1,14 @@
--- The circuit of the job fits, and what is told is a place of it.
-use Rattle.xr_cli.proofs.Jobs.{circuit_fits}
-use Rattle.xr_cli.proofs.Told.{told_there}
+-- The recording agrees, and then the walk.
+use Rattle.xr_run.specs.Prepared.{answer_of}
+use Rattle.xr_run.proofs.Then.{judged_then}
+use Rattle.xr_words.specs.Words.{repair_values}
+use Rattle.xr_cli.specs.Phases.{compare_cause, nothing_in, walk_phases}
+use Rattle.xr_cli.specs.Repair.{CompareComes}
 use Rattle.xr_cli.proofs.repaired.repaired.Goals as goal
 
-pub repair-requires-clause-fits : goal.repair-requires-clause-fits
-repair-requires-clause-fits c = circuit_fits c.args.netlist.now c.args.recorded.now c.requires.fits
-
-pub objection_of-requires-clause-place : goal.objection_of-requires-clause-place
-objection_of-requires-clause-place c =
-    let refused = rw c.in-Err-Optimistic.field-0-is at c.in-Err-Optimistic.ensures.refused in
-    told_there c.args.conflicts c.args.netlist.now c.args.recorded.now c.args.history.now c.in-Err-Optimistic.told c.requires.fits refused
-
-pub returns-in_ok-objection_of-in-Err-Optimistic-clause-refused :
-    goal.returns-in_ok-objection_of-in-Err-Optimistic-clause-refused
-returns-in_ok-objection_of-in-Err-Optimistic-clause-refused c =
-    let refused = rw c.in-Err-Optimistic.field-0-is at c.in-Err-Optimistic.ensures.refused in
-    record { told = c.in-Err-Optimistic.told; objects = refused; is = c.in_ok-objection_of-in-Err-Optimistic.ensures }
+pub returns : goal.returns
+returns c =
+    let n = c.args.netlist.now in
+    let r = c.args.recorded.now in
+    judged_then (CompareComes n r) compare_cause (λ (agreed : Unit {0}). walk_phases (repair_values c.args.words.now) n r) nothing_in answer_of
+    c.in_ok-history.history c.walked.result c.in_ok-history.ensures.judged c.walked.ensures

@@ -1,4 +1,7 @@
+-- The log of the token refutes the query, and no clause of it has the literal 0.
 use Rattle.std.proofs.Common.{sym, subst}
+use Rattle.std.specs.List.{All}
+use Rattle.xr_proof.specs.Assignment.{HasNoZero}
 use Rattle.xr_model.specs.declared.line.Body.TheVariants.{Refuted}
 use Rattle.xr_cone_nodes.specs.Nodes.{nothing, root_bit}
 use Rattle.xr_wave.specs.Token.{HoldsNext}
@@ -9,5 +12,6 @@ pub from_law-requires-clause-law : goal.from_law-requires-clause-law
 from_law-requires-clause-law c =
     subst (λ bit. HoldsNext c.args.wave.now (Refuted bit c.into_log.result)) (sym c.base.ensures)
     (subst (λ log. HoldsNext c.args.wave.now (Refuted (root_bit nothing c.args.cone.now.nodes) log))
-    (sym c.into_log.ensures)
-    (refuted_next c.args.wave.now c.args.cone.now.nodes c.args.proof c.requires.cone c.requires.refutes))
+    (sym c.into_log.ensures.value)
+    (refuted_next c.args.wave.now c.args.cone.now.nodes c.args.proof c.requires.cone c.requires.refutes
+    (subst (All HasNoZero) c.into_log.ensures.value c.into_log.ensures.no_zero)))

@@ -1,3 +1,4 @@
+-- The log of the token is a licence of the next place.
 use Rattle.std.proofs.Common.{sym, subst}
 use Rattle.xr_model.specs.declared.line.Body.TheVariants.{Undecided}
 use Rattle.xr_wave.specs.Token.{HoldsNext}
@@ -6,6 +7,6 @@ use Rattle.xr_cnf.proofs.answers.give_up.Goals as goal
 
 pub from_law-requires-clause-law : goal.from_law-requires-clause-law
 from_law-requires-clause-law c =
-    subst (λ log. HoldsNext c.args.wave.now (Undecided log)) (sym c.into_log.ensures)
+    subst (λ log. HoldsNext c.args.wave.now (Undecided log)) (sym c.into_log.ensures.value)
     (licence_next c.args.wave.now c.args.cone.now.nodes c.args.proof c.requires.cone c.requires.fresh c.requires.many
     c.requires.long)

@@ -1,3 +1,4 @@
+-- The next list has no 0.
 use Rattle.std.proofs.Common.{length, rules}
 use Rattle.std.proofs.lemmas.Iterator.Adapters.{YieldsList-from_vec}
 use Rattle.std.proofs.lemmas.Iterator.Consumers.{YieldsList-turn}

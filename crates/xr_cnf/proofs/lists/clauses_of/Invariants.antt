@@ -1,3 +1,4 @@
+-- The clauses so far are the lists so far.
 use Rattle.std.proofs.Common.{◌≡◌, map}
 use Rattle.xr_cnf.proofs.lists.clauses_of.Given as goal
 

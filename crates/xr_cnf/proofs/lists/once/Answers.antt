@@ -1,3 +1,4 @@
+-- Sorted lists without doubles are each of the lists, once.
 use Rattle.std.proofs.lemmas.List.Filters.{dedup_is}
 use Rattle.xr_cnf.proofs.OnceLists.{once_sorted}
 use Rattle.xr_cnf.proofs.lists.once.Goals as goal

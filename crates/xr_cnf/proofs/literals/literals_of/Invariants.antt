@@ -1,3 +1,4 @@
+-- The nodes so far have their literals, and their variables are counted.
 use Rattle.std.proofs.Common.{◌≡◌, take}
 use Rattle.xr_cnf.specs.Literals.{AreLiterals, variables_of}
 use Rattle.xr_cnf.proofs.literals.literals_of.Given as goal

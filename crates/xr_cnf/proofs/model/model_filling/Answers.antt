@@ -1,3 +1,4 @@
+-- The places that a model picks are its filling, which gives the other bit than the empty one.
 use Rattle.std.proofs.Common.{List, length, ap, ◌∙◌}
 use Rattle.xr_proof.specs.Assignment.{assigned}
 use Rattle.xr_cone_nodes.specs.declared.node.Node.{Node}

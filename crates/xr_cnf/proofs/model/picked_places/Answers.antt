@@ -1,3 +1,4 @@
+-- One more node is picked or passed over.
 use Rattle.std.proofs.Common.{◌≡◌, ◌&&◌, ℕ, Bool, List, sym, ap, ◌∙◌, subst}
 use Rattle.std.proofs.lemmas.List.{get_or_default}
 use Rattle.xr_proof.specs.Assignment.{assigned}

@@ -1,3 +1,4 @@
+-- The nodes so far are picked, and their variables are counted.
 use Rattle.std.proofs.Common.{◌≡◌, take}
 use Rattle.xr_proof.specs.Assignment.{assigned}
 use Rattle.xr_cnf.specs.Literals.{variables_of}

@@ -1,3 +1,4 @@
+-- The clauses of one more node, and those of all at the end.
 use Rattle.std.proofs.Common.{ℕ, List, arith, subst}
 use Rattle.std.proofs.lemmas.List.{get_or_default}
 use Rattle.xr_cone_nodes.specs.declared.node.Node.{Node}

@@ -1,3 +1,4 @@
+-- The lists have grown by the clauses of the nodes so far.
 use Rattle.xr_cnf.specs.Growth.{IsEarlyClause, IsGrown}
 use Rattle.xr_cnf.proofs.query.add_nodes.Given as goal
 

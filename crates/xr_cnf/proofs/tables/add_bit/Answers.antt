@@ -1,3 +1,4 @@
+-- The clause of one more choice, and those of all at the end.
 use Rattle.std.proofs.Common.{◌≡◌, ℕ, List, length, sym, arith, subst, take}
 use Rattle.std.proofs.lemmas.List.{take_all}
 use Rattle.xr_cone_choices.specs.declared.choice.Choice.{Choice}

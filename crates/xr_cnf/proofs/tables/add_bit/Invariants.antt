@@ -1,3 +1,4 @@
+-- The lists have grown by the clauses of the choices so far.
 use Rattle.std.proofs.Common.{take}
 use Rattle.xr_cnf.specs.Growth.{IsGrown, IsSomeClause}
 use Rattle.xr_cnf.proofs.tables.add_bit.Given as goal

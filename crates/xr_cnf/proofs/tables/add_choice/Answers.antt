@@ -1,3 +1,4 @@
+-- The merged literals of a choice are its clause, and where two are opposed it has none.
 use Rattle.std.proofs.Common.{ℕ, Bool, List, length, sym, ◌∙◌, subst, MatchOption}
 use Rattle.std.specs.Prelude.{ℤ}
 use Rattle.std.proofs.lemmas.Result.{on_ok_weaker}

@@ -1,3 +1,4 @@
+-- The clauses that force either bit are those of the table.
 use Rattle.std.proofs.lemmas.Result.{on_ok_weaker}
 use Rattle.xr_cnf.proofs.GrownLists.{table_grown}
 use Rattle.xr_cnf.proofs.tables.add_table.Goals as goal

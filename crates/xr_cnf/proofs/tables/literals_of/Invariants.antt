@@ -1,3 +1,4 @@
+-- The literals that deny the bits of the arguments so far.
 use Rattle.std.proofs.Common.{◌≡◌}
 use Rattle.xr_cnf.specs.Clauses.{node_says}
 use Rattle.xr_cnf.specs.Growth.{denied}

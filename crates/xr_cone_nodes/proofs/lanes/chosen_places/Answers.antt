@@ -11,6 +11,6 @@ sources-preserved c =
     let bits = lane_of c.args.given.now c.args.lane in
     let before : c.sources.places.items ≡ chosen (take c.sources.source sources) bits = c.sources.invariant in
     let bit : c.in_lane-is_chosen.result ≡ bits c.sources.source =
-    c.in_lane-is_chosen.ensures ∙ c.word_at.ensures c.args.lane c.requires in
+    c.in_lane-is_chosen.ensures ∙ c.lane_bits_at.ensures c.args.lane c.requires in
     c.in_ok-add_if.ensures
     ∙ rw (before, bit) (sym (chosen_more sources bits c.sources.source no_node.place c.sources-test.true))

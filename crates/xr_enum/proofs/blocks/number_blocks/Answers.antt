@@ -1,5 +1,5 @@
 -- 256 fillings a block are enough.
-use Rattle.xr_enum.proofs.BlockWords.{more_blocks, one_block}
+use Rattle.xr_enum.proofs.BlockLanes.{more_blocks, one_block}
 use Rattle.xr_enum.proofs.blocks.number_blocks.Goals as goal
 
 pub returns-then-sources-lt8-clause-enough : goal.returns-then-sources-lt8-clause-enough

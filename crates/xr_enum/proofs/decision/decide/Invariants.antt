@@ -4,4 +4,4 @@ use Rattle.xr_enum.specs.Found.{IsFoundIn}
 use Rattle.xr_enum.proofs.decision.decide.Given as goal
 
 abbrev pub invariant-tries : goal.invariant-tries
-invariant-tries l = (l.words.nodes ≡ length l.cone.nodes) × IsFoundIn l.cone.nodes 0 (256 * l.block) l.found
+invariant-tries l = (l.lane_table.nodes ≡ length l.cone.nodes) × IsFoundIn l.cone.nodes 0 (256 * l.block) l.found

@@ -4,11 +4,11 @@ use Rattle.xr_enum.proofs.decision.pair_of_number.Goals as goal
 
 pub pair_of_lane-requires-clause-differs : goal.pair_of_lane-requires-clause-differs
 pair_of_lane-requires-clause-differs c =
-    rw (lane_of_number c.fill_block.new.given c.args.number c.fill_block.ensures.long c.fill_block.ensures.words
+    rw (lane_of_number c.fill_block.new.given c.args.number c.fill_block.ensures.long c.fill_block.ensures.lane_table
     c.requires.small) c.requires.other
 
 pub returns-clause-other : goal.returns-clause-other
 returns-clause-other c =
-    let bits = lane_of_number c.fill_block.new.given c.args.number c.fill_block.ensures.long c.fill_block.ensures.words
+    let bits = lane_of_number c.fill_block.new.given c.args.number c.fill_block.ensures.long c.fill_block.ensures.lane_table
     c.requires.small in
     rw bits at c.pair_of_lane.ensures.other

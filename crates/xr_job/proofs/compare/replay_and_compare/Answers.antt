@@ -16,10 +16,10 @@ returns-in-Ok-clause-replay c = unforced (job_in c.args.netlist.now c.args.recor
 pub returns-in-Ok-clause-agrees : goal.returns-in-Ok-clause-agrees
 returns-in-Ok-clause-agrees c = c.in-Ok.ensures.agrees.0 refl
 
-pub told-requires-clause-there : goal.told-requires-clause-there
-told-requires-clause-there c = is_there c.args.netlist.now c.args.recorded.now c.requires.recorded c.in-Err.differ c.in-Err.ensures.differs
+pub report_difference-requires-clause-there : goal.report_difference-requires-clause-there
+report_difference-requires-clause-there c = is_there c.args.netlist.now c.args.recorded.now c.requires.recorded c.in-Err.differ c.in-Err.ensures.differs
 
 pub returns-clause-exact : goal.returns-clause-exact
 returns-clause-exact c =
-    answer_refused c.args.netlist.now c.args.recorded.now c.in-Err.differ c.in_ok-told-in-Err.field-0 c.compared.result c.in-Err.is
-    c.compared.ensures.agrees.1 c.compared.ensures.exact c.in_ok-told-in-Err.ensures _ refl
+    answer_refused c.args.netlist.now c.args.recorded.now c.in-Err.differ c.in_ok-report_difference-in-Err.field-0 c.compared.result c.in-Err.is
+    c.compared.ensures.agrees.1 c.compared.ensures.exact c.in_ok-report_difference-in-Err.ensures _ refl

@@ -1,4 +1,4 @@
--- One behind the other.
+-- One after the other.
 use Rattle.xr_job.proofs.Appends.{two}
 use Rattle.xr_job.proofs.lines.put_loop.Goals as goal
 

@@ -1,3 +1,4 @@
+-- The run over assignments goes on from the items so far.
 use Rattle.std.proofs.Common.{◌≡◌, ◌≤◌, List, length}
 use Rattle.xr_netlist_grammar.specs.Machine.{goes, assign, expr_start, left}
 use Rattle.xr_netlist_grammar.specs.Trees.{under}
@@ -7,9 +8,10 @@ use Rattle.xr_netlist.proofs.cell.assigns.Given as goal
 
 abbrev pub invariant-assigns : goal.invariant-assigns
 invariant-assigns l = record {
-  reads : (b : Source) (n : Word) (ps : List Word) → goes (assign (under b n ps l.fn.items.items)) l.fn.words ≡ goes (expr_start (left (under b n ps l.items.items))) l.words;
-  shortens : length l.words.words ≤ length l.fn.words.words;
+  reads : (b : Source) (n : Word) (ps : List Word)
+      → goes (assign (under b n ps l.fn.items.items)) l.fn.tokens ≡ goes (expr_start (left (under b n ps l.items.items))) l.tokens;
+  shortens : length l.tokens.tokens ≤ length l.fn.tokens.tokens;
 }
 
 abbrev pub decreases-assigns : goal.decreases-assigns
-decreases-assigns l = length l.words.words
+decreases-assigns l = length l.tokens.tokens

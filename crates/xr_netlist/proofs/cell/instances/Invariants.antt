@@ -1,3 +1,4 @@
+-- The run over instances of one definition goes on from the items so far.
 use Rattle.std.proofs.Common.{◌≡◌, ◌≤◌, List, length}
 use Rattle.xr_netlist_grammar.specs.Machine.{goes, definition, instance_name}
 use Rattle.xr_netlist_grammar.specs.Trees.{under}
@@ -8,9 +9,10 @@ use Rattle.xr_netlist.proofs.cell.instances.Given as goal
 
 abbrev pub invariant-instances : goal.invariant-instances
 invariant-instances l = record {
-  reads : (b : Source) (n : Word) (ps : List Word) → goes (definition (under b n ps l.fn.items.items) (word_of_name l.definition)) l.fn.words ≡ goes (instance_name (under b n ps l.items.items) (word_of_name l.definition)) l.words;
-  shortens : length l.words.words ≤ length l.fn.words.words;
+  reads : (b : Source) (n : Word) (ps : List Word)
+      → goes (definition (under b n ps l.fn.items.items) (word_of_name l.definition)) l.fn.tokens ≡ goes (instance_name (under b n ps l.items.items) (word_of_name l.definition)) l.tokens;
+  shortens : length l.tokens.tokens ≤ length l.fn.tokens.tokens;
 }
 
 abbrev pub decreases-instances : goal.decreases-instances
-decreases-instances l = length l.words.words
+decreases-instances l = length l.tokens.tokens

@@ -1,3 +1,4 @@
+-- The run over connections by position goes on from those so far.
 use Rattle.std.proofs.Common.{◌≡◌, ◌≤◌, [], Option, length}
 use Rattle.xr_netlist_grammar.specs.Machine.{goes, connection}
 use Rattle.xr_netlist_grammar.specs.Trees.{Under}
@@ -6,9 +7,9 @@ use Rattle.xr_netlist.proofs.cell.positional.Given as goal
 
 abbrev pub invariant-list : goal.invariant-list
 invariant-list l = record {
-  reads : (u : Under) (d : Word) (n : Option Word) → goes (connection u d n []) l.fn.words ≡ goes (connection u d n l.list.items) l.words;
-  shortens : length l.words.words ≤ length l.fn.words.words;
+  reads : (u : Under) (d : Word) (n : Option Word) → goes (connection u d n []) l.fn.tokens ≡ goes (connection u d n l.list.items) l.tokens;
+  shortens : length l.tokens.tokens ≤ length l.fn.tokens.tokens;
 }
 
 abbrev pub decreases-list : goal.decreases-list
-decreases-list l = length l.words.words
+decreases-list l = length l.tokens.tokens

@@ -1,3 +1,4 @@
+-- The run over the names of a port declaration goes on from the items so far.
 use Rattle.std.proofs.Common.{◌≡◌, ◌≤◌, List, length}
 use Rattle.xr_netlist_grammar.specs.Machine.{goes, declared_name}
 use Rattle.xr_netlist_grammar.specs.Trees.{under}
@@ -7,9 +8,10 @@ use Rattle.xr_netlist.proofs.declaration.names.Given as goal
 
 abbrev pub invariant-names : goal.invariant-names
 invariant-names l = record {
-  reads : (b : Source) (n : Word) (ps : List Word) → goes (declared_name (under b n ps l.fn.items.items) l.what l.range) l.fn.words ≡ goes (declared_name (under b n ps l.items.items) l.what l.range) l.words;
-  shortens : length l.words.words ≤ length l.fn.words.words;
+  reads : (b : Source) (n : Word) (ps : List Word)
+      → goes (declared_name (under b n ps l.fn.items.items) l.what l.range) l.fn.tokens ≡ goes (declared_name (under b n ps l.items.items) l.what l.range) l.tokens;
+  shortens : length l.tokens.tokens ≤ length l.fn.tokens.tokens;
 }
 
 abbrev pub decreases-names : goal.decreases-names
-decreases-names l = length l.words.words
+decreases-names l = length l.tokens.tokens

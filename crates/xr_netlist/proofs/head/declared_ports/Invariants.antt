@@ -1,3 +1,4 @@
+-- The run over ports with directions goes on from the ports and items so far.
 use Rattle.std.proofs.Common.{◌≡◌, ◌≤◌, [], None, length}
 use Rattle.xr_netlist_grammar.specs.Machine.{goes, port_direction}
 use Rattle.xr_netlist_grammar.specs.Trees.{under}
@@ -7,9 +8,10 @@ use Rattle.xr_netlist.proofs.head.declared_ports.Given as goal
 
 abbrev pub invariant-ports : goal.invariant-ports
 invariant-ports l = record {
-  reads : (b : Source) (n : Word) → goes (port_direction (under b n [] []) l.fn.what None) l.fn.words ≡ goes (port_direction (under b n l.head.ports.items l.head.items.items) l.direction.what l.direction.range) l.words;
-  shortens : length l.words.words ≤ length l.fn.words.words;
+  reads : (b : Source) (n : Word)
+      → goes (port_direction (under b n [] []) l.fn.what None) l.fn.tokens ≡ goes (port_direction (under b n l.head.ports.items l.head.items.items) l.direction.what l.direction.range) l.tokens;
+  shortens : length l.tokens.tokens ≤ length l.fn.tokens.tokens;
 }
 
 abbrev pub decreases-ports : goal.decreases-ports
-decreases-ports l = length l.words.words
+decreases-ports l = length l.tokens.tokens

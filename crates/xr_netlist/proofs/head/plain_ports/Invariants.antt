@@ -1,3 +1,4 @@
+-- The run over ports without directions goes on from the ports so far.
 use Rattle.std.proofs.Common.{◌≡◌, ◌≤◌, length}
 use Rattle.xr_netlist_grammar.specs.Machine.{goes, first_port, port}
 use Rattle.xr_netlist_grammar.specs.declared.tree.Source.{Source}
@@ -6,9 +7,9 @@ use Rattle.xr_netlist.proofs.head.plain_ports.Given as goal
 
 abbrev pub invariant-ports : goal.invariant-ports
 invariant-ports l = record {
-  reads : (b : Source) (n : Word) → goes (first_port b n) l.fn.words ≡ goes (port b n l.ports.items) l.words;
-  shortens : length l.words.words ≤ length l.fn.words.words;
+  reads : (b : Source) (n : Word) → goes (first_port b n) l.fn.tokens ≡ goes (port b n l.ports.items) l.tokens;
+  shortens : length l.tokens.tokens ≤ length l.fn.tokens.tokens;
 }
 
 abbrev pub decreases-ports : goal.decreases-ports
-decreases-ports l = length l.words.words
+decreases-ports l = length l.tokens.tokens

@@ -1,3 +1,4 @@
+-- The run over the items of a module goes on from the items so far.
 use Rattle.std.proofs.Common.{◌≡◌, ◌≤◌, List, length}
 use Rattle.xr_netlist_grammar.specs.Machine.{goes, in_items}
 use Rattle.xr_netlist_grammar.specs.Trees.{under}
@@ -7,9 +8,10 @@ use Rattle.xr_netlist.proofs.module.fill.Given as goal
 
 abbrev pub invariant-items : goal.invariant-items
 invariant-items l = record {
-  reads : (b : Source) (n : Word) (ps : List Word) → goes (in_items (under b n ps l.fn.items.items)) l.fn.words ≡ goes (in_items (under b n ps l.items.items)) l.words;
-  shortens : length l.words.words ≤ length l.fn.words.words;
+  reads : (b : Source) (n : Word) (ps : List Word)
+      → goes (in_items (under b n ps l.fn.items.items)) l.fn.tokens ≡ goes (in_items (under b n ps l.items.items)) l.tokens;
+  shortens : length l.tokens.tokens ≤ length l.fn.tokens.tokens;
 }
 
 abbrev pub decreases-items : goal.decreases-items
-decreases-items l = length l.words.words
+decreases-items l = length l.tokens.tokens

@@ -1,3 +1,4 @@
+-- A number fits a size where its quotient by 2 to the size is 0.
 use Rattle.std.proofs.Common.{◌^◌}
 use Rattle.std.proofs.lemmas.Nat.{pow_pos}
 use Rattle.xr_netlist.proofs.Numbers.{quotient_zero}

@@ -1,3 +1,4 @@
+-- Past 214748364 one more digit is too much.
 use Rattle.std.proofs.Common.{sym}
 use Rattle.xr_netlist.proofs.Numbers.{int_too_big}
 use Rattle.xr_netlist.proofs.number.int_of.Goals as goal

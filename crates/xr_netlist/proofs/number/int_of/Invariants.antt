@@ -1,3 +1,4 @@
+-- The number so far, read on over the rest, is the number.
 use Rattle.std.proofs.Common.{◌≡◌, ◌≤◌, length}
 use Rattle.std.specs.List.{list_all}
 use Rattle.xr_netlist_grammar.specs.Bytes.{is_digit, number_from}

@@ -1,3 +1,4 @@
+-- The digits so far and those of the rest are all the leading digits.
 use Rattle.std.proofs.Common.{◌≡◌, ◌+◌, ◌≤◌, length}
 use Rattle.std.specs.List.{prefix_len}
 use Rattle.xr_netlist_grammar.specs.Bytes.{is_digit}

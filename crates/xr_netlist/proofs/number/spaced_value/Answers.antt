@@ -1,3 +1,4 @@
+-- One more digit is too much for 128 bits.
 use Rattle.std.proofs.Common.{rules}
 use Rattle.xr_netlist.proofs.Numbers.{too_wide}
 use Rattle.xr_netlist.proofs.number.spaced_value.Goals as goal

@@ -1,3 +1,4 @@
+-- The value so far, read on over the rest, is the number; it stays under 2^128.
 use Rattle.std.proofs.Common.{◌≡◌, ◌<◌, ◌^◌, ◌==◌, not, length, filter}
 use Rattle.xr_netlist_grammar.specs.Bytes.{number_from}
 use Rattle.xr_netlist_grammar.specs.Numbers.{are_spaced_digits, spaced_number}

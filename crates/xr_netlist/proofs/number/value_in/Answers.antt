@@ -1,3 +1,4 @@
+-- A number that 128 bits do not hold fits no size.
 use Rattle.std.proofs.Common.{sym}
 use Rattle.xr_netlist_grammar.specs.Numbers.{are_spaced_digits, spaced_number}
 use Rattle.xr_netlist.proofs.Numbers.{narrower}

@@ -1,3 +1,4 @@
+-- The run over declared inputs goes on from the pins and declarations so far.
 use Rattle.std.proofs.Common.{◌≡◌, ◌<◌, [], length}
 use Rattle.xr_netlist_grammar.specs.Machine.{goes, first_input, input_name}
 use Rattle.xr_netlist_grammar.specs.Trees.{within}
@@ -7,9 +8,10 @@ use Rattle.xr_netlist.proofs.primitive.input_pins.Given as goal
 
 abbrev pub invariant-inputs : goal.invariant-inputs
 invariant-inputs l = record {
-  reads : (b : Source) (n : Word) → goes (first_input (within b n l.fn.ports.items l.fn.declarations.items [])) l.fn.words ≡ goes (input_name (within b n l.ports.items l.declarations.items [])) l.words;
-  shortens : length l.words.words < length l.fn.words.words;
+  reads : (b : Source) (n : Word)
+      → goes (first_input (within b n l.fn.ports.items l.fn.declarations.items [])) l.fn.tokens ≡ goes (input_name (within b n l.ports.items l.declarations.items [])) l.tokens;
+  shortens : length l.tokens.tokens < length l.fn.tokens.tokens;
 }
 
 abbrev pub decreases-inputs : goal.decreases-inputs
-decreases-inputs l = length l.words.words
+decreases-inputs l = length l.tokens.tokens

@@ -1,12 +1,13 @@
+-- What was skipped within the parentheses of a delay leaves the run there; the depth is bounded by what was read.
 use Rattle.std.proofs.Common.{◌≡◌, ◌+◌, ◌≤◌, length}
 use Rattle.xr_netlist_grammar.specs.Machine.{goes, Delayed, in_delay}
 use Rattle.xr_netlist.proofs.skip.parenthesized.Given as goal
 
 abbrev pub invariant-tokens : goal.invariant-tokens
 invariant-tokens l = record {
-  reads : (k : Delayed) → goes (in_delay k 0) l.fn.words ≡ goes (in_delay k l.depth) l.words;
-  fits : l.depth + length l.words.words ≤ length l.fn.words.words;
+  reads : (k : Delayed) → goes (in_delay k 0) l.fn.tokens ≡ goes (in_delay k l.depth) l.tokens;
+  fits : l.depth + length l.tokens.tokens ≤ length l.fn.tokens.tokens;
 }
 
 abbrev pub decreases-tokens : goal.decreases-tokens
-decreases-tokens l = length l.words.words
+decreases-tokens l = length l.tokens.tokens

@@ -1,3 +1,4 @@
+-- The symbols so far and those of the rest are all the symbols.
 use Rattle.std.proofs.Common.{◌≡◌, ◌++◌, ◌∷◌, length}
 use Rattle.xr_netlist_grammar.specs.Trees.{singles}
 use Rattle.xr_netlist.proofs.table.push_singles.Given as goal

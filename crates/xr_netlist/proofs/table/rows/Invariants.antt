@@ -1,3 +1,4 @@
+-- The run over the rows of a table goes on from the rows so far.
 use Rattle.std.proofs.Common.{◌≡◌, ◌≤◌, [], List, length}
 use Rattle.xr_netlist_grammar.specs.Machine.{goes, first_row}
 use Rattle.xr_netlist_grammar.specs.Trees.{within}
@@ -9,9 +10,10 @@ use Rattle.xr_netlist.proofs.table.rows.Given as goal
 
 abbrev pub invariant-rows : goal.invariant-rows
 invariant-rows l = record {
-  reads : (b : Source) (n : Word) (ps : List Word) (ds : List PrimDeclare) → is_sequential ds ≡ l.sequential → goes (first_row (within b n ps ds [])) l.fn.words ≡ goes (first_row (within b n ps ds l.rows.items)) l.words;
-  shortens : length l.words.words ≤ length l.fn.words.words;
+  reads : (b : Source) (n : Word) (ps : List Word) (ds : List PrimDeclare) → is_sequential ds ≡ l.sequential
+      → goes (first_row (within b n ps ds [])) l.fn.tokens ≡ goes (first_row (within b n ps ds l.rows.items)) l.tokens;
+  shortens : length l.tokens.tokens ≤ length l.fn.tokens.tokens;
 }
 
 abbrev pub decreases-rows : goal.decreases-rows
-decreases-rows l = length l.words.words
+decreases-rows l = length l.tokens.tokens

@@ -4,16 +4,16 @@ use Rattle.xr_netlist.proofs.text.parse.Goals as goal
 
 pub returns-clause-found : goal.returns-clause-found
 returns-clause-found c =
-    let said = c.new-words.ensures in found_is c.args.bytes.now said.told c.source.result (λ told tokens. rw (said.words told tokens) at c.source.ensures)
+    let said = c.new-tokens.ensures in found_is c.args.bytes.now said.told c.source.result (λ told tokens. rw (said.tokens told tokens) at c.source.ensures)
 
 pub returns-clause-whole : goal.returns-clause-whole
 returns-clause-whole c =
-    let said = c.new-words.ensures in whole_is c.args.bytes.now said.told c.source.result (λ told tokens. rw (said.words told tokens) at c.source.ensures)
+    let said = c.new-tokens.ensures in whole_is c.args.bytes.now said.told c.source.result (λ told tokens. rw (said.tokens told tokens) at c.source.ensures)
 
 pub returns-clause-only : goal.returns-clause-only
 returns-clause-only c =
-    let said = c.new-words.ensures in only_is c.args.bytes.now said.told c.source.result (λ told tokens. rw (said.words told tokens) at c.source.ensures)
+    let said = c.new-tokens.ensures in only_is c.args.bytes.now said.told c.source.result (λ told tokens. rw (said.tokens told tokens) at c.source.ensures)
 
 pub returns-clause-first : goal.returns-clause-first
 returns-clause-first c =
-    let said = c.new-words.ensures in first_is c.args.bytes.now said.told c.source.result (λ told tokens. rw (said.words told tokens) at c.source.ensures)
+    let said = c.new-tokens.ensures in first_is c.args.bytes.now said.told c.source.result (λ told tokens. rw (said.tokens told tokens) at c.source.ensures)

@@ -1,3 +1,4 @@
+-- The run over the whole text goes on from the modules and primitives so far.
 use Rattle.std.proofs.Common.{◌≡◌, ◌≤◌, length}
 use Rattle.xr_netlist_grammar.specs.Machine.{goes, parse_of, top}
 use Rattle.xr_netlist_grammar.specs.Trees.{source_of}
@@ -5,9 +6,9 @@ use Rattle.xr_netlist.proofs.text.source.Given as goal
 
 abbrev pub invariant-texts : goal.invariant-texts
 invariant-texts l = record {
-  reads : parse_of l.fn.words ≡ goes (top (source_of l.modules.items l.primitives.items)) l.words;
-  shortens : length l.words.words ≤ length l.fn.words.words;
+  reads : parse_of l.fn.tokens ≡ goes (top (source_of l.modules.items l.primitives.items)) l.tokens;
+  shortens : length l.tokens.tokens ≤ length l.fn.tokens.tokens;
 }
 
 abbrev pub decreases-texts : goal.decreases-texts
-decreases-texts l = length l.words.words
+decreases-texts l = length l.tokens.tokens

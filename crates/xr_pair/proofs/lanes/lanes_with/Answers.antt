@@ -1,4 +1,4 @@
--- Each word has its lanes, lane by lane.
+-- Each has its lanes, lane by lane.
 use Rattle.std.proofs.Common.{◌≡◌, [], ◌∷◌, refl, arith}
 use Rattle.std.specs.Int.Count.{ones}
 use Rattle.xr_pair.proofs.LeastLanes.{with_by_lanes}

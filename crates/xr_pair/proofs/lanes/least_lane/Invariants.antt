@@ -3,4 +3,4 @@ use Rattle.xr_pair.proofs.LeastLanes.{NoneWithFewer}
 use Rattle.xr_pair.proofs.lanes.least_lane.Given as goal
 
 abbrev pub invariant-counts : goal.invariant-counts
-invariant-counts l = NoneWithFewer l.word l.count
+invariant-counts l = NoneWithFewer l.lane_bits l.count

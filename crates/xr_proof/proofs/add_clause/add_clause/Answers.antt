@@ -1,3 +1,4 @@
+-- A clause with one open literal forces it, and one with two watches them.
 use Rattle.std.proofs.Common.{List, Bool, length, refl, subst}
 use Rattle.xr_proof.specs.Guard.{forced, watching}
 use Rattle.xr_proof.specs.Status.{IsOnlyOpen, AreOpen}

@@ -1,3 +1,4 @@
+-- With one more clause taken in and propagated the trail is ready for the next line.
 use Rattle.std.proofs.Common.{◌+◌, ◌∙◌, length, refl, sym, subst}
 use Rattle.xr_proof.specs.Log.{before}
 use Rattle.xr_proof.specs.Watch.{HasSize}

@@ -1,3 +1,4 @@
+-- One more clause is taken in, or it is false.
 use Rattle.std.proofs.Common.{◌∙◌, length, [], refl, sym, subst}
 use Rattle.std.proofs.lemmas.List.Elements.{All-more}
 use Rattle.xr_proof.specs.Assignment.{HasNoZero}

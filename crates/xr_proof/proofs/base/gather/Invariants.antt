@@ -1,3 +1,4 @@
+-- The clauses so far are taken in, and none of them has the literal 0.
 use Rattle.std.proofs.Common.{◌≡◌, take, length, true}
 use Rattle.std.specs.List.{All}
 use Rattle.xr_proof.specs.Assignment.{HasNoZero}

@@ -1,3 +1,4 @@
+-- What the clauses of the query propagate is ready for a first line.
 use Rattle.std.proofs.Common.{◌++◌, ◌≡◌, ◌∙◌, refl, sym, subst, ap, append-nil, List, ℤ}
 use Rattle.xr_proof.specs.Closed.{AreContrary}
 use Rattle.xr_proof.specs.Propagation.{AreForced}

@@ -1,3 +1,4 @@
+-- What the literals so far show of the clause.
 use Rattle.xr_proof.specs.Status.{HasSeen}
 use Rattle.xr_proof.proofs.clause_status.status_of.Given as goal
 

@@ -1,3 +1,4 @@
+-- The chain of one more place is looked through, and at the end all are read.
 use Rattle.std.proofs.Common.{◌++◌, ◌≡◌, ◌<◌, ◌∙◌, length, refl, ap, sym, subst, arith}
 use Rattle.std.proofs.lemmas.Grind.{get_or_default_zero}
 use Rattle.xr_proof.specs.Guard.{IsPropagating}

@@ -1,3 +1,4 @@
+-- Propagation is under way from the first place that is not read, and none waits.
 use Rattle.std.proofs.Common.{◌++◌, ◌-◌, ◌≡◌, length, true}
 use Rattle.xr_proof.specs.Guard.{IsPropagating, StaysSafe}
 use Rattle.xr_proof.specs.Watch.{HasSize, IsLaced}

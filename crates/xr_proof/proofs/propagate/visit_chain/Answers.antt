@@ -1,3 +1,4 @@
+-- One more entry of the loose chain is looked at, and at its end none waits.
 use Rattle.std.proofs.Common.{◌++◌, ◌≡◌, ◌-◌, ◌∙◌, length, refl, arith, sym, subst, slice_index_or}
 use Rattle.std.proofs.lemmas.Grind.{get_or_default_zero}
 use Rattle.xr_proof.specs.Guard.{AreSafe}

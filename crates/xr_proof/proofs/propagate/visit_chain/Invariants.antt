@@ -1,3 +1,4 @@
+-- The entries that are left of the loose chain still wait.
 use Rattle.std.proofs.Common.{◌++◌, ◌≡◌, length, true}
 use Rattle.xr_proof.specs.Guard.{IsPropagating, StaysSafe}
 use Rattle.xr_proof.specs.Watch.{HasSize, IsLaced, Leads}

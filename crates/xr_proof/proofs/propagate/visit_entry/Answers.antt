@@ -1,3 +1,4 @@
+-- The clause that a look finds false is one of the clauses.
 use Rattle.std.proofs.Common.{◌<◌, ◌/◌, ◌++◌, length, List, ℤ, arith, subst}
 use Rattle.xr_proof.specs.Closed.{IsFalse}
 use Rattle.xr_proof.specs.Trail.{held}

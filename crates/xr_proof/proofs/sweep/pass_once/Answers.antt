@@ -1,3 +1,4 @@
+-- One more clause is looked at, and at the end all have been.
 use Rattle.std.proofs.Common.{◌++◌, ◌≤◌, ◌+◌, length, refl, sym, subst, ◌∙◌, List, ℤ, arith, ◌<◌}
 use Rattle.std.proofs.lemmas.List.{length-append}
 use Rattle.xr_proof.specs.Assignment.{HasNoZero}

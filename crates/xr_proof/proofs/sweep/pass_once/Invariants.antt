@@ -1,3 +1,4 @@
+-- The clauses from n on still wait.
 use Rattle.std.proofs.Common.{◌≤◌, ◌++◌, ◌≡◌}
 use Rattle.xr_proof.specs.Propagation.{IsRunning}
 use Rattle.xr_proof.proofs.sweep.pass_once.Given as goal

@@ -1,3 +1,4 @@
+-- A pass that finds nothing leaves each clause quiet, and one that finds a literal leaves fewer unmarked.
 use Rattle.std.proofs.Common.{◌++◌, refl, ◌≡◌}
 use Rattle.xr_proof.proofs.Runs.{growth_more, running_quiet}
 use Rattle.xr_proof.proofs.Trails.{over_read}

@@ -1,3 +1,4 @@
+-- Passes only let the marks grow, and each that goes on leaves fewer literals unmarked.
 use Rattle.std.proofs.Common.{◌++◌, ◌-◌, length}
 use Rattle.xr_proof.specs.Propagation.{IsGrowth}
 use Rattle.xr_proof.specs.Trail.{IsTrail, StaysOver}

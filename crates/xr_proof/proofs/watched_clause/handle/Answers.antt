@@ -1,3 +1,4 @@
+-- The clause watches another literal, or all its literals are false.
 use Rattle.std.proofs.Common.{◌≡◌, List, Bool, ℤ, true, refl, subst}
 use Rattle.xr_proof.specs.Code.{is_false}
 use Rattle.xr_proof.specs.Guard.{IsFree, AreRestFalse, moves}

@@ -1,3 +1,4 @@
+-- The literals so far are false, but for the other one that is watched.
 use Rattle.std.proofs.Common.{◌≡◌, ◌≢◌, ℕ, ◌<◌, true}
 use Rattle.xr_proof.specs.Code.{is_false}
 use Rattle.xr_proof.specs.Status.{literal_at}

@@ -25,7 +25,7 @@ returns-clause-filled c =
     let inside : c.net-net.result < j.width = rw c.net-net.ensures (net_within j c.requires.fits.fits_job c.args.position c.requires.position) in
     let forced : forced_by j c.args.events.now (c.args.step * j.width + c.args.position) ≡ given =
     rw (step_there j c.args.step c.args.position c.requires.position, net_at j c.args.step c.args.position c.requires.position, ← c.net-net.ensures) (sym (c.requires.forced.value c.net-net.result inside)) in
-    filled_place j c.requires.fits.fits_job (forced_by j c.args.events.now) c.args.history.now c.set.new.self c.args.step c.args.position c.net-net.result given c.driven_value-value.result c.driver_at-driver.result.now c.requires.step c.requires.position c.net-net.ensures c.driver_at-driver.ensures c.requires.filled forced c.driven_value-value.ensures (rw (← c.place_values-shown.ensures.shown, ← c.place_values-shown.ensures.kept) c.set.ensures)
+    filled_place j c.requires.fits.fits_job (forced_by j c.args.events.now) c.args.history.now c.set.new.self c.args.step c.args.position c.net-net.result given c.given_value-value.result c.driver_at-driver.result.now c.requires.step c.requires.position c.net-net.ensures c.driver_at-driver.ensures c.requires.filled forced c.given_value-value.ensures (rw (← c.place_values-shown.ensures.shown, ← c.place_values-shown.ensures.kept) c.set.ensures)
 
 pub returns-clause-others : goal.returns-clause-others
 returns-clause-others c =

@@ -1,3 +1,4 @@
+-- A literal that is made false with what follows from it, or the conflict that comes.
 use Rattle.std.proofs.Common.{◌≡◌, ◌++◌, sym, subst, List, Bool, true, ◌∷◌, []}
 use Rattle.std.specs.Prelude.{neg_ℤ}
 use Rattle.xr_proof.specs.Code.{is_false, IsConsistent}

@@ -1,3 +1,4 @@
+-- The decisions follow where they conflict, and are a model where they do not.
 use Rattle.std.proofs.Common.{◌≡◌, ◌∙◌, ◌++◌, sym, subst, ap, List, Bool, length}
 use Rattle.std.specs.Prelude.{ℤ}
 use Rattle.std.specs.List.{All}

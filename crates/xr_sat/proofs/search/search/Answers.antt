@@ -1,24 +1,41 @@
+-- A log, a model or one more clause after each round.
 use Rattle.std.proofs.Common.{◌≡◌, ◌≢◌, ◌∙◌, ◌++◌, ◌*◌, ◌+◌, ◌-◌, ◌∷◌, [], refl, sym, subst, ap, List, Bool, false, length, arith, slice_index_or, Option, IfSome, IfNone, OnSome}
 use Rattle.std.proofs.lemmas.List.Elements.{All-nil}
 use Rattle.std.specs.Prelude.{ℤ, Vec, vec_len}
 use Rattle.std.specs.declared.alloc.Global.{Global}
 use Rattle.std.specs.List.{All}
 use Rattle.xr_proof.specs.Code.{HasRoom, HaveRoom, is_false}
-use Rattle.xr_proof.specs.Assignment.{IsModel}
+use Rattle.xr_proof.specs.Assignment.{HasNoZero, IsModel}
 use Rattle.xr_proof.specs.Guard.{Watches}
 use Rattle.xr_proof.specs.Lines.{IsReady}
 use Rattle.xr_proof.specs.Log.{Refutes, AreFresh, IsFresh, Fit, before}
 use Rattle.xr_proof.specs.Trail.{IsKept}
 use Rattle.xr_proof.specs.Watch.{HasSize}
+use Rattle.xr_proof.proofs.NamedVariables.{fresh_no_zero}
 use Rattle.xr_sat.specs.Decide.{AreValued}
 use Rattle.xr_sat.specs.Reach.{IsSettled}
 use Rattle.xr_sat.proofs.Logging.{refutes_pushed, fresh_pushed, before_whole, before_last, length_logged, room_logged, room_both, quiet_query, ready_next, fit_with_room, model_if_settled}
 use Rattle.xr_sat.proofs.search.search.Goals as goal
 
-pub from_log-requires-clause-refutes : goal.from_log-requires-clause-refutes
-from_log-requires-clause-refutes c = subst (λ (q : List (List ℤ)). Refutes q c.in_ok-log.log) c.requires.query
-    (subst (Refutes c.args.query.now) (sym c.in_ok-log.ensures)
-    (refutes_pushed c.args.query.now c.rounds.log.items c.rounds.invariant.fresh (c.rounds.invariant.ready.contrary c.if-refuted.true)))
+pub close-requires : goal.close-requires
+close-requires c = fresh_no_zero c.args.query.now c.rounds.log.items c.rounds.invariant.fresh
+
+pub from_vec-requires-then-is_full : goal.from_vec-requires-then-is_full
+from_vec-requires-then-is_full c =
+    let log_is : c.push.new.self.items ≡ c.rounds.log.items ++ c.in-Some.literals.items ∷ [] =
+    c.in_ok-push-in-Some.ensures.items ∙ ap (λ (d : List ℤ). c.rounds.log.items ++ d ∷ []) c.from_vec-in-Some.ensures in
+    let fresh_now : IsFresh (c.args.query.now ++ c.rounds.log.items) c.in-Some.literals.items =
+    subst (λ (cs : List (List ℤ)). IsFresh (c.args.query.now ++ cs) c.in-Some.literals.items) c.deref.ensures.value
+    (subst (λ (o : Option (Vec ℤ Global)). IfSome o (λ v. IsFresh (c.args.query.now ++ c.deref.result.now) v.items)) c.in-Some.is c.in_ok-round.ensures.fresh) in
+    subst (λ (log : List (List ℤ)). All HasNoZero log) (sym log_is) (fresh_no_zero c.args.query.now (c.rounds.log.items ++ c.in-Some.literals.items ∷ [])
+    (fresh_pushed c.args.query.now c.rounds.log.items c.in-Some.literals.items c.rounds.invariant.fresh fresh_now))
+
+pub from_log-requires : goal.from_log-requires
+from_log-requires c = record {
+  refutes = subst (λ (q : List (List ℤ)). Refutes q c.in_ok-log.log) c.requires.query
+      (subst (Refutes c.args.query.now) (sym c.in_ok-log.ensures)
+      (refutes_pushed c.args.query.now c.rounds.log.items c.rounds.invariant.fresh (c.rounds.invariant.ready.contrary c.if-refuted.true)));
+}
 
 pub returns-then-refuted : goal.returns-then-refuted
 returns-then-refuted c = (

@@ -1,3 +1,4 @@
+-- One more literal is kept, until the clause of those that are kept follows.
 use Rattle.std.proofs.Common.{◌≡◌, ◌∙◌, ◌++◌, ◌∷◌, [], ◌<◌, sym, subst, ap, List, Bool, length, take, arith, append-nil}
 use Rattle.std.specs.Prelude.{ℤ}
 use Rattle.std.specs.List.{All}

@@ -1,4 +1,4 @@
--- Behind a blank the same is told, and `wire` leads to the same.
+-- After a blank the same is told, and `wire` leads to the same.
 use Rattle.std.proofs.Common.{◌∙◌, arith}
 use Rattle.xr_text.specs.Scan.{rest}
 use Rattle.xr_text.proofs.Told.{left_blank}

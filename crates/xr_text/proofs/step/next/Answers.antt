@@ -1,4 +1,4 @@
--- Behind blanks and a directive the same is told.
+-- After blanks and a directive the same is told.
 use Rattle.std.proofs.Common.{sym, ◌∙◌, arith}
 use Rattle.xr_text.specs.Scan.{rest}
 use Rattle.xr_text.proofs.Told.{left_directive, left_no_directive}

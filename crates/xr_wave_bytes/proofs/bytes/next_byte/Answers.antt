@@ -3,7 +3,7 @@ use Rattle.std.proofs.Common.{◌≡◌, ◌∙◌, length, map}
 use Rattle.xr_design.specs.Circuit.{job_in}
 use Rattle.xr_design.specs.Job.{step_of}
 use Rattle.xr_design.specs.Waveform.{certain, certain_by}
-use Rattle.xr_model.specs.Class.{before, carries_on, class_of}
+use Rattle.xr_model.specs.Class.{before, is_carried_on, class_of}
 use Rattle.xr_model.specs.Yields.{is_line}
 use Rattle.xr_class.specs.Facts.{is_plain, keeps_by}
 use Rattle.xr_wave_bytes.specs.Byte.{written_of_byte}
@@ -16,7 +16,7 @@ returns-clause-facts c =
     let j = job_in c.args.circuit.now in
     let bytes = c.args.bytes.now in
     let n = length bytes in
-    let carries = next_said (λ class. c.is_carrying_on-carries.result ≡ carries_on class (before j n)) j bytes c.args.next
+    let carries = next_said (λ class. c.is_carrying_on-carries.result ≡ is_carried_on class (before j n)) j bytes c.args.next
     c.requires.within c.requires.next c.is_carrying_on-carries.ensures in
     let plain = next_said (λ class. c.is_plain_class-plain.result ≡ is_plain class) j bytes c.args.next
     c.requires.within c.requires.next c.is_plain_class-plain.ensures in

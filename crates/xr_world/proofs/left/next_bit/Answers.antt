@@ -7,7 +7,7 @@ use Rattle.xr_world.proofs.left.next_bit.Goals as goal
 pub returns-else-number_of-place-clause-left : goal.returns-else-number_of-place-clause-left
 returns-else-number_of-place-clause-left c =
     let j = job_in c.args.circuit.now in
-    still_left j c.args.place c.args.left.now _ (λ is. c.if-number_of-place.false (c.number_of.ensures ∙ is)) c.requires.left
+    still_left j c.args.place c.args.left.now _ (λ is. c.if-number_of-place.false (c.number_of.ensures.number ∙ is)) c.requires.left
 
 pub returns-else-number_of-place-clause-bit : goal.returns-else-number_of-place-clause-bit
 returns-else-number_of-place-clause-bit c =

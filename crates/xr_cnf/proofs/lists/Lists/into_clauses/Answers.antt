@@ -1,3 +1,4 @@
+-- The lists that stand once have no 0 where all lists have none.
 use Rattle.std.proofs.Common.{map, subst, sym}
 use Rattle.std.specs.List.{All}
 use Rattle.xr_proof.specs.Assignment.{HasNoZero}

@@ -1,3 +1,4 @@
+-- With two more entries of room what served goes on to.
 use Rattle.xr_proof.proofs.Widening.{serves_wider}
 use Rattle.xr_proof.proofs.watch.Watch.widen.Goals as goal
 

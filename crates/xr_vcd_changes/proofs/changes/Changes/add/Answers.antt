@@ -1,4 +1,4 @@
--- A change is added behind those of its code.
+-- A change is added after those of its code.
 use Rattle.std.proofs.Common.{◌≤◌, ap, arith}
 use Rattle.xr_vcd_changes.specs.Held.{History}
 use Rattle.xr_vcd_changes.proofs.Stores.{known, added_is, added_keeps, same_keeps, later_all, added_count}

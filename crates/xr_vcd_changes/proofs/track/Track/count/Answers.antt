@@ -1,3 +1,4 @@
+-- The changes of a track are sorted, so that those up to a moment come first.
 use Rattle.std.proofs.Common.{◌≡◌, ◌∙◌, rules, leb}
 use Rattle.std.specs.List.Sorted.{IsPartitionedBy}
 use Rattle.std.proofs.lemmas.List.Sorted.{IsPartitionPoint-from_clause, IsPartitionedBy-leb}

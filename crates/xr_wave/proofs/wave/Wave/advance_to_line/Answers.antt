@@ -15,8 +15,8 @@ places-preserved c =
     (more c.places.invariant (c.is_plain_next.ensures.plain.0 c.places-test.true)
     (λ otherwise. let not = c.in_ok-wave.ensures.optimistic.1 otherwise in cc))
 
-pub returns-in_err-wave-clause-told : goal.returns-in_err-wave-clause-told
-returns-in_err-wave-clause-told c =
+pub returns-in_err-wave-clause-reported : goal.returns-in_err-wave-clause-reported
+returns-in_err-wave-clause-reported c =
     let is : c.from_residual.result ≡ Err c.in_err-wave.field-0.0 = search rules in
     subst (λ (r : Result Contents Optimistic). IfErr r (IsObjected c.args.self)) (sym is) (record {
       before = c.places.wave;
@@ -24,5 +24,5 @@ returns-in_err-wave-clause-told c =
       wave = c.is_plain_next.ensures.wave;
       plain = c.is_plain_next.ensures.plain.0 c.places-test.true;
       contradicts = c.in_err-wave.ensures.optimistic.0 refl;
-      is_told = c.in_err-wave.ensures.told;
+      reports = c.in_err-wave.ensures.reported;
     })

@@ -1,0 +1,14 @@
+-- An argument place stands before.
+use Rattle.std.proofs.Common.{◌<◌}
+use Rattle.xr_design.specs.Circuit.{job_in}
+use Rattle.xr_design.specs.Rule.{arguments}
+use Rattle.xr_design.proofs.Rules.{arguments_below}
+use Rattle.xr_model.proofs.Classes.{all_at}
+use Rattle.xr_class.proofs.tried.is_carrier.Goals as goal
+
+pub value-requires : goal.value-requires
+value-requires g c =
+    let j = job_in c.args.circuit.now in
+    let certain = g.C.Source.reads c.args.certain.now in
+    let place = c.args.place in
+    c.requires.certain c.args.from (all_at (λ k. k < place) (arguments j certain place) c.args.from (arguments_below j c.requires.fits.fits_job certain place c.requires.within) c.requires.from)

@@ -1,0 +1,26 @@
+-- The circuit of the job fits, and what is found otherwise is a place of it.
+use Rattle.std.proofs.Common.{refl}
+use Rattle.xr_cli.proofs.Jobs.{circuit_fits}
+use Rattle.xr_cli.proofs.FoundPlaces.{found_there}
+use Rattle.xr_cli.proofs.repaired.wave_of.Goals as goal
+
+pub repair-requires-clause-fits : goal.repair-requires-clause-fits
+repair-requires-clause-fits c = circuit_fits c.args.netlist.now c.args.recorded.now c.requires.fits
+
+pub objection_of-requires-clause-place : goal.objection_of-requires-clause-place
+objection_of-requires-clause-place c =
+    let refused = rw c.in-Err-Optimistic.field-0-is at c.in-Err-Optimistic.ensures.refused in
+    found_there c.args.conflicts c.args.netlist.now c.args.recorded.now c.args.history.now c.in-Err-Optimistic.found c.requires.fits refused
+
+pub returns-in_ok-objection_of-in-Err-Optimistic-clause-refused :
+    goal.returns-in_ok-objection_of-in-Err-Optimistic-clause-refused
+returns-in_ok-objection_of-in-Err-Optimistic-clause-refused c =
+    let refused = rw c.in-Err-Optimistic.field-0-is at c.in-Err-Optimistic.ensures.refused in (
+      c.in_ok-objection_of-in-Err-Optimistic.field-0,
+      record {
+        history = c.args.history.now;
+        replay = c.requires.replay;
+        objects = record { otherwise = c.in-Err-Optimistic.found; objects = refused; is = c.in_ok-objection_of-in-Err-Optimistic.ensures };
+      },
+      refl,
+    )

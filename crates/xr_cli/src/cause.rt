@@ -1,0 +1,65 @@
+//! Why texts are refused.
+
+use crate::line::line_of;
+use std::alloc::Global;
+use xr_base::Memory;
+use xr_cell::Value;
+use xr_design::Bytes;
+use xr_job::{CompareRefusal, NetlistRefusal, RecordingRefusal};
+use xr_run::Cause;
+
+/// A place that the replay knows and that is found otherwise, as its line has it.
+#[derive(Debug, Drop)]
+pub struct Objection {
+    /// The time of its moment, in ticks.
+    pub time: u64,
+    /// The round within the moment, from 0.
+    pub round: u32,
+    /// The written name of its net.
+    pub name: Bytes,
+    pub replayed: Value,
+    /// What is found, x for an unknown place.
+    pub found: Value,
+    /// How many of the places before it are marked undecided by a line of their own.
+    pub undecided: usize,
+}
+
+/// Why texts are refused.
+#[derive(Debug, Drop)]
+pub enum Refused {
+    /// The joined netlist has more than 67,108,864 bytes.
+    LongNetlist,
+    /// The netlist's text stands for no design with an order.
+    Netlist(NetlistRefusal),
+    /// The recording has more than 268,435,456 bytes.
+    LongRecording,
+    /// The recording's text is none of the grammar, or doesn't fit the design.
+    Recording(RecordingRefusal),
+    /// The recording and the replay of its inputs differ.
+    Compare(CompareRefusal),
+    /// A place that the replay knows is found otherwise.
+    Optimistic(Objection),
+}
+
+impl Cause for Refused {
+    ghost use Rattle.xr_cli.specs.Cause as spec;
+
+    ghost status_of = { spec.status_of };
+
+    ghost text_of = { spec.text_of };
+
+    fn status(&self) -> u8 {
+        match self {
+            Refused::LongNetlist => 11,
+            Refused::Netlist(cause) => cause.status(),
+            Refused::LongRecording => 11,
+            Refused::Recording(cause) => cause.status(),
+            Refused::Compare(cause) => cause.status(),
+            Refused::Optimistic(_) => 10,
+        }
+    }
+
+    fn line(&self, alloc: Global) -> Result<Vec<u8>, Memory> {
+        line_of(alloc, self)
+    }
+}

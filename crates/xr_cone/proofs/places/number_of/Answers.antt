@@ -1,9 +1,0 @@
--- The number of a place of the job is below the count.
-use Rattle.xr_design.specs.Circuit.{job_in}
-use Rattle.xr_cone.proofs.CircuitPlaces.{number_within}
-use Rattle.xr_cone.proofs.places.number_of.Goals as goal
-
-pub returns-clause-within : goal.returns-clause-within
-returns-clause-within c =
-    let less = number_within (job_in c.args.circuit.now) c.requires.fits.fits_job c.args.place c.requires.within in
-    rw (c.width_of.ensures, c.position.ensures.place) less

@@ -1,0 +1,9 @@
+-- Definitions of laws that compare waveforms.
+pub mod Prefix
+pub mod Objection
+pub mod Reshown
+pub mod Alike
+pub mod Audit
+pub mod Starts
+pub mod Roots
+pub mod WorkedLaws

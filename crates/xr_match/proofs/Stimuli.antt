@@ -1,0 +1,51 @@
+-- A recording whose variables are bound has one stimulus.
+use mathlib.Core.HLevel.{is_prop→PathP}
+use native.Mathlib.Bridge.{le_prop}
+use native.Mathlib.Nat.{ℕ_set}
+use Rattle.std.proofs.Common.{◌≡◌, ◌∙◌, ℕ, ◌<◌, ◌≤◌, ◌^◌, List, [], length, sym, arith, slice_index_or}
+use Rattle.std.proofs.lemmas.List.{ext_get_or}
+use Rattle.xr_cell.specs.declared.value.Value.{Value}
+use Rattle.xr_cell.specs.declared.value.Value.TheVariants.{X}
+use Rattle.xr_design.specs.declared.design.Design.{Design}
+use Rattle.xr_design.specs.declared.stim.StartRule.{StartRule}
+use Rattle.xr_design.specs.declared.stim.Stim.{Stim}
+use Rattle.xr_match.specs.StimOf.{IsRow, IsStimOf, input_value, start_value}
+use Rattle.xr_match.specs.declared.binding.Bound.{Bound}
+use Rattle.xr_vcd.specs.Recording.{Recording}
+
+one_row : (design : Design) (value : ℕ → Value) (a b : List Value) → IsRow design value a → IsRow design value b → a ≡ b
+one_row design value a b first second =
+    let long = first.long in
+    let wide = second.long in
+    ext_get_or X a b (omega (arith, long, wide))
+    (λ net within. first.values net (omega (arith, long, within)) ∙ sym (second.values net (omega (arith, long, within))))
+
+-- Stimuli with the same data are the same: what is always true of one has one proof.
+one_stim_by : (a b : Stim) → a.times ≡ b.times → a.rounds ≡ b.rounds → a.inputs ≡ b.inputs → a.start ≡ b.start → a.starts ≡ b.starts → a ≡ b
+one_stim_by a b times rounds inputs start starts = λ i. record {
+  times = times i;
+  rounds = rounds i;
+  inputs = inputs i;
+  start = start i;
+  starts = starts i;
+  some_moment = is_prop→PathP (λ k. 0 < length (times k)) (λ k. le_prop) a.some_moment b.some_moment i;
+  few_moments = is_prop→PathP (λ k. length (times k) < 2 ^ 28) (λ k. le_prop) a.few_moments b.few_moments i;
+  some_round = is_prop→PathP (λ k. 0 < rounds k) (λ k. le_prop) a.some_round b.some_round i;
+  few_rounds = is_prop→PathP (λ k. rounds k ≤ 16) (λ k. le_prop) a.few_rounds b.few_rounds i;
+  rows = is_prop→PathP (λ k. length (inputs k) ≡ length (times k)) (λ k. ℕ_set (length (inputs k)) (length (times k))) a.rows b.rows i;
+}
+
+module _ (design : Design) (recording : Recording) (bound : List Bound) (rounds : ℕ) (rule : StartRule) (a b : Stim)
+    (first : IsStimOf design recording bound rounds rule a) (second : IsStimOf design recording bound rounds rule b) where
+  same_inputs : a.inputs ≡ b.inputs
+  same_inputs =
+      let many = first.many in
+      let others = second.many in
+      ext_get_or [] a.inputs b.inputs (omega (arith, many, others))
+      (λ moment within. (let inside : moment < length recording.times = omega (arith, many, within) in
+      one_row design (input_value design recording bound moment) (slice_index_or a.inputs moment []) (slice_index_or b.inputs moment [])
+      (first.rows moment inside) (second.rows moment inside)))
+
+  pub same_stim : a ≡ b
+  same_stim = one_stim_by a b (first.times ∙ sym second.times) (first.as_many ∙ sym second.as_many) same_inputs
+      (first.started ∙ sym second.started) (one_row design (start_value design recording bound rule) a.starts b.starts first.starts second.starts)

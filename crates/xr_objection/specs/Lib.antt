@@ -1,0 +1,2 @@
+-- Definitions of laws of objections.
+pub mod Objections

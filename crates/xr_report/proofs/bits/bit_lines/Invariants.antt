@@ -1,0 +1,16 @@
+-- The lines so far and those of the bits that are left are all, and each bit that is left is there.
+use Rattle.std.proofs.Common.{◌≡◌, ◌++◌, length}
+use Rattle.std.specs.List.{AllByRecursion, flat_map}
+use Rattle.xr_match.specs.BoundBits.{IsBitOf, bound_bits, left_of}
+use Rattle.xr_report.specs.Bits.{bound_line}
+use Rattle.xr_report.proofs.bits.bit_lines.Given as goal
+
+abbrev pub invariant-bits : goal.invariant-bits
+invariant-bits l = record {
+  lines : l.text.items ++ flat_map (bound_line l.wave) (left_of l.bits)
+      ≡ flat_map (bound_line l.wave) (bound_bits (length l.wave.stim.times) l.bound.bound);
+  within : AllByRecursion (IsBitOf l.wave.design (length l.wave.stim.times)) (left_of l.bits);
+}
+
+abbrev pub decreases-bits : goal.decreases-bits
+decreases-bits l = length (left_of l.bits)

@@ -1,0 +1,10 @@
+-- Lemmas on runs.
+mod Joins
+mod Files
+pub mod Apart
+pub mod Exact
+mod Steps
+pub mod Then
+mod Runs
+pub mod Causes
+pub mod Comes

@@ -1,0 +1,110 @@
+-- What is prepared and delivered, as a row.
+use Rattle.std.proofs.Common.{◌≡◌, ◌∙◌, ℕ, List, length, Result, Ok, Err, inl, inr, refl, sym, ap, subst}
+use Rattle.std.specs.Prelude.{string_bytes}
+use Rattle.xr_shelf.specs.Shelf.{View, Files, Later, SameCounts}
+use Rattle.xr_shelf.specs.Sink.{SinkView}
+use Rattle.xr_run.specs.Ends.{Delivers, LinePrinted, Ran, Refuses, Reporting, ReportedAs}
+use Rattle.xr_run.specs.Lines.{report_name}
+use Rattle.xr_run.specs.Outputs.{Delivered, DeliveryEnds, IsClosed, StopsAt, StopsPrinting, WrittenTo}
+use Rattle.xr_run.specs.Phases.{Answer, Phases, LeavesClosed}
+use Rattle.xr_run.specs.Prepared.{Refused}
+use Rattle.xr_run.specs.Rows.{Start, Stands}
+use Rattle.xr_run.specs.declared.refusal.Refusal.{Refusal}
+use Rattle.xr_run.specs.declared.refusal.Refusal.TheVariants.{Read, Long, Text, Memory as NoMemory}
+use Rattle.xr_run.specs.declared.undelivered.Undelivered.{Undelivered}
+use Rattle.xr_run.specs.declared.undelivered.Undelivered.TheVariants.{Fault, Memory}
+use Rattle.xr_run.proofs.Steps.{rose_after, same_twice}
+use Rattle.xr_run.proofs.Then.{long_comes}
+
+module _ {C : Type 0} (p : Phases Answer C) (t : Reporting C) (s : Start) (new : View) (sink : SinkView) (status : ℕ) where
+  -- what is refused before the first output
+  pub refused_row : (e : Refusal C) → new.files ≡ s.shelf.files → Refused s.shelf_told p s.shelf new e
+      → Refuses t.status_of t.text_of s.sink_told e s.sink sink status → Ran p t s new sink status
+  refused_row (Read file) files is reported = Ran.ends_unread (string_bytes file) record { next = is.next; cause = is.rose; files = files; closed = is.closed } reported
+  refused_row (Long cause) files is reported = Ran.ends_refused cause record {
+    comes = long_comes s.shelf_told s.shelf.files p cause is.long;
+    files = files;
+    counts = is.kept;
+    closed = inr is.long;
+  } reported
+  refused_row (Text cause) files is reported = Ran.ends_refused cause record { comes = is.comes; files = files; counts = is.kept; closed = inl is.closed } reported
+  refused_row NoMemory files is reported = Ran.ends_without_memory s.sink record { state = inl record { files = files; unprinted = refl }; counts = is; faults = refl } reported
+
+module _ {C : Type 0} (p : Phases Answer C) (t : Reporting C) (s : Start) (answer : Answer) (mid new : View) (before sink : SinkView) (status : ℕ)
+    (stands : Stands p s answer) (later : Later s.shelf mid) (files : mid.files ≡ s.shelf.files) (kept : SameCounts s.shelf mid) (closed : LeavesClosed p s.shelf mid (Ok answer)) where
+  -- the file in hand after the outputs
+  closed_after : LeavesClosed p s.shelf mid (Ok answer) → IsClosed mid new → LeavesClosed p s.shelf new (Ok answer)
+  closed_after first (inl none) = inl none
+  closed_after (inl none) (inr same) = inl (same ∙ none)
+  closed_after (inr (kept, unread)) (inr same) = inr (same ∙ kept, unread)
+
+  written_from : (k : ℕ) → WrittenTo s.shelf_told k answer.files mid.files new.files → WrittenTo s.shelf_told k answer.files s.shelf.files new.files
+  written_from k written = subst (λ (f : Files). WrittenTo s.shelf_told k answer.files f new.files) files written
+
+  delivered : Delivered s.shelf_told s.sink_told answer.files answer.printed mid new s.sink before → ReportedAs s.sink_told (Ok tt) before sink status → Ran p t s new sink status
+  delivered all reported =
+      let now : before ≡ sink = sym reported.1 in
+      Ran.ends_done reported.0 record {
+        answer = answer;
+        stands = stands;
+        written = written_from (length answer.files) all.written;
+        printed = λ told. ap (λ (x : SinkView). x.bytes) reported.1 ∙ all.printed told;
+        counts = same_twice s.shelf mid new kept all.counts;
+        faults = ap (λ (x : SinkView). x.faults) reported.1 ∙ all.faults;
+        closed = closed_after closed all.closed;
+      }
+
+  stops : (e : Undelivered) (k : ℕ) → StopsAt s.shelf_told answer.files k mid new e → before ≡ s.sink → ReportedAs s.sink_told (Err e) before sink status → Ran p t s new sink status
+  stops (Fault text) k at unprinted reported =
+      let name = at.file.name in
+      Ran.ends_unwritten name before record {
+        answer = answer;
+        stands = stands;
+        fails = inl record {
+          k = k;
+          file = at.file;
+          is = at.is;
+          name_is = refl;
+          written = written_from k at.written;
+          rose = rose_after (s.shelf.writes name) (mid.writes name) (new.writes name) (later.writes name) at.cause.1;
+          closed = at.cause.2;
+          unprinted = unprinted;
+        };
+      } (subst (λ (l : List ℕ). LinePrinted s.sink_told l 4 before sink status) at.cause.0 reported)
+  stops Memory k at unprinted reported = Ran.ends_without_memory before record {
+    state = inr record { answer = answer; stands = stands; k = k; written = written_from k at.written; gained = inl unprinted };
+    counts = same_twice s.shelf mid new kept at.cause;
+    faults = ap (λ (x : SinkView). x.faults) unprinted;
+  } reported
+
+  stops_printing : (e : Undelivered) → StopsPrinting s.shelf_told s.sink_told answer.files answer.printed mid new s.sink before e → ReportedAs s.sink_told (Err e) before sink status → Ran p t s new sink status
+  stops_printing (Fault text) at reported = Ran.ends_unwritten report_name before record {
+    answer = answer;
+    stands = stands;
+    fails = inr record {
+      name_is = refl;
+      written = written_from (length answer.files) at.written;
+      gained = at.gained;
+      rose = at.cause.1;
+      counts = same_twice s.shelf mid new kept at.counts;
+      closed = closed_after closed at.closed;
+    };
+  } (subst (λ (l : List ℕ). LinePrinted s.sink_told l 4 before sink status) at.cause.0 reported)
+  stops_printing Memory at reported = Ran.ends_without_memory before record {
+    state = inr record { answer = answer; stands = stands; k = length answer.files; written = written_from (length answer.files) at.written; gained = inr (refl, at.gained) };
+    counts = same_twice s.shelf mid new kept at.counts;
+    faults = at.cause;
+  } reported
+
+  by_ends : (result : Result Unit Undelivered) → DeliveryEnds s.shelf_told s.sink_told answer.files answer.printed mid new s.sink before result → ReportedAs s.sink_told result before sink status
+      → Ran p t s new sink status
+  by_ends (Ok _) all reported = delivered all reported
+  by_ends (Err e) (inl at) reported = stops e at.0.0 at.0.1 at.1 reported
+  by_ends (Err e) (inr at) reported = stops_printing e at reported
+
+-- what is delivered
+pub delivered_row : {C : Type 0} (p : Phases Answer C) (t : Reporting C) (s : Start) (answer : Answer) (mid new : View) (sink : SinkView) (status : ℕ)
+    → Stands p s answer → Later s.shelf mid → mid.files ≡ s.shelf.files → SameCounts s.shelf mid → LeavesClosed p s.shelf mid (Ok answer)
+    → Delivers s.shelf_told s.sink_told answer mid new s.sink sink status → Ran p t s new sink status
+delivered_row p t s answer mid new sink status stands later files kept closed d =
+    by_ends p t s answer mid new d.before sink status stands later files kept closed d.result d.delivery.ends d.reported

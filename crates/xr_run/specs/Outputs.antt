@@ -1,0 +1,132 @@
+-- What a command delivers: files in their order, and what is printed after them.
+use Rattle.std.specs.Prelude.{◌≡◌, ◌≢◌, ◌⊎◌, ℕ, ◌+◌, ◌<◌, ◌≤◌, List, ◌++◌, length, map, take, get_or, Contains, IsTrue}
+use Rattle.std.specs.Prelude.{Bool}
+use Rattle.std.specs.Prelude.{Some, Result, Ok, Err, IfSome, slice_get}
+use Rattle.std.specs.List.{All}
+use Rattle.xr_shelf.specs.Shelf.{View, Files, Nothing, Later, SameCounts, Rose, OthersKept}
+use Rattle.xr_shelf.specs.Sink.{SinkView}
+use Rattle.xr_shelf.specs.Calls.{HoldsPart, Gained}
+use Rattle.xr_run.specs.Lines.{report_name, write_line}
+use Rattle.xr_run.specs.declared.output.Output.{Output}
+use Rattle.xr_run.specs.declared.undelivered.Undelivered.{Undelivered}
+use Rattle.xr_run.specs.declared.undelivered.Undelivered.TheVariants.{Fault, Memory}
+
+-- A file to be written.
+pub record File : Type 0 where
+  pub name : List ℕ
+  pub bytes : List ℕ
+
+abbrev pub name_in : File → List ℕ
+name_in file = file.name
+
+abbrev pub file_of : Output → File
+file_of output = record { name = output.name.now; bytes = output.bytes.items }
+
+-- Each file has another name than those before it.
+abbrev pub AreApart : List File → Type 0
+AreApart files =
+    (i : ℕ) (d : File) → i < length files → All (λ before. before.name ≢ (get_or files i d).name) (take i files)
+
+-- A file is whole.
+abbrev pub IsWhole : Bool → Files → File → Type 0
+IsWhole told new file = IsTrue told → new file.name ≡ Some file.bytes
+
+-- It holds what it held, or a prefix of its bytes.
+abbrev pub IsPart : Bool → Files → Files → File → Type 0
+IsPart told old new file = IsTrue told → HoldsPart file.name file.bytes old new
+
+-- The first k files are whole, the one of number k holds what it held or a prefix of its bytes, and every other name
+-- holds what it held.
+pub record WrittenTo (told : Bool) (k : ℕ) (files : List File) (old new : Files) : Type 0 where
+  pub whole : All (IsWhole told new) (take k files)
+  pub part : IfSome (slice_get files k) (IsPart told old new)
+  pub rest : (name : List ℕ) → (Contains (map name_in (take (k + 1) files)) name → ⊥) → new name ≡ old name
+
+-- No file is in hand, or still the one that was.
+abbrev pub IsClosed : View → View → Type 0
+IsClosed old new = (new.hand ≡ Nothing) ⊎ (new.hand ≡ old.hand)
+
+-- ---- a file
+
+abbrev pub FileUnwritten : File → View → View → Undelivered → Type 0
+FileUnwritten file old new (Fault line) =
+    (line.now ≡ write_line file.name) × Rose (old.writes file.name) (new.writes file.name) × (new.hand ≡ Nothing)
+FileUnwritten file old new Memory = SameCounts old new
+
+abbrev pub FileEnds : Bool → File → View → View → Result Unit Undelivered → Type 0
+FileEnds told file old new (Ok _) = IsWhole told new.files file × SameCounts old new × (new.hand ≡ Nothing)
+FileEnds told file old new (Err e) = IsPart told old.files new.files file × FileUnwritten file old new e
+
+pub record FileWritten (told : Bool) (file : File) (old new : View) (result : Result Unit Undelivered) : Type 0 where
+  pub later : Later old new
+  pub others : OthersKept file.name old.files new.files
+  pub ends : FileEnds told file old new result
+
+-- ---- files
+
+-- The file of number k couldn't be written.
+pub record StopsAt (told : Bool) (files : List File) (k : ℕ) (old new : View) (e : Undelivered) : Type 0 where
+  pub file : File
+  pub is : slice_get files k ≡ Some file
+  pub written : WrittenTo told k files old.files new.files
+  pub cause : FileUnwritten file old new e
+
+abbrev pub FilesEnd : Bool → List File → View → View → Result Unit Undelivered → Type 0
+FilesEnd told files old new (Ok _) =
+    WrittenTo told (length files) files old.files new.files × SameCounts old new × IsClosed old new
+FilesEnd told files old new (Err e) = (k : ℕ) × StopsAt told files k old new e
+
+pub record FilesWritten (told : Bool) (files : List File) (old new : View) (result : Result Unit Undelivered)
+    : Type 0 where
+  pub later : Later old new
+  pub ends : FilesEnd told files old new result
+
+-- ---- what is printed
+
+abbrev pub Unprinted : SinkView → SinkView → Undelivered → Type 0
+Unprinted old new (Fault line) = (line.now ≡ write_line report_name) × Rose old.faults new.faults
+Unprinted old new Memory = new.faults ≡ old.faults
+
+abbrev pub PrintEnds : Bool → List ℕ → SinkView → SinkView → Result Unit Undelivered → Type 0
+PrintEnds told text old new (Ok _) = (IsTrue told → new.bytes ≡ old.bytes ++ text) × (new.faults ≡ old.faults)
+PrintEnds told text old new (Err e) = (IsTrue told → Gained text old new) × Unprinted old new e
+
+pub record Printed (told : Bool) (text : List ℕ) (old new : SinkView) (result : Result Unit Undelivered) : Type 0 where
+  pub later : old.faults ≤ new.faults
+  pub ends : PrintEnds told text old new result
+
+-- ---- all
+
+-- All files are whole, and the sink gained the text. No count rose.
+pub record Delivered (told sink_told : Bool) (files : List File) (text : List ℕ) (old new : View)
+    (before after : SinkView) : Type 0 where
+  pub written : WrittenTo told (length files) files old.files new.files
+  pub printed : IsTrue sink_told → after.bytes ≡ before.bytes ++ text
+  pub counts : SameCounts old new
+  pub closed : IsClosed old new
+  pub faults : after.faults ≡ before.faults
+
+-- The files were whole, and the text couldn't be printed.
+pub record StopsPrinting (told sink_told : Bool) (files : List File) (text : List ℕ) (old new : View)
+    (before after : SinkView)
+    (e : Undelivered) : Type 0 where
+  pub written : WrittenTo told (length files) files old.files new.files
+  pub counts : SameCounts old new
+  pub closed : IsClosed old new
+  pub gained : IsTrue sink_told → Gained text before after
+  pub cause : Unprinted before after e
+
+abbrev pub DeliveryEnds : Bool → Bool → List File → List ℕ → View → View → SinkView → SinkView → Result Unit Undelivered
+    → Type 0
+DeliveryEnds told sink_told files text old new before after (Ok _) =
+    Delivered told sink_told files text old new before after
+DeliveryEnds told sink_told files text old new before after (Err e) =
+    (((k : ℕ) × StopsAt told files k old new e) × (after ≡ before))
+    ⊎ StopsPrinting told sink_told files text old new before after e
+
+pub record Delivery (told sink_told : Bool) (files : List File) (text : List ℕ) (old new : View)
+    (before after : SinkView)
+    (result : Result Unit Undelivered) : Type 0 where
+  pub later : Later old new
+  pub sink_later : before.faults ≤ after.faults
+  pub ends : DeliveryEnds told sink_told files text old new before after result

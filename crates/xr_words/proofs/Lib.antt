@@ -1,0 +1,17 @@
+-- Lemmas on command lines.
+pub mod Once
+pub mod Rows
+pub mod Rules
+pub mod Steps
+pub mod Through
+pub mod Passing
+pub mod Whole
+pub mod Views
+pub mod Numbers
+pub mod Pieces
+pub mod Files
+pub mod Settling
+pub mod Apart
+pub mod Meanings
+pub mod OneMeaning
+pub mod Commands

@@ -1,0 +1,112 @@
+-- The commands, and the options of each, as a table to read.
+use Rattle.std.specs.Str.{bytes_eq}
+use Rattle.std.specs.Prelude.{◌≡◌, ℕ, Bool, true, false, List, [], ◌∷◌, map, codes}
+use Rattle.xr_words.specs.declared.forms.Name.{Name}
+use Rattle.xr_words.specs.declared.forms.Name.TheVariants.{Repair}
+use Rattle.xr_words.specs.declared.option.Kind.{Kind}
+use Rattle.xr_words.specs.declared.option.Kind.TheVariants as kind
+use Rattle.xr_words.specs.declared.option.Opt.{Opt}
+use Rattle.xr_words.specs.declared.line.Line.{Line}
+use Rattle.xr_words.specs.Line.{IsLine, IsOutside, Item, Text, given}
+use Rattle.xr_words.specs.Read.{HasOnly, Reads as IsRead, files_of, value_of}
+
+-- what the value of an option is, without where its words lie in memory
+pub data PlainKind : Type 0 where
+  Reads : PlainKind
+  Writes : PlainKind
+  Prefix : PlainKind
+  Module : PlainKind
+  Scope : PlainKind
+  Number : ℕ → ℕ → PlainKind
+  Word : List Text → PlainKind
+  Either : Text → Text → PlainKind
+  Sets : PlainKind
+
+abbrev pub plain_kind : Kind → PlainKind
+plain_kind kind.Reads = Reads
+plain_kind kind.Writes = Writes
+plain_kind kind.Prefix = Prefix
+plain_kind kind.Name = Module
+plain_kind kind.Scope = Scope
+plain_kind (kind.Number least most) = Number least most
+plain_kind (kind.Word words) = Word (map (λ w. w.now) words.now)
+plain_kind (kind.Either one other) = Either one.now other.now
+plain_kind kind.Sets = Sets
+
+pub record Plain : Type 0 where
+  pub name : Text
+  pub required : Bool
+  pub values : PlainKind
+
+abbrev pub plain : Opt → Plain
+plain o = record { name = o.name.now; required = o.required; values = plain_kind o.kind }
+
+abbrev pub needs : Text → PlainKind → Plain
+needs name values = record { name = name; required = true; values = values }
+
+abbrev pub takes : Text → PlainKind → Plain
+takes name values = record { name = name; required = false; values = values }
+
+-- The options that every command with a job has, before its own.
+abbrev pub job : List Plain → List Plain
+job rest = needs (codes "record") Reads ∷ needs (codes "scope") Scope ∷ needs (codes "top") Module ∷ rest
+
+abbrev pub rounds : Plain
+rounds = takes (codes "rounds") (Number 1 16)
+
+abbrev pub conflicts : Plain
+conflicts = takes (codes "conflicts") (Number 1 100000)
+
+abbrev pub start : Plain
+start = takes (codes "start") (Either (codes "cold") (codes "recorded"))
+
+-- ---- the tables, a row a command
+
+abbrev pub table_of : Name → List Plain
+table_of Repair = job (needs (codes "vcd") Writes ∷ rounds ∷ conflicts ∷ start ∷ [])
+
+abbrev pub has_files : Name → Bool
+has_files Repair = true
+
+abbrev pub word_of : Name → Text
+word_of Repair = codes "repair"
+
+-- The words are a command, and after it a line of its options.
+pub record IsCommand (name : Name) (words : List Text) (items : List Item) (files : List Text) : Type 0 where
+  pub rest : List Text
+  pub is : words ≡ word_of name ∷ rest
+  pub options : List Opt
+  pub table : map plain options ≡ table_of name
+  pub line : IsLine options (has_files name) rest items files
+
+-- The words are this command's, with these values.
+pub record IsNamed (words : List Text) (name : Name) (line : Line) : Type 0 where
+  pub items : List Item
+  pub is : IsCommand name words items (files_of line)
+  pub each : (option : Text) → bytes_eq option (codes "FILE") ≡ false → value_of line option ≡ given items option
+
+-- They are no other command's, and have no other values.
+pub record IsNamedOnly (words : List Text) (name : Name) (line : Line) : Type 0 where
+  pub name_is : (other : Name) (items : List Item) (files : List Text) → IsCommand other words items files
+      → other ≡ name
+  pub files_are : (other : Name) (items : List Item) (files : List Text) → IsCommand other words items files
+      → files ≡ files_of line
+  pub each : (other : Name) (items : List Item) (files : List Text) → IsCommand other words items files
+      → (option : Text) → bytes_eq option (codes "FILE") ≡ false → given items option ≡ value_of line option
+
+-- The words are no command's.
+abbrev pub NamesNothing : List Text → Type 0
+NamesNothing words = (name : Name) (items : List Item) (files : List Text) → IsCommand name words items files → ⊥
+
+-- What stands after the command is a line of its options, with these values and no others.
+pub record IsLineOf (name : Name) (rest : List Text) (line : Line) : Type 0 where
+  pub options : List Opt
+  pub table : map plain options ≡ table_of name
+  pub reads : IsRead options (has_files name) rest line
+  pub only : HasOnly options (has_files name) rest line
+
+-- What stands after the command is no line of its options.
+pub record IsNoLineOf (name : Name) (rest : List Text) : Type 0 where
+  pub options : List Opt
+  pub table : map plain options ≡ table_of name
+  pub outside : IsOutside options (has_files name) rest

@@ -1,0 +1,6 @@
+-- Definitions of command lines.
+pub mod Forms
+pub mod Line
+pub mod Read
+pub mod Told
+pub mod Words

@@ -1,0 +1,24 @@
+//! The words of every command line, read by `clap`. Start at `read_words`, at `specs/Words.antt` for the set of lines,
+//! at `specs/Forms.antt` for the options of each command, and at `specs/Line.antt` for what a line of options is.
+//!
+//! `forms.rt` lists the commands and their options; a new command adds its rows there, and beside `repair.rt` a file
+//! that makes its typed words of the values. `line.rt` reads a line of any list of options.
+#![tactic(auto)]
+
+mod forms;
+mod job;
+mod laws;
+mod line;
+mod named;
+mod option;
+mod outputs;
+mod read;
+mod repair;
+mod told;
+mod typed;
+mod values;
+mod words;
+
+pub use laws::words_mean_one;
+pub use read::read_words;
+pub use words::{Command, JobWords, RepairWords, Start};

@@ -1,0 +1,51 @@
+//! A command line, read.
+
+ghost use Rattle.std.specs.Prelude.{IfOk, IfSome, IfNone, map, string_bytes};
+ghost use Rattle.xr_words.specs.Forms.{IsNamed, IsNamedOnly};
+ghost use Rattle.xr_words.specs.declared.forms.Name.TheVariants.{Repair};
+ghost use Rattle.xr_words.specs.Words.{AreOutside, Means, MeansOnly, values_of};
+
+use crate::forms::Name;
+use crate::job::files_in;
+use crate::line::Line;
+use crate::named::{Named, read_named};
+use crate::repair::repair_of;
+use crate::words::Command;
+use std::alloc::Global;
+use xr_base::Memory;
+
+/// Reads the words, the command first, or answers that they aren't in the set.
+pub fn read_words(alloc: Global, words: &[String]) -> Result<Option<Command<'_>>, Memory>
+    ensures set { IfOk result (λ o. IfSome o (λ c. Means (map string_bytes words.now) (values_of c))) }
+    ensures only { IfOk result (λ o. IfSome o (λ c. MeansOnly (map string_bytes words.now) (values_of c))) }
+    ensures none { IfOk result (λ o. IfNone o (AreOutside (map string_bytes words.now))) }
+{
+    match read_named(alloc, words)? {
+        Some(named) => Ok(command_of(words, &named)),
+        None => Ok(None),
+    }
+}
+
+/// The command with its words as values, none where one lacks or has no value that it may have.
+fn command_of<'a>(words: &'a [String], named: &Named<'a>) -> Option<Command<'a>>
+    requires is { IsNamed (map string_bytes words.now) named.now.name named.now.line }
+    requires only { IsNamedOnly (map string_bytes words.now) named.now.name named.now.line }
+    ensures set { IfSome result (λ c. Means (map string_bytes words.now) (values_of c)) }
+    ensures only { IfSome result (λ c. MeansOnly (map string_bytes words.now) (values_of c)) }
+    ensures none { IfNone result (AreOutside (map string_bytes words.now)) }
+{
+    match named.name {
+        Name::Repair => repair_in(words, &named.line),
+    }
+}
+
+fn repair_in<'a>(words: &'a [String], line: &Line<'a>) -> Option<Command<'a>>
+    requires is { IsNamed (map string_bytes words.now) Repair line.now }
+    requires only { IsNamedOnly (map string_bytes words.now) Repair line.now }
+    ensures set { IfSome result (λ c. Means (map string_bytes words.now) (values_of c)) }
+    ensures only { IfSome result (λ c. MeansOnly (map string_bytes words.now) (values_of c)) }
+    ensures none { IfNone result (AreOutside (map string_bytes words.now)) }
+{
+    let words = repair_of(line, files_in(words, line))?;
+    Some(Command::Repair(words))
+}

@@ -1,0 +1,56 @@
+//! Values of options as numbers and choices.
+
+ghost use Rattle.std.specs.Prelude.{◌≡◌, ◌≤◌, ℕ, Some, IfSome, IfNone, option_map};
+ghost use Rattle.xr_words.specs.declared.words.Start.{Start};
+ghost use Rattle.xr_words.specs.Words.{IsCount, IsStart};
+
+use crate::values::number_in;
+use crate::words::Start;
+
+/// The number of an option that may be absent, from 1 to `most`.
+pub fn count_of(text: Option<&str>, absent: u32, most: u32) -> Option<u32>
+    requires least { 1 ≤ absent }
+    requires most { absent ≤ most }
+    ensures count { IfSome result (λ count. IsCount (option_map (λ s. s.now) text.entry) absent most count) }
+    ensures least { IfSome result (λ count. 1 ≤ count) }
+    ensures most { IfSome result (λ count. count ≤ most) }
+    ensures none { IfNone result ((count : ℕ) → IsCount (option_map (λ s. s.now) text.entry) absent most count → ⊥) }
+{
+    match text {
+        Some(text) => count_in(text, most),
+        None => Some(absent),
+    }
+}
+
+fn count_in(text: &str, most: u32) -> Option<u32>
+    ensures count { IfSome result (λ count. IsCount (Some text.now) 1 most count) }
+    ensures none { IfNone result ((count : ℕ) → IsCount (Some text.now) 1 most count → ⊥) }
+{
+    let number = number_in(text)?;
+    if number < 1 || u64::from(most) < number {
+        return None;
+    }
+    Some(number as u32)
+}
+
+/// The start that an option names, cold where it is absent.
+pub fn start_of(text: Option<&str>) -> Option<Start>
+    ensures start { IfSome result (IsStart (option_map (λ s. s.now) text.entry)) }
+    ensures none { IfNone result ((start : Start) → IsStart (option_map (λ s. s.now) text.entry) start → ⊥) }
+{
+    match text {
+        Some(text) => start_in(text),
+        None => Some(Start::Cold),
+    }
+}
+
+fn start_in(text: &str) -> Option<Start>
+    ensures start { IfSome result (IsStart (Some text.now)) }
+    ensures none { IfNone result ((start : Start) → IsStart (Some text.now) start → ⊥) }
+{
+    match text {
+        "cold" => Some(Start::Cold),
+        "recorded" => Some(Start::Recorded),
+        _ => None,
+    }
+}

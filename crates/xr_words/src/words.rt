@@ -1,0 +1,49 @@
+//! The words of a line of the set, each as the value that it stands for.
+
+ghost use Rattle.std.specs.Prelude.{◌<◌, ◌≤◌, length};
+
+/// A command, with its words.
+#[derive(Clone, Copy, Debug)]
+pub enum Command<'a> {
+    Repair(RepairWords<'a>),
+}
+
+/// What registers hold before the first step.
+#[derive(Clone, Copy, Debug, PartialEq, Eq)]
+pub enum Start {
+    /// Each starts unknown.
+    Cold,
+    /// Each starts as it is first recorded.
+    Recorded,
+}
+
+/// The words of every command that reads a netlist and a recording of it.
+#[derive(Clone, Copy, Debug)]
+pub struct JobWords<'a> {
+    /// The file of the recording.
+    pub recording: &'a str,
+    /// The scope of the top's instance, its names joined by dots.
+    pub scope: &'a str,
+    /// The top module.
+    pub top: &'a str,
+    /// The rounds of a moment, 1 to 16.
+    pub rounds: u32,
+    pub start: Start,
+    /// The files of the netlist, one or more.
+    pub netlists: &'a [String],
+    ghost some_files: { 0 < length netlists.now },
+    ghost some_rounds: { 1 ≤ rounds },
+    ghost few_rounds: { rounds ≤ 16 },
+}
+
+/// The words of `repair`.
+#[derive(Clone, Copy, Debug)]
+pub struct RepairWords<'a> {
+    pub job: JobWords<'a>,
+    /// The file of the repaired recording.
+    pub vcd: &'a str,
+    /// The clauses of a search, 1 to 100,000.
+    pub conflicts: u32,
+    ghost some_clauses: { 1 ≤ conflicts },
+    ghost few_clauses: { conflicts ≤ 100000 },
+}
