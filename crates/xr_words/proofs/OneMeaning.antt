@@ -1,5 +1,5 @@
 -- Words have at most one meaning.
-use Rattle.std.proofs.Common.{◌≡◌, ◌∙◌, List, [], ◌∷◌, map, Bool, true, false, codes, refl, sym, ap, ap₂, subst}
+use Rattle.std.proofs.Common.{◌≡◌, ◌∙◌, List, [], ◌∷◌, map, Bool, true, refl, sym, ap, ap₂, subst}
 use Rattle.std.specs.Prelude.{◌&&◌, ◌^◌, Option, nat_lt, not, unwrap_or}
 use Rattle.std.specs.List.{list_all, list_any}
 use Rattle.std.specs.Str.{bytes_eq}
