@@ -35,7 +35,7 @@ use Rattle.xr_job.specs.Compared.{job_in}
 use Rattle.xr_job.specs.declared.netlist.Netlist.{Netlist as ANetlist}
 use Rattle.xr_job.specs.declared.recorded.Recorded.{Recorded}
 use Rattle.xr_words.specs.Words.{OfRepair, RepairValues, Values}
-use Rattle.xr_cli.specs.Headline.{Headline, IsBit, Shows, place_of}
+use Rattle.xr_cli.specs.Headline.{Headline, IsBit, ShowsWaveform, place_of_bit}
 use Rattle.xr_cli.specs.Answers.{Says, SaysRepair}
 use Rattle.xr_cli.specs.Phases.{phases_of, repair_answer, repair_phases}
 use Rattle.xr_cli.specs.Repair.{FitsJob, Found, IsFound}
@@ -104,7 +104,7 @@ module _ (n : ANetlist) (r : Recorded) (history : HistoryView) (conflicts : ℕ)
 
   -- The history that it shows has what it has.
   shown_there : (shown : HistoryView) → Fits (job_in n r) → IsFinished Whole → ShowsWave Whole shown
-      → Shows (job_in n r) written shown
+      → ShowsWaveform (job_in n r) written shown
   shown_there shown fits finished shows place within =
       let j = job_in n r in
       let back = number_back j fits place within in
@@ -115,7 +115,7 @@ module _ (n : ANetlist) (r : Recorded) (history : HistoryView) (conflicts : ℕ)
 -- ---- the bits
 
 module _ (n : ANetlist) (r : Recorded) (fits : FitsJob n r) (moment : ℕ) (b : Bound) (bit : ℕ) (is : IsBit n r moment b bit) where
-  bit_within : place_of n r moment b bit < places_of (job_in n r)
+  bit_within : place_of_bit n r moment b bit < places_of (job_in n r)
   bit_within =
       let has = is.variable in
       let bound : FitsBound n.design b = subst (FitsBound n.design) has.2 (fits.recorded.binding.each has.0 b has.1) in
@@ -123,7 +123,7 @@ module _ (n : ANetlist) (r : Recorded) (fits : FitsJob n r) (moment : ℕ) (b : 
 
   -- The recording has there what the replay shows.
   bit_agrees : IsFaultless (job_in n r) r.recording r.binding
-      → value_at r.recording b.variable bit moment ≡ shown_at (job_in n r) (place_of n r moment b bit)
+      → value_at r.recording b.variable bit moment ≡ shown_at (job_in n r) (place_of_bit n r moment b bit)
   bit_agrees faultless =
       let has = is.variable in
       let all = (faultless moment is.moment_is).agrees has.0 b has.1 in
@@ -171,14 +171,14 @@ module _ (w : RepairValues) (netlist recording : List ℕ) (is : Made w netlist 
   exact_at place within = sound.exact place (omega (arith, finished, within))
 
   within_at : (moment : ℕ) (b : Bound) (bit : ℕ) → IsBit is.n is.r moment b bit
-      → place_of is.n is.r moment b bit < places_of (job_in is.n is.r)
+      → place_of_bit is.n is.r moment b bit < places_of (job_in is.n is.r)
   within_at moment b bit there = bit_within is.n is.r is.is.fits moment b bit there
 
   stands : (moment : ℕ) (b : Bound) (bit : ℕ) → IsBit is.n is.r moment b bit
       → IsKnown (value_at is.r.recording b.variable bit moment)
-      → (written_at is.found.wave.written (place_of is.n is.r moment b bit)).value ≡ value_at is.r.recording b.variable bit moment
+      → (written_at is.found.wave.written (place_of_bit is.n is.r moment b bit)).value ≡ value_at is.r.recording b.variable bit moment
   stands moment b bit there known =
-      let place = place_of is.n is.r moment b bit in
+      let place = place_of_bit is.n is.r moment b bit in
       let within = within_at moment b bit there in
       let agrees = bit_agrees is.n is.r is.is.fits moment b bit there is.faultless in
       let shown : value_at is.r.recording b.variable bit moment ≡ shown_of (job_in is.n is.r) is.found.history place =
@@ -200,7 +200,7 @@ module _ (w : RepairValues) (netlist recording : List ℕ) (is : Made w netlist 
   abbrev V : HistoryView
   V = is.found.shown
 
-  v_shows : Shows j written V
+  v_shows : ShowsWaveform j written V
   v_shows = shown_there is.n is.r is.found.history w.conflicts written lines V fits finished
       (subst (λ (c : Contents). ShowsWave c V) same is.is.shows)
 
@@ -242,13 +242,13 @@ module _ (w : RepairValues) (netlist recording : List ℕ) (is : Made w netlist 
     shows = v_shows;
     vcd_is = refl;
     report_is = ap (λ (c : Contents). bit_lines c is.r.binding) same;
-    known = λ moment b bit there. known_so (place_of is.n is.r moment b bit) (within_at moment b bit there);
-    unknown = λ moment b bit there. unknown_so (place_of is.n is.r moment b bit) (within_at moment b bit there);
+    known = λ moment b bit there. known_so (place_of_bit is.n is.r moment b bit) (within_at moment b bit there);
+    unknown = λ moment b bit there. unknown_so (place_of_bit is.n is.r moment b bit) (within_at moment b bit there);
     undecided = λ moment b bit there.
-        undecided_licence j w.conflicts written lines (place_of is.n is.r moment b bit)
-        (written_at written (place_of is.n is.r moment b bit)).mark (written_at written (place_of is.n is.r moment b bit)).value
-        (exact_at (place_of is.n is.r moment b bit) (within_at moment b bit there));
-    stand = λ moment b bit there recorded. v_shows (place_of is.n is.r moment b bit) (within_at moment b bit there)
+        undecided_licence j w.conflicts written lines (place_of_bit is.n is.r moment b bit)
+        (written_at written (place_of_bit is.n is.r moment b bit)).mark (written_at written (place_of_bit is.n is.r moment b bit)).value
+        (exact_at (place_of_bit is.n is.r moment b bit) (within_at moment b bit there));
+    stand = λ moment b bit there recorded. v_shows (place_of_bit is.n is.r moment b bit) (within_at moment b bit there)
         ∙ stands moment b bit there recorded;
     only = only_so;
   }

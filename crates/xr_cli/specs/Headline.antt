@@ -32,17 +32,17 @@ pub record IsBit (n : ANetlist) (r : Recorded) (moment : ℕ) (b : Bound) (bit :
   pub variable : Contains r.binding.bound b
   pub within : bit < length b.bits
 
-abbrev pub place_of : ANetlist → Recorded → ℕ → Bound → ℕ → ℕ
-place_of n r moment b bit = at (job_in n r) (last_step (job_in n r) moment) (slice_index b.bits bit)
+abbrev pub place_of_bit : ANetlist → Recorded → ℕ → Bound → ℕ → ℕ
+place_of_bit n r moment b bit = at (job_in n r) (last_step (job_in n r) moment) (slice_index b.bits bit)
 
 -- For every bit of every bound variable in every moment.
 abbrev pub ForBits : ANetlist → Recorded → (ℕ → Value → Type 0) → Type 0
 ForBits n r Holds = (moment : ℕ) (b : Bound) (bit : ℕ) → IsBit n r moment b bit
-    → Holds (place_of n r moment b bit) (value_at r.recording b.variable bit moment)
+    → Holds (place_of_bit n r moment b bit) (value_at r.recording b.variable bit moment)
 
 -- The history that V shows has at each place what the waveform has.
-abbrev pub Shows : Job → List Written → HistoryView → Type 0
-Shows j waveform history =
+abbrev pub ShowsWaveform : Job → List Written → HistoryView → Type 0
+ShowsWaveform j waveform history =
     (place : ℕ) → place < places_of j → shown_of j history place ≡ (written_at waveform place).value
 
 -- The wave of a job with what is written and the lines.
@@ -72,7 +72,7 @@ pub record Headline (w : RepairValues) (netlist recording vcd report : List ℕ)
   pub holds : Holds (job_in n r) w.conflicts (shown_of (job_in n r) replay) waveform lines
   -- V is the text of what the waveform shows.
   pub shown : HistoryView
-  pub shows : Shows (job_in n r) waveform shown
+  pub shows : ShowsWaveform (job_in n r) waveform shown
   pub vcd_is : vcd ≡ vcd_text n.design r.binding r.stim shown
   -- The report tells what became of each recorded bit that is x or z.
   pub report_is : report ≡ bit_lines (wave_of n r replay w.conflicts waveform lines) r.binding
