@@ -1,6 +1,7 @@
 //! Laws that compare waveforms: of other lengths, of other histories, and of jobs with other starts. It has no state.
 //!
-//! Start at specs/Prefix.antt, worked by hand with the others in WorkedLaws.antt, then Objection.antt, Reshown.antt, Alike.antt, Audit.antt, Starts.antt and Roots.antt.
+//! Start at specs/Prefix.antt, worked by hand with the others in WorkedLaws.antt, then Objection.antt, Reshown.antt,
+//! Alike.antt, Audit.antt, Starts.antt and Roots.antt.
 #![tactic(auto)]
 
 mod laws;
