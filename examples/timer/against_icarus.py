@@ -1,11 +1,13 @@
 #!/usr/bin/env python3
 """Compares repaired.vcd with simulations by Icarus Verilog, in this folder.
 
+    python3 against_icarus.py code          with the code that xrepair wrote, code.v, compiled beside the testbench
     python3 against_icarus.py forced        forces each repaired bit while it is repaired
     python3 against_icarus.py random 200    so many chips: each register starts at 0 or 1, each unknown input is 0 or 1
 
-The first must show repaired.vcd and nothing else. Of the second, each must show the repaired bits as they are repaired,
-and each unknown bit must be seen as 0 and as 1.
+The first two must show repaired.vcd and nothing else, at the end of each moment. Of the third, each must show the repaired
+bits as they are repaired, and each unknown bit must be seen as 0 and as 1. Another code or recording of the same test
+may be named behind `code`: python3 against_icarus.py code o.v o.vcd
 """
 import os
 import random
@@ -50,11 +52,12 @@ def at(changes, time):
     return changes[max(known)] if known else "x"
 
 
-def simulate(folder, testbench, netlist, cells):
+def simulate(folder, testbench, netlist, cells, code=""):
     """The recording of a simulation of these texts."""
-    for name, text in (("tb.v", testbench), ("timer.v", netlist), ("cells.v", cells)):
+    texts = {"tb.v": testbench, "timer.v": netlist, "cells.v": cells, "code.v": code}
+    for name, text in texts.items():
         open(f"{folder}/{name}", "w").write(text)
-    subprocess.run(["iverilog", "-g2005", "-o", "t.vvp", "tb.v", "timer.v", "cells.v"], cwd=folder, check=True)
+    subprocess.run(["iverilog", "-g2005", "-o", "t.vvp", *texts], cwd=folder, check=True)
     subprocess.run(["vvp", "t.vvp"], cwd=folder, check=True, stdout=subprocess.DEVNULL)
     return read(f"{folder}/r.vcd")
 
@@ -75,15 +78,30 @@ def forces(recorded, repaired, times):
     return sorted(lines), count
 
 
+def compare(repaired, times, texts, count):
+    """Simulates these texts and compares each bound bit at the end of each moment; whether all agree."""
+    with tempfile.TemporaryDirectory() as folder:
+        shown = simulate(folder, *texts)
+    differ = [(n, t) for n in repaired for t in times if at(shown[n], t) != at(repaired[n], t)]
+    bits = len(repaired) * len(times)
+    print(f"{count} forces, {bits} bits compared, {bits - len(differ)} agree, {len(differ)} differ")
+    for name, time in differ[:10]:
+        print(f"#{time} {name} repaired {at(repaired[name], time)} simulated {at(shown[name], time)}")
+    return not differ
+
+
+def with_code(repaired, times, texts, code):
+    # `#1` of the code is one tick of the recording
+    tick = re.search(r"\$timescale\s+(1\d*)\s*(\w+)", open("r.vcd").read())
+    scale = f"`timescale {tick[1]}{tick[2]}/{tick[1]}{tick[2]}\n"
+    return compare(repaired, times, [*texts, scale + code], len(re.findall(r"\bforce\b", code)))
+
+
 def forced(recorded, repaired, times, texts):
     lines, count = forces(recorded, repaired, times)
     code = "".join(f"  initial #{time / 1000:g} #0 {what}\n" for time, what in lines)
     texts[0] = texts[0].replace("endmodule", code + "endmodule")
-    with tempfile.TemporaryDirectory() as folder:
-        shown = simulate(folder, *texts)
-    differ = [(n, t) for n in repaired for t in times if at(shown[n], t) != at(repaired[n], t)]
-    print(f"{count} forces, {len(repaired) * len(times)} bits compared, {len(differ)} differ")
-    return not differ
+    return compare(repaired, times, texts, count)
 
 
 def chip(draw, texts):
@@ -136,10 +154,15 @@ def drawn(recorded, repaired, times, texts, count):
 
 
 def main(words):
+    folder = os.getcwd()
     os.chdir(os.path.dirname(os.path.abspath(__file__)))
-    recorded, repaired = read("r.vcd"), read("repaired.vcd")
+    files = [os.path.join(folder, it) for it in words[1:]] if words[:1] == ["code"] else []
+    code, shown = (files + ["code.v", "repaired.vcd"][len(files):])[:2]
+    recorded, repaired = read("r.vcd"), read(shown)
     times = sorted({t for changes in recorded.values() for t in changes})
     texts = [open(it).read() for it in ("tb.v", "timer.v", "cells.v")]
+    if words[:1] == ["code"]:
+        return with_code(repaired, times, texts, open(code).read())
     if words[:1] == ["random"]:
         return drawn(recorded, repaired, times, texts, int(words[1]))
     return forced(recorded, repaired, times, texts)

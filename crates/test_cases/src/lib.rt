@@ -17,7 +17,7 @@
 //!
 //! ```text
 //! = select unknown, data equal
-//! repair --record r.vcd --scope tb.dut --top mux --vcd o.vcd m.v
+//! repair --record r.vcd --scope tb.dut --top mux --vcd o.vcd --code o.v --cert o.xc m.v
 //! fail shelf 7
 //! < m.v
 //! module mux(d0, d1, s, y); ..

@@ -9,7 +9,7 @@ use Rattle.xr_design.specs.Job.{Job, places_of}
 use Rattle.xr_design.proofs.Numbers.{is_place_at, number_of_place_at}
 use Rattle.xr_wave.specs.Contents.{Contents, IsWave, IsWritten, job}
 use Rattle.xr_cone_nodes.specs.declared.node.Node.{Node}
-use Rattle.xr_cone_nodes.specs.Traced.{IsConeOf}
+use Rattle.xr_cone_nodes.specs.Traced.{IsWholeCone}
 use Rattle.xr_cone.specs.Boundary.{IsSomeCone}
 
 place_written : (c : Contents) → IsWave c → (number : ℕ) → number < length c.written
@@ -34,6 +34,6 @@ handed_again c wave j same history is =
     let own : IsHandedIn (job c) history = subst (λ (h : HistoryView). IsHandedIn (job c) h) (sym is) wave.handed in
     subst (λ (k : Job). IsHandedIn k history) (sym same) own
 
--- The cone of a place is the cone of some place.
-pub some_cone : (c : Contents) (root : ℕ) (nodes : List Node) → IsConeOf c root nodes → IsSomeCone c nodes
+-- The whole cone of a place is that of some place.
+pub some_cone : (c : Contents) (root : ℕ) (nodes : List Node) → IsWholeCone c root nodes → IsSomeCone c nodes
 some_cone c root nodes is = record { root = root; is = is }

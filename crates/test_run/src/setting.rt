@@ -1,44 +1,45 @@
-//! The files and the sink that a run meets.
+//! The files and the sink that a run meets, and what it leaves.
 //!
 //! `put NAME TEXT` is a file without a newline at its end, `< NAME` one of the lines beneath. `fail shelf 7` and
 //! `fail sink 1` let a call fail, and `pieces 5` is the most bytes that a call moves; without it they are 4,096.
 
+use crate::given::{Case, text_of};
 use std::alloc::{AllocError, Global};
-use std::str;
 use test_cases::{Part, PartKind, Parts};
 use xr_base::Memory;
+use xr_cli::run;
 use xr_shelf::{MemShelf, MemSink};
 
-/// What a run meets.
+/// What a run meets, or left.
 #[derive(Drop)]
 pub struct Setting {
-    pub shelf: MemShelf,
-    pub sink: MemSink,
+    shelf: MemShelf,
+    sink: MemSink,
 }
 
-/// The text of a line; one that is none is empty.
-pub fn text_of(line: &[u8]) -> &str {
-    str::from_utf8(line).unwrap_or("")
+/// A run: what it met, what it left, and its status.
+#[derive(Drop)]
+pub struct Run {
+    pub before: Setting,
+    pub after: Setting,
+    pub status: u8,
+}
+
+impl Run {
+    /// Runs these words over the files of a case.
+    pub fn of(alloc: Global, before: Setting, after: Setting, words: &[String]) -> Run {
+        let mut after = after;
+        let status = run(alloc, words, &mut after.shelf, &mut after.sink);
+        Run {
+            before,
+            after,
+            status,
+        }
+    }
 }
 
 fn number_of(digits: &str) -> u64 {
     digits.parse::<u64>().unwrap_or(0)
-}
-
-/// The line sets the run up, and is none of its words.
-pub fn sets_up(line: &str) -> bool {
-    line.starts_with("put ") || line.starts_with("fail ") || line.starts_with("pieces ")
-}
-
-/// The most bytes that a call moves.
-fn piece_of(parts: Parts<'_>, piece: usize) -> usize {
-    let mut found = piece;
-    for part in parts {
-        if let Some(digits) = text_of(part.head).strip_prefix("pieces ") {
-            found = number_of(digits) as usize;
-        }
-    }
-    found
 }
 
 fn of_memory(answer: Result<(), Memory>) -> Result<(), AllocError> {
@@ -49,44 +50,86 @@ fn of_memory(answer: Result<(), Memory>) -> Result<(), AllocError> {
 }
 
 impl Setting {
-    /// What the parts of a case set up, behind those that hold for all.
-    pub fn new(alloc: Global, common: Parts<'_>, own: Parts<'_>) -> Result<Setting, AllocError> {
-        let piece = piece_of(own, piece_of(common, 4096)).max(1);
+    /// The files of a case. No call fails.
+    pub fn new(alloc: Global, case: Case<'_>) -> Result<Setting, AllocError> {
+        let piece = number_of(case.line("pieces ").unwrap_or("4096"));
+        let piece = (piece as usize).max(1);
         let mut setting = Setting {
             shelf: MemShelf::new(alloc, piece),
             sink: MemSink::new(alloc, piece),
         };
-        setting.add_all(alloc, common)?;
-        setting.add_all(alloc, own)?;
+        setting.put_files(alloc, case.common())?;
+        setting.put_files(alloc, case.own())?;
         Ok(setting)
     }
 
-    fn add_all(&mut self, alloc: Global, parts: Parts<'_>) -> Result<(), AllocError> {
+    /// The files of a case, and its calls that fail.
+    pub fn with_faults(alloc: Global, case: Case<'_>) -> Result<Setting, AllocError> {
+        let mut setting = Setting::new(alloc, case)?;
+        setting.set_faults(case.common())?;
+        setting.set_faults(case.own())?;
+        Ok(setting)
+    }
+
+    /// Adds or replaces a file.
+    pub fn put(&mut self, name: &str, bytes: &[u8]) -> Result<(), AllocError> {
+        of_memory(self.shelf.put(name, bytes))
+    }
+
+    /// Lets a call of the shelf fail.
+    pub fn fail_at(&mut self, call: u64) -> Result<(), AllocError> {
+        of_memory(self.shelf.fail_at(call))
+    }
+
+    /// The bytes of a file.
+    pub fn get(&self, name: &str) -> Option<&[u8]> {
+        self.shelf.get(name)
+    }
+
+    /// What was printed.
+    pub fn printed(&self) -> &[u8] {
+        self.sink.bytes()
+    }
+
+    fn put_files(&mut self, alloc: Global, parts: Parts<'_>) -> Result<(), AllocError> {
         for part in parts {
-            self.add(alloc, part)?;
+            self.put_file(alloc, part)?;
         }
         Ok(())
     }
 
-    fn add(&mut self, alloc: Global, part: Part<'_>) -> Result<(), AllocError> {
+    fn put_file(&mut self, alloc: Global, part: Part<'_>) -> Result<(), AllocError> {
         let head = text_of(part.head);
         match part.kind {
             PartKind::Want => Ok(()),
             PartKind::File => {
                 let content = part.content(alloc)?;
-                of_memory(self.shelf.put(head, content.as_slice()))
+                self.put(head, content.as_slice())
             }
-            PartKind::Words => self.add_line(head),
+            PartKind::Words => self.put_line(head),
         }
     }
 
-    fn add_line(&mut self, line: &str) -> Result<(), AllocError> {
-        if let Some(file) = line.strip_prefix("put ") {
-            let (name, text) = file.split_once(' ').unwrap_or((file, ""));
-            return of_memory(self.shelf.put(name, text.as_bytes()));
+    fn put_line(&mut self, line: &str) -> Result<(), AllocError> {
+        let Some(file) = line.strip_prefix("put ") else {
+            return Ok(());
+        };
+        let (name, text) = file.split_once(' ').unwrap_or((file, ""));
+        self.put(name, text.as_bytes())
+    }
+
+    fn set_faults(&mut self, parts: Parts<'_>) -> Result<(), AllocError> {
+        for part in parts {
+            if part.kind == PartKind::Words {
+                self.set_fault(text_of(part.head))?;
+            }
         }
+        Ok(())
+    }
+
+    fn set_fault(&mut self, line: &str) -> Result<(), AllocError> {
         if let Some(call) = line.strip_prefix("fail shelf ") {
-            return of_memory(self.shelf.fail_at(number_of(call)));
+            return self.fail_at(number_of(call));
         }
         if let Some(call) = line.strip_prefix("fail sink ") {
             return of_memory(self.sink.fail_at(number_of(call)));

@@ -1,6 +1,6 @@
 -- Ways along lines, and the logs of the lines that were taken.
 use Rattle.std.proofs.Common.{◌≡◌, ⊎_elim, ℕ, ◌+◌, ◌<◌, ◌≤◌, ◌==◌, Bool, true, false, Option, Some, None, if◌then◌else◌, List, [], ◌∷◌, ◌++◌, length, refl, sym, subst, ap, ◌∙◌, arith}
-use Rattle.std.specs.Prelude.{◌&&◌, nat_lt, not}
+use Rattle.std.specs.Prelude.{nat_lt}
 use Rattle.std.proofs.lemmas.Bool.{cases_eq, ltb-true, ne_eqb}
 use Rattle.std.proofs.lemmas.List.{length-append}
 use Rattle.xr_cell.specs.declared.value.Value.{Value}
@@ -10,14 +10,11 @@ use Rattle.xr_design.specs.declared.waveform.Written.{Written}
 use Rattle.xr_design.specs.Fits.{Fits}
 use Rattle.xr_design.specs.Job.{Job, number_of, places_of}
 use Rattle.xr_design.specs.Waveform.{certain}
-use Rattle.xr_model.proofs.ClassesBefore.{class_local}
-use Rattle.xr_model.proofs.ConesBefore.{in_cone_local}
+use Rattle.xr_model.proofs.ConesBefore.{variables_local}
 use Rattle.xr_model.proofs.FactsBefore.{certain_grown}
 use Rattle.xr_model.proofs.LinesByPlace.{body_front, body_one}
-use Rattle.xr_model.proofs.PlacesWhere.{picked_same}
 use Rattle.xr_model.specs.Class.{class_of, class_seen}
-use Rattle.xr_model.specs.Cone.{in_cone, is_carried}
-use Rattle.xr_model.specs.Query.{is_variable, variables}
+use Rattle.xr_model.specs.Query.{variables}
 use Rattle.xr_model.specs.Stated.{body_at}
 use Rattle.xr_model.specs.declared.class.ClassByNumber.{ClassByNumber}
 use Rattle.xr_model.specs.declared.class.ClassByNumber.TheVariants.{Local, Free, Carried, Line}
@@ -65,14 +62,6 @@ next_plain_is c plain =
     (ltb-true (length c.written) (places_of (job c)) found.0, found.1)
 
 -- The variables of a place rest on the places before it alone.
-pub same_variables : (j : Job) → Fits j → (c d : ℕ → Value) (root : ℕ) → root < places_of j → AgreeBelow c d root
-    → variables j c root ≡ variables j d root
-unfolding variables
-same_variables j fits c d root within agree =
-    picked_same (is_variable j c root) (is_variable j d root) (root + 1)
-    (λ k less. ap (λ (cone : ℕ → Bool). cone k && not (is_carried (class_of j c k))) (in_cone_local j fits c d root within agree)
-    ∙ ap (λ class. in_cone j d root k && not (is_carried class)) (class_local j fits c d k (omega arith) (λ i low. agree i (omega arith))))
-
 some_none : (found : Option Body) (body : Body) → found ≡ None → found ≡ Some body → ⊥
 some_none found body none some_body = absurd cc
 
@@ -115,7 +104,7 @@ grown_fits : (c : Contents) (w : Written) (place : ℕ) (body : Body) → Fits (
     → BodyFitsAt c c.written place body → BodyFitsAt c (c.written ++ w ∷ []) place body
 grown_fits c w place body fits next low here =
     fits_moved c c.written (c.written ++ w ∷ []) place body
-    (same_variables (job c) fits (certain c.written) (certain (c.written ++ w ∷ [])) place (omega (arith, next, low))
+    (variables_local (job c) fits (certain c.written) (certain (c.written ++ w ∷ [])) place (omega (arith, next, low))
     (λ k less. certain_grown c.written w k (omega (arith, less, low)))) here
 
 fitted_class : (c : Contents) (w : Written) → Fits (job c) → HasNext c → IsFitted c → IsFitted (with_written c w)

@@ -1,5 +1,5 @@
 -- The headline, from a finished wave of a job whose recording agrees with the replay.
-use Rattle.std.proofs.Common.{◌≡◌, ◌∙◌, ℕ, ◌<◌, Bool, true, false, List, length, IsTrue, Result, Ok, Err, inl, inr, refl, sym, ap, subst, arith}
+use Rattle.std.proofs.Common.{◌≡◌, ◌∙◌, ℕ, ◌<◌, Bool, true, false, List, length, refl, sym, ap, subst, arith}
 use Rattle.std.specs.Prelude.{slice_index}
 use Rattle.xr_cell.specs.Value.{IsKnown, bit_value, is_unknown}
 use Rattle.xr_cell.specs.declared.value.Value.{Value}
@@ -28,21 +28,33 @@ use Rattle.xr_vcd.specs.Recording.{value_at}
 use Rattle.xr_wave.specs.Contents.{Contents, IsFinished, IsWave}
 use Rattle.xr_wave.specs.Shown.{ShowsWave}
 use Rattle.xr_out.specs.Text.{vcd_text}
-use Rattle.xr_report.specs.Bits.{bit_lines}
-use Rattle.xr_run.specs.Phases.{Answer, ComesTo, text_held}
-use Rattle.xr_shelf.specs.Shelf.{Files}
+use Rattle.std.specs.List.{AllByRecursion}
+use Rattle.xr_along.specs.Along.{GoesAlong}
+use Rattle.xr_cert.specs.Checked.{IsAccepted}
+use Rattle.xr_cert.specs.Step.{cert_of}
+use Rattle.xr_cert.proofs.Fitted.{own_accepted}
+use Rattle.xr_cert.proofs.OwnText.{own_text_stands}
+use Rattle.xr_cert_text.specs.Text.{cert_text}
+use Rattle.xr_code.specs.Written.{code_text}
+use Rattle.xr_design.specs.Circuit.{PartsFit}
+use Rattle.xr_design.specs.declared.force.Event.{Event}
+use Rattle.xr_forces.specs.ForcesOf.{AreForcesOf, forces_of}
+use Rattle.xr_forces.specs.Waves.{values_of}
+use Rattle.xr_forces.proofs.Showing.{forces_exist, forces_show}
+use Rattle.xr_forces.proofs.TextLaws.{text_shown}
+use Rattle.xr_model.proofs.Uniqueness.{yields_one}
+use Rattle.xr_report.specs.Report.{report_text}
 use Rattle.xr_job.specs.Compared.{job_in}
 use Rattle.xr_job.specs.declared.netlist.Netlist.{Netlist as ANetlist}
 use Rattle.xr_job.specs.declared.recorded.Recorded.{Recorded}
-use Rattle.xr_words.specs.Words.{OfRepair, RepairValues, Values}
-use Rattle.xr_cli.specs.Headline.{Headline, IsBit, ShowsWaveform, place_of_bit}
-use Rattle.xr_cli.specs.Answers.{Says, SaysRepair}
-use Rattle.xr_cli.specs.Phases.{phases_of, repair_answer, repair_phases}
-use Rattle.xr_cli.specs.Repair.{FitsJob, Found, IsFound}
+use Rattle.xr_words.specs.Line.{IsScopeName}
+use Rattle.xr_words.specs.Words.{RepairValues}
+use Rattle.xr_cli.specs.Headline.{Certifies, Headline, IsBit, IsForceCode, ShowsWaveform, place_of_bit, value_in}
+use Rattle.xr_cli.specs.Phases.{forces_in, scope_of}
+use Rattle.xr_cli.specs.Repair.{FitsJob, Found, IsFound, beginning}
 use Rattle.xr_cli.specs.Texts.{IsJob}
-use Rattle.xr_cli.specs.declared.cause.Refused.{Refused}
-use Rattle.xr_cli.specs.declared.cause.Refused.TheVariants.{LongNetlist, Netlist, LongRecording, Recording, Compare, Optimistic}
-use Rattle.xr_cli.proofs.Jobs.{fits_job, last_place, number_back, place_there, replay_shown}
+use Rattle.xr_cli.proofs.OwnForces.{own_forces_said}
+use Rattle.xr_cli.proofs.Jobs.{circuit_fits, fits_job, last_place, number_back, place_there, replay_shown}
 
 -- ---- what is known of a place by its mark
 
@@ -82,7 +94,7 @@ undecided_licence j limit waveform lines place Undecided value exact is = exact
 
 -- ---- a wave of a job
 
-abbrev wave_with : Design → List ℕ → Stim → HistoryView → ℕ → List Written → List ALine → Contents
+abbrev pub wave_with : Design → List ℕ → Stim → HistoryView → ℕ → List Written → List ALine → Contents
 wave_with design order stim history limit written lines = record {
   design = design;
   order = order;
@@ -141,10 +153,10 @@ pub record Made (w : RepairValues) (netlist recording : List ℕ) : Type 0 where
   pub is : IsFound w.conflicts n r found
 
 module _ (w : RepairValues) (netlist recording : List ℕ) (is : Made w netlist recording) where
-  abbrev TheWave : Contents
+  abbrev pub TheWave : Contents
   TheWave = wave_with is.n.design is.n.order is.r.stim is.found.history w.conflicts is.found.wave.written is.found.wave.lines
 
-  same : is.found.wave ≡ TheWave
+  pub same : is.found.wave ≡ TheWave
   same =
       let of_job = is.is.repaired.of_job in
       wave_is is.found.wave is.n.design is.n.order is.r.stim is.found.history w.conflicts
@@ -153,10 +165,10 @@ module _ (w : RepairValues) (netlist recording : List ℕ) (is : Made w netlist 
   fits : Fits (job_in is.n is.r)
   fits = fits_job is.n is.r is.is.fits
 
-  wave : IsWave TheWave
+  pub wave : IsWave TheWave
   wave = subst IsWave same is.is.repaired.sound
 
-  finished : length is.found.wave.written ≡ places_of (job_in is.n is.r)
+  pub finished : length is.found.wave.written ≡ places_of (job_in is.n is.r)
   finished = subst IsFinished same is.is.repaired.finished
 
   sound : Sound (job_in is.n is.r) w.conflicts (shown_of (job_in is.n is.r) is.found.history) is.found.wave.written is.found.wave.lines
@@ -185,16 +197,16 @@ module _ (w : RepairValues) (netlist recording : List ℕ) (is : Made w netlist 
       agrees ∙ sym (replay_shown (job_in is.n is.r) is.found.history place replay within) in
       sound.shows.known place (omega (arith, finished, within)) (subst IsKnown shown known) ∙ sym shown
 
-  abbrev j : Job
+  abbrev pub j : Job
   j = job_in is.n is.r
 
-  abbrev written : List Written
+  abbrev pub written : List Written
   written = is.found.wave.written
 
   abbrev lines : List ALine
   lines = is.found.wave.lines
 
-  abbrev shown_at_place : ℕ → Value
+  abbrev pub shown_at_place : ℕ → Value
   shown_at_place = shown_of j is.found.history
 
   abbrev V : HistoryView
@@ -219,19 +231,58 @@ module _ (w : RepairValues) (netlist recording : List ℕ) (is : Made w netlist 
       unknown_both j w.conflicts written lines place (written_at written place).mark (written_at written place).value
       (exact_at place within) (ap is_unknown (sym (v_shows place within)) ∙ shown) ended
 
-  only_so : IsDecided written → (limit : ℕ) (other : List Written) (more : List ALine) → length other ≡ places_of j
+  pub only_so : IsDecided written → (limit : ℕ) (other : List Written) (more : List ALine) → length other ≡ places_of j
       → Sound j limit shown_at_place other more → IsDecided other → other ≡ written
   only_so decided limit other more long others_sound others_decided =
       one_exact j shown_at_place other written fits (long ∙ sym finished) others_sound.within
       (sound_exact j limit shown_at_place other more others_decided others_sound)
       (sound_exact j w.conflicts shown_at_place written lines decided sound) others_sound.shows sound.shows
 
-  pub headline : Headline w netlist recording (vcd_text is.n.design is.r.binding is.r.stim is.found.shown)
-      (bit_lines is.found.wave is.r.binding)
-  headline = record {
+  parts_fit : PartsFit is.n.design is.n.order is.r.stim
+  parts_fit = circuit_fits is.n is.r is.is.fits
+
+  abbrev pub events : List Event
+  events = forces_of j (values_of TheWave)
+
+  pub are_forces : AreForcesOf j (value_in written) events
+  are_forces = forces_exist j (value_in written) fits
+
+  forces_so : AllByRecursion IsScopeName (scope_of w.job) → IsForceCode w is.n is.r written (vcd_text is.n.design is.r.binding is.r.stim V)
+      (code_text is.n.design is.r.stim (scope_of w.job) events)
+  forces_so named = record {
+    events = events;
+    are = are_forces;
+    text_is = refl;
+    says = own_forces_said is.n is.r (scope_of w.job) (value_in written) is.is.fits is.is.times named;
+    shown = λ history forced. forces_show j (value_in written) events history are_forces forced;
+    replayed = λ history forced.
+        text_shown is.n.design is.n.order is.r.stim is.r.binding (value_in written) events history V parts_fit is.is.fits.recorded.binding
+        are_forces forced v_shows;
+  }
+
+  along_there : GoesAlong (beginning w.conflicts is.n is.r is.found.history) TheWave
+  along_there = subst (GoesAlong (beginning w.conflicts is.n is.r is.found.history)) same is.is.repaired.along
+
+  accepted_so : IsAccepted (beginning w.conflicts is.n is.r is.found.history) (cert_of TheWave) written
+  accepted_so = own_accepted (beginning w.conflicts is.n is.r is.found.history) TheWave refl refl along_there wave finished
+
+  certifies_so : Certifies w is.n is.r is.found.history written lines (cert_text (cert_of TheWave))
+  certifies_so = record {
+    stands = own_text_stands (beginning w.conflicts is.n is.r is.found.history) TheWave refl along_there wave;
+    accepted = accepted_so;
+    one = λ other accepted.
+        yields_one j w.conflicts fits shown_at_place other written lines (accepted.long ∙ sym finished) (let long = accepted.long in omega (arith, long))
+        accepted.yields accepted_so.yields;
+  }
+
+  headline_there : AllByRecursion IsScopeName (scope_of w.job) → Headline w netlist recording (vcd_text is.n.design is.r.binding is.r.stim is.found.shown)
+      (code_text is.n.design is.r.stim (scope_of w.job) (forces_in TheWave)) (cert_text (cert_of TheWave)) (report_text TheWave is.r.binding (forces_in TheWave))
+  unfolding forces_so
+  headline_there named = record {
     n = is.n;
     r = is.r;
     job = is.job;
+    fits = is.is.fits;
     replay = is.found.history;
     agrees = record { replay = is.is.replay; faultless = is.faultless };
     waveform = written;
@@ -241,7 +292,9 @@ module _ (w : RepairValues) (netlist recording : List ℕ) (is : Made w netlist 
     shown = V;
     shows = v_shows;
     vcd_is = refl;
-    report_is = ap (λ (c : Contents). bit_lines c is.r.binding) same;
+    forces = forces_so named;
+    certifies = certifies_so;
+    report_is = refl;
     known = λ moment b bit there. known_so (place_of_bit is.n is.r moment b bit) (within_at moment b bit there);
     unknown = λ moment b bit there. unknown_so (place_of_bit is.n is.r moment b bit) (within_at moment b bit there);
     undecided = λ moment b bit there.
@@ -253,35 +306,9 @@ module _ (w : RepairValues) (netlist recording : List ℕ) (is : Made w netlist 
     only = only_so;
   }
 
--- ---- the phases
-
-answers_one : (a b : Answer) → ◌≡◌ {A = Result Answer Refused} (Ok a) (Ok b) → a ≡ b
-answers_one a b same = cc
-
-no_answer : (a : Answer) (c : Refused) → ◌≡◌ {A = Result Answer Refused} (Ok a) (Err c) → ⊥
-no_answer a c same = cc
-
-repair_says : (told : Bool) (files : Files) (w : RepairValues) (answer : Answer) → IsTrue told → ComesTo told files (repair_phases w) (Ok answer) → SaysRepair files w answer
-repair_says told files w answer t (inl first) = absurd (no_answer answer LongNetlist first.1)
-repair_says told files w answer t (inr (text, read, inl (e, refused, is))) = absurd (no_answer answer (Netlist e) is)
-repair_says told files w answer t (inr (text, read, inr (n, has, inl first))) = absurd (no_answer answer LongRecording first.1)
-repair_says told files w answer t (inr (text, read, inr (n, has, inr (recording, again, inl (e, refused, is))))) = absurd (no_answer answer (Recording e) is)
-repair_says told files w answer t (inr (text, read, inr (n, has, inr (recording, again, inr (r, held, inl (e, refused, is)))))) = absurd (no_answer answer (Compare e) is)
-repair_says told files w answer t (inr (text, read, inr (n, has, inr (recording, again, inr (r, held, inr (agreed, faultless, inl (o, refused, is))))))) = absurd (no_answer answer (Optimistic o) is)
-repair_says told files w answer t (inr (text, read, inr (n, has, inr (recording, again, inr (r, held, inr (agreed, faultless, inr (found, is, same))))))) =
-    let job : IsJob w.job text recording n r = record { netlist_is = record { fits = read.fits; is = has }; fits = again.fits; is = held } in
-    let made : Made w text recording = record { n = n; r = r; job = job; faultless = faultless; found = found; is = is } in
-    let vcd = vcd_text n.design r.binding r.stim found.shown in
-    let report = bit_lines found.wave r.binding in
-    let here = headline w text recording made in
-    let there = subst (λ (l : List ℕ). Headline w l recording vcd report) (read.is t) here in
-    record {
-      vcd = vcd;
-      report = report;
-      answer_is = answers_one answer (repair_answer w n r found) same;
-      headline = subst (λ (l : List ℕ). Headline w (text_held files w.job.netlists) l vcd report) (again.is t) there;
-    }
-
--- What a command finds says what is promised.
-pub answers_say : (told : Bool) (files : Files) (words : Values) (answer : Answer) → IsTrue told → ComesTo told files (phases_of words) (Ok answer) → Says files words answer
-answers_say told files (OfRepair w) answer t comes = repair_says told files w answer t comes
+  pub headline : AllByRecursion IsScopeName (scope_of w.job) → Headline w netlist recording (vcd_text is.n.design is.r.binding is.r.stim is.found.shown)
+      (code_text is.n.design is.r.stim (scope_of w.job) (forces_in is.found.wave)) (cert_text (cert_of is.found.wave))
+      (report_text is.found.wave is.r.binding (forces_in is.found.wave))
+  headline named = subst (λ (c : Contents). Headline w netlist recording (vcd_text is.n.design is.r.binding is.r.stim is.found.shown)
+      (code_text is.n.design is.r.stim (scope_of w.job) (forces_in c)) (cert_text (cert_of c)) (report_text c is.r.binding (forces_in c)))
+      (sym same) (headline_there named)

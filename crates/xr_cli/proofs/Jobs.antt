@@ -5,7 +5,7 @@ use Rattle.std.proofs.Math.Nat.{mul-le-mul_right}
 use Rattle.xr_design.specs.Circuit.{PartsFit}
 use Rattle.xr_design.specs.Filling.{IsPlace}
 use Rattle.xr_design.specs.Fits.{Fits, place_at}
-use Rattle.xr_design.specs.Handed.{IsReplay, shown_of}
+use Rattle.xr_design.specs.Handed.{HasPlaces, IsReplay, shown_of}
 use Rattle.xr_design.specs.History.{HistoryView}
 use Rattle.xr_design.specs.Job.{Job, at, number_of, places_of}
 use Rattle.xr_design.specs.Order.{position_of}
@@ -18,6 +18,7 @@ use Rattle.xr_design.proofs.Replays.{replay_prefix}
 use Rattle.xr_job.specs.Compared.{job_in}
 use Rattle.xr_job.specs.declared.netlist.Netlist.{Netlist as ANetlist}
 use Rattle.xr_job.specs.declared.recorded.Recorded.{Recorded}
+use Rattle.xr_out.specs.Text.{HasSteps}
 use Rattle.xr_cli.specs.Repair.{FitsJob}
 
 -- ---- a job that fits
@@ -57,3 +58,15 @@ pub replay_shown : (j : Job) (history : HistoryView) (place : ℕ) → IsReplay 
     → shown_of j history place ≡ shown_at j place
 replay_shown j history place is within =
     ap (λ (h : Held). h.shown) (is.held place within) ∙ replay_prefix j (places_of j) place within
+
+-- A history with the job's places has each step.
+pub has_steps : (n : ANetlist) (r : Recorded) (history : HistoryView) → FitsJob n r → HasPlaces (job_in n r) history → HasSteps n.design r.stim history
+has_steps n r history fits places =
+    let all = places.all in
+    let few = fits.recorded.stim.places in
+    record {
+      nets = places.nets;
+      places = all;
+      few = omega (arith, all, few);
+      few_nets = fits.netlist.design.few;
+    }

@@ -8,11 +8,11 @@ use Rattle.xr_design.specs.declared.stim.StartRule.{StartRule}
 use Rattle.xr_design.proofs.OrdersFit.{order_lists}
 use Rattle.xr_replay.specs.declared.differ.Differ.{Differ}
 use Rattle.xr_replay.specs.declared.differ.Differ.TheVariants.{Unsettled, Disagrees}
-use Rattle.xr_run.specs.Phases.{AreExact, IsOne}
+use Rattle.xr_run.specs.Phases.{Answer, AreExact, IsOne, Phases, ◌>>=◌}
 use Rattle.xr_run.specs.Rows.{Start}
 use Rattle.xr_run.proofs.Comes.{Lawful}
 use Rattle.xr_run.proofs.Causes.{EachCause, each_cause}
-use Rattle.xr_words.specs.Words.{OfRepair, Values}
+use Rattle.xr_words.specs.Words.{JobValues, MakeValues, OfCheck, OfMake, OfRepair, OfReplay, Values}
 use Rattle.xr_words.proofs.OneMeaning.{one_meaning}
 use Rattle.xr_job.specs.Compared.{IsRefusedReplay, job_in, refusal_for}
 use Rattle.xr_job.specs.Netlist.{IsRefusedNetlist}
@@ -28,12 +28,24 @@ use Rattle.xr_job.proofs.OneNetlist.{one_outcome}
 use Rattle.xr_job.proofs.OneRecording.{one_recording}
 use Rattle.xr_cli.specs.Cause.{status_of}
 use Rattle.xr_cli.specs.Commands.{commands}
-use Rattle.xr_cli.specs.Phases.{phases_of, scope_of}
-use Rattle.xr_cli.specs.Repair.{CompareComes, rule_of}
+use Rattle.xr_cert.specs.declared.refusal.CheckErr.{CheckErr}
+use Rattle.xr_cert.specs.declared.refusal.CheckErr.TheVariants.{Memory as OutOfMemory, Optimistic as Objects, Refused as Unchecked}
+use Rattle.xr_code.specs.declared.fault.CodeFault.{CodeFault}
+use Rattle.xr_cli.specs.Certificate.{IsCauseOf, uncertified_by}
+use Rattle.xr_cli.specs.Code.{code_in}
+use Rattle.xr_cli.specs.Made.{made_job, made_netlist}
+use Rattle.xr_cli.specs.Phases.{coded_phases, compared_check, job_phases, make_phases, parts, phases_of, repaired_phases, scope_of}
+use Rattle.xr_cli.specs.Repair.{CompareComes, netlist_limit, objection_of, recording_limit, rule_of}
+use Rattle.xr_cli.specs.declared.cause.Objection.{Objection}
 use Rattle.xr_cli.specs.declared.cause.Refused.{Refused}
-use Rattle.xr_cli.specs.declared.cause.Refused.TheVariants.{LongNetlist, Netlist, LongRecording, Recording, Compare, Optimistic}
+use Rattle.xr_cli.specs.declared.cause.Refused.TheVariants.{Certificate, Code, Compare, LongCertificate, LongCode, LongNetlist, LongRecording, Netlist, Optimistic, Recording}
+use Rattle.xr_cli.specs.declared.cause.Uncertified.{Uncertified}
+use Rattle.xr_cli.specs.declared.parts.Parts.{Parts}
 use Rattle.xr_cli.proofs.Faults.{OrdersAll, no_first, one_fault}
+use Rattle.xr_cli.proofs.Making.{one_length, one_made}
 use Rattle.xr_cli.proofs.OneStimulus.{one_binding, one_said, one_stim}
+use Rattle.xr_cli.proofs.OneCode.{one_code}
+use Rattle.xr_cli.proofs.OneCheck.{one_certificate, one_check}
 
 -- ---- each phase comes to one thing
 
@@ -59,12 +71,42 @@ one_compared n r orders (Err e) (Err f) first second =
     let same = one_fault (job_in n r) orders r.recording r.binding first.differ second.differ first.first second.first in
     ap Err (first.reported ∙ ap (λ (d : Differ). refusal_for n r d) same ∙ sym second.reported)
 
-each_exact : (w : Values) → AreExact (phases_of w)
-each_exact (OfRepair w) = λ text. (
-  one_outcome text w.job.top,
+-- The phases of a job, and those after them.
+job_exact : (w : JobValues) (next : Parts → Phases Answer Refused) → ((n : ANetlist) (r : Recorded) → OrdersAll (job_in n r) → AreExact (next (parts n r)))
+    → AreExact (job_phases w >>= next)
+job_exact w next after = λ text. (
+  one_outcome text w.top,
   λ n has recording.
-      (one_recorded recording n.design (scope_of w.job) w.job.rounds (rule_of w.job.start), λ r held. (one_compared n r (orders_of n r has.ordered), λ agreed faultless found is. tt)),
+      (one_recorded recording n.design (scope_of w) w.rounds (rule_of w.start), λ r held. after n r (orders_of n r has.ordered)),
 )
+
+-- Those of a made job.
+made_exact : (w : MakeValues) → AreExact (make_phases w)
+made_exact w = (
+  one_length netlist_limit (made_netlist w),
+  λ short fits. (
+    one_outcome (made_netlist w) made_job.top,
+    λ n has. (
+      one_made w n (made_netlist w) has,
+      λ text made. (
+        one_length recording_limit text,
+        λ few within. (
+          one_recorded text n.design (scope_of made_job) made_job.rounds (rule_of made_job.start),
+          λ r held. (one_compared n r (orders_of n r has.ordered), λ agreed faultless found is. tt),
+        ),
+      ),
+    ),
+  ),
+)
+
+each_exact : (w : Values) → AreExact (phases_of w)
+each_exact (OfRepair w) = job_exact w.job (λ (job : Parts). repaired_phases w job.netlist job.recorded)
+    (λ n r orders. (one_compared n r orders, λ agreed faultless found is. tt))
+each_exact (OfReplay w) = job_exact w.job (coded_phases w)
+    (λ n r orders text. (one_code (code_in (parts n r) text (scope_of w.job)), λ forces says history is. tt))
+each_exact (OfCheck w) = job_exact w.job (compared_check w)
+    (λ n r orders. (one_compared n r orders, λ agreed faultless text. (one_certificate text, λ cert stands. (one_check w.conflicts (parts n r) cert, λ wave is. tt))))
+each_exact (OfMake w) = made_exact w
 
 -- ---- the statuses of texts
 
@@ -105,22 +147,79 @@ of_long_recording : IsOfTexts LongRecording
 unfolding IsOfTexts
 of_long_recording = (omega arith, omega arith)
 
-of_objection : (o : _) → IsOfTexts (Optimistic o)
+of_objection : (o : Objection) → IsOfTexts (Optimistic o)
 unfolding IsOfTexts
 of_objection o = (omega arith, omega arith)
 
-each_of_texts : (w : Values) → EachCause IsOfTexts (phases_of w)
-each_of_texts (OfRepair w) = (
+of_long_code : IsOfTexts LongCode
+unfolding IsOfTexts
+of_long_code = (omega arith, omega arith)
+
+of_code : (fault : CodeFault) → IsOfTexts (Code fault)
+unfolding IsOfTexts
+of_code fault = (omega arith, omega arith)
+
+of_long_certificate : IsOfTexts LongCertificate
+unfolding IsOfTexts
+of_long_certificate = (omega arith, omega arith)
+
+of_certificate : (cause : Uncertified) → IsOfTexts (Certificate cause)
+unfolding IsOfTexts
+of_certificate cause = (omega arith, omega arith)
+
+of_cause : (job : Parts) (refusal : CheckErr) (cause : Refused) → IsCauseOf job refusal cause → IsOfTexts cause
+of_cause job (Unchecked fault) cause is = subst IsOfTexts (sym is) (of_certificate (uncertified_by job fault))
+of_cause job (Objects found) cause is = subst IsOfTexts (sym is) (of_objection (objection_of job.netlist job.recorded found))
+of_cause job OutOfMemory cause is = absurd is
+
+job_of_texts : (w : JobValues) (next : Parts → Phases Answer Refused) → ((n : ANetlist) (r : Recorded) → EachCause IsOfTexts (next (parts n r)))
+    → EachCause IsOfTexts (job_phases w >>= next)
+job_of_texts w next after = (
   of_long,
   λ text. (
-    of_netlist text w.job.top,
+    of_netlist text w.top,
     λ n has. (
       of_long_recording,
-      λ recording.
-          (of_recording recording n.design (scope_of w.job) w.job.rounds, λ r held. (of_compare n r, λ agreed faultless. ((λ o objects. of_objection o), λ found is. tt))),
+      λ recording. (of_recording recording n.design (scope_of w) w.rounds, λ r held. after n r),
     ),
   ),
 )
+
+made_of_texts : (w : MakeValues) → EachCause IsOfTexts (make_phases w)
+made_of_texts w = (
+  (λ long is. of_long),
+  λ short fits. (
+    of_netlist (made_netlist w) made_job.top,
+    λ n has. (
+      (λ none is. absurd none),
+      λ text made. (
+        (λ long is. of_long_recording),
+        λ few within. (
+          of_recording text n.design (scope_of made_job) made_job.rounds,
+          λ r held. (of_compare n r, λ agreed faultless. ((λ o objects. of_objection o), λ found is. tt)),
+        ),
+      ),
+    ),
+  ),
+)
+
+each_of_texts : (w : Values) → EachCause IsOfTexts (phases_of w)
+each_of_texts (OfRepair w) = job_of_texts w.job (λ (job : Parts). repaired_phases w job.netlist job.recorded)
+    (λ n r. (of_compare n r, λ agreed faultless. ((λ o objects. of_objection o), λ found is. tt)))
+each_of_texts (OfReplay w) = job_of_texts w.job (coded_phases w)
+    (λ n r. (of_long_code, λ text. ((λ fault first. of_code fault), λ forces says. ((λ none is. absurd none), λ history is. tt))))
+each_of_texts (OfCheck w) = job_of_texts w.job (compared_check w)
+    (λ n r. (
+      of_compare n r,
+      λ agreed faultless. (
+        of_long_certificate,
+        λ text. (
+          (λ wrong is. of_certificate wrong),
+          λ cert stands. ((λ cause is. of_cause (parts n r) is.refusal cause is.is), λ wave is. tt),
+        ),
+      ),
+    ))
+each_of_texts (OfMake w) = made_of_texts w
 
 pub lawful : (s : Start) → Lawful commands s
 lawful s = record {

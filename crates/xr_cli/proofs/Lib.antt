@@ -1,12 +1,20 @@
 -- Lemmas on the program.
+mod Answering
+mod CheckedPlaces
 mod Faults
 mod FoundPlaces
 mod Headlines
 mod Jobs
 mod Lawfully
 mod Lines
+mod Making
 mod ObjectingOnce
+mod OneCheck
+mod OneCode
+mod OneHistory
 mod OneStimulus
+mod OwnForces
 mod Runs
 mod Scopes
+mod TextsOf
 mod Walk

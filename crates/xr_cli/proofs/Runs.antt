@@ -1,96 +1,227 @@
 -- What a run comes to, in the words of the program.
-use Rattle.std.proofs.Common.{◌≡◌, ℕ, ◌≤◌, List, [], ◌∷◌, IsTrue, Bool, Result, Ok, Err, inl, inr, sym, subst}
+use Rattle.std.proofs.Common.{◌≡◌, ℕ, ◌≤◌, List, [], ◌∷◌, length, IsTrue, Bool, Result, Ok, Err, inl, inr, sym, subst}
 use Rattle.xr_shelf.specs.Shelf.{Files, View}
 use Rattle.xr_shelf.specs.Sink.{SinkView}
 use Rattle.xr_run.specs.Ends.{Comes, RanWords}
-use Rattle.xr_run.specs.Phases.{Answer, ComesTo, IsRead, PassesAll, text_held}
+use Rattle.xr_run.specs.Phases.{Answer, ComesTo, IsRead, PassesAll, Phases, text_held, ◌>>=◌}
 use Rattle.xr_run.specs.Rows.{Start}
 use Rattle.xr_run.proofs.Comes.{comes}
 use Rattle.xr_run.proofs.Exact.{err_same, ok_err}
 use Rattle.xr_job.specs.Netlist.{NetlistComes}
-use Rattle.xr_job.specs.Recorded.{RecordingComes}
 use Rattle.xr_job.specs.declared.netlist.Netlist.{Netlist as ANetlist}
 use Rattle.xr_job.specs.declared.recorded.Recorded.{Recorded}
-use Rattle.xr_words.specs.Words.{OfRepair, RepairValues, Values}
+use Rattle.xr_words.specs.Words.{CheckValues, JobValues, MakeValues, OfCheck, OfMake, OfRepair, OfReplay, RepairValues, ReplayValues, Values}
+use Rattle.xr_cert_text.specs.Wrong.{IsTextOf}
+use Rattle.xr_code.specs.Says.{FirstFault}
+use Rattle.xr_cli.specs.Answers.{netlist_held, recording_held}
+use Rattle.xr_cli.specs.Certificate.{IsWrong}
+use Rattle.xr_cli.specs.Code.{code_in}
 use Rattle.xr_cli.specs.Commands.{commands}
-use Rattle.xr_cli.specs.Ends.{AreRepaired, Done, IsTheOne, RefusesTexts, TextsRefused, netlist_text, recording_text}
-use Rattle.xr_cli.specs.Phases.{phases_of, repair_answer, repair_phases, scope_of}
-use Rattle.xr_cli.specs.Repair.{IsObjectionIn, netlist_limit, recording_limit, rule_of}
-use Rattle.xr_cli.specs.Texts.{AreRefused, HasNetlist, IsJob, IsRepairable}
+use Rattle.xr_cli.specs.Ends.{AreInOrder, Done, IsComplete, IsTheOne, RefusesTexts, TextsRefused}
+use Rattle.xr_cli.specs.Made.{made_conflicts, made_job, made_netlist}
+use Rattle.xr_cli.specs.Phases.{check_answer, coded_phases, compared_check, job_phases, parts, phases_of, repair_answer, repaired_phases, replay_answer, scope_of}
+use Rattle.xr_cli.specs.Phases.{make_answer, make_phases, recorded_made, repaired_made}
+use Rattle.xr_cli.specs.Repair.{IsObjectionIn, netlist_limit, recording_limit}
+use Rattle.xr_cli.specs.Texts.{AreRefused, CheckFails, CodeFails, HasJob, HasNetlist, IsJob, IsObjected, IsRepairable, RepairFails}
+use Rattle.xr_cli.specs.Texts.{IsMadeOf, IsMadeRefused, IsMakeable, IsOneMade}
 use Rattle.xr_cli.specs.declared.cause.Objection.{Objection}
 use Rattle.xr_cli.specs.declared.cause.Refused.{Refused}
-use Rattle.xr_cli.specs.declared.cause.Refused.TheVariants.{LongNetlist, Netlist, LongRecording, Recording, Compare, Optimistic}
-use Rattle.xr_cli.proofs.Headlines.{answers_say}
+use Rattle.xr_cli.specs.declared.cause.Refused.TheVariants.{Certificate, Code, Compare, LongCertificate, LongCode, LongNetlist, LongRecording, Netlist, Optimistic, Recording}
+use Rattle.xr_cli.specs.declared.parts.Parts.{Parts}
+use Rattle.xr_cli.proofs.Answering.{answers_say}
 use Rattle.xr_cli.proofs.Lawfully.{lawful}
+use Rattle.xr_cli.proofs.Making.{made_is_one}
 use Rattle.xr_cli.proofs.ObjectingOnce.{one_cause}
 
 -- ---- what texts are refused for
 
-module _ (told : Bool) (files : Files) (w : RepairValues) (t : IsTrue told) (cause : Refused) where
-  abbrev NetlistHeld : List ℕ
-  NetlistHeld = text_held files w.job.netlists
+netlist_there : (w : JobValues) (text : List ℕ) (n : ANetlist) → length text ≤ netlist_limit → NetlistComes text w.top (Ok n) → HasNetlist w text n
+netlist_there w text n fits has = record { fits = fits; is = has }
 
-  abbrev RecordingHeld : List ℕ
-  RecordingHeld = text_held files (w.job.recording ∷ [])
+module _ (told : Bool) (files : Files) (t : IsTrue told) (w : JobValues) (next : Parts → Phases Answer Refused) (After : Parts → Refused → Type 0) (cause : Refused)
+    (after : (n : ANetlist) (r : Recorded) → ComesTo told files (next (parts n r)) (Err cause) → After (parts n r) cause) where
+  abbrev AreBy : List ℕ → List ℕ → Refused → Type 0
+  AreBy netlist recording c = AreRefused w netlist recording After c
 
-  by_cause : (netlist recording : List ℕ) (is : Refused) → ◌≡◌ {A = Result Answer Refused} (Err cause) (Err is) → AreRefused w netlist recording is
-      → AreRefused w netlist recording cause
-  by_cause netlist recording is same refused = subst (AreRefused w netlist recording) (sym (err_same {B = Answer} cause is same)) refused
+  by_cause : (netlist recording : List ℕ) (is : Refused) → ◌≡◌ {A = Result Answer Refused} (Err cause) (Err is) → AreBy netlist recording is → AreBy netlist recording cause
+  by_cause netlist recording is same refused = subst (AreBy netlist recording) (sym (err_same {B = Answer} cause is same)) refused
 
   -- The texts that were read are those that the files hold.
-  at_netlist : (text : List ℕ) → IsRead told files w.job.netlists netlist_limit text → AreRefused w text RecordingHeld cause → AreRefused w NetlistHeld RecordingHeld cause
-  at_netlist text read refused = subst (λ (l : List ℕ). AreRefused w l RecordingHeld cause) (read.is t) refused
+  at_netlist : (text : List ℕ) → IsRead told files w.netlists netlist_limit text → AreBy text (recording_held files w) cause
+      → AreBy (netlist_held files w) (recording_held files w) cause
+  at_netlist text read refused = subst (λ (l : List ℕ). AreBy l (recording_held files w) cause) (read.is t) refused
 
-  at_both : (text recording : List ℕ) → IsRead told files w.job.netlists netlist_limit text → IsRead told files (w.job.recording ∷ []) recording_limit recording
-      → AreRefused w text recording cause → AreRefused w NetlistHeld RecordingHeld cause
-  at_both text recording read again refused = at_netlist text read (subst (λ (l : List ℕ). AreRefused w text l cause) (again.is t) refused)
+  at_both : (text recording : List ℕ) → IsRead told files w.netlists netlist_limit text → IsRead told files (w.recording ∷ []) recording_limit recording
+      → AreBy text recording cause → AreBy (netlist_held files w) (recording_held files w) cause
+  at_both text recording read again refused = at_netlist text read (subst (λ (l : List ℕ). AreBy text l cause) (again.is t) refused)
 
-  netlist_there : (text : List ℕ) (n : ANetlist) → IsRead told files w.job.netlists netlist_limit text → NetlistComes text w.job.top (Ok n) → HasNetlist w.job text n
-  netlist_there text n read has = record { fits = read.fits; is = has }
-
-  job_there : (text recording : List ℕ) (n : ANetlist) (r : Recorded) → IsRead told files w.job.netlists netlist_limit text → NetlistComes text w.job.top (Ok n)
-      → IsRead told files (w.job.recording ∷ []) recording_limit recording → RecordingComes recording n.design (scope_of w.job) w.job.rounds (rule_of w.job.start) (Ok r)
-      → IsJob w.job text recording n r
-  job_there text recording n r read has again held = record { netlist_is = netlist_there text n read has; fits = again.fits; is = held }
-
-  -- What the phases of a repair refuse, by its cause.
-  repair_refused : ComesTo told files (repair_phases w) (Err cause) → AreRefused w NetlistHeld RecordingHeld cause
-  repair_refused (inl first) = by_cause NetlistHeld RecordingHeld LongNetlist first.1 (first.0 t)
-  repair_refused (inr (text, read, inl (e, refused, is))) = at_netlist text read (by_cause text RecordingHeld (Netlist e) is record { fits = read.fits; is = refused })
-  repair_refused (inr (text, read, inr (n, has, inl first))) =
-      at_netlist text read (by_cause text RecordingHeld LongRecording first.1 record { n = n; netlist_is = netlist_there text n read has; long = first.0 t })
-  repair_refused (inr (text, read, inr (n, has, inr (recording, again, inl (e, refused, is))))) =
+  -- What the phases of a job and those after them refuse, by its cause.
+  refused_by : ComesTo told files (job_phases w >>= next) (Err cause) → AreBy (netlist_held files w) (recording_held files w) cause
+  refused_by (inl first) = by_cause (netlist_held files w) (recording_held files w) LongNetlist first.1 (AreRefused.long_netlist (first.0 t))
+  refused_by (inr (text, read, inl (e, refused, is))) =
+      at_netlist text read (by_cause text (recording_held files w) (Netlist e) is (AreRefused.netlist_fails record { fits = read.fits; is = refused }))
+  refused_by (inr (text, read, inr (n, has, inl first))) =
+      at_netlist text read
+      (by_cause text (recording_held files w) LongRecording first.1 (AreRefused.long_recording record { n = n; netlist_is = netlist_there w text n read.fits has; long = first.0 t }))
+  refused_by (inr (text, read, inr (n, has, inr (recording, again, inl (e, refused, is))))) =
       at_both text recording read again
-      (by_cause text recording (Recording e) is record { n = n; netlist_is = netlist_there text n read has; fits = again.fits; is = refused })
-  repair_refused (inr (text, read, inr (n, has, inr (recording, again, inr (r, held, inl (e, refused, is)))))) =
+      (by_cause text recording (Recording e) is (AreRefused.recording_fails record { n = n; netlist_is = netlist_there w text n read.fits has; fits = again.fits; is = refused }))
+  refused_by (inr (text, read, inr (n, has, inr (recording, again, inr (r, held, more))))) =
       at_both text recording read again
-      (by_cause text recording (Compare e) is record { n = n; r = r; job = job_there text recording n r read has again held; holds = refused })
-  repair_refused (inr (text, read, inr (n, has, inr (recording, again, inr (r, held, inr (agreed, faultless, inl (o, refused, is))))))) =
-      at_both text recording read again
-      (by_cause text recording (Optimistic o) is
-      record { n = n; r = r; job = job_there text recording n r read has again held; holds = record { faultless = faultless; objects = refused } })
-  repair_refused (inr (text, read, inr (n, has, inr (recording, again, inr (r, held, inr (agreed, faultless, inr (found, is, same))))))) =
-      absurd (ok_err (repair_answer w n r found) cause (sym same))
+      (AreRefused.job_fails record {
+        n = n;
+        r = r;
+        job = record { netlist_is = netlist_there w text n read.fits has; fits = again.fits; is = held };
+        holds = after n r more;
+      })
+
+-- ---- of each command
+
+module _ (told : Bool) (files : Files) (t : IsTrue told) (job : Parts) where
+  repair_fails : (w : RepairValues) (cause : Refused) → ComesTo told files (repaired_phases w job.netlist job.recorded) (Err cause) → RepairFails w.conflicts job cause
+  repair_fails w cause (inl (e, refused, is)) = subst (RepairFails w.conflicts job) (sym (err_same {B = Answer} cause (Compare e) is)) (RepairFails.disagrees refused)
+  repair_fails w cause (inr (agreed, faultless, inl (o, refused, is))) =
+      subst (RepairFails w.conflicts job) (sym (err_same {B = Answer} cause (Optimistic o) is)) (RepairFails.objected record { faultless = faultless; objects = refused })
+  repair_fails w cause (inr (agreed, faultless, inr (found, is, same))) = absurd (ok_err (repair_answer w job.netlist job.recorded found) cause (sym same))
+
+  code_fails : (w : ReplayValues) (cause : Refused) → ComesTo told files (coded_phases w job) (Err cause)
+      → CodeFails (text_held files (w.code ∷ [])) (scope_of w.job) job cause
+  code_fails w cause (inl first) =
+      subst (CodeFails (text_held files (w.code ∷ [])) (scope_of w.job) job) (sym (err_same {B = Answer} cause LongCode first.1)) (CodeFails.too_long (first.0 t))
+  code_fails w cause (inr (text, read, inl (fault, first, is))) =
+      subst (CodeFails (text_held files (w.code ∷ [])) (scope_of w.job) job) (sym (err_same {B = Answer} cause (Code fault) is))
+      (CodeFails.faulty (subst (λ (l : List ℕ). FirstFault (code_in job l (scope_of w.job)) fault) (read.is t) first))
+  code_fails w cause (inr (text, read, inr (forces, says, inl (none, never, is)))) = absurd never
+  code_fails w cause (inr (text, read, inr (forces, says, inr (history, is, same)))) = absurd (ok_err (replay_answer w job history) cause (sym same))
+
+  check_fails : (w : CheckValues) (cause : Refused) → ComesTo told files (compared_check w job) (Err cause) → CheckFails w.conflicts (text_held files (w.cert ∷ [])) job cause
+  check_fails w cause (inl (e, refused, is)) =
+      subst (CheckFails w.conflicts (text_held files (w.cert ∷ [])) job) (sym (err_same {B = Answer} cause (Compare e) is)) (CheckFails.disagrees refused)
+  check_fails w cause (inr (agreed, faultless, inl first)) =
+      subst (CheckFails w.conflicts (text_held files (w.cert ∷ [])) job) (sym (err_same {B = Answer} cause LongCertificate first.1)) (CheckFails.too_long faultless (first.0 t))
+  check_fails w cause (inr (agreed, faultless, inr (text, read, inl (wrong, is, same)))) =
+      subst (CheckFails w.conflicts (text_held files (w.cert ∷ [])) job) (sym (err_same {B = Answer} cause (Certificate wrong) same))
+      (CheckFails.wrong faultless (subst (λ (l : List ℕ). IsWrong l wrong) (read.is t) is))
+  check_fails w cause (inr (agreed, faultless, inr (text, read, inr (cert, stands, inl (refused, is, same))))) =
+      subst (CheckFails w.conflicts (text_held files (w.cert ∷ [])) job) (sym (err_same {B = Answer} cause refused same))
+      (CheckFails.unaccepted faultless cert (subst (λ (l : List ℕ). IsTextOf l cert) (read.is t) stands) is)
+  check_fails w cause (inr (agreed, faultless, inr (text, read, inr (cert, stands, inr (wave, is, same))))) = absurd (ok_err (check_answer job wave) cause (sym same))
+
+-- ---- a made job
+
+module _ (told : Bool) (files : Files) (w : MakeValues) (cause : Refused) where
+  abbrev MadeBy : List ℕ → Refused → Type 0
+  MadeBy text c = AreRefused made_job (made_netlist w) text (RepairFails made_conflicts) c
+
+  repair_of_made_fails : (text : List ℕ) (n : ANetlist) (r : Recorded) → ComesTo told files (repaired_made w text n r) (Err cause)
+      → RepairFails made_conflicts (parts n r) cause
+  repair_of_made_fails text n r (inl (e, refused, is)) =
+      subst (RepairFails made_conflicts (parts n r)) (sym (err_same {B = Answer} cause (Compare e) is)) (RepairFails.disagrees refused)
+  repair_of_made_fails text n r (inr (agreed, faultless, inl (o, refused, is))) =
+      subst (RepairFails made_conflicts (parts n r)) (sym (err_same {B = Answer} cause (Optimistic o) is))
+      (RepairFails.objected record { faultless = faultless; objects = refused })
+  repair_of_made_fails text n r (inr (agreed, faultless, inr (found, is, same))) = absurd (ok_err (make_answer w text found.wave) cause (sym same))
+
+  made_recording_fails : (n : ANetlist) → HasNetlist made_job (made_netlist w) n → (text : List ℕ) → length text ≤ recording_limit
+      → ComesTo told files (recorded_made w n text) (Err cause) → MadeBy text cause
+  made_recording_fails n has text fits (inl (e, refused, is)) =
+      subst (MadeBy text) (sym (err_same {B = Answer} cause (Recording e) is))
+      (AreRefused.recording_fails record { n = n; netlist_is = has; fits = fits; is = refused })
+  made_recording_fails n has text fits (inr (r, held, more)) =
+      AreRefused.job_fails record {
+        n = n;
+        r = r;
+        job = record { netlist_is = has; fits = fits; is = held };
+        holds = repair_of_made_fails text n r more;
+      }
+
+  make_refused : ComesTo told files (make_phases w) (Err cause) → IsMadeRefused w cause
+  make_refused (inl (long, is, same)) = subst (IsMadeRefused w) (sym (err_same {B = Answer} cause LongNetlist same)) (IsMadeRefused.long_netlist is)
+  make_refused (inr (short, fits, inl (e, refused, same))) =
+      subst (IsMadeRefused w) (sym (err_same {B = Answer} cause (Netlist e) same)) (IsMadeRefused.netlist_fails record { fits = fits; is = refused })
+  make_refused (inr (short, fits, inr (n, has, inl (none, never, same)))) = absurd never
+  make_refused (inr (short, fits, inr (n, has, inr (text, made, inl (long, is, same))))) =
+      let there = netlist_there made_job (made_netlist w) n fits has in
+      IsMadeRefused.recording_fails text record { n = n; netlist_is = there; made = made }
+      (subst (MadeBy text) (sym (err_same {B = Answer} cause LongRecording same)) (AreRefused.long_recording record { n = n; netlist_is = there; long = is }))
+  make_refused (inr (short, fits, inr (n, has, inr (text, made, inr (few, within, more))))) =
+      let there = netlist_there made_job (made_netlist w) n fits has in
+      IsMadeRefused.recording_fails text record { n = n; netlist_is = there; made = made } (made_recording_fails n there text within more)
 
 texts_refused : (s : Start) (words : Values) (cause : Refused) → IsTrue s.shelf_told → ComesTo s.shelf_told s.shelf.files (phases_of words) (Err cause)
-    → TextsRefused s words cause
-texts_refused s (OfRepair w) cause t comes = repair_refused s.shelf_told s.shelf.files w t cause comes
+    → TextsRefused s.shelf.files words cause
+texts_refused s (OfRepair w) cause t comes =
+    refused_by s.shelf_told s.shelf.files t w.job (λ (job : Parts). repaired_phases w job.netlist job.recorded) (RepairFails w.conflicts) cause
+    (λ n r. repair_fails s.shelf_told s.shelf.files t (parts n r) w cause) comes
+texts_refused s (OfReplay w) cause t comes =
+    refused_by s.shelf_told s.shelf.files t w.job (coded_phases w)
+    (CodeFails (text_held s.shelf.files (w.code ∷ [])) (scope_of w.job)) cause
+    (λ n r. code_fails s.shelf_told s.shelf.files t (parts n r) w cause) comes
+texts_refused s (OfCheck w) cause t comes =
+    refused_by s.shelf_told s.shelf.files t w.job (compared_check w) (CheckFails w.conflicts (text_held s.shelf.files (w.cert ∷ []))) cause
+    (λ n r. check_fails s.shelf_told s.shelf.files t (parts n r) w cause) comes
+texts_refused s (OfMake w) cause t comes = make_refused s.shelf_told s.shelf.files w cause comes
 
-the_one : (s : Start) (words : Values) (cause : Refused) → TextsRefused s words cause → IsTheOne s words cause
+-- A place that a repair finds otherwise is of a job that agrees.
+objected_of : (conflicts : ℕ) (job : Parts) (o : Objection) → RepairFails conflicts job (Optimistic o) → IsObjected conflicts o job.netlist job.recorded
+objected_of conflicts job o (RepairFails.objected is) = is
+
+job_of : (w : JobValues) (netlist recording : List ℕ) (conflicts : ℕ) (o : Objection) → AreRefused w netlist recording (RepairFails conflicts) (Optimistic o)
+    → HasJob w netlist recording (IsObjected conflicts o)
+job_of w netlist recording conflicts o (AreRefused.job_fails has) =
+    record { n = has.n; r = has.r; job = has.job; holds = objected_of conflicts (parts has.n has.r) o has.holds }
+
+-- A place that is found otherwise in a made job is of the one recording.
+made_objected : (w : MakeValues) (o : Objection) → IsMadeRefused w (Optimistic o) → (recording : List ℕ) → IsMadeOf w recording
+    → AreRefused made_job (made_netlist w) recording (RepairFails made_conflicts) (Optimistic o)
+made_objected w o (IsMadeRefused.recording_fails text of refused) recording is =
+    subst (λ (l : List ℕ). AreRefused made_job (made_netlist w) l (RepairFails made_conflicts) (Optimistic o)) (made_is_one w text recording of is) refused
+
+the_one_made : (w : MakeValues) (cause : Refused) → IsMadeRefused w cause → IsOneMade w cause
+the_one_made w cause refused = λ recording is.
+    one_cause made_job (made_netlist w) recording made_conflicts cause
+    (λ o same. job_of made_job (made_netlist w) recording made_conflicts o (made_objected w o (subst (IsMadeRefused w) same refused) recording is))
+
+the_one : (s : Start) (words : Values) (cause : Refused) → TextsRefused s.shelf.files words cause → IsTheOne s.shelf.files words cause
 the_one s (OfRepair w) cause refused =
-    one_cause w.job (netlist_text s w.job) (recording_text s w.job) w.conflicts cause
-    (λ o is. subst (AreRefused w (netlist_text s w.job) (recording_text s w.job)) is refused)
+    one_cause w.job (netlist_held s.shelf.files w.job) (recording_held s.shelf.files w.job) w.conflicts cause
+    (λ o is. job_of w.job (netlist_held s.shelf.files w.job) (recording_held s.shelf.files w.job) w.conflicts o
+    (subst (AreRefused w.job (netlist_held s.shelf.files w.job) (recording_held s.shelf.files w.job) (RepairFails w.conflicts)) is refused))
+the_one s (OfReplay w) cause refused = tt
+the_one s (OfCheck w) cause refused = tt
+the_one s (OfMake w) cause refused = the_one_made w cause refused
 
--- ---- texts that can be repaired
+-- ---- texts in order
 
 not_objected : (w : RepairValues) (netlist recording : List ℕ) (is : IsRepairable w netlist recording) (o : Objection) → IsObjectionIn w.conflicts is.n is.r o → ⊥
 not_objected w netlist recording is o objects = is.none objects.history objects.objects.otherwise objects.replay objects.objects.objects
 
-passes_all : (files : Files) (w : RepairValues) → IsRepairable w (text_held files w.job.netlists) (text_held files (w.job.recording ∷ []))
-    → PassesAll files (repair_phases w)
-passes_all files w is =
-    let objected = not_objected w (text_held files w.job.netlists) (text_held files (w.job.recording ∷ [])) is in
-    (is.job.netlist_is.fits, (is.n, is.job.netlist_is.is, (is.job.fits, (is.r, is.job.is, (tt, is.faultless, (objected, λ found there. tt))))))
+job_passes : (files : Files) (w : JobValues) (next : Parts → Phases Answer Refused) (n : ANetlist) (r : Recorded) → IsJob w (netlist_held files w) (recording_held files w) n r
+    → PassesAll files (next (parts n r)) → PassesAll files (job_phases w >>= next)
+job_passes files w next n r is after = (is.netlist_is.fits, (n, is.netlist_is.is, (is.fits, (r, is.is, after))))
+
+made_not_objected : (w : MakeValues) (is : IsMakeable w) (o : Objection) → IsObjectionIn made_conflicts is.n is.r o → ⊥
+made_not_objected w is o objects = is.none objects.history objects.objects.otherwise objects.replay objects.objects.objects
+
+passes_all : (files : Files) (words : Values) → AreInOrder files words → PassesAll files (phases_of words)
+passes_all files (OfRepair w) is =
+    let objected = not_objected w (netlist_held files w.job) (recording_held files w.job) is in
+    job_passes files w.job (λ (job : Parts). repaired_phases w job.netlist job.recorded) is.n is.r is.job (tt, is.faultless, (objected, λ found there. tt))
+passes_all files (OfReplay w) is =
+    job_passes files w.job (coded_phases w) is.n is.r is.job
+    (is.fits, (is.events, is.says, ((λ none never. never), λ history there. tt)))
+passes_all files (OfCheck w) is =
+    job_passes files w.job (compared_check w) is.n is.r is.job
+    (tt, is.faultless, (is.fits, (is.certificate, is.stands, (is.wave, is.certified, tt))))
+passes_all files (OfMake w) is = (
+  tt,
+  is.job.netlist_is.fits,
+  (
+    is.n,
+    is.job.netlist_is.is,
+    (is.recording, is.made, (tt, is.job.fits, (is.r, is.job.is, (tt, is.faultless, (made_not_objected w is, λ found there. tt))))),
+  ),
+)
 
 -- ---- a run
 
@@ -106,7 +237,7 @@ module _ (s : Start) (shelf : View) (sink : SinkView) (status : ℕ) where
           words = there.0;
           means = there.1;
           row = row;
-          says = λ t. answers_say s.shelf_told s.shelf.files there.0 row.answer t row.stands;
+          says = λ t. answers_say s.shelf_told s.shelf.files s.line there.0 row.answer t there.1 row.stands;
         }
 
     pub refuses_texts : 5 ≤ status → status ≤ 19 → RefusesTexts s shelf sink status
@@ -123,5 +254,5 @@ module _ (s : Start) (shelf : View) (sink : SinkView) (status : ℕ) where
           printed = is.line;
         }
 
-    pub texts_repaired : AreRepaired s shelf sink status
-    texts_repaired = λ t w is repairable none. all.complete t (OfRepair w) is (passes_all s.shelf.files w repairable) none
+    pub is_complete : IsComplete s shelf sink status
+    is_complete = λ t words means order none. all.complete t words means (passes_all s.shelf.files words order) none

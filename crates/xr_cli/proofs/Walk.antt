@@ -1,14 +1,26 @@
 -- What a walk comes to, as phases.
-use Rattle.std.proofs.Common.{◌≡◌, Ok}
-use Rattle.xr_run.specs.Phases.{Phases}
+use Rattle.std.proofs.Common.{◌≡◌, ℕ, List, Ok}
+use Rattle.xr_cert_text.specs.declared.cert.Cert.{Cert}
+use Rattle.xr_design.specs.History.{HistoryView}
+use Rattle.xr_design.specs.declared.force.Event.{Event}
+use Rattle.xr_forces.specs.ForcesOf.{AreForcesOf}
+use Rattle.xr_forces.specs.Waves.{values_of}
+use Rattle.xr_forces.proofs.Showing.{forces_are_one}
+use Rattle.xr_wave.specs.Contents.{Contents, job}
+use Rattle.xr_run.specs.Phases.{Phases, judges}
 use Rattle.xr_run.specs.Prepared.{PreparedAlone, answer_of}
 use Rattle.xr_run.specs.declared.ready.Ready.{Ready}
-use Rattle.xr_run.proofs.Then.{prepared_then, searched_prepared, found_prepared}
+use Rattle.xr_run.proofs.Then.{found_prepared, judged_prepared, prepared_then, searched_prepared, searched_then}
 use Rattle.xr_job.specs.declared.netlist.Netlist.{Netlist as ANetlist}
 use Rattle.xr_job.specs.declared.recorded.Recorded.{Recorded}
-use Rattle.xr_words.specs.Words.{RepairValues}
-use Rattle.xr_cli.specs.Phases.{itself, repair_answer, walk_cause, walk_phases}
+use Rattle.xr_words.specs.Words.{CheckValues, MakeValues, RepairValues, ReplayValues}
+use Rattle.xr_cli.specs.Certificate.{CheckComes, IsCertified}
+use Rattle.xr_cli.specs.Code.{ForcedComes, IsForced}
+use Rattle.xr_cli.specs.Made.{made_conflicts}
+use Rattle.xr_cli.specs.Phases.{check_answer, checked_phases, forced_phases, forces_in, itself, make_answer, no_cause, repair_answer, replay_answer}
+use Rattle.xr_cli.specs.Phases.{walk_cause, walk_made, walk_phases}
 use Rattle.xr_cli.specs.Repair.{Found, IsFound, WalkComes}
+use Rattle.xr_cli.specs.declared.parts.Parts.{Parts}
 
 -- A wave that is found, with its texts.
 pub walk_found : (w : RepairValues) (n : ANetlist) (r : Recorded) (found : Found) (ready : Ready) → IsFound w.conflicts n r found
@@ -17,3 +29,30 @@ walk_found w n r found ready is same = λ told v.
     prepared_then told (Phases.Searches (WalkComes w.conflicts n r) walk_cause (λ (x : Found). Phases.Finds x)) (λ (x : Found). Phases.Finds (repair_answer w n r x)) itself answer_of v v v
     found (Ok ready) (searched_prepared told (WalkComes w.conflicts n r) walk_cause itself v (Ok found) record { found = is; refused = tt })
     (found_prepared told answer_of (repair_answer w n r found) v ready same)
+
+-- A wave of a made job that is found, with what is printed of it.
+pub made_found : (w : MakeValues) (recording : List ℕ) (n : ANetlist) (r : Recorded) (found : Found) (ready : Ready) → IsFound made_conflicts n r found
+    → answer_of ready ≡ make_answer w recording found.wave → PreparedAlone (walk_made w recording n r) answer_of (Ok ready)
+made_found w recording n r found ready is same =
+    searched_then (WalkComes made_conflicts n r) walk_cause (λ (x : Found). Phases.Finds (make_answer w recording x.wave)) itself answer_of
+    found (Ok ready) record { found = is; refused = tt } (λ told v. found_prepared told answer_of (make_answer w recording found.wave) v ready same)
+
+-- A replay that is found, with its texts.
+pub replay_found : (w : ReplayValues) (job : Parts) (forces : List Event) (history : HistoryView) (ready : Ready) → IsForced job forces history
+    → answer_of ready ≡ replay_answer w job history → PreparedAlone (forced_phases w job forces) answer_of (Ok ready)
+replay_found w job forces history ready is same = λ told v.
+    prepared_then told (Phases.Searches (ForcedComes job forces) no_cause (λ (x : HistoryView). Phases.Finds x)) (λ (x : HistoryView). Phases.Finds (replay_answer w job x)) itself answer_of v v v
+    history (Ok ready) (searched_prepared told (ForcedComes job forces) no_cause itself v (Ok history) record { found = is; refused = tt })
+    (found_prepared told answer_of (replay_answer w job history) v ready same)
+
+-- A certified wave, with its report.
+pub check_found : (w : CheckValues) (job : Parts) (cert : Cert) (wave : Contents) (ready : Ready) → IsCertified w.conflicts job cert wave
+    → answer_of ready ≡ check_answer job wave → PreparedAlone (checked_phases w job cert) answer_of (Ok ready)
+check_found w job cert wave ready is same = λ told v.
+    prepared_then told (judges (CheckComes w.conflicts job cert) itself) (λ (x : Contents). Phases.Finds (check_answer job x)) itself answer_of v v v
+    wave (Ok ready) (judged_prepared told (CheckComes w.conflicts job cert) itself itself v (Ok wave) record { found = is; refused = tt })
+    (found_prepared told answer_of (check_answer job wave) v ready same)
+
+-- The forces of a wave of a job are those of what it shows.
+pub forces_are : (wave : Contents) (forces : List Event) → AreForcesOf (job wave) (values_of wave) forces → forces ≡ forces_in wave
+forces_are wave forces are = forces_are_one (job wave) (values_of wave) forces are

@@ -2,15 +2,55 @@
 use Rattle.std.specs.Prelude.{◌≡◌, ℕ, List, [], ◌∷◌}
 use Rattle.xr_shelf.specs.Shelf.{Files}
 use Rattle.xr_run.specs.Phases.{Answer, text_held}
-use Rattle.xr_words.specs.Words.{OfRepair, RepairValues, Values}
+use Rattle.xr_words.specs.Words.{CheckValues, JobValues, MakeValues, RepairValues, ReplayValues, Values}
+use Rattle.xr_words.specs.Words.{OfCheck, OfMake, OfRepair, OfReplay}
+use Rattle.xr_cli.specs.Checks.{Checks}
 use Rattle.xr_cli.specs.Headline.{Headline}
+use Rattle.xr_cli.specs.Makes.{Makes}
+use Rattle.xr_cli.specs.Phases.{answer_with, make_with}
+use Rattle.xr_cli.specs.Replays.{Replays}
 
--- V is written and the report printed, and the headline holds of both and of the texts that the files hold.
+-- The texts that the files of a job hold.
+abbrev pub netlist_held : Files → JobValues → List ℕ
+netlist_held files w = text_held files w.netlists
+
+abbrev pub recording_held : Files → JobValues → List ℕ
+recording_held files w = text_held files (w.recording ∷ [])
+
+-- V, C and X are written in this order and the report printed, and the headline holds of them and of the texts that the
+-- files hold.
 pub record SaysRepair (files : Files) (w : RepairValues) (answer : Answer) : Type 0 where
   pub vcd : List ℕ
+  pub code : List ℕ
+  pub cert : List ℕ
   pub report : List ℕ
-  pub answer_is : answer ≡ record { files = record { name = w.vcd; bytes = vcd } ∷ []; printed = report }
-  pub headline : Headline w (text_held files w.job.netlists) (text_held files (w.job.recording ∷ [])) vcd report
+  pub answer_is : answer ≡ answer_with w vcd code cert report
+  pub headline : Headline w (netlist_held files w.job) (recording_held files w.job) vcd code cert report
+
+-- V is written, and it is of the replay under the code that its file holds.
+pub record SaysReplay (files : Files) (w : ReplayValues) (answer : Answer) : Type 0 where
+  pub vcd : List ℕ
+  pub printed : List ℕ
+  pub answer_is : answer ≡ record { files = record { name = w.vcd; bytes = vcd } ∷ []; printed = printed }
+  pub replays : Replays w (netlist_held files w.job) (recording_held files w.job) (text_held files (w.code ∷ []))
+      vcd printed
+
+-- No file is written, and the report is of the certificate that its file holds.
+pub record SaysCheck (files : Files) (w : CheckValues) (answer : Answer) : Type 0 where
+  pub report : List ℕ
+  pub answer_is : answer ≡ record { files = []; printed = report }
+  pub checks : Checks w (netlist_held files w.job) (recording_held files w.job) (text_held files (w.cert ∷ [])) report
+
+-- F and R are written in this order, and what is printed is of the job that they stand for.
+pub record SaysMake (w : MakeValues) (answer : Answer) : Type 0 where
+  pub netlist : List ℕ
+  pub recording : List ℕ
+  pub printed : List ℕ
+  pub answer_is : answer ≡ make_with w netlist recording printed
+  pub makes : Makes w netlist recording printed
 
 abbrev pub Says : Files → Values → Answer → Type 0
 Says files (OfRepair w) answer = SaysRepair files w answer
+Says files (OfReplay w) answer = SaysReplay files w answer
+Says files (OfCheck w) answer = SaysCheck files w answer
+Says files (OfMake w) answer = SaysMake w answer

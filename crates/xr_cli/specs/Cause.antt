@@ -3,10 +3,15 @@ use Rattle.std.specs.Prelude.{ℕ, List, [], ◌∷◌, ◌++◌, codes, decimal
 use Rattle.xr_cell.specs.Value.{letter_of}
 use Rattle.xr_job.specs.Lines.{compare_line, netlist_line, recording_line}
 use Rattle.xr_job.specs.Lines.{compare_status, netlist_status, recording_status}
+use Rattle.xr_cert.specs.Words.{fault_text}
+use Rattle.xr_code.specs.Fault.{code_line}
+use Rattle.xr_cli.specs.declared.cause.Lack.{Lack}
 use Rattle.xr_cli.specs.declared.cause.Objection.{Objection}
 use Rattle.xr_cli.specs.declared.cause.Refused.{Refused}
 use Rattle.xr_cli.specs.declared.cause.Refused.TheVariants.{LongNetlist, Netlist, LongRecording, Recording, Compare}
-use Rattle.xr_cli.specs.declared.cause.Refused.TheVariants.{Optimistic}
+use Rattle.xr_cli.specs.declared.cause.Refused.TheVariants.{Optimistic, LongCode, Code, LongCertificate, Certificate}
+use Rattle.xr_cli.specs.declared.cause.Uncertified.{Uncertified}
+use Rattle.xr_cli.specs.declared.cause.Uncertified.TheVariants.{Lacks, Line}
 
 abbrev pub status_of : Refused → ℕ
 status_of LongNetlist = 11
@@ -15,6 +20,10 @@ status_of LongRecording = 11
 status_of (Recording cause) = recording_status cause
 status_of (Compare cause) = compare_status cause
 status_of (Optimistic objection) = 10
+status_of LongCode = 11
+status_of (Code fault) = 12
+status_of LongCertificate = 11
+status_of (Certificate cause) = 13
 
 -- `refused: optimistic #T round J NAME replayed V found V undecided U`
 abbrev pub objection_text : Objection → List ℕ
@@ -23,6 +32,17 @@ objection_text o =
     ++ (codes " replayed " ++ (letter_of o.replayed ∷ [] ++ (codes " found " ++ (letter_of o.found ∷ []
     ++ (codes " undecided " ++ decimal o.undecided))))))))))
 
+-- `refused: certificate lacks #T round J NAME`
+abbrev pub lack_line : Lack → List ℕ
+lack_line lack =
+    codes "refused: certificate lacks #" ++ (decimal lack.time ++ (codes " round " ++ (decimal lack.round
+    ++ (codes " " ++ lack.name))))
+
+-- That, or `refused: certificate line L: WORD`
+abbrev pub certificate_line : Uncertified → List ℕ
+certificate_line (Line fault) = codes "refused: " ++ fault_text fault
+certificate_line (Lacks lack) = lack_line lack
+
 abbrev pub text_of : Refused → List ℕ
 text_of LongNetlist = codes "refused: too large netlist"
 text_of (Netlist cause) = netlist_line cause
@@ -30,3 +50,7 @@ text_of LongRecording = codes "refused: too large recording"
 text_of (Recording cause) = recording_line cause
 text_of (Compare cause) = compare_line cause
 text_of (Optimistic objection) = objection_text objection
+text_of LongCode = codes "refused: too large code"
+text_of (Code fault) = code_line fault
+text_of LongCertificate = codes "refused: too large certificate"
+text_of (Certificate cause) = certificate_line cause

@@ -1,25 +1,19 @@
 -- What a run of the program comes to, by its status.
-use Rattle.std.specs.Prelude.{◌≡◌, ◌⊎◌, ℕ, List, [], ◌∷◌, IsTrue}
-use Rattle.xr_shelf.specs.Shelf.{View}
+use Rattle.std.specs.Prelude.{◌≡◌, ◌⊎◌, ℕ, [], ◌∷◌, IsTrue}
+use Rattle.xr_shelf.specs.Shelf.{Files, View}
 use Rattle.xr_shelf.specs.Sink.{SinkView}
 use Rattle.xr_run.specs.Ends.{LineMade, NoFault}
 use Rattle.xr_run.specs.Lines.{line}
 use Rattle.xr_run.specs.Phases.{text_held}
 use Rattle.xr_run.specs.Rows.{DoneRow, Start, TextRow}
-use Rattle.xr_words.specs.Words.{IsRepair, JobValues, Means, OfRepair, RepairValues, Values}
-use Rattle.xr_cli.specs.Answers.{Says}
+use Rattle.xr_words.specs.Words.{Means, OfCheck, OfMake, OfRepair, OfReplay, Values}
+use Rattle.xr_cli.specs.Answers.{Says, netlist_held, recording_held}
 use Rattle.xr_cli.specs.Cause.{status_of, text_of}
 use Rattle.xr_cli.specs.Commands.{commands}
-use Rattle.xr_cli.specs.Phases.{phases_of}
-use Rattle.xr_cli.specs.Texts.{AreRefused, IsOneCause, IsRepairable}
+use Rattle.xr_cli.specs.Phases.{phases_of, scope_of}
+use Rattle.xr_cli.specs.Texts.{AreRefused, CheckFails, CodeFails, IsCheckable, IsMadeRefused, IsMakeable, IsOneCause}
+use Rattle.xr_cli.specs.Texts.{IsOneMade, IsRepairable, IsReplayable, RepairFails}
 use Rattle.xr_cli.specs.declared.cause.Refused.{Refused}
-
--- The texts that the files of a job hold.
-abbrev pub netlist_text : Start → JobValues → List ℕ
-netlist_text s w = text_held s.shelf.files w.netlists
-
-abbrev pub recording_text : Start → JobValues → List ℕ
-recording_text s w = text_held s.shelf.files (w.recording ∷ [])
 
 -- 0: the words mean this, and its answer is written and printed. Where the shelf tells, the answer says what is
 -- promised.
@@ -30,26 +24,45 @@ pub record Done (s : Start) (shelf : View) (sink : SinkView) : Type 0 where
   pub says : IsTrue s.shelf_told → Says s.shelf.files words row.answer
 
 -- What the texts of a command are refused for.
-abbrev pub TextsRefused : Start → Values → Refused → Type 0
-TextsRefused s (OfRepair w) cause = AreRefused w (netlist_text s w.job) (recording_text s w.job) cause
+abbrev pub TextsRefused : Files → Values → Refused → Type 0
+TextsRefused files (OfRepair w) cause =
+    AreRefused w.job (netlist_held files w.job) (recording_held files w.job) (RepairFails w.conflicts) cause
+TextsRefused files (OfReplay w) cause =
+    AreRefused w.job (netlist_held files w.job) (recording_held files w.job)
+    (CodeFails (text_held files (w.code ∷ [])) (scope_of w.job)) cause
+TextsRefused files (OfCheck w) cause =
+    AreRefused w.job (netlist_held files w.job) (recording_held files w.job)
+    (CheckFails w.conflicts (text_held files (w.cert ∷ []))) cause
+TextsRefused files (OfMake w) cause = IsMadeRefused w cause
 
--- Without an undecided line before it, a place that is found otherwise is the one of the texts.
-abbrev pub IsTheOne : Start → Values → Refused → Type 0
-IsTheOne s (OfRepair w) cause = IsOneCause w.job (netlist_text s w.job) (recording_text s w.job) cause
+-- Without an undecided line before it, a place that `repair` or `make` finds otherwise is the one of the texts.
+abbrev pub IsTheOne : Files → Values → Refused → Type 0
+IsTheOne files (OfRepair w) cause = IsOneCause w.job (netlist_held files w.job) (recording_held files w.job) cause
+IsTheOne files (OfReplay w) cause = Unit {0}
+IsTheOne files (OfCheck w) cause = Unit {0}
+IsTheOne files (OfMake w) cause = IsOneMade w cause
 
--- 5 to 11: the texts are refused for a cause of that status, and its line is printed.
+-- 5 to 13: the texts are refused for a cause of that status, and its line is printed.
 pub record RefusesTexts (s : Start) (shelf : View) (sink : SinkView) (status : ℕ) : Type 0 where
   pub words : Values
   pub means : Means s.line words
   pub cause : Refused
   pub status_is : status ≡ status_of cause
-  pub refused : IsTrue s.shelf_told → TextsRefused s words cause
-  pub one : IsTrue s.shelf_told → IsTheOne s words cause
+  pub refused : IsTrue s.shelf_told → TextsRefused s.shelf.files words cause
+  pub one : IsTrue s.shelf_told → IsTheOne s.shelf.files words cause
   pub row : TextRow (phases_of words) s shelf cause
   pub printed : LineMade s.sink_told (line (text_of cause)) (status_of cause) s.sink sink status
 
--- Texts that can be repaired are, want of memory and faults aside.
-abbrev pub AreRepaired : Start → View → SinkView → ℕ → Type 0
-AreRepaired s shelf sink status = IsTrue s.shelf_told → (w : RepairValues) → IsRepair s.line w
-    → IsRepairable w (netlist_text s w.job) (recording_text s w.job) → NoFault commands s (OfRepair w) shelf sink
-    → (status ≡ 0) ⊎ (status ≡ 20)
+-- The texts of a command are all in order.
+abbrev pub AreInOrder : Files → Values → Type 0
+AreInOrder files (OfRepair w) = IsRepairable w (netlist_held files w.job) (recording_held files w.job)
+AreInOrder files (OfReplay w) =
+    IsReplayable w (netlist_held files w.job) (recording_held files w.job) (text_held files (w.code ∷ []))
+AreInOrder files (OfCheck w) =
+    IsCheckable w (netlist_held files w.job) (recording_held files w.job) (text_held files (w.cert ∷ []))
+AreInOrder files (OfMake w) = IsMakeable w
+
+-- Then the command does what it says, want of memory and faults aside.
+abbrev pub IsComplete : Start → View → SinkView → ℕ → Type 0
+IsComplete s shelf sink status = IsTrue s.shelf_told → (words : Values) → Means s.line words
+    → AreInOrder s.shelf.files words → NoFault commands s words shelf sink → (status ≡ 0) ⊎ (status ≡ 20)

@@ -20,10 +20,19 @@ use Rattle.xr_job.specs.Compared.{job_in}
 use Rattle.xr_job.specs.declared.netlist.Netlist.{Netlist as ANetlist}
 use Rattle.xr_job.specs.declared.recorded.Recorded.{Recorded}
 use Rattle.xr_out.specs.Text.{vcd_text}
-use Rattle.xr_report.specs.Bits.{bit_lines}
+use Rattle.xr_report.specs.Report.{report_text}
 use Rattle.xr_wave.specs.Contents.{Contents}
 use Rattle.xr_words.specs.Words.{RepairValues}
-use Rattle.xr_cli.specs.Repair.{Agrees}
+use Rattle.xr_cert.specs.Checked.{IsAccepted}
+use Rattle.xr_cert.specs.Step.{cert_of}
+use Rattle.xr_cert_text.specs.Wrong.{IsTextOf}
+use Rattle.xr_code.specs.Says.{Says}
+use Rattle.xr_code.specs.Written.{code_text}
+use Rattle.xr_forces.specs.ForcesOf.{AreForcesOf}
+use Rattle.xr_design.specs.declared.force.Event.{Event}
+use Rattle.xr_cli.specs.Code.{IsForced, code_in}
+use Rattle.xr_cli.specs.Phases.{parts, scope_of}
+use Rattle.xr_cli.specs.Repair.{Agrees, FitsJob, beginning}
 use Rattle.xr_cli.specs.Texts.{IsJob}
 
 -- A bit of a bound variable in a moment, and the place that shows it: its net at the moment's last step.
@@ -57,12 +66,40 @@ wave_of n r replay conflicts waveform lines = record {
   lines = lines;
 }
 
+-- The value that a waveform has at each place.
+abbrev pub value_in : List Written → ℕ → Value
+value_in waveform place = (written_at waveform place).value
+
+-- C is code of the job's nets: the text of the forces of what the waveform has. It says these, and in each replay under
+-- them every place shows what the waveform has there; the text of that replay is V.
+pub record IsForceCode (w : RepairValues) (n : ANetlist) (r : Recorded) (waveform : List Written)
+    (vcd code : List ℕ) : Type 0 where
+  pub events : List Event
+  pub are : AreForcesOf (job_in n r) (value_in waveform) events
+  pub text_is : code ≡ code_text n.design r.stim (scope_of w.job) events
+  pub says : Says (code_in (parts n r) code (scope_of w.job)) events
+  pub shown : (history : HistoryView) → IsForced (parts n r) events history
+      → ShowsWaveform (job_in n r) waveform history
+  pub replayed : (history : HistoryView) → IsForced (parts n r) events history
+      → vcd_text n.design r.binding r.stim history ≡ vcd
+
+-- X stands for the certificate of the waveform's lines, and that is accepted for the job: it yields the waveform.
+pub record Certifies (w : RepairValues) (n : ANetlist) (r : Recorded) (replay : HistoryView) (waveform : List Written)
+    (lines : List ALine) (cert : List ℕ) : Type 0 where
+  pub stands : IsTextOf cert (cert_of (wave_of n r replay w.conflicts waveform lines))
+  pub accepted : IsAccepted (beginning w.conflicts n r replay)
+      (cert_of (wave_of n r replay w.conflicts waveform lines)) waveform
+  -- No other waveform is yielded by these lines.
+  pub one : (other : List Written) → IsAccepted (beginning w.conflicts n r replay)
+      (cert_of (wave_of n r replay w.conflicts waveform lines)) other → other ≡ waveform
+
 -- The texts stand for a job whose recording agrees with its replay; there are a waveform of all its places and lines,
 -- so that:
-pub record Headline (w : RepairValues) (netlist recording vcd report : List ℕ) : Type 0 where
+pub record Headline (w : RepairValues) (netlist recording : List ℕ) (vcd code cert report : List ℕ) : Type 0 where
   pub n : ANetlist
   pub r : Recorded
   pub job : IsJob w.job netlist recording n r
+  pub fits : FitsJob n r
   pub replay : HistoryView
   pub agrees : Agrees n r replay
   pub waveform : List Written
@@ -74,8 +111,12 @@ pub record Headline (w : RepairValues) (netlist recording vcd report : List ℕ)
   pub shown : HistoryView
   pub shows : ShowsWaveform (job_in n r) waveform shown
   pub vcd_is : vcd ≡ vcd_text n.design r.binding r.stim shown
-  -- The report tells what became of each recorded bit that is x or z.
-  pub report_is : report ≡ bit_lines (wave_of n r replay w.conflicts waveform lines) r.binding
+  -- Replaying the netlist with the code C writes V.
+  pub forces : IsForceCode w n r waveform vcd code
+  -- The certificate X names the waveform: it is the one that its lines yield.
+  pub certifies : Certifies w n r replay waveform lines cert
+  -- The report tells how many places have which end, and what became of each recorded bit that is x or z.
+  pub report_is : report ≡ report_text (wave_of n r replay w.conflicts waveform lines) r.binding forces.events
   -- Each bit that V shows known, its search ended, has that value in the two-valued circuit under every filling.
   pub known : ForBits n r (λ place recorded. (bit : Bool) → shown_of (job_in n r) shown place ≡ bit_value bit
       → (written_at waveform place).mark ≢ Undecided → Settles (job_in n r) waveform place bit)

@@ -11,6 +11,8 @@ use Rattle.xr_replay.specs.Fault.{IsFaultless}
 use Rattle.xr_wave.specs.Contents.{Contents, IsFinished, IsWave, nothing_written}
 use Rattle.xr_wave.specs.Shown.{ShowsWave}
 use Rattle.xr_wave.specs.declared.advance.Optimistic.{Optimistic as FoundOtherwise}
+use Rattle.xr_along.specs.Along.{GoesAlong}
+use Rattle.xr_code.specs.Laws.{HasSmallTimes}
 use Rattle.xr_repair.specs.Repaired.{IsObjection, IsOfJob}
 use Rattle.xr_job.specs.Compared.{IsRefusedReplay, job_in}
 use Rattle.xr_job.specs.Names.{net_name}
@@ -22,6 +24,7 @@ use Rattle.xr_job.specs.declared.recorded.Recorded.{Recorded}
 use Rattle.xr_words.specs.declared.words.Start.{Start}
 use Rattle.xr_words.specs.declared.words.Start.TheVariants as named
 use Rattle.xr_cli.specs.declared.cause.Objection.{Objection}
+use Rattle.xr_cli.specs.declared.parts.Parts.{Parts}
 
 -- The most bytes of a netlist and of a recording.
 abbrev pub netlist_limit : ℕ
@@ -40,6 +43,9 @@ pub record FitsJob (n : ANetlist) (r : Recorded) : Type 0 where
   pub netlist : FitsNetlist n
   pub recorded : FitsRecorded n.design r
 
+abbrev pub FitsParts : Parts → Type 0
+FitsParts job = FitsJob job.netlist job.recorded
+
 -- A history is the replay of the job, each moment is settled, and the recording agrees in it.
 pub record Agrees (n : ANetlist) (r : Recorded) (history : HistoryView) : Type 0 where
   pub replay : IsReplay (job_in n r) history
@@ -53,6 +59,7 @@ beginning conflicts n r history = nothing_written n.design n.order r.stim histor
 pub record IsRepairedBy (conflicts : ℕ) (n : ANetlist) (r : Recorded) (history : HistoryView)
     (wave : Contents) : Type 0 where
   pub of_job : IsOfJob (beginning conflicts n r history) wave
+  pub along : GoesAlong (beginning conflicts n r history) wave
   pub sound : IsWave wave
   pub finished : IsFinished wave
 
@@ -92,6 +99,7 @@ pub record Found : Type 0 where
 
 pub record IsFound (conflicts : ℕ) (n : ANetlist) (r : Recorded) (found : Found) : Type 0 where
   pub fits : FitsJob n r
+  pub times : HasSmallTimes r.stim
   pub replay : IsReplay (job_in n r) found.history
   pub repaired : IsRepairedBy conflicts n r found.history found.wave
   pub shows : ShowsWave found.wave found.shown

@@ -4,6 +4,8 @@ use crate::line::line_of;
 use std::alloc::Global;
 use xr_base::Memory;
 use xr_cell::Value;
+use xr_cert::CertFault;
+use xr_code::CodeFault;
 use xr_design::Bytes;
 use xr_job::{CompareRefusal, NetlistRefusal, RecordingRefusal};
 use xr_run::Cause;
@@ -24,6 +26,26 @@ pub struct Objection {
     pub undecided: usize,
 }
 
+/// A place that lacks its line in a certificate, as the line of the refusal has it.
+#[derive(Debug, Drop)]
+pub struct Lack {
+    /// The time of its moment, in ticks.
+    pub time: u64,
+    /// The round within the moment, from 0.
+    pub round: u32,
+    /// The written name of its net.
+    pub name: Bytes,
+}
+
+/// Why a certificate is refused.
+#[derive(Debug, Drop)]
+pub enum Uncertified {
+    /// One of its lines is wrong.
+    Line(CertFault),
+    /// A place lacks its line.
+    Lacks(Lack),
+}
+
 /// Why texts are refused.
 #[derive(Debug, Drop)]
 pub enum Refused {
@@ -39,6 +61,14 @@ pub enum Refused {
     Compare(CompareRefusal),
     /// A place that the replay knows is found otherwise.
     Optimistic(Objection),
+    /// The code has more than 2^63 - 1 bytes.
+    LongCode,
+    /// The code is none of the grammar, or doesn't fit the job.
+    Code(CodeFault),
+    /// The certificate has more than 2^63 - 1 bytes.
+    LongCertificate,
+    /// The certificate is none of the grammar, or isn't one of the job.
+    Certificate(Uncertified),
 }
 
 impl Cause for Refused {
@@ -56,6 +86,10 @@ impl Cause for Refused {
             Refused::Recording(cause) => cause.status(),
             Refused::Compare(cause) => cause.status(),
             Refused::Optimistic(_) => 10,
+            Refused::LongCode => 11,
+            Refused::Code(_) => 12,
+            Refused::LongCertificate => 11,
+            Refused::Certificate(_) => 13,
         }
     }
 

@@ -1,3 +1,6 @@
 //! The commands, a file each.
 
+pub mod check;
+pub mod make;
 pub mod repair;
+pub mod replay;

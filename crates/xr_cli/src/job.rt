@@ -5,11 +5,12 @@ ghost use Rattle.xr_job.specs.Netlist.{FitsNetlist};
 ghost use Rattle.xr_job.specs.Recorded.{FitsRecorded};
 ghost use Rattle.xr_run.specs.Prepared.{Prepared};
 ghost use Rattle.xr_words.specs.Words.{job_values};
-ghost use Rattle.xr_cli.specs.Phases.{itself, netlist_phases, recording_phases};
-ghost use Rattle.xr_cli.specs.Repair.{rule_of};
+ghost use Rattle.xr_cli.specs.Phases.{itself, job_phases, netlist_phases, recording_phases};
+ghost use Rattle.xr_cli.specs.Repair.{FitsParts, rule_of};
 
 use crate::cause::Refused;
 use crate::judged::{netlist_in, recorded_in};
+use crate::parts::Parts;
 use crate::scope::names_of;
 use std::alloc::Global;
 use xr_design::StartRule;
@@ -19,13 +20,28 @@ use xr_shelf::Shelf;
 use xr_words::{JobWords, Start};
 
 /// The most bytes of a netlist.
-const NETLIST_BYTES: usize = 67_108_864;
+pub const NETLIST_BYTES: usize = 67_108_864;
 
 /// The most bytes of a recording.
-const RECORDING_BYTES: usize = 268_435_456;
+pub const RECORDING_BYTES: usize = 268_435_456;
+
+/// The job that the words name.
+pub fn job_of<S: Shelf>(
+    alloc: Global,
+    shelf: &mut S,
+    words: &JobWords<'_>,
+) -> Result<Parts, Refusal<Refused>>
+    ensures prepared { Prepared S.told (job_phases (job_values words.now)) itself
+        (S.view shelf.old) (S.view shelf.new) result }
+    ensures fits { IfOk result FitsParts }
+{
+    let netlist = netlist_of(alloc, shelf, words)?;
+    let recorded = recorded_of(alloc, shelf, words, &netlist)?;
+    Ok(Parts { netlist, recorded })
+}
 
 /// The netlist that the words name.
-pub fn netlist_of<S: Shelf>(
+fn netlist_of<S: Shelf>(
     alloc: Global,
     shelf: &mut S,
     words: &JobWords<'_>,
@@ -45,7 +61,7 @@ pub fn netlist_of<S: Shelf>(
 }
 
 /// The recording that the words name, of a design.
-pub fn recorded_of<S: Shelf>(
+fn recorded_of<S: Shelf>(
     alloc: Global,
     shelf: &mut S,
     words: &JobWords<'_>,

@@ -6,6 +6,7 @@ ghost use Rattle.xr_job.specs.Compared.{job_in};
 ghost use Rattle.xr_job.specs.Netlist.{FitsNetlist, NetlistComes};
 ghost use Rattle.xr_job.specs.Recorded.{FitsRecorded, RecordingComes};
 ghost use Rattle.xr_run.specs.Prepared.{Judged};
+ghost use Rattle.xr_cli.specs.Made.{LengthComes};
 ghost use Rattle.xr_cli.specs.Phases.{compare_cause, itself, netlist_cause, nothing_in};
 ghost use Rattle.xr_cli.specs.Phases.{recording_cause};
 ghost use Rattle.xr_cli.specs.Repair.{CompareComes};
@@ -18,6 +19,16 @@ use xr_job::{
     replay_and_compare,
 };
 use xr_run::Refusal;
+
+/// A text of at most so many bytes; else the cause.
+pub fn short_in(text: &[u8], limit: usize, cause: Refused) -> Result<(), Refusal<Refused>>
+    ensures { Judged (LengthComes limit text.now) (λ long. cause) nothing_in result }
+{
+    if text.len() > limit {
+        return Err(Refusal::Text { cause });
+    }
+    Ok(())
+}
 
 /// The design of a netlist's text.
 pub fn netlist_in(alloc: Global, text: &[u8], top: &str) -> Result<Netlist, Refusal<Refused>>

@@ -2,11 +2,12 @@
 
 ghost use Rattle.std.specs.Prelude.{◌≡◌, ◌++◌, IfOk, OnOk};
 ghost use Rattle.xr_run.specs.Lines.{line};
-ghost use Rattle.xr_cli.specs.Cause.{objection_text, text_of};
+ghost use Rattle.xr_cli.specs.Cause.{certificate_line, lack_line, objection_text, text_of};
 
-use crate::cause::{Objection, Refused};
+use crate::cause::{Lack, Objection, Refused, Uncertified};
 use std::alloc::Global;
 use xr_base::{Memory, put, put_number};
+use xr_code::put_code_line;
 use xr_job::{put_compare_line, put_netlist_line, put_recording_line};
 
 /// The line of a refusal, with its newline.
@@ -29,6 +30,10 @@ fn put_text(alloc: Global, text: &mut Vec<u8>, refused: &Refused) -> Result<(), 
         Refused::Recording(cause) => Ok(put_recording_line(alloc, text, cause)?),
         Refused::Compare(cause) => Ok(put_compare_line(alloc, text, cause)?),
         Refused::Optimistic(objection) => put_objection(text, objection),
+        Refused::LongCode => put(text, b"refused: too large code"),
+        Refused::Code(fault) => put_code_line(alloc, text, fault),
+        Refused::LongCertificate => put(text, b"refused: too large certificate"),
+        Refused::Certificate(cause) => put_uncertified(alloc, text, cause),
     }
 }
 
@@ -44,6 +49,29 @@ fn put_objection(text: &mut Vec<u8>, objection: &Objection) -> Result<(), Memory
     put_both(text, b" found ", &[objection.found.letter()])?;
     put(text, b" undecided ")?;
     put_number(text, objection.undecided as u64)?;
+    Ok(())
+}
+
+fn put_uncertified(alloc: Global, text: &mut Vec<u8>, cause: &Uncertified) -> Result<(), Memory>
+    ensures { OnOk result (text.new.items ≡ text.old.items ++ certificate_line cause.now) }
+{
+    match cause {
+        Uncertified::Line(fault) => {
+            let words = format!(in alloc; "{fault}")?;
+            put_both(text, b"refused: ", words.as_bytes())
+        }
+        Uncertified::Lacks(lack) => put_lack(text, lack),
+    }
+}
+
+fn put_lack(text: &mut Vec<u8>, lack: &Lack) -> Result<(), Memory>
+    ensures { OnOk result (text.new.items ≡ text.old.items ++ lack_line lack.now) }
+{
+    put(text, b"refused: certificate lacks #")?;
+    put_number(text, lack.time)?;
+    put(text, b" round ")?;
+    put_number(text, u64::from(lack.round))?;
+    put_both(text, b" ", lack.name.as_slice())?;
     Ok(())
 }
 

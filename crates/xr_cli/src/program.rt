@@ -3,15 +3,18 @@
 ghost use Rattle.std.specs.Prelude.{◌≡◌, ◌≤◌, List, ℕ};
 ghost use Rattle.xr_run.specs.Ends.{Comes, RanWords};
 ghost use Rattle.xr_run.specs.Rows.{start_of, start_with};
-ghost use Rattle.xr_words.specs.Words.{Means, OfRepair, repair_values, values_of};
+ghost use Rattle.xr_words.specs.Words.{Means, values_of};
 ghost use Rattle.xr_cli.specs.Commands.{commands};
-ghost use Rattle.xr_cli.specs.Ends.{AreRepaired, Done, RefusesTexts};
+ghost use Rattle.xr_cli.specs.Ends.{Done, IsComplete, RefusesTexts};
 
+use crate::commands::check::Check;
+use crate::commands::make::Make;
 use crate::commands::repair::Repair;
+use crate::commands::replay::Replay;
 use std::alloc::Global;
 use xr_run::{refuse_memory, refuse_words, run_command};
 use xr_shelf::{Shelf, Sink};
-use xr_words::{Command, RepairWords, read_words};
+use xr_words::{Command, read_words};
 
 /// Runs the words on the shelf, prints to the sink, and answers the exit status.
 pub fn run<S: Shelf, O: Sink>(alloc: Global, words: &[String], shelf: &mut S, out: &mut O) -> u8
@@ -22,7 +25,7 @@ pub fn run<S: Shelf, O: Sink>(alloc: Global, words: &[String], shelf: &mut S, ou
     ensures refused { 5 ≤ result → result ≤ 19
         → RefusesTexts (start_of words.now S.told O.told (S.view shelf.old) (O.view out.old))
         (S.view shelf.new) (O.view out.new) result }
-    ensures complete { AreRepaired (start_of words.now S.told O.told (S.view shelf.old) (O.view out.old))
+    ensures complete { IsComplete (start_of words.now S.told O.told (S.view shelf.old) (O.view out.old))
         (S.view shelf.new) (O.view out.new) result }
 {
     ended(alloc, words, shelf, out)
@@ -51,15 +54,10 @@ fn run_words<S: Shelf, O: Sink>(
         → RanWords commands (start_with line S.told O.told (S.view shelf.old) (O.view out.old))
         (S.view shelf.new) (O.view out.new) result }
 {
-    let words = words_of(command);
-    run_command(alloc, &Repair { words }, shelf, out)
-}
-
-/// The words of the command.
-fn words_of<'a>(command: Command<'a>) -> RepairWords<'a>
-    ensures { values_of command.entry ≡ OfRepair (repair_values result) }
-{
     match command {
-        Command::Repair(words) => words,
+        Command::Repair(words) => run_command(alloc, &Repair { words }, shelf, out),
+        Command::Replay(words) => run_command(alloc, &Replay { words }, shelf, out),
+        Command::Check(words) => run_command(alloc, &Check { words }, shelf, out),
+        Command::Make(words) => run_command(alloc, &Make { words }, shelf, out),
     }
 }

@@ -9,7 +9,7 @@ use Rattle.xr_design.specs.Fits.{place_at}
 use Rattle.xr_design.specs.Order.{position_of}
 use Rattle.xr_design.specs.Waveform.{certain}
 use Rattle.xr_model.specs.Class.{class_of, flipped}
-use Rattle.xr_model.specs.Cone.{denied_value, in_cone, reads_filling, is_carried, is_source, source_filling}
+use Rattle.xr_model.specs.Cone.{denied_value, reads_filling, is_carried, is_source, source_filling}
 use Rattle.xr_model.specs.Line.{GivesBoth}
 use Rattle.xr_model.specs.Query.{valuation_of, variables}
 use Rattle.xr_model.specs.Root.{Root}
@@ -21,8 +21,8 @@ use Rattle.xr_proof.specs.Assignment.{IsMet, assigned}
 use Rattle.xr_wave.specs.Contents.{Contents, job}
 use Rattle.xr_cone_nodes.specs.declared.node.Node.{Node}
 use Rattle.xr_cone_nodes.specs.Nodes.{no_node, node_at, place_of_node}
-use Rattle.xr_cone_nodes.specs.Traced.{IsConeOf, cone_in}
-use Rattle.xr_cone_nodes.proofs.ConeBits.{count, fits, node_born, seen}
+use Rattle.xr_cone_nodes.specs.Traced.{IsConeOf}
+use Rattle.xr_cone_nodes.proofs.ConeBits.{count, fits, kept_source, node_born, seen, spots}
 use Rattle.xr_cone_nodes.proofs.ConeLaws.{base_law}
 use Rattle.xr_cone_nodes.proofs.PickedLists.{places_both}
 use Rattle.xr_cnf.specs.Literals.{variables_of}
@@ -49,57 +49,57 @@ module _ (c : Contents) (root : ℕ) (nodes : List Node) (is : IsConeOf c root n
   chosen place = reads_filling (job c) (certain c.written) place && valued place
 
   own_value : (p : ℕ) → p < length nodes
-      → is_carried (class_of (job c) (certain c.written) (slice_index (cone_in c root) p)) ≡ false
-      → valued (slice_index (cone_in c root) p) ≡ model (variables_of (take p nodes))
+      → is_carried (class_of (job c) (certain c.written) (slice_index (spots c root nodes is) p)) ≡ false
+      → valued (slice_index (spots c root nodes is) p) ≡ model (variables_of (take p nodes))
   own_value p less free =
       ap (λ (r : Root). flipped r.inverted (model (position_of (variables (job c) (certain c.written) root) r.place)))
-      (root_own (job c) (certain c.written) (slice_index (cone_in c root) p) free)
+      (root_own (job c) (certain c.written) (slice_index (spots c root nodes is) p) free)
       ∙ ap model (variable_number c root nodes is p less free)
 
   either_way : (p : ℕ) → p < length nodes → (b : Bool)
-      → reads_filling (job c) (certain c.written) (slice_index (cone_in c root) p) ≡ b
-      → (b && model (variables_of (take p nodes))) ≡ (b && valued (slice_index (cone_in c root) p))
+      → reads_filling (job c) (certain c.written) (slice_index (spots c root nodes is) p) ≡ b
+      → (b && model (variables_of (take p nodes))) ≡ (b && valued (slice_index (spots c root nodes is) p))
   either_way p less false born = refl
   either_way p less true born = sym (own_value p less (not-true _ (and_parts _ _ born).0))
 
-  picked_at : (p : ℕ) → p < length nodes → is_picked nodes model p ≡ chosen (slice_index (cone_in c root) p)
+  picked_at : (p : ℕ) → p < length nodes → is_picked nodes model p ≡ chosen (slice_index (spots c root nodes is) p)
   picked_at p less =
       let born = node_born c root nodes is p less in
       ap (λ b. b && model (variables_of (take p nodes))) born
-      ∙ either_way p less (reads_filling (job c) (certain c.written) (slice_index (cone_in c root) p)) refl
+      ∙ either_way p less (reads_filling (job c) (certain c.written) (slice_index (spots c root nodes is) p)) refl
 
   prefix : (n : ℕ) → n ≤ length nodes
-      → picked_places nodes model n ≡ map (place_at (job c)) (filter chosen (take n (cone_in c root)))
+      → picked_places nodes model n ≡ map (place_at (job c)) (filter chosen (take n (spots c root nodes is)))
   prefix zero within = refl
   prefix (suc n) within =
       let all = count c root nodes is in
       let less : n < length nodes = omega arith in
-      step (is_picked nodes model n) (chosen (slice_index (cone_in c root) n)) (picked_at n less) refl
+      step (is_picked nodes model n) (chosen (slice_index (spots c root nodes is) n)) (picked_at n less) refl
       (prefix n (omega arith))
       ∙ ap (map (place_at (job c))) (sym (ap (filter chosen)
-      (take-suc (cone_in c root) n 0 (omega (arith, less, all)))
-      ∙ filter-append chosen (take n (cone_in c root)) (slice_index (cone_in c root) n ∷ [])))
+      (take-suc (spots c root nodes is) n 0 (omega (arith, less, all)))
+      ∙ filter-append chosen (take n (spots c root nodes is)) (slice_index (spots c root nodes is) n ∷ [])))
     where
-      step : (a b : Bool) → a ≡ b → chosen (slice_index (cone_in c root) n) ≡ b
-          → picked_places nodes model n ≡ map (place_at (job c)) (filter chosen (take n (cone_in c root)))
+      step : (a b : Bool) → a ≡ b → chosen (slice_index (spots c root nodes is) n) ≡ b
+          → picked_places nodes model n ≡ map (place_at (job c)) (filter chosen (take n (spots c root nodes is)))
           → (if a then picked_places nodes model n ++ (node_at nodes n).place ∷ [] else picked_places nodes model n)
-          ≡ map (place_at (job c)) (filter chosen (take n (cone_in c root))
-          ++ filter chosen (slice_index (cone_in c root) n ∷ []))
+          ≡ map (place_at (job c)) (filter chosen (take n (spots c root nodes is))
+          ++ filter chosen (slice_index (spots c root nodes is) n ∷ []))
       step true true same on ih =
-          let place : (node_at nodes n).place ≡ place_at (job c) (slice_index (cone_in c root) n) =
-          maps_at place_of_node (place_at (job c)) nodes (cone_in c root) no_node 0 n is.places (omega arith) in
-          let last : filter chosen (slice_index (cone_in c root) n ∷ []) ≡ slice_index (cone_in c root) n ∷ [] =
-          ap (λ b. cond b (slice_index (cone_in c root) n ∷ []) []) on in
+          let place : (node_at nodes n).place ≡ place_at (job c) (slice_index (spots c root nodes is) n) =
+          maps_at place_of_node (place_at (job c)) nodes (spots c root nodes is) no_node 0 n is.places (omega arith) in
+          let last : filter chosen (slice_index (spots c root nodes is) n ∷ []) ≡ slice_index (spots c root nodes is) n ∷ [] =
+          ap (λ b. cond b (slice_index (spots c root nodes is) n ∷ []) []) on in
           ap (λ xs. xs ++ (node_at nodes n).place ∷ []) ih
-          ∙ ap (λ place. map (place_at (job c)) (filter chosen (take n (cone_in c root))) ++ place ∷ []) place
-          ∙ sym (map-append (place_at (job c)) (filter chosen (take n (cone_in c root)))
-          (slice_index (cone_in c root) n ∷ []))
-          ∙ ap (λ xs. map (place_at (job c)) (filter chosen (take n (cone_in c root)) ++ xs)) (sym last)
+          ∙ ap (λ place. map (place_at (job c)) (filter chosen (take n (spots c root nodes is))) ++ place ∷ []) place
+          ∙ sym (map-append (place_at (job c)) (filter chosen (take n (spots c root nodes is)))
+          (slice_index (spots c root nodes is) n ∷ []))
+          ∙ ap (λ xs. map (place_at (job c)) (filter chosen (take n (spots c root nodes is)) ++ xs)) (sym last)
       step false false same off ih =
-          let last : filter chosen (slice_index (cone_in c root) n ∷ []) ≡ [] =
-          ap (λ b. cond b (slice_index (cone_in c root) n ∷ []) []) off in
-          ih ∙ ap (map (place_at (job c))) (sym (append-nil (filter chosen (take n (cone_in c root)))))
-          ∙ ap (λ xs. map (place_at (job c)) (filter chosen (take n (cone_in c root)) ++ xs)) (sym last)
+          let last : filter chosen (slice_index (spots c root nodes is) n ∷ []) ≡ [] =
+          ap (λ b. cond b (slice_index (spots c root nodes is) n ∷ []) []) off in
+          ih ∙ ap (map (place_at (job c))) (sym (append-nil (filter chosen (take n (spots c root nodes is)))))
+          ∙ ap (λ xs. map (place_at (job c)) (filter chosen (take n (spots c root nodes is)) ++ xs)) (sym last)
       step true false same off ih = cc
       step false true same on ih = cc
 
@@ -109,13 +109,13 @@ module _ (c : Contents) (root : ℕ) (nodes : List Node) (is : IsConeOf c root n
       let all = count c root nodes is in
       prefix (length nodes) (omega arith)
       ∙ ap (λ xs. map (place_at (job c)) (filter chosen xs))
-      (ap (λ n. take n (cone_in c root)) (sym all) ∙ take-length (cone_in c root))
-      ∙ ap (map (place_at (job c))) (sym (places_both (in_cone (job c) (certain c.written) root) chosen (root + 1)))
+      (ap (λ n. take n (spots c root nodes is)) (sym all) ∙ take-length (spots c root nodes is))
+      ∙ ap (map (place_at (job c))) (sym (places_both is.kept chosen (root + 1)))
       ∙ ap (map (place_at (job c)))
-      (picked_same (λ p. in_cone (job c) (certain c.written) root p && chosen p)
+      (picked_same (λ p. is.kept p && chosen p)
       (λ p. is_source (job c) (certain c.written) root p && valued p) (root + 1)
-      (λ p less. sym (and_assoc (in_cone (job c) (certain c.written) root p)
-      (reads_filling (job c) (certain c.written) p) (valued p))))
+      (λ p less. sym (and_assoc (is.kept p) (reads_filling (job c) (certain c.written) p) (valued p))
+      ∙ ap (λ b. b && valued p) (kept_source c root nodes is p)))
 
 -- The places that are picked are the filling, whichever place of a wave the nodes are the cone of,
 pub picked_filling : (nodes : List Node) (values : List Bool) (filling : List Place)

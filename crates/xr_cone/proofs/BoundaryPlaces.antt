@@ -24,16 +24,16 @@ use Rattle.xr_model.specs.Places.{among}
 use Rattle.xr_model.proofs.Cones.{cone_within}
 use Rattle.xr_model.proofs.PlacesWhere.{all_among, among_all, in_picked, or_left, picked_rises}
 use Rattle.xr_wave.specs.Contents.{Contents, job}
+use Rattle.xr_reached.specs.Reached.{AddsAll, AreTaken, IsFalling, TakesGreatest}
+use Rattle.xr_reached.proofs.FallingPlaces.{among_push, falling_is, falls_push, in_push}
 use Rattle.xr_cone_nodes.specs.declared.node.Node.{Node}
 use Rattle.xr_cone_nodes.specs.declared.node.NodeBody.{NodeBody as Body}
 use Rattle.xr_cone_nodes.specs.declared.node.NodeBody.TheVariants.{Carried, Rule}
 use Rattle.xr_cone_nodes.specs.Nodes.{body_at, body_of, node_at, place_of_node}
-use Rattle.xr_cone_nodes.specs.Traced.{IsConeOf, cone_in}
+use Rattle.xr_cone_nodes.specs.Traced.{IsWholeCone, cone_in}
 use Rattle.xr_cone.specs.Boundary.{IsBoundary, IsCertainBoundary, IsFallingBoundary, IsPlaceIn, is_certain_in, boundary_in, is_boundary, is_outside, number_in, read_in, reads}
 use Rattle.xr_cone.specs.InWave.{IsInReach}
-use Rattle.xr_cone.specs.Reached.{AddsAll, AreTaken, IsFalling, TakesGreatest}
 use Rattle.xr_cone.proofs.NumberBits.{index_among}
-use Rattle.xr_cone.proofs.TracedPlaces.{among_push, falling_is, falls_push, in_push}
 
 or_nothing : (b : Bool) → b || false ≡ b
 or_nothing true = refl
@@ -55,7 +55,7 @@ spread true true false = refl
 spread true true true = refl
 
 -- The places of the cone of a place are of the job, none over it.
-module _ (c : Contents) (root : ℕ) (nodes : List Node) (is : IsConeOf c root nodes) where
+module _ (c : Contents) (root : ℕ) (nodes : List Node) (is : IsWholeCone c root nodes) where
   fits : Fits (job c)
   fits = is.wave.fits.fits_job
 
@@ -182,7 +182,7 @@ reader_below c root k (p ∷ ps) all some = ⊎_elim
     (or_cases (reads (job c) (certain c.written) k p) (list_any (reads (job c) (certain c.written) k) ps) some)
 
 -- The boundary is what all places of the cone read.
-module _ (c : Contents) (root : ℕ) (nodes : List Node) (is : IsConeOf c root nodes) (numbers reached taken : List ℕ)
+module _ (c : Contents) (root : ℕ) (nodes : List Node) (is : IsWholeCone c root nodes) (numbers reached taken : List ℕ)
     (position : ℕ) (same : numbers ≡ cone_in c root) (whole : position ≡ length numbers)
     (read : AreRead c numbers position reached) (taken_are : AreTaken reached taken) where
   members : (k : ℕ) → among taken k ≡ is_boundary (job c) (certain c.written) root k
@@ -210,8 +210,8 @@ module _ (c : Contents) (root : ℕ) (nodes : List Node) (is : IsConeOf c root n
       (let less = low k at in let top = is.reach.within in omega (arith, less, top)))
 
 -- What is taken of what all places of the cone read.
-pub falling : (result : Result (Vec ℕ Global) Memory) (c : Contents) (nodes : List Node) (root : ℕ) → IsConeOf c root nodes
-    → (numbers reached : List ℕ) (position : ℕ) → ((r : ℕ) → IsConeOf c r nodes → numbers ≡ cone_in c r)
+pub falling : (result : Result (Vec ℕ Global) Memory) (c : Contents) (nodes : List Node) (root : ℕ) → IsWholeCone c root nodes
+    → (numbers reached : List ℕ) (position : ℕ) → ((r : ℕ) → IsWholeCone c r nodes → numbers ≡ cone_in c r)
     → position ≡ length numbers → AreRead c numbers position reached → IfOk result (λ taken. AreTaken reached taken.items)
     → IfOk result (λ taken. IsFallingBoundary c nodes taken.items)
 falling (Ok taken) c nodes root is numbers reached position same whole read taken_are = record {
@@ -256,7 +256,7 @@ certain_boundary_of c nodes numbers certain j places are some same is root of_ro
     ∙ ap (λ ks. map (place_at (job c)) (filter (is_certain_in c) ks)) (are.are root of_root)
 
 -- The nodes as they are read one by one.
-module _ (c : Contents) (root : ℕ) (nodes : List Node) (is : IsConeOf c root nodes) where
+module _ (c : Contents) (root : ℕ) (nodes : List Node) (is : IsWholeCone c root nodes) where
   pub as_many : length nodes ≡ length (cone_in c root)
   as_many = sym (length-map nodes place_of_node) ∙ ap length is.places ∙ length-map (cone_in c root) (place_at (job c))
 

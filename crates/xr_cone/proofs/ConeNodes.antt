@@ -12,7 +12,7 @@ use Rattle.xr_design.specs.declared.waveform.Written.{Written}
 use Rattle.xr_design.specs.Fits.{Fits, place_at}
 use Rattle.xr_design.specs.Job.{Job, places_of}
 use Rattle.xr_design.specs.Waveform.{certain}
-use Rattle.xr_model.specs.Cone.{cone, essentials, in_cone, is_carried, is_essential, supports}
+use Rattle.xr_model.specs.Cone.{cone, in_cone, is_carried, supports}
 use Rattle.xr_model.specs.Laws.{InReach}
 use Rattle.xr_model.specs.Node.{IsBody}
 use Rattle.xr_model.specs.Places.{among, places_where}
@@ -22,7 +22,7 @@ use Rattle.xr_model.proofs.PlacesWhere.{all_among, among_all, contains_among, in
 use Rattle.xr_model.proofs.TracedCones.{values_are}
 use Rattle.xr_wave.specs.Contents.{Contents, IsWave, class_in, job}
 use Rattle.xr_cone_nodes.specs.Nodes.{StandsAt, body_at, body_of, no_node, node_at, place_of_node}
-use Rattle.xr_cone_nodes.specs.Traced.{IsConeOf}
+use Rattle.xr_cone_nodes.specs.Traced.{IsWholeCone}
 use Rattle.xr_cone_nodes.specs.declared.node.Node.{Node}
 use Rattle.xr_cone_nodes.specs.declared.node.NodeBody.{NodeBody as Body}
 use Rattle.xr_cone_nodes.specs.declared.node.NodeBody.TheVariants as node
@@ -30,7 +30,7 @@ use Rattle.xr_cone.specs.Placed.{IsPlaced}
 use Rattle.xr_cone.specs.Traced.{AreTraced, IsBodyOf, supports_in}
 use Rattle.xr_cone.specs.declared.traced.TracedBody.{TracedBody}
 use Rattle.xr_cone.specs.declared.traced.TracedBody.TheVariants.{Carried, Rule}
-use Rattle.xr_cone.proofs.RisingLists.{front_increases, positions_increase, stands_before}
+use Rattle.xr_cone.proofs.RisingLists.{front_increases, stands_before}
 use Rattle.xr_cone.proofs.TracedBodies.{supports_are}
 
 -- What is made so far of a cone: its first places, with their nodes, and those that are left, the greatest first.
@@ -165,24 +165,18 @@ placed_body j fits c place places others (Rule arguments values) (node.Rule posi
           (is.is_table.are_values number (rw is.are_essential less)));
     }
 
-essentials_rise : (j : Job) (c : ℕ → Value) (place : ℕ) → IsStrictlyIncreasing (essentials j c place)
-unfolding essentials
-essentials_rise j c place = picked_rises (is_essential j c place) place
-
 -- It stands before its place.
 placed_stands : (j : Job) (c : ℕ → Value) (place : ℕ) (places : List ℕ) (body : TracedBody) (made : Body)
-    → IsStrictlyIncreasing places → IsBodyOf j c place body → IsPlaced places body made → StandsAt (length places) made
-placed_stands j c place places (Carried from inverted) (node.Carried position flips) rises is placed = placed.within
-placed_stands j c place places (Carried from inverted) (node.Rule positions kept) rises is placed = absurd placed
-placed_stands j c place places (Rule arguments values) (node.Carried position flips) rises is placed = absurd placed
-placed_stands j c place places (Rule arguments values) (node.Rule positions kept) rises is placed =
+    → IsBodyOf j c place body → IsPlaced places body made → StandsAt (length places) made
+placed_stands j c place places (Carried from inverted) (node.Carried position flips) is placed = placed.within
+placed_stands j c place places (Carried from inverted) (node.Rule positions kept) is placed = absurd placed
+placed_stands j c place places (Rule arguments values) (node.Carried position flips) is placed = absurd placed
+placed_stands j c place places (Rule arguments values) (node.Rule positions kept) is placed =
     let same : length positions ≡ length arguments = sym (length-map positions (slice_index places))
     ∙ ap length placed.are_places in
     let few = is.few in
     record {
       few = omega (arith, same, few);
-      ascending = positions_increase places positions rises placed.within
-          (subst IsStrictlyIncreasing (sym (placed.are_places ∙ is.are_essential)) (essentials_rise j c place));
       before = placed.within;
       long = ap length placed.same ∙ is.is_table.long ∙ ap (λ n. 2 ^ n) (sym same);
     }
@@ -255,7 +249,7 @@ pushed j fits c root places rest left next nodes traced body within made is of_p
     last_stands : (position : ℕ) → position ≡ length nodes → StandsAt position (node_at (nodes ++ last ∷ []) position).body
     last_stands position e = subst (λ (n : Node). StandsAt position n.body) (sym (last_at position e))
         (subst (λ p. StandsAt p body) (sym (e ∙ same))
-        (placed_stands j c next places traced body (next_rises j c root places next left is) of_place placed))
+        (placed_stands j c next places traced body of_place placed))
 
     old_stands : (position : ℕ) → position < length nodes → StandsAt position (node_at (nodes ++ last ∷ []) position).body
     old_stands position less = subst (λ (n : Node). StandsAt position n.body) (sym (old_at position less))
@@ -278,7 +272,7 @@ made_more j fits c root places all rest left next nodes every place traced body 
 -- Where none is left, the nodes are the cone.
 pub made_ends : (c : Contents) (root : ℕ) (places rest : List ℕ) (nodes : List Node) → IsWave c
     → InReach (job c) c.written root → class_in c root ≡ class.Line
-    → IsMade (job c) (certain c.written) root places rest nodes → rest ≡ [] → IsConeOf c root nodes
+    → IsMade (job c) (certain c.written) root places rest nodes → rest ≡ [] → IsWholeCone c root nodes
 made_ends c root places rest nodes wave reach line made none = record {
   wave = wave;
   are_nodes = record { some = some; few = few; each = made.stands };
@@ -312,11 +306,10 @@ made_ends c root places rest nodes wave reach line made none = record {
         let most = wave.fits.fits_job.few_places in
         omega (arith, up, within, most, same))
 
-pub ends_ok : {T E : Type 0} (nodes_in : T → List Node) (c : Contents) (root : ℕ) (result : Result T E)
-    (nodes : List Node) → IfOk result (λ cone. nodes_in cone ≡ nodes) → IsConeOf c root nodes
-    → IfOk result (λ cone. IsConeOf c root (nodes_in cone))
-ends_ok nodes_in c root (Ok cone) nodes same is = subst (IsConeOf c root) (sym same) is
-ends_ok nodes_in c root (Err e) nodes same is = tt
+pub ends_ok : {T E : Type 0} (nodes_in : T → List Node) (P : List Node → Type 0) (result : Result T E)
+    (nodes : List Node) → IfOk result (λ cone. nodes_in cone ≡ nodes) → P nodes → IfOk result (λ cone. P (nodes_in cone))
+ends_ok nodes_in P (Ok cone) nodes same is = subst P (sym same) is
+ends_ok nodes_in P (Err e) nodes same is = tt
 
 pub none_left : (rest : List ℕ) → length rest ≡ 0 → rest ≡ []
 none_left [] none = refl

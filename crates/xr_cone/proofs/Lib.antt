@@ -2,10 +2,9 @@
 mod BoundaryPlaces
 mod ConeNodes
 mod EssentialBits
-mod HeapPlaces
+pub mod GrownCones
 pub mod KnownBodies
 mod NextLine
-mod NotedPlaces
 mod NumberBits
 mod RisingLists
 mod TracedBodies

@@ -1,5 +1,5 @@
 -- Lists of numbers that ascend.
-use Rattle.std.proofs.Common.{◌≡◌, ℕ, zero, suc, ◌+◌, ◌<◌, ◌≤◌, ◌==◌, Bool, true, false, List, [], ◌∷◌, ◌++◌, length, map, slice_index, Err, refl, sym, ◌∙◌, subst, arith, ◌⊎◌, ⊎_elim, length-append}
+use Rattle.std.proofs.Common.{◌≡◌, ℕ, ◌+◌, ◌<◌, ◌≤◌, ◌==◌, Bool, true, false, List, [], ◌∷◌, ◌++◌, length, slice_index, Err, refl, sym, ◌∙◌, subst, arith, ◌⊎◌, ⊎_elim, length-append}
 use Rattle.std.specs.List.{AllByRecursion}
 use Rattle.std.specs.List.Sorted.{IsBinarySearchResult, IsStrictlyIncreasing, IsStrictlySortedBy}
 use Rattle.std.specs.Ordering.{nat_cmp, MatchOrdering}
@@ -7,7 +7,7 @@ use Rattle.std.specs.declared.cmp.Ordering.TheVariants.{Less}
 use Rattle.std.specs.Cmp.{ranks}
 use Rattle.std.proofs.Math.ListN.{get_or-append}
 use Rattle.std.proofs.lemmas.Bool.{cases_eq, eqb-true, or_cases}
-use Rattle.std.proofs.lemmas.List.{get_or-map, get_or_default, length-map}
+use Rattle.std.proofs.lemmas.List.{get_or_default}
 use Rattle.std.proofs.lemmas.List.Folds.{list_any-append}
 use Rattle.std.proofs.lemmas.List.Sorted.{searched}
 use Rattle.std.proofs.lemmas.Map.Keys.{below_from_sorted, sorted_from_strictly_increasing}
@@ -90,30 +90,6 @@ index_up xs increases i k up within =
 
 either : (a b : ℕ) → (a ≤ b) ⊎ (b < a)
 either a b = grind arith
-
--- Positions of numbers that ascend ascend.
-pub positions_increase : (xs positions : List ℕ) → IsStrictlyIncreasing xs
-    → AllByRecursion (λ p. p < length xs) positions → IsStrictlyIncreasing (map (slice_index xs) positions)
-    → IsStrictlyIncreasing positions
-positions_increase xs positions increases within mapped k less =
-    let first : slice_index (map (slice_index xs) positions) k ≡ slice_index xs (slice_index positions k) =
-    get_or-map (slice_index xs) positions k 0 0 (omega (arith, less)) in
-    let second : slice_index (map (slice_index xs) positions) (k + 1) ≡ slice_index xs (slice_index positions (k + 1)) =
-    get_or-map (slice_index xs) positions (k + 1) 0 0 less in
-    let long = length-map positions (slice_index xs) in
-    let up = mapped k (omega (arith, less, long)) in
-    by_order (slice_index positions k) (slice_index positions (k + 1)) (inside positions k within (omega (arith, less)))
-    (omega (arith, first, second, up))
-  where
-    inside : (ps : List ℕ) (i : ℕ) → AllByRecursion (λ p. p < length xs) ps → i < length ps
-        → slice_index ps i < length xs
-    inside [] i all low = absurd (omega arith)
-    inside (p ∷ ps) zero all low = all.0
-    inside (p ∷ ps) (suc i) all low = inside ps i all.1 (omega arith)
-
-    by_order : (p q : ℕ) → p < length xs → slice_index xs p < slice_index xs q → p < q
-    by_order p q low lower = ⊎_elim (λ (h : q ≤ p). (let back = index_up xs increases q p h low in absurd (omega (arith, back, lower))))
-        (λ (h : p < q). h) (either q p)
 
 -- A number that is there is found.
 pub found_there : (xs : List ℕ) (x i : ℕ) → IsStrictlyIncreasing xs → among xs x ≡ true

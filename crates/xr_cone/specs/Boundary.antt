@@ -16,7 +16,7 @@ use Rattle.xr_wave.specs.Contents.{Contents, job}
 use Rattle.xr_cone_nodes.specs.declared.node.Node.{Node}
 use Rattle.xr_cone_nodes.specs.declared.node.NodeBody.{NodeBody as Body}
 use Rattle.xr_cone_nodes.specs.declared.node.NodeBody.TheVariants.{Carried, Rule}
-use Rattle.xr_cone_nodes.specs.Traced.{IsConeOf}
+use Rattle.xr_cone_nodes.specs.Traced.{IsWholeCone}
 
 -- A place that isn't carried reads its argument places.
 abbrev pub reads : Job → (ℕ → Value) → ℕ → ℕ → Bool
@@ -44,23 +44,23 @@ is_certain_in c k = not (is_unknown (certain c.written k))
 abbrev pub certain_boundary_in : Contents → ℕ → List ℕ
 certain_boundary_in c root = filter (is_certain_in c) (boundary_in c root)
 
--- Nodes are the cone of some place of a wave.
+-- Nodes are the whole cone of some place of a wave.
 pub record IsSomeCone (c : Contents) (nodes : List Node) : Type 0 where
   pub root : ℕ
-  pub is : IsConeOf c root nodes
+  pub is : IsWholeCone c root nodes
 
 -- Places are its boundary places, in place order, or the certain ones of them.
 abbrev pub IsBoundary : Contents → List Node → List Place → Type 0
 IsBoundary c nodes places =
-    (root : ℕ) → IsConeOf c root nodes → places ≡ map (place_at (job c)) (boundary_in c root)
+    (root : ℕ) → IsWholeCone c root nodes → places ≡ map (place_at (job c)) (boundary_in c root)
 
 abbrev pub IsCertainBoundary : Contents → List Node → List Place → Type 0
 IsCertainBoundary c nodes places =
-    (root : ℕ) → IsConeOf c root nodes → places ≡ map (place_at (job c)) (certain_boundary_in c root)
+    (root : ℕ) → IsWholeCone c root nodes → places ≡ map (place_at (job c)) (certain_boundary_in c root)
 
 -- Numbers of places are those of the boundary, from the greatest to the least, each of a written place of the job.
 pub record IsFallingBoundary (c : Contents) (nodes : List Node) (numbers : List ℕ) : Type 0 where
-  pub are : (root : ℕ) → IsConeOf c root nodes → reverse numbers ≡ boundary_in c root
+  pub are : (root : ℕ) → IsWholeCone c root nodes → reverse numbers ≡ boundary_in c root
   pub written : AllByRecursion (λ k. k < length c.written) numbers
   pub within : AllByRecursion (λ k. k < places_of (job c)) numbers
 

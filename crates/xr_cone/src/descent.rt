@@ -1,16 +1,16 @@
 //! The places of a cone, from its root downwards.
 
 ghost use Rattle.std.specs.Prelude.{IfOk, OnOk};
+ghost use Rattle.xr_reached.specs.Reached.{AddsAll};
 ghost use Rattle.xr_cone.specs.InWave.{AreTracedIn, IsInReach};
 ghost use Rattle.xr_cone.specs.Known.{IsRightOf};
-ghost use Rattle.xr_cone.specs.Reached.{AddsAll};
 ghost use Rattle.xr_cone.specs.Traced.{supports_in};
 
-use crate::reached::Reached;
 use crate::traced::TracedBody;
 use crate::tracer::Tracer;
 use std::alloc::Global;
 use xr_base::Memory;
+use xr_reached::Reached;
 use xr_wave::Wave;
 
 /// The places of a cone, the greatest first: all that reach a place stand behind it, so once it is the greatest that is

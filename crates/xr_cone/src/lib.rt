@@ -5,21 +5,21 @@
 //! way of carried places leaves alone. A place costs its class, and where it isn't carried one evaluation of its rule
 //! for each choice of bits for its uncertain arguments, at most 2^13; a tracer keeps what it rests on, so that it costs
 //! this once. Nothing grows with the wave but the slots of a tracer, up to their bound. Start at
-//! `Tracer::trace`; `trace` and `trace_at` are for one cone alone, `boundary` and `certain_boundary` for what its rules read.
+//! `Cones::cone`, which takes a cone from the graph of lanes as long as that is kept; `Tracer::trace` traces it. `trace` and
+//! `trace_at` are for one cone alone, `boundary` and `certain_boundary` for what its rules read.
 #![tactic(auto)]
 
+mod cones;
 mod descent;
-mod heap;
 mod laws;
-mod noted;
 mod outside;
 mod positions;
-mod reached;
 mod table;
 mod traced;
 mod tracer;
 mod tracing;
 
+pub use cones::Cones;
 pub use laws::tracers_stay_right;
 pub use outside::{boundary, certain_boundary};
 pub use tracer::Tracer;

@@ -5,7 +5,7 @@ ghost use Rattle.xr_design.specs.Job.{number_of};
 ghost use Rattle.xr_model.specs.declared.class.ClassByNumber.TheVariants as class;
 ghost use Rattle.xr_wave.specs.Contents.{IsReached, class_in, job, next_number};
 ghost use Rattle.xr_wave.specs.Token.{IsLineNext};
-ghost use Rattle.xr_cone_nodes.specs.Traced.{IsConeOf};
+ghost use Rattle.xr_cone_nodes.specs.Traced.{IsConeOf, IsWholeCone};
 ghost use Rattle.xr_cone.specs.InWave.{IsInReach};
 ghost use Rattle.xr_cone.specs.Known.{IsRightOf};
 
@@ -21,7 +21,8 @@ use xr_wave::Wave;
 /// tracer.
 pub fn trace(alloc: Global, wave: &Wave<'_>) -> Result<Cone, Memory>
     requires { IsLineNext wave.now }
-    ensures { IfOk result (λ cone. IsConeOf wave.now (next_number wave.now) cone.nodes) }
+    ensures cone { IfOk result (λ cone. IsConeOf wave.now (next_number wave.now) cone.nodes) }
+    ensures whole { IfOk result (λ cone. IsWholeCone wave.now (next_number wave.now) cone.nodes) }
 {
     Tracer::new(alloc).trace(alloc, wave)
 }
@@ -30,7 +31,8 @@ pub fn trace(alloc: Global, wave: &Wave<'_>) -> Result<Cone, Memory>
 pub fn trace_at(alloc: Global, wave: &Wave<'_>, place: Place) -> Result<Cone, Memory>
     requires reached { IsReached wave.now place }
     requires line { class_in wave.now (number_of (job wave.now) place) ≡ class.Line }
-    ensures { IfOk result (λ cone. IsConeOf wave.now (number_of (job wave.now) place) cone.nodes) }
+    ensures cone { IfOk result (λ cone. IsConeOf wave.now (number_of (job wave.now) place) cone.nodes) }
+    ensures whole { IfOk result (λ cone. IsWholeCone wave.now (number_of (job wave.now) place) cone.nodes) }
 {
     let mut tracer = Tracer::new(alloc);
     trace_root(alloc, wave, &mut tracer, wave.circuit().number_of(place))
@@ -43,6 +45,7 @@ impl Tracer {
         requires right { IsRightOf wave.now self.old }
         requires line { IsLineNext wave.now }
         ensures cone { IfOk result (λ cone. IsConeOf wave.now (next_number wave.now) cone.nodes) }
+        ensures whole { IfOk result (λ cone. IsWholeCone wave.now (next_number wave.now) cone.nodes) }
         ensures right { OnOk result (IsRightOf wave.now self.new) }
     {
         trace_root(alloc, wave, self, wave.count())
@@ -59,6 +62,7 @@ fn trace_root(
     requires line { class_in wave.now root ≡ class.Line }
     requires right { IsRightOf wave.now tracer.old }
     ensures cone { IfOk result (λ cone. IsConeOf wave.now root cone.nodes) }
+    ensures whole { IfOk result (λ cone. IsWholeCone wave.now root cone.nodes) }
     ensures right { OnOk result (IsRightOf wave.now tracer.new) }
 {
     let circuit = wave.circuit();

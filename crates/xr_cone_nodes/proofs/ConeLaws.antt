@@ -20,8 +20,8 @@ use Rattle.xr_model.proofs.SourceFillings.{source_among, source_filling_is, sour
 use Rattle.xr_wave.specs.Contents.{Contents, job}
 use Rattle.xr_cone_nodes.specs.declared.node.Node.{Node}
 use Rattle.xr_cone_nodes.specs.Nodes.{by_sources, chosen, is_listed, is_source_node, no_node, node_at, nothing, number_bits, place_of_node, source_at, sources_before, sources_of}
-use Rattle.xr_cone_nodes.specs.Traced.{BaseLaw, ChosenLaw, EnumeratedLaw, IsConeOf, ListedLaw, SourcesLaw, cone_in, world_in}
-use Rattle.xr_cone_nodes.proofs.ConeBits.{count, fits, picked, place_within, root_world, seen, source_place, sources_are, sources_counted}
+use Rattle.xr_cone_nodes.specs.Traced.{BaseLaw, ChosenLaw, EnumeratedLaw, IsConeOf, ListedLaw, SourcesLaw, world_in}
+use Rattle.xr_cone_nodes.proofs.ConeBits.{count, fits, picked, place_within, root_world, seen, source_place, sources_are, sources_counted, spots}
 use Rattle.xr_cone_nodes.proofs.ListedPlaces.{listed_bit}
 use Rattle.xr_cone_nodes.proofs.NodeSources.{masked_at}
 use Rattle.xr_cone_nodes.proofs.PickedLists.{chosen_places, filter_position}
@@ -58,7 +58,7 @@ chosen_law c root nodes bits is =
       world = ap (λ filling. world_in c filling root) (sym same)
           ∙ sym (root_world c root nodes is (by_sources nodes bits) own filled (λ p less born.
           ap bits (sources_counted c root nodes is p less)
-          ∙ sym (source_given (job c) ok (certain c.written) root sb (slice_index (cone_in c root) p) within
+          ∙ sym (source_given (job c) ok (certain c.written) root sb (slice_index (spots c root nodes is) p) within
           (source_place c root nodes is p less born))));
     }
 
@@ -100,7 +100,7 @@ source_within : (c : Contents) (root : ℕ) (nodes : List Node) → IsConeOf c r
     → is_source_node (node_at nodes p) ≡ true → sources_before nodes p < length (sources_of nodes)
 source_within c root nodes is p less born =
     let is_one = is_source (job c) (certain c.written) root in
-    let place : ℕ = slice_index (cone_in c root) p in
+    let place : ℕ = slice_index (spots c root nodes is) p in
     let at = place_position is_one (root + 1) place (picked c root nodes is p less).0
     (source_place c root nodes is p less born) in
     let low = at.0 in
@@ -109,14 +109,14 @@ source_within c root nodes is p less born =
     ∙ length-map (sources (job c) (certain c.written) root) (place_at (job c)) in
     omega (arith, low, before, long)
 
-place_of_source : (c : Contents) (root : ℕ) (nodes : List Node) → IsConeOf c root nodes → (p : ℕ) → p < length nodes
+place_of_source : (c : Contents) (root : ℕ) (nodes : List Node) (is : IsConeOf c root nodes) (p : ℕ) → p < length nodes
     → is_source_node (node_at nodes p) ≡ true
-    → source_at nodes (sources_before nodes p) ≡ place_at (job c) (slice_index (cone_in c root) p)
+    → source_at nodes (sources_before nodes p) ≡ place_at (job c) (slice_index (spots c root nodes is) p)
 place_of_source c root nodes is p less born =
     list.get_or-map place_of_node (filter is_source_node nodes) (sources_before nodes p) no_node
     ∙ ap place_of_node (filter_position is_source_node no_node nodes p less born)
     ∙ sym (list.get_or-map place_of_node nodes p no_node) ∙ ap (λ xs. slice_index_or xs p no_node.place) is.places
-    ∙ get_or-map (place_at (job c)) (cone_in c root) p 0 no_node.place
+    ∙ get_or-map (place_at (job c)) (spots c root nodes is) p 0 no_node.place
     (let l = count c root nodes is in omega (arith, l, less))
 
 pub listed_law : ListedLaw
@@ -124,7 +124,7 @@ listed_law c root nodes filling bits is filled listed =
     root_world c root nodes is (by_sources nodes bits) filling filled (λ p less born.
     listed (sources_before nodes p) (source_within c root nodes is p less born)
     ∙ ap (is_listed filling) (place_of_source c root nodes is p less born)
-    ∙ listed_bit (job c) (fits c root nodes is).ordering (fits c root nodes is).all (slice_index (cone_in c root) p)
+    ∙ listed_bit (job c) (fits c root nodes is).ordering (fits c root nodes is).all (slice_index (spots c root nodes is) p)
     (place_within c root nodes is p less) filling filled)
 
 pub enumerated_law : EnumeratedLaw
@@ -146,10 +146,10 @@ enumerated_law c root nodes bit is few each =
     own number = source_filling (job c) (certain c.written) root (masked all number)
 
     given : (number p : ℕ) → p < length nodes → is_source_node (node_at nodes p) ≡ true
-        → by_sources nodes (number_bits number) p ≡ bit_of (job c) (own number) (slice_index (cone_in c root) p)
+        → by_sources nodes (number_bits number) p ≡ bit_of (job c) (own number) (slice_index (spots c root nodes is) p)
     given number p less born =
         let is_one = is_source (job c) (certain c.written) root in
-        let place : ℕ = slice_index (cone_in c root) p in
+        let place : ℕ = slice_index (spots c root nodes is) p in
         let one : is_one place ≡ true = source_place c root nodes is p less born in
         let at = place_position is_one (root + 1) place (picked c root nodes is p less).0 one in
         ap (number_bits number) (sources_counted c root nodes is p less)

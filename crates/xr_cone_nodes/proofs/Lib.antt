@@ -6,4 +6,5 @@ pub mod LaneTables
 pub mod ListedPlaces
 pub mod ListedSpots
 pub mod NodeSources
+pub mod NodeWorlds
 pub mod PickedLists

@@ -1,10 +1,9 @@
 -- Which nodes of a cone are its sources: those whose tables have x.
-use Rattle.std.proofs.Common.{◌≡◌, ℕ, zero, suc, ◌+◌, ◌*◌, ◌/◌, ◌%◌, ◌^◌, ◌<◌, ◌==◌, ◌&&◌, not, cond, Bool, true, false, List, [], ◌∷◌, length, refl, sym, ap, ◌∙◌, subst, arith, add-one, slice_index_or, slice_index, ⊎_elim}
+use Rattle.std.proofs.Common.{◌≡◌, ℕ, zero, suc, ◌+◌, ◌*◌, ◌/◌, ◌%◌, ◌^◌, ◌<◌, ◌==◌, ◌&&◌, not, cond, Bool, true, false, List, [], ◌∷◌, length, refl, sym, ap, ◌∙◌, subst, arith, add-one, slice_index_or, ⊎_elim}
 use Rattle.std.specs.List.{AllByRecursion, list_any}
 use Rattle.std.specs.List.Sorted.{IsStrictlyIncreasing}
 use Rattle.std.proofs.Math.Nat.{pow-suc}
 use Rattle.std.proofs.lemmas.Bool.{cases_Bool, eq-eqb, ne_eqb, or_parts}
-use Rattle.std.proofs.lemmas.List.{length-map}
 use Rattle.std.proofs.lemmas.Nat.Bits.{bit_at_lowest, bit_at-suc}
 use Rattle.std.specs.Int.{bit_at}
 use Rattle.xr_cell.specs.declared.value.Value.{Value}
@@ -15,18 +14,18 @@ use Rattle.xr_design.specs.Fits.{Fits}
 use Rattle.xr_design.specs.Job.{Job, places_of}
 use Rattle.xr_design.specs.Rule.{arguments, rule}
 use Rattle.xr_model.specs.Assignment.{assigned}
-use Rattle.xr_model.specs.Class.{class_of, is_never_unknown}
+use Rattle.xr_model.specs.Class.{class_of, flipped, is_never_unknown}
 use Rattle.xr_model.specs.Cone.{essentials, reads_filling, is_carried, is_essential, table}
 use Rattle.xr_model.specs.Mask.{mask_of, masked}
-use Rattle.xr_model.specs.Node.{IsBody}
 use Rattle.xr_model.proofs.AssignmentNumbers.{along, mask_small}
 use Rattle.xr_model.proofs.Assignments.{every_passes, passes_every}
 use Rattle.xr_model.proofs.ConeModels.{rises_far}
-use Rattle.xr_model.proofs.EssentialArguments.{rule_table}
-use Rattle.xr_model.proofs.PlacesWhere.{picked_rises}
+use Rattle.xr_model.proofs.EssentialArguments.{rule_table, table_reads}
+use Rattle.xr_model.proofs.PlacesWhere.{among_all, picked_rises}
 use Rattle.xr_cone_nodes.specs.declared.node.NodeBody.{NodeBody as Body}
 use Rattle.xr_cone_nodes.specs.declared.node.NodeBody.TheVariants.{Carried, Rule}
 use Rattle.xr_cone_nodes.specs.Nodes.{StandsAt, body_of, is_source_body}
+use Rattle.xr_cone_nodes.specs.Traced.{IsBodyOver}
 
 mask_same : (places : List ℕ) (f g : ℕ → Bool) → AllByRecursion (λ k. f k ≡ g k) places
     → mask_of places f ≡ mask_of places g
@@ -115,9 +114,23 @@ flip_false : (b : Bool) → not b ≡ true → b ≡ false
 flip_false true h = cc
 flip_false false h = refl
 
+pub flipped_back : (turned bit : Bool) → flipped turned (flipped turned bit) ≡ bit
+flipped_back false bit = refl
+flipped_back true false = refl
+flipped_back true true = refl
+
+-- A table on bits that are turned twice.
+pub turned_table : (j : Job) (c : ℕ → Value) (place : ℕ) (turns bits : ℕ → Bool)
+    → table j c place (λ k. flipped (turns k) (flipped (turns k) (bits k))) ≡ table j c place bits
+turned_table j c place turns bits =
+    table_reads j c place (λ k. flipped (turns k) (flipped (turns k) (bits k))) bits
+    (among_all (λ k. flipped (turns k) (flipped (turns k) (bits k)) ≡ bits k) (essentials j c place)
+    (λ k at. flipped_back (turns k) (bits k)))
+
 module _ (j : Job) (fits : Fits j) (c : ℕ → Value) (place : ℕ) (within : place < places_of j) (values : List Value)
-    (long : length values ≡ 2 ^ length (essentials j c place))
-    (are : (bits : ℕ → Bool) → slice_index_or values (mask_of (essentials j c place) bits) X ≡ table j c place bits)
+    (turns : ℕ → Bool) (long : length values ≡ 2 ^ length (essentials j c place))
+    (are : (bits : ℕ → Bool) → slice_index_or values (mask_of (essentials j c place) bits) X
+    ≡ table j c place (λ k. flipped (turns k) (bits k)))
   where
     known_rule : (ℕ → Bool) → Bool
     known_rule bits = not (is_unknown (rule j c bits place))
@@ -126,30 +139,38 @@ module _ (j : Job) (fits : Fits j) (c : ℕ → Value) (place : ℕ) (within : p
     unfolding essentials
     essentials_rise = picked_rises (is_essential j c place) place
 
-    value_rule : (bits : ℕ → Bool)
-        → slice_index_or values (mask_of (essentials j c place) bits) X ≡ rule j c (assigned c bits) place
-    value_rule bits = are bits ∙ sym (rule_table j fits c place within bits)
+    value_rule : (bits : ℕ → Bool) → slice_index_or values (mask_of (essentials j c place) bits) X
+        ≡ rule j c (assigned c (λ k. flipped (turns k) (bits k))) place
+    value_rule bits = are bits ∙ sym (rule_table j fits c place within (λ k. flipped (turns k) (bits k)))
+
+    rule_value : (bits : ℕ → Bool)
+        → slice_index_or values (mask_of (essentials j c place) (λ k. flipped (turns k) (bits k))) X
+        ≡ rule j c (assigned c bits) place
+    rule_value bits = are (λ k. flipped (turns k) (bits k)) ∙ turned_table j c place turns bits
+        ∙ sym (rule_table j fits c place within bits)
 
     never_none : is_never_unknown j c place ≡ true → list_any is_unknown values ≡ false
     unfolding known_rule
     never_none never = none_any is_unknown X values (λ i less.
         (let all = essentials j c place in
         let bits : ℕ → Bool = masked all i in
-        let same : slice_index_or values i X ≡ rule j c (assigned c bits) place =
+        let same : slice_index_or values i X ≡ rule j c (assigned c (λ k. flipped (turns k) (bits k))) place =
         ap (λ k. slice_index_or values k X) (sym (number_back all i essentials_rise (omega (arith, less, long))))
         ∙ value_rule bits in
-        let passes : known_rule (assigned c bits) ≡ true = every_passes j c place known_rule
-        (λ f g agree. ap (λ v. not (is_unknown v)) (rule_reads j c f g place agree)) never bits in
+        let passes : known_rule (assigned c (λ k. flipped (turns k) (bits k))) ≡ true = every_passes j c place known_rule
+        (λ f g agree. ap (λ v. not (is_unknown v)) (rule_reads j c f g place agree)) never
+        (λ k. flipped (turns k) (bits k)) in
         ap is_unknown same ∙ flip_false _ passes))
 
     none_never : list_any is_unknown values ≡ false → is_never_unknown j c place ≡ true
     unfolding known_rule
     none_never none = passes_every j c place known_rule (λ bits.
         (let all = essentials j c place in
-        let small = mask_small all bits in
-        let known : is_unknown (slice_index_or values (mask_of all bits) X) ≡ false =
-        any_none is_unknown X values (mask_of all bits) none (omega (arith, small, long)) in
-        ap (λ v. not (is_unknown v)) (sym (value_rule bits)) ∙ ap not known))
+        let own : ℕ → Bool = λ k. flipped (turns k) (bits k) in
+        let small = mask_small all own in
+        let known : is_unknown (slice_index_or values (mask_of all own) X) ≡ false =
+        any_none is_unknown X values (mask_of all own) none (omega (arith, small, long)) in
+        ap (λ v. not (is_unknown v)) (sym (rule_value bits)) ∙ ap not known))
 
     -- The table has x exactly where the rule gives it for some assignment.
     pub values_born : list_any is_unknown values ≡ not (is_never_unknown j c place)
@@ -169,12 +190,10 @@ born_on carried never is = rw is refl
 
 -- A node's body is that of a source exactly where its place is one.
 pub body_born : (j : Job) → Fits j → (c : ℕ → Value) (places : List ℕ) (place position : ℕ) (body : Body)
-    → place < places_of j → StandsAt position body → IsBody j c places place (body_of body)
+    → place < places_of j → StandsAt position body → IsBodyOver j c places place (body_of body)
     → is_source_body body ≡ reads_filling j c place
 body_born j fits c places place position (Carried node inverted) within stands is =
     sym (born_off (is_carried (class_of j c place)) (is_never_unknown j c place) (ap is_carried is.class))
 body_born j fits c places place position (Rule arguments values) within stands is =
-    let count : length arguments ≡ length (essentials j c place) =
-    sym (length-map arguments (slice_index places)) ∙ ap length is.are_essential in
-    values_born j fits c place within values (stands.long ∙ ap (λ n. 2 ^ n) count) is.are_values
+    values_born j fits c place within values is.turns (stands.long ∙ ap (λ n. 2 ^ n) is.long) is.are_values
     ∙ sym (born_on (is_carried (class_of j c place)) (is_never_unknown j c place) is.free)

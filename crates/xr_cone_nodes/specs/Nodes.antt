@@ -2,7 +2,6 @@
 use Rattle.std.specs.Prelude.{◌≡◌, ℕ, zero, suc, ◌+◌, ◌-◌, ◌<◌, ◌≤◌, ◌^◌, ◌==◌, ◌&&◌, Bool, false, List, [], ◌∷◌, ◌++◌, filter, length, map, slice_index_or, take, if◌then◌else◌}
 use Rattle.std.specs.Int as int
 use Rattle.std.specs.List.{AllByRecursion, list_any}
-use Rattle.std.specs.List.Sorted.{IsStrictlyIncreasing}
 use Rattle.xr_cell.specs.declared.value.Value.{Value}
 use Rattle.xr_cell.specs.declared.value.Value.TheVariants.{X}
 use Rattle.xr_cell.specs.Value.{is_unknown}
@@ -29,10 +28,9 @@ body_of (Rule arguments values) = ruled arguments values
 abbrev pub body_at : List Node → ℕ → NodeBody
 body_at nodes position = body_of (node_at nodes position).body
 
--- At most 13 arguments at positions that ascend, all below a position, and a value for each of their bits.
+-- At most 13 arguments at positions below a position, and a value for each of their bits.
 pub record IsTable (position : ℕ) (arguments : List ℕ) (values : List Value) : Type 0 where
   pub few : length arguments ≤ 13
-  pub ascending : IsStrictlyIncreasing arguments
   pub before : AllByRecursion (λ argument. argument < position) arguments
   pub long : length values ≡ 2 ^ length arguments
 

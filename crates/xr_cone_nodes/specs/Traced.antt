@@ -1,13 +1,22 @@
 -- When nodes are the cone of a place of a wave, and what their bits then are.
-use Rattle.std.specs.Prelude.{◌≡◌, ℕ, ◌<◌, ◌≤◌, ◌^◌, Bool, false, List, length, map, slice_index}
+use Rattle.std.specs.Prelude.{◌≡◌, ℕ, ◌+◌, ◌<◌, ◌≤◌, ◌^◌, Bool, true, false, List, length, map, slice_index, slice_index_or}
+use Rattle.std.specs.List.{AllByRecursion}
+use Rattle.xr_cell.specs.declared.value.Value.{Value}
+use Rattle.xr_cell.specs.declared.value.Value.TheVariants.{X}
 use Rattle.xr_design.specs.declared.place.Place.{Place}
 use Rattle.xr_design.specs.Filling.{IsFilling}
 use Rattle.xr_design.specs.Fits.{place_at}
+use Rattle.xr_design.specs.Job.{Job}
 use Rattle.xr_design.specs.Waveform.{certain}
-use Rattle.xr_model.specs.Cone.{cone, denied_value, is_carried, sources}
+use Rattle.xr_model.specs.Class.{class_of, flipped}
+use Rattle.xr_model.specs.Cone.{cone, denied_value, essentials, in_cone, is_carried, sources, table}
+use Rattle.xr_model.specs.Mask.{mask_of}
+use Rattle.xr_model.specs.Places.{places_where}
+use Rattle.xr_model.specs.Query.{is_variable}
+use Rattle.xr_model.specs.Root.{Root, root_of}
 use Rattle.xr_model.specs.Laws.{InReach, world_over}
 use Rattle.xr_model.specs.Line.{IsEnumerated, IsOfSources}
-use Rattle.xr_model.specs.Node.{IsBody}
+use Rattle.xr_model.specs.Node.{HasCarrier, IsBody, NodeBody, carried, ruled}
 use Rattle.xr_wave.specs.Contents.{Contents, IsWave, class_in, job, next_number}
 use Rattle.xr_cone_nodes.specs.declared.node.Node.{Node}
 use Rattle.xr_cone_nodes.specs.Nodes.{AreNodes, body_at, by_sources, chosen, is_listed, nothing, number_bits, place_of_node, root_bit, source_at, sources_of}
@@ -24,9 +33,9 @@ sources_in c root = sources (job c) (certain c.written) root
 abbrev pub world_in : Contents → List Place → ℕ → Bool
 world_in c filling = world_over (job c) c.written filling
 
--- Nodes are the cone of a place of a wave that is written, or of the next one, and isn't carried: they are its places,
--- each with the body that its class and its rule say.
-pub record IsConeOf (c : Contents) (root : ℕ) (nodes : List Node) : Type 0 where
+-- Nodes are the whole cone of a place of a wave that is written, or of the next one, and isn't carried: they are its
+-- places, each with the body that its class and its rule say.
+pub record IsWholeCone (c : Contents) (root : ℕ) (nodes : List Node) : Type 0 where
   pub wave : IsWave c
   pub are_nodes : AreNodes nodes
   pub reach : InReach (job c) c.written root
@@ -36,9 +45,57 @@ pub record IsConeOf (c : Contents) (root : ℕ) (nodes : List Node) : Type 0 whe
       → IsBody (job c) (certain c.written) (cone_in c root) (slice_index (cone_in c root) position)
       (body_at nodes position)
 
+-- A root, or its complement.
+abbrev pub turned_root : Bool → Root → Root
+turned_root turned root = record { place = root.place; inverted = flipped turned root.inverted }
+
+-- The arguments of a node are places with the roots of the essential arguments of its place, in their order, each as it
+-- is or inverted. The value at number i is the rule's where the essential argument k has bit k of i, or its complement
+-- where argument k is inverted.
+pub record IsRuledOver (j : Job) (certain : ℕ → Value) (places : List ℕ) (place : ℕ) (arguments : List ℕ)
+    (values : List Value) : Type 0 where
+  pub free : is_carried (class_of j certain place) ≡ false
+  pub within : AllByRecursion (λ argument. argument < length places) arguments
+  pub turns : ℕ → Bool
+  pub long : length arguments ≡ length (essentials j certain place)
+  pub roots : (k : ℕ) → k < length arguments
+      → root_of j certain (slice_index (essentials j certain place) k)
+      ≡ turned_root (turns (slice_index (essentials j certain place) k))
+      (root_of j certain (slice_index places (slice_index arguments k)))
+  pub are_values : (bits : ℕ → Bool)
+      → slice_index_or values (mask_of (essentials j certain place) bits) X
+      ≡ table j certain place (λ k. flipped (turns k) (bits k))
+
+abbrev pub IsBodyOver : Job → (ℕ → Value) → List ℕ → ℕ → NodeBody → Type 0
+IsBodyOver j certain places place (carried node inverted) = HasCarrier j certain places place node inverted
+IsBodyOver j certain places place (ruled arguments values) = IsRuledOver j certain places place arguments values
+
+-- The places at which there is a node, of those up to a root.
+abbrev pub kept_places : (ℕ → Bool) → ℕ → List ℕ
+kept_places kept root = places_where kept (root + 1)
+
+-- Nodes are a cone of a place of a wave that is written, or of the next one, and isn't carried: places of its cone, of
+-- which only carried ones may be left out. So these read nodes at the roots of what they rest on.
+pub record IsConeOf (c : Contents) (root : ℕ) (nodes : List Node) : Type 0 where
+  pub wave : IsWave c
+  pub are_nodes : AreNodes nodes
+  pub reach : InReach (job c) c.written root
+  pub free : is_carried (class_in c root) ≡ false
+  pub kept : ℕ → Bool
+  pub inside : (place : ℕ) → kept place ≡ true → in_cone (job c) (certain c.written) root place ≡ true
+  pub variables : (place : ℕ) → is_variable (job c) (certain c.written) root place ≡ true → kept place ≡ true
+  pub places : map place_of_node nodes ≡ map (place_at (job c)) (kept_places kept root)
+  pub bodies : (position : ℕ) → position < length nodes
+      → IsBodyOver (job c) (certain c.written) (kept_places kept root) (slice_index (kept_places kept root) position)
+      (body_at nodes position)
+
 -- They are the cone of the next place.
 abbrev pub IsNextCone : Contents → List Node → Type 0
 IsNextCone c nodes = IsConeOf c (next_number c) nodes
+
+-- The whole cone is one.
+abbrev pub WholeLaw : Type 0
+WholeLaw = (c : Contents) (root : ℕ) (nodes : List Node) → IsWholeCone c root nodes → IsConeOf c root nodes
 
 -- The sources of the nodes are those of the cone.
 abbrev pub SourcesLaw : Type 0

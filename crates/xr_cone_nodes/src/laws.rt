@@ -22,3 +22,8 @@ pub fn fillings_make_bits()
 pub fn numbers_make_fillings()
     ensures { spec.EnumeratedLaw }
 {}
+
+/// The nodes of a whole cone are a cone.
+pub fn whole_cones_are_cones()
+    ensures { spec.WholeLaw }
+{}

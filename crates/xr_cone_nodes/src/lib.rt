@@ -19,6 +19,7 @@ pub use cone_lanes::ConeLanes;
 pub use lane_bits::LaneBits;
 pub use laws::{
     bits_make_fillings, fillings_make_bits, numbers_make_fillings, sources_are_of_the_cone,
+    whole_cones_are_cones,
 };
 pub use node::{Node, NodeBody};
 pub use positions::Positions;

@@ -17,8 +17,8 @@ pub enum NodeBody {
         node: u32,
         inverted: bool,
     },
-    /// Its rule reads the nodes at these positions, its essential arguments in place order. Value i of the table is the
-    /// rule's where bit k of i is the bit of argument k.
+    /// Its rule reads the nodes at these positions, one for each essential argument in place order: the argument's, or
+    /// one with the same root. Value i of the table is the rule's where bit k of i is the bit of node k.
     Rule {
         arguments: Positions,
         values: Values,

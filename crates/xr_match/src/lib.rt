@@ -19,5 +19,6 @@ pub use binder::bind;
 pub use binding::{Binding, Bound};
 pub use bound_bits::{BoundBit, BoundBits};
 pub use laws::{bits_are_there, bits_stand_in_order, one_stimulus};
+pub use naming::{Names, put_text};
 pub use refusal::BindErr;
 pub use stimulus::stim_of;

@@ -102,7 +102,7 @@ sources_local j fits c d root within agree =
     (λ k less. both_same _ _ _ _ (ap (λ cone. cone k) (in_cone_local j fits c d root within agree))
     (born_same j fits c d k (omega arith) (λ i low. agree i (omega arith))))
 
-variables_local : (j : Job) → Fits j → (c d : ℕ → Value) (root : ℕ) → root < places_of j → AgreeBelow c d root
+pub variables_local : (j : Job) → Fits j → (c d : ℕ → Value) (root : ℕ) → root < places_of j → AgreeBelow c d root
     → variables j c root ≡ variables j d root
 unfolding variables
 variables_local j fits c d root within agree =

@@ -76,7 +76,7 @@ places_same : (p q : ℕ → Bool) (n : ℕ) → ((k : ℕ) → p k ≡ q k) →
 places_same p q zero same = refl
 places_same p q (suc n) same = rw (same n, places_same p q n same) refl
 
-sources_carried : (j : Job) → Fits j → (c : ℕ → Value) (place from : ℕ) (inverted : Bool) → place < places_of j
+pub sources_carried : (j : Job) → Fits j → (c : ℕ → Value) (place from : ℕ) (inverted : Bool) → place < places_of j
     → class_of j c place ≡ Carried from inverted → sources j c place ≡ sources j c from
 sources_carried j fits c place from inverted within is =
     let less = carried_below j fits c place from inverted within is in

@@ -1,4 +1,5 @@
--- Lemmas of xr_out: bits side by side, texts that grow line by line, and steps within a history.
+-- Lemmas of xr_out: bits side by side, texts that grow line by line, steps within a history, and histories of one text.
 pub mod Flat
 pub mod Grown
+pub mod OneText
 pub mod Places

@@ -2,6 +2,7 @@
 pub mod Code
 pub mod Declarations
 pub mod Flat
+pub mod Laws
 pub mod Lines
 pub mod Moments
 pub mod Steps

@@ -5,8 +5,10 @@
 mod bits;
 mod code;
 mod declarations;
+mod laws;
 mod moments;
 mod puts;
 mod text;
 
+pub use laws::texts_are_one;
 pub use text::vcd_text;

@@ -2,9 +2,7 @@
 use Rattle.std.proofs.Common.{◌≡◌, ◌≤◌, ◌+◌, ◌∷◌, [], Bool, true, false, Option, Some, None, IfOk, IfErr, if◌then◌else◌, length, length-append, refl, sym, ap, ◌∙◌, arith, subst}
 use Rattle.std.specs.Prelude.{Result, Ok, Err, is_some, nat_lt}
 use Rattle.std.proofs.lemmas.Bool.{lt-ltb}
-use Rattle.xr_cone.specs.Known.{IsRightOf, TracerView}
-use Rattle.xr_cone.proofs.KnownBodies.{known_grows}
-use Rattle.xr_design.specs.Fits.{Fits}
+use Rattle.xr_cone.proofs.GrownCones.{cones_go, cones_grow}
 use Rattle.xr_design.specs.Job.{Job, job_of, places_of}
 use Rattle.xr_design.specs.Waveform.{certain}
 use Rattle.xr_model.specs.Class.{class_of}
@@ -24,6 +22,8 @@ use Rattle.xr_along.proofs.Fitted.{along}
 use Rattle.xr_repair.proofs.Objecting.{job_along, refused_along, same_job}
 use Rattle.xr_repair.specs.Repaired.{IsOfJob, IsOnlyOne}
 use Rattle.xr_repair.specs.Step.{IsFurther, IsNextOf, RefusedStep}
+use Rattle.xr_repair.specs.Walk.{AreRightOf}
+use Rattle.xr_repair.specs.declared.aids.Aids.{Aids}
 use Rattle.xr_repair.specs.declared.refusal.RepairErr.{RepairErr}
 
 -- The job of a wave stays.
@@ -45,14 +45,6 @@ goes_long (more {c = c} goes plain agrees) =
     let up = goes_long goes in
     let long = length-append c.written (plain_written c ∷ []) in
     omega (arith, up, long)
-
--- What a tracer knows stays right of it.
-pub goes_right : {a b : Contents} → GoesOn a b → (tracer : TracerView) → Fits (job a) → IsRightOf a tracer
-    → IsRightOf b tracer
-goes_right stays tracer fits right = right
-goes_right {a} (more {c = c} goes plain agrees) tracer fits right =
-    known_grows c (with_written c (plain_written c)) tracer (plain_written c)
-    (subst Fits (sym (job_stays a c (goes_same goes))) fits) refl refl (goes_right goes tracer fits right)
 
 -- Where a wave has stopped and there is a next place, that is a Line place.
 line_by : (j : Job) (found : Option ClassByNumber) → is_some found ≡ true → (IsPlain (class_or_done j found) → ⊥)
@@ -95,12 +87,12 @@ only_one c wave finished = record {
       record { mark = same.mark; certain_value = same.certain_value });
 }
 
--- What a tracer knows is right of the next wave too.
-pub right_next : (a : Contents) (tracer : TracerView) (result : Result Contents RepairErr) → IsWave a
-    → IsRightOf a tracer → IfOk result (IsNextOf a) → IfOk result (λ b. IsRightOf b tracer)
-right_next a tracer (Ok b) wave right next =
-    known_grows a b tracer next.written wave.fits.fits_job (job_stays a b next.same) next.is right
-right_next a tracer (Err e) wave right next = tt
+-- What helps is right of the next wave too.
+pub right_next : (a : Contents) (aids : Aids) (result : Result Contents RepairErr) → IsWave a → AreRightOf a aids
+    → IfOk result (IsNextOf a) → IfOk result (λ b. AreRightOf b aids)
+right_next a aids (Ok b) wave right next =
+    cones_grow a b aids.cones next.written wave (job_stays a b next.same) next.is right
+right_next a aids (Err e) wave right next = tt
 
 -- A place is written and then those up to the next Line place.
 pub next_further : (a b : Contents) (result : Result Contents RepairErr) → IsNextOf a b → IfOk result (IsAdvanced b)
@@ -115,11 +107,10 @@ next_further a b (Ok c) next advanced =
     }
 next_further a b (Err e) next advanced = tt
 
-pub right_advanced : (a b : Contents) (tracer : TracerView) (result : Result Contents RepairErr) → Fits (job a) → IsNextOf a b
-    → IsRightOf b tracer → IfOk result (IsAdvanced b) → IfOk result (λ c. IsRightOf c tracer)
-right_advanced a b tracer (Ok c) fits next right advanced =
-    goes_right advanced.goes tracer (subst Fits (sym (job_stays a b next.same)) fits) right
-right_advanced a b tracer (Err e) fits next right advanced = tt
+pub right_advanced : (b : Contents) (aids : Aids) (result : Result Contents RepairErr) → IsWave b → AreRightOf b aids
+    → IfOk result (IsAdvanced b) → IfOk result (λ c. AreRightOf c aids)
+right_advanced b aids (Ok c) wave right advanced = cones_go advanced.goes aids.cones wave right
+right_advanced b aids (Err e) wave right advanced = tt
 
 pub refused_further : (a b : Contents) (result : Result Contents RepairErr) → IsOfJob a b → IfErr result (RefusedStep b)
     → IfErr result (RefusedStep a)

@@ -1,45 +1,57 @@
-//! What the next place, a Line place, has under all fillings of its cone's sources.
+//! What the next place, a Line place, has under all fillings: by lanes, or else by its cone.
 
 ghost use Rattle.std.specs.Prelude.{◌<◌, ◌≤◌, IfOk, OnOk, length};
 ghost use Rattle.xr_cone_nodes.specs.Traced.{IsNextCone};
-ghost use Rattle.xr_cone.specs.Known.{IsRightOf};
 ghost use Rattle.xr_cone_nodes.specs.Nodes.{sources_of};
+ghost use Rattle.xr_lanes.specs.Lanes.{IsLookedAt};
 ghost use Rattle.xr_repair.specs.Step.{IsShown};
+ghost use Rattle.xr_repair.specs.Walk.{AreRightOf};
 ghost use Rattle.xr_wave.specs.Token.{IsLineNext};
 
-use crate::answers::Answers;
+use crate::aids::Aids;
 use crate::fillings::try_fillings;
 use crate::found::Found;
 use crate::search::search;
 use std::alloc::Global;
 use xr_base::Memory;
-use xr_cone::{Cone, Tracer};
+use xr_cone::Cone;
 use xr_enum::{Decided, decide};
 use xr_wave::Wave;
 
 /// Up to this many sources, every filling of them is tried.
 const ENUMERATED: usize = 12;
 
-/// What is shown of the next place.
+/// What is shown of the next place: by two lanes that differ there, or else by its cone.
 #[tactic(auto, using(crate::proofs::Searching::pair_accepted))]
-pub fn find(
-    alloc: Global,
-    wave: &Wave<'_>,
-    tracer: &mut Tracer,
-    answers: &mut Answers,
-) -> Result<Found, Memory>
+pub fn find(alloc: Global, wave: &Wave<'_>, aids: &mut Aids) -> Result<Found, Memory>
     requires class { IsLineNext wave.now }
-    requires right { IsRightOf wave.now tracer.old }
+    requires right { AreRightOf wave.now aids.old }
     ensures shown { IfOk result (IsShown wave.now) }
-    ensures right { OnOk result (IsRightOf wave.now tracer.new) }
+    ensures right { OnOk result (AreRightOf wave.now aids.new) }
 {
-    let cone = tracer.trace(alloc, wave)?;
+    aids.cones.lanes.look(alloc, wave)?;
+    match aids.cones.lanes.find(alloc, wave)? {
+        Some(pair) => Ok(Found::Pair(pair)),
+        None => find_by_cone(alloc, wave, aids),
+    }
+}
+
+/// The same by its cone.
+#[tactic(auto, using(crate::proofs::Searching::pair_accepted))]
+fn find_by_cone(alloc: Global, wave: &Wave<'_>, aids: &mut Aids) -> Result<Found, Memory>
+    requires class { IsLineNext wave.now }
+    requires right { AreRightOf wave.now aids.old }
+    requires looked { IsLookedAt wave.now aids.old.cones.lanes }
+    ensures shown { IfOk result (IsShown wave.now) }
+    ensures right { OnOk result (AreRightOf wave.now aids.new) }
+{
+    let cone = aids.cones.cone(alloc, wave)?;
     if cone.sources().len() <= ENUMERATED {
         return enumerate(alloc, wave, &cone);
     }
     match try_fillings(alloc, wave, &cone)? {
         Some(pair) => Ok(Found::Pair(pair)),
-        None => search(alloc, wave, answers, &cone),
+        None => search(alloc, wave, &mut aids.answers, &cone),
     }
 }
 

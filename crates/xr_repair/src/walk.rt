@@ -1,29 +1,33 @@
-//! The walk over the places.
+//! The walk over the places, in pieces.
 
-ghost use Rattle.std.specs.Prelude.{◌≡◌, ℕ, ◌<◌, IfOk, IfErr};
-ghost use Rattle.xr_cone.specs.Known.{IsRightOf};
+ghost use Rattle.std.specs.Prelude.{◌≡◌, ℕ, ◌<◌, ◌≤◌, ◌==◌, ◌⊎◌, IfOk, IfErr, IsFalse, IsTrue, length};
 ghost use Rattle.xr_design.specs.Circuit.{PartsFit};
 ghost use Rattle.xr_design.specs.Handed.{IsHandedIn};
 ghost use Rattle.xr_design.specs.Job.{job_of};
 ghost use Rattle.xr_repair.specs.Repaired.{IsOfJob, IsOnlyOne};
-ghost use Rattle.xr_wave.specs.Contents.{IsFinished, IsLimit, IsWave, nothing_written};
 ghost use Rattle.xr_repair.specs.Step.{IsFurther, IsNextOf, RefusedStep};
+ghost use Rattle.xr_repair.specs.Walk.{AreRightOf, HasLessLeft, all_of, count_of, left_of};
 ghost use Rattle.xr_along.specs.Along.{GoesAlong};
 ghost use Rattle.xr_wave.specs.Advance.{IsAdvanced};
+ghost use Rattle.xr_wave.specs.Contents.{IsFinished, IsLimit, IsWave, nothing_written};
 ghost use Rattle.xr_wave.specs.Token.{IsLineNext};
 
-use crate::answers::Answers;
+use crate::aids::Aids;
 use crate::finding::find;
 use crate::refusal::RepairErr;
 use crate::spend::spend;
 use std::alloc::Global;
-use xr_cone::Tracer;
+use std::marker::Model;
+use xr_base::Memory;
 use xr_design::{Design, History, Order, Stim, count_places};
 use xr_wave::Wave;
 
+/// How many Line places `repair` writes at a time.
+const PIECE: usize = 1024;
+
 /// A finished wave of a job: every place written, each with its justification. `limit` is how many clauses the log of a
-/// search may have before its place is marked undecided. Takes a byte a place, the memory of the lines, and up to 64
-/// megabytes for the answers of searches.
+/// search may have before its place is marked undecided. Takes a byte a place, the memory of the lines, that of lanes,
+/// and up to 64 megabytes for the answers of searches.
 pub fn repair<'a>(
     alloc: Global,
     design: &'a Design,
@@ -45,28 +49,140 @@ pub fn repair<'a>(
     ensures refused { let start = nothing_written design.now order.now stim.now replayed.now limit in
         IfErr result (RefusedStep start) }
 {
-    let wave = Wave::new(alloc, design, order, stim, replayed, limit)?;
-    walk(alloc, wave)
+    let mut walk = Walk::new(alloc, design, order, stim, replayed, limit)?;
+    'pieces: while !walk.is_finished() {
+        walk = walk.go_on(alloc, PIECE)?;
+    }
+    Ok(walk.into_wave())
 }
 
-/// Writes every place that is left.
-#[tactic(auto, using(crate::proofs::Objecting::refused_along))]
-fn walk<'a>(alloc: Global, wave: Wave<'a>) -> Result<Wave<'a>, RepairErr>
-    ensures job { IfOk result (IsOfJob wave.entry) }
-    ensures along { IfOk result (GoesAlong wave.entry) }
-    ensures finished { IfOk result IsFinished }
-    ensures sound { IfOk result IsWave }
-    ensures only { IfOk result IsOnlyOne }
-    ensures refused { IfErr result (RefusedStep wave.entry) }
-{
-    let count = count_places(&wave.circuit());
-    let mut tracer = Tracer::new(alloc);
-    let mut answers = Answers::new(alloc);
-    let mut walked = advance(wave)?;
-    'lines: while walked.count() < count {
-        walked = write_next(alloc, walked, &mut tracer, &mut answers)?;
+/// A walk over the places of a job, in place order: the wave so far, and what helps to decide its next places.
+/// Contracts see the wave, and the one that the walk began with.
+#[derive(Drop)]
+pub struct Walk<'a> {
+    wave: Wave<'a>,
+    aids: Aids,
+}
+
+impl<'a> Model for Walk<'a> {
+    ghost use Rattle.xr_repair.specs.Walk.{IsWalk, WalkView, start_of};
+
+    ghost Value = { WalkView };
+
+    ghost view = { λ walk. record { start = start_of walk.wave; wave = walk.wave } };
+
+    ghost invariant = { λ walk. IsWalk walk.wave walk.aids };
+}
+
+impl<'a> Walk<'a> {
+    /// A walk of which nothing is written. Takes the memory of a wave.
+    pub fn new(
+        alloc: Global,
+        design: &'a Design,
+        order: &'a Order,
+        stim: &'a Stim,
+        replayed: &'a History,
+        limit: u32,
+    ) -> Result<Walk<'a>, Memory>
+        requires fits { PartsFit design.now order.now stim.now }
+        requires handed { IsHandedIn (job_of design.now order.now stim.now) replayed.now }
+        requires limit { IsLimit limit }
+        ensures { let start = nothing_written design.now order.now stim.now replayed.now limit in
+            IfOk result (λ walk. walk.start ≡ start) }
+    {
+        let wave = Wave::new(alloc, design, order, stim, replayed, limit)?;
+        let _circuit = wave.circuit();
+        let aids = Aids::new(alloc)?;
+        Ok(Walk { wave, aids })
     }
-    Ok(walked)
+
+    /// Writes up to so many Line places more, and all places up to the next one; or ends where the history knows a
+    /// place otherwise, or for want of memory. Takes the memory of lines, of lanes, and of searches.
+    pub fn go_on(self, alloc: Global, lines: usize) -> Result<Walk<'a>, RepairErr>
+        requires { 0 < lines }
+        ensures start { IfOk result (λ walk. walk.start ≡ self.entry.start) }
+        ensures less { 0 < left_of self.entry → IfOk result (λ walk. left_of walk < left_of self.entry) }
+        ensures refused { IfErr result (RefusedStep self.entry.start) }
+    {
+        let Walk { wave, mut aids } = self;
+        match write_lines(alloc, wave, &mut aids, lines) {
+            Ok(wave) => Ok(Walk { wave, aids }),
+            Err(refusal) => Err(refusal),
+        }
+    }
+
+    /// Whether every place is written. Takes no memory.
+    pub fn is_finished(&self) -> bool
+        ensures { result ≡ (left_of self.now == 0) }
+    {
+        self.all() - self.count() == 0
+    }
+
+    /// How many places are written. Takes no memory.
+    pub fn count(&self) -> usize
+        ensures count { result ≡ count_of self.now }
+        ensures within { count_of self.now ≤ all_of self.now }
+    {
+        self.wave.count()
+    }
+
+    /// How many places the job has. Takes no memory.
+    pub fn all(&self) -> usize
+        ensures { result ≡ all_of self.now }
+    {
+        count_places(&self.wave.circuit())
+    }
+
+    /// The wave of a finished walk. Takes no memory.
+    pub fn into_wave(self) -> Wave<'a>
+        requires { left_of self ≡ 0 }
+        ensures job { IsOfJob self.entry.start result }
+        ensures along { GoesAlong self.entry.start result }
+        ensures finished { IsFinished result }
+        ensures sound { IsWave result }
+        ensures only { IsOnlyOne result }
+    {
+        let Walk { wave, aids: _ } = self;
+        wave
+    }
+}
+
+/// Writes the places up to the next Line place, then up to so many Line places, each with the places after it up to the
+/// next one.
+#[tactic(auto, using(crate::proofs::Objecting::refused_along))]
+fn write_lines<'a>(
+    alloc: Global,
+    wave: Wave<'a>,
+    aids: &mut Aids,
+    lines: usize,
+) -> Result<Wave<'a>, RepairErr>
+    requires some { 0 < lines }
+    requires right { AreRightOf wave aids.old }
+    ensures same { IfOk result (IsOfJob wave.entry) }
+    ensures along { IfOk result (GoesAlong wave.entry) }
+    ensures sound { IfOk result IsWave }
+    ensures right { IfOk result (λ next. AreRightOf next aids.new) }
+    ensures less { IfOk result (HasLessLeft wave.entry) }
+    ensures err { IfErr result (RefusedStep wave.entry) }
+{
+    let all = count_places(&wave.circuit());
+    let mut written = advance(wave)?;
+    let mut left = lines;
+    'lines: while is_open(&written, all, left) {
+        written = write_next(alloc, written, aids)?;
+        left -= 1;
+    }
+    Ok(written)
+}
+
+/// Whether a Line place more is to be written.
+fn is_open(wave: &Wave<'_>, all: usize, left: usize) -> bool
+    ensures more { IsTrue result → (0 < left) × (length wave.now.written < all) }
+    ensures ends { IsFalse result → (left ≡ 0) ⊎ (all ≤ length wave.now.written) }
+    ensures wave { IsWave wave.now }
+{
+    let written = wave.count();
+    left > 0 && written < all
 }
 
 /// Writes the places up to the next Line place, whose classes say what they are.
@@ -82,40 +198,31 @@ fn advance<'a>(wave: Wave<'a>) -> Result<Wave<'a>, RepairErr>
     }
 }
 
-/// Writes the next place, a Line place, and those behind it up to the next one.
-fn write_next<'a>(
-    alloc: Global,
-    wave: Wave<'a>,
-    tracer: &mut Tracer,
-    answers: &mut Answers,
-) -> Result<Wave<'a>, RepairErr>
+/// Writes the next place, a Line place, and those after it up to the next one.
+fn write_next<'a>(alloc: Global, wave: Wave<'a>, aids: &mut Aids) -> Result<Wave<'a>, RepairErr>
     requires sound { IsWave wave }
     requires class { IsLineNext wave }
-    requires right { IsRightOf wave tracer.old }
+    requires right { AreRightOf wave aids.old }
     ensures ok { IfOk result (IsFurther wave.entry) }
     ensures along { IfOk result (GoesAlong wave.entry) }
-    ensures right { IfOk result (λ next. IsRightOf next tracer.new) }
+    ensures right { IfOk result (λ next. AreRightOf next aids.new) }
     ensures err { IfErr result (RefusedStep wave.entry) }
 {
-    let decided = decide_next(alloc, wave, tracer, answers)?;
+    let decided = decide_next(alloc, wave, aids)?;
+    let _circuit = decided.circuit();
     advance(decided)
 }
 
 /// Decides the next place, a Line place, and writes it.
-fn decide_next<'a>(
-    alloc: Global,
-    wave: Wave<'a>,
-    tracer: &mut Tracer,
-    answers: &mut Answers,
-) -> Result<Wave<'a>, RepairErr>
+fn decide_next<'a>(alloc: Global, wave: Wave<'a>, aids: &mut Aids) -> Result<Wave<'a>, RepairErr>
     requires sound { IsWave wave }
     requires class { IsLineNext wave }
-    requires right { IsRightOf wave tracer.old }
+    requires right { AreRightOf wave aids.old }
     ensures ok { IfOk result (IsNextOf wave.entry) }
     ensures along { IfOk result (GoesAlong wave.entry) }
-    ensures right { IfOk result (λ next. IsRightOf next tracer.new) }
+    ensures right { IfOk result (λ next. AreRightOf next aids.new) }
     ensures err { IfErr result (RefusedStep wave.entry) }
 {
-    let found = find(alloc, &wave, tracer, answers)?;
+    let found = find(alloc, &wave, aids)?;
     spend(wave, found)
 }

@@ -48,7 +48,7 @@ has j fits forced step net less within =
     ∙ rw (steps, nets, kept_driven j (replayed j forced) step net (j.driver net)) refl
 
 -- A register that saw no change keeps what it kept.
-later_kept : (j : Job) (values : ℕ → Value) (kept : Value) (step : ℕ) (latching : Latching) → 1 < step → pins_at j values (step - 2) latching.pins ≡ pins_at j values (step - 1) latching.pins → updated j values kept step latching ≡ kept
+pub later_kept : (j : Job) (values : ℕ → Value) (kept : Value) (step : ℕ) (latching : Latching) → 1 < step → pins_at j values (step - 2) latching.pins ≡ pins_at j values (step - 1) latching.pins → updated j values kept step latching ≡ kept
 later_kept j values kept step latching later same =
     let old : old_pins j values step latching.pins ≡ pins_at j values (step - 1) latching.pins = old_later j values step latching.pins later ∙ same in
     rw old (next_idle (primitive_of j.udps latching.udp) latching.clocks (pins_at j values (step - 1) latching.pins) kept)

@@ -19,5 +19,11 @@ mod values;
 mod waiting;
 
 pub use differ::Differ;
+pub use fans::Fans;
+pub use forced::take_events;
+pub use marks::{mark_events, mark_inputs};
 pub use moments::compare;
 pub use steps::replay;
+pub use sweep::mark_readers;
+pub use values::is_same;
+pub use waiting::Waiting;

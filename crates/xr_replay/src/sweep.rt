@@ -105,8 +105,9 @@ fn stays_at(
     is_same(shown, before)
 }
 
-/// The readers of a net become due.
-fn mark_readers(circuit: &Circuit<'_>, fans: &Fans, net: u32, waiting: &mut Waiting)
+/// The copies and cells that read a net become due, and the registers that look back at it one step later. Takes no
+/// memory.
+pub fn mark_readers(circuit: &Circuit<'_>, fans: &Fans, net: u32, waiting: &mut Waiting)
     requires fans { AreFans (job_in circuit.now) fans.now }
     requires net { net < (job_in circuit.now).width }
     requires due_room { HasRoomFor waiting.old.due (job_in circuit.now).width }

@@ -4,3 +4,4 @@ pub mod Counts
 pub mod Finished
 pub mod Head
 pub mod Lines
+pub mod Report

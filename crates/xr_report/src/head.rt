@@ -15,7 +15,7 @@ use xr_wave::Wave;
 ///
 /// Takes the text's bytes, and time linear in the places.
 #[tactic(auto, unfolding(crate::specs::Head::head_lines))]
-pub fn head_lines(alloc: Global, wave: &Wave<'_>, forces: u32) -> Result<Vec<u8>, Memory>
+pub fn head_lines(alloc: Global, wave: &Wave<'_>, forces: usize) -> Result<Vec<u8>, Memory>
     requires { IsFinished wave.now }
     ensures { IfOk result (λ text. text.items ≡ spec.head_lines wave.now forces) }
 {
@@ -50,7 +50,7 @@ fn put_counts(text: &mut Vec<u8>, counts: Counts) -> Result<(), Memory>
 }
 
 // lines = "forces " number " lines " number
-fn put_lines(text: &mut Vec<u8>, forces: u32, lines: usize) -> Result<(), Memory>
+fn put_lines(text: &mut Vec<u8>, forces: usize, lines: usize) -> Result<(), Memory>
     ensures { OnOk result (text.new.items ≡ text.old.items ++ spec.forces_line forces lines) }
 {
     put_count(text, b"forces ", forces as u64)?;

@@ -31,13 +31,15 @@ pub trait Prepare {
     /// Its phases before the first output.
     ghost phases: { Self → Phases Answer Self.Cause };
 
-    /// Goes through them.
-    fn prepare<S: Shelf>(
+    /// Goes through them. The sink is told how far a long one has come, and takes nothing.
+    fn prepare<S: Shelf, O: Sink>(
         &self,
         alloc: Global,
         shelf: &mut S,
+        out: &mut O,
     ) -> Result<Ready<'_>, Refusal<Self::Cause>>
-        ensures { Prepared S.told (phases self.now) answer_of (S.view shelf.old) (S.view shelf.new) result };
+        ensures prepared { Prepared S.told (phases self.now) answer_of (S.view shelf.old) (S.view shelf.new) result }
+        ensures out { O.view out.new ≡ O.view out.old };
 }
 
 /// Runs a command, and answers the exit status.
@@ -51,7 +53,7 @@ pub fn run_command<W: Prepare, S: Shelf, O: Sink>(
         Ran (W.phases words.now) (reporting_of W.Cause.status_of W.Cause.text_of) start (S.view shelf.new)
         (O.view out.new) result }
 {
-    match words.prepare(alloc, shelf) {
+    match words.prepare(alloc, shelf, out) {
         Ok(ready) => deliver_ready(shelf, out, &ready),
         Err(refusal) => refuse(alloc, refusal, out),
     }

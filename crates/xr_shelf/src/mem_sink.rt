@@ -89,4 +89,9 @@ impl Sink for MemSink {
         self.bytes.extend_from_slice(&bytes[..count])?;
         Ok(count)
     }
+
+    /// Shows nothing.
+    fn progress(&mut self, _done: usize, _all: usize)
+        ensures { self.new ≡ self.old }
+    {}
 }

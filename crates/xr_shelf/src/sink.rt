@@ -1,6 +1,6 @@
 //! A sink of bytes, and whole texts printed to it.
 
-ghost use Rattle.std.specs.Prelude.{Bool};
+ghost use Rattle.std.specs.Prelude.{◌≡◌, Bool};
 ghost use Rattle.xr_shelf.specs.Sink.{SinkView, SinkStep};
 ghost use Rattle.xr_shelf.specs.Calls.{PrintAll};
 
@@ -17,6 +17,11 @@ pub trait Sink {
     /// Takes the first of the bytes, and says how many.
     fn write(&mut self, bytes: &[u8]) -> Result<usize, IoErr>
         ensures { SinkStep told (view self.old) (view self.new) bytes.now result };
+
+    /// Is told how far a long run has come: so many steps of all. A sink may show it to a person; what is seen of the sink
+    /// stays as it was.
+    fn progress(&mut self, done: usize, all: usize)
+        ensures { view self.new ≡ view self.old };
 }
 
 /// Prints all the bytes. Takes no memory.

@@ -60,8 +60,9 @@ pub fn is_printable(byte: u8) -> bool
     33 <= byte && byte <= 126
 }
 
+/// A byte of a plain name behind its first: a letter, `_`, a digit or `$`.
 #[inline]
-fn is_name_byte(byte: u8) -> bool
+pub fn is_name_byte(byte: u8) -> bool
     ensures { result ≡ spec.is_name_byte byte }
 {
     is_letter(byte) || is_digit(byte) || byte == b'$'

@@ -9,5 +9,6 @@ mod lexer;
 mod step;
 mod token;
 
+pub use bytes::{is_letter, is_name_byte};
 pub use lexer::Lexer;
 pub use token::{Kind, LexErr, Token};

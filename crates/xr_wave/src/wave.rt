@@ -226,8 +226,8 @@ impl<'a> Wave<'a> {
         self.parts.waveform.count()
     }
 
-    /// What stands at the place of a number.
-    pub(crate) fn written(&self, number: usize) -> Written
+    /// What stands at the place of a number: its value and its mark. Takes no memory.
+    pub fn written(&self, number: usize) -> Written
         requires { number < length self.now.written }
         ensures { result ≡ written_at self.now.written number }
     {

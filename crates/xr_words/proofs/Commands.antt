@@ -5,7 +5,7 @@ use Rattle.std.specs.List.{AllByRecursion, list_any}
 use Rattle.std.specs.Str.{bytes_eq}
 use Rattle.clap.proofs.WalkLemmas.{list_any-map}
 use Rattle.xr_words.specs.declared.forms.Name.{Name}
-use Rattle.xr_words.specs.declared.forms.Name.TheVariants.{Repair}
+use Rattle.xr_words.specs.declared.forms.Name.TheVariants.{Check, Make, Repair, Replay}
 use Rattle.xr_words.specs.declared.line.Line.{Line}
 use Rattle.xr_words.specs.declared.option.Kind.{Kind}
 use Rattle.xr_words.specs.declared.option.Kind.TheVariants as kind
@@ -16,7 +16,7 @@ use Rattle.xr_words.specs.Forms.{PlainKind, Reads as Read, Writes, Prefix, Modul
 
 -- ---- values by the plain kind
 
-abbrev FitsPlain : PlainKind → Text → Type 0
+abbrev pub FitsPlain : PlainKind → Text → Type 0
 FitsPlain Read value = Unit {0}
 FitsPlain Writes value = Unit {0}
 FitsPlain Prefix value = Unit {0}
@@ -27,7 +27,7 @@ FitsPlain (Word words) value = list_any (λ word. bytes_eq word value) words ≡
 FitsPlain (Either one other) value = (value ≡ one) ⊎ (value ≡ other)
 FitsPlain Sets value = AllByRecursion IsSet (pieces_of 44 value)
 
-to_plain : (k : Kind) (value : Text) → Fits k value → FitsPlain (plain_kind k) value
+pub to_plain : (k : Kind) (value : Text) → Fits k value → FitsPlain (plain_kind k) value
 to_plain kind.Reads value h = h
 to_plain kind.Writes value h = h
 to_plain kind.Prefix value h = h
@@ -127,7 +127,7 @@ line_alike a b same has words items files l = record {
 -- ---- the word of a command
 
 names : List Name
-names = Repair ∷ []
+names = Repair ∷ Replay ∷ Check ∷ Make ∷ []
 
 abbrev name_among : List Name → Text → Option Name
 name_among [] word = None
@@ -136,6 +136,9 @@ name_among (name ∷ rest) word = cond (bytes_eq (word_of name) word) (Some name
 found : (name : Name) → name_among names (word_of name) ≡ Some name
 unfolding names
 found Repair = refl
+found Replay = refl
+found Check = refl
+found Make = refl
 
 pub same_name : (a b : Name) → word_of a ≡ word_of b → a ≡ b
 same_name a b same = let both : Some a ≡ Some b = sym (found a) ∙ ap (name_among names) same ∙ found b in cc

@@ -14,4 +14,5 @@ pub mod Settling
 pub mod Apart
 pub mod Meanings
 pub mod OneMeaning
+pub mod ScopeNames
 pub mod Commands

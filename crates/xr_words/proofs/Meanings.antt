@@ -1,11 +1,12 @@
 -- What the words of a command give together, and that it is one.
-use Rattle.std.proofs.Common.{◌≡◌, ◌∙◌, ℕ, ◌<◌, List, ◌∷◌, ◌++◌, length, Option, Some, None, false, codes, refl, sym, ap, subst, arith}
+use Rattle.std.proofs.Common.{◌≡◌, ◌∙◌, ℕ, ◌<◌, List, [], ◌∷◌, ◌++◌, length, Option, Some, None, Bool, true, false, codes, refl, sym, ap, subst, arith}
 use Rattle.std.specs.Str.{bytes_eq}
-use Rattle.xr_words.specs.Forms.{IsCommand, IsNamed, IsNamedOnly, word_of}
-use Rattle.xr_words.specs.Line.{Item, Text, given, words_of_items}
+use Rattle.xr_words.specs.Forms.{IsCommand, IsNamed, IsNamedOnly, has_files, word_of}
+use Rattle.xr_words.specs.Line.{HasFiles, Item, Text, given, words_of_items}
 use Rattle.xr_words.specs.Read.{files_of, value_of}
-use Rattle.xr_words.specs.Words.{AreOutside, GivesJob, GivesRepair, IsCount, IsRepair, IsStart, JobValues, MeansOnly, OfRepair, RepairValues, start_word}
-use Rattle.xr_words.specs.declared.forms.Name.TheVariants.{Repair}
+use Rattle.xr_words.specs.Words.{AreOutside, CheckValues, Gives, GivesCheck, GivesJob, GivesMake, GivesRepair, GivesReplay, IsCount, IsNumberTo, IsStart, JobValues, MakeValues, Means, MeansOnly, OfCheck, OfMake, OfRepair, OfReplay, RepairValues, ReplayValues, Values, name_of, netlists_of, start_word}
+use Rattle.xr_words.specs.declared.forms.Name.{Name}
+use Rattle.xr_words.specs.declared.forms.Name.TheVariants.{Check, Make, Repair, Replay}
 use Rattle.xr_words.specs.declared.line.Line.{Line}
 use Rattle.xr_words.specs.declared.words.Start.{Start}
 use Rattle.xr_words.specs.declared.words.Start.TheVariants.{Cold, Recorded}
@@ -17,20 +18,46 @@ abbrev pub AreAlike : (Text → Option Text) → (Text → Option Text) → Type
 AreAlike option other = (name : Text) → bytes_eq name (codes "FILE") ≡ false → option name ≡ other name
 
 module _ (option other : Text → Option Text) (each : AreAlike option other) where
+  text_by : (name : Text) → bytes_eq name (codes "FILE") ≡ false → (text : Text) → option name ≡ Some text → other name ≡ Some text
+  text_by name free text is = sym (each name free) ∙ is
+
+  conflicts_by : (count : ℕ) → IsCount (option (codes "conflicts")) 1000 100000 count → IsCount (other (codes "conflicts")) 1000 100000 count
+  conflicts_by count is = subst (λ (o : Option Text). IsCount o 1000 100000 count) (each (codes "conflicts") refl) is
+
   job_by : (job : JobValues) → GivesJob option job → GivesJob other job
   job_by job gives = record {
-    recording = sym (each (codes "record") refl) ∙ gives.recording;
-    scope = sym (each (codes "scope") refl) ∙ gives.scope;
-    top = sym (each (codes "top") refl) ∙ gives.top;
+    recording = text_by (codes "record") refl job.recording gives.recording;
+    scope = text_by (codes "scope") refl job.scope gives.scope;
+    top = text_by (codes "top") refl job.top gives.top;
     rounds = subst (λ (o : Option Text). IsCount o 4 16 job.rounds) (each (codes "rounds") refl) gives.rounds;
     start = subst (λ (o : Option Text). IsStart o job.start) (each (codes "start") refl) gives.start;
   }
 
-  pub repair_by : (v : RepairValues) → GivesRepair option v → GivesRepair other v
-  repair_by v gives = record {
+  pub gives_by : (v : Values) → Gives option v → Gives other v
+  gives_by (OfRepair v) gives = record {
     job = job_by v.job gives.job;
-    vcd = sym (each (codes "vcd") refl) ∙ gives.vcd;
-    conflicts = subst (λ (o : Option Text). IsCount o 1000 100000 v.conflicts) (each (codes "conflicts") refl) gives.conflicts;
+    vcd = text_by (codes "vcd") refl v.vcd gives.vcd;
+    code = text_by (codes "code") refl v.code gives.code;
+    cert = text_by (codes "cert") refl v.cert gives.cert;
+    conflicts = conflicts_by v.conflicts gives.conflicts;
+    apart = gives.apart;
+  }
+  gives_by (OfReplay v) gives = record {
+    job = job_by v.job gives.job;
+    code = text_by (codes "code") refl v.code gives.code;
+    vcd = text_by (codes "vcd") refl v.vcd gives.vcd;
+    apart = gives.apart;
+  }
+  gives_by (OfCheck v) gives = record {
+    job = job_by v.job gives.job;
+    cert = text_by (codes "cert") refl v.cert gives.cert;
+    conflicts = conflicts_by v.conflicts gives.conflicts;
+  }
+  gives_by (OfMake v) gives = record {
+    number = subst (λ (o : Option Text). IsNumberTo o 18446744073709551615 v.number) (each (codes "number") refl) gives.number;
+    gates = subst (λ (o : Option Text). IsNumberTo o 100000 v.gates) (each (codes "gates") refl) gives.gates;
+    netlist = text_by (codes "netlist") refl v.netlist gives.netlist;
+    recording = text_by (codes "record") refl v.recording gives.recording;
     apart = gives.apart;
   }
 
@@ -65,49 +92,134 @@ one_job option a b first second netlists =
     let start = one_start (option (codes "start")) a.start b.start first.start second.start in
     λ i. record { recording = recording i; scope = scope i; top = top i; rounds = rounds i; start = start i; netlists = netlists i }
 
-pub one_repair : (option : Text → Option Text) (a b : RepairValues) → GivesRepair option a → GivesRepair option b → a.job.netlists ≡ b.job.netlists → a ≡ b
+one_repair : (option : Text → Option Text) (a b : RepairValues) → GivesRepair option a → GivesRepair option b → a.job.netlists ≡ b.job.netlists → a ≡ b
 one_repair option a b first second netlists =
     let job = one_job option a.job b.job first.job second.job netlists in
     let vcd = some_same a.vcd b.vcd (option (codes "vcd")) first.vcd second.vcd in
+    let code = some_same a.code b.code (option (codes "code")) first.code second.code in
+    let cert = some_same a.cert b.cert (option (codes "cert")) first.cert second.cert in
     let conflicts = one_count (option (codes "conflicts")) 1000 100000 a.conflicts b.conflicts first.conflicts second.conflicts in
-    λ i. record { job = job i; vcd = vcd i; conflicts = conflicts i }
+    λ i. record { job = job i; vcd = vcd i; code = code i; cert = cert i; conflicts = conflicts i }
 
--- ---- lines of `repair`
+one_replay : (option : Text → Option Text) (a b : ReplayValues) → GivesReplay option a → GivesReplay option b → a.job.netlists ≡ b.job.netlists → a ≡ b
+one_replay option a b first second netlists =
+    let job = one_job option a.job b.job first.job second.job netlists in
+    let code = some_same a.code b.code (option (codes "code")) first.code second.code in
+    let vcd = some_same a.vcd b.vcd (option (codes "vcd")) first.vcd second.vcd in
+    λ i. record { job = job i; code = code i; vcd = vcd i }
 
-module _ (words : List Text) (line : Line) (is : IsNamed words Repair line) where
-  -- The FILEs stand last, and there are some.
+one_check : (option : Text → Option Text) (a b : CheckValues) → GivesCheck option a → GivesCheck option b → a.job.netlists ≡ b.job.netlists → a ≡ b
+one_check option a b first second netlists =
+    let job = one_job option a.job b.job first.job second.job netlists in
+    let cert = some_same a.cert b.cert (option (codes "cert")) first.cert second.cert in
+    let conflicts = one_count (option (codes "conflicts")) 1000 100000 a.conflicts b.conflicts first.conflicts second.conflicts in
+    λ i. record { job = job i; cert = cert i; conflicts = conflicts i }
+
+one_number : (o : Option Text) (most m n : ℕ) → IsNumberTo o most m → IsNumberTo o most n → m ≡ n
+one_number None most m n first second = absurd first
+one_number (Some text) most m n first second = first.0.value ∙ sym second.0.value
+
+one_make : (option : Text → Option Text) (a b : MakeValues) → GivesMake option a → GivesMake option b → a ≡ b
+one_make option a b first second =
+    let number = one_number (option (codes "number")) 18446744073709551615 a.number b.number first.number second.number in
+    let gates = one_number (option (codes "gates")) 100000 a.gates b.gates first.gates second.gates in
+    let netlist = some_same a.netlist b.netlist (option (codes "netlist")) first.netlist second.netlist in
+    let recording = some_same a.recording b.recording (option (codes "record")) first.recording second.recording in
+    λ i. record { number = number i; gates = gates i; netlist = netlist i; recording = recording i }
+
+-- ---- values of one command
+
+abbrev pub ValuesOf : Name → Type 0
+ValuesOf Repair = RepairValues
+ValuesOf Replay = ReplayValues
+ValuesOf Check = CheckValues
+ValuesOf Make = MakeValues
+
+abbrev pub of : (name : Name) → ValuesOf name → Values
+of Repair v = OfRepair v
+of Replay v = OfReplay v
+of Check v = OfCheck v
+of Make v = OfMake v
+
+-- Values are those of a command.
+pub record AreOf (name : Name) (v : Values) : Type 0 where
+  pub own : ValuesOf name
+  pub is : v ≡ of name own
+
+their_own : (v : Values) → AreOf (name_of v) v
+their_own (OfRepair v) = record { own = v; is = refl }
+their_own (OfReplay v) = record { own = v; is = refl }
+their_own (OfCheck v) = record { own = v; is = refl }
+their_own (OfMake v) = record { own = v; is = refl }
+
+pub are_of : (name : Name) (v : Values) → name_of v ≡ name → AreOf name v
+are_of name v is = subst (λ (n : Name). AreOf n v) is (their_own v)
+
+one_own : (name : Name) (option : Text → Option Text) (a b : ValuesOf name) → Gives option (of name a) → Gives option (of name b) → netlists_of (of name a) ≡ netlists_of (of name b) → of name a ≡ of name b
+one_own Repair option a b first second netlists = ap OfRepair (one_repair option a b first second netlists)
+one_own Replay option a b first second netlists = ap OfReplay (one_replay option a b first second netlists)
+one_own Check option a b first second netlists = ap OfCheck (one_check option a b first second netlists)
+one_own Make option a b first second netlists = ap OfMake (one_make option a b first second)
+
+pub one_values : (option : Text → Option Text) (a b : Values) → name_of b ≡ name_of a → Gives option a → Gives option b → netlists_of a ≡ netlists_of b → a ≡ b
+one_values option a b name first second netlists =
+    let one = their_own a in
+    let other = are_of (name_of a) b name in
+    one.is
+    ∙ one_own (name_of a) option one.own other.own (subst (Gives option) one.is first) (subst (Gives option) other.is second)
+    (sym (ap (λ (v : Values). netlists_of v) one.is) ∙ netlists ∙ ap (λ (v : Values). netlists_of v) other.is)
+    ∙ sym other.is
+
+-- ---- lines of a command
+
+module _ (words : List Text) (name : Name) (line : Line) (is : IsNamed words name line) where
+  -- The FILEs stand last.
   pub files_last : (before : List Text) × (words ≡ before ++ files_of line)
-  files_last = (word_of Repair ∷ words_of_items is.items, is.is.is ∙ ap (λ (rest : List Text). word_of Repair ∷ rest) is.is.line.is)
+  files_last = (word_of name ∷ words_of_items is.items, is.is.is ∙ ap (λ (rest : List Text). word_of name ∷ rest) is.is.line.is)
 
-  pub some_files : 0 < length (files_of line)
-  some_files = is.is.line.some
+  -- There are some where the command has them,
+  pub some_files : has_files name ≡ true → 0 < length (files_of line)
+  some_files has = subst (λ (b : Bool). HasFiles b (files_of line)) has is.is.line.some
+
+  -- and none where it hasn't.
+  pub no_files : has_files name ≡ false → files_of line ≡ []
+  no_files lacks = subst (λ (b : Bool). HasFiles b (files_of line)) lacks is.is.line.some
 
   -- Words with these values are in the set.
-  pub repair_means : (v : RepairValues) → v.job.netlists ≡ files_of line → GivesRepair (value_of line) v → IsRepair words v
-  repair_means v files gives = record {
+  pub means : (own : ValuesOf name) → name_of (of name own) ≡ name → netlists_of (of name own) ≡ files_of line → Gives (value_of line) (of name own) → Means words (of name own)
+  means own named files gives = record {
     items = is.items;
-    is = subst (λ (f : List Text). IsCommand Repair words is.items f) (sym files) is.is;
-    gives = repair_by (value_of line) (given is.items) is.each v gives;
+    is = subst (λ (n : Name). IsCommand n words is.items (netlists_of (of name own))) (sym named) (subst (λ (f : List Text). IsCommand name words is.items f) (sym files) is.is);
+    gives = gives_by (value_of line) (given is.items) is.each (of name own) gives;
   }
 
-module _ (words : List Text) (line : Line) (only : IsNamedOnly words Repair line) (v : RepairValues) (r : IsRepair words v) where
-  -- What words of the set mean, their options give.
-  pub repair_files : v.job.netlists ≡ files_of line
-  repair_files = only.files_are Repair r.items v.job.netlists r.is
+module _ (words : List Text) (name : Name) (line : Line) (only : IsNamedOnly words name line) (v : Values) (m : Means words v) where
+  -- What words of the set mean is of this command, and its options give it.
+  is_of : AreOf name v
+  is_of = are_of name v (only.name_is (name_of v) m.items (netlists_of v) m.is)
 
-  pub repair_gives : GivesRepair (value_of line) v
-  repair_gives = repair_by (given r.items) (value_of line) (only.each Repair r.items v.job.netlists r.is) v r.gives
+  files_are : netlists_of v ≡ files_of line
+  files_are = only.files_are (name_of v) m.items (netlists_of v) m.is
+
+  are_given : Gives (value_of line) v
+  are_given = gives_by (given m.items) (value_of line) (only.each (name_of v) m.items (netlists_of v) m.is) v m.gives
 
 -- They mean nothing else.
-pub repair_only : (words : List Text) (line : Line) → IsNamedOnly words Repair line → (v : RepairValues) → v.job.netlists ≡ files_of line → GivesRepair (value_of line) v → MeansOnly words (OfRepair v)
-repair_only words line only v files gives (OfRepair other) r =
-    ap OfRepair (one_repair (value_of line) other v (repair_gives words line only other r) gives (repair_files words line only other r ∙ sym files))
+pub means_only : (words : List Text) (name : Name) (line : Line) → IsNamedOnly words name line → (own : ValuesOf name) → netlists_of (of name own) ≡ files_of line → Gives (value_of line) (of name own) → MeansOnly words (of name own)
+means_only words name line only own files gives other m =
+    let theirs = is_of words name line only other m in
+    theirs.is
+    ∙ one_own name (value_of line) theirs.own own (subst (Gives (value_of line)) theirs.is (are_given words name line only other m)) gives
+    (sym (ap (λ (v : Values). netlists_of v) theirs.is) ∙ files_are words name line only other m ∙ sym files)
 
 -- Where the options give no values, the words are outside of the set.
-pub repair_none : (words : List Text) (line : Line) → IsNamedOnly words Repair line
-    → ((v : RepairValues) → v.job.netlists ≡ files_of line → GivesRepair (value_of line) v → ⊥) → AreOutside words
-repair_none words line only none (OfRepair v) r = none v (repair_files words line only v r) (repair_gives words line only v r)
+pub means_none : (words : List Text) (name : Name) (line : Line) → IsNamedOnly words name line
+    → ((own : ValuesOf name) → netlists_of (of name own) ≡ files_of line → Gives (value_of line) (of name own) → ⊥) → AreOutside words
+means_none words name line only none v m =
+    let theirs = is_of words name line only v m in
+    none theirs.own (sym (ap (λ (v : Values). netlists_of v) theirs.is) ∙ files_are words name line only v m)
+    (subst (Gives (value_of line)) theirs.is (are_given words name line only v m))
 
 -- So are words that name no command.
-pub nothing_named : (words : List Text) → ((name : _) (items : List Item) (files : List Text) → IsCommand name words items files → ⊥) → AreOutside words
-nothing_named words none (OfRepair v) r = none Repair r.items v.job.netlists r.is
+pub nothing_named : (words : List Text) → ((name : Name) (items : List Item) (files : List Text) → IsCommand name words items files → ⊥) → AreOutside words
+nothing_named words none v m = none (name_of v) m.items (netlists_of v) m.is

@@ -5,15 +5,15 @@ use Rattle.std.specs.List.{list_all, list_any}
 use Rattle.std.specs.Str.{bytes_eq}
 use Rattle.clap.proofs.WalkLemmas.{list_any-map}
 use Rattle.xr_words.specs.declared.forms.Name.{Name}
-use Rattle.xr_words.specs.declared.forms.Name.TheVariants.{Repair}
+use Rattle.xr_words.specs.declared.forms.Name.TheVariants.{Check, Make, Repair, Replay}
 use Rattle.xr_words.specs.declared.option.Kind.{Kind}
 use Rattle.xr_words.specs.declared.option.Kind.TheVariants as kind
 use Rattle.xr_words.specs.declared.option.Opt.{Opt}
 use Rattle.xr_words.specs.Forms.{IsCommand, Plain, PlainKind, Reads, Writes, Prefix, Module, Scope, Number, Word, Either, Sets, has_files, plain, plain_kind, table_of, word_of}
 use Rattle.xr_words.specs.Line.{IsLine, Item, Text, are_apart, are_options, given, is_kind, is_name}
-use Rattle.xr_words.specs.Words.{Means, MeansOnly, OfRepair, Values}
-use Rattle.xr_words.proofs.Commands.{line_alike}
-use Rattle.xr_words.proofs.Meanings.{AreAlike, one_repair, repair_by}
+use Rattle.xr_words.specs.Words.{Means, MeansOnly, Values, name_of, netlists_of}
+use Rattle.xr_words.proofs.Commands.{line_alike, same_name}
+use Rattle.xr_words.proofs.Meanings.{AreAlike, gives_by, one_values}
 use Rattle.xr_words.proofs.Settling.{many_is}
 use Rattle.xr_words.proofs.Whole.{IsPassed, line_passes}
 
@@ -65,6 +65,9 @@ same_apart (o ∷ os) = ap₂ (λ (a b : Bool). not a && b) (list_any-map (λ (q
 table_in_order : (name : Name) → (all_plain (table_of name) && apart_plain (table_of name)) ≡ true
 unfolding is_plain_kind is_plain_option
 table_in_order Repair = refl
+table_in_order Replay = refl
+table_in_order Check = refl
+table_in_order Make = refl
 
 in_order : (name : Name) (os : List Opt) → map plain os ≡ table_of name → are_options os ≡ true
 in_order name os table =
@@ -73,6 +76,9 @@ in_order name os table =
     ∙ table_in_order name
 
 -- ---- two lines of one command
+
+one_word : (name other : Name) (words rest more : List Text) → words ≡ word_of name ∷ rest → words ≡ word_of other ∷ more → word_of name ≡ word_of other
+one_word name other words rest more first second = let both : word_of name ∷ rest ≡ word_of other ∷ more = sym first ∙ second in cc
 
 one_rest : (name : Name) (words rest more : List Text) → words ≡ word_of name ∷ rest → words ≡ word_of name ∷ more → more ≡ rest
 one_rest name words rest more first second = let both : word_of name ∷ more ≡ word_of name ∷ rest = sym second ∙ first in cc
@@ -100,10 +106,12 @@ module _ (name : Name) (words : List Text) (items others : List Item) (files mor
 -- ---- meanings
 
 pub one_meaning : (words : List Text) (v other : Values) → Means words v → Means words other → other ≡ v
-one_meaning words (OfRepair v) (OfRepair other) first second =
-    let alike = one_given Repair words first.items second.items v.job.netlists other.job.netlists first.is second.is in
-    let files = one_files Repair words first.items second.items v.job.netlists other.job.netlists first.is second.is in
-    ap OfRepair (one_repair (given first.items) other v (repair_by (given second.items) (given first.items) alike other second.gives) first.gives files)
+one_meaning words v other first second =
+    let name = same_name (name_of other) (name_of v) (one_word (name_of other) (name_of v) words second.is.rest first.is.rest second.is.is first.is.is) in
+    let is = subst (λ (n : Name). IsCommand n words second.items (netlists_of other)) name second.is in
+    let alike = one_given (name_of v) words first.items second.items (netlists_of v) (netlists_of other) first.is is in
+    let files = one_files (name_of v) words first.items second.items (netlists_of v) (netlists_of other) first.is is in
+    sym (one_values (given first.items) v other name first.gives (gives_by (given second.items) (given first.items) alike other second.gives) (sym files))
 
 pub means_one : (words : List Text) (v : Values) → Means words v → MeansOnly words v
 means_one words v means = λ other again. one_meaning words v other means again

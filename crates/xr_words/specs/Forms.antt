@@ -2,7 +2,7 @@
 use Rattle.std.specs.Str.{bytes_eq}
 use Rattle.std.specs.Prelude.{◌≡◌, ℕ, Bool, true, false, List, [], ◌∷◌, map, codes}
 use Rattle.xr_words.specs.declared.forms.Name.{Name}
-use Rattle.xr_words.specs.declared.forms.Name.TheVariants.{Repair}
+use Rattle.xr_words.specs.declared.forms.Name.TheVariants.{Check, Make, Repair, Replay}
 use Rattle.xr_words.specs.declared.option.Kind.{Kind}
 use Rattle.xr_words.specs.declared.option.Kind.TheVariants as kind
 use Rattle.xr_words.specs.declared.option.Opt.{Opt}
@@ -63,13 +63,26 @@ start = takes (codes "start") (Either (codes "cold") (codes "recorded"))
 -- ---- the tables, a row a command
 
 abbrev pub table_of : Name → List Plain
-table_of Repair = job (needs (codes "vcd") Writes ∷ rounds ∷ conflicts ∷ start ∷ [])
+table_of Repair =
+    job (needs (codes "vcd") Writes ∷ needs (codes "code") Writes ∷ needs (codes "cert") Writes ∷ rounds ∷ conflicts
+    ∷ start ∷ [])
+table_of Replay = job (needs (codes "code") Reads ∷ needs (codes "vcd") Writes ∷ rounds ∷ start ∷ [])
+table_of Check = job (needs (codes "cert") Reads ∷ rounds ∷ conflicts ∷ start ∷ [])
+table_of Make =
+    needs (codes "number") (Number 0 18446744073709551615) ∷ needs (codes "gates") (Number 0 100000)
+    ∷ needs (codes "netlist") Writes ∷ needs (codes "record") Writes ∷ []
 
 abbrev pub has_files : Name → Bool
 has_files Repair = true
+has_files Replay = true
+has_files Check = true
+has_files Make = false
 
 abbrev pub word_of : Name → Text
 word_of Repair = codes "repair"
+word_of Replay = codes "replay"
+word_of Check = codes "check"
+word_of Make = codes "make"
 
 -- The words are a command, and after it a line of its options.
 pub record IsCommand (name : Name) (words : List Text) (items : List Item) (files : List Text) : Type 0 where

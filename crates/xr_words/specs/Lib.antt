@@ -1,4 +1,5 @@
 -- Definitions of command lines.
+pub mod Apart
 pub mod Forms
 pub mod Line
 pub mod Read

@@ -1,14 +1,22 @@
 -- The set of command lines, and what each means.
--- `repair --record R --scope S --top T --vcd V [--rounds N] [--conflicts N] [--start cold|recorded] FILE..`
-use Rattle.std.specs.Prelude.{◌≡◌, ◌≢◌, ℕ, ◌≤◌, List, [], ◌∷◌, Option, Some, None, codes, map, string_bytes}
-use Rattle.std.specs.List.{AllByRecursion}
-use Rattle.xr_words.specs.declared.forms.Name.TheVariants.{Repair}
+-- `repair --record R --scope S --top T --vcd V --code C --cert X [--rounds N] [--conflicts N] [--start W] FILE..`
+-- `replay --record R --scope S --top T --code C --vcd V [--rounds N] [--start W] FILE..`
+-- `check --record R --scope S --top T --cert X [--rounds N] [--conflicts N] [--start W] FILE..`
+-- `make --number N --gates N --netlist F --record R`
+-- with W being `cold` or `recorded`.
+use Rattle.std.specs.Prelude.{◌≡◌, ℕ, ◌≤◌, List, [], ◌∷◌, Option, Some, None, codes, map, string_bytes}
+use Rattle.xr_words.specs.declared.forms.Name.{Name}
+use Rattle.xr_words.specs.declared.forms.Name.TheVariants.{Check, Make, Repair, Replay}
+use Rattle.xr_words.specs.declared.words.CheckWords.{CheckWords}
 use Rattle.xr_words.specs.declared.words.Command.{Command}
 use Rattle.xr_words.specs.declared.words.Command.TheVariants as command
 use Rattle.xr_words.specs.declared.words.JobWords.{JobWords}
+use Rattle.xr_words.specs.declared.words.MakeWords.{MakeWords}
 use Rattle.xr_words.specs.declared.words.RepairWords.{RepairWords}
+use Rattle.xr_words.specs.declared.words.ReplayWords.{ReplayWords}
 use Rattle.xr_words.specs.declared.words.Start.{Start}
 use Rattle.xr_words.specs.declared.words.Start.TheVariants.{Cold, Recorded}
+use Rattle.xr_words.specs.Apart.{AreApart}
 use Rattle.xr_words.specs.Forms.{IsCommand}
 use Rattle.xr_words.specs.Line.{IsNumber, Item, Text, given}
 
@@ -19,6 +27,11 @@ abbrev pub IsCount : Option Text → ℕ → ℕ → ℕ → Type 0
 IsCount None absent most count = count ≡ absent
 IsCount (Some text) absent most count = IsNumber text count × (1 ≤ count) × (count ≤ most)
 
+-- The number of an option, which is at most so much.
+abbrev pub IsNumberTo : Option Text → ℕ → ℕ → Type 0
+IsNumberTo None most number = ⊥
+IsNumberTo (Some text) most number = IsNumber text number × (number ≤ most)
+
 abbrev pub start_word : Start → Text
 start_word Cold = codes "cold"
 start_word Recorded = codes "recorded"
@@ -27,13 +40,6 @@ start_word Recorded = codes "recorded"
 abbrev pub IsStart : Option Text → Start → Type 0
 IsStart None start = start ≡ Cold
 IsStart (Some text) start = text ≡ start_word start
-
--- No name that is written is that of an output after it, or of an input.
-abbrev pub AreApart : List Text → List Text → Type 0
-AreApart [] inputs = Unit {0}
-AreApart (output ∷ outputs) inputs =
-    AllByRecursion (λ name. name ≢ output) outputs × AllByRecursion (λ name. name ≢ output) inputs
-    × AreApart outputs inputs
 
 -- ---- what words name
 
@@ -48,13 +54,44 @@ pub record JobValues : Type 0 where
 pub record RepairValues : Type 0 where
   pub job : JobValues
   pub vcd : Text
+  pub code : Text
+  pub cert : Text
   pub conflicts : ℕ
+
+pub record ReplayValues : Type 0 where
+  pub job : JobValues
+  pub code : Text
+  pub vcd : Text
+
+pub record CheckValues : Type 0 where
+  pub job : JobValues
+  pub cert : Text
+  pub conflicts : ℕ
+
+pub record MakeValues : Type 0 where
+  pub number : ℕ
+  pub gates : ℕ
+  pub netlist : Text
+  pub recording : Text
 
 pub data Values : Type 0 where
   OfRepair : RepairValues → Values
+  OfReplay : ReplayValues → Values
+  OfCheck : CheckValues → Values
+  OfMake : MakeValues → Values
 
-abbrev pub inputs_of : JobValues → List Text
-inputs_of job = job.recording ∷ job.netlists
+-- The command, and the FILEs after its options.
+abbrev pub name_of : Values → Name
+name_of (OfRepair v) = Repair
+name_of (OfReplay v) = Replay
+name_of (OfCheck v) = Check
+name_of (OfMake v) = Make
+
+abbrev pub netlists_of : Values → List Text
+netlists_of (OfRepair v) = v.job.netlists
+netlists_of (OfReplay v) = v.job.netlists
+netlists_of (OfCheck v) = v.job.netlists
+netlists_of (OfMake v) = []
 
 -- ---- the set
 
@@ -66,21 +103,48 @@ pub record GivesJob (option : Text → Option Text) (job : JobValues) : Type 0 w
   pub rounds : IsCount (option (codes "rounds")) 4 16 job.rounds
   pub start : IsStart (option (codes "start")) job.start
 
--- These are those of `repair`, and the file that is written has another name than each that is read.
+-- These are those of `repair`, and each file that is written has a name of its own.
 pub record GivesRepair (option : Text → Option Text) (v : RepairValues) : Type 0 where
   pub job : GivesJob option v.job
   pub vcd : option (codes "vcd") ≡ Some v.vcd
+  pub code : option (codes "code") ≡ Some v.code
+  pub cert : option (codes "cert") ≡ Some v.cert
   pub conflicts : IsCount (option (codes "conflicts")) 1000 100000 v.conflicts
-  pub apart : AreApart (v.vcd ∷ []) (inputs_of v.job)
+  pub apart : AreApart (v.vcd ∷ v.code ∷ v.cert ∷ []) (v.job.recording ∷ v.job.netlists)
 
-pub record IsRepair (words : List Text) (v : RepairValues) : Type 0 where
-  pub items : List Item
-  pub is : IsCommand Repair words items v.job.netlists
-  pub gives : GivesRepair (given items) v
+-- These are those of `replay`, and the file that is written has another name than each that is read.
+pub record GivesReplay (option : Text → Option Text) (v : ReplayValues) : Type 0 where
+  pub job : GivesJob option v.job
+  pub code : option (codes "code") ≡ Some v.code
+  pub vcd : option (codes "vcd") ≡ Some v.vcd
+  pub apart : AreApart (v.vcd ∷ []) (v.job.recording ∷ v.code ∷ v.job.netlists)
+
+-- These are those of `check`, which writes no file.
+pub record GivesCheck (option : Text → Option Text) (v : CheckValues) : Type 0 where
+  pub job : GivesJob option v.job
+  pub cert : option (codes "cert") ≡ Some v.cert
+  pub conflicts : IsCount (option (codes "conflicts")) 1000 100000 v.conflicts
+
+-- These are those of `make`, which reads no file: the number is below 2^64, and each file that is written has a name of its
+-- own.
+pub record GivesMake (option : Text → Option Text) (v : MakeValues) : Type 0 where
+  pub number : IsNumberTo (option (codes "number")) 18446744073709551615 v.number
+  pub gates : IsNumberTo (option (codes "gates")) 100000 v.gates
+  pub netlist : option (codes "netlist") ≡ Some v.netlist
+  pub recording : option (codes "record") ≡ Some v.recording
+  pub apart : AreApart (v.netlist ∷ v.recording ∷ []) []
+
+abbrev pub Gives : (Text → Option Text) → Values → Type 0
+Gives option (OfRepair v) = GivesRepair option v
+Gives option (OfReplay v) = GivesReplay option v
+Gives option (OfCheck v) = GivesCheck option v
+Gives option (OfMake v) = GivesMake option v
 
 -- The words are in the set, and mean this.
-abbrev pub Means : List Text → Values → Type 0
-Means words (OfRepair v) = IsRepair words v
+pub record Means (words : List Text) (v : Values) : Type 0 where
+  pub items : List Item
+  pub is : IsCommand (name_of v) words items (netlists_of v)
+  pub gives : Gives (given items) v
 
 -- They are outside of it.
 abbrev pub AreOutside : List Text → Type 0
@@ -103,7 +167,30 @@ job_values words = record {
 }
 
 abbrev pub repair_values : RepairWords → RepairValues
-repair_values words = record { job = job_values words.job; vcd = words.vcd.now; conflicts = words.conflicts }
+repair_values words = record {
+  job = job_values words.job;
+  vcd = words.vcd.now;
+  code = words.code.now;
+  cert = words.cert.now;
+  conflicts = words.conflicts;
+}
+
+abbrev pub replay_values : ReplayWords → ReplayValues
+replay_values words = record { job = job_values words.job; code = words.code.now; vcd = words.vcd.now }
+
+abbrev pub check_values : CheckWords → CheckValues
+check_values words = record { job = job_values words.job; cert = words.cert.now; conflicts = words.conflicts }
+
+abbrev pub make_values : MakeWords → MakeValues
+make_values words = record {
+  number = words.number;
+  gates = words.gates;
+  netlist = words.netlist.now;
+  recording = words.recording.now;
+}
 
 abbrev pub values_of : Command → Values
 values_of (command.Repair words) = OfRepair (repair_values words)
+values_of (command.Replay words) = OfReplay (replay_values words)
+values_of (command.Check words) = OfCheck (check_values words)
+values_of (command.Make words) = OfMake (make_values words)

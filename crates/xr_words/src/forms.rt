@@ -10,43 +10,123 @@ use crate::option::{Kind, Opt};
 #[derive(Clone, Copy, Debug, PartialEq, Eq)]
 pub enum Name {
     Repair,
+    Replay,
+    Check,
+    Make,
 }
 
-static REPAIR: [Opt<'static>; 7] = [
-    Opt {
-        name: "record",
-        required: true,
-        kind: Kind::Reads,
-    },
-    Opt {
-        name: "scope",
-        required: true,
-        kind: Kind::Scope,
-    },
-    Opt {
-        name: "top",
-        required: true,
-        kind: Kind::Name,
-    },
+const RECORD: Opt<'static> = Opt {
+    name: "record",
+    required: true,
+    kind: Kind::Reads,
+};
+
+const SCOPE: Opt<'static> = Opt {
+    name: "scope",
+    required: true,
+    kind: Kind::Scope,
+};
+
+const TOP: Opt<'static> = Opt {
+    name: "top",
+    required: true,
+    kind: Kind::Name,
+};
+
+const ROUNDS: Opt<'static> = Opt {
+    name: "rounds",
+    required: false,
+    kind: Kind::Number(1, 16),
+};
+
+const CONFLICTS: Opt<'static> = Opt {
+    name: "conflicts",
+    required: false,
+    kind: Kind::Number(1, 100_000),
+};
+
+const START: Opt<'static> = Opt {
+    name: "start",
+    required: false,
+    kind: Kind::Either("cold", "recorded"),
+};
+
+static REPAIR: [Opt<'static>; 9] = [
+    RECORD,
+    SCOPE,
+    TOP,
     Opt {
         name: "vcd",
         required: true,
         kind: Kind::Writes,
     },
     Opt {
-        name: "rounds",
-        required: false,
-        kind: Kind::Number(1, 16),
+        name: "code",
+        required: true,
+        kind: Kind::Writes,
     },
     Opt {
-        name: "conflicts",
-        required: false,
-        kind: Kind::Number(1, 100_000),
+        name: "cert",
+        required: true,
+        kind: Kind::Writes,
+    },
+    ROUNDS,
+    CONFLICTS,
+    START,
+];
+
+static REPLAY: [Opt<'static>; 7] = [
+    RECORD,
+    SCOPE,
+    TOP,
+    Opt {
+        name: "code",
+        required: true,
+        kind: Kind::Reads,
     },
     Opt {
-        name: "start",
-        required: false,
-        kind: Kind::Either("cold", "recorded"),
+        name: "vcd",
+        required: true,
+        kind: Kind::Writes,
+    },
+    ROUNDS,
+    START,
+];
+
+static CHECK: [Opt<'static>; 7] = [
+    RECORD,
+    SCOPE,
+    TOP,
+    Opt {
+        name: "cert",
+        required: true,
+        kind: Kind::Reads,
+    },
+    ROUNDS,
+    CONFLICTS,
+    START,
+];
+
+static MAKE: [Opt<'static>; 4] = [
+    Opt {
+        name: "number",
+        required: true,
+        kind: Kind::Number(0, u64::MAX),
+    },
+    Opt {
+        name: "gates",
+        required: true,
+        kind: Kind::Number(0, 100_000),
+    },
+    Opt {
+        name: "netlist",
+        required: true,
+        kind: Kind::Writes,
+    },
+    Opt {
+        name: "record",
+        required: true,
+        kind: Kind::Writes,
     },
 ];
 
@@ -57,6 +137,9 @@ pub fn options_of<'a>(name: Name) -> &'a [Opt<'a>]
 {
     match name {
         Name::Repair => &REPAIR,
+        Name::Replay => &REPLAY,
+        Name::Check => &CHECK,
+        Name::Make => &MAKE,
     }
 }
 
@@ -65,7 +148,8 @@ pub fn has_files(name: Name) -> bool
     ensures { result ≡ has_files name }
 {
     match name {
-        Name::Repair => true,
+        Name::Repair | Name::Replay | Name::Check => true,
+        Name::Make => false,
     }
 }
 
@@ -75,6 +159,9 @@ pub fn word_of<'a>(name: Name) -> &'a str
 {
     match name {
         Name::Repair => "repair",
+        Name::Replay => "replay",
+        Name::Check => "check",
+        Name::Make => "make",
     }
 }
 
@@ -85,6 +172,9 @@ pub fn name_of(word: &str) -> Option<Name>
 {
     match word {
         "repair" => Some(Name::Repair),
+        "replay" => Some(Name::Replay),
+        "check" => Some(Name::Check),
+        "make" => Some(Name::Make),
         _ => None,
     }
 }

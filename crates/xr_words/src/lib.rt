@@ -5,20 +5,25 @@
 //! that makes its typed words of the values. `line.rt` reads a line of any list of options.
 #![tactic(auto)]
 
+mod check;
 mod forms;
 mod job;
 mod laws;
 mod line;
+mod make;
 mod named;
 mod option;
 mod outputs;
 mod read;
 mod repair;
+mod replay;
 mod told;
 mod typed;
+mod usage;
 mod values;
 mod words;
 
 pub use laws::words_mean_one;
 pub use read::read_words;
-pub use words::{Command, JobWords, RepairWords, Start};
+pub use usage::usage_of;
+pub use words::{CheckWords, Command, JobWords, MakeWords, RepairWords, ReplayWords, Start};

@@ -2,7 +2,7 @@
 
 ghost use Rattle.std.specs.Prelude.{◌≡◌, ◌≢◌, ◌↔◌, ◌++◌, IsTrue, map, string_bytes};
 ghost use Rattle.std.specs.List.{All, AllByRecursion};
-ghost use Rattle.xr_words.specs.Words.{AreApart};
+ghost use Rattle.xr_words.specs.Apart.{AreApart};
 
 /// Whether no output has the name of an output after it, or of an input or a FILE.
 pub fn are_apart(outputs: &[&str], inputs: &[&str], files: &[String]) -> bool

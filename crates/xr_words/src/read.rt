@@ -2,14 +2,17 @@
 
 ghost use Rattle.std.specs.Prelude.{IfOk, IfSome, IfNone, map, string_bytes};
 ghost use Rattle.xr_words.specs.Forms.{IsNamed, IsNamedOnly};
-ghost use Rattle.xr_words.specs.declared.forms.Name.TheVariants.{Repair};
+ghost use Rattle.xr_words.specs.declared.forms.Name.TheVariants.{Check, Make, Repair, Replay};
 ghost use Rattle.xr_words.specs.Words.{AreOutside, Means, MeansOnly, values_of};
 
+use crate::check::check_of;
 use crate::forms::Name;
 use crate::job::files_in;
 use crate::line::Line;
+use crate::make::make_of;
 use crate::named::{Named, read_named};
 use crate::repair::repair_of;
+use crate::replay::replay_of;
 use crate::words::Command;
 use std::alloc::Global;
 use xr_base::Memory;
@@ -36,6 +39,9 @@ fn command_of<'a>(words: &'a [String], named: &Named<'a>) -> Option<Command<'a>>
 {
     match named.name {
         Name::Repair => repair_in(words, &named.line),
+        Name::Replay => replay_in(words, &named.line),
+        Name::Check => check_in(words, &named.line),
+        Name::Make => make_in(words, &named.line),
     }
 }
 
@@ -48,4 +54,37 @@ fn repair_in<'a>(words: &'a [String], line: &Line<'a>) -> Option<Command<'a>>
 {
     let words = repair_of(line, files_in(words, line))?;
     Some(Command::Repair(words))
+}
+
+fn replay_in<'a>(words: &'a [String], line: &Line<'a>) -> Option<Command<'a>>
+    requires is { IsNamed (map string_bytes words.now) Replay line.now }
+    requires only { IsNamedOnly (map string_bytes words.now) Replay line.now }
+    ensures set { IfSome result (λ c. Means (map string_bytes words.now) (values_of c)) }
+    ensures only { IfSome result (λ c. MeansOnly (map string_bytes words.now) (values_of c)) }
+    ensures none { IfNone result (AreOutside (map string_bytes words.now)) }
+{
+    let words = replay_of(line, files_in(words, line))?;
+    Some(Command::Replay(words))
+}
+
+fn check_in<'a>(words: &'a [String], line: &Line<'a>) -> Option<Command<'a>>
+    requires is { IsNamed (map string_bytes words.now) Check line.now }
+    requires only { IsNamedOnly (map string_bytes words.now) Check line.now }
+    ensures set { IfSome result (λ c. Means (map string_bytes words.now) (values_of c)) }
+    ensures only { IfSome result (λ c. MeansOnly (map string_bytes words.now) (values_of c)) }
+    ensures none { IfNone result (AreOutside (map string_bytes words.now)) }
+{
+    let words = check_of(line, files_in(words, line))?;
+    Some(Command::Check(words))
+}
+
+fn make_in<'a>(_words: &'a [String], line: &Line<'a>) -> Option<Command<'a>>
+    requires is { IsNamed (map string_bytes _words.now) Make line.now }
+    requires only { IsNamedOnly (map string_bytes _words.now) Make line.now }
+    ensures set { IfSome result (λ c. Means (map string_bytes _words.now) (values_of c)) }
+    ensures only { IfSome result (λ c. MeansOnly (map string_bytes _words.now) (values_of c)) }
+    ensures none { IfNone result (AreOutside (map string_bytes _words.now)) }
+{
+    let words = make_of(line)?;
+    Some(Command::Make(words))
 }

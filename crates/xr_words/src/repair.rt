@@ -2,18 +2,14 @@
 
 ghost use Rattle.std.specs.Prelude.{◌≡◌, ◌↔◌, [], ◌∷◌, ◌<◌, IsTrue, IfSome, IfNone, length, map, string_bytes};
 ghost use Rattle.xr_words.specs.Read.{value_of};
-ghost use Rattle.xr_words.specs.Words.{AreApart, GivesRepair, RepairValues, inputs_of, repair_values};
+ghost use Rattle.xr_words.specs.Apart.{AreApart};
+ghost use Rattle.xr_words.specs.Words.{GivesRepair, RepairValues, repair_values};
 
 use crate::job::job_of;
 use crate::line::Line;
 use crate::outputs::are_apart;
-use crate::typed::count_of;
-use crate::words::RepairWords;
-
-/// The most clauses of a search, and how many there are where none are given.
-const MOST_CONFLICTS: u32 = 100_000;
-
-const CONFLICTS: u32 = 1_000;
+use crate::typed::conflicts_of;
+use crate::words::{JobWords, RepairWords};
 
 /// What the options name together with the FILEs, none where one lacks or has no value that it may have.
 pub fn repair_of<'a>(line: &Line<'a>, files: &'a [String]) -> Option<RepairWords<'a>>
@@ -23,17 +19,26 @@ pub fn repair_of<'a>(line: &Line<'a>, files: &'a [String]) -> Option<RepairWords
     ensures none { IfNone result ((v : RepairValues) → v.job.netlists ≡ map string_bytes files.now
         → GivesRepair (value_of line.now) v → ⊥) }
 {
-    let words = RepairWords {
-        job: job_of(line, files)?,
-        vcd: line.get("vcd")?,
-        conflicts: count_of(line.get("conflicts"), CONFLICTS, MOST_CONFLICTS)?,
-    };
-    if is_apart(words) { Some(words) } else { None }
+    let job = job_of(line, files)?;
+    let vcd = line.get("vcd")?;
+    let code = line.get("code")?;
+    let cert = line.get("cert")?;
+    let conflicts = conflicts_of(line)?;
+    if !is_apart(&job, vcd, code, cert) {
+        return None;
+    }
+    Some(RepairWords {
+        job,
+        vcd,
+        code,
+        cert,
+        conflicts,
+    })
 }
 
-fn is_apart(words: RepairWords<'_>) -> bool
-    ensures { IsTrue result ↔ AreApart (words.entry.vcd.now ∷ []) (inputs_of (repair_values words.entry).job) }
+fn is_apart(job: &JobWords<'_>, vcd: &str, code: &str, cert: &str) -> bool
+    ensures { IsTrue result ↔ AreApart (vcd.now ∷ code.now ∷ cert.now ∷ [])
+        (job.now.recording.now ∷ map string_bytes job.now.netlists.now) }
 {
-    let job = words.job;
-    are_apart(&[words.vcd], &[job.recording], job.netlists)
+    are_apart(&[vcd, code, cert], &[job.recording], job.netlists)
 }

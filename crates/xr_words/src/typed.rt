@@ -1,11 +1,28 @@
 //! Values of options as numbers and choices.
 
-ghost use Rattle.std.specs.Prelude.{◌≡◌, ◌≤◌, ℕ, Some, IfSome, IfNone, option_map};
+ghost use Rattle.std.specs.Prelude.{◌≡◌, ◌≤◌, ℕ, Some, IfSome, IfNone, codes, option_map};
+ghost use Rattle.xr_words.specs.Read.{value_of};
 ghost use Rattle.xr_words.specs.declared.words.Start.{Start};
 ghost use Rattle.xr_words.specs.Words.{IsCount, IsStart};
 
+use crate::line::Line;
 use crate::values::number_in;
 use crate::words::Start;
+
+/// The most clauses of a search, and how many there are where none are given.
+const MOST_CONFLICTS: u32 = 100_000;
+
+const CONFLICTS: u32 = 1_000;
+
+/// The clauses of a search that a line names.
+pub fn conflicts_of(line: &Line<'_>) -> Option<u32>
+    ensures count { IfSome result (IsCount (value_of line.now (codes "conflicts")) 1000 100000) }
+    ensures least { IfSome result (λ count. 1 ≤ count) }
+    ensures most { IfSome result (λ count. count ≤ 100000) }
+    ensures none { IfNone result ((count : ℕ) → IsCount (value_of line.now (codes "conflicts")) 1000 100000 count → ⊥) }
+{
+    count_of(line.get("conflicts"), CONFLICTS, MOST_CONFLICTS)
+}
 
 /// The number of an option that may be absent, from 1 to `most`.
 pub fn count_of(text: Option<&str>, absent: u32, most: u32) -> Option<u32>

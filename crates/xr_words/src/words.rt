@@ -1,11 +1,14 @@
 //! The words of a line of the set, each as the value that it stands for.
 
-ghost use Rattle.std.specs.Prelude.{◌<◌, ◌≤◌, length};
+ghost use Rattle.std.specs.Prelude.{◌≢◌, ◌<◌, ◌≤◌, length};
 
 /// A command, with its words.
 #[derive(Clone, Copy, Debug)]
 pub enum Command<'a> {
     Repair(RepairWords<'a>),
+    Replay(ReplayWords<'a>),
+    Check(CheckWords<'a>),
+    Make(MakeWords<'a>),
 }
 
 /// What registers hold before the first step.
@@ -42,8 +45,52 @@ pub struct RepairWords<'a> {
     pub job: JobWords<'a>,
     /// The file of the repaired recording.
     pub vcd: &'a str,
+    /// The file of the force code.
+    pub code: &'a str,
+    /// The file of the certificate.
+    pub cert: &'a str,
     /// The clauses of a search, 1 to 100,000.
     pub conflicts: u32,
     ghost some_clauses: { 1 ≤ conflicts },
     ghost few_clauses: { conflicts ≤ 100000 },
+    ghost code_apart: { code.now ≢ vcd.now },
+    ghost cert_apart: { cert.now ≢ vcd.now },
+    ghost cert_too: { cert.now ≢ code.now },
+}
+
+/// The words of `replay`.
+#[derive(Clone, Copy, Debug)]
+pub struct ReplayWords<'a> {
+    pub job: JobWords<'a>,
+    /// The file of the force code.
+    pub code: &'a str,
+    /// The file of the recording that is made.
+    pub vcd: &'a str,
+}
+
+/// The words of `check`.
+#[derive(Clone, Copy, Debug)]
+pub struct CheckWords<'a> {
+    pub job: JobWords<'a>,
+    /// The file of the certificate.
+    pub cert: &'a str,
+    /// The clauses of a log that leaves a place undecided, 1 to 100,000.
+    pub conflicts: u32,
+    ghost some_clauses: { 1 ≤ conflicts },
+    ghost few_clauses: { conflicts ≤ 100000 },
+}
+
+/// The words of `make`.
+#[derive(Clone, Copy, Debug)]
+pub struct MakeWords<'a> {
+    /// The number that the draws begin with.
+    pub number: u64,
+    /// How many gates, 0 to 100,000.
+    pub gates: u32,
+    /// The file of the netlist.
+    pub netlist: &'a str,
+    /// The file of the recording.
+    pub recording: &'a str,
+    ghost few_gates: { gates ≤ 100000 },
+    ghost apart: { recording.now ≢ netlist.now },
 }

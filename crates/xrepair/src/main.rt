@@ -3,18 +3,30 @@
 
 mod file_shelf;
 mod out_sink;
+mod progress;
 
 use file_shelf::FileShelf;
 use out_sink::OutSink;
+use progress::Progress;
+use std::io::{Eprint, IsTerminal};
 use std::process::ExitCode;
 use std::{env, io};
 use xr_cli::run;
+use xr_words::usage_of;
+
+/// The exit status of words that aren't in the set.
+const USAGE: u8 = 2;
 
 fn main(rt: HostRuntime) -> io::Result<ExitCode> {
     let words = words_of(&rt)?;
     let mut shelf = FileShelf::new(&rt, rt.alloc());
-    let mut out = OutSink::new(io::writer(&rt));
+    let progress = Progress::new(&rt, rt.stderr().is_terminal());
+    let mut out = OutSink::new(io::writer(&rt), progress);
     let status = run(rt.alloc(), words.as_slice(), &mut shelf, &mut out);
+    out.end();
+    if status == USAGE {
+        rt.eprint(usage_of(rt.alloc(), words.as_slice())?)?;
+    }
     Ok(ExitCode::from(status))
 }
 

@@ -1,30 +1,39 @@
-//! Standard output as a sink.
+//! Standard output as a sink, with how far a long run has come on standard error.
 
 ghost use Rattle.std.specs.Prelude.{◌≡◌};
 
-use std::io::Write;
+use crate::progress::Progress;
+use std::io::{Eprint, Write};
+use std::time::Clock;
 use xr_shelf::{FaultCount, IoErr, Sink};
 
 /// A writer as a sink. It counts its faults, and tells no content.
 #[derive(Drop)]
-pub struct OutSink<W: Write + Drop> {
+pub struct OutSink<'a, W: Write + Drop, R: Clock + Eprint> {
     writer: W,
     faults: FaultCount,
+    progress: Progress<'a, R>,
 }
 
-impl<W: Write + Drop> OutSink<W> {
+impl<'a, W: Write + Drop, R: Clock + Eprint> OutSink<'a, W, R> {
     /// A sink that prints by this writer, and no fault counted.
-    pub fn new(writer: W) -> OutSink<W>
+    pub fn new(writer: W, progress: Progress<'a, R>) -> OutSink<'a, W, R>
         ensures { result.faults ≡ 0 }
     {
         OutSink {
             writer,
             faults: FaultCount::new(),
+            progress,
         }
+    }
+
+    /// Ends the line that shows how far a run has come.
+    pub fn end(&self) {
+        self.progress.end();
     }
 }
 
-impl<W: Write + Drop> Sink for OutSink<W> {
+impl<'a, W: Write + Drop, R: Clock + Eprint> Sink for OutSink<'a, W, R> {
     ghost use Rattle.std.specs.Prelude.{false, []};
 
     ghost told = { false };
@@ -41,6 +50,10 @@ impl<W: Write + Drop> Sink for OutSink<W> {
             }
         }
     }
+
+    fn progress(&mut self, done: usize, all: usize) {
+        self.progress.show(done, all);
+    }
 }
 
 #[cfg(test)]
@@ -51,7 +64,7 @@ mod tests {
 
     #[test]
     fn prints_to_its_writer(rt: HostRuntime) -> Result<(), Fail> {
-        let mut out = OutSink::new(Vec::new(rt.alloc()));
+        let mut out = OutSink::new(Vec::new(rt.alloc()), Progress::new(&rt, false));
         assert!(rt; print_all(&mut out, b"unknown\n").is_ok());
         assert_eq!(rt; out.writer.as_slice(), b"unknown\n".as_slice());
         assert_eq!(rt; out.faults.count(), 0);

@@ -1,14 +1,15 @@
-//! `repair`: reads a netlist and a recording of it, and writes the repaired recording.
+//! `repair`: reads a netlist and a recording of it, and writes the repaired recording, the code that forces a simulator
+//! to show it, and its certificate.
 
 ghost use Rattle.xr_words.specs.Words.{repair_values};
 ghost use Rattle.xr_cli.specs.Phases.{repair_phases};
 
 use crate::cause::Refused;
-use crate::job::{netlist_of, recorded_of};
+use crate::job::job_of;
 use crate::repaired::repaired;
 use std::alloc::Global;
 use xr_run::{Prepare, Ready, Refusal};
-use xr_shelf::Shelf;
+use xr_shelf::{Shelf, Sink};
 use xr_words::RepairWords;
 
 /// `repair` with its words.
@@ -22,13 +23,13 @@ impl<'a> Prepare for Repair<'a> {
 
     ghost phases = { λ command. repair_phases (repair_values command.words) };
 
-    fn prepare<S: Shelf>(
+    fn prepare<S: Shelf, O: Sink>(
         &self,
         alloc: Global,
         shelf: &mut S,
+        out: &mut O,
     ) -> Result<Ready<'_>, Refusal<Refused>> {
-        let netlist = netlist_of(alloc, shelf, &self.words.job)?;
-        let recorded = recorded_of(alloc, shelf, &self.words.job, &netlist)?;
-        repaired(alloc, &self.words, &netlist, &recorded)
+        let job = job_of(alloc, shelf, &self.words.job)?;
+        repaired(alloc, &self.words, &job, out)
     }
 }

@@ -1,6 +1,6 @@
 -- What a run comes to, from its row.
 use Rattle.xr_run.specs.Rows.{start_of}
-use Rattle.xr_cli.proofs.Runs.{all_comes, done_says, refuses_texts, texts_repaired}
+use Rattle.xr_cli.proofs.Runs.{all_comes, done_says, refuses_texts, is_complete}
 use Rattle.xr_cli.proofs.program.run.Goals as goal
 
 pub returns : goal.returns
@@ -13,5 +13,5 @@ returns g c =
       comes = all;
       done = done_says s shelf sink c.ended.result all;
       refused = refuses_texts s shelf sink c.ended.result all;
-      complete = texts_repaired s shelf sink c.ended.result all;
+      complete = is_complete s shelf sink c.ended.result all;
     }

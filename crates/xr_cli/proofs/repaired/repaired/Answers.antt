@@ -6,9 +6,9 @@ use Rattle.xr_cli.specs.Phases.{compare_cause, nothing_in, walk_phases}
 use Rattle.xr_cli.specs.Repair.{CompareComes}
 use Rattle.xr_cli.proofs.repaired.repaired.Goals as goal
 
-pub returns : goal.returns
-returns c =
-    let n = c.args.netlist.now in
-    let r = c.args.recorded.now in
+pub returns-clause-prepared : goal.returns-clause-prepared
+returns-clause-prepared g c =
+    let n = c.args.job.now.netlist in
+    let r = c.args.job.now.recorded in
     judged_then (CompareComes n r) compare_cause (λ (agreed : Unit {0}). walk_phases (repair_values c.args.words.now) n r) nothing_in answer_of
-    c.in_ok-history.history c.walked.result c.in_ok-history.ensures.judged c.walked.ensures
+    c.in_ok-history.history c.walked.result c.in_ok-history.ensures.judged c.walked.ensures.prepared

@@ -3,9 +3,9 @@ use Rattle.xr_words.specs.Words.{repair_values}
 use Rattle.xr_cli.proofs.Walk.{walk_found}
 use Rattle.xr_cli.proofs.repaired.walked.Goals as goal
 
-pub returns : goal.returns
-returns c = walk_found (repair_values c.args.words.now) c.args.netlist.now c.args.recorded.now
+pub returns-clause-prepared : goal.returns-clause-prepared
+returns-clause-prepared g c = walk_found (repair_values c.args.words.now) c.args.netlist.now c.args.recorded.now
     record { history = c.args.history.now; wave = c.in_ok-wave.wave; shown = c.in_ok-texts_of.ensures.shown }
     c.in_ok-texts_of.field-0
-    record { fits = c.requires.fits; replay = c.requires.replay; repaired = c.in_ok-wave.ensures.repaired; shows = c.in_ok-texts_of.ensures.shows }
+    record { fits = c.requires.fits; times = c.in_ok-texts_of.ensures.times; replay = c.requires.replay; repaired = c.in_ok-wave.ensures.repaired; shows = c.in_ok-texts_of.ensures.shows }
     c.in_ok-texts_of.ensures.is

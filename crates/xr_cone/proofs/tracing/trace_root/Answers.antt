@@ -6,7 +6,8 @@ use Rattle.xr_design.specs.Job.{Job, places_of}
 use Rattle.xr_design.specs.Waveform.{certain}
 use Rattle.xr_model.specs.Places.{among}
 use Rattle.xr_wave.specs.Contents.{job}
-use Rattle.xr_cone_nodes.specs.Traced.{IsConeOf}
+use Rattle.xr_cone_nodes.specs.Traced.{IsConeOf, IsWholeCone}
+use Rattle.xr_cone_nodes.proofs.NodeWorlds.{whole_law}
 use Rattle.xr_cone.specs.Known.{IsRightOf}
 use Rattle.xr_cone.specs.Placed.{IsPlaced}
 use Rattle.xr_cone.specs.Traced.{supports_in}
@@ -91,17 +92,26 @@ rest-preserved c =
 
 pub new-requires : goal.new-requires
 new-requires c =
-    let is : IsConeOf c.args.wave.now c.args.root c.rest.nodes.items =
+    let is : IsWholeCone c.args.wave.now c.args.root c.rest.nodes.items =
     made_ends c.args.wave.now c.args.root c.rest.places.items c.rest.rest.items c.rest.nodes.items
     c.count.ensures.wave c.requires.reach c.requires.line c.rest.invariant.made
     (none_left c.rest.rest.items (let none = c.in_default.ensures.cases.0 in let long = c.rest.rest.ok in
     omega (arith, none, long))) in
     is.are_nodes
 
-pub returns-clause-cone : goal.returns-clause-cone
-returns-clause-cone c =
-    ends_ok (λ cone. cone.nodes) c.args.wave.now c.args.root c.new.result c.rest.nodes.items c.new.ensures
+pub returns-clause-whole : goal.returns-clause-whole
+returns-clause-whole c =
+    ends_ok (λ cone. cone.nodes) (IsWholeCone c.args.wave.now c.args.root) c.new.result c.rest.nodes.items c.new.ensures
     (made_ends c.args.wave.now c.args.root c.rest.places.items c.rest.rest.items c.rest.nodes.items
     c.count.ensures.wave c.requires.reach c.requires.line c.rest.invariant.made
     (none_left c.rest.rest.items (let none = c.in_default.ensures.cases.0 in let long = c.rest.rest.ok in
     omega (arith, none, long))))
+
+pub returns-clause-cone : goal.returns-clause-cone
+returns-clause-cone c =
+    ends_ok (λ cone. cone.nodes) (IsConeOf c.args.wave.now c.args.root) c.new.result c.rest.nodes.items c.new.ensures
+    (whole_law c.args.wave.now c.args.root c.rest.nodes.items
+    (made_ends c.args.wave.now c.args.root c.rest.places.items c.rest.rest.items c.rest.nodes.items
+    c.count.ensures.wave c.requires.reach c.requires.line c.rest.invariant.made
+    (none_left c.rest.rest.items (let none = c.in_default.ensures.cases.0 in let long = c.rest.rest.ok in
+    omega (arith, none, long)))))

@@ -1,0 +1,14 @@
+-- When a job fits.
+use Rattle.xr_design.specs.Handed.{IsReplay}
+use Rattle.xr_job.specs.Compared.{job_in}
+use Rattle.xr_job.specs.Netlist.{FitsNetlist}
+use Rattle.xr_job.specs.Recorded.{FitsRecorded}
+use Rattle.xr_wave.specs.Contents.{IsLimit}
+use Rattle.test_cert.specs.declared.job.Job.{Job}
+
+-- Its netlist and its recording fit, its history is the replay, and its limit is one.
+pub record FitsJob (job : Job) : Type 0 where
+  pub netlist : FitsNetlist job.netlist.now
+  pub recorded : FitsRecorded job.netlist.now.design job.recorded.now
+  pub replay : IsReplay (job_in job.netlist.now job.recorded.now) job.history.now
+  pub limited : IsLimit job.limit

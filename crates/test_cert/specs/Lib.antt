@@ -1,0 +1,2 @@
+-- Definitions of jobs whose certificates are tested.
+pub mod Job

@@ -1,0 +1,102 @@
+//! A case: the texts of a job, and what must come.
+
+use crate::checked::put_read;
+use crate::job::{Task, put_job};
+use crate::words::{text_of, word_and_number};
+use std::alloc::{AllocError, Global};
+use test_cases::{Part, PartKind, Parts, Report, Section};
+use xr_base::Memory;
+
+/// The texts of a job and of a certificate, if there is one; how many rounds a moment has, and how many clauses the log
+/// of a search; and whether a certificate is without its last byte.
+#[derive(Drop)]
+pub struct Texts {
+    pub netlist: Vec<u8>,
+    pub recording: Vec<u8>,
+    pub cert: Option<Vec<u8>>,
+    pub rounds: u32,
+    pub conflicts: u32,
+    cut: bool,
+}
+
+impl Texts {
+    fn new(alloc: Global) -> Texts {
+        Texts {
+            netlist: Vec::new(alloc),
+            recording: Vec::new(alloc),
+            cert: None,
+            rounds: 4,
+            conflicts: 1000,
+            cut: false,
+        }
+    }
+
+    fn take_all(&mut self, alloc: Global, parts: Parts<'_>) -> Result<(), AllocError> {
+        for part in parts {
+            match part.kind {
+                PartKind::Want => {}
+                PartKind::Words => self.take_words(text_of(part.head)),
+                PartKind::File => self.take_file(alloc, part)?,
+            }
+        }
+        Ok(())
+    }
+
+    fn take_words(&mut self, words: &str) {
+        let (word, number) = word_and_number(words);
+        match word {
+            "rounds" => self.rounds = number.clamp(1, 16) as u32,
+            "conflicts" => self.conflicts = number.clamp(1, 100_000) as u32,
+            _ => self.cut = true,
+        }
+    }
+
+    fn take_file(&mut self, alloc: Global, part: Part<'_>) -> Result<(), AllocError> {
+        let mut content = part.content(alloc)?;
+        if self.cut {
+            let _ = content.pop();
+        }
+        match text_of(part.head) {
+            "netlist" => self.netlist.extend_from_slice(content.as_slice())?,
+            "cert" => self.cert = Some(content),
+            _ => self.recording = content,
+        }
+        Ok(())
+    }
+}
+
+/// Does what the parts of a case ask for, and compares it.
+pub fn run_case(
+    alloc: Global,
+    report: &mut Report,
+    common: Section<'_>,
+    section: Section<'_>,
+) -> Result<(), Memory> {
+    let mut texts = Texts::new(alloc);
+    texts.take_all(alloc, common.parts())?;
+    texts.take_all(alloc, section.parts())?;
+    for part in section.parts() {
+        if part.kind == PartKind::Want {
+            compare_part(alloc, report, &texts, part)?;
+        }
+    }
+    report.end_case();
+    Ok(())
+}
+
+fn compare_part(
+    alloc: Global,
+    report: &mut Report,
+    texts: &Texts,
+    part: Part<'_>,
+) -> Result<(), Memory> {
+    let mut out = Vec::new(alloc);
+    match text_of(part.head) {
+        "read" => put_read(alloc, &mut out, texts)?,
+        "own" => put_job(alloc, &mut out, texts, Task::Own)?,
+        _ => put_job(alloc, &mut out, texts, Task::Check)?,
+    }
+    let want = part.content(alloc)?;
+    let line = part.line.saturating_add(1);
+    Ok(report.compare(line, want.as_slice(), out.as_slice())?)
+}

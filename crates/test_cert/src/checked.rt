@@ -1,0 +1,120 @@
+//! Certificates read, written by repairs, and checked.
+
+ghost use Rattle.test_cert.specs.Job.{FitsJob};
+
+use crate::case::Texts;
+use crate::job::Job;
+use crate::refusal::{put_fault, put_objection, put_words};
+use std::alloc::Global;
+use xr_base::{Memory, put, put_number};
+use xr_cert::{Cert, CertErr, CheckErr, read_cert, write_cert};
+use xr_cert_text::write_text;
+use xr_repair::RepairErr;
+use xr_report::counts_of;
+use xr_wave::Wave;
+
+/// Puts what the reading of a certificate comes to, and whether its text is the same when it is written again.
+pub fn put_read(alloc: Global, out: &mut Vec<u8>, texts: &Texts) -> Result<(), Memory> {
+    let Some(text) = &texts.cert else {
+        return put(out, b"no certificate\n");
+    };
+    match read_cert(alloc, text.as_slice()) {
+        Ok(cert) => put_again(alloc, out, text.as_slice(), &cert),
+        Err(CertErr::Refused(fault)) => {
+            put_words(alloc, out, fault)?;
+            put(out, b"\n")
+        }
+        Err(CertErr::Memory) => Err(Memory),
+    }
+}
+
+fn put_again(alloc: Global, out: &mut Vec<u8>, text: &[u8], cert: &Cert) -> Result<(), Memory> {
+    let again = write_text(alloc, cert.head, cert.lines.as_slice())?;
+    if again.as_slice() == text {
+        put(out, b"ok\n")
+    } else {
+        put(out, b"written otherwise\n")
+    }
+}
+
+/// Puts the certificate that the repair of a job writes.
+pub fn put_own(out: &mut Vec<u8>, job: &Job<'_>) -> Result<(), Memory>
+    requires { FitsJob job.now }
+{
+    match own_text(job) {
+        Ok(text) => put(out, text.as_slice()),
+        Err(RepairErr::Optimistic(found)) => put_objection(out, job, &found),
+        Err(RepairErr::Memory) => Err(Memory),
+    }
+}
+
+fn own_text(job: &Job<'_>) -> Result<Vec<u8>, RepairErr>
+    requires { FitsJob job.now }
+{
+    let wave = job.repaired()?;
+    Ok(write_cert(job.alloc, &wave)?)
+}
+
+/// Puts what the check of a certificate comes to: the case's, or the repair's own where it has none.
+pub fn put_checked(out: &mut Vec<u8>, job: &Job<'_>, texts: &Texts) -> Result<(), Memory>
+    requires { FitsJob job.now }
+{
+    match &texts.cert {
+        Some(text) => put_check(out, job, text.as_slice()),
+        None => put_own_checked(out, job),
+    }
+}
+
+fn put_own_checked(out: &mut Vec<u8>, job: &Job<'_>) -> Result<(), Memory>
+    requires { FitsJob job.now }
+{
+    match own_text(job) {
+        Ok(text) => put_check(out, job, text.as_slice()),
+        Err(RepairErr::Optimistic(found)) => put_objection(out, job, &found),
+        Err(RepairErr::Memory) => Err(Memory),
+    }
+}
+
+fn put_check(out: &mut Vec<u8>, job: &Job<'_>, text: &[u8]) -> Result<(), Memory>
+    requires { FitsJob job.now }
+{
+    match read_cert(job.alloc, text) {
+        Ok(cert) => put_cert(out, job, text, cert),
+        Err(CertErr::Refused(fault)) => put_fault(out, job, fault),
+        Err(CertErr::Memory) => Err(Memory),
+    }
+}
+
+fn put_cert(out: &mut Vec<u8>, job: &Job<'_>, text: &[u8], cert: Cert) -> Result<(), Memory>
+    requires { FitsJob job.now }
+{
+    match job.checked(cert) {
+        Ok(wave) => put_wave(out, job, text, &wave),
+        Err(CheckErr::Refused(fault)) => put_fault(out, job, fault),
+        Err(CheckErr::Optimistic(found)) => put_objection(out, job, &found),
+        Err(CheckErr::Memory) => Err(Memory),
+    }
+}
+
+/// Puts how many places of a checked wave have which end. Its own text is the certificate's.
+fn put_wave(out: &mut Vec<u8>, job: &Job<'_>, text: &[u8], wave: &Wave<'_>) -> Result<(), Memory> {
+    let again = write_cert(job.alloc, wave)?;
+    if again.as_slice() != text {
+        return put(out, b"another text\n");
+    }
+    put_accepted(out, wave)
+}
+
+fn put_accepted(out: &mut Vec<u8>, wave: &Wave<'_>) -> Result<(), Memory> {
+    let counts = counts_of(wave);
+    put_count(out, b"accepted known ", counts.known)?;
+    put_count(out, b" repaired ", counts.repaired)?;
+    put_count(out, b" unknown ", counts.unknown)?;
+    put_count(out, b" undecided ", counts.undecided)?;
+    put(out, b"\n")
+}
+
+fn put_count(out: &mut Vec<u8>, words: &[u8], count: u32) -> Result<(), Memory> {
+    put(out, words)?;
+    put_number(out, u64::from(count))
+}

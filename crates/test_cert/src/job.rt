@@ -1,0 +1,138 @@
+//! The job of a case: its netlist, its recording, and the replay.
+
+ghost use Rattle.std.specs.Prelude.{IfOk, IfSome};
+ghost use Rattle.xr_job.specs.Netlist.{FitsNetlist};
+ghost use Rattle.xr_job.specs.Recorded.{FitsRecorded};
+ghost use Rattle.test_cert.specs.Job.{FitsJob};
+
+use crate::case::Texts;
+use crate::checked::{put_checked, put_own};
+use std::alloc::Global;
+use xr_base::{Memory, put};
+use xr_cert::{Cert, CheckErr, check_cert};
+use xr_design::{Bytes, History, StartRule};
+use xr_job::{Netlist, Recorded, read_netlist, read_recording, replay_and_compare};
+use xr_repair::{RepairErr, repair};
+use xr_wave::Wave;
+
+/// A job with its replay, and how many clauses the log of a search has.
+#[derive(Clone, Copy)]
+pub struct Job<'j> {
+    pub alloc: Global,
+    pub netlist: &'j Netlist,
+    pub recorded: &'j Recorded,
+    history: &'j History,
+    limit: u32,
+}
+
+impl<'j> Job<'j> {
+    /// The wave of its repair.
+    pub fn repaired(&self) -> Result<Wave<'j>, RepairErr>
+        requires { FitsJob self.now }
+    {
+        let stim = &self.recorded.stim;
+        repair(
+            self.alloc,
+            &self.netlist.design,
+            &self.netlist.order,
+            stim,
+            self.history,
+            self.limit,
+        )
+    }
+
+    /// The wave of a certificate.
+    pub fn checked(&self, cert: Cert) -> Result<Wave<'j>, CheckErr>
+        requires { FitsJob self.now }
+    {
+        check_cert(
+            self.alloc,
+            cert,
+            &self.netlist.design,
+            &self.netlist.order,
+            &self.recorded.stim,
+            self.history,
+            self.limit,
+        )
+    }
+}
+
+/// What is asked of a job.
+#[derive(Clone, Copy, Debug, PartialEq, Eq)]
+pub enum Task {
+    Own,
+    Check,
+}
+
+/// Puts what is asked of the job of a case.
+pub fn put_job(alloc: Global, out: &mut Vec<u8>, texts: &Texts, task: Task) -> Result<(), Memory> {
+    match read_netlist(alloc, texts.netlist.as_slice(), "top") {
+        Ok(netlist) => put_netlist(alloc, out, texts, task, &netlist),
+        Err(_) => put(out, b"no design\n"),
+    }
+}
+
+fn put_netlist(
+    alloc: Global,
+    out: &mut Vec<u8>,
+    texts: &Texts,
+    task: Task,
+    netlist: &Netlist,
+) -> Result<(), Memory>
+    requires { FitsNetlist netlist.now }
+{
+    match recorded_of(alloc, netlist, texts)? {
+        Some(recorded) => put_recorded(alloc, out, texts, task, netlist, &recorded),
+        None => put(out, b"no recording\n"),
+    }
+}
+
+/// The recording of a case.
+fn recorded_of(alloc: Global, netlist: &Netlist, texts: &Texts) -> Result<Option<Recorded>, Memory>
+    requires { FitsNetlist netlist.now }
+    ensures { IfOk result (λ found. IfSome found (FitsRecorded netlist.now.design)) }
+{
+    let text = texts.recording.as_slice();
+    if text.len() > 1 << 28 {
+        return Ok(None);
+    }
+    let scope = [Bytes::from_vec(Vec::from_slice(alloc, b"dut")?)];
+    let rounds = texts.rounds.clamp(1, 16);
+    let start = StartRule::Cold;
+    Ok(read_recording(alloc, netlist, text, &scope, rounds, start).ok())
+}
+
+fn put_recorded(
+    alloc: Global,
+    out: &mut Vec<u8>,
+    texts: &Texts,
+    task: Task,
+    netlist: &Netlist,
+    recorded: &Recorded,
+) -> Result<(), Memory>
+    requires netlist { FitsNetlist netlist.now }
+    requires recorded { FitsRecorded netlist.now.design recorded.now }
+{
+    match replay_and_compare(alloc, netlist, recorded) {
+        Ok(history) => {
+            let job = Job {
+                alloc,
+                netlist,
+                recorded,
+                history: &history,
+                limit: texts.conflicts.clamp(1, 100_000),
+            };
+            put_task(out, &job, texts, task)
+        }
+        Err(_) => put(out, b"no replay\n"),
+    }
+}
+
+fn put_task(out: &mut Vec<u8>, job: &Job<'_>, texts: &Texts, task: Task) -> Result<(), Memory>
+    requires { FitsJob job.now }
+{
+    match task {
+        Task::Own => put_own(out, job),
+        Task::Check => put_checked(out, job, texts),
+    }
+}

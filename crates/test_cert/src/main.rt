@@ -1,0 +1,56 @@
+//! Certificates: their texts, read and written again, and certificates of small jobs, made by a repair or by hand,
+//! checked.
+//!
+//! A case is a section. What stands before the first title holds for all: `< netlist` texts are joined, the module is
+//! `top`. `< r.vcd` is a recording in the scope `dut`, `< cert` a certificate, after a line `cut` without its last
+//! byte; `rounds 1` and `conflicts 1` stand for 4 and 1000.
+//!
+//! ```text
+//! = xor_of_itself
+//! < netlist
+//! module top(a, y); input a; output y; xor (y, a, a); endmodule
+//! < r.vcd
+//! $scope module dut $end $var wire 1 a a $end $upscope $end $enddefinitions $end #0 xa
+//! > own
+//! xrepair certificate 1
+//! rounds 4 conflicts 1000 moments 1 nets 2
+//! end 0
+//! > check
+//! accepted known 0 repaired 4 unknown 4 undecided 0
+//! ```
+//!
+//! - `> read`: `ok` where the certificate is read, and its text is the same when it is written again; else the refusal.
+//! - `> own`: the certificate that the repair of the job writes.
+//! - `> check`: how many places have which end by the certificate, or the refusal. A case without `< cert` has the
+//!   repair's own. Of what is accepted the text is the same when it is written again.
+#![tactic(auto)]
+
+mod case;
+mod checked;
+mod job;
+mod refusal;
+mod words;
+
+use case::run_case;
+use std::alloc::{AllocError, Global};
+use std::{env, fs, io};
+use test_cases::{Report, section_cases, shared};
+use xr_base::Memory;
+
+fn main(rt: HostRuntime) -> io::Result<()> {
+    for name in env::args(&rt)?.skip(1) {
+        let text = fs::read(&rt, name.as_str())?;
+        let mut report = Report::new(rt.alloc(), name.as_str())?;
+        run_sections(rt.alloc(), &mut report, text.as_slice()).map_err(|_| AllocError)?;
+        rt.print(report)?;
+    }
+    Ok(())
+}
+
+fn run_sections(alloc: Global, report: &mut Report, text: &[u8]) -> Result<(), Memory> {
+    let common = shared(text);
+    for section in section_cases(text) {
+        run_case(alloc, report, common, section)?;
+    }
+    Ok(())
+}

@@ -1,0 +1,127 @@
+//! Runs in each of which one call of the shelf fails.
+
+use crate::compared::{compare_found, compare_run};
+use crate::given::{Case, OUTPUTS, text_of};
+use crate::setting::{Run, Setting};
+use std::alloc::{AllocError, Global};
+use test_cases::Report;
+
+/// More calls than a case makes.
+const MOST_CALLS: u64 = 1000;
+
+/// Runs a case without a fault, and then with the first call failing, the second, and so on, until none fails.
+///
+/// A run that fails says which name. Where that was read, no file was written; else the files before it are whole, it holds
+/// a beginning of its text or is absent, and those after it aren't there.
+pub fn run_failing(
+    alloc: Global,
+    report: &mut Report,
+    case: Case<'_>,
+    words: &[String],
+) -> Result<(), AllocError> {
+    let whole = run_with(alloc, case, words, 0)?;
+    compare_run(alloc, report, case, &whole)?;
+    for call in 1..MOST_CALLS {
+        let run = run_with(alloc, case, words, call)?;
+        if run.status == 0 {
+            return compare_run(alloc, report, case, &run);
+        }
+        compare_failed(report, case, &whole, &run)?;
+    }
+    report.compare(case.title(), b"status 0 at last", b"no such run")
+}
+
+/// Runs with this call failing, counted from 1; with 0 none does.
+fn run_with(alloc: Global, case: Case<'_>, words: &[String], call: u64) -> Result<Run, AllocError> {
+    let before = Setting::new(alloc, case)?;
+    let mut after = Setting::new(alloc, case)?;
+    after.fail_at(call)?;
+    Ok(Run::of(alloc, before, after, words))
+}
+
+fn compare_failed(
+    report: &mut Report,
+    case: Case<'_>,
+    whole: &Run,
+    run: &Run,
+) -> Result<(), AllocError> {
+    let line = text_of(run.after.printed());
+    match (
+        run.status,
+        name_in(line, "refused: cannot read "),
+        name_in(line, "refused: cannot write "),
+    ) {
+        (3, Some(name), _) => compare_unread(report, case, run, name),
+        (4, _, Some(name)) => compare_unwritten(report, case, whole, run, name),
+        _ => report.compare(
+            case.title(),
+            b"refused: cannot read or write",
+            line.as_bytes(),
+        ),
+    }
+}
+
+/// The name that a line of these words names.
+fn name_in<'a>(line: &'a str, words: &str) -> Option<&'a str> {
+    line.strip_prefix(words)?.strip_suffix("\n")
+}
+
+fn compare_unread(
+    report: &mut Report,
+    case: Case<'_>,
+    run: &Run,
+    name: &str,
+) -> Result<(), AllocError> {
+    let given = run.before.get(name);
+    compare_found(report, case.title(), name, given, run.after.get(name))?;
+    if given.is_none() {
+        report.compare(case.title(), b"a file that is there", name.as_bytes())?;
+    }
+    for output in OUTPUTS {
+        let want = run.before.get(output);
+        compare_found(report, case.title(), output, want, run.after.get(output))?;
+    }
+    Ok(())
+}
+
+fn compare_unwritten(
+    report: &mut Report,
+    case: Case<'_>,
+    whole: &Run,
+    run: &Run,
+    name: &str,
+) -> Result<(), AllocError> {
+    let mut failed = false;
+    for output in OUTPUTS {
+        let got = run.after.get(output);
+        let ended = whole.after.get(output);
+        if output == name {
+            failed = true;
+            compare_front(report, case, name, ended, got)?;
+        } else if failed {
+            compare_found(report, case.title(), output, run.before.get(output), got)?;
+        } else {
+            compare_found(report, case.title(), output, ended, got)?;
+        }
+    }
+    if failed {
+        return Ok(());
+    }
+    report.compare(case.title(), b"a file that is written", name.as_bytes())
+}
+
+/// The file is absent, or has a beginning of its text.
+fn compare_front(
+    report: &mut Report,
+    case: Case<'_>,
+    name: &str,
+    whole: Option<&[u8]>,
+    got: Option<&[u8]>,
+) -> Result<(), AllocError> {
+    let text = whole.unwrap_or(b"");
+    let front = got.unwrap_or(b"");
+    if text.starts_with(front) {
+        return Ok(());
+    }
+    compare_found(report, case.title(), name, Some(text), Some(front))
+}

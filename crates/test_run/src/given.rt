@@ -1,0 +1,148 @@
+//! What stands in a case: its words, what sets it up, and what must come.
+
+use std::alloc::AllocError;
+use std::str;
+use test_cases::{Part, PartKind, Parts, Report, Section};
+
+/// The files that runs write, those of each command in the order in which they are written.
+pub const OUTPUTS: [&str; 6] = ["o.vcd", "o.v", "o.xc", "p.vcd", "m.v", "r.vcd"];
+
+/// A case behind its title, and what holds for all cases of its file.
+#[derive(Clone, Copy)]
+pub struct Case<'a> {
+    common: Section<'a>,
+    own: Section<'a>,
+}
+
+/// The text of a line; one that is none is empty.
+pub fn text_of(line: &[u8]) -> &str {
+    str::from_utf8(line).unwrap_or("")
+}
+
+impl<'a> Case<'a> {
+    pub fn new(common: Section<'a>, own: Section<'a>) -> Case<'a> {
+        Case { common, own }
+    }
+
+    /// The number of its title's line.
+    pub fn title(&self) -> usize {
+        self.own.title.number
+    }
+
+    /// What holds for all cases of its file.
+    pub fn common(&self) -> Parts<'a> {
+        self.common.parts()
+    }
+
+    /// What stands behind its title.
+    pub fn own(&self) -> Parts<'a> {
+        self.own.parts()
+    }
+
+    /// The line of its words.
+    pub fn words(&self) -> &'a str {
+        words_in(self.own()).unwrap_or(words_in(self.common()).unwrap_or(""))
+    }
+
+    /// What stands behind this mark on a line that sets it up.
+    pub fn line(&self, mark: &str) -> Option<&'a str> {
+        line_in(self.own(), mark).or(line_in(self.common(), mark))
+    }
+
+    /// What must come under this head, as `printed`.
+    pub fn want(&self, head: &str) -> Option<Part<'a>> {
+        want_in(self.own(), head).or(want_in(self.common(), head))
+    }
+
+    /// The line `> status 5`.
+    pub fn want_status(&self) -> Option<Part<'a>> {
+        status_in(self.own()).or(status_in(self.common()))
+    }
+
+    /// What must come of a file under this mark, as `> heads o.xc`.
+    pub fn want_of(&self, mark: &str, name: &str) -> Option<Part<'a>> {
+        marked_in(self.own(), mark, name).or(marked_in(self.common(), mark, name))
+    }
+
+    /// Reports what no case has: a part of no known kind, and a second line of words.
+    pub fn check(&self, report: &mut Report) -> Result<(), AllocError> {
+        check_parts(report, self.common())?;
+        check_parts(report, self.own())
+    }
+}
+
+/// The line sets a run up, and is none of its words.
+fn sets_up(line: &str) -> bool {
+    line.starts_with("put ")
+        || line.starts_with("fail ")
+        || line.starts_with("pieces ")
+        || line.starts_with("cut ")
+}
+
+fn is_words(part: &Part<'_>) -> bool {
+    part.kind == PartKind::Words && !sets_up(text_of(part.head))
+}
+
+fn words_in(parts: Parts<'_>) -> Option<&str> {
+    let mut parts = parts;
+    let part = parts.find(|part| is_words(part))?;
+    Some(text_of(part.head))
+}
+
+fn line_in<'a>(parts: Parts<'a>, mark: &str) -> Option<&'a str> {
+    let mut parts = parts;
+    let part = parts.find(|part| {
+        part.kind == PartKind::Words && text_of(part.head).starts_with(mark)
+    })?;
+    text_of(part.head).strip_prefix(mark)
+}
+
+fn want_in<'a>(parts: Parts<'a>, head: &str) -> Option<Part<'a>> {
+    let mut parts = parts;
+    parts.find(|part| part.kind == PartKind::Want && text_of(part.head) == head)
+}
+
+fn status_in(parts: Parts<'_>) -> Option<Part<'_>> {
+    let mut parts = parts;
+    parts.find(|part| part.kind == PartKind::Want && is_status(text_of(part.head)))
+}
+
+fn is_status(head: &str) -> bool {
+    head.starts_with("status ")
+}
+
+fn marked_in<'a>(parts: Parts<'a>, mark: &str, name: &str) -> Option<Part<'a>> {
+    let mut parts = parts;
+    parts.find(|part| {
+        part.kind == PartKind::Want && text_of(part.head).strip_prefix(mark) == Some(name)
+    })
+}
+
+fn check_parts(report: &mut Report, parts: Parts<'_>) -> Result<(), AllocError> {
+    let mut has_words = false;
+    for part in parts {
+        let again = has_words && is_words(&part);
+        has_words = has_words || is_words(&part);
+        if again || !is_known(&part) {
+            report.compare(part.line, b"a part of a case", part.head)?;
+        }
+    }
+    Ok(())
+}
+
+/// The part is one that runs look at.
+fn is_known(part: &Part<'_>) -> bool {
+    let head = text_of(part.head);
+    match part.kind {
+        PartKind::Want => is_status(head) || head == "printed" || head == "bits" || is_output(head),
+        _ => true,
+    }
+}
+
+fn is_output(head: &str) -> bool {
+    let name = head
+        .strip_prefix("heads ")
+        .or(head.strip_prefix("none "))
+        .unwrap_or(head);
+    OUTPUTS.iter().any(|output| *output == name)
+}

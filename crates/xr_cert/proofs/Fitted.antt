@@ -1,0 +1,55 @@
+-- A certificate that is checked is accepted, and so is that of a finished wave that went along lines.
+use Rattle.std.proofs.Common.{◌≡◌, ℕ, ◌<◌, Some, List, [], length, refl, sym, subst}
+use Rattle.std.specs.Prelude.{IfOk, Result, Ok, Err}
+use Rattle.xr_design.specs.Fits.{Fits}
+use Rattle.xr_model.proofs.YieldedSound.{sound_honest}
+use Rattle.xr_model.specs.Stated.{body_at}
+use Rattle.xr_model.specs.Yields.{Yields}
+use Rattle.xr_model.specs.declared.line.Body.{Body}
+use Rattle.xr_model.specs.declared.line.Line.{Line as ALine}
+use Rattle.xr_wave.specs.Contents.{Contents, job, shown_in}
+use Rattle.xr_along.proofs.Fitted.{along_job, logs_along_fit}
+use Rattle.xr_cert_text.specs.declared.cert.Cert.{Cert as ACert}
+use Rattle.xr_along.specs.Along.{BodyFitsAt, LogsFit}
+use Rattle.xr_cert.specs.Checked.{HasNumbers, IsAccepted, IsChecked}
+use Rattle.xr_cert.specs.Laws.{OwnAccepted}
+use Rattle.xr_cert.specs.Step.{cert_of}
+use Rattle.xr_cert.specs.declared.refusal.CheckErr.{CheckErr}
+use Rattle.xr_cert.proofs.Faultless.{begun_same}
+
+-- A certificate that is checked is accepted.
+pub checked_accepted : (start : Contents) (cert : ACert) (c : Contents) → start.written ≡ [] → start.lines ≡ [] → IsChecked start cert c
+    → IsAccepted start cert c.written
+checked_accepted start cert c written lines checked =
+    let j = job c in
+    let same = begun_same checked.goes in
+    let fits : Fits (job start) = subst Fits (along_job checked.goes) checked.wave.fits.fits_job in
+    let fitted : LogsFit c = logs_along_fit start c checked.goes fits written lines in
+    let there : IsAccepted (record c { written = start.written; lines = start.lines }) cert c.written = record {
+      numbers = subst (λ (d : Contents). HasNumbers d cert.head) (sym same) checked.numbers;
+      long = checked.finished;
+      yields = subst (λ (ls : List ALine). Yields j c.limit (shown_in c) c.written ls) checked.lines checked.wave.holds.yields;
+      honest = sound_honest j c.limit (shown_in c) c.written c.lines checked.wave.holds.sound;
+      logs = subst (λ (ls : List ALine). (place : ℕ) (body : Body) → place < length c.written → body_at j ls place ≡ Some body
+          → BodyFitsAt c c.written place body) checked.lines fitted;
+    } in
+    subst (λ (d : Contents). IsAccepted d cert c.written) same there
+
+pub accepted_all : (start : Contents) (cert : ACert) (result : Result Contents CheckErr) → start.written ≡ [] → start.lines ≡ []
+    → IfOk result (IsChecked start cert) → IfOk result (λ c. IsAccepted start cert c.written)
+accepted_all start cert (Ok c) written lines checked = checked_accepted start cert c written lines checked
+accepted_all start cert (Err e) written lines checked = tt
+
+-- So is that of a finished wave that went along lines.
+pub own_accepted : OwnAccepted
+own_accepted start c written lines goes wave finished =
+    let same = begun_same goes in
+    let fits : Fits (job start) = subst Fits (along_job goes) wave.fits.fits_job in
+    let there : IsAccepted (record c { written = start.written; lines = start.lines }) (cert_of c) c.written = record {
+      numbers = record { rounds = refl; conflicts = refl; moments = refl; nets = refl };
+      long = finished;
+      yields = wave.holds.yields;
+      honest = sound_honest (job c) c.limit (shown_in c) c.written c.lines wave.holds.sound;
+      logs = logs_along_fit start c goes fits written lines;
+    } in
+    subst (λ (d : Contents). IsAccepted d (cert_of c) c.written) same there

@@ -1,0 +1,103 @@
+-- Where a check names a place, that is one of the job.
+use Rattle.std.proofs.Common.{◌≡◌, ℕ, List, refl, sym, subst, ap, ◌∙◌}
+use Rattle.xr_design.proofs.Numbers.{is_place_at}
+use Rattle.xr_design.specs.declared.place.Place.{Place}
+use Rattle.xr_design.specs.declared.waveform.Written.{Written}
+use Rattle.xr_design.specs.Filling.{IsPlace}
+use Rattle.xr_design.specs.Fits.{place_at}
+use Rattle.xr_model.specs.declared.line.Body.{Body}
+use Rattle.xr_model.specs.declared.line.Body.TheVariants.{Enumerated, Refuted, Pair, Undecided}
+use Rattle.xr_model.specs.declared.line.Line.{Line as ALine}
+use Rattle.xr_wave.specs.Contents.{Contents, IsWave, job, next_number}
+use Rattle.xr_wave.specs.Advance.{Reports, plain_written}
+use Rattle.xr_wave.specs.Token.{HasNext, written_by_line}
+use Rattle.xr_wave.specs.declared.advance.Optimistic.{Optimistic}
+use Rattle.xr_along.proofs.Fitted.{along_job, next_plain_is}
+use Rattle.xr_cert_text.specs.declared.cert.Cert.{Cert as ACert}
+use Rattle.xr_cert.specs.Checked.{IsRefusalOf, line, number}
+use Rattle.xr_cert.specs.Laws.{MissingIsPlace, ObjectionIsPlace}
+use Rattle.xr_cert.specs.Walk.{IsCertFault, astray, beyond, body_fault, class_objects, later, line_objects, no_line, no_memory, refused}
+use Rattle.xr_cert.specs.declared.refusal.CertFault.{CertFault}
+use Rattle.xr_cert.specs.declared.refusal.CertFault.TheVariants.{Missing}
+use Rattle.xr_cert.specs.declared.refusal.CheckErr.{CheckErr}
+use Rattle.xr_cert.specs.declared.refusal.CheckErr.TheVariants.{Refused, Optimistic as Objects}
+use Rattle.xr_cert.proofs.Faultless.{next_line_is}
+
+next_there : (c : Contents) → IsWave c → HasNext c → IsPlace (job c) (place_at (job c) (next_number c))
+next_there c wave next = is_place_at (job c) (next_number c) wave.fits.fits_job.ordering wave.fits.fits_job.all next
+
+-- The place that lacks its line,
+abbrev lacks : Place → CheckErr
+lacks place = Refused (Missing place)
+
+same_place : (p q : Place) → lacks p ≡ lacks q → p ≡ q
+same_place p q is = cc
+
+abbrev refusal : CertFault → CheckErr
+refusal fault = Refused fault
+
+same_fault : (f : CertFault) (place : Place) → refusal f ≡ lacks place → f ≡ Missing place
+same_fault f place is = cc
+
+no_body : (n : ℕ) (body : Body) (place : Place) → body_fault n body ≡ Missing place → ⊥
+no_body n (Enumerated bit) place is = absurd cc
+no_body n (Refuted bit log) place is = absurd cc
+no_body n (Pair first second) place is = absurd cc
+no_body n (Undecided log) place is = absurd cc
+
+missing_next : (c : Contents) (rest : List ALine) (e : CheckErr) (place : Place) → IsWave c → e ≡ lacks place
+    → IsCertFault c rest e → IsPlace (job c) place
+missing_next c rest e place wave is (class_objects same objection plain contradicts reports) = absurd cc
+missing_next c rest e place wave is (no_line next) =
+    subst (IsPlace (job c)) (same_place _ place is) (next_there c wave (next_line_is c next).0)
+missing_next c rest e place wave is (later l ls next behind) =
+    subst (IsPlace (job c)) (same_place _ place is) (next_there c wave (next_line_is c next).0)
+missing_next c rest e place wave is (astray l ls next not_named not_later) = absurd cc
+missing_next c rest e place wave is (beyond l ls done) = absurd cc
+missing_next c rest e place wave is (refused l ls next names refuses) =
+    absurd (no_body _ l.body place (same_fault _ place is))
+missing_next c rest e place wave is (line_objects l ls objection next accepts contradicts reports) = absurd cc
+missing_next c rest e place wave is (no_memory same) = absurd cc
+
+missing_named : (start : Contents) (cert : ACert) (e : CheckErr) (place : Place) → e ≡ lacks place → IsRefusalOf start cert e
+    → IsPlace (job start) place
+missing_named start cert e place is (number other) = absurd cc
+missing_named start cert e place is (line numbers first) =
+    subst (λ j. IsPlace j place) (along_job first.goes) (missing_next first.c first.rest e place first.wave is first.fault)
+
+pub missing_is_place : MissingIsPlace
+missing_is_place start cert place refusal = missing_named start cert (lacks place) place refl refusal
+
+-- and the one that the history knows otherwise.
+abbrev objects : Optimistic → CheckErr
+objects objection = Objects objection
+
+same_objection : (a b : Optimistic) → objects a ≡ objects b → a ≡ b
+same_objection a b is = cc
+
+objects_next : (c : Contents) (w : Written) (a b : Optimistic) → IsWave c → HasNext c → Reports c w a → objects a ≡ objects b
+    → IsPlace (job c) b.place
+objects_next c w a b wave next reports is =
+    subst (IsPlace (job c)) (sym reports.place_is ∙ ap (λ (o : Optimistic). o.place) (same_objection a b is)) (next_there c wave next)
+
+objecting : (c : Contents) (rest : List ALine) (e : CheckErr) (o : Optimistic) → IsWave c → e ≡ objects o → IsCertFault c rest e
+    → IsPlace (job c) o.place
+objecting c rest e o wave is (class_objects same objection plain contradicts reports) =
+    objects_next c (plain_written c) objection o wave (next_plain_is c plain).0 reports is
+objecting c rest e o wave is (no_line next) = absurd cc
+objecting c rest e o wave is (later l ls next behind) = absurd cc
+objecting c rest e o wave is (astray l ls next not_named not_later) = absurd cc
+objecting c rest e o wave is (beyond l ls done) = absurd cc
+objecting c rest e o wave is (refused l ls next names refuses) = absurd cc
+objecting c rest e o wave is (line_objects l ls objection next accepts contradicts reports) =
+    objects_next c (written_by_line c l) objection o wave (next_line_is c next).0 reports is
+objecting c rest e o wave is (no_memory same) = absurd cc
+
+objection_named : (start : Contents) (cert : ACert) (e : CheckErr) (o : Optimistic) → e ≡ objects o → IsRefusalOf start cert e
+    → IsPlace (job start) o.place
+objection_named start cert e o is (number other) = absurd cc
+objection_named start cert e o is (line numbers first) =
+    subst (λ j. IsPlace j o.place) (along_job first.goes) (objecting first.c first.rest e o first.wave is first.fault)
+
+pub objection_is_place : ObjectionIsPlace
+objection_is_place start cert o refusal = objection_named start cert (objects o) o refl refusal

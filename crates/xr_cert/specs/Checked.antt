@@ -1,0 +1,74 @@
+-- What the check of a certificate comes to.
+use Rattle.std.specs.Prelude.{◌≡◌, ℕ, ◌<◌, Some, List, length}
+use Rattle.xr_design.specs.declared.design.Design.{Design}
+use Rattle.xr_design.specs.declared.stim.Stim.{Stim}
+use Rattle.xr_design.specs.declared.waveform.Written.{Written}
+use Rattle.xr_design.specs.Job.{places_of}
+use Rattle.xr_model.specs.Sound.{IsHonest}
+use Rattle.xr_model.specs.Stated.{body_at}
+use Rattle.xr_model.specs.Yields.{Yields}
+use Rattle.xr_model.specs.declared.line.Body.{Body}
+use Rattle.xr_wave.specs.Contents.{Contents, IsFinished, IsWave, job, shown_in}
+use Rattle.xr_cert_text.specs.declared.cert.Cert.{Cert}
+use Rattle.xr_cert_text.specs.declared.cert.Head.{Head}
+use Rattle.xr_along.specs.Along.{BodyFitsAt, GoesAlong}
+use Rattle.xr_laws.specs.Alike.{IsOneFor, IsOneForHistories}
+use Rattle.xr_cert_text.specs.Wrong.{IsFirstWrong}
+use Rattle.xr_cert.specs.Walk.{IsFirstCertFault}
+use Rattle.xr_cert.specs.declared.refusal.CertFault.TheVariants.{BadEnum, BadLog, BadPair, Header, Missing, Stray, Syntax}
+use Rattle.xr_cert.specs.declared.refusal.CertErr.{CertErr}
+use Rattle.xr_cert.specs.declared.refusal.CertErr.TheVariants.{Refused as Unread, Memory}
+use Rattle.xr_cert.specs.declared.refusal.CertFault.{CertFault}
+use Rattle.xr_cert.specs.declared.refusal.CheckErr.{CheckErr}
+use Rattle.xr_cert.specs.declared.refusal.CheckErr.TheVariants.{Refused}
+
+-- A text isn't read for its first wrong line alone.
+abbrev pub IsSyntax : List ℕ → CertFault → Type 0
+IsSyntax text (Syntax line) = IsFirstWrong text line
+IsSyntax text (Header line) = ⊥
+IsSyntax text (Missing place) = ⊥
+IsSyntax text (Stray line) = ⊥
+IsSyntax text (BadLog line) = ⊥
+IsSyntax text (BadPair line) = ⊥
+IsSyntax text (BadEnum line) = ⊥
+
+abbrev pub IsReadRefusal : List ℕ → CertErr → Type 0
+IsReadRefusal text (Unread fault) = IsSyntax text fault
+IsReadRefusal text Memory = Unit {0}
+
+-- The numbers of the second line are those of the run.
+pub record AreNumbers (design : Design) (stim : Stim) (limit : ℕ) (head : Head) : Type 0 where
+  pub rounds : head.rounds ≡ stim.rounds
+  pub conflicts : head.conflicts ≡ limit
+  pub moments : head.moments ≡ length stim.times
+  pub nets : head.nets ≡ length design.nets
+
+abbrev pub HasNumbers : Contents → Head → Type 0
+HasNumbers start head = AreNumbers start.design start.stim start.limit head
+
+-- A certificate is checked: its numbers are those of the run, and a finished wave went on by its lines, which are the
+-- wave's. Where no place is undecided, every sound waveform of the job without undecided places is this one, and for
+-- another history it has the same marks and certain values.
+pub record IsChecked (start : Contents) (cert : Cert) (c : Contents) : Type 0 where
+  pub numbers : HasNumbers start cert.head
+  pub goes : GoesAlong start c
+  pub lines : c.lines ≡ cert.lines
+  pub finished : IsFinished c
+  pub wave : IsWave c
+  pub one : IsOneFor (job c) (shown_in c) c.written
+  pub alike : IsOneForHistories (job c) c.written
+
+-- It is refused: for a number of the second line, or at the first fault of its lines.
+pub data IsRefusalOf (start : Contents) (cert : Cert) : CheckErr → Type 0 where
+  number : (HasNumbers start cert.head → ⊥) → IsRefusalOf start cert (Refused (Header 2))
+  line : {e : CheckErr} → HasNumbers start cert.head → IsFirstCertFault start cert.lines e → IsRefusalOf start cert e
+
+-- A certificate is accepted: its numbers are those of the run, and its lines yield a waveform of all places, none of
+-- which is optimistic; its logs name variables of their queries.
+pub record IsAccepted (start : Contents) (cert : Cert) (waveform : List Written) : Type 0 where
+  pub numbers : HasNumbers start cert.head
+  pub long : length waveform ≡ places_of (job start)
+  pub yields : Yields (job start) start.limit (shown_in start) waveform cert.lines
+  pub honest : IsHonest (shown_in start) waveform
+  pub logs : (place : ℕ) (body : Body) → place < length waveform → body_at (job start) cert.lines place ≡ Some body
+      → BodyFitsAt start waveform place body

@@ -1,0 +1,66 @@
+-- What the functions of src/laws.rt ensure: lines have one first fault, and a wave's own certificate is accepted.
+use Rattle.std.specs.Prelude.{◌≡◌, List, []}
+use Rattle.xr_design.specs.declared.place.Place.{Place}
+use Rattle.xr_design.specs.Filling.{IsPlace}
+use Rattle.xr_model.specs.declared.line.Line.{Line as ALine}
+use Rattle.xr_wave.specs.Contents.{Contents, IsFinished, IsWave, job}
+use Rattle.xr_wave.specs.declared.advance.Optimistic.{Optimistic}
+use Rattle.xr_cert_text.specs.declared.cert.Cert.{Cert as ACert}
+use Rattle.xr_cert_text.specs.Text.{cert_text}
+use Rattle.xr_cert_text.specs.Wrong.{IsTextOf}
+use Rattle.xr_cert.specs.Checked.{IsAccepted, IsChecked, IsRefusalOf}
+use Rattle.xr_cert.specs.Step.{cert_of}
+use Rattle.xr_along.specs.Along.{GoesAlong}
+use Rattle.xr_cert.specs.Walk.{IsFirstCertFault}
+use Rattle.xr_cert.specs.declared.refusal.CertFault.TheVariants.{Missing}
+use Rattle.xr_cert.specs.declared.refusal.CheckErr.{CheckErr}
+use Rattle.xr_cert.specs.declared.refusal.CheckErr.TheVariants.{Refused, Optimistic as Objects, Memory}
+
+-- Two objections report the same, wherever their lines lie in memory.
+pub record IsSameObjection (a b : Optimistic) : Type 0 where
+  pub place : a.place ≡ b.place
+  pub replayed : a.replayed ≡ b.replayed
+  pub found : a.found ≡ b.found
+  pub lines : a.lines.items ≡ b.lines.items
+
+abbrev pub IsSameFault : CheckErr → CheckErr → Type 0
+IsSameFault (Refused e) (Refused f) = e ≡ f
+IsSameFault (Refused e) (Objects b) = ⊥
+IsSameFault (Refused e) Memory = ⊥
+IsSameFault (Objects a) (Refused f) = ⊥
+IsSameFault (Objects a) (Objects b) = IsSameObjection a b
+IsSameFault (Objects a) Memory = ⊥
+IsSameFault Memory f = ⊥
+
+-- It isn't for want of memory.
+abbrev pub IsReason : CheckErr → Type 0
+IsReason e = e ≡ Memory → ⊥
+
+-- Lines have one first fault beside want of memory,
+abbrev pub OneFault : Type 0
+OneFault = (start : Contents) (lines : List ALine) (e f : CheckErr)
+    → IsFirstCertFault start lines e → IsFirstCertFault start lines f → IsReason e → IsReason f → IsSameFault e f
+
+-- and none where they are those of a checked certificate.
+abbrev pub CheckedHasNone : Type 0
+CheckedHasNone = (start : Contents) (cert : ACert) (c : Contents) (e : CheckErr) → start.lines ≡ []
+    → IsChecked start cert c → IsFirstCertFault start cert.lines e → IsReason e → ⊥
+
+-- The certificate of a finished wave that went along lines from nothing is accepted, and yields the wave.
+abbrev pub OwnAccepted : Type 0
+OwnAccepted = (start c : Contents) → start.written ≡ [] → start.lines ≡ [] → GoesAlong start c → IsWave c → IsFinished c
+    → IsAccepted start (cert_of c) c.written
+
+-- The text of such a wave, finished or not, stands for its certificate: so it is read back.
+abbrev pub OwnTextStands : Type 0
+OwnTextStands = (start c : Contents) → start.lines ≡ [] → GoesAlong start c → IsWave c
+    → IsTextOf (cert_text (cert_of c)) (cert_of c)
+
+-- The place that lacks its line is one of the job, and so is the one that the history knows otherwise.
+abbrev pub MissingIsPlace : Type 0
+MissingIsPlace = (start : Contents) (cert : ACert) (place : Place) → IsRefusalOf start cert (Refused (Missing place))
+    → IsPlace (job start) place
+
+abbrev pub ObjectionIsPlace : Type 0
+ObjectionIsPlace = (start : Contents) (cert : ACert) (objection : Optimistic) → IsRefusalOf start cert (Objects objection)
+    → IsPlace (job start) objection.place

@@ -1,0 +1,167 @@
+//! The logs of lines, checked against the query of the next place.
+
+ghost use Rattle.std.specs.Prelude.{◌≡◌, ◌<◌, ◌≤◌, ◌^◌, ◌↔◌, IfNone, IfOk, IfSome, IsTrue, length, nat_abs};
+ghost use Rattle.std.specs.List.{All};
+ghost use Rattle.xr_cone_nodes.specs.Traced.{IsNextCone};
+ghost use Rattle.xr_cnf.specs.Query.{IsQueryOfNodes};
+ghost use Rattle.xr_cone_nodes.specs.Nodes.{nothing, root_bit, sources_of};
+ghost use Rattle.xr_model.specs.declared.line.Body.TheVariants as body;
+ghost use Rattle.xr_proof.specs.Log.{Fit};
+ghost use Rattle.xr_wave.specs.Token.{budget_line, settled_line};
+ghost use Rattle.xr_cert.specs.Step.{IsTokenOf, Refuses};
+
+use std::alloc::Global;
+use xr_base::Memory;
+use xr_cnf::clauses;
+use xr_cone::Cone;
+use xr_proof::{Checker, Clause, Cnf, Log};
+use xr_wave::{Budget, How, Settled, Wave};
+
+/// A place isn't undecided with up to this many sources.
+const ENUMERATED: usize = 12;
+
+/// The token of a log that refutes the query of the next place, which denies the bit, where that body is accepted.
+pub fn refuted_token(
+    alloc: Global,
+    wave: &Wave<'_>,
+    cone: &Cone,
+    bit: bool,
+    log: Log,
+) -> Result<Option<Settled>, Memory>
+    requires { IsNextCone wave.now cone.now.nodes }
+    ensures token { IfOk result
+        (λ found. IfSome found (λ t. IsTokenOf wave.now (body.Refuted bit log) (settled_line t))) }
+    ensures none { IfOk result (λ found. IfNone found (Refuses wave.now (body.Refuted bit log))) }
+{
+    if !are_same(cone.base(), bit) {
+        return Ok(None);
+    }
+    let query = clauses(alloc, cone)?;
+    if fits(&log, query.vars) {
+        refuting_token(alloc, wave, cone, bit, &query, log)
+    } else {
+        Ok(None)
+    }
+}
+
+fn are_same(a: bool, b: bool) -> bool
+    ensures { IsTrue result ↔ (a ≡ b) }
+{
+    a == b
+}
+
+/// The same where the query denies the bit, and the log names its variables alone.
+fn refuting_token(
+    alloc: Global,
+    wave: &Wave<'_>,
+    cone: &Cone,
+    bit: bool,
+    query: &Cnf,
+    log: Log,
+) -> Result<Option<Settled>, Memory>
+    requires cone { IsNextCone wave.now cone.now.nodes }
+    requires base { root_bit nothing cone.now.nodes ≡ bit }
+    requires query { IsQueryOfNodes cone.now.nodes query.now }
+    requires few { query.now.vars ≤ 2 ^ 27 }
+    requires fit { Fit query.now.vars log }
+    ensures token { IfOk result
+        (λ found. IfSome found (λ t. IsTokenOf wave.now (body.Refuted bit log) (settled_line t))) }
+    ensures none { IfOk result (λ found. IfNone found (Refuses wave.now (body.Refuted bit log))) }
+{
+    let mut checker = checker_for(alloc, query, &log)?;
+    match checker.check(query, log) {
+        Ok(proof) => {
+            let how = How::Refuted(bit, proof.into_log());
+            Ok(Some(Settled::from_law(wave, how)))
+        }
+        Err(_) => Ok(None),
+    }
+}
+
+/// The token of a log that leaves the next place undecided, where that body is accepted.
+pub fn exhausted_token(
+    alloc: Global,
+    wave: &Wave<'_>,
+    cone: &Cone,
+    log: Log,
+) -> Result<Option<Budget>, Memory>
+    requires { IsNextCone wave.now cone.now.nodes }
+    ensures token { IfOk result (λ found. IfSome found (λ t. IsTokenOf wave.now (body.Undecided log) (budget_line t))) }
+    ensures none { IfOk result (λ found. IfNone found (Refuses wave.now (body.Undecided log))) }
+{
+    if cone.sources().len() <= ENUMERATED {
+        return Ok(None);
+    }
+    let query = clauses(alloc, cone)?;
+    if fits(&log, query.vars) {
+        fresh_token(alloc, wave, cone, &query, log)
+    } else {
+        Ok(None)
+    }
+}
+
+/// The same where there are more than 12 sources, and the log names the query's variables alone.
+fn fresh_token(
+    alloc: Global,
+    wave: &Wave<'_>,
+    cone: &Cone,
+    query: &Cnf,
+    log: Log,
+) -> Result<Option<Budget>, Memory>
+    requires cone { IsNextCone wave.now cone.now.nodes }
+    requires many { 12 < length (sources_of cone.now.nodes) }
+    requires query { IsQueryOfNodes cone.now.nodes query.now }
+    requires few { query.now.vars ≤ 2 ^ 27 }
+    requires fit { Fit query.now.vars log }
+    ensures token { IfOk result (λ found. IfSome found (λ t. IsTokenOf wave.now (body.Undecided log) (budget_line t))) }
+    ensures none { IfOk result (λ found. IfNone found (Refuses wave.now (body.Undecided log))) }
+{
+    let mut checker = checker_for(alloc, query, &log)?;
+    match checker.check_fresh(query, log, wave.limit()) {
+        Ok(proof) => Ok(Some(Budget::from_law(wave, proof.into_log()))),
+        Err(_) => Ok(None),
+    }
+}
+
+/// Whether a log names variables up to this one alone.
+fn fits(log: &Log, vars: u32) -> bool
+    ensures { IsTrue result ↔ Fit vars log.now }
+{
+    let clauses = log.as_slice();
+    'clauses: for place in 0..clauses.len() {
+        if !clause_fits(clauses[place].as_slice(), vars) {
+            return false;
+        }
+    }
+    true
+}
+
+fn clause_fits(literals: &[i32], vars: u32) -> bool
+    ensures { IsTrue result ↔ All (λ l. nat_abs l ≤ vars) literals.now }
+{
+    'literals: for literal in literals {
+        if literal.unsigned_abs() > vars {
+            return false;
+        }
+    }
+    true
+}
+
+/// A checker with room for a formula and a log.
+fn checker_for(alloc: Global, query: &Cnf, log: &Log) -> Result<Checker, Memory>
+    requires { query.now.vars ≤ 2 ^ 27 }
+    ensures { IfOk result (λ checker. checker ≡ query.now.vars) }
+{
+    let formula = query.clauses.as_slice();
+    let count = formula.len().saturating_add(log.as_slice().len());
+    let literals = literals_of(formula).saturating_add(literals_of(log.as_slice()));
+    Checker::with_room(alloc, query.vars, count, literals)
+}
+
+fn literals_of(clauses: &[Clause]) -> usize {
+    let mut count: usize = 0;
+    'clauses: for place in 0..clauses.len() {
+        count = count.saturating_add(clauses[place].as_slice().len());
+    }
+    count
+}

@@ -1,0 +1,46 @@
+//! The text of a wave's certificate, and a certificate by its text.
+
+ghost use Rattle.std.specs.Prelude.{◌≡◌, IfErr, IfOk, MatchResult};
+ghost use Rattle.xr_cert_text.specs.declared.cert.Cert.{Cert as ACert};
+ghost use Rattle.xr_cert_text.specs.Text.{cert_text};
+ghost use Rattle.xr_cert_text.specs.Wrong.{IsTextOf};
+ghost use Rattle.xr_cert.specs.Checked.{IsReadRefusal};
+ghost use Rattle.xr_cert.specs.declared.refusal.CertErr.TheVariants.{Memory as OutOfMemory};
+ghost use Rattle.xr_cert.specs.Step.{cert_of};
+
+use crate::refusal::{CertErr, CertFault};
+use std::alloc::Global;
+use xr_base::Memory;
+use xr_cert_text::{Cert, Head, TextErr, read_text, write_text};
+use xr_design::width_of;
+use xr_wave::Wave;
+
+/// The text of a wave's lines. Takes the text's bytes.
+pub fn write_cert(alloc: Global, wave: &Wave<'_>) -> Result<Vec<u8>, Memory>
+    ensures { IfOk result (λ text. text.items ≡ cert_text (cert_of wave.now)) }
+{
+    let circuit = wave.circuit();
+    let head = Head {
+        rounds: circuit.stim.rounds,
+        conflicts: wave.limit(),
+        moments: circuit.stim.times.as_slice().len() as u32,
+        nets: width_of(&circuit) as u32,
+    };
+    write_text(alloc, head, wave.lines())
+}
+
+/// The certificate that a text stands for, or its first wrong line. Takes the memory of the lines.
+pub fn read_cert(alloc: Global, bytes: &[u8]) -> Result<Cert, CertErr>
+    ensures found { IfOk result (IsTextOf bytes.now) }
+    ensures only { (cert : ACert) → IsTextOf bytes.now cert
+        → MatchResult result (λ c. c ≡ cert) (λ e. e ≡ OutOfMemory) }
+    ensures refused { IfErr result (IsReadRefusal bytes.now) }
+{
+    match read_text(alloc, bytes) {
+        Ok(cert) => Ok(cert),
+        Err(TextErr::Refused(wrong)) => Err(CertErr::Refused(CertFault::Syntax {
+            line: wrong.line,
+        })),
+        Err(TextErr::Memory) => Err(CertErr::Memory),
+    }
+}

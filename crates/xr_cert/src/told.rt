@@ -1,0 +1,67 @@
+//! Bodies that lanes tell to hold at the next place, without its cone.
+
+ghost use Rattle.std.specs.Prelude.{IfErr, IfOk, IsTrue};
+ghost use Rattle.xr_lanes.specs.Lanes.{IsLookedAt, IsRightOf};
+ghost use Rattle.xr_model.specs.declared.line.Body.TheVariants as body;
+ghost use Rattle.xr_wave.specs.Token.{HoldsNext, IsLineNext};
+ghost use Rattle.xr_cert.specs.Step.{BodyStops, IsSpentBy, IsTold};
+
+use crate::pairs::are_fillings;
+use crate::refusal::CheckErr;
+use crate::spend::spend_pair;
+use std::alloc::Global;
+use xr_base::Memory;
+use xr_design::Filling;
+use xr_lanes::Lanes;
+use xr_model::Body;
+use xr_wave::{Pair, Wave};
+
+/// Whether lanes tell that a body holds at the next place, which was looked at: where it states two fillings that lanes
+/// have of its sources, and these give it 0 and 1.
+pub fn do_tell(alloc: Global, wave: &Wave<'_>, lanes: &Lanes, body: &Body) -> Result<bool, Memory>
+    requires right { IsRightOf wave.now lanes.now }
+    requires looked { IsLookedAt wave.now lanes.now }
+    ensures { IfOk result (λ told. IsTrue told → IsTold wave.now body.now) }
+{
+    match body {
+        Body::Pair(zero, one) => are_told(alloc, wave, lanes, zero, one),
+        Body::Enumerated(_) | Body::Refuted(..) | Body::Undecided(_) => Ok(false),
+    }
+}
+
+/// The same of two fillings.
+fn are_told(
+    alloc: Global,
+    wave: &Wave<'_>,
+    lanes: &Lanes,
+    zero: &Filling,
+    one: &Filling,
+) -> Result<bool, Memory>
+    requires right { IsRightOf wave.now lanes.now }
+    requires looked { IsLookedAt wave.now lanes.now }
+    ensures { IfOk result (λ told. IsTrue told → HoldsNext wave.now (body.Pair zero.now one.now)) }
+{
+    if !are_fillings(&wave.circuit(), zero, one) {
+        return Ok(false);
+    }
+    Ok(
+        lanes.bit(alloc, wave, zero.as_slice())? == Some(false)
+            && lanes.bit(alloc, wave, one.as_slice())? == Some(true),
+    )
+}
+
+/// Writes the next place by a body that lanes tell to hold there.
+pub fn spend_told<'a>(wave: Wave<'a>, body: Body) -> Result<Wave<'a>, CheckErr>
+    requires class { IsLineNext wave }
+    requires told { IsTold wave body }
+    ensures ok { IfOk result (IsSpentBy wave.entry body) }
+    ensures err { IfErr result (BodyStops wave.entry body) }
+{
+    match body {
+        Body::Pair(zero, one) => {
+            let proof = Pair::from_law(&wave, zero, one);
+            spend_pair(wave, proof)
+        }
+        Body::Enumerated(_) | Body::Refuted(..) | Body::Undecided(_) => unreachable!(),
+    }
+}

@@ -1,0 +1,108 @@
+//! The words of a line: what stands between its spaces.
+
+ghost use Rattle.std.specs.Prelude.{◌≡◌, ◌<◌, ◌≤◌, suc, [], ◌∷◌, drop, length, take, IfErr, IfOk, IfSome, MatchOption};
+ghost use Rattle.xr_cert_text.specs.Pieces.{first_length, pieces, words_in};
+
+use crate::refusal::LineErr;
+use std::marker::Model;
+
+/// The words of a line that are left to read.
+#[derive(Drop)]
+pub struct Words<'a> {
+    rest: &'a [u8],
+    over: bool,
+}
+
+impl<'a> Model for Words<'a> {
+    ghost use Rattle.std.specs.Prelude.{List, ℕ, [], if◌then◌else◌};
+    ghost use Rattle.xr_cert_text.specs.Pieces.{words_in};
+
+    ghost Value = { List (List ℕ) };
+
+    ghost view = { λ w. if w.over then [] else words_in w.rest.now };
+}
+
+impl<'a> Words<'a> {
+    /// The words of a line.
+    pub fn new(line: &'a [u8]) -> Words<'a>
+        ensures { result ≡ words_in line.now }
+    {
+        Words {
+            rest: line,
+            over: false,
+        }
+    }
+
+    /// The next word, if there is one.
+    pub fn next(&mut self) -> Option<&'a [u8]>
+        ensures none { MatchOption result (self.old ≡ []) (λ word. self.old ≡ word.now ∷ self.new) }
+        ensures over { MatchOption result (self.new ≡ []) (λ _. Unit {0}) }
+    {
+        if self.over {
+            return None;
+        }
+        let (word, after) = first_piece(self.rest, b' ');
+        match after {
+            Some(rest) => self.rest = rest,
+            None => self.over = true,
+        }
+        Some(word)
+    }
+
+    /// The next word, which there must be.
+    pub fn need(&mut self) -> Result<&'a [u8], LineErr>
+        ensures ok { IfOk result (λ word. self.old ≡ word.now ∷ self.new) }
+        ensures err { IfErr result (λ e. (self.old ≡ []) × (e ≡ LineErr.Wrong)) }
+    {
+        match self.next() {
+            Some(word) => Ok(word),
+            None => Err(LineErr::Wrong),
+        }
+    }
+}
+
+/// The first piece of these bytes, and what stands after the cut that ends it, if one does.
+pub fn first_piece(bytes: &[u8], cut: u8) -> (&[u8], Option<&[u8]>)
+    ensures pieces { MatchOption result.1 (pieces cut bytes.now ≡ result.0.now ∷ [])
+        (λ rest. pieces cut bytes.now ≡ result.0.now ∷ pieces cut rest.now) }
+    ensures shorter { IfSome result.1 (λ rest. length rest.now < length bytes.now) }
+{
+    let count = first_length(bytes, cut);
+    if count < bytes.len() {
+        (front(bytes, count), Some(rest_after(bytes, count)))
+    } else {
+        (bytes, None)
+    }
+}
+
+fn front(bytes: &[u8], count: usize) -> &[u8]
+    requires { count < length bytes.now }
+    ensures { result.now ≡ take count bytes.now }
+{
+    &bytes[..count]
+}
+
+fn rest_after(bytes: &[u8], count: usize) -> &[u8]
+    requires { count < length bytes.now }
+    ensures rest { result.now ≡ drop (suc count) bytes.now }
+    ensures shorter { length result.now < length bytes.now }
+{
+    &bytes[count + 1..]
+}
+
+/// How many bytes come before the first that is the cut.
+fn first_length(bytes: &[u8], cut: u8) -> usize
+    ensures is { result ≡ first_length cut bytes.now }
+    ensures within { result ≤ length bytes.now }
+{
+    let mut rest = bytes;
+    let mut count: usize = 0;
+    'bytes: while let [b, after @ ..] = rest {
+        if *b == cut {
+            break;
+        }
+        rest = after;
+        count += 1;
+    }
+    count
+}

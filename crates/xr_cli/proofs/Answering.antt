@@ -1,0 +1,186 @@
+-- What each command finds says what is promised.
+use Rattle.std.proofs.Common.{◌≡◌, ◌∙◌, ℕ, List, [], ◌∷◌, length, IsTrue, Bool, Result, Ok, Err, inl, inr, refl, ap, subst}
+use Rattle.std.specs.List.{AllByRecursion}
+use Rattle.xr_cert_text.specs.Wrong.{IsTextOf}
+use Rattle.xr_cert.proofs.Fitted.{checked_accepted}
+use Rattle.xr_cert.proofs.Faultless.{begun_same}
+use Rattle.xr_cert.specs.Step.{cert_of}
+use Rattle.xr_cert_text.specs.Text.{cert_text}
+use Rattle.xr_code.specs.Says.{Says as CodeSays}
+use Rattle.xr_code.specs.Written.{code_text}
+use Rattle.xr_out.specs.Text.{vcd_text}
+use Rattle.xr_design.specs.Handed.{shown_of}
+use Rattle.xr_cert_text.specs.declared.cert.Cert.{Cert}
+use Rattle.xr_design.specs.Job.{places_of}
+use Rattle.xr_forces.specs.ForcesOf.{forces_of}
+use Rattle.xr_forces.proofs.Showing.{forces_exist}
+use Rattle.xr_model.specs.Growth.{Holds}
+use Rattle.xr_model.specs.declared.line.Line.{Line as ALine}
+use Rattle.xr_report.specs.Report.{report_text}
+use Rattle.xr_job.specs.Compared.{job_in}
+use Rattle.xr_job.specs.declared.netlist.Netlist.{Netlist as ANetlist}
+use Rattle.xr_job.specs.declared.recorded.Recorded.{Recorded}
+use Rattle.xr_run.specs.Phases.{Answer, ComesTo, Phases, text_held, ◌>>=◌}
+use Rattle.xr_shelf.specs.Shelf.{Files}
+use Rattle.xr_wave.specs.Contents.{Contents, IsFinished, IsWave}
+use Rattle.xr_words.specs.Line.{IsScopeName}
+use Rattle.xr_words.specs.Words.{CheckValues, JobValues, Means, OfCheck, OfMake, OfRepair, OfReplay, RepairValues, ReplayValues, Values}
+use Rattle.xr_words.proofs.ScopeNames.{scope_named}
+use Rattle.xr_cli.specs.Answers.{Says, SaysCheck, SaysRepair, SaysReplay, netlist_held, recording_held}
+use Rattle.xr_cli.specs.Certificate.{IsCertified}
+use Rattle.xr_cli.specs.Checks.{Checks}
+use Rattle.xr_cli.specs.Code.{code_in, moments_line}
+use Rattle.xr_cli.specs.Headline.{value_in, wave_of}
+use Rattle.xr_cli.specs.Phases.{check_answer, coded_phases, compared_check, forces_in, job_phases, parts, phases_of, repair_answer, repaired_phases, replay_answer, scope_of}
+use Rattle.xr_cli.specs.Repair.{beginning}
+use Rattle.xr_cli.specs.Texts.{IsAgreed, IsJob}
+use Rattle.xr_cli.specs.declared.cause.Refused.{Refused}
+use Rattle.xr_cli.specs.declared.cause.Refused.TheVariants.{Certificate, Code, Compare, LongCertificate, LongCode, LongNetlist, LongRecording, Netlist, Optimistic, Recording}
+use Rattle.xr_cli.specs.declared.parts.Parts.{Parts}
+use Rattle.xr_cli.proofs.Headlines.{Made, headline}
+use Rattle.xr_cli.proofs.Jobs.{fits_job}
+use Rattle.xr_cli.proofs.Making.{make_says}
+
+answers_one : (a b : Answer) → ◌≡◌ {A = Result Answer Refused} (Ok a) (Ok b) → a ≡ b
+answers_one a b same = cc
+
+no_answer : (a : Answer) (c : Refused) → ◌≡◌ {A = Result Answer Refused} (Ok a) (Err c) → ⊥
+no_answer a c same = cc
+
+-- ---- a job
+
+-- What the phases of a job found, of the texts that the files hold, and what those after them come to.
+record JobFound (told : Bool) (files : Files) (w : JobValues) (next : Parts → Phases Answer Refused) (answer : Answer) : Type 0 where
+  n : ANetlist
+  r : Recorded
+  job : IsJob w (netlist_held files w) (recording_held files w) n r
+  more : ComesTo told files (next (parts n r)) (Ok answer)
+
+module _ (told : Bool) (files : Files) (t : IsTrue told) (w : JobValues) (next : Parts → Phases Answer Refused) (answer : Answer) where
+  job_found : ComesTo told files (job_phases w >>= next) (Ok answer) → JobFound told files w next answer
+  job_found (inl first) = absurd (no_answer answer LongNetlist first.1)
+  job_found (inr (text, read, inl (e, refused, is))) = absurd (no_answer answer (Netlist e) is)
+  job_found (inr (text, read, inr (n, has, inl first))) = absurd (no_answer answer LongRecording first.1)
+  job_found (inr (text, read, inr (n, has, inr (recording, again, inl (e, refused, is))))) = absurd (no_answer answer (Recording e) is)
+  job_found (inr (text, read, inr (n, has, inr (recording, again, inr (r, held, more))))) =
+      let job : IsJob w text recording n r = record { netlist_is = record { fits = read.fits; is = has }; fits = again.fits; is = held } in
+      record {
+        n = n;
+        r = r;
+        job = subst (λ (l : List ℕ). IsJob w (netlist_held files w) l n r) (again.is t) (subst (λ (l : List ℕ). IsJob w l recording n r) (read.is t) job);
+        more = more;
+      }
+
+-- ---- each command
+
+module _ (told : Bool) (files : Files) (t : IsTrue told) where
+  repair_says : (w : RepairValues) (answer : Answer) → AllByRecursion IsScopeName (scope_of w.job)
+      → JobFound told files w.job (λ (job : Parts). repaired_phases w job.netlist job.recorded) answer → SaysRepair files w answer
+  repair_says w answer named found = go found.more
+    where
+      go : ComesTo told files (repaired_phases w found.n found.r) (Ok answer) → SaysRepair files w answer
+      go (inl (e, refused, is)) = absurd (no_answer answer (Compare e) is)
+      go (inr (agreed, faultless, inl (o, refused, is))) = absurd (no_answer answer (Optimistic o) is)
+      go (inr (agreed, faultless, inr (there, is, same))) =
+          let made : Made w (netlist_held files w.job) (recording_held files w.job) = record { n = found.n; r = found.r; job = found.job; faultless = faultless; found = there; is = is } in
+          record {
+            vcd = vcd_text found.n.design found.r.binding found.r.stim there.shown;
+            code = code_text found.n.design found.r.stim (scope_of w.job) (forces_in there.wave);
+            cert = cert_text (cert_of there.wave);
+            report = report_text there.wave found.r.binding (forces_in there.wave);
+            answer_is = answers_one answer (repair_answer w found.n found.r there) same;
+            headline = headline w (netlist_held files w.job) (recording_held files w.job) made named;
+          }
+
+  replay_says : (w : ReplayValues) (answer : Answer) → JobFound told files w.job (coded_phases w) answer → SaysReplay files w answer
+  replay_says w answer found = go found.more
+    where
+      go : ComesTo told files (coded_phases w (parts found.n found.r)) (Ok answer) → SaysReplay files w answer
+      go (inl first) = absurd (no_answer answer LongCode first.1)
+      go (inr (text, read, inl (fault, first, is))) = absurd (no_answer answer (Code fault) is)
+      go (inr (text, read, inr (forces, says, inl (none, never, is)))) = absurd never
+      go (inr (text, read, inr (forces, says, inr (history, forced, same)))) =
+          record {
+            vcd = vcd_text found.n.design found.r.binding found.r.stim history;
+            printed = moments_line found.r.stim;
+            answer_is = answers_one answer (replay_answer w (parts found.n found.r) history) same;
+            replays = record {
+              n = found.n;
+              r = found.r;
+              job = found.job;
+              events = forces;
+              says = subst (λ (l : List ℕ). CodeSays (code_in (parts found.n found.r) l (scope_of w.job)) forces) (read.is t) says;
+              history = history;
+              forced = forced;
+              vcd_is = refl;
+              printed_is = refl;
+            };
+          }
+
+-- ---- a certificate
+
+module _ (w : CheckValues) (n : ANetlist) (r : Recorded) (cert : Cert) (wave : Contents) (certified : IsCertified w.conflicts (parts n r) cert wave) where
+  abbrev TheStart : Contents
+  TheStart = beginning w.conflicts n r wave.history
+
+  abbrev TheWave : Contents
+  TheWave = wave_of n r wave.history w.conflicts wave.written cert.lines
+
+  wave_same : wave ≡ TheWave
+  wave_same =
+      ap (λ (c : Contents). record c { written = wave.written; lines = wave.lines }) (begun_same certified.checked.goes)
+      ∙ ap (λ (ls : List ALine). wave_of n r wave.history w.conflicts wave.written ls) certified.checked.lines
+
+  certified_holds : Holds (job_in n r) w.conflicts (shown_of (job_in n r) wave.history) wave.written cert.lines
+  certified_holds = (subst IsWave wave_same certified.checked.wave).holds
+
+  certified_whole : length wave.written ≡ places_of (job_in n r)
+  certified_whole = subst IsFinished wave_same certified.checked.finished
+
+  checks : (netlist recording text : List ℕ) → IsJob w.job netlist recording n r → IsAgreed (parts n r) → IsTextOf text cert
+      → Checks w netlist recording text (report_text wave r.binding (forces_in wave))
+  checks netlist recording text job faultless stands = record {
+    n = n;
+    r = r;
+    job = job;
+    replay = wave.history;
+    agrees = record { replay = certified.replay; faultless = faultless };
+    certificate = cert;
+    stands = stands;
+    waveform = wave.written;
+    whole = certified_whole;
+    accepted = checked_accepted TheStart cert wave refl refl certified.checked;
+    holds = certified_holds;
+    events = forces_of (job_in n r) (value_in wave.written);
+    are = forces_exist (job_in n r) (value_in wave.written) (fits_job n r certified.fits);
+    report_is = ap (λ (c : Contents). report_text c r.binding (forces_in c)) wave_same;
+  }
+
+module _ (told : Bool) (files : Files) (t : IsTrue told) where
+  check_says : (w : CheckValues) (answer : Answer) → JobFound told files w.job (compared_check w) answer → SaysCheck files w answer
+  check_says w answer found = go found.more
+    where
+      go : ComesTo told files (compared_check w (parts found.n found.r)) (Ok answer) → SaysCheck files w answer
+      go (inl (e, refused, is)) = absurd (no_answer answer (Compare e) is)
+      go (inr (agreed, faultless, inl first)) = absurd (no_answer answer LongCertificate first.1)
+      go (inr (agreed, faultless, inr (text, read, inl (wrong, is, same)))) = absurd (no_answer answer (Certificate wrong) same)
+      go (inr (agreed, faultless, inr (text, read, inr (cert, stands, inl (cause, is, same))))) = absurd (no_answer answer cause same)
+      go (inr (agreed, faultless, inr (text, read, inr (cert, stands, inr (wave, certified, same))))) =
+          record {
+            report = report_text wave found.r.binding (forces_in wave);
+            answer_is = answers_one answer (check_answer (parts found.n found.r) wave) same;
+            checks = checks w found.n found.r cert wave certified (netlist_held files w.job) (recording_held files w.job) (text_held files (w.cert ∷ []))
+                found.job faultless (subst (λ (l : List ℕ). IsTextOf l cert) (read.is t) stands);
+          }
+
+-- What a command of the set finds says what is promised.
+pub answers_say : (told : Bool) (files : Files) (line : List (List ℕ)) (words : Values) (answer : Answer) → IsTrue told → Means line words
+    → ComesTo told files (phases_of words) (Ok answer) → Says files words answer
+answers_say told files line (OfRepair w) answer t means comes =
+    repair_says told files t w answer (scope_named line w means)
+    (job_found told files t w.job (λ (job : Parts). repaired_phases w job.netlist job.recorded) answer comes)
+answers_say told files line (OfReplay w) answer t means comes =
+    replay_says told files t w answer (job_found told files t w.job (coded_phases w) answer comes)
+answers_say told files line (OfCheck w) answer t means comes =
+    check_says told files t w answer (job_found told files t w.job (compared_check w) answer comes)
+answers_say told files line (OfMake w) answer t means comes = make_says told files w answer comes

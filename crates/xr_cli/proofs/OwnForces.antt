@@ -1,0 +1,26 @@
+-- The code of the forces of values says these forces.
+use Rattle.std.proofs.Common.{ℕ, List}
+use Rattle.std.specs.List.{AllByRecursion}
+use Rattle.xr_cell.specs.declared.value.Value.{Value}
+use Rattle.xr_code.specs.Laws.{HasSmallTimes}
+use Rattle.xr_code.specs.Says.{Says}
+use Rattle.xr_code.specs.Written.{code_text}
+use Rattle.xr_code.proofs.OwnCode.{own_says}
+use Rattle.xr_code.proofs.Scopes.{name_writable, scope_writable}
+use Rattle.xr_forces.specs.ForcesOf.{forces_of}
+use Rattle.xr_forces.proofs.Showing.{forces_exist}
+use Rattle.xr_job.specs.Compared.{job_in}
+use Rattle.xr_job.specs.declared.netlist.Netlist.{Netlist as ANetlist}
+use Rattle.xr_job.specs.declared.recorded.Recorded.{Recorded}
+use Rattle.xr_words.specs.Line.{IsScopeName}
+use Rattle.xr_cli.specs.Code.{code_in}
+use Rattle.xr_cli.specs.Phases.{parts}
+use Rattle.xr_cli.specs.Repair.{FitsJob}
+use Rattle.xr_cli.proofs.Jobs.{circuit_fits, fits_job}
+
+pub own_forces_said : (n : ANetlist) (r : Recorded) (scope : List (List ℕ)) (values : ℕ → Value) → FitsJob n r → HasSmallTimes r.stim → AllByRecursion IsScopeName scope
+    → Says (code_in (parts n r) (code_text n.design r.stim scope (forces_of (job_in n r) values)) scope) (forces_of (job_in n r) values)
+own_forces_said n r scope values fits times named =
+    own_says n.design n.order r.stim scope (forces_of (job_in n r) values) (circuit_fits n r fits) fits.netlist.design
+    (scope_writable IsScopeName scope (λ name is. name_writable name is.some is.graphic) named) times
+    (forces_exist (job_in n r) values (fits_job n r fits)).least

@@ -1,0 +1,76 @@
+-- The texts of a finished wave of a job.
+use Rattle.std.proofs.Common.{◌≡◌, ◌∙◌, ℕ, List, [], Result, Ok, Err, IfOk, ap, refl, subst, sym}
+use Rattle.xr_code.specs.Steps.{HasEvents}
+use Rattle.xr_code.proofs.Writing.{can_be_written}
+use Rattle.xr_design.specs.Force.{AreEvents, forced_by}
+use Rattle.xr_design.specs.Job.{Job}
+use Rattle.xr_design.specs.declared.force.Event.{Event}
+use Rattle.xr_forces.specs.ForcesOf.{AreForcesOf}
+use Rattle.xr_forces.specs.Waves.{values_of}
+use Rattle.xr_job.specs.Compared.{job_in}
+use Rattle.xr_job.specs.declared.netlist.Netlist.{Netlist as ANetlist}
+use Rattle.xr_job.specs.declared.recorded.Recorded.{Recorded}
+use Rattle.xr_base.specs.declared.memory.Memory.{Memory}
+use Rattle.xr_cert.specs.Step.{cert_of}
+use Rattle.xr_cert_text.specs.Text.{cert_text}
+use Rattle.xr_code.specs.Laws.{HasSmallTimes}
+use Rattle.xr_code.specs.Written.{code_text}
+use Rattle.xr_design.specs.History.{HistoryView}
+use Rattle.xr_out.specs.Text.{vcd_text}
+use Rattle.xr_report.specs.Report.{head_text, report_text}
+use Rattle.xr_run.specs.Phases.{Answer}
+use Rattle.xr_run.specs.Prepared.{answer_of}
+use Rattle.xr_run.specs.declared.ready.Ready.{Ready}
+use Rattle.xr_wave.specs.Contents.{Contents, job}
+use Rattle.xr_wave.specs.Shown.{ShowsWave}
+use Rattle.xr_words.specs.Words.{MakeValues, RepairValues}
+use Rattle.xr_cli.specs.Made.{made_netlist}
+use Rattle.xr_cli.specs.Phases.{HasTexts, answer_with, check_answer, forces_in, make_answer, make_with, scope_of}
+use Rattle.xr_cli.specs.declared.parts.Parts.{Parts}
+use Rattle.xr_cli.specs.Repair.{FitsJob, IsWaveOf}
+use Rattle.xr_cli.proofs.Jobs.{fits_job}
+use Rattle.xr_forces.proofs.Forced.{are_events}
+
+-- A wave of a job has the job's circuit.
+pub job_same : (n : ANetlist) (r : Recorded) (wave : Contents) → IsWaveOf n r wave → job wave ≡ job_in n r
+job_same n r wave is = rw (is.design, is.order, is.stim) refl
+
+pub wave_forces_written : (n : ANetlist) (r : Recorded) (wave : Contents) (forces : List Event) → FitsJob n r → IsWaveOf n r wave
+    → AreForcesOf (job wave) (values_of wave) forces → HasEvents n.design r.stim forces
+wave_forces_written n r wave forces fits is are =
+    let there = subst (λ (j : Job). AreForcesOf j (values_of wave) forces) (job_same n r wave is) are in
+    can_be_written n.design n.order r.stim forces (subst (AreEvents (job_in n r)) (sym there.least) (are_events (job_in n r) (fits_job n r fits) (forced_by (job_in n r) forces)))
+
+-- The answer has the texts of the wave.
+pub wave_texts : (w : RepairValues) (n : ANetlist) (r : Recorded) (wave : Contents) (shown : HistoryView) (forces : List Event) (scope : List (List ℕ)) (vcd code cert report : List ℕ)
+    → HasSmallTimes r.stim → ShowsWave wave shown → forces ≡ forces_in wave → scope ≡ scope_of w.job
+    → vcd ≡ vcd_text n.design r.binding r.stim shown → code ≡ code_text n.design r.stim scope forces → cert ≡ cert_text (cert_of wave)
+    → report ≡ report_text wave r.binding forces → (result : Result Ready Memory)
+    → IfOk result (λ ready. answer_of ready ≡ answer_with w vcd code cert report) → IfOk result (λ ready. HasTexts w n r wave (answer_of ready))
+wave_texts w n r wave shown forces scope vcd code cert report times shows same named vcd_is code_is cert_is report_is (Err e) is = tt
+wave_texts w n r wave shown forces scope vcd code cert report times shows same named vcd_is code_is cert_is report_is (Ok ready) is = record {
+  times = times;
+  shown = shown;
+  shows = shows;
+  is = is ∙ (λ t. answer_with w (vcd_is t) (code_there t) (cert_is t) (report_there t));
+}
+  where
+    code_there : code ≡ code_text n.design r.stim (scope_of w.job) (forces_in wave)
+    code_there = code_is ∙ (λ t. code_text n.design r.stim (named t) (same t))
+
+    report_there : report ≡ report_text wave r.binding (forces_in wave)
+    report_there = report_is ∙ ap (report_text wave r.binding) same
+
+-- The answer of a check has the report of its wave.
+pub report_answer : (job : Parts) (wave : Contents) (forces : List Event) (report : List ℕ) (answer : Answer) → forces ≡ forces_in wave
+    → report ≡ report_text wave job.recorded.binding forces → answer ≡ record { files = []; printed = report } → answer ≡ check_answer job wave
+report_answer job wave forces report answer same is answered =
+    answered ∙ (λ t. record { files = []; printed = (is ∙ ap (report_text wave job.recorded.binding) same) t })
+
+-- The answer of a made job has its netlist, and the first lines of the report of its wave.
+pub made_texts : (w : MakeValues) (netlist recording head : List ℕ) (wave : Contents) (forces : List Event) → netlist ≡ made_netlist w → forces ≡ forces_in wave
+    → head ≡ head_text wave forces → (result : Result Ready Memory) → IfOk result (λ ready. answer_of ready ≡ make_with w netlist recording head)
+    → IfOk result (λ ready. answer_of ready ≡ make_answer w recording wave)
+made_texts w netlist recording head wave forces made same is (Err e) answered = tt
+made_texts w netlist recording head wave forces made same is (Ok ready) answered =
+    answered ∙ (λ t. make_with w (made t) recording ((is ∙ ap (head_text wave) same) t))

@@ -1,0 +1,12 @@
+-- The replay is found, and its texts.
+use Rattle.xr_words.specs.Words.{replay_values}
+use Rattle.xr_cli.proofs.Jobs.{circuit_fits}
+use Rattle.xr_cli.proofs.Walk.{replay_found}
+use Rattle.xr_cli.proofs.replayed.replayed.Goals as goal
+
+pub replay-requires-clause-fits : goal.replay-requires-clause-fits
+replay-requires-clause-fits c = circuit_fits c.args.job.now.netlist c.args.job.now.recorded c.requires.fits
+
+pub returns : goal.returns
+returns c = replay_found (replay_values c.args.words.now) c.args.job.now c.args.forces.now c.in_ok-history.history
+    c.in_ok-texts_of.field-0 c.in_ok-history.ensures c.in_ok-texts_of.ensures

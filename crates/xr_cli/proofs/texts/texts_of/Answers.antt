@@ -1,0 +1,16 @@
+-- The forces are those of what the wave shows, and can be written.
+use Rattle.std.proofs.Common.{◌∙◌}
+use Rattle.xr_words.specs.Words.{repair_values}
+use Rattle.xr_cli.proofs.TextsOf.{wave_forces_written, wave_texts}
+use Rattle.xr_cli.proofs.Walk.{forces_are}
+use Rattle.xr_cli.proofs.texts.texts_of.Goals as goal
+
+pub write_code-requires : goal.write_code-requires
+write_code-requires c = wave_forces_written c.args.netlist.now c.args.recorded.now c.args.wave.now c.in_ok-forces.forces c.requires.fits c.requires.wave c.in_ok-forces.ensures
+
+pub returns : goal.returns
+returns c = wave_texts (repair_values c.args.words.now) c.args.netlist.now c.args.recorded.now c.args.wave.now c.args.shown.now
+    c.in_ok-forces.forces c.as_slice.result.now c.in_ok-vcd.vcd.items c.in_ok-code.code.items c.in_ok-cert.cert.items c.in_ok-report.report.items
+    c.read_times.ensures c.requires.shows (forces_are c.args.wave.now c.in_ok-forces.forces c.in_ok-forces.ensures)
+    (c.as_slice.ensures.value ∙ c.in_ok-scope.ensures.pieces) c.in_ok-vcd.ensures c.in_ok-code.ensures c.in_ok-cert.ensures c.in_ok-report.ensures
+    c.ready_of.result c.ready_of.ensures

@@ -1,0 +1,40 @@
+-- What the check of a certificate promises, a field a sentence.
+use Rattle.std.specs.Prelude.{◌≡◌, ℕ, List, length}
+use Rattle.xr_cert.specs.Checked.{IsAccepted}
+use Rattle.xr_cert_text.specs.Wrong.{IsTextOf}
+use Rattle.xr_cert_text.specs.declared.cert.Cert.{Cert}
+use Rattle.xr_design.specs.Handed.{shown_of}
+use Rattle.xr_design.specs.History.{HistoryView}
+use Rattle.xr_design.specs.Job.{places_of}
+use Rattle.xr_design.specs.declared.force.Event.{Event}
+use Rattle.xr_design.specs.declared.waveform.Written.{Written}
+use Rattle.xr_forces.specs.ForcesOf.{AreForcesOf}
+use Rattle.xr_job.specs.Compared.{job_in}
+use Rattle.xr_job.specs.declared.netlist.Netlist.{Netlist as ANetlist}
+use Rattle.xr_job.specs.declared.recorded.Recorded.{Recorded}
+use Rattle.xr_model.specs.Growth.{Holds}
+use Rattle.xr_report.specs.Report.{report_text}
+use Rattle.xr_words.specs.Words.{CheckValues}
+use Rattle.xr_cli.specs.Headline.{value_in, wave_of}
+use Rattle.xr_cli.specs.Repair.{Agrees, beginning}
+use Rattle.xr_cli.specs.Texts.{IsJob}
+
+-- The texts stand for a job whose recording agrees with its replay.
+pub record Checks (w : CheckValues) (netlist recording cert report : List ℕ) : Type 0 where
+  pub n : ANetlist
+  pub r : Recorded
+  pub job : IsJob w.job netlist recording n r
+  pub replay : HistoryView
+  pub agrees : Agrees n r replay
+  -- The text stands for a certificate that is accepted, whoever wrote it: its lines yield this waveform of all places,
+  -- which is sound.
+  pub certificate : Cert
+  pub stands : IsTextOf cert certificate
+  pub waveform : List Written
+  pub whole : length waveform ≡ places_of (job_in n r)
+  pub accepted : IsAccepted (beginning w.conflicts n r replay) certificate waveform
+  pub holds : Holds (job_in n r) w.conflicts (shown_of (job_in n r) replay) waveform certificate.lines
+  -- What is printed is the report of that waveform.
+  pub events : List Event
+  pub are : AreForcesOf (job_in n r) (value_in waveform) events
+  pub report_is : report ≡ report_text (wave_of n r replay w.conflicts waveform certificate.lines) r.binding events

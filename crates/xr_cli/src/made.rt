@@ -1,0 +1,208 @@
+//! A made job, repaired: its texts, and how many of its places have which end.
+
+ghost use Rattle.std.specs.Prelude.{◌≡◌, ◌≤◌, ◌^◌, IfOk, length};
+ghost use Rattle.xr_design.specs.Handed.{IsReplay};
+ghost use Rattle.xr_job.specs.Compared.{job_in};
+ghost use Rattle.xr_job.specs.Netlist.{FitsNetlist};
+ghost use Rattle.xr_job.specs.Recorded.{FitsRecorded, RecordingComes};
+ghost use Rattle.xr_run.specs.Prepared.{Judged, PreparedAlone, answer_of};
+ghost use Rattle.xr_wave.specs.Contents.{IsFinished};
+ghost use Rattle.xr_words.specs.Words.{make_values};
+ghost use Rattle.xr_cli.specs.Made.{made_job, made_netlist};
+ghost use Rattle.xr_cli.specs.Phases.{bytes_in, itself, make_answer, make_phases, make_with, netlist_made};
+ghost use Rattle.xr_cli.specs.Phases.{recorded_made, recording_cause, recording_made, repaired_made, scope_of};
+ghost use Rattle.xr_cli.specs.Phases.{walk_made, with_recording};
+ghost use Rattle.xr_cli.specs.Repair.{FitsParts, rule_of};
+
+use crate::cause::Refused;
+use crate::job::{NETLIST_BYTES, RECORDING_BYTES};
+use crate::judged::{compared, netlist_in, recorded_in, short_in};
+use crate::made_texts::MadeTexts;
+use crate::parts::Parts;
+use crate::scope::names_of;
+use crate::walked::wave_of;
+use std::alloc::Global;
+use xr_base::Memory;
+use xr_code::read_times;
+use xr_design::{History, StartRule};
+use xr_forces::forces_of;
+use xr_job::{Netlist, Recorded};
+use xr_make::{made_netlist, made_recording};
+use xr_report::write_head;
+use xr_run::{Output, Ready, Refusal, Report};
+use xr_shelf::Sink;
+use xr_wave::Wave;
+use xr_words::MakeWords;
+
+/// The module of a made netlist, and the scope of its recording.
+const NAME: &str = "made";
+
+/// The rounds of a moment.
+const ROUNDS: u32 = 4;
+
+/// The clauses of a search.
+const CONFLICTS: u32 = 1_000;
+
+/// What the words ask. The sink is told how far the walk has come.
+pub fn made<'a, O: Sink>(
+    alloc: Global,
+    words: &MakeWords<'a>,
+    out: &mut O,
+) -> Result<Ready<'a>, Refusal<Refused>>
+    ensures prepared { PreparedAlone (make_phases (make_values words.now)) answer_of result }
+    ensures out { O.view out.new ≡ O.view out.old }
+{
+    let text = made_netlist(alloc, words.number, words.gates)?;
+    let netlist = netlist_of(alloc, text.as_slice())?;
+    with_netlist(alloc, words, text, netlist, out)
+}
+
+/// The netlist of a text that isn't too long.
+fn netlist_of(alloc: Global, text: &[u8]) -> Result<Netlist, Refusal<Refused>>
+    ensures prepared { PreparedAlone (netlist_made text.now) itself result }
+    ensures fits { IfOk result FitsNetlist }
+{
+    short_in(text, NETLIST_BYTES, Refused::LongNetlist)?;
+    netlist_in(alloc, text, NAME)
+}
+
+/// The recording of a netlist, and what the words ask of both.
+fn with_netlist<'a, O: Sink>(
+    alloc: Global,
+    words: &MakeWords<'a>,
+    text: Vec<u8>,
+    netlist: Netlist,
+    out: &mut O,
+) -> Result<Ready<'a>, Refusal<Refused>>
+    requires text { text.items ≡ made_netlist (make_values words.now) }
+    requires fits { FitsNetlist netlist }
+    ensures prepared { PreparedAlone (with_recording (make_values words.now) netlist) answer_of result }
+    ensures out { O.view out.new ≡ O.view out.old }
+{
+    let recording = recording_of(alloc, words, &netlist)?;
+    let texts = MadeTexts {
+        words: *words,
+        netlist: text,
+        recording,
+    };
+    recorded(alloc, texts, netlist, out)
+}
+
+/// The recording of a netlist, where it isn't too long.
+fn recording_of(
+    alloc: Global,
+    words: &MakeWords<'_>,
+    netlist: &Netlist,
+) -> Result<Vec<u8>, Refusal<Refused>>
+    requires { FitsNetlist netlist.now }
+    ensures prepared { PreparedAlone (recording_made (make_values words.now) netlist.now) bytes_in result }
+    ensures short { IfOk result (λ text. length text.items ≤ 2 ^ 28) }
+{
+    let text = made_recording(
+        alloc,
+        &netlist.design,
+        &netlist.order,
+        words.number,
+        words.gates,
+    )?;
+    short_in(text.as_slice(), RECORDING_BYTES, Refused::LongRecording)?;
+    Ok(text)
+}
+
+/// What the words ask of a netlist and of the text of its recording.
+fn recorded<'a, O: Sink>(
+    alloc: Global,
+    texts: MadeTexts<'a>,
+    netlist: Netlist,
+    out: &mut O,
+) -> Result<Ready<'a>, Refusal<Refused>>
+    requires fits { FitsNetlist netlist }
+    ensures prepared { PreparedAlone (recorded_made (make_values texts.entry.words) netlist texts.entry.recording.items)
+        answer_of result }
+    ensures out { O.view out.new ≡ O.view out.old }
+{
+    let recorded = recorded_of(alloc, texts.recording.as_slice(), &netlist)?;
+    repaired(alloc, texts, &Parts { netlist, recorded }, out)
+}
+
+/// What a text records of a netlist.
+fn recorded_of(alloc: Global, text: &[u8], netlist: &Netlist) -> Result<Recorded, Refusal<Refused>>
+    requires short { length text.now ≤ 2 ^ 28 }
+    requires fits { FitsNetlist netlist.now }
+    ensures judged { Judged (RecordingComes text.now netlist.now.design (scope_of made_job) made_job.rounds
+        (rule_of made_job.start)) recording_cause itself result }
+    ensures fits { IfOk result (FitsRecorded netlist.now.design) }
+{
+    let scope = names_of(alloc, NAME)?;
+    recorded_in(
+        alloc,
+        netlist,
+        text,
+        scope.as_slice(),
+        ROUNDS,
+        StartRule::Cold,
+    )
+}
+
+/// What the words ask of a job.
+fn repaired<'a, O: Sink>(
+    alloc: Global,
+    texts: MadeTexts<'a>,
+    job: &Parts,
+    out: &mut O,
+) -> Result<Ready<'a>, Refusal<Refused>>
+    requires fits { FitsParts job.now }
+    ensures prepared { PreparedAlone (repaired_made (make_values texts.entry.words) texts.entry.recording.items
+        job.now.netlist job.now.recorded) answer_of result }
+    ensures out { O.view out.new ≡ O.view out.old }
+{
+    let history = compared(alloc, &job.netlist, &job.recorded)?;
+    walked(alloc, texts, job, &history, out)
+}
+
+/// The walk over the places of a job that agrees, and what it comes to.
+fn walked<'a, O: Sink>(
+    alloc: Global,
+    texts: MadeTexts<'a>,
+    job: &Parts,
+    history: &History,
+    out: &mut O,
+) -> Result<Ready<'a>, Refusal<Refused>>
+    requires fits { FitsParts job.now }
+    requires replay { IsReplay (job_in job.now.netlist job.now.recorded) history.now }
+    ensures prepared { PreparedAlone (walk_made (make_values texts.entry.words) texts.entry.recording.items
+        job.now.netlist job.now.recorded) answer_of result }
+    ensures out { O.view out.new ≡ O.view out.old }
+{
+    let wave = wave_of(alloc, &job.netlist, &job.recorded, history, CONFLICTS, out)?;
+    // With these come the facts that the times are numbers of 64 bits, and that a history shows what the wave has.
+    read_times(&job.recorded.stim);
+    let _shown = wave.history(alloc)?;
+    Ok(answered(alloc, texts, &wave)?)
+}
+
+/// The texts, and the first lines of the report of a finished wave.
+fn answered<'a>(alloc: Global, texts: MadeTexts<'a>, wave: &Wave<'_>) -> Result<Ready<'a>, Memory>
+    requires { IsFinished wave.now }
+    ensures { IfOk result (λ ready. answer_of ready
+        ≡ make_answer (make_values texts.entry.words) texts.entry.recording.items wave.now) }
+{
+    let forces = forces_of(alloc, wave)?;
+    let head = write_head(alloc, wave, &forces)?;
+    ready_with(alloc, texts, head)
+}
+
+/// The texts and what is printed, ready to be delivered.
+fn ready_with<'a>(alloc: Global, texts: MadeTexts<'a>, head: Vec<u8>) -> Result<Ready<'a>, Memory>
+    ensures { IfOk result (λ ready. answer_of ready
+        ≡ make_with (make_values texts.entry.words) texts.entry.netlist.items texts.entry.recording.items head.items) }
+{
+    let words = texts.words;
+    let mut outputs = Vec::new(alloc);
+    outputs.push(Output::new(alloc, words.netlist, texts.netlist)?)?;
+    outputs.push(Output::new(alloc, words.recording, texts.recording)?)?;
+    Ok(Ready {
+        outputs,
+        report: Report::new(alloc, head)?,
+    })
+}

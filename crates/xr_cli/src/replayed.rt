@@ -1,0 +1,79 @@
+//! The replay of a job under forces, and its texts.
+
+ghost use Rattle.std.specs.Prelude.{◌≡◌, IfOk};
+ghost use Rattle.xr_design.specs.Force.{AreEvents};
+ghost use Rattle.xr_design.specs.Handed.{HasPlaces};
+ghost use Rattle.xr_job.specs.Compared.{job_in};
+ghost use Rattle.xr_run.specs.Prepared.{PreparedAlone, answer_of};
+ghost use Rattle.xr_words.specs.Words.{replay_values};
+ghost use Rattle.xr_cli.specs.Code.{moments_line};
+ghost use Rattle.xr_cli.specs.Phases.{forced_phases, replay_answer};
+ghost use Rattle.xr_cli.specs.Repair.{FitsParts};
+
+use crate::cause::Refused;
+use crate::parts::Parts;
+use std::alloc::Global;
+use xr_base::{Memory, put, put_number};
+use xr_design::{Forces, History, Stim};
+use xr_out::vcd_text;
+use xr_replay::replay;
+use xr_run::{Output, Ready, Refusal, Report};
+use xr_words::ReplayWords;
+
+/// What the words ask of a job and of the forces that their code says.
+pub fn replayed<'a>(
+    alloc: Global,
+    words: &ReplayWords<'a>,
+    job: &Parts,
+    forces: &Forces,
+) -> Result<Ready<'a>, Refusal<Refused>>
+    requires fits { FitsParts job.now }
+    requires forces { AreEvents (job_in job.now.netlist job.now.recorded) forces.now }
+    ensures { PreparedAlone (forced_phases (replay_values words.now) job.now forces.now) answer_of result }
+{
+    let netlist = &job.netlist;
+    let history = replay(
+        alloc,
+        &netlist.design,
+        &netlist.order,
+        &job.recorded.stim,
+        forces,
+    )?;
+    Ok(texts_of(alloc, words, job, &history)?)
+}
+
+/// The text of what a history shows, and how many moments it has.
+fn texts_of<'a>(
+    alloc: Global,
+    words: &ReplayWords<'a>,
+    job: &Parts,
+    history: &History,
+) -> Result<Ready<'a>, Memory>
+    requires fits { FitsParts job.now }
+    requires places { HasPlaces (job_in job.now.netlist job.now.recorded) history.now }
+    ensures { IfOk result (λ ready. answer_of ready ≡ replay_answer (replay_values words.now) job.now history.now) }
+{
+    let recorded = &job.recorded;
+    let vcd = vcd_text(
+        alloc,
+        &job.netlist.design,
+        &recorded.binding,
+        &recorded.stim,
+        history,
+    )?;
+    let report = Report::new(alloc, moments_line(alloc, &recorded.stim)?)?;
+    let mut outputs = Vec::new(alloc);
+    outputs.push(Output::new(alloc, words.vcd, vcd)?)?;
+    Ok(Ready { outputs, report })
+}
+
+/// `replayed M moments`
+fn moments_line(alloc: Global, stim: &Stim) -> Result<Vec<u8>, Memory>
+    ensures { IfOk result (λ text. text.items ≡ moments_line stim.now) }
+{
+    let mut text = Vec::new(alloc);
+    put(&mut text, b"replayed ")?;
+    put_number(&mut text, stim.times.as_slice().len() as u64)?;
+    put(&mut text, b" moments\n")?;
+    Ok(text)
+}

@@ -1,0 +1,77 @@
+//! The texts of a repair.
+
+ghost use Rattle.std.specs.Prelude.{◌≡◌, IfOk};
+ghost use Rattle.xr_wave.specs.Shown.{ShowsWave};
+ghost use Rattle.xr_run.specs.Prepared.{answer_of};
+ghost use Rattle.xr_words.specs.Words.{repair_values};
+ghost use Rattle.xr_cli.specs.Phases.{HasTexts, answer_with};
+ghost use Rattle.xr_cli.specs.Repair.{FitsJob, IsWaveOf};
+
+use crate::scope::names_of;
+use std::alloc::Global;
+use xr_base::Memory;
+use xr_cert::write_cert;
+use xr_code::{read_times, write_code};
+use xr_design::History;
+use xr_forces::forces_of;
+use xr_job::{Netlist, Recorded};
+use xr_out::vcd_text;
+use xr_report::write_report;
+use xr_run::{Output, Ready, Report};
+use xr_wave::Wave;
+use xr_words::RepairWords;
+
+/// The texts of a finished wave of a job: the recording, the code, the certificate and the report.
+pub fn texts_of<'a>(
+    alloc: Global,
+    words: &RepairWords<'a>,
+    netlist: &Netlist,
+    recorded: &Recorded,
+    wave: &Wave<'_>,
+    shown: &History,
+) -> Result<Ready<'a>, Memory>
+    requires fits { FitsJob netlist.now recorded.now }
+    requires wave { IsWaveOf netlist.now recorded.now wave.now }
+    requires shows { ShowsWave wave.now shown.now }
+    ensures { IfOk result (λ ready.
+        HasTexts (repair_values words.now) netlist.now recorded.now wave.now (answer_of ready)) }
+{
+    // With it comes the fact that the times are numbers of 64 bits, as code waits for them.
+    read_times(&recorded.stim);
+    let binding = &recorded.binding;
+    let vcd = vcd_text(alloc, &netlist.design, binding, &recorded.stim, shown)?;
+    let scope = names_of(alloc, words.job.scope)?;
+    let forces = forces_of(alloc, wave)?;
+    let code = write_code(
+        alloc,
+        &netlist.design,
+        &recorded.stim,
+        scope.as_slice(),
+        &forces,
+    )?;
+    let cert = write_cert(alloc, wave)?;
+    let report = write_report(alloc, wave, binding, &forces)?;
+    ready_of(alloc, words, vcd, code, cert, report)
+}
+
+/// The texts, ready to be delivered.
+fn ready_of<'a>(
+    alloc: Global,
+    words: &RepairWords<'a>,
+    vcd: Vec<u8>,
+    code: Vec<u8>,
+    cert: Vec<u8>,
+    report: Vec<u8>,
+) -> Result<Ready<'a>, Memory>
+    ensures { IfOk result (λ ready. answer_of ready
+        ≡ answer_with (repair_values words.now) vcd.items code.items cert.items report.items) }
+{
+    let mut outputs = Vec::new(alloc);
+    outputs.push(Output::new(alloc, words.vcd, vcd)?)?;
+    outputs.push(Output::new(alloc, words.code, code)?)?;
+    outputs.push(Output::new(alloc, words.cert, cert)?)?;
+    Ok(Ready {
+        outputs,
+        report: Report::new(alloc, report)?,
+    })
+}

@@ -1,0 +1,23 @@
+-- The changes that events make are events of the job.
+use Rattle.std.proofs.Common.{Ok, rules, subst, sym}
+use Rattle.xr_design.specs.Force.{AreEvents, forced_by}
+use Rattle.xr_design.specs.Job.{job_of}
+use Rattle.xr_forces.proofs.Forced.{are_events}
+use Rattle.xr_code.specs.Code.{code}
+use Rattle.xr_code.proofs.OwnCode.{own_is_read}
+use Rattle.xr_code.proofs.read.read_code.Goals as goal
+
+pub returns-clause-events : goal.returns-clause-events
+returns-clause-events c =
+    let j = job_of c.args.design.now c.args.order.now c.args.stim.now in
+    subst (AreEvents j) (sym c.in_ok-changes_of.ensures) (are_events j c.requires.parts.fits_job (forced_by j c.as_slice.result.now))
+
+pub returns-in_err-statements-clause-own : goal.returns-in_err-statements-clause-own
+returns-in_err-statements-clause-own c =
+    let said = code c.args.bytes.now c.args.design.now c.args.order.now c.args.stim.now c.args.scope.now in
+    own_is_read said c.from_residual.result c.requires.parts c.requires.names c.read_times.ensures (search rules)
+
+pub returns-clause-own : goal.returns-clause-own
+returns-clause-own c =
+    let said = code c.args.bytes.now c.args.design.now c.args.order.now c.args.stim.now c.args.scope.now in
+    own_is_read said (Ok c.in_ok-changes_of.field-0) c.requires.parts c.requires.names c.read_times.ensures (search rules)

@@ -1,0 +1,13 @@
+-- The number so far.
+use Rattle.std.proofs.Common.{◌≡◌, length}
+use Rattle.xr_dimacs.specs.Machine.{at_most}
+use Rattle.xr_dimacs.specs.Numbers.{number_from}
+use Rattle.xr_dimacs.proofs.numbers.value_within.Given as goal
+
+abbrev pub invariant-digits : goal.invariant-digits
+invariant-digits l = record {
+  reads : at_most l.limit (number_from 0 l.digits) ≡ at_most l.limit (number_from l.number l.rest);
+}
+
+abbrev pub decreases-digits : goal.decreases-digits
+decreases-digits l = length l.rest

@@ -1,0 +1,54 @@
+//! The words of a line.
+
+ghost use Rattle.std.specs.Prelude.{◌≡◌, ◌∷◌, [], bytes_eq, MatchOption};
+ghost use Rattle.xr_dimacs.specs.Lines.{words_in};
+
+use crate::gap::Gap;
+use crate::parts::Parts;
+use std::marker::Model;
+
+/// The words that are left of a line.
+#[derive(Drop)]
+pub struct Words<'a> {
+    parts: Parts<'a>,
+}
+
+impl<'a> Model for Words<'a> {
+    ghost use Rattle.std.specs.Prelude.{List, ℕ, filter};
+    ghost use Rattle.xr_dimacs.specs.Lines.{is_filled};
+
+    ghost Value = { List (List ℕ) };
+
+    ghost view = { λ words. filter is_filled words.parts };
+}
+
+impl<'a> Words<'a> {
+    /// The words of a line, by what stands between them.
+    pub fn new(line: &'a [u8], gap: Gap) -> Words<'a>
+        ensures { result ≡ words_in gap line.now }
+    {
+        Words {
+            parts: Parts::new(line, gap),
+        }
+    }
+
+    /// The next word, if there is one.
+    pub fn next(&mut self) -> Option<&'a [u8]>
+        ensures word { MatchOption result (self.old ≡ []) (λ word. self.old ≡ word.now ∷ self.new) }
+        ensures over { MatchOption result (self.new ≡ []) (λ _. Unit {0}) }
+    {
+        'parts: while let Some(part) = self.parts.next() {
+            if !part.is_empty() {
+                return Some(part);
+            }
+        }
+        None
+    }
+}
+
+/// Whether it is this word.
+pub fn is_word(text: &[u8], word: &[u8]) -> bool
+    ensures { result ≡ bytes_eq text.now word.now }
+{
+    text == word
+}

@@ -1,0 +1,11 @@
+-- The circuit's job is the wave's.
+use Rattle.std.proofs.Common.{IfOk, subst}
+use Rattle.xr_design.specs.Job.{Job}
+use Rattle.xr_forces.specs.ForcesOf.{AreForcesOf}
+use Rattle.xr_forces.specs.Waves.{values_of}
+use Rattle.xr_forces.proofs.wave.forces_of.Goals as goal
+
+pub returns : goal.returns
+returns c =
+    let P : Job → Type 0 = λ j. IfOk c.forces_of_values.result (λ forces. AreForcesOf j (values_of c.args.wave.now) forces) in
+    subst P c.circuit.ensures.job c.forces_of_values.ensures

@@ -1,0 +1,48 @@
+-- Values that stay from one step to the next, and what is due where they move. No contract of a public call names
+-- these.
+use Rattle.std.specs.Prelude.{◌≡◌, ◌≢◌, ℕ, ◌-◌, ◌<◌, false, List, ◌∷◌, slice_index}
+use Rattle.std.specs.List.{AllByRecursion}
+use Rattle.xr_cell.specs.declared.value.Value.{Value}
+use Rattle.xr_design.specs.Job.{Job, at}
+use Rattle.xr_design.specs.Order.{arguments_of_driver, position_of}
+use Rattle.xr_replay.specs.Marks.{OnlyMore}
+use Rattle.xr_replay.specs.Still.{looked_at}
+use Rattle.xr_replay.specs.Sweep.{driver_on}
+use Rattle.xr_replay_due.specs.Due.{HasRoomFor, is_due}
+
+-- A net has at a step the value that it had one step before.
+abbrev pub IsStill : Job → (ℕ → Value) → ℕ → ℕ → Type 0
+IsStill j values step net = values (at j step net) ≡ values (at j (step - 1) net)
+
+-- Those of the nets that stand before a position of the order are still.
+abbrev pub AreStillTo : Job → (ℕ → Value) → ℕ → ℕ → List ℕ → Type 0
+AreStillTo j values step position nets =
+    AllByRecursion (λ net. position_of j.order net < position → IsStill j values step net) nets
+
+-- the net at a position and those that its driver reads in the step, and those that its register looks back at
+abbrev pub watched : Job → ℕ → List ℕ
+watched j position = slice_index j.order position ∷ arguments_of_driver (driver_on j position)
+
+abbrev pub looked_on : Job → ℕ → List ℕ
+looked_on j position = looked_at (driver_on j position)
+
+-- Each position is due, or of its nets those that stand before a position are still.
+pub record AreMarkedTo (j : Job) (values : ℕ → Value) (nets_of : ℕ → List ℕ)
+    (step position : ℕ) (due : List ℕ) : Type 0 where
+  pub room : HasRoomFor due j.width
+  pub still : (p : ℕ) → p < j.width → is_due due p ≡ false → AreStillTo j values step position (nets_of p)
+
+-- The positions become due that have the net at a position among their nets.
+pub record IsMarked (j : Job) (nets_of : ℕ → List ℕ) (position : ℕ) (old new : List ℕ) : Type 0 where
+  pub room : HasRoomFor new j.width
+  pub more : OnlyMore old new
+  pub apart : (p : ℕ) → p < j.width → is_due new p ≡ false
+      → AllByRecursion (λ net. net ≢ slice_index j.order position) (nets_of p)
+
+-- Before a step each position is due, or its register looks back at nets that were still. In the first two steps all
+-- are due.
+pub record AreAwaited (j : Job) (values : ℕ → Value) (step : ℕ) (due : List ℕ) : Type 0 where
+  pub room : HasRoomFor due j.width
+  pub later : (p : ℕ) → p < j.width → is_due due p ≡ false → 1 < step
+  pub looks : (p : ℕ) → p < j.width → is_due due p ≡ false
+      → AllByRecursion (IsStill j values (step - 1)) (looked_on j p)

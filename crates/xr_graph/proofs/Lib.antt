@@ -1,0 +1,9 @@
+-- Lemmas on graphs.
+pub mod GraphCones
+pub mod GrownGraphs
+pub mod PickedNodes
+pub mod ReachedCones
+pub mod ReadNodes
+pub mod TurnedTables
+pub mod Rising
+pub mod TakenNodes

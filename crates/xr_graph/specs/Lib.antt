@@ -1,0 +1,5 @@
+-- Definitions of graphs.
+pub mod Graph
+pub mod Picked
+pub mod NodeRoots
+pub mod Walk

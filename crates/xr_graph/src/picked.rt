@@ -1,0 +1,75 @@
+//! The nodes that are marked, by their positions among these.
+
+ghost use Rattle.std.specs.Prelude.{◌≡◌, ◌<◌, ◌≤◌, IfOk, length, map, slice_index};
+ghost use Rattle.std.specs.List.{AllByRecursion};
+ghost use Rattle.xr_cone_nodes.specs.Nodes.{StandsAt};
+ghost use Rattle.xr_graph.specs.Graph.{AreOrdered};
+ghost use Rattle.xr_graph.specs.Picked.{moved_body, moved_node, picked_by};
+ghost use Rattle.xr_graph.specs.Walk.{AreAllTaken};
+
+use std::alloc::Global;
+use xr_base::Memory;
+use xr_cone_nodes::{Node, NodeBody, Positions};
+
+/// The nodes that are taken, from the last one on, by their positions. Takes what the nodes take.
+pub fn picked_nodes(
+    alloc: Global,
+    nodes: &[Node],
+    taken: Vec<usize>,
+    positions: &mut Vec<u32>,
+) -> Result<Vec<Node>, Memory>
+    requires ordered { AreOrdered nodes.now }
+    requires taken { AreAllTaken nodes.now taken.items }
+    requires room { length nodes.now ≤ length positions.old.items }
+    ensures { IfOk result (λ picked. picked.items ≡ picked_by nodes.now taken.items) }
+{
+    let mut rest = taken;
+    let mut picked = Vec::with_capacity(alloc, rest.len())?;
+    'rest: while let Some(node) = rest.pop() {
+        positions[node] = picked.len() as u32;
+        let moved = moved_node(alloc, &nodes[node], positions.as_slice())?;
+        picked.push(moved)?;
+    }
+    Ok(picked)
+}
+
+/// A node by the positions of what it reads.
+fn moved_node(alloc: Global, node: &Node, positions: &[u32]) -> Result<Node, Memory>
+    requires { StandsAt (length positions.now) node.now.body }
+    ensures { IfOk result (λ moved. moved ≡ moved_node (slice_index positions.now) node.now) }
+{
+    let body = moved(alloc, &node.body, positions)?;
+    Ok(Node {
+        place: node.place,
+        body,
+    })
+}
+
+fn moved(alloc: Global, body: &NodeBody, positions: &[u32]) -> Result<NodeBody, Memory>
+    requires { StandsAt (length positions.now) body.now }
+    ensures { IfOk result (λ moved. moved ≡ moved_body (slice_index positions.now) body.now) }
+{
+    match body {
+        NodeBody::Carried { node, inverted } => Ok(NodeBody::Carried {
+            node: positions[*node as usize],
+            inverted: *inverted,
+        }),
+        NodeBody::Rule { arguments, values } => {
+            let arguments = moved_arguments(arguments.as_slice(), positions);
+            let values = values.copied(alloc)?;
+            Ok(NodeBody::Rule { arguments, values })
+        }
+    }
+}
+
+fn moved_arguments(arguments: &[u32], positions: &[u32]) -> Positions
+    requires few { length arguments.now ≤ 13 }
+    requires within { AllByRecursion (λ argument. argument < length positions.now) arguments.now }
+    ensures { result ≡ map (slice_index positions.now) arguments.now }
+{
+    let mut moved = Positions::new();
+    'arguments: for argument in arguments {
+        moved.push(positions[*argument as usize]);
+    }
+    moved
+}

@@ -1,0 +1,12 @@
+-- Lemmas on lanes.
+pub mod CoveredLanes
+pub mod GraphNodes
+pub mod GrownLanes
+pub mod LanePairs
+pub mod LiteralBits
+pub mod LiteralSources
+pub mod NearPlaces
+pub mod NodeLists
+pub mod TableLanes
+pub mod Unions
+pub mod WorkedLanes

@@ -1,0 +1,68 @@
+-- What lanes have of the places of a wave.
+use Rattle.std.specs.Prelude.{◌≡◌, ℕ, ◌+◌, ◌<◌, ◌≤◌, Bool, List, IfSome, IsSome, Option, None, Some, length}
+use Rattle.std.specs.List.{AllByRecursion}
+use Rattle.xr_design.specs.Job.{places_of}
+use Rattle.xr_design.specs.Waveform.{certain}
+use Rattle.xr_wave.specs.Contents.{Contents, job}
+use Rattle.xr_cone_nodes.specs.declared.node.Node.{Node}
+use Rattle.xr_lanes.specs.Graphs.{IsGraphIn}
+use Rattle.xr_lanes.specs.Literal.{AreLiteralsFrom, IsNodeOf, LiteralView, ReachesBack}
+use Rattle.xr_lanes.specs.Nodes.{Extends, NodeView, node_at, numbers_of, zero_node}
+
+-- The nodes, the literals of the last places that are covered, from a first one on, the node of the place after them, if it
+-- was looked at, and the graph of the nodes, if it is kept.
+pub record LanesView : Type 0 where
+  pub nodes : List NodeView
+  pub first : ℕ
+  pub literals : List LiteralView
+  pub next : Option ℕ
+  pub graph : Option (List Node)
+
+-- How many places are covered: these are the first ones of the wave.
+abbrev pub count_of : LanesView → ℕ
+count_of lanes = lanes.first + length lanes.literals
+
+-- How many places are covered or looked at.
+abbrev pub looked : Option ℕ → ℕ
+looked None = 0
+looked (Some node) = 1
+
+abbrev pub looked_count : LanesView → ℕ
+looked_count lanes = count_of lanes + looked lanes.next
+
+-- A node is that of the place after those that are covered, which is one of the job.
+pub record IsNextNode (c : Contents) (nodes : List NodeView) (place node : ℕ) : Type 0 where
+  pub within : place < places_of (job c)
+  pub holds : IsNodeOf (job c) (certain c.written) nodes node place
+
+-- All literals are right of a wave, whose places they cover, and so are the node of the place after these, and the graph,
+-- if it is kept; what later places may read is covered, and each node after the first is of a place that is covered or
+-- looked at.
+pub record IsRightOf (c : Contents) (lanes : LanesView) : Type 0 where
+  pub some : 0 < length lanes.nodes
+  pub zero : node_at lanes.nodes 0 ≡ zero_node
+  pub written : count_of lanes ≤ length c.written
+  pub each : AreLiteralsFrom (job c) (certain c.written) lanes.nodes lanes.first lanes.literals
+  pub far : ReachesBack (job c) lanes.first (count_of lanes)
+  pub next : IfSome lanes.next (IsNextNode c lanes.nodes (count_of lanes))
+  pub graph : IfSome lanes.graph (IsGraphIn c lanes.nodes)
+  pub below : AllByRecursion (λ k. k < looked_count lanes) (numbers_of lanes.nodes)
+
+-- They are right of every wave where no place is covered.
+abbrev pub IsRightOfAny : LanesView → Type 0
+IsRightOfAny lanes = (c : Contents) → IsRightOf c lanes
+
+-- Nodes came in, and the literals stayed.
+pub record Keeps (old new : LanesView) : Type 0 where
+  pub nodes : Extends old.nodes new.nodes
+  pub first : new.first ≡ old.first
+  pub literals : new.literals ≡ old.literals
+
+-- Every written place is covered, and the next one was looked at.
+pub record IsLookedAt (c : Contents) (lanes : LanesView) : Type 0 where
+  pub all : count_of lanes ≡ length c.written
+  pub next : IsSome lanes.next
+
+-- The literal of a bit: the first node, as it is or inverted.
+abbrev pub constant : Bool → LiteralView
+constant bit = record { node = 0; inverted = bit }

@@ -1,0 +1,12 @@
+-- Definitions of lanes.
+pub mod Covered
+pub mod Given
+pub mod Graphs
+pub mod InWave
+pub mod Joined
+pub mod Lanes
+pub mod Literal
+pub mod Made
+pub mod Nodes
+pub mod Pairs
+pub mod Union

@@ -1,0 +1,26 @@
+//! Lanes: the worlds of 256 fixed fillings beside a wave, and the sources of its uncertain places, so that most unknown
+//! places are decided without tracing a cone.
+//!
+//! Each place that is covered has a literal: a node, as it is or inverted. A certain place has the first node, which is 0
+//! in each lane. A carried place, as one that keeps its net's bit, has the literal of the place that it is carried from,
+//! turned. Only a place whose class is Free or Line makes a node: its bits in the lanes, by its table from those of its
+//! arguments, and the list of its sources, which is shared where an argument has the same. Literals are kept for the last
+//! three steps or more, which is as far back as a place reads. The nodes are those of a graph (`xr_graph`) too, as long as
+//! there is room for it. A walk looks at each Line place, and finds its token where lanes differ, or else asks for its cone,
+//! which is found in the graph. Start at specs/Given.antt, specs/Literal.antt and specs/Lanes.antt, then
+//! at `Lanes`.
+#![tactic(auto)]
+
+mod counts;
+mod given;
+mod graphs;
+mod lanes;
+mod literal;
+mod node;
+mod nodes;
+mod pair;
+mod ruled;
+mod sources;
+mod union;
+
+pub use lanes::Lanes;

@@ -1,0 +1,4 @@
+-- Lemmas on sets of places.
+pub mod FallingPlaces
+mod HeapPlaces
+mod NotedPlaces

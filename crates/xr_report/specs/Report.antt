@@ -1,0 +1,19 @@
+-- The whole report.
+use Rattle.std.specs.Prelude.{Bool, List, ◌++◌, ℕ, count_by, is_some}
+use Rattle.xr_design.specs.declared.force.Event.{Event}
+use Rattle.xr_match.specs.declared.binding.Binding.{Binding}
+use Rattle.xr_report.specs.Bits.{bit_lines}
+use Rattle.xr_report.specs.Head.{head_lines}
+use Rattle.xr_wave.specs.Contents.{Contents}
+
+-- An event forces a net, or releases it.
+abbrev pub is_force : Event → Bool
+is_force event = is_some event.value
+
+-- How many places have which end, with as many forces as events force a net.
+abbrev pub head_text : Contents → List Event → List ℕ
+head_text c forces = head_lines c (count_by is_force forces)
+
+-- That, then the recorded bits that are x or z.
+unfoldable pub report_text : Contents → Binding → List Event → List ℕ
+report_text c binding forces = head_text c forces ++ bit_lines c binding

@@ -1,0 +1,50 @@
+//! The whole report.
+
+ghost use Rattle.std.specs.Prelude.{◌≡◌, ◌++◌, IfOk, OnOk, count_by};
+ghost use Rattle.xr_match.specs.Binding.{FitsBinding};
+ghost use Rattle.xr_report.specs.Report as spec;
+ghost use Rattle.xr_wave.specs.Contents.{IsFinished};
+
+use crate::bits::bit_lines;
+use crate::head::head_lines;
+use std::alloc::Global;
+use xr_base::{Memory, put};
+use xr_design::{Event, Forces};
+use xr_match::Binding;
+use xr_wave::Wave;
+
+/// The whole report of a finished wave: its first three lines, with how many of the events force a net, then a line for
+/// each recorded bit that is x or z. Takes the text's bytes twice, and time linear in the places and in the bits of all
+/// moments.
+#[tactic(auto, unfolding(crate::specs::Report::report_text))]
+pub fn write_report(
+    alloc: Global,
+    wave: &Wave<'_>,
+    bound: &Binding,
+    forces: &Forces,
+) -> Result<Vec<u8>, Memory>
+    requires finished { IsFinished wave.now }
+    requires binding { FitsBinding wave.now.design bound.now }
+    ensures { IfOk result (λ text. text.items ≡ spec.report_text wave.now bound.now forces.now) }
+{
+    let mut text = write_head(alloc, wave, forces)?;
+    let bits = bit_lines(alloc, wave, bound)?;
+    put(&mut text, bits.as_slice())?;
+    Ok(text)
+}
+
+/// The first three lines of the report of a finished wave, with how many of the events force a net. Takes the text's
+/// bytes, and time linear in the places.
+pub fn write_head(alloc: Global, wave: &Wave<'_>, forces: &Forces) -> Result<Vec<u8>, Memory>
+    requires { IsFinished wave.now }
+    ensures { IfOk result (λ text. text.items ≡ spec.head_text wave.now forces.now) }
+{
+    head_lines(alloc, wave, count_forces(forces.as_slice()))
+}
+
+/// How many of the events force a net.
+fn count_forces(events: &[Event]) -> usize
+    ensures { result ≡ count_by spec.is_force events.now }
+{
+    events.iter().filter(|event| event.value.is_some()).count()
+}
