@@ -7,12 +7,14 @@
 //! named or not.
 //!
 //! The certificate of a repair with status 0 is then checked, and its code replayed. What `make` wrote is made once more, and
-//! repaired. `cut o.xc` makes of a case one run
-//! for each beginning of the file, and `fail each` one for each call of the shelf, which fails.
+//! repaired. Of what `export` wrote, each query is proved by its log. `cut o.xc` makes of a case one run
+//! for each beginning of the file, and `fail each` one for each call of the shelf, which fails, with `> calls` for a table
+//! of them.
 
 use crate::back::run_back;
 use crate::compared::compare_run;
 use crate::cut::run_cuts;
+use crate::exported::run_exported;
 use crate::failing::run_failing;
 use crate::given::Case;
 use crate::made::run_made;
@@ -60,6 +62,9 @@ fn run_once(
     }
     if run.status == 0 && case.words().starts_with("make ") {
         return run_made(alloc, report, case, &run, words);
+    }
+    if run.status == 0 && case.words().starts_with("export ") {
+        return run_exported(alloc, report, case, &run);
     }
     Ok(())
 }

@@ -105,6 +105,9 @@ fn compare_file(
     if let Some(part) = case.want_of("heads ", name) {
         return compare_heads(alloc, report, part, got.unwrap_or(b""));
     }
+    if run.status == 0 && is_exported(case, name) && got.is_some() {
+        return Ok(());
+    }
     if run.status == 0 && is_chosen(case, name) {
         return compare_found(report, case.title(), name, Some(got.unwrap_or(b"")), got);
     }
@@ -116,6 +119,11 @@ fn is_chosen(case: Case<'_>, name: &str) -> bool {
     let words = case.words();
     (words.starts_with("repair ") && (name == "o.v" || name == "o.xc"))
         || (words.starts_with("make ") && (name == "m.v" || name == "r.vcd"))
+}
+
+/// An export may write the file.
+fn is_exported(case: Case<'_>, name: &str) -> bool {
+    case.words().starts_with("export ") && name.starts_with("p")
 }
 
 /// Compares a file, or that there is none.

@@ -9,21 +9,25 @@ use crate::setting::{Run, Setting};
 use std::alloc::{AllocError, Global};
 use test_cases::Report;
 
-/// Runs a case once for each proper beginning of a file in the place of the file.
+/// Runs a case once for each proper beginning of a file in the place of the file. `cut m.v 2` leaves out the beginnings that
+/// lack fewer bytes than 2.
 pub fn run_cuts(
     alloc: Global,
     report: &mut Report,
     case: Case<'_>,
     words: &[String],
-    name: &str,
+    cut: &str,
 ) -> Result<(), AllocError> {
+    let (name, least) = cut.split_once(' ').unwrap_or((cut, "1"));
+    let least = least.parse::<usize>().unwrap_or(1).max(1);
     let whole = Setting::new(alloc, case)?;
     let Some(bytes) = whole.get(name) else {
         return report.compare(case.title(), name.as_bytes(), b"no file");
     };
     let mut front = Vec::new(alloc);
     let mut line = 1u64;
-    for byte in bytes.iter() {
+    let cuts = bytes.len().saturating_sub(least).saturating_add(1);
+    for byte in bytes.iter().take(cuts) {
         let run = run_cut(alloc, case, words, name, front.as_slice())?;
         compare_cut(alloc, report, case, &run, line)?;
         front.push(*byte)?;

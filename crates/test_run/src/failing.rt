@@ -3,6 +3,7 @@
 use crate::compared::{compare_found, compare_run};
 use crate::given::{Case, OUTPUTS, text_of};
 use crate::setting::{Run, Setting};
+use crate::tabled::{compare_rows, put_row};
 use std::alloc::{AllocError, Global};
 use test_cases::Report;
 
@@ -12,7 +13,7 @@ const MOST_CALLS: u64 = 1000;
 /// Runs a case without a fault, and then with the first call failing, the second, and so on, until none fails.
 ///
 /// A run that fails says which name. Where that was read, no file was written; else the files before it are whole, it holds
-/// a beginning of its text or is absent, and those after it aren't there.
+/// a beginning of its text or is absent, and those after it aren't there. A case may have a table of all runs too.
 pub fn run_failing(
     alloc: Global,
     report: &mut Report,
@@ -21,9 +22,12 @@ pub fn run_failing(
 ) -> Result<(), AllocError> {
     let whole = run_with(alloc, case, words, 0)?;
     compare_run(alloc, report, case, &whole)?;
+    let mut rows = String::new(alloc);
     for call in 1..MOST_CALLS {
         let run = run_with(alloc, case, words, call)?;
+        put_row(alloc, &mut rows, call, &whole, &run)?;
         if run.status == 0 {
+            compare_rows(alloc, report, case, rows.as_str())?;
             return compare_run(alloc, report, case, &run);
         }
         compare_failed(report, case, &whole, &run)?;

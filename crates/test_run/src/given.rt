@@ -5,7 +5,10 @@ use std::str;
 use test_cases::{Part, PartKind, Parts, Report, Section};
 
 /// The files that runs write, those of each command in the order in which they are written.
-pub const OUTPUTS: [&str; 6] = ["o.vcd", "o.v", "o.xc", "p.vcd", "m.v", "r.vcd"];
+pub const OUTPUTS: [&str; 15] = [
+    "o.vcd", "o.v", "o.xc", "p.vcd", "m.v", "r.vcd", "p.xc", "p-1.cnf", "p-1.log", "p-2.cnf",
+    "p-2.log", "p-3.cnf", "p-3.log", "p-7.cnf", "p-7.log",
+];
 
 /// A case behind its title, and what holds for all cases of its file.
 #[derive(Clone, Copy)]
@@ -74,6 +77,7 @@ impl<'a> Case<'a> {
 /// The line sets a run up, and is none of its words.
 fn sets_up(line: &str) -> bool {
     line.starts_with("put ")
+        || line.starts_with("grow ")
         || line.starts_with("fail ")
         || line.starts_with("pieces ")
         || line.starts_with("cut ")
@@ -134,9 +138,13 @@ fn check_parts(report: &mut Report, parts: Parts<'_>) -> Result<(), AllocError> 
 fn is_known(part: &Part<'_>) -> bool {
     let head = text_of(part.head);
     match part.kind {
-        PartKind::Want => is_status(head) || head == "printed" || head == "bits" || is_output(head),
+        PartKind::Want => is_status(head) || is_text(head) || is_output(head),
         _ => true,
     }
+}
+
+fn is_text(head: &str) -> bool {
+    head == "printed" || head == "bits" || head == "calls"
 }
 
 fn is_output(head: &str) -> bool {

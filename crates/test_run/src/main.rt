@@ -5,10 +5,12 @@ mod back;
 mod case;
 mod compared;
 mod cut;
+mod exported;
 mod failing;
 mod given;
 mod made;
 mod setting;
+mod tabled;
 mod words;
 
 use case::run_case;

@@ -1,7 +1,7 @@
 //! The files and the sink that a run meets, and what it leaves.
 //!
-//! `put NAME TEXT` is a file without a newline at its end, `< NAME` one of the lines beneath. `fail shelf 7` and
-//! `fail sink 1` let a call fail, and `pieces 5` is the most bytes that a call moves; without it they are 4,096.
+//! `put NAME TEXT` is a file without a newline at its end, `< NAME` one of the lines beneath, and `grow NAME 1000 TEXT`
+//! puts a text so many times after a file. `fail shelf 7` and `fail sink 1` let a call fail, and `pieces 5` is the most bytes that a call moves; without it they are 4,096.
 
 use crate::given::{Case, text_of};
 use std::alloc::{AllocError, Global};
@@ -106,16 +106,31 @@ impl Setting {
                 let content = part.content(alloc)?;
                 self.put(head, content.as_slice())
             }
-            PartKind::Words => self.put_line(head),
+            PartKind::Words => self.put_line(alloc, head),
         }
     }
 
-    fn put_line(&mut self, line: &str) -> Result<(), AllocError> {
+    fn put_line(&mut self, alloc: Global, line: &str) -> Result<(), AllocError> {
+        if let Some(growth) = line.strip_prefix("grow ") {
+            return self.grow(alloc, growth);
+        }
         let Some(file) = line.strip_prefix("put ") else {
             return Ok(());
         };
         let (name, text) = file.split_once(' ').unwrap_or((file, ""));
         self.put(name, text.as_bytes())
+    }
+
+    /// Puts a text so many times after a file.
+    fn grow(&mut self, alloc: Global, growth: &str) -> Result<(), AllocError> {
+        let (name, growth) = growth.split_once(' ').unwrap_or((growth, ""));
+        let (count, text) = growth.split_once(' ').unwrap_or((growth, ""));
+        let mut bytes = Vec::new(alloc);
+        bytes.extend_from_slice(self.get(name).unwrap_or(b""))?;
+        for _ in 0..number_of(count) {
+            bytes.extend_from_slice(text.as_bytes())?;
+        }
+        self.put(name, bytes.as_slice())
     }
 
     fn set_faults(&mut self, parts: Parts<'_>) -> Result<(), AllocError> {

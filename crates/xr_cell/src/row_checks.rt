@@ -26,7 +26,7 @@ pub fn check_rows(sequential: bool, inputs: usize, rows: &[RawRow]) -> Result<()
     if let Err(row) = check_edges(rows) {
         return Err(UdpErr::TwoEdges { row });
     }
-    if let Err((i, j)) = check_conflicts(rows, inputs) {
+    if let Err((i, j)) = check_conflicts(sequential, rows, inputs) {
         return Err(UdpErr::Conflict {
             first: i + 1,
             second: j + 1,

@@ -1,5 +1,5 @@
 -- What each command finds says what is promised.
-use Rattle.std.proofs.Common.{◌≡◌, ◌∙◌, ℕ, List, [], ◌∷◌, length, IsTrue, Bool, Result, Ok, Err, inl, inr, refl, ap, subst}
+use Rattle.std.proofs.Common.{◌≡◌, ◌∙◌, ℕ, List, [], ◌∷◌, length, IsTrue, Bool, Result, Ok, Err, inl, inr, refl, sym, ap, subst}
 use Rattle.std.specs.List.{AllByRecursion}
 use Rattle.xr_cert_text.specs.Wrong.{IsTextOf}
 use Rattle.xr_cert.proofs.Fitted.{checked_accepted}
@@ -16,6 +16,8 @@ use Rattle.xr_forces.specs.ForcesOf.{forces_of}
 use Rattle.xr_forces.proofs.Showing.{forces_exist}
 use Rattle.xr_model.specs.Growth.{Holds}
 use Rattle.xr_model.specs.declared.line.Line.{Line as ALine}
+use Rattle.xr_export.specs.Export.{Exports}
+use Rattle.xr_prove.specs.Proof.{IsProof}
 use Rattle.xr_report.specs.Report.{report_text}
 use Rattle.xr_job.specs.Compared.{job_in}
 use Rattle.xr_job.specs.declared.netlist.Netlist.{Netlist as ANetlist}
@@ -24,19 +26,24 @@ use Rattle.xr_run.specs.Phases.{Answer, ComesTo, Phases, text_held, ◌>>=◌}
 use Rattle.xr_shelf.specs.Shelf.{Files}
 use Rattle.xr_wave.specs.Contents.{Contents, IsFinished, IsWave}
 use Rattle.xr_words.specs.Line.{IsScopeName}
-use Rattle.xr_words.specs.Words.{CheckValues, JobValues, Means, OfCheck, OfMake, OfRepair, OfReplay, RepairValues, ReplayValues, Values}
+use Rattle.xr_words.specs.Words.{BlameValues, CheckValues, ExportValues, JobValues, Means, OfBlame, OfCheck, OfExport, OfMake, OfProve, OfRepair, OfReplay, ProveValues, RepairValues, ReplayValues, Values}
 use Rattle.xr_words.proofs.ScopeNames.{scope_named}
-use Rattle.xr_cli.specs.Answers.{Says, SaysCheck, SaysRepair, SaysReplay, netlist_held, recording_held}
+use Rattle.xr_cli.specs.Answers.{Says, SaysBlame, SaysCheck, SaysExport, SaysProve, SaysRepair, SaysReplay, netlist_held, recording_held}
+use Rattle.xr_cli.specs.Blames.{Blames}
 use Rattle.xr_cli.specs.Certificate.{IsCertified}
 use Rattle.xr_cli.specs.Checks.{Checks}
 use Rattle.xr_cli.specs.Code.{code_in, moments_line}
+use Rattle.xr_cli.specs.Exported.{Exported}
+use Rattle.xr_cli.specs.Foreign.{refuted_line, repair_for}
 use Rattle.xr_cli.specs.Headline.{value_in, wave_of}
-use Rattle.xr_cli.specs.Phases.{check_answer, coded_phases, compared_check, forces_in, job_phases, parts, phases_of, repair_answer, repaired_phases, replay_answer, scope_of}
+use Rattle.xr_cli.specs.Listed.{ListsBlame, repair_to_blame}
+use Rattle.xr_cli.specs.Phases.{blamed_phases, check_answer, coded_phases, compared_check, exported_phases, forces_in, job_phases, parts, phases_of, prove_answer, prove_phases, repair_answer, repaired_phases, replay_answer, scope_of}
 use Rattle.xr_cli.specs.Repair.{beginning}
 use Rattle.xr_cli.specs.Texts.{IsAgreed, IsJob}
 use Rattle.xr_cli.specs.declared.cause.Refused.{Refused}
-use Rattle.xr_cli.specs.declared.cause.Refused.TheVariants.{Certificate, Code, Compare, LongCertificate, LongCode, LongNetlist, LongRecording, Netlist, Optimistic, Recording}
+use Rattle.xr_cli.specs.declared.cause.Refused.TheVariants.{Certificate, Code, Compare, LongCertificate, LongCnf, LongCode, LongLog, LongNetlist, LongRecording, Netlist, Optimistic, Proof, Recording}
 use Rattle.xr_cli.specs.declared.parts.Parts.{Parts}
+use Rattle.xr_cli.proofs.Headlines as headlines
 use Rattle.xr_cli.proofs.Headlines.{Made, headline}
 use Rattle.xr_cli.proofs.Jobs.{fits_job}
 use Rattle.xr_cli.proofs.Making.{make_says}
@@ -173,6 +180,89 @@ module _ (told : Bool) (files : Files) (t : IsTrue told) where
                 found.job faultless (subst (λ (l : List ℕ). IsTextOf l cert) (read.is t) stands);
           }
 
+-- ---- to other solvers, and from them
+
+exported : (w : ExportValues) (netlist recording : List ℕ) (answer : Answer) (is : Made (repair_for w) netlist recording) → Exports w.prefix is.found.wave answer
+    → Exported w netlist recording answer
+exported w netlist recording answer is exports =
+    record {
+      n = is.n;
+      r = is.r;
+      job = is.job;
+      replay = is.found.history;
+      agrees = record { replay = is.is.replay; faultless = is.faultless };
+      waveform = is.found.wave.written;
+      lines = is.found.wave.lines;
+      whole = headlines.finished (repair_for w) netlist recording is;
+      holds = (headlines.wave (repair_for w) netlist recording is).holds;
+      certifies = headlines.certifies_so (repair_for w) netlist recording is;
+      exports = subst (λ (c : Contents). Exports w.prefix c answer) (headlines.same (repair_for w) netlist recording is) exports;
+    }
+
+module _ (told : Bool) (files : Files) (t : IsTrue told) where
+  export_says : (w : ExportValues) (answer : Answer) → JobFound told files w.job (λ (job : Parts). exported_phases w job.netlist job.recorded) answer
+      → SaysExport files w answer
+  export_says w answer found = go found.more
+    where
+      go : ComesTo told files (exported_phases w found.n found.r) (Ok answer) → SaysExport files w answer
+      go (inl (e, refused, is)) = absurd (no_answer answer (Compare e) is)
+      go (inr (agreed, faultless, inl (o, refused, is))) = absurd (no_answer answer (Optimistic o) is)
+      go (inr (agreed, faultless, inr (there, is, inl (none, never, same)))) = absurd never
+      go (inr (agreed, faultless, inr (there, is, inr (written, exports, same)))) =
+          let made : Made (repair_for w) (netlist_held files w.job) (recording_held files w.job) =
+          record { n = found.n; r = found.r; job = found.job; faultless = faultless; found = there; is = is } in
+          subst (SaysExport files w) (sym (answers_one answer written same))
+          (exported w (netlist_held files w.job) (recording_held files w.job) written made exports)
+
+  prove_says : (w : ProveValues) (answer : Answer) → ComesTo told files (prove_phases w) (Ok answer) → SaysProve files w answer
+  prove_says w answer (inl first) = absurd (no_answer answer LongCnf first.1)
+  prove_says w answer (inr (cnf, read, inl first)) = absurd (no_answer answer LongLog first.1)
+  prove_says w answer (inr (cnf, read, inr (log, again, inl (fault, is, same)))) = absurd (no_answer answer (Proof fault) same)
+  prove_says w answer (inr (cnf, read, inr (log, again, inr (count, is, same)))) =
+      let here = subst (λ (l : List ℕ). IsProof l log count) (read.is t) is in
+      record {
+        printed = refuted_line count;
+        answer_is = answers_one answer (prove_answer count) same;
+        proves = record {
+          count = count;
+          proof = subst (λ (l : List ℕ). IsProof (text_held files (w.cnf ∷ [])) l count) (again.is t) here;
+          printed_is = refl;
+        };
+      }
+
+-- ---- what is to blame
+
+blames : (w : BlameValues) (netlist recording : List ℕ) (answer : Answer) (is : Made (repair_to_blame w) netlist recording)
+    → ListsBlame is.r.binding.bound is.found.wave answer → Blames w netlist recording answer
+blames w netlist recording answer is lists =
+    record {
+      n = is.n;
+      r = is.r;
+      job = is.job;
+      replay = is.found.history;
+      agrees = record { replay = is.is.replay; faultless = is.faultless };
+      waveform = is.found.wave.written;
+      lines = is.found.wave.lines;
+      whole = headlines.finished (repair_to_blame w) netlist recording is;
+      holds = (headlines.wave (repair_to_blame w) netlist recording is).holds;
+      lists = subst (λ (c : Contents). ListsBlame is.r.binding.bound c answer) (headlines.same (repair_to_blame w) netlist recording is) lists;
+    }
+
+module _ (told : Bool) (files : Files) (t : IsTrue told) where
+  blame_says : (w : BlameValues) (answer : Answer) → JobFound told files w.job (λ (job : Parts). blamed_phases w job.netlist job.recorded) answer
+      → SaysBlame files w answer
+  blame_says w answer found = go found.more
+    where
+      go : ComesTo told files (blamed_phases w found.n found.r) (Ok answer) → SaysBlame files w answer
+      go (inl (e, refused, is)) = absurd (no_answer answer (Compare e) is)
+      go (inr (agreed, faultless, inl (o, refused, is))) = absurd (no_answer answer (Optimistic o) is)
+      go (inr (agreed, faultless, inr (there, is, inl (none, never, same)))) = absurd never
+      go (inr (agreed, faultless, inr (there, is, inr (listed, lists, same)))) =
+          let made : Made (repair_to_blame w) (netlist_held files w.job) (recording_held files w.job) =
+          record { n = found.n; r = found.r; job = found.job; faultless = faultless; found = there; is = is } in
+          subst (SaysBlame files w) (sym (answers_one answer listed same))
+          (blames w (netlist_held files w.job) (recording_held files w.job) listed made lists)
+
 -- What a command of the set finds says what is promised.
 pub answers_say : (told : Bool) (files : Files) (line : List (List ℕ)) (words : Values) (answer : Answer) → IsTrue told → Means line words
     → ComesTo told files (phases_of words) (Ok answer) → Says files words answer
@@ -184,3 +274,8 @@ answers_say told files line (OfReplay w) answer t means comes =
 answers_say told files line (OfCheck w) answer t means comes =
     check_says told files t w answer (job_found told files t w.job (compared_check w) answer comes)
 answers_say told files line (OfMake w) answer t means comes = make_says told files w answer comes
+answers_say told files line (OfExport w) answer t means comes =
+    export_says told files t w answer (job_found told files t w.job (λ (job : Parts). exported_phases w job.netlist job.recorded) answer comes)
+answers_say told files line (OfProve w) answer t means comes = prove_says told files t w answer comes
+answers_say told files line (OfBlame w) answer t means comes =
+    blame_says told files t w answer (job_found told files t w.job (λ (job : Parts). blamed_phases w job.netlist job.recorded) answer comes)

@@ -266,7 +266,7 @@ module _ (w : RepairValues) (netlist recording : List ℕ) (is : Made w netlist 
   accepted_so : IsAccepted (beginning w.conflicts is.n is.r is.found.history) (cert_of TheWave) written
   accepted_so = own_accepted (beginning w.conflicts is.n is.r is.found.history) TheWave refl refl along_there wave finished
 
-  certifies_so : Certifies w is.n is.r is.found.history written lines (cert_text (cert_of TheWave))
+  pub certifies_so : Certifies w is.n is.r is.found.history written lines (cert_text (cert_of TheWave))
   certifies_so = record {
     stands = own_text_stands (beginning w.conflicts is.n is.r is.found.history) TheWave refl along_there wave;
     accepted = accepted_so;

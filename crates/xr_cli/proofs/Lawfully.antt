@@ -12,7 +12,7 @@ use Rattle.xr_run.specs.Phases.{Answer, AreExact, IsOne, Phases, ◌>>=◌}
 use Rattle.xr_run.specs.Rows.{Start}
 use Rattle.xr_run.proofs.Comes.{Lawful}
 use Rattle.xr_run.proofs.Causes.{EachCause, each_cause}
-use Rattle.xr_words.specs.Words.{JobValues, MakeValues, OfCheck, OfMake, OfRepair, OfReplay, Values}
+use Rattle.xr_words.specs.Words.{JobValues, MakeValues, OfBlame, OfCheck, OfExport, OfMake, OfProve, OfRepair, OfReplay, Values}
 use Rattle.xr_words.proofs.OneMeaning.{one_meaning}
 use Rattle.xr_job.specs.Compared.{IsRefusedReplay, job_in, refusal_for}
 use Rattle.xr_job.specs.Netlist.{IsRefusedNetlist}
@@ -25,6 +25,9 @@ use Rattle.xr_job.specs.declared.recorded.Recorded.{Recorded}
 use Rattle.xr_job.specs.declared.recording_refusal.RecordingRefusal.{RecordingRefusal}
 use Rattle.xr_job.specs.declared.recording_refusal.RecordingRefusal.TheVariants as recording
 use Rattle.xr_job.proofs.OneNetlist.{one_outcome}
+use Rattle.xr_prove.proofs.OneProof.{one_proof}
+use Rattle.xr_prove.specs.declared.fault.ProofFault.{ProofFault}
+use Rattle.xr_prove.specs.declared.fault.ProofFault.TheVariants as proof
 use Rattle.xr_job.proofs.OneRecording.{one_recording}
 use Rattle.xr_cli.specs.Cause.{status_of}
 use Rattle.xr_cli.specs.Commands.{commands}
@@ -34,11 +37,11 @@ use Rattle.xr_code.specs.declared.fault.CodeFault.{CodeFault}
 use Rattle.xr_cli.specs.Certificate.{IsCauseOf, uncertified_by}
 use Rattle.xr_cli.specs.Code.{code_in}
 use Rattle.xr_cli.specs.Made.{made_job, made_netlist}
-use Rattle.xr_cli.specs.Phases.{coded_phases, compared_check, job_phases, make_phases, parts, phases_of, repaired_phases, scope_of}
+use Rattle.xr_cli.specs.Phases.{blamed_phases, coded_phases, compared_check, exported_phases, job_phases, make_phases, parts, phases_of, repaired_phases, scope_of}
 use Rattle.xr_cli.specs.Repair.{CompareComes, netlist_limit, objection_of, recording_limit, rule_of}
 use Rattle.xr_cli.specs.declared.cause.Objection.{Objection}
 use Rattle.xr_cli.specs.declared.cause.Refused.{Refused}
-use Rattle.xr_cli.specs.declared.cause.Refused.TheVariants.{Certificate, Code, Compare, LongCertificate, LongCode, LongNetlist, LongRecording, Netlist, Optimistic, Recording}
+use Rattle.xr_cli.specs.declared.cause.Refused.TheVariants.{Certificate, Code, Compare, LongCertificate, LongCnf, LongCode, LongLog, LongNetlist, LongRecording, Netlist, Optimistic, Proof, Recording}
 use Rattle.xr_cli.specs.declared.cause.Uncertified.{Uncertified}
 use Rattle.xr_cli.specs.declared.parts.Parts.{Parts}
 use Rattle.xr_cli.proofs.Faults.{OrdersAll, no_first, one_fault}
@@ -107,6 +110,11 @@ each_exact (OfReplay w) = job_exact w.job (coded_phases w)
 each_exact (OfCheck w) = job_exact w.job (compared_check w)
     (λ n r orders. (one_compared n r orders, λ agreed faultless text. (one_certificate text, λ cert stands. (one_check w.conflicts (parts n r) cert, λ wave is. tt))))
 each_exact (OfMake w) = made_exact w
+each_exact (OfExport w) = job_exact w.job (λ (job : Parts). exported_phases w job.netlist job.recorded)
+    (λ n r orders. (one_compared n r orders, λ agreed faultless found is answer written. tt))
+each_exact (OfProve w) = λ cnf log. (one_proof cnf log, λ count is. tt)
+each_exact (OfBlame w) = job_exact w.job (λ (job : Parts). blamed_phases w job.netlist job.recorded)
+    (λ n r orders. (one_compared n r orders, λ agreed faultless found is answer lists. tt))
 
 -- ---- the statuses of texts
 
@@ -167,6 +175,19 @@ of_certificate : (cause : Uncertified) → IsOfTexts (Certificate cause)
 unfolding IsOfTexts
 of_certificate cause = (omega arith, omega arith)
 
+of_long_cnf : IsOfTexts LongCnf
+unfolding IsOfTexts
+of_long_cnf = (omega arith, omega arith)
+
+of_long_log : IsOfTexts LongLog
+unfolding IsOfTexts
+of_long_log = (omega arith, omega arith)
+
+of_proof : (fault : ProofFault) → IsOfTexts (Proof fault)
+unfolding IsOfTexts
+of_proof (proof.Text found) = (omega arith, omega arith)
+of_proof (proof.Log clause) = (omega arith, omega arith)
+
 of_cause : (job : Parts) (refusal : CheckErr) (cause : Refused) → IsCauseOf job refusal cause → IsOfTexts cause
 of_cause job (Unchecked fault) cause is = subst IsOfTexts (sym is) (of_certificate (uncertified_by job fault))
 of_cause job (Objects found) cause is = subst IsOfTexts (sym is) (of_objection (objection_of job.netlist job.recorded found))
@@ -220,6 +241,23 @@ each_of_texts (OfCheck w) = job_of_texts w.job (compared_check w)
       ),
     ))
 each_of_texts (OfMake w) = made_of_texts w
+each_of_texts (OfExport w) = job_of_texts w.job (λ (job : Parts). exported_phases w job.netlist job.recorded)
+    (λ n r. (
+      of_compare n r,
+      λ agreed faultless. (
+        (λ o objects. of_objection o),
+        λ found is. ((λ none never. absurd never), λ answer written. tt),
+      ),
+    ))
+each_of_texts (OfProve w) = (of_long_cnf, λ cnf. (of_long_log, λ log. ((λ fault is. of_proof fault), λ count is. tt)))
+each_of_texts (OfBlame w) = job_of_texts w.job (λ (job : Parts). blamed_phases w job.netlist job.recorded)
+    (λ n r. (
+      of_compare n r,
+      λ agreed faultless. (
+        (λ o objects. of_objection o),
+        λ found is. ((λ none never. absurd never), λ answer lists. tt),
+      ),
+    ))
 
 pub lawful : (s : Start) → Lawful commands s
 lawful s = record {

@@ -38,7 +38,7 @@ use Rattle.xr_cli.specs.Repair.{IsObjectionIn, is_undecided_body, is_undecided_l
 use Rattle.xr_cli.specs.Texts.{HasJob, IsJob, IsObjected, IsOneCause}
 use Rattle.xr_cli.specs.declared.cause.Objection.{Objection}
 use Rattle.xr_cli.specs.declared.cause.Refused.{Refused}
-use Rattle.xr_cli.specs.declared.cause.Refused.TheVariants.{Certificate, Code, Compare, LongCertificate, LongCode, LongNetlist, LongRecording, Netlist, Optimistic, Recording}
+use Rattle.xr_cli.specs.declared.cause.Refused.TheVariants.{Certificate, Code, Compare, LongCertificate, LongCnf, LongCode, LongLog, LongNetlist, LongRecording, Netlist, Optimistic, Proof, Recording}
 use Rattle.xr_cli.proofs.Jobs.{replay_shown}
 use Rattle.xr_cli.proofs.OneStimulus.{one_stim}
 
@@ -213,5 +213,8 @@ one_cause w netlist recording conflicts LongCode has = tt
 one_cause w netlist recording conflicts (Code fault) has = tt
 one_cause w netlist recording conflicts LongCertificate has = tt
 one_cause w netlist recording conflicts (Certificate cause) has = tt
+one_cause w netlist recording conflicts LongCnf has = tt
+one_cause w netlist recording conflicts LongLog has = tt
+one_cause w netlist recording conflicts (Proof fault) has = tt
 one_cause w netlist recording conflicts (Optimistic o) has = λ none limit other is none_other.
     once w netlist recording conflicts limit o other (has o refl) is none none_other

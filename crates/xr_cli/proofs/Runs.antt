@@ -10,23 +10,26 @@ use Rattle.xr_run.proofs.Exact.{err_same, ok_err}
 use Rattle.xr_job.specs.Netlist.{NetlistComes}
 use Rattle.xr_job.specs.declared.netlist.Netlist.{Netlist as ANetlist}
 use Rattle.xr_job.specs.declared.recorded.Recorded.{Recorded}
-use Rattle.xr_words.specs.Words.{CheckValues, JobValues, MakeValues, OfCheck, OfMake, OfRepair, OfReplay, RepairValues, ReplayValues, Values}
+use Rattle.xr_words.specs.Words.{BlameValues, CheckValues, ExportValues, JobValues, MakeValues, OfBlame, OfCheck, OfExport, OfMake, OfProve, OfRepair, OfReplay, ProveValues, RepairValues, ReplayValues, Values}
 use Rattle.xr_cert_text.specs.Wrong.{IsTextOf}
 use Rattle.xr_code.specs.Says.{FirstFault}
 use Rattle.xr_cli.specs.Answers.{netlist_held, recording_held}
 use Rattle.xr_cli.specs.Certificate.{IsWrong}
-use Rattle.xr_cli.specs.Code.{code_in}
+use Rattle.xr_cli.specs.Code.{code_in, text_limit}
 use Rattle.xr_cli.specs.Commands.{commands}
 use Rattle.xr_cli.specs.Ends.{AreInOrder, Done, IsComplete, IsTheOne, RefusesTexts, TextsRefused}
+use Rattle.xr_cli.specs.Foreign.{repair_for}
 use Rattle.xr_cli.specs.Made.{made_conflicts, made_job, made_netlist}
-use Rattle.xr_cli.specs.Phases.{check_answer, coded_phases, compared_check, job_phases, parts, phases_of, repair_answer, repaired_phases, replay_answer, scope_of}
+use Rattle.xr_cli.specs.Listed.{repair_to_blame}
+use Rattle.xr_cli.specs.Phases.{blamed_phases, check_answer, coded_phases, compared_check, exported_phases, job_phases, parts, prove_answer, prove_phases, phases_of, repair_answer, repaired_phases, replay_answer, scope_of}
 use Rattle.xr_cli.specs.Phases.{make_answer, make_phases, recorded_made, repaired_made}
+use Rattle.xr_cli.specs.Proves.{IsUnproved}
 use Rattle.xr_cli.specs.Repair.{IsObjectionIn, netlist_limit, recording_limit}
 use Rattle.xr_cli.specs.Texts.{AreRefused, CheckFails, CodeFails, HasJob, HasNetlist, IsJob, IsObjected, IsRepairable, RepairFails}
 use Rattle.xr_cli.specs.Texts.{IsMadeOf, IsMadeRefused, IsMakeable, IsOneMade}
 use Rattle.xr_cli.specs.declared.cause.Objection.{Objection}
 use Rattle.xr_cli.specs.declared.cause.Refused.{Refused}
-use Rattle.xr_cli.specs.declared.cause.Refused.TheVariants.{Certificate, Code, Compare, LongCertificate, LongCode, LongNetlist, LongRecording, Netlist, Optimistic, Recording}
+use Rattle.xr_cli.specs.declared.cause.Refused.TheVariants.{Certificate, Code, Compare, LongCertificate, LongCnf, LongCode, LongLog, LongNetlist, LongRecording, Netlist, Optimistic, Proof, Recording}
 use Rattle.xr_cli.specs.declared.parts.Parts.{Parts}
 use Rattle.xr_cli.proofs.Answering.{answers_say}
 use Rattle.xr_cli.proofs.Lawfully.{lawful}
@@ -107,6 +110,51 @@ module _ (told : Bool) (files : Files) (t : IsTrue told) (job : Parts) where
       (CheckFails.unaccepted faultless cert (subst (λ (l : List ℕ). IsTextOf l cert) (read.is t) stands) is)
   check_fails w cause (inr (agreed, faultless, inr (text, read, inr (cert, stands, inr (wave, is, same))))) = absurd (ok_err (check_answer job wave) cause (sym same))
 
+-- ---- to other solvers, and from them
+
+export_fails : (told : Bool) (files : Files) (job : Parts) (w : ExportValues) (cause : Refused) → ComesTo told files (exported_phases w job.netlist job.recorded) (Err cause)
+    → RepairFails w.conflicts job cause
+export_fails told files job w cause (inl (e, refused, is)) =
+    subst (RepairFails w.conflicts job) (sym (err_same {B = Answer} cause (Compare e) is)) (RepairFails.disagrees refused)
+export_fails told files job w cause (inr (agreed, faultless, inl (o, refused, is))) =
+    subst (RepairFails w.conflicts job) (sym (err_same {B = Answer} cause (Optimistic o) is)) (RepairFails.objected record { faultless = faultless; objects = refused })
+export_fails told files job w cause (inr (agreed, faultless, inr (found, is, inl (none, never, same)))) = absurd never
+export_fails told files job w cause (inr (agreed, faultless, inr (found, is, inr (answer, written, same)))) = absurd (ok_err answer cause (sym same))
+
+module _ (told : Bool) (files : Files) (t : IsTrue told) (w : ProveValues) (cause : Refused) where
+  abbrev cnf_held : List ℕ
+  cnf_held = text_held files (w.cnf ∷ [])
+
+  abbrev log_held : List ℕ
+  log_held = text_held files (w.log ∷ [])
+
+  unproved_there : (cnf log : List ℕ) → IsRead told files (w.cnf ∷ []) text_limit cnf → IsRead told files (w.log ∷ []) text_limit log → IsUnproved cnf log cause
+      → IsUnproved cnf_held log_held cause
+  unproved_there cnf log read again is =
+      subst (λ (l : List ℕ). IsUnproved cnf_held l cause) (again.is t) (subst (λ (l : List ℕ). IsUnproved l log cause) (read.is t) is)
+
+  prove_refused : ComesTo told files (prove_phases w) (Err cause) → IsUnproved cnf_held log_held cause
+  prove_refused (inl first) = subst (IsUnproved cnf_held log_held) (sym (err_same {B = Answer} cause LongCnf first.1)) (IsUnproved.long_cnf (first.0 t))
+  prove_refused (inr (cnf, read, inl first)) =
+      subst (IsUnproved cnf_held log_held) (sym (err_same {B = Answer} cause LongLog first.1))
+      (IsUnproved.long_log (subst (λ (l : List ℕ). length l ≤ text_limit) (read.is t) read.fits) (first.0 t))
+  prove_refused (inr (cnf, read, inr (log, again, inl (fault, is, same)))) =
+      unproved_there cnf log read again
+      (subst (IsUnproved cnf log) (sym (err_same {B = Answer} cause (Proof fault) same))
+      (IsUnproved.unproved record { cnf_fits = read.fits; log_fits = again.fits } is))
+  prove_refused (inr (cnf, read, inr (log, again, inr (count, is, same)))) = absurd (ok_err (prove_answer count) cause (sym same))
+
+-- ---- what is to blame
+
+blame_fails : (told : Bool) (files : Files) (job : Parts) (w : BlameValues) (cause : Refused) → ComesTo told files (blamed_phases w job.netlist job.recorded) (Err cause)
+    → RepairFails w.conflicts job cause
+blame_fails told files job w cause (inl (e, refused, is)) =
+    subst (RepairFails w.conflicts job) (sym (err_same {B = Answer} cause (Compare e) is)) (RepairFails.disagrees refused)
+blame_fails told files job w cause (inr (agreed, faultless, inl (o, refused, is))) =
+    subst (RepairFails w.conflicts job) (sym (err_same {B = Answer} cause (Optimistic o) is)) (RepairFails.objected record { faultless = faultless; objects = refused })
+blame_fails told files job w cause (inr (agreed, faultless, inr (found, is, inl (none, never, same)))) = absurd never
+blame_fails told files job w cause (inr (agreed, faultless, inr (found, is, inr (answer, lists, same)))) = absurd (ok_err answer cause (sym same))
+
 -- ---- a made job
 
 module _ (told : Bool) (files : Files) (w : MakeValues) (cause : Refused) where
@@ -161,6 +209,13 @@ texts_refused s (OfCheck w) cause t comes =
     refused_by s.shelf_told s.shelf.files t w.job (compared_check w) (CheckFails w.conflicts (text_held s.shelf.files (w.cert ∷ []))) cause
     (λ n r. check_fails s.shelf_told s.shelf.files t (parts n r) w cause) comes
 texts_refused s (OfMake w) cause t comes = make_refused s.shelf_told s.shelf.files w cause comes
+texts_refused s (OfExport w) cause t comes =
+    refused_by s.shelf_told s.shelf.files t w.job (λ (job : Parts). exported_phases w job.netlist job.recorded) (RepairFails w.conflicts) cause
+    (λ n r. export_fails s.shelf_told s.shelf.files (parts n r) w cause) comes
+texts_refused s (OfProve w) cause t comes = prove_refused s.shelf_told s.shelf.files t w cause comes
+texts_refused s (OfBlame w) cause t comes =
+    refused_by s.shelf_told s.shelf.files t w.job (λ (job : Parts). blamed_phases w job.netlist job.recorded) (RepairFails w.conflicts) cause
+    (λ n r. blame_fails s.shelf_told s.shelf.files (parts n r) w cause) comes
 
 -- A place that a repair finds otherwise is of a job that agrees.
 objected_of : (conflicts : ℕ) (job : Parts) (o : Objection) → RepairFails conflicts job (Optimistic o) → IsObjected conflicts o job.netlist job.recorded
@@ -190,6 +245,15 @@ the_one s (OfRepair w) cause refused =
 the_one s (OfReplay w) cause refused = tt
 the_one s (OfCheck w) cause refused = tt
 the_one s (OfMake w) cause refused = the_one_made w cause refused
+the_one s (OfExport w) cause refused =
+    one_cause w.job (netlist_held s.shelf.files w.job) (recording_held s.shelf.files w.job) w.conflicts cause
+    (λ o is. job_of w.job (netlist_held s.shelf.files w.job) (recording_held s.shelf.files w.job) w.conflicts o
+    (subst (AreRefused w.job (netlist_held s.shelf.files w.job) (recording_held s.shelf.files w.job) (RepairFails w.conflicts)) is refused))
+the_one s (OfProve w) cause refused = tt
+the_one s (OfBlame w) cause refused =
+    one_cause w.job (netlist_held s.shelf.files w.job) (recording_held s.shelf.files w.job) w.conflicts cause
+    (λ o is. job_of w.job (netlist_held s.shelf.files w.job) (recording_held s.shelf.files w.job) w.conflicts o
+    (subst (AreRefused w.job (netlist_held s.shelf.files w.job) (recording_held s.shelf.files w.job) (RepairFails w.conflicts)) is refused))
 
 -- ---- texts in order
 
@@ -222,6 +286,15 @@ passes_all files (OfMake w) is = (
     (is.recording, is.made, (tt, is.job.fits, (is.r, is.job.is, (tt, is.faultless, (made_not_objected w is, λ found there. tt))))),
   ),
 )
+passes_all files (OfExport w) is =
+    let objected = not_objected (repair_for w) (netlist_held files w.job) (recording_held files w.job) is in
+    job_passes files w.job (λ (job : Parts). exported_phases w job.netlist job.recorded) is.n is.r is.job
+    (tt, is.faultless, (objected, λ found there. ((λ none never. never), λ answer written. tt)))
+passes_all files (OfProve w) is = (is.short.cnf_fits, (is.short.log_fits, (is.count, is.proof, tt)))
+passes_all files (OfBlame w) is =
+    let objected = not_objected (repair_to_blame w) (netlist_held files w.job) (recording_held files w.job) is in
+    job_passes files w.job (λ (job : Parts). blamed_phases w job.netlist job.recorded) is.n is.r is.job
+    (tt, is.faultless, (objected, λ found there. ((λ none never. never), λ answer lists. tt)))
 
 -- ---- a run
 

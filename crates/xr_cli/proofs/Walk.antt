@@ -7,18 +7,22 @@ use Rattle.xr_forces.specs.ForcesOf.{AreForcesOf}
 use Rattle.xr_forces.specs.Waves.{values_of}
 use Rattle.xr_forces.proofs.Showing.{forces_are_one}
 use Rattle.xr_wave.specs.Contents.{Contents, job}
-use Rattle.xr_run.specs.Phases.{Phases, judges}
+use Rattle.xr_run.specs.Phases.{Phases, judges, searches}
 use Rattle.xr_run.specs.Prepared.{PreparedAlone, answer_of}
 use Rattle.xr_run.specs.declared.ready.Ready.{Ready}
-use Rattle.xr_run.proofs.Then.{found_prepared, judged_prepared, prepared_then, searched_prepared, searched_then}
+use Rattle.xr_run.proofs.Then.{found_prepared, judged_prepared, judged_then, prepared_then, searched_prepared, searched_then}
 use Rattle.xr_job.specs.declared.netlist.Netlist.{Netlist as ANetlist}
 use Rattle.xr_job.specs.declared.recorded.Recorded.{Recorded}
-use Rattle.xr_words.specs.Words.{CheckValues, MakeValues, RepairValues, ReplayValues}
+use Rattle.xr_export.specs.Export.{Exports}
+use Rattle.xr_prove.specs.Proof.{ProofComes}
+use Rattle.xr_words.specs.Words.{BlameValues, CheckValues, ExportValues, MakeValues, RepairValues, ReplayValues}
 use Rattle.xr_cli.specs.Certificate.{CheckComes, IsCertified}
 use Rattle.xr_cli.specs.Code.{ForcedComes, IsForced}
+use Rattle.xr_cli.specs.Foreign.{ExportComes}
+use Rattle.xr_cli.specs.Listed.{BlameComes, ListsBlame}
 use Rattle.xr_cli.specs.Made.{made_conflicts}
-use Rattle.xr_cli.specs.Phases.{check_answer, checked_phases, forced_phases, forces_in, itself, make_answer, no_cause, repair_answer, replay_answer}
-use Rattle.xr_cli.specs.Phases.{walk_cause, walk_made, walk_phases}
+use Rattle.xr_cli.specs.Phases.{check_answer, checked_phases, forced_phases, forces_in, itself, make_answer, no_cause, proof_cause, proof_phases, prove_answer, repair_answer, replay_answer}
+use Rattle.xr_cli.specs.Phases.{walk_blamed, walk_cause, walk_exported, walk_made, walk_phases}
 use Rattle.xr_cli.specs.Repair.{Found, IsFound, WalkComes}
 use Rattle.xr_cli.specs.declared.parts.Parts.{Parts}
 
@@ -52,6 +56,29 @@ check_found w job cert wave ready is same = λ told v.
     prepared_then told (judges (CheckComes w.conflicts job cert) itself) (λ (x : Contents). Phases.Finds (check_answer job x)) itself answer_of v v v
     wave (Ok ready) (judged_prepared told (CheckComes w.conflicts job cert) itself itself v (Ok wave) record { found = is; refused = tt })
     (found_prepared told answer_of (check_answer job wave) v ready same)
+
+-- A wave that is found, with what is written of it for other solvers.
+pub export_found : (w : ExportValues) (n : ANetlist) (r : Recorded) (found : Found) (ready : Ready) → IsFound w.conflicts n r found
+    → Exports w.prefix found.wave (answer_of ready) → PreparedAlone (walk_exported w n r) answer_of (Ok ready)
+export_found w n r found ready is exports =
+    searched_then (WalkComes w.conflicts n r) walk_cause (λ (x : Found). searches (ExportComes w.prefix x.wave) no_cause) itself answer_of
+    found (Ok ready) record { found = is; refused = tt }
+    (λ told v. searched_prepared told (ExportComes w.prefix found.wave) no_cause answer_of v (Ok ready) record { found = exports; refused = tt })
+
+-- A wave that is found, with what is to blame for its unknown bits.
+pub blame_found : (w : BlameValues) (n : ANetlist) (r : Recorded) (found : Found) (ready : Ready) → IsFound w.conflicts n r found
+    → ListsBlame r.binding.bound found.wave (answer_of ready) → PreparedAlone (walk_blamed w n r) answer_of (Ok ready)
+blame_found w n r found ready is lists =
+    searched_then (WalkComes w.conflicts n r) walk_cause (λ (x : Found). searches (BlameComes r.binding.bound x.wave) no_cause) itself answer_of
+    found (Ok ready) record { found = is; refused = tt }
+    (λ told v. searched_prepared told (BlameComes r.binding.bound found.wave) no_cause answer_of v (Ok ready) record { found = lists; refused = tt })
+
+-- A proof, with what is printed of it.
+pub proof_found : (cnf log : List ℕ) (count : ℕ) (ready : Ready) → ProofComes cnf log (Ok count) → answer_of ready ≡ prove_answer count
+    → PreparedAlone (proof_phases cnf log) answer_of (Ok ready)
+proof_found cnf log count ready is same =
+    judged_then (ProofComes cnf log) proof_cause (λ (x : ℕ). Phases.Finds (prove_answer x)) itself answer_of
+    count (Ok ready) record { found = is; refused = tt } (λ told v. found_prepared told answer_of (prove_answer count) v ready same)
 
 -- The forces of a wave of a job are those of what it shows.
 pub forces_are : (wave : Contents) (forces : List Event) → AreForcesOf (job wave) (values_of wave) forces → forces ≡ forces_in wave

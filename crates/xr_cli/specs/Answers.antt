@@ -2,12 +2,16 @@
 use Rattle.std.specs.Prelude.{◌≡◌, ℕ, List, [], ◌∷◌}
 use Rattle.xr_shelf.specs.Shelf.{Files}
 use Rattle.xr_run.specs.Phases.{Answer, text_held}
-use Rattle.xr_words.specs.Words.{CheckValues, JobValues, MakeValues, RepairValues, ReplayValues, Values}
-use Rattle.xr_words.specs.Words.{OfCheck, OfMake, OfRepair, OfReplay}
+use Rattle.xr_words.specs.Words.{BlameValues, CheckValues, ExportValues, JobValues, MakeValues, ProveValues}
+use Rattle.xr_words.specs.Words.{RepairValues, ReplayValues, Values}
+use Rattle.xr_words.specs.Words.{OfBlame, OfCheck, OfExport, OfMake, OfProve, OfRepair, OfReplay}
+use Rattle.xr_cli.specs.Blames.{Blames}
 use Rattle.xr_cli.specs.Checks.{Checks}
+use Rattle.xr_cli.specs.Exported.{Exported}
 use Rattle.xr_cli.specs.Headline.{Headline}
 use Rattle.xr_cli.specs.Makes.{Makes}
 use Rattle.xr_cli.specs.Phases.{answer_with, make_with}
+use Rattle.xr_cli.specs.Proves.{Proves}
 use Rattle.xr_cli.specs.Replays.{Replays}
 
 -- The texts that the files of a job hold.
@@ -49,8 +53,25 @@ pub record SaysMake (w : MakeValues) (answer : Answer) : Type 0 where
   pub answer_is : answer ≡ make_with w netlist recording printed
   pub makes : Makes w netlist recording printed
 
+-- The certificate, the queries and the logs are written of the texts that the files hold.
+abbrev pub SaysExport : Files → ExportValues → Answer → Type 0
+SaysExport files w answer = Exported w (netlist_held files w.job) (recording_held files w.job) answer
+
+-- No file is written, and what is printed is of the formula and of the log that the files hold.
+pub record SaysProve (files : Files) (w : ProveValues) (answer : Answer) : Type 0 where
+  pub printed : List ℕ
+  pub answer_is : answer ≡ record { files = []; printed = printed }
+  pub proves : Proves (text_held files (w.cnf ∷ [])) (text_held files (w.log ∷ [])) printed
+
+-- No file is written, and what is printed is of the texts that the files hold.
+abbrev pub SaysBlame : Files → BlameValues → Answer → Type 0
+SaysBlame files w answer = Blames w (netlist_held files w.job) (recording_held files w.job) answer
+
 abbrev pub Says : Files → Values → Answer → Type 0
 Says files (OfRepair w) answer = SaysRepair files w answer
 Says files (OfReplay w) answer = SaysReplay files w answer
 Says files (OfCheck w) answer = SaysCheck files w answer
 Says files (OfMake w) answer = SaysMake w answer
+Says files (OfExport w) answer = SaysExport files w answer
+Says files (OfProve w) answer = SaysProve files w answer
+Says files (OfBlame w) answer = SaysBlame files w answer

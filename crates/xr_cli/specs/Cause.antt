@@ -5,11 +5,13 @@ use Rattle.xr_job.specs.Lines.{compare_line, netlist_line, recording_line}
 use Rattle.xr_job.specs.Lines.{compare_status, netlist_status, recording_status}
 use Rattle.xr_cert.specs.Words.{fault_text}
 use Rattle.xr_code.specs.Fault.{code_line}
+use Rattle.xr_prove.specs.Proof.{proof_line, proof_status}
 use Rattle.xr_cli.specs.declared.cause.Lack.{Lack}
 use Rattle.xr_cli.specs.declared.cause.Objection.{Objection}
 use Rattle.xr_cli.specs.declared.cause.Refused.{Refused}
 use Rattle.xr_cli.specs.declared.cause.Refused.TheVariants.{LongNetlist, Netlist, LongRecording, Recording, Compare}
 use Rattle.xr_cli.specs.declared.cause.Refused.TheVariants.{Optimistic, LongCode, Code, LongCertificate, Certificate}
+use Rattle.xr_cli.specs.declared.cause.Refused.TheVariants.{LongCnf, LongLog, Proof}
 use Rattle.xr_cli.specs.declared.cause.Uncertified.{Uncertified}
 use Rattle.xr_cli.specs.declared.cause.Uncertified.TheVariants.{Lacks, Line}
 
@@ -24,6 +26,9 @@ status_of LongCode = 11
 status_of (Code fault) = 12
 status_of LongCertificate = 11
 status_of (Certificate cause) = 13
+status_of LongCnf = 11
+status_of LongLog = 11
+status_of (Proof fault) = proof_status fault
 
 -- `refused: optimistic #T round J NAME replayed V found V undecided U`
 abbrev pub objection_text : Objection → List ℕ
@@ -54,3 +59,6 @@ text_of LongCode = codes "refused: too large code"
 text_of (Code fault) = code_line fault
 text_of LongCertificate = codes "refused: too large certificate"
 text_of (Certificate cause) = certificate_line cause
+text_of LongCnf = codes "refused: too large cnf"
+text_of LongLog = codes "refused: too large log"
+text_of (Proof fault) = proof_line fault

@@ -6,11 +6,14 @@ use Rattle.xr_run.specs.Ends.{LineMade, NoFault}
 use Rattle.xr_run.specs.Lines.{line}
 use Rattle.xr_run.specs.Phases.{text_held}
 use Rattle.xr_run.specs.Rows.{DoneRow, Start, TextRow}
-use Rattle.xr_words.specs.Words.{Means, OfCheck, OfMake, OfRepair, OfReplay, Values}
+use Rattle.xr_words.specs.Words.{Means, OfBlame, OfCheck, OfExport, OfMake, OfProve, OfRepair, OfReplay, Values}
 use Rattle.xr_cli.specs.Answers.{Says, netlist_held, recording_held}
 use Rattle.xr_cli.specs.Cause.{status_of, text_of}
 use Rattle.xr_cli.specs.Commands.{commands}
+use Rattle.xr_cli.specs.Foreign.{repair_for}
+use Rattle.xr_cli.specs.Listed.{repair_to_blame}
 use Rattle.xr_cli.specs.Phases.{phases_of, scope_of}
+use Rattle.xr_cli.specs.Proves.{IsProvable, IsUnproved}
 use Rattle.xr_cli.specs.Texts.{AreRefused, CheckFails, CodeFails, IsCheckable, IsMadeRefused, IsMakeable, IsOneCause}
 use Rattle.xr_cli.specs.Texts.{IsOneMade, IsRepairable, IsReplayable, RepairFails}
 use Rattle.xr_cli.specs.declared.cause.Refused.{Refused}
@@ -34,15 +37,24 @@ TextsRefused files (OfCheck w) cause =
     AreRefused w.job (netlist_held files w.job) (recording_held files w.job)
     (CheckFails w.conflicts (text_held files (w.cert ∷ []))) cause
 TextsRefused files (OfMake w) cause = IsMadeRefused w cause
+TextsRefused files (OfExport w) cause =
+    AreRefused w.job (netlist_held files w.job) (recording_held files w.job) (RepairFails w.conflicts) cause
+TextsRefused files (OfProve w) cause = IsUnproved (text_held files (w.cnf ∷ [])) (text_held files (w.log ∷ [])) cause
+TextsRefused files (OfBlame w) cause =
+    AreRefused w.job (netlist_held files w.job) (recording_held files w.job) (RepairFails w.conflicts) cause
 
--- Without an undecided line before it, a place that `repair` or `make` finds otherwise is the one of the texts.
+-- Without an undecided line before it, a place that `repair`, `make`, `export` or `blame` finds otherwise is the one of
+-- the texts.
 abbrev pub IsTheOne : Files → Values → Refused → Type 0
 IsTheOne files (OfRepair w) cause = IsOneCause w.job (netlist_held files w.job) (recording_held files w.job) cause
 IsTheOne files (OfReplay w) cause = Unit {0}
 IsTheOne files (OfCheck w) cause = Unit {0}
 IsTheOne files (OfMake w) cause = IsOneMade w cause
+IsTheOne files (OfExport w) cause = IsOneCause w.job (netlist_held files w.job) (recording_held files w.job) cause
+IsTheOne files (OfProve w) cause = Unit {0}
+IsTheOne files (OfBlame w) cause = IsOneCause w.job (netlist_held files w.job) (recording_held files w.job) cause
 
--- 5 to 13: the texts are refused for a cause of that status, and its line is printed.
+-- 5 to 16: the texts are refused for a cause of that status, and its line is printed.
 pub record RefusesTexts (s : Start) (shelf : View) (sink : SinkView) (status : ℕ) : Type 0 where
   pub words : Values
   pub means : Means s.line words
@@ -61,6 +73,10 @@ AreInOrder files (OfReplay w) =
 AreInOrder files (OfCheck w) =
     IsCheckable w (netlist_held files w.job) (recording_held files w.job) (text_held files (w.cert ∷ []))
 AreInOrder files (OfMake w) = IsMakeable w
+AreInOrder files (OfExport w) = IsRepairable (repair_for w) (netlist_held files w.job) (recording_held files w.job)
+AreInOrder files (OfProve w) = IsProvable (text_held files (w.cnf ∷ [])) (text_held files (w.log ∷ []))
+AreInOrder files (OfBlame w) =
+    IsRepairable (repair_to_blame w) (netlist_held files w.job) (recording_held files w.job)
 
 -- Then the command does what it says, want of memory and faults aside.
 abbrev pub IsComplete : Start → View → SinkView → ℕ → Type 0

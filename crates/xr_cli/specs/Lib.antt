@@ -4,12 +4,17 @@ pub mod Repair
 pub mod Code
 pub mod Made
 pub mod Certificate
+pub mod Foreign
+pub mod Listed
 pub mod Phases
 pub mod Texts
 pub mod Headline
 pub mod Replays
 pub mod Checks
 pub mod Makes
+pub mod Exported
+pub mod Proves
+pub mod Blames
 pub mod Answers
 pub mod Commands
 pub mod Ends

@@ -13,6 +13,8 @@ use Rattle.xr_forces.specs.ForcesOf.{forces_of}
 use Rattle.xr_forces.specs.Waves.{values_of}
 use Rattle.xr_run.specs.Phases.{Answer, Phases, ◌>>=◌, reads, judges, searches}
 use Rattle.xr_out.specs.Text.{vcd_text}
+use Rattle.xr_prove.specs.Proof.{ProofComes}
+use Rattle.xr_prove.specs.declared.fault.ProofFault.{ProofFault}
 use Rattle.xr_report.specs.Report.{head_text, report_text}
 use Rattle.xr_wave.specs.Contents.{Contents, job}
 use Rattle.xr_wave.specs.Shown.{ShowsWave}
@@ -24,16 +26,20 @@ use Rattle.xr_job.specs.declared.netlist_refusal.NetlistRefusal.{NetlistRefusal}
 use Rattle.xr_job.specs.declared.recorded.Recorded.{Recorded}
 use Rattle.xr_job.specs.declared.recording_refusal.RecordingRefusal.{RecordingRefusal}
 use Rattle.xr_words.specs.Line.{pieces_of}
-use Rattle.xr_words.specs.Words.{CheckValues, JobValues, MakeValues, RepairValues, ReplayValues, Values}
-use Rattle.xr_words.specs.Words.{OfCheck, OfMake, OfRepair, OfReplay}
+use Rattle.xr_words.specs.Words.{BlameValues, CheckValues, ExportValues, JobValues, MakeValues, ProveValues}
+use Rattle.xr_words.specs.Words.{RepairValues, ReplayValues, Values}
+use Rattle.xr_words.specs.Words.{OfBlame, OfCheck, OfExport, OfMake, OfProve, OfRepair, OfReplay}
 use Rattle.xr_cli.specs.Certificate.{CertificateComes, CheckComes}
 use Rattle.xr_cli.specs.Code.{CodeComes, ForcedComes, code_in, moments_line, text_limit}
+use Rattle.xr_cli.specs.Foreign.{ExportComes, refuted_line}
+use Rattle.xr_cli.specs.Listed.{BlameComes}
 use Rattle.xr_cli.specs.Made.{LengthComes, MadeComes, made_conflicts, made_job, made_netlist}
 use Rattle.xr_cli.specs.Repair.{CompareComes, Found, WalkComes, netlist_limit, recording_limit, rule_of}
 use Rattle.xr_cli.specs.declared.cause.Objection.{Objection}
 use Rattle.xr_cli.specs.declared.cause.Refused.{Refused}
 use Rattle.xr_cli.specs.declared.cause.Refused.TheVariants.{LongNetlist, Netlist, LongRecording, Recording, Compare}
 use Rattle.xr_cli.specs.declared.cause.Refused.TheVariants.{Certificate, Code, LongCertificate, LongCode, Optimistic}
+use Rattle.xr_cli.specs.declared.cause.Refused.TheVariants.{LongCnf, LongLog, Proof}
 use Rattle.xr_cli.specs.declared.cause.Uncertified.{Uncertified}
 use Rattle.xr_cli.specs.declared.parts.Parts.{Parts}
 
@@ -55,6 +61,9 @@ code_cause fault = Code fault
 
 abbrev pub uncertified_cause : Uncertified → Refused
 uncertified_cause cause = Certificate cause
+
+abbrev pub proof_cause : ProofFault → Refused
+proof_cause fault = Proof fault
 
 abbrev pub no_cause : ⊥ → Refused
 no_cause none = absurd none
@@ -260,6 +269,63 @@ make_phases w = do
   n ← netlist_made (made_netlist w)
   with_recording w n
 
+-- ---- export
+
+-- The certificate, the queries and the logs are written, and what is printed tells how many there are.
+abbrev pub walk_exported : ExportValues → ANetlist → Recorded → Phases Answer Refused
+walk_exported w n r = do
+  found ← searches (WalkComes w.conflicts n r) walk_cause
+  searches (ExportComes w.prefix found.wave) no_cause
+
+abbrev pub exported_phases : ExportValues → ANetlist → Recorded → Phases Answer Refused
+exported_phases w n r = do
+  agreed ← judges (CompareComes n r) compare_cause
+  walk_exported w n r
+
+abbrev pub export_phases : ExportValues → Phases Answer Refused
+export_phases w = do
+  job ← job_phases w.job
+  exported_phases w job.netlist job.recorded
+
+-- ---- prove
+
+-- No file is written, and the number of the log's clauses is printed.
+abbrev pub prove_answer : ℕ → Answer
+prove_answer count = record { files = []; printed = refuted_line count }
+
+abbrev pub proof_phases : List ℕ → List ℕ → Phases Answer Refused
+proof_phases cnf log = do
+  count ← judges (ProofComes cnf log) proof_cause
+  Phases.Finds (prove_answer count)
+
+abbrev pub log_phases : ProveValues → List ℕ → Phases Answer Refused
+log_phases w cnf = do
+  log ← reads (w.log ∷ []) text_limit LongLog
+  proof_phases cnf log
+
+abbrev pub prove_phases : ProveValues → Phases Answer Refused
+prove_phases w = do
+  cnf ← reads (w.cnf ∷ []) text_limit LongCnf
+  log_phases w cnf
+
+-- ---- blame
+
+-- What is to blame for the unknown bits is printed.
+abbrev pub walk_blamed : BlameValues → ANetlist → Recorded → Phases Answer Refused
+walk_blamed w n r = do
+  found ← searches (WalkComes w.conflicts n r) walk_cause
+  searches (BlameComes r.binding.bound found.wave) no_cause
+
+abbrev pub blamed_phases : BlameValues → ANetlist → Recorded → Phases Answer Refused
+blamed_phases w n r = do
+  agreed ← judges (CompareComes n r) compare_cause
+  walk_blamed w n r
+
+abbrev pub blame_phases : BlameValues → Phases Answer Refused
+blame_phases w = do
+  job ← job_phases w.job
+  blamed_phases w job.netlist job.recorded
+
 -- ---- all
 
 abbrev pub phases_of : Values → Phases Answer Refused
@@ -267,3 +333,6 @@ phases_of (OfRepair w) = repair_phases w
 phases_of (OfReplay w) = replay_phases w
 phases_of (OfCheck w) = check_phases w
 phases_of (OfMake w) = make_phases w
+phases_of (OfExport w) = export_phases w
+phases_of (OfProve w) = prove_phases w
+phases_of (OfBlame w) = blame_phases w

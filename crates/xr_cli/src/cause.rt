@@ -8,6 +8,7 @@ use xr_cert::CertFault;
 use xr_code::CodeFault;
 use xr_design::Bytes;
 use xr_job::{CompareRefusal, NetlistRefusal, RecordingRefusal};
+use xr_prove::ProofFault;
 use xr_run::Cause;
 
 /// A place that the replay knows and that is found otherwise, as its line has it.
@@ -69,6 +70,12 @@ pub enum Refused {
     LongCertificate,
     /// The certificate is none of the grammar, or isn't one of the job.
     Certificate(Uncertified),
+    /// The text of a formula has more than 2^63 - 1 bytes.
+    LongCnf,
+    /// The text of a log has more than 2^63 - 1 bytes.
+    LongLog,
+    /// The texts of a formula and of a log aren't a proof.
+    Proof(ProofFault),
 }
 
 impl Cause for Refused {
@@ -90,6 +97,9 @@ impl Cause for Refused {
             Refused::Code(_) => 12,
             Refused::LongCertificate => 11,
             Refused::Certificate(_) => 13,
+            Refused::LongCnf => 11,
+            Refused::LongLog => 11,
+            Refused::Proof(fault) => fault.status(),
         }
     }
 

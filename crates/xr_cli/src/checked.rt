@@ -114,7 +114,7 @@ fn report_of<'a>(alloc: Global, job: &Parts, wave: &Wave<'_>) -> Result<Ready<'a
 }
 
 /// No file, and a report. Takes no memory.
-fn ready_with<'a>(alloc: Global, report: Report) -> Ready<'a>
+pub fn ready_with<'a>(alloc: Global, report: Report) -> Ready<'a>
     ensures { answer_of result ≡ record { files = []; printed = report.bytes.items } }
 {
     Ready {

@@ -9,6 +9,7 @@ use std::alloc::Global;
 use xr_base::{Memory, put, put_number};
 use xr_code::put_code_line;
 use xr_job::{put_compare_line, put_netlist_line, put_recording_line};
+use xr_prove::put_proof_line;
 
 /// The line of a refusal, with its newline.
 pub fn line_of(alloc: Global, refused: &Refused) -> Result<Vec<u8>, Memory>
@@ -34,6 +35,9 @@ fn put_text(alloc: Global, text: &mut Vec<u8>, refused: &Refused) -> Result<(), 
         Refused::Code(fault) => put_code_line(alloc, text, fault),
         Refused::LongCertificate => put(text, b"refused: too large certificate"),
         Refused::Certificate(cause) => put_uncertified(alloc, text, cause),
+        Refused::LongCnf => put(text, b"refused: too large cnf"),
+        Refused::LongLog => put(text, b"refused: too large log"),
+        Refused::Proof(fault) => put_proof_line(alloc, text, fault),
     }
 }
 

@@ -7,8 +7,11 @@ ghost use Rattle.xr_words.specs.Words.{Means, values_of};
 ghost use Rattle.xr_cli.specs.Commands.{commands};
 ghost use Rattle.xr_cli.specs.Ends.{Done, IsComplete, RefusesTexts};
 
+use crate::commands::blame::Blame;
 use crate::commands::check::Check;
+use crate::commands::export::Export;
 use crate::commands::make::Make;
+use crate::commands::prove::Prove;
 use crate::commands::repair::Repair;
 use crate::commands::replay::Replay;
 use std::alloc::Global;
@@ -59,5 +62,8 @@ fn run_words<S: Shelf, O: Sink>(
         Command::Replay(words) => run_command(alloc, &Replay { words }, shelf, out),
         Command::Check(words) => run_command(alloc, &Check { words }, shelf, out),
         Command::Make(words) => run_command(alloc, &Make { words }, shelf, out),
+        Command::Export(words) => run_command(alloc, &Export { words }, shelf, out),
+        Command::Prove(words) => run_command(alloc, &Prove { words }, shelf, out),
+        Command::Blame(words) => run_command(alloc, &Blame { words }, shelf, out),
     }
 }

@@ -11,7 +11,7 @@ use crate::traced::TracedBody;
 use crate::tracer::slot_of;
 use std::alloc::Global;
 use xr_base::Memory;
-use xr_cone_nodes::{NodeBody, Positions};
+use xr_cone_nodes::{NodeBody, Positions, Values};
 
 /// What a place rests on, where that is among some places. Each is looked for first where it is hinted that it stands.
 pub fn place_body(
@@ -32,7 +32,7 @@ pub fn place_body(
         }),
         TracedBody::Rule(arguments, values) => Ok(NodeBody::Rule {
             arguments: positions_of(hints, places, arguments.as_slice()),
-            values: values.copied(alloc)?,
+            values: Values::from_slice(alloc, values.as_slice())?,
         }),
     }
 }

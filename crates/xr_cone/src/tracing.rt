@@ -34,8 +34,7 @@ pub fn trace_at(alloc: Global, wave: &Wave<'_>, place: Place) -> Result<Cone, Me
     ensures cone { IfOk result (λ cone. IsConeOf wave.now (number_of (job wave.now) place) cone.nodes) }
     ensures whole { IfOk result (λ cone. IsWholeCone wave.now (number_of (job wave.now) place) cone.nodes) }
 {
-    let mut tracer = Tracer::new(alloc);
-    trace_root(alloc, wave, &mut tracer, wave.circuit().number_of(place))
+    Tracer::new(alloc).trace_at(alloc, wave, place)
 }
 
 impl Tracer {
@@ -49,6 +48,18 @@ impl Tracer {
         ensures right { OnOk result (IsRightOf wave.now self.new) }
     {
         trace_root(alloc, wave, self, wave.count())
+    }
+
+    /// The cone of a place that is written, or of the next one, whose class is Line. What is found on the way is kept.
+    pub fn trace_at(&mut self, alloc: Global, wave: &Wave<'_>, place: Place) -> Result<Cone, Memory>
+        requires right { IsRightOf wave.now self.old }
+        requires reached { IsReached wave.now place }
+        requires line { class_in wave.now (number_of (job wave.now) place) ≡ class.Line }
+        ensures cone { IfOk result (λ cone. IsConeOf wave.now (number_of (job wave.now) place) cone.nodes) }
+        ensures whole { IfOk result (λ cone. IsWholeCone wave.now (number_of (job wave.now) place) cone.nodes) }
+        ensures right { OnOk result (IsRightOf wave.now self.new) }
+    {
+        trace_root(alloc, wave, self, wave.circuit().number_of(place))
     }
 }
 

@@ -48,6 +48,21 @@ impl Values {
         }
     }
 
+    /// Values once more. Takes a byte for each where they are more than 16.
+    pub fn from_slice(alloc: Global, values: &[Value]) -> Result<Values, Memory>
+        ensures { IfOk result (λ copy. copy ≡ values.now) }
+    {
+        if values.len() <= 16 {
+            return Ok(Values {
+                kept: Kept::Few(values.len(), in_place(values)),
+            });
+        }
+        let values = values.to_vec(alloc)?;
+        Ok(Values {
+            kept: Kept::Many(values),
+        })
+    }
+
     /// The values. Takes no memory.
     pub fn as_slice(&self) -> &[Value]
         ensures { result.now ≡ self.now }
@@ -55,23 +70,6 @@ impl Values {
         match &self.kept {
             Kept::Few(len, values) => &values[..*len],
             Kept::Many(values) => values.as_slice(),
-        }
-    }
-
-    /// The same values once more. Takes a byte for each where they are more than 16.
-    pub fn copied(&self, alloc: Global) -> Result<Values, Memory>
-        ensures { IfOk result (λ copy. copy ≡ self.now) }
-    {
-        match &self.kept {
-            Kept::Few(len, values) => Ok(Values {
-                kept: Kept::Few(*len, *values),
-            }),
-            Kept::Many(values) => {
-                let values = values.as_slice().to_vec(alloc)?;
-                Ok(Values {
-                    kept: Kept::Many(values),
-                })
-            }
         }
     }
 }

@@ -1,6 +1,8 @@
 -- Lemmas on graphs.
 pub mod GraphCones
 pub mod GrownGraphs
+pub mod KeptLists
+pub mod Parts
 pub mod PickedNodes
 pub mod ReachedCones
 pub mod ReadNodes

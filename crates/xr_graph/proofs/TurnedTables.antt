@@ -1,8 +1,9 @@
 -- Tables by the bits of nodes, of which some are inverted.
-use Rattle.std.proofs.Common.{◌≡◌, ℕ, suc, ◌+◌, ◌*◌, ◌/◌, ◌%◌, ◌<◌, ◌^◌, ◌==◌, cond, Bool, true, false, List, [], ◌∷◌, ◌++◌, length, map, refl, sym, ap, ◌∙◌, subst, arith, length-append, slice_index, slice_index_or, ⊎_elim}
+use Rattle.std.proofs.Common.{◌≡◌, ℕ, suc, ◌+◌, ◌*◌, ◌/◌, ◌%◌, ◌<◌, ◌≤◌, ◌^◌, ◌==◌, cond, Bool, true, false, List, [], ◌∷◌, ◌++◌, length, map, refl, sym, ap, ◌∙◌, subst, arith, length-append, slice_index, slice_index_or, ⊎_elim}
 use Rattle.std.specs.List.{AllByRecursion}
 use Rattle.std.proofs.lemmas.List.{length-map}
 use Rattle.std.proofs.Math.ListN.{get_or-append}
+use Rattle.std.proofs.Math.Nat.{pow-le-pow_right}
 use Rattle.std.proofs.Math.Seq.{get_or-append_seam}
 use Rattle.std.proofs.lemmas.Bool.{cases_eq}
 use Rattle.xr_cell.specs.declared.value.Value.{Value}
@@ -54,6 +55,16 @@ turned_mask (r ∷ rs) (n ∷ ns) turns bits long same =
     let here : r.inverted ≡ turns n = same 0 (omega arith) in
     let ih = turned_mask rs ns turns bits (omega arith) (λ k less. same (suc k) (omega arith)) in
     rw (low (bits n) (mask_of ns bits), high (bits n) (mask_of ns bits), here, ih) refl
+
+-- A table over at most 13 nodes has at most 8,192 values.
+few_numbers : (n : ℕ) → n ≤ 13 → 2 ^ n ≤ 2 ^ 13
+few_numbers n few = pow-le-pow_right {n = 2} (omega arith) {i = n} {j = 13} few
+
+pub few_values : (roots : List NodeRoot) (values turned : List Value) → length roots ≤ 13
+    → length values ≡ 2 ^ length roots → IsTurnedTable roots values turned → length turned ≤ 2 ^ 13
+few_values roots values turned few table is =
+    let long = is.long in
+    let most = few_numbers (length roots) few in omega (arith, long, table, most)
 
 -- A node that comes in stands after what it reads.
 mapped_all : (n : ℕ) (roots : List NodeRoot) → AllByRecursion (λ root. node_in root < n) roots

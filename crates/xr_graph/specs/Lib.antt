@@ -1,5 +1,6 @@
 -- Definitions of graphs.
 pub mod Graph
+pub mod Kept
 pub mod Picked
 pub mod NodeRoots
 pub mod Walk

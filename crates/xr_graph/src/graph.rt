@@ -4,6 +4,7 @@ ghost use Rattle.std.specs.Prelude.{◌≡◌, ◌<◌, ◌≤◌, ◌^◌, [], 
 ghost use Rattle.xr_graph.specs.Graph.{IsConeOfNode};
 ghost use Rattle.xr_graph.specs.NodeRoots.{AddsNode, AreNodeRoots};
 
+use crate::kept::KeptNodes;
 use crate::node_root::{NodeRoot, nodes_of, turned_values};
 use crate::picked::picked_nodes;
 use crate::walk::reached_nodes;
@@ -11,13 +12,13 @@ use std::alloc::Global;
 use std::marker::Model;
 use xr_base::Memory;
 use xr_cell::Value;
-use xr_cone_nodes::{Cone, Node, NodeBody, Values};
+use xr_cone_nodes::Cone;
 use xr_design::Place;
 
 /// Nodes by number, each of which reads earlier ones alone. Contracts see them in order.
 #[derive(Debug, Drop)]
 pub struct Graph {
-    nodes: Vec<Node>,
+    nodes: KeptNodes,
 }
 
 impl Model for Graph {
@@ -27,9 +28,9 @@ impl Model for Graph {
 
     ghost Value = { List AnyNode };
 
-    ghost view = { λ graph. graph.nodes.items };
+    ghost view = { λ graph. graph.nodes };
 
-    ghost invariant = { λ graph. AreOrdered graph.nodes.items };
+    ghost invariant = { λ graph. AreOrdered graph.nodes };
 }
 
 impl Graph {
@@ -38,7 +39,7 @@ impl Graph {
         ensures { result ≡ [] }
     {
         Graph {
-            nodes: Vec::new(alloc),
+            nodes: KeptNodes::new(alloc),
         }
     }
 
@@ -50,7 +51,7 @@ impl Graph {
     }
 
     /// The node of a place comes in that isn't carried, from the roots of its essential arguments and its table over these
-    /// arguments. Takes 112 bytes, and a byte a value past 16.
+    /// arguments. Takes 24 bytes, 4 a root and 1 a value.
     pub fn add(
         &mut self,
         alloc: Global,
@@ -64,25 +65,22 @@ impl Graph {
         ensures { OnOk result (AddsNode self.old place roots.now values.now self.new) }
     {
         let values = turned_values(alloc, roots, values)?;
-        let body = NodeBody::Rule {
-            arguments: nodes_of(roots),
-            values: Values::from_vec(values),
-        };
-        self.nodes.push(Node { place, body })?;
+        let arguments = nodes_of(roots);
+        self.nodes
+            .push(place, arguments.as_slice(), values.as_slice())?;
         Ok(())
     }
 
     /// The cone of the place of a node: the nodes that are reached from it, by a heap of them in O(m log m) for m nodes.
-    /// Works in a room that is lent, of 4 bytes for each node of the graph; takes 8 bytes for each node of the cone, and
-    /// what its nodes take.
+    /// Works in a room that is lent, of 4 bytes for each node of the graph; takes 120 bytes for each node of the cone, and
+    /// for a table past 16 values a byte a value.
     pub fn cone(&self, alloc: Global, node: usize, room: &mut Vec<u32>) -> Result<Cone, Memory>
         requires { node < length self.now }
         ensures { IfOk result (λ cone. IsConeOfNode self.now node cone.nodes) }
     {
-        let nodes = self.nodes.as_slice();
-        let taken = reached_nodes(alloc, nodes, node)?;
-        widen(room, nodes.len())?;
-        let picked = picked_nodes(alloc, nodes, taken, room)?;
+        let taken = reached_nodes(alloc, &self.nodes, node)?;
+        widen(room, self.nodes.len())?;
+        let picked = picked_nodes(alloc, &self.nodes, taken, room)?;
         Cone::new(alloc, picked)
     }
 }

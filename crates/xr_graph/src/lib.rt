@@ -6,6 +6,7 @@
 #![tactic(auto)]
 
 mod graph;
+mod kept;
 mod laws;
 mod node_root;
 mod picked;

@@ -4,17 +4,20 @@ ghost use Rattle.std.specs.Prelude.{◌≡◌, ◌<◌, ◌≤◌, IfOk, length,
 ghost use Rattle.std.specs.List.{AllByRecursion};
 ghost use Rattle.xr_cone_nodes.specs.Nodes.{StandsAt};
 ghost use Rattle.xr_graph.specs.Graph.{AreOrdered};
-ghost use Rattle.xr_graph.specs.Picked.{moved_body, moved_node, picked_by};
+ghost use Rattle.xr_graph.specs.Kept.{node_of};
+ghost use Rattle.xr_graph.specs.Picked.{moved_node, picked_by};
 ghost use Rattle.xr_graph.specs.Walk.{AreAllTaken};
 
+use crate::kept::{KeptNode, KeptNodes};
 use std::alloc::Global;
 use xr_base::Memory;
-use xr_cone_nodes::{Node, NodeBody, Positions};
+use xr_cone_nodes::{Node, NodeBody, Positions, Values};
 
-/// The nodes that are taken, from the last one on, by their positions. Takes what the nodes take.
+/// The nodes that are taken, from the last one on, by their positions. Takes 112 bytes a node, and for a table
+/// past 16 values a byte a value.
 pub fn picked_nodes(
     alloc: Global,
-    nodes: &[Node],
+    nodes: &KeptNodes,
     taken: Vec<usize>,
     positions: &mut Vec<u32>,
 ) -> Result<Vec<Node>, Memory>
@@ -27,39 +30,25 @@ pub fn picked_nodes(
     let mut picked = Vec::with_capacity(alloc, rest.len())?;
     'rest: while let Some(node) = rest.pop() {
         positions[node] = picked.len() as u32;
-        let moved = moved_node(alloc, &nodes[node], positions.as_slice())?;
+        let moved = moved_node(alloc, nodes.node(node), positions.as_slice())?;
         picked.push(moved)?;
     }
     Ok(picked)
 }
 
 /// A node by the positions of what it reads.
-fn moved_node(alloc: Global, node: &Node, positions: &[u32]) -> Result<Node, Memory>
-    requires { StandsAt (length positions.now) node.now.body }
-    ensures { IfOk result (λ moved. moved ≡ moved_node (slice_index positions.now) node.now) }
+fn moved_node(alloc: Global, node: KeptNode<'_>, positions: &[u32]) -> Result<Node, Memory>
+    requires { StandsAt (length positions.now) (node_of node).body }
+    ensures { IfOk result (λ moved. moved ≡ moved_node (slice_index positions.now) (node_of node.entry)) }
 {
-    let body = moved(alloc, &node.body, positions)?;
+    let values = Values::from_slice(alloc, node.values)?;
     Ok(Node {
         place: node.place,
-        body,
+        body: NodeBody::Rule {
+            arguments: moved_arguments(node.arguments, positions),
+            values,
+        },
     })
-}
-
-fn moved(alloc: Global, body: &NodeBody, positions: &[u32]) -> Result<NodeBody, Memory>
-    requires { StandsAt (length positions.now) body.now }
-    ensures { IfOk result (λ moved. moved ≡ moved_body (slice_index positions.now) body.now) }
-{
-    match body {
-        NodeBody::Carried { node, inverted } => Ok(NodeBody::Carried {
-            node: positions[*node as usize],
-            inverted: *inverted,
-        }),
-        NodeBody::Rule { arguments, values } => {
-            let arguments = moved_arguments(arguments.as_slice(), positions);
-            let values = values.copied(alloc)?;
-            Ok(NodeBody::Rule { arguments, values })
-        }
-    }
 }
 
 fn moved_arguments(arguments: &[u32], positions: &[u32]) -> Positions

@@ -7,6 +7,7 @@ pub mod LiteralBits
 pub mod LiteralSources
 pub mod NearPlaces
 pub mod NodeLists
+pub mod SpanLists
 pub mod TableLanes
 pub mod Unions
 pub mod WorkedLanes

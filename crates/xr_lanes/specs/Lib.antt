@@ -5,6 +5,7 @@ pub mod Graphs
 pub mod InWave
 pub mod Joined
 pub mod Lanes
+pub mod Lists
 pub mod Literal
 pub mod Made
 pub mod Nodes

@@ -11,7 +11,7 @@ use xr_cone_nodes::Cone;
 use xr_design::Place;
 use xr_graph::{Graph, NodeRoot};
 
-/// How many nodes a graph has at most, in some 470 megabytes.
+/// How many nodes a graph has at most, in some 150 megabytes where each has two arguments.
 const MOST_NODES: usize = 4_194_304;
 
 /// The graph with the node of a place more, from the roots of its essential arguments and its table over these; none from

@@ -15,6 +15,7 @@ mod counts;
 mod given;
 mod graphs;
 mod lanes;
+mod lists;
 mod literal;
 mod node;
 mod nodes;

@@ -28,7 +28,7 @@ use xr_wave::Wave;
 /// ones, and for the graph the roots of its essential arguments and its table over these.
 #[derive(Debug, Drop)]
 pub struct Made {
-    pub place: usize,
+    pub place: u32,
     pub lane_bits: LaneBits,
     pub sources: Option<Vec<u32>>,
     pub sharing: Option<usize>,
@@ -88,7 +88,7 @@ fn make_ruled(
         None => None,
     };
     Ok(Made {
-        place,
+        place: place as u32,
         lane_bits,
         sources,
         sharing,
@@ -211,14 +211,14 @@ pub fn put_node(nodes: &mut Nodes, made: Made) -> Result<usize, Memory>
 
 fn put_listed(
     nodes: &mut Nodes,
-    place: usize,
+    place: u32,
     lane_bits: LaneBits,
     sources: Option<Vec<u32>>,
 ) -> Result<(), Memory>
     ensures { OnOk result (nodes.new ≡ with_node nodes.old place lane_bits (listed_in sources)) }
 {
     match sources {
-        Some(list) => nodes.push_listed(place, lane_bits, list),
+        Some(list) => nodes.push_listed(place, lane_bits, list.as_slice()),
         None => nodes.push_unlisted(place, lane_bits),
     }
 }

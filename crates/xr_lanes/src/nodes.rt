@@ -3,33 +3,33 @@
 ghost use Rattle.std.specs.Prelude.{◌≡◌, ℕ, ◌<◌, ◌≤◌, ◌^◌, ◌++◌, ◌∷◌, [], None, Some, MatchOption, OnErr, OnOk, IfOk, length};
 ghost use Rattle.xr_lanes.specs.Nodes.{NodeView, node_at, with_node, zero_node, zeros};
 
+use crate::lists::{ListNumber, Lists};
 use std::alloc::Global;
 use std::marker::Model;
-use xr_base::{Items, Memory};
+use std::mem::size_of;
+use xr_base::Memory;
 use xr_cone_nodes::LaneBits;
 
-/// A place, its bits in the lanes, and where its sources stand among the lists.
+/// A place, its bits in the lanes, and which of the lists has its sources: 40 bytes.
 #[derive(Clone, Copy, Debug)]
 pub struct Node {
-    place: usize,
     lane_bits: LaneBits,
-    list: Option<usize>,
+    place: u32,
+    list: ListNumber,
 }
+
+const _: () = prove!(size_of::<Node>() == 40);
 
 /// How many nodes there are at most: more than a job has places.
 const MOST_NODES: usize = 0x8000_0000;
 
-/// How many places the lists have at most together, about, in 256 megabytes.
-const MOST_LISTED: usize = 67_108_864;
-
 /// Nodes by number, of which the first has 0 in each lane. A node may share its list of sources with an earlier one.
-/// Contracts see for each node the place, the lanes and the list. Takes 56 bytes a node, and for each list that isn't
-/// shared 24 bytes and 4 a source.
+/// Contracts see for each node the place, the lanes and the list. Takes 40 bytes a node, and for each list that isn't
+/// shared 8 bytes and 4 a source.
 #[derive(Debug, Drop)]
 pub struct Nodes {
     nodes: Vec<Node>,
-    lists: Vec<Items<u32>>,
-    listed: usize,
+    lists: Lists,
 }
 
 impl Model for Nodes {
@@ -38,9 +38,9 @@ impl Model for Nodes {
 
     ghost Value = { List NodeView };
 
-    ghost view = { λ n. map (seen_node n.lists.items) n.nodes.items };
+    ghost view = { λ n. map (seen_node n.lists) n.nodes.items };
 
-    ghost invariant = { λ n. AreKept n.lists.items n.nodes.items × length n.nodes.items ≤ 2 ^ 31 };
+    ghost invariant = { λ n. AreKept n.lists n.nodes.items × length n.nodes.items ≤ 2 ^ 31 };
 }
 
 impl Nodes {
@@ -49,16 +49,15 @@ impl Nodes {
         ensures { IfOk result (λ nodes. nodes ≡ zero_node ∷ []) }
     {
         let zero = Node {
-            place: 0,
             lane_bits: LaneBits::new([0, 0, 0, 0]),
-            list: None,
+            place: 0,
+            list: ListNumber::none(),
         };
         let mut nodes = Vec::new(alloc);
         nodes.push(zero)?;
         Ok(Nodes {
             nodes,
-            lists: Vec::new(alloc),
-            listed: 0,
+            lists: Lists::new(alloc),
         })
     }
 
@@ -72,7 +71,7 @@ impl Nodes {
 
     /// Whether the lists have so many places that no more are to come in. Takes no memory.
     pub fn is_full(&self) -> bool {
-        self.listed >= MOST_LISTED
+        self.lists.is_full()
     }
 
     /// The bits of a node in the lanes. Takes no memory.
@@ -89,20 +88,20 @@ impl Nodes {
         ensures { MatchOption result ((node_at self.now node).sources ≡ None)
             (λ list. (node_at self.now node).sources ≡ Some list.now) }
     {
-        match self.nodes[node].list {
-            Some(list) => Some(self.lists[list].as_slice()),
+        match self.nodes[node].list.number() {
+            Some(list) => Some(self.lists.list(list)),
             None => None,
         }
     }
 
     /// A node comes in, whose sources aren't kept.
-    pub fn push_unlisted(&mut self, place: usize, lane_bits: LaneBits) -> Result<(), Memory>
+    pub fn push_unlisted(&mut self, place: u32, lane_bits: LaneBits) -> Result<(), Memory>
         ensures { OnOk result (self.new ≡ with_node self.old place lane_bits None) }
     {
         let node = Node {
-            place,
             lane_bits,
-            list: None,
+            place,
+            list: ListNumber::none(),
         };
         push_node(&mut self.nodes, node)
     }
@@ -110,7 +109,7 @@ impl Nodes {
     /// A node comes in that shares the list of another.
     pub fn push_shared(
         &mut self,
-        place: usize,
+        place: u32,
         lane_bits: LaneBits,
         other: usize,
     ) -> Result<(), Memory>
@@ -119,8 +118,8 @@ impl Nodes {
     {
         let list = self.nodes[other].list;
         let node = Node {
-            place,
             lane_bits,
+            place,
             list,
         };
         push_node(&mut self.nodes, node)
@@ -129,19 +128,18 @@ impl Nodes {
     /// A node comes in with its sources.
     pub fn push_listed(
         &mut self,
-        place: usize,
+        place: u32,
         lane_bits: LaneBits,
-        sources: Vec<u32>,
+        sources: &[u32],
     ) -> Result<(), Memory>
-        ensures { OnOk result (self.new ≡ with_node self.old place lane_bits (Some sources.items)) }
+        ensures { OnOk result (self.new ≡ with_node self.old place lane_bits (Some sources.now)) }
     {
-        let list = self.lists.len();
-        self.listed = self.listed.saturating_add(sources.len());
-        self.lists.push(Items::from_vec(sources))?;
+        let list = ListNumber::some(self.lists.len())?;
+        self.lists.push(sources)?;
         let node = Node {
-            place,
             lane_bits,
-            list: Some(list),
+            place,
+            list,
         };
         push_node(&mut self.nodes, node)?;
         Ok(())

@@ -7,6 +7,8 @@ use Rattle.xr_run.specs.Ends.{Commands, Comes, IsComplete, IsOutside, IsUnrefuse
 use Rattle.xr_run.specs.Phases.{Answer, AreExact, ComesTo, IsFirm, NeverRefused}
 use Rattle.xr_run.specs.Rows.{Start, Stands, DoneRow, OutputFails, ReportFails}
 use Rattle.xr_run.proofs.Exact.{err_same, exact, never_refused, ok_err}
+use Rattle.xr_run.proofs.Faultless.{never_unread, never_unwritten}
+use Rattle.xr_run.proofs.Leaves.{files_left, sink_gains}
 
 -- the status of a line
 made_status : (told : Bool) (text : List ℕ) (own : ℕ) (old new : SinkView) (status : ℕ) → LineMade told text own old new status → (status ≡ own) ⊎ (status ≡ 20)
@@ -165,8 +167,14 @@ module _ (k : Commands) (s : Start) (law : Lawful k s) (shelf : View) (sink : Si
     texts = texts ran;
     memory = λ is. ran;
     only = only ran;
+    files = files_left k s shelf sink status ran;
+    gains = λ told. sink_gains k s shelf sink status (λ w cause means comes. (law.of_texts w cause means comes).1) told ran;
     usage_exact = usage_exact ran;
     texts_exact = texts_exact ran;
+    faultless = λ none. (
+      λ three. let there = read ran three in never_unread k s there.0 shelf sink status none there.2,
+      λ four. let there = write ran four in never_unwritten k s there.0 shelf sink status none there.2,
+    );
     complete = complete ran;
     unrefused = unrefused ran;
   }

@@ -7,4 +7,6 @@ mod Steps
 pub mod Then
 mod Runs
 pub mod Causes
+mod Leaves
+mod Faultless
 pub mod Comes

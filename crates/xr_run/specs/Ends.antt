@@ -1,11 +1,11 @@
 -- How a run ends: a status, and the line of a refusal after what was printed.
-use Rattle.std.specs.Prelude.{◌≡◌, ◌≢◌, ◌⊎◌, ℕ, ◌≤◌, List, ◌++◌, Some, slice_get, Result, Ok, Err, IsTrue, Bool}
+use Rattle.std.specs.Prelude.{◌≡◌, ◌≢◌, ◌⊎◌, ℕ, ◌≤◌, List, [], ◌++◌, Some, slice_get, Result, Ok, Err, IsTrue, Bool}
 use Rattle.std.specs.Prelude.{string_bytes}
 use Rattle.xr_shelf.specs.Shelf.{View, Rose}
 use Rattle.xr_shelf.specs.Calls.{Gained, GainedLess}
 use Rattle.xr_shelf.specs.Sink.{SinkView}
-use Rattle.xr_run.specs.Lines.{line, memory_line, read_line, usage_line, write_line}
-use Rattle.xr_run.specs.Outputs.{Delivery, File}
+use Rattle.xr_run.specs.Lines.{line, memory_line, read_line, report_name, usage_line, write_line}
+use Rattle.xr_run.specs.Outputs.{Delivery, File, WrittenTo}
 use Rattle.xr_run.specs.Phases.{Answer, Phases, IsFirm, NeverRefused, PassesAll, ReadsNext}
 use Rattle.xr_run.specs.Rows.{Start, Stands, DoneRow, ReadRow, TextRow, WriteRow, MemoryRow}
 use Rattle.xr_run.specs.declared.refusal.Refusal.{Refusal}
@@ -33,6 +33,11 @@ pub record MemoryPrinted (told : Bool) (old new : SinkView) (status : ℕ) : Typ
 -- A line was made and printed; or there was no memory to make it.
 abbrev pub LineMade : Bool → List ℕ → ℕ → SinkView → SinkView → ℕ → Type 0
 LineMade told text own old new status = LinePrinted told text own old new status ⊎ MemoryPrinted told old new status
+
+-- The sink gained a beginning of the first text, then one of the second, then one of the third.
+abbrev pub GainedInTurn : List ℕ → List ℕ → List ℕ → SinkView → SinkView → Type 0
+GainedInTurn first second third old new =
+    (mid : SinkView) × (last : SinkView) × Gained first old mid × Gained second mid last × Gained third last new
 
 -- ---- a command
 
@@ -80,6 +85,12 @@ pub data Ran {C : Type 0} (p : Phases Answer C) (t : Reporting C) (s : Start) (s
       → LinePrinted s.sink_told (write_line name) 4 before sink status → Ran p t s shelf sink status
   ends_without_memory : (before : SinkView) → MemoryRow p s shelf before → MemoryPrinted s.sink_told before sink status
       → Ran p t s shelf sink status
+
+-- No fault was ever counted.
+pub record IsFaultless (shelf : View) (sink : SinkView) : Type 0 where
+  pub reads : (name : List ℕ) → shelf.reads name ≡ 0
+  pub writes : (name : List ℕ) → shelf.writes name ≡ 0
+  pub printed : sink.faults ≡ 0
 
 -- ---- commands
 
@@ -161,6 +172,44 @@ module _ (k : Commands) (s : Start) where
   IsUnrefused shelf sink status = (w : k.Words) → k.Means s.line w
       → NeverRefused s.shelf_told s.shelf.files (k.phases_of w) → NoFault w shelf sink → (status ≡ 0) ⊎ (status ≡ 20)
 
+  -- ---- what a run leaves
+
+  -- The files: as they were; or, with no status but 0, 4 and 20, those of an answer that stood are written up to one.
+  pub data LeavesFiles (shelf : View) (status : ℕ) : Type 0 where
+    leaves_as_before : shelf.files ≡ s.shelf.files → LeavesFiles shelf status
+    leaves_written : (status ≡ 0) ⊎ ((status ≡ 4) ⊎ (status ≡ 20))
+        → Within (λ w. (answer : Answer) × Stands (k.phases_of w) s answer
+        × ((i : ℕ) × WrittenTo s.shelf_told i answer.files s.shelf.files shelf.files)) → LeavesFiles shelf status
+
+  -- The line of a refusal, by its status.
+  pub data IsLineOf (status : ℕ) (text : List ℕ) : Type 0 where
+    of_words : status ≡ 2 → text ≡ usage_line → IsLineOf status text
+    of_input : status ≡ 3 → (name : List ℕ) → text ≡ read_line name → IsLineOf status text
+    of_output : status ≡ 4 → (name : List ℕ) → text ≡ write_line name → IsLineOf status text
+    of_texts : (cause : k.Cause) → status ≡ k.reporting.status_of cause → text ≡ line (k.reporting.text_of cause)
+        → IsLineOf status text
+
+  -- What is printed of an answer that stands; or nothing.
+  abbrev pub IsReport : List ℕ → Type 0
+  IsReport text = (text ≡ [])
+      ⊎ Within (λ w. (answer : Answer) × Stands (k.phases_of w) s answer × (text ≡ answer.printed))
+
+  -- The line of some refusal; or nothing.
+  abbrev pub IsRefusal : List ℕ → Type 0
+  IsRefusal text = (text ≡ []) ⊎ ((status : ℕ) × IsLineOf status text)
+
+  -- What the sink gained: at 0 the report; at 4 for the sink a part of the report, then of the line; at 20 a part of the
+  -- report, then of another refusal's line, then of that of want of memory; else the line alone, whole unless the sink's
+  -- count rose.
+  pub data Gains (sink : SinkView) (status : ℕ) : Type 0 where
+    gains_report : status ≡ 0 → (text : List ℕ) → IsReport text → sink.bytes ≡ s.sink.bytes ++ text → Gains sink status
+    gains_part : status ≡ 4 → (text : List ℕ) → IsReport text → Rose s.sink.faults sink.faults
+        → GainedInTurn text (write_line report_name) [] s.sink sink → Gains sink status
+    gains_memory : status ≡ 20 → (text own : List ℕ) → IsReport text → IsRefusal own
+        → GainedInTurn text own memory_line s.sink sink → Gains sink status
+    gains_line : (text : List ℕ) → IsLineOf status text → Gained text s.sink sink
+        → (sink.bytes ≡ s.sink.bytes ++ text) ⊎ Rose s.sink.faults sink.faults → Gains sink status
+
   -- What a run comes to, a clause a status.
   pub record Comes (shelf : View) (sink : SinkView) (status : ℕ) : Type 0 where
     pub done : status ≡ 0 → Within (λ w. DoneRow (k.phases_of w) s shelf sink)
@@ -171,7 +220,11 @@ module _ (k : Commands) (s : Start) where
     -- 20: want of memory, in any of these.
     pub memory : status ≡ 20 → RanWords shelf sink status
     pub only : (status ≢ 1) × (status ≤ 20)
+    pub files : LeavesFiles shelf status
+    pub gains : IsTrue s.sink_told → Gains sink status
     pub usage_exact : IsOutside → (status ≡ 2) ⊎ (status ≡ 20)
     pub texts_exact : TextsExact status
+    -- Where no fault was ever counted, it is neither 3 nor 4.
+    pub faultless : IsFaultless shelf sink → (status ≢ 3) × (status ≢ 4)
     pub complete : IsComplete shelf sink status
     pub unrefused : IsUnrefused shelf sink status

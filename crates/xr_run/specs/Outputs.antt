@@ -7,6 +7,7 @@ use Rattle.xr_shelf.specs.Shelf.{View, Files, Nothing, Later, SameCounts, Rose, 
 use Rattle.xr_shelf.specs.Sink.{SinkView}
 use Rattle.xr_shelf.specs.Calls.{HoldsPart, Gained}
 use Rattle.xr_run.specs.Lines.{report_name, write_line}
+use Rattle.xr_run.specs.Names.{text_of_name}
 use Rattle.xr_run.specs.declared.output.Output.{Output}
 use Rattle.xr_run.specs.declared.undelivered.Undelivered.{Undelivered}
 use Rattle.xr_run.specs.declared.undelivered.Undelivered.TheVariants.{Fault, Memory}
@@ -20,7 +21,7 @@ abbrev pub name_in : File → List ℕ
 name_in file = file.name
 
 abbrev pub file_of : Output → File
-file_of output = record { name = output.name.now; bytes = output.bytes.items }
+file_of output = record { name = text_of_name output.name; bytes = output.bytes.items }
 
 -- Each file has another name than those before it.
 abbrev pub AreApart : List File → Type 0

@@ -41,7 +41,7 @@ fn write_outputs<'a, S: Shelf>(
 fn write_output<'a, S: Shelf>(shelf: &mut S, output: &'a Output<'a>) -> Result<(), Undelivered<'a>>
     ensures { FileWritten S.told (file_of output.now) (S.view shelf.old) (S.view shelf.new) result }
 {
-    match write_all(shelf, output.name, output.bytes.as_slice()) {
+    match write_all(shelf, output.name.as_str(), output.bytes.as_slice()) {
         Ok(()) => Ok(()),
         Err(WriteErr::Fault) => {
             give_up(shelf);

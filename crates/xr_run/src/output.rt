@@ -1,18 +1,20 @@
 //! What a command delivers, each with the line that reported that it couldn't be.
 
-ghost use Rattle.std.specs.Prelude.{◌≡◌, ◌++◌, IfOk, OnOk};
+ghost use Rattle.std.specs.Prelude.{◌≡◌, IfOk, string_bytes};
 ghost use Rattle.xr_run.specs.Lines.{report_name, write_line};
+ghost use Rattle.xr_run.specs.Names.{text_of_name};
 
+use crate::file_name::FileName;
 use std::alloc::{AllocError, Global};
 use xr_base::Memory;
 
-/// A file to be written. Its name is one of the words.
+/// A file to be written.
 #[derive(Drop)]
 pub struct Output<'a> {
-    pub name: &'a str,
+    pub name: FileName<'a>,
     pub bytes: Vec<u8>,
     pub line: Vec<u8>,
-    ghost ready: { line.items ≡ write_line name.now },
+    ghost ready: { line.items ≡ write_line (text_of_name name) },
 }
 
 /// What is to be printed.
@@ -24,13 +26,30 @@ pub struct Report {
 }
 
 impl<'a> Output<'a> {
-    /// A file to be written, with its line.
+    /// A file to be written whose name is one of the words, with its line.
     pub fn new(alloc: Global, name: &'a str, bytes: Vec<u8>) -> Result<Output<'a>, Memory>
-        ensures name { IfOk result (λ o. o.name.now ≡ name.now) }
+        ensures name { IfOk result (λ o. text_of_name o.name ≡ name.now) }
         ensures bytes { IfOk result (λ o. o.bytes ≡ bytes) }
     {
         let line = write_line_of(alloc, name.as_bytes())?;
-        Ok(Output { name, bytes, line })
+        Ok(Output {
+            name: FileName::Word(name),
+            bytes,
+            line,
+        })
+    }
+
+    /// A file to be written whose name is made, with its line.
+    pub fn named(alloc: Global, name: String, bytes: Vec<u8>) -> Result<Output<'a>, Memory>
+        ensures name { IfOk result (λ o. text_of_name o.name ≡ string_bytes name) }
+        ensures bytes { IfOk result (λ o. o.bytes ≡ bytes) }
+    {
+        let line = write_line_of(alloc, name.as_bytes())?;
+        Ok(Output {
+            name: FileName::Made(name),
+            bytes,
+            line,
+        })
     }
 }
 

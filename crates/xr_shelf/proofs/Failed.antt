@@ -5,7 +5,7 @@ use Rattle.xr_shelf.specs.declared.fault.IoErr.TheVariants.{Failed, Memory}
 use Rattle.xr_shelf.specs.declared.fault.ReadErr.TheVariants.{TooLong, Fault as ReadFault}
 use Rattle.xr_shelf.specs.declared.fault.WriteErr.TheVariants.{Fault as WriteFault}
 use Rattle.xr_shelf.specs.Errors.{read_err, write_err}
-use Rattle.xr_shelf.specs.Shelf.{View, Later, Rose, SameCounts, KeptUnless, Nothing, Opened, Created}
+use Rattle.xr_shelf.specs.Shelf.{View, Later, Rose, SameCounts, KeptUnless, Opened, Created}
 
 pub write_failed : (e : IoErr) → write_err e ≡ WriteFault → e ≡ Failed
 write_failed Failed h = refl
@@ -29,9 +29,6 @@ not_long Memory h = cc
 
 pub opened_one : (a b : List ℕ) → Opened a ≡ Opened b → a ≡ b
 opened_one a b h = cc
-
-pub opened_none : (a : List ℕ) → Opened a ≡ Nothing → ⊥
-opened_none a h = cc
 
 pub opened_not : (a b : List ℕ) → Opened a ≡ Created b → ⊥
 opened_not a b h = cc

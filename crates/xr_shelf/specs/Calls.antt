@@ -1,16 +1,16 @@
 -- What it means to read a whole file, to write a whole file and to print a whole text.
 use Rattle.std.specs.Prelude.{◌≡◌, ◌⊎◌, ℕ, ◌+◌, ◌<◌, ◌≤◌, List, ◌++◌, length, Some, Result, IsErrOf, OnOk, OnErr, IfOk, IsTrue, Bool, Vec}
 use Rattle.std.specs.declared.alloc.Global.{Global}
-use Rattle.xr_shelf.specs.Shelf.{View, Files, Nothing, Opened, Later, SameCounts, Rose, OthersKept, Prefix, held}
+use Rattle.xr_shelf.specs.Shelf.{View, Files, Nothing, Later, SameCounts, Rose, OthersKept, Prefix, held, RoseBy}
 use Rattle.xr_shelf.specs.Sink.{SinkView}
 use Rattle.xr_shelf.specs.declared.fault.ReadErr.{ReadErr}
 use Rattle.xr_shelf.specs.declared.fault.ReadErr.TheVariants.{Fault as ReadFault, TooLong}
 use Rattle.xr_shelf.specs.declared.fault.WriteErr.{WriteErr}
 use Rattle.xr_shelf.specs.declared.fault.WriteErr.TheVariants.{Fault as WriteFault}
 
--- A whole file read: its text, or a fault with a risen count of that very name. Where any count rose in the call, the
--- answer is Fault; so TooLong comes before any fault. Where a file is still in hand after a fault, the file's bytes up
--- to there were within the limit.
+-- A whole file read: its text, or a fault with a risen count of that very name. Where any count of faults rose in the
+-- call, the answer is Fault; so TooLong comes before any fault, and more bytes than the limit came. Before a fault there
+-- came at most as many as the limit.
 pub record ReadAll (told : Bool) (name : List ℕ) (limit : ℕ) (old new : View) (result : Result (Vec ℕ Global) ReadErr) : Type 0 where
   pub later : Later old new
   pub files : new.files ≡ old.files
@@ -20,7 +20,9 @@ pub record ReadAll (told : Bool) (name : List ℕ) (limit : ℕ) (old new : View
   pub long : IsErrOf result TooLong → IsTrue told → limit < length (held old name)
   pub fault : IsErrOf result ReadFault → Rose (old.reads name) (new.reads name)
   pub kept : (IsErrOf result ReadFault → ⊥) → SameCounts old new
-  pub before : IsErrOf result ReadFault → new.hand ≡ Opened name → IsTrue told → length (held old name) ≤ limit + length new.unread
+  pub gave : IfOk result (λ v. RoseBy (length v.items) (old.given name) (new.given name))
+  pub over : IsErrOf result TooLong → (n : ℕ) × (limit < n) × RoseBy n (old.given name) (new.given name)
+  pub before : IsErrOf result ReadFault → (n : ℕ) × (n ≤ limit) × RoseBy n (old.given name) (new.given name)
 
 -- The name holds what it held, or a prefix of the bytes.
 abbrev pub HoldsPart : List ℕ → List ℕ → Files → Files → Type 0

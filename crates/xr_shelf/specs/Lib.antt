@@ -5,6 +5,8 @@ pub mod InHand
 pub mod MemShelf
 pub mod MemSink
 pub mod NamedFiles
+pub mod PlainShelf
+pub mod PlainSink
 pub mod Plan
 pub mod Shelf
 pub mod Sink

@@ -1,6 +1,8 @@
 -- Names that are none of others.
-use Rattle.std.proofs.Common.{◌≢◌, List, [], ◌∷◌, ◌++◌, map}
+use Rattle.std.proofs.Common.{◌≡◌, ◌≢◌, ◌∙◌, List, [], ◌∷◌, ◌++◌, map, sym, subst}
 use Rattle.std.specs.List.{All, AllByRecursion}
+use Rattle.std.proofs.lemmas.List.{append_cancel_left}
+use Rattle.xr_words.specs.Apart.{BeginsWith, IsEnding}
 use Rattle.xr_words.specs.Line.{Text}
 use Rattle.xr_words.proofs.Settling.{map_from, map_to}
 
@@ -23,3 +25,15 @@ none_to text_of name xs all = map_to (λ n. n ≢ name) text_of xs all
 
 pub none_from : {X : Type 0} (text_of : X → Text) (name : Text) (xs : List X) → AllByRecursion (λ n. n ≢ name) (map text_of xs) → All (λ x. text_of x ≢ name) xs
 none_from text_of name xs all = map_from (λ n. n ≢ name) text_of xs all
+
+-- ---- names that begin with a prefix
+
+module _ (prefix name : Text) where
+  pub begins_to : (ending : Text) → name ≡ prefix ++ ending → IsEnding ending → BeginsWith prefix name
+  begins_to ending is ends = record { ending = ending; is = is; ends = ends }
+
+  pub begins_from : (ending : Text) → name ≡ prefix ++ ending → BeginsWith prefix name → IsEnding ending
+  begins_from ending is begins = subst IsEnding (append_cancel_left prefix begins.ending ending (sym begins.is ∙ is)) begins.ends
+
+  pub begins_none : ((rest : Text) → name ≢ prefix ++ rest) → BeginsWith prefix name → ⊥
+  begins_none none begins = none begins.ending begins.is

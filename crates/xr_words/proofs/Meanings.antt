@@ -4,9 +4,9 @@ use Rattle.std.specs.Str.{bytes_eq}
 use Rattle.xr_words.specs.Forms.{IsCommand, IsNamed, IsNamedOnly, has_files, word_of}
 use Rattle.xr_words.specs.Line.{HasFiles, Item, Text, given, words_of_items}
 use Rattle.xr_words.specs.Read.{files_of, value_of}
-use Rattle.xr_words.specs.Words.{AreOutside, CheckValues, Gives, GivesCheck, GivesJob, GivesMake, GivesRepair, GivesReplay, IsCount, IsNumberTo, IsStart, JobValues, MakeValues, Means, MeansOnly, OfCheck, OfMake, OfRepair, OfReplay, RepairValues, ReplayValues, Values, name_of, netlists_of, start_word}
+use Rattle.xr_words.specs.Words.{AreOutside, BlameValues, CheckValues, ExportValues, Gives, GivesBlame, GivesCheck, GivesExport, GivesJob, GivesMake, GivesProve, GivesRepair, GivesReplay, IsCount, IsNumberTo, IsStart, JobValues, MakeValues, Means, MeansOnly, OfBlame, OfCheck, OfExport, OfMake, OfProve, OfRepair, OfReplay, ProveValues, RepairValues, ReplayValues, Values, name_of, netlists_of, start_word}
 use Rattle.xr_words.specs.declared.forms.Name.{Name}
-use Rattle.xr_words.specs.declared.forms.Name.TheVariants.{Check, Make, Repair, Replay}
+use Rattle.xr_words.specs.declared.forms.Name.TheVariants.{Blame, Check, Export, Make, Prove, Repair, Replay}
 use Rattle.xr_words.specs.declared.line.Line.{Line}
 use Rattle.xr_words.specs.declared.words.Start.{Start}
 use Rattle.xr_words.specs.declared.words.Start.TheVariants.{Cold, Recorded}
@@ -59,6 +59,20 @@ module _ (option other : Text → Option Text) (each : AreAlike option other) wh
     netlist = text_by (codes "netlist") refl v.netlist gives.netlist;
     recording = text_by (codes "record") refl v.recording gives.recording;
     apart = gives.apart;
+  }
+  gives_by (OfExport v) gives = record {
+    job = job_by v.job gives.job;
+    prefix = text_by (codes "to") refl v.prefix gives.prefix;
+    conflicts = conflicts_by v.conflicts gives.conflicts;
+    free = gives.free;
+  }
+  gives_by (OfProve v) gives = record {
+    cnf = text_by (codes "cnf") refl v.cnf gives.cnf;
+    log = text_by (codes "log") refl v.log gives.log;
+  }
+  gives_by (OfBlame v) gives = record {
+    job = job_by v.job gives.job;
+    conflicts = conflicts_by v.conflicts gives.conflicts;
   }
 
 -- ---- one set of values
@@ -127,6 +141,25 @@ one_make option a b first second =
     let recording = some_same a.recording b.recording (option (codes "record")) first.recording second.recording in
     λ i. record { number = number i; gates = gates i; netlist = netlist i; recording = recording i }
 
+one_export : (option : Text → Option Text) (a b : ExportValues) → GivesExport option a → GivesExport option b → a.job.netlists ≡ b.job.netlists → a ≡ b
+one_export option a b first second netlists =
+    let job = one_job option a.job b.job first.job second.job netlists in
+    let prefix = some_same a.prefix b.prefix (option (codes "to")) first.prefix second.prefix in
+    let conflicts = one_count (option (codes "conflicts")) 1000 100000 a.conflicts b.conflicts first.conflicts second.conflicts in
+    λ i. record { job = job i; prefix = prefix i; conflicts = conflicts i }
+
+one_prove : (option : Text → Option Text) (a b : ProveValues) → GivesProve option a → GivesProve option b → a ≡ b
+one_prove option a b first second =
+    let cnf = some_same a.cnf b.cnf (option (codes "cnf")) first.cnf second.cnf in
+    let log = some_same a.log b.log (option (codes "log")) first.log second.log in
+    λ i. record { cnf = cnf i; log = log i }
+
+one_blame : (option : Text → Option Text) (a b : BlameValues) → GivesBlame option a → GivesBlame option b → a.job.netlists ≡ b.job.netlists → a ≡ b
+one_blame option a b first second netlists =
+    let job = one_job option a.job b.job first.job second.job netlists in
+    let conflicts = one_count (option (codes "conflicts")) 1000 100000 a.conflicts b.conflicts first.conflicts second.conflicts in
+    λ i. record { job = job i; conflicts = conflicts i }
+
 -- ---- values of one command
 
 abbrev pub ValuesOf : Name → Type 0
@@ -134,12 +167,18 @@ ValuesOf Repair = RepairValues
 ValuesOf Replay = ReplayValues
 ValuesOf Check = CheckValues
 ValuesOf Make = MakeValues
+ValuesOf Export = ExportValues
+ValuesOf Prove = ProveValues
+ValuesOf Blame = BlameValues
 
 abbrev pub of : (name : Name) → ValuesOf name → Values
 of Repair v = OfRepair v
 of Replay v = OfReplay v
 of Check v = OfCheck v
 of Make v = OfMake v
+of Export v = OfExport v
+of Prove v = OfProve v
+of Blame v = OfBlame v
 
 -- Values are those of a command.
 pub record AreOf (name : Name) (v : Values) : Type 0 where
@@ -151,6 +190,9 @@ their_own (OfRepair v) = record { own = v; is = refl }
 their_own (OfReplay v) = record { own = v; is = refl }
 their_own (OfCheck v) = record { own = v; is = refl }
 their_own (OfMake v) = record { own = v; is = refl }
+their_own (OfExport v) = record { own = v; is = refl }
+their_own (OfProve v) = record { own = v; is = refl }
+their_own (OfBlame v) = record { own = v; is = refl }
 
 pub are_of : (name : Name) (v : Values) → name_of v ≡ name → AreOf name v
 are_of name v is = subst (λ (n : Name). AreOf n v) is (their_own v)
@@ -160,6 +202,9 @@ one_own Repair option a b first second netlists = ap OfRepair (one_repair option
 one_own Replay option a b first second netlists = ap OfReplay (one_replay option a b first second netlists)
 one_own Check option a b first second netlists = ap OfCheck (one_check option a b first second netlists)
 one_own Make option a b first second netlists = ap OfMake (one_make option a b first second)
+one_own Export option a b first second netlists = ap OfExport (one_export option a b first second netlists)
+one_own Prove option a b first second netlists = ap OfProve (one_prove option a b first second)
+one_own Blame option a b first second netlists = ap OfBlame (one_blame option a b first second netlists)
 
 pub one_values : (option : Text → Option Text) (a b : Values) → name_of b ≡ name_of a → Gives option a → Gives option b → netlists_of a ≡ netlists_of b → a ≡ b
 one_values option a b name first second netlists =

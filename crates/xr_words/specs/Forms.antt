@@ -2,7 +2,7 @@
 use Rattle.std.specs.Str.{bytes_eq}
 use Rattle.std.specs.Prelude.{◌≡◌, ℕ, Bool, true, false, List, [], ◌∷◌, map, codes}
 use Rattle.xr_words.specs.declared.forms.Name.{Name}
-use Rattle.xr_words.specs.declared.forms.Name.TheVariants.{Check, Make, Repair, Replay}
+use Rattle.xr_words.specs.declared.forms.Name.TheVariants.{Blame, Check, Export, Make, Prove, Repair, Replay}
 use Rattle.xr_words.specs.declared.option.Kind.{Kind}
 use Rattle.xr_words.specs.declared.option.Kind.TheVariants as kind
 use Rattle.xr_words.specs.declared.option.Opt.{Opt}
@@ -71,18 +71,27 @@ table_of Check = job (needs (codes "cert") Reads ∷ rounds ∷ conflicts ∷ st
 table_of Make =
     needs (codes "number") (Number 0 18446744073709551615) ∷ needs (codes "gates") (Number 0 100000)
     ∷ needs (codes "netlist") Writes ∷ needs (codes "record") Writes ∷ []
+table_of Export = job (needs (codes "to") Prefix ∷ rounds ∷ conflicts ∷ start ∷ [])
+table_of Prove = needs (codes "cnf") Reads ∷ needs (codes "log") Reads ∷ []
+table_of Blame = job (rounds ∷ conflicts ∷ start ∷ [])
 
 abbrev pub has_files : Name → Bool
 has_files Repair = true
 has_files Replay = true
 has_files Check = true
 has_files Make = false
+has_files Export = true
+has_files Prove = false
+has_files Blame = true
 
 abbrev pub word_of : Name → Text
 word_of Repair = codes "repair"
 word_of Replay = codes "replay"
 word_of Check = codes "check"
 word_of Make = codes "make"
+word_of Export = codes "export"
+word_of Prove = codes "prove"
+word_of Blame = codes "blame"
 
 -- The words are a command, and after it a line of its options.
 pub record IsCommand (name : Name) (words : List Text) (items : List Item) (files : List Text) : Type 0 where

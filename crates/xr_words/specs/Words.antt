@@ -3,20 +3,26 @@
 -- `replay --record R --scope S --top T --code C --vcd V [--rounds N] [--start W] FILE..`
 -- `check --record R --scope S --top T --cert X [--rounds N] [--conflicts N] [--start W] FILE..`
 -- `make --number N --gates N --netlist F --record R`
+-- `export --to PREFIX --record R --scope S --top T [--rounds N] [--conflicts N] [--start W] FILE..`
+-- `prove --cnf F --log G`
+-- `blame --record R --scope S --top T [--rounds N] [--conflicts N] [--start W] FILE..`
 -- with W being `cold` or `recorded`.
 use Rattle.std.specs.Prelude.{◌≡◌, ℕ, ◌≤◌, List, [], ◌∷◌, Option, Some, None, codes, map, string_bytes}
 use Rattle.xr_words.specs.declared.forms.Name.{Name}
-use Rattle.xr_words.specs.declared.forms.Name.TheVariants.{Check, Make, Repair, Replay}
+use Rattle.xr_words.specs.declared.forms.Name.TheVariants.{Blame, Check, Export, Make, Prove, Repair, Replay}
+use Rattle.xr_words.specs.declared.words.BlameWords.{BlameWords}
 use Rattle.xr_words.specs.declared.words.CheckWords.{CheckWords}
 use Rattle.xr_words.specs.declared.words.Command.{Command}
 use Rattle.xr_words.specs.declared.words.Command.TheVariants as command
+use Rattle.xr_words.specs.declared.words.ExportWords.{ExportWords}
 use Rattle.xr_words.specs.declared.words.JobWords.{JobWords}
 use Rattle.xr_words.specs.declared.words.MakeWords.{MakeWords}
+use Rattle.xr_words.specs.declared.words.ProveWords.{ProveWords}
 use Rattle.xr_words.specs.declared.words.RepairWords.{RepairWords}
 use Rattle.xr_words.specs.declared.words.ReplayWords.{ReplayWords}
 use Rattle.xr_words.specs.declared.words.Start.{Start}
 use Rattle.xr_words.specs.declared.words.Start.TheVariants.{Cold, Recorded}
-use Rattle.xr_words.specs.Apart.{AreApart}
+use Rattle.xr_words.specs.Apart.{AreApart, AreFree}
 use Rattle.xr_words.specs.Forms.{IsCommand}
 use Rattle.xr_words.specs.Line.{IsNumber, Item, Text, given}
 
@@ -74,11 +80,27 @@ pub record MakeValues : Type 0 where
   pub netlist : Text
   pub recording : Text
 
+pub record ExportValues : Type 0 where
+  pub job : JobValues
+  pub prefix : Text
+  pub conflicts : ℕ
+
+pub record ProveValues : Type 0 where
+  pub cnf : Text
+  pub log : Text
+
+pub record BlameValues : Type 0 where
+  pub job : JobValues
+  pub conflicts : ℕ
+
 pub data Values : Type 0 where
   OfRepair : RepairValues → Values
   OfReplay : ReplayValues → Values
   OfCheck : CheckValues → Values
   OfMake : MakeValues → Values
+  OfExport : ExportValues → Values
+  OfProve : ProveValues → Values
+  OfBlame : BlameValues → Values
 
 -- The command, and the FILEs after its options.
 abbrev pub name_of : Values → Name
@@ -86,12 +108,18 @@ name_of (OfRepair v) = Repair
 name_of (OfReplay v) = Replay
 name_of (OfCheck v) = Check
 name_of (OfMake v) = Make
+name_of (OfExport v) = Export
+name_of (OfProve v) = Prove
+name_of (OfBlame v) = Blame
 
 abbrev pub netlists_of : Values → List Text
 netlists_of (OfRepair v) = v.job.netlists
 netlists_of (OfReplay v) = v.job.netlists
 netlists_of (OfCheck v) = v.job.netlists
 netlists_of (OfMake v) = []
+netlists_of (OfExport v) = v.job.netlists
+netlists_of (OfProve v) = []
+netlists_of (OfBlame v) = v.job.netlists
 
 -- ---- the set
 
@@ -134,11 +162,31 @@ pub record GivesMake (option : Text → Option Text) (v : MakeValues) : Type 0 w
   pub recording : option (codes "record") ≡ Some v.recording
   pub apart : AreApart (v.netlist ∷ v.recording ∷ []) []
 
+-- These are those of `export`, and no file that is read has a name of those that may be written.
+pub record GivesExport (option : Text → Option Text) (v : ExportValues) : Type 0 where
+  pub job : GivesJob option v.job
+  pub prefix : option (codes "to") ≡ Some v.prefix
+  pub conflicts : IsCount (option (codes "conflicts")) 1000 100000 v.conflicts
+  pub free : AreFree v.prefix (v.job.recording ∷ v.job.netlists)
+
+-- These are those of `prove`, which writes no file.
+pub record GivesProve (option : Text → Option Text) (v : ProveValues) : Type 0 where
+  pub cnf : option (codes "cnf") ≡ Some v.cnf
+  pub log : option (codes "log") ≡ Some v.log
+
+-- These are those of `blame`, which writes no file.
+pub record GivesBlame (option : Text → Option Text) (v : BlameValues) : Type 0 where
+  pub job : GivesJob option v.job
+  pub conflicts : IsCount (option (codes "conflicts")) 1000 100000 v.conflicts
+
 abbrev pub Gives : (Text → Option Text) → Values → Type 0
 Gives option (OfRepair v) = GivesRepair option v
 Gives option (OfReplay v) = GivesReplay option v
 Gives option (OfCheck v) = GivesCheck option v
 Gives option (OfMake v) = GivesMake option v
+Gives option (OfExport v) = GivesExport option v
+Gives option (OfProve v) = GivesProve option v
+Gives option (OfBlame v) = GivesBlame option v
 
 -- The words are in the set, and mean this.
 pub record Means (words : List Text) (v : Values) : Type 0 where
@@ -189,8 +237,20 @@ make_values words = record {
   recording = words.recording.now;
 }
 
+abbrev pub export_values : ExportWords → ExportValues
+export_values words = record { job = job_values words.job; prefix = words.prefix.now; conflicts = words.conflicts }
+
+abbrev pub prove_values : ProveWords → ProveValues
+prove_values words = record { cnf = words.cnf.now; log = words.log.now }
+
+abbrev pub blame_values : BlameWords → BlameValues
+blame_values words = record { job = job_values words.job; conflicts = words.conflicts }
+
 abbrev pub values_of : Command → Values
 values_of (command.Repair words) = OfRepair (repair_values words)
 values_of (command.Replay words) = OfReplay (replay_values words)
 values_of (command.Check words) = OfCheck (check_values words)
 values_of (command.Make words) = OfMake (make_values words)
+values_of (command.Export words) = OfExport (export_values words)
+values_of (command.Prove words) = OfProve (prove_values words)
+values_of (command.Blame words) = OfBlame (blame_values words)

@@ -13,6 +13,9 @@ pub enum Name {
     Replay,
     Check,
     Make,
+    Export,
+    Prove,
+    Blame,
 }
 
 const RECORD: Opt<'static> = Opt {
@@ -130,6 +133,35 @@ static MAKE: [Opt<'static>; 4] = [
     },
 ];
 
+static EXPORT: [Opt<'static>; 7] = [
+    RECORD,
+    SCOPE,
+    TOP,
+    Opt {
+        name: "to",
+        required: true,
+        kind: Kind::Prefix,
+    },
+    ROUNDS,
+    CONFLICTS,
+    START,
+];
+
+static PROVE: [Opt<'static>; 2] = [
+    Opt {
+        name: "cnf",
+        required: true,
+        kind: Kind::Reads,
+    },
+    Opt {
+        name: "log",
+        required: true,
+        kind: Kind::Reads,
+    },
+];
+
+static BLAME: [Opt<'static>; 6] = [RECORD, SCOPE, TOP, ROUNDS, CONFLICTS, START];
+
 /// The options of a command.
 pub fn options_of<'a>(name: Name) -> &'a [Opt<'a>]
     ensures table { map plain result.now ≡ table_of name }
@@ -140,6 +172,9 @@ pub fn options_of<'a>(name: Name) -> &'a [Opt<'a>]
         Name::Replay => &REPLAY,
         Name::Check => &CHECK,
         Name::Make => &MAKE,
+        Name::Export => &EXPORT,
+        Name::Prove => &PROVE,
+        Name::Blame => &BLAME,
     }
 }
 
@@ -148,8 +183,8 @@ pub fn has_files(name: Name) -> bool
     ensures { result ≡ has_files name }
 {
     match name {
-        Name::Repair | Name::Replay | Name::Check => true,
-        Name::Make => false,
+        Name::Repair | Name::Replay | Name::Check | Name::Export | Name::Blame => true,
+        Name::Make | Name::Prove => false,
     }
 }
 
@@ -162,6 +197,9 @@ pub fn word_of<'a>(name: Name) -> &'a str
         Name::Replay => "replay",
         Name::Check => "check",
         Name::Make => "make",
+        Name::Export => "export",
+        Name::Prove => "prove",
+        Name::Blame => "blame",
     }
 }
 
@@ -175,6 +213,9 @@ pub fn name_of(word: &str) -> Option<Name>
         "replay" => Some(Name::Replay),
         "check" => Some(Name::Check),
         "make" => Some(Name::Make),
+        "export" => Some(Name::Export),
+        "prove" => Some(Name::Prove),
+        "blame" => Some(Name::Blame),
         _ => None,
     }
 }

@@ -5,7 +5,9 @@
 //! that makes its typed words of the values. `line.rt` reads a line of any list of options.
 #![tactic(auto)]
 
+mod blame;
 mod check;
+mod export;
 mod forms;
 mod job;
 mod laws;
@@ -14,6 +16,7 @@ mod make;
 mod named;
 mod option;
 mod outputs;
+mod prove;
 mod read;
 mod repair;
 mod replay;
@@ -26,4 +29,7 @@ mod words;
 pub use laws::words_mean_one;
 pub use read::read_words;
 pub use usage::usage_of;
-pub use words::{CheckWords, Command, JobWords, MakeWords, RepairWords, ReplayWords, Start};
+pub use words::{
+    BlameWords, CheckWords, Command, ExportWords, JobWords, MakeWords, ProveWords, RepairWords,
+    ReplayWords, Start,
+};

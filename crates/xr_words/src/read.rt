@@ -2,15 +2,18 @@
 
 ghost use Rattle.std.specs.Prelude.{IfOk, IfSome, IfNone, map, string_bytes};
 ghost use Rattle.xr_words.specs.Forms.{IsNamed, IsNamedOnly};
-ghost use Rattle.xr_words.specs.declared.forms.Name.TheVariants.{Check, Make, Repair, Replay};
+ghost use Rattle.xr_words.specs.declared.forms.Name.TheVariants.{Blame, Check, Export, Make, Prove, Repair, Replay};
 ghost use Rattle.xr_words.specs.Words.{AreOutside, Means, MeansOnly, values_of};
 
+use crate::blame::blame_of;
 use crate::check::check_of;
+use crate::export::export_of;
 use crate::forms::Name;
 use crate::job::files_in;
 use crate::line::Line;
 use crate::make::make_of;
 use crate::named::{Named, read_named};
+use crate::prove::prove_of;
 use crate::repair::repair_of;
 use crate::replay::replay_of;
 use crate::words::Command;
@@ -42,6 +45,9 @@ fn command_of<'a>(words: &'a [String], named: &Named<'a>) -> Option<Command<'a>>
         Name::Replay => replay_in(words, &named.line),
         Name::Check => check_in(words, &named.line),
         Name::Make => make_in(words, &named.line),
+        Name::Export => export_in(words, &named.line),
+        Name::Prove => prove_in(words, &named.line),
+        Name::Blame => blame_in(words, &named.line),
     }
 }
 
@@ -87,4 +93,37 @@ fn make_in<'a>(_words: &'a [String], line: &Line<'a>) -> Option<Command<'a>>
 {
     let words = make_of(line)?;
     Some(Command::Make(words))
+}
+
+fn export_in<'a>(words: &'a [String], line: &Line<'a>) -> Option<Command<'a>>
+    requires is { IsNamed (map string_bytes words.now) Export line.now }
+    requires only { IsNamedOnly (map string_bytes words.now) Export line.now }
+    ensures set { IfSome result (λ c. Means (map string_bytes words.now) (values_of c)) }
+    ensures only { IfSome result (λ c. MeansOnly (map string_bytes words.now) (values_of c)) }
+    ensures none { IfNone result (AreOutside (map string_bytes words.now)) }
+{
+    let words = export_of(line, files_in(words, line))?;
+    Some(Command::Export(words))
+}
+
+fn prove_in<'a>(_words: &'a [String], line: &Line<'a>) -> Option<Command<'a>>
+    requires is { IsNamed (map string_bytes _words.now) Prove line.now }
+    requires only { IsNamedOnly (map string_bytes _words.now) Prove line.now }
+    ensures set { IfSome result (λ c. Means (map string_bytes _words.now) (values_of c)) }
+    ensures only { IfSome result (λ c. MeansOnly (map string_bytes _words.now) (values_of c)) }
+    ensures none { IfNone result (AreOutside (map string_bytes _words.now)) }
+{
+    let words = prove_of(line)?;
+    Some(Command::Prove(words))
+}
+
+fn blame_in<'a>(words: &'a [String], line: &Line<'a>) -> Option<Command<'a>>
+    requires is { IsNamed (map string_bytes words.now) Blame line.now }
+    requires only { IsNamedOnly (map string_bytes words.now) Blame line.now }
+    ensures set { IfSome result (λ c. Means (map string_bytes words.now) (values_of c)) }
+    ensures only { IfSome result (λ c. MeansOnly (map string_bytes words.now) (values_of c)) }
+    ensures none { IfNone result (AreOutside (map string_bytes words.now)) }
+{
+    let words = blame_of(line, files_in(words, line))?;
+    Some(Command::Blame(words))
 }

@@ -5,7 +5,15 @@ use crate::told::command_of;
 use std::alloc::{AllocError, Global};
 
 /// Every command.
-const NAMES: [Name; 4] = [Name::Repair, Name::Replay, Name::Check, Name::Make];
+const NAMES: [Name; 7] = [
+    Name::Repair,
+    Name::Replay,
+    Name::Check,
+    Name::Make,
+    Name::Export,
+    Name::Prove,
+    Name::Blame,
+];
 
 /// The usage of the command that the words begin with, and of every command where they begin with none: for people to
 /// read, a line a command. Its words are clap's own, and nothing is promised of them.

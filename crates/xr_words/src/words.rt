@@ -9,6 +9,9 @@ pub enum Command<'a> {
     Replay(ReplayWords<'a>),
     Check(CheckWords<'a>),
     Make(MakeWords<'a>),
+    Export(ExportWords<'a>),
+    Prove(ProveWords<'a>),
+    Blame(BlameWords<'a>),
 }
 
 /// What registers hold before the first step.
@@ -93,4 +96,35 @@ pub struct MakeWords<'a> {
     pub recording: &'a str,
     ghost few_gates: { gates ≤ 100000 },
     ghost apart: { recording.now ≢ netlist.now },
+}
+
+/// The words of `export`.
+#[derive(Clone, Copy, Debug)]
+pub struct ExportWords<'a> {
+    pub job: JobWords<'a>,
+    /// What the names of the files begin with.
+    pub prefix: &'a str,
+    /// The clauses of a search, 1 to 100,000.
+    pub conflicts: u32,
+    ghost some_clauses: { 1 ≤ conflicts },
+    ghost few_clauses: { conflicts ≤ 100000 },
+}
+
+/// The words of `prove`.
+#[derive(Clone, Copy, Debug)]
+pub struct ProveWords<'a> {
+    /// The file of the formula.
+    pub cnf: &'a str,
+    /// The file of the log.
+    pub log: &'a str,
+}
+
+/// The words of `blame`.
+#[derive(Clone, Copy, Debug)]
+pub struct BlameWords<'a> {
+    pub job: JobWords<'a>,
+    /// The clauses of a search, 1 to 100,000.
+    pub conflicts: u32,
+    ghost some_clauses: { 1 ≤ conflicts },
+    ghost few_clauses: { conflicts ≤ 100000 },
 }

@@ -1,17 +1,28 @@
--- A block more is searched.
-use Rattle.std.proofs.Common.{◌≡◌, ◌<◌, ◌+◌, ◌*◌, arith, subst, IfSome}
+-- 64 rows more are compared.
+use Rattle.std.proofs.Common.{◌≡◌, ◌∙◌, ◌*◌, ◌+◌, length, arith, subst}
+use Rattle.std.proofs.lemmas.List.{get_or_default}
+use Rattle.xr_cell.specs.declared.row.RawRow.{RawRow}
+use Rattle.xr_cell.specs.Row.{nowhere, row_at}
 use Rattle.xr_cell.specs.Index.{IsFirstBelow}
 use Rattle.xr_cell.specs.Meeting.{is_conflict}
+use Rattle.xr_cell.specs.Probe.{IsProbe}
+use Rattle.xr_cell.proofs.Firsts.{below_less}
 use Rattle.xr_cell.proofs.Pairs.{conflict_nowhere}
 use Rattle.xr_cell.proofs.conflict.conflicting.Goals as goal
 
+pub loop-k-init : goal.loop-k-init
+loop-k-init c = λ i below. absurd (omega arith)
+
 pub loop-k-preserved : goal.loop-k-preserved
 loop-k-preserved c =
-    let base = c.args.base in
+    let n = c.args.inputs in
+    let rows = c.args.rows.now in
+    let row = row_at c.args.rows.now c.args.row in
     let k = c.loop-k.k in
-    let test = is_conflict c.args.inputs c.args.row.now in
-    let next : c.args.base + 64 * c.loop-k.k + 64 ≡ c.args.base + 64 * (c.loop-k.k + 1) = omega arith in
-    record {
-      below = subst (λ end. IfSome c.first_of-found.result (λ i. i < end)) next (c.first_of-found.ensures.below c.loop-k.invariant.below);
-      first = λ rows is none. subst (λ end. IsFirstBelow (is_conflict c.args.inputs c.args.row.now) rows end c.first_of-found.result) next (c.first_of-found.ensures.first rows (is_conflict c.args.inputs c.args.row.now) (conflict_nowhere c.args.inputs c.args.row.now) (c.loop-k.invariant.first rows is none) (c.conflicts.ensures c.args.inputs c.args.row.now rows (base + 64 * k) c.of-probe.ensures (is k c.loop-k-test.true)));
-    }
+    let next : 64 * c.loop-k.k + 64 ≡ 64 * (c.loop-k.k + 1) = omega arith in
+    let row_is = c.index-rows-row.is ∙ get_or_default rows c.args.row c.index-rows-row.result nowhere c.requires.row in
+    let probe = subst (λ (r : RawRow). IsProbe n r c.of-probe.result) row_is c.of-probe.ensures in
+    subst (λ end. IsFirstBelow (is_conflict n row) rows end c.first_of-found.result) next (c.first_of-found.ensures.first rows (is_conflict n row) (conflict_nowhere n row) c.loop-k.invariant (c.conflicts.ensures n row rows (64 * k) probe c.block_of.ensures))
+
+pub returns : goal.returns
+returns c = below_less (is_conflict c.args.inputs (row_at c.args.rows.now c.args.row)) c.args.rows.now (64 * c.loop-k.k) (length c.args.rows.now) c.loop-k.found (omega arith) c.loop-k.invariant

@@ -3,7 +3,7 @@ use Rattle.std.proofs.Common.{rules, ◌≡◌, subst}
 use Rattle.xr_run.specs.Ends.{RanWords}
 use Rattle.xr_words.specs.declared.words.Command.{Command}
 use Rattle.xr_words.specs.declared.words.Command.TheVariants as command
-use Rattle.xr_words.specs.Words.{Means, OfCheck, OfMake, OfRepair, OfReplay, check_values, make_values, repair_values, replay_values, values_of}
+use Rattle.xr_words.specs.Words.{Means, OfBlame, OfCheck, OfExport, OfMake, OfProve, OfRepair, OfReplay, blame_values, check_values, export_values, make_values, prove_values, repair_values, replay_values, values_of}
 use Rattle.xr_cli.proofs.program.run_words.Goals as goal
 
 pub returns-in-Repair : goal.returns-in-Repair
@@ -25,3 +25,18 @@ pub returns-in-Make : goal.returns-in-Make
 returns-in-Make g c = λ line means.
     let is : c.args.command ≡ command.Make c.in-Make.words = search rules in
     RanWords.ends_within (OfMake (make_values c.in-Make.words)) (subst (λ (x : Command). Means line (values_of x)) is means) (c.run_command-in-Make.ensures line)
+
+pub returns-in-Export : goal.returns-in-Export
+returns-in-Export g c = λ line means.
+    let is : c.args.command ≡ command.Export c.in-Export.words = search rules in
+    RanWords.ends_within (OfExport (export_values c.in-Export.words)) (subst (λ (x : Command). Means line (values_of x)) is means) (c.run_command-in-Export.ensures line)
+
+pub returns-in-Prove : goal.returns-in-Prove
+returns-in-Prove g c = λ line means.
+    let is : c.args.command ≡ command.Prove c.in-Prove.words = search rules in
+    RanWords.ends_within (OfProve (prove_values c.in-Prove.words)) (subst (λ (x : Command). Means line (values_of x)) is means) (c.run_command-in-Prove.ensures line)
+
+pub returns-in-Blame : goal.returns-in-Blame
+returns-in-Blame g c = λ line means.
+    let is : c.args.command ≡ command.Blame c.in-Blame.words = search rules in
+    RanWords.ends_within (OfBlame (blame_values c.in-Blame.words)) (subst (λ (x : Command). Means line (values_of x)) is means) (c.run_command-in-Blame.ensures line)

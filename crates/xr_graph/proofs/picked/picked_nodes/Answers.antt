@@ -1,9 +1,8 @@
 -- One node after another.
 use Rattle.std.proofs.Common.{◌≡◌, ◌∙◌, arith, length, subst, sym, ap, rules, slice_index, slice_set}
 use Rattle.std.specs.Vec.{vec_len}
-use Rattle.std.proofs.lemmas.List.{get_or_default}
 use Rattle.xr_cone_nodes.specs.declared.node.Node.{Node}
-use Rattle.xr_cone_nodes.specs.Nodes.{StandsAt, no_node}
+use Rattle.xr_cone_nodes.specs.Nodes.{StandsAt}
 use Rattle.xr_graph.specs.Picked.{moved_node}
 use Rattle.xr_graph.proofs.PickedNodes.{node_room, node_stands, node_within, picked_more, picked_none, picked_small}
 use Rattle.xr_graph.proofs.picked.picked_nodes.Goals as goal
@@ -28,26 +27,16 @@ index_mut-requires c =
     let long : vec_len c.rest.positions ≡ length c.rest.positions.items = search rules in
     omega (arith, less, long)
 
-pub bounds-nodes-node : goal.bounds-nodes-node
-bounds-nodes-node c = node_within c.args.nodes.now c.args.taken.items c.rest.rest.items c.pop.new.self.items
+pub node-requires : goal.node-requires
+node-requires c = node_within c.args.nodes.now c.args.taken.items c.rest.rest.items c.pop.new.self.items
     c.rest.positions.items c.rest.picked.items c.in-Some.node c.requires.ordered c.requires.taken c.rest.invariant
     c.in-Some.ensures.items
 
-pub offset_bounds-nodes-node : goal.offset_bounds-nodes-node
-offset_bounds-nodes-node c =
-    let less = node_within c.args.nodes.now c.args.taken.items c.rest.rest.items c.pop.new.self.items
-    c.rest.positions.items c.rest.picked.items c.in-Some.node c.requires.ordered c.requires.taken c.rest.invariant
-    c.in-Some.ensures.items in
-    let few = c.requires.ordered.few in omega (arith, less, few)
-
 pub moved_node-requires : goal.moved_node-requires
 moved_node-requires c =
-    let within = node_within c.args.nodes.now c.args.taken.items c.rest.rest.items c.pop.new.self.items
-    c.rest.positions.items c.rest.picked.items c.in-Some.node c.requires.ordered c.requires.taken c.rest.invariant
-    c.in-Some.ensures.items in
     let long : c.len-in-Some.result ≡ length c.rest.picked.items = search rules in
     subst (λ (n : Node). StandsAt (length c.as_slice.result.now) n.body)
-    (sym (c.index-nodes-node.is ∙ get_or_default c.args.nodes.now c.in-Some.node c.index-nodes-node.result no_node within))
+    c.node.ensures
     (node_stands c.args.nodes.now c.args.taken.items c.rest.rest.items c.pop.new.self.items
     c.rest.positions.items c.rest.picked.items c.in-Some.node c.requires.ordered c.requires.taken c.rest.invariant
     c.in-Some.ensures.items c.as_slice.result.now
@@ -55,14 +44,11 @@ moved_node-requires c =
 
 pub rest-preserved : goal.rest-preserved
 rest-preserved c =
-    let within = node_within c.args.nodes.now c.args.taken.items c.rest.rest.items c.pop.new.self.items
-    c.rest.positions.items c.rest.picked.items c.in-Some.node c.requires.ordered c.requires.taken c.rest.invariant
-    c.in-Some.ensures.items in
     let long : c.len-in-Some.result ≡ length c.rest.picked.items = search rules in
     picked_more c.args.nodes.now c.args.taken.items c.rest.rest.items c.pop.new.self.items
     c.rest.positions.items c.rest.picked.items c.in-Some.node c.requires.ordered c.requires.taken c.rest.invariant
     c.in-Some.ensures.items _ (ap (slice_set c.rest.positions.items c.in-Some.node) long) c.in_ok-moved.moved c.push.new.self.items
     ((rw c.as_slice.ensures.value at c.in_ok-moved.ensures)
     ∙ ap (moved_node (slice_index (slice_set c.rest.positions.items c.in-Some.node c.len-in-Some.result)))
-    (c.index-nodes-node.is ∙ get_or_default c.args.nodes.now c.in-Some.node c.index-nodes-node.result no_node within))
+    (sym c.node.ensures))
     c.in_ok-push.ensures.items

@@ -1,9 +1,8 @@
 -- The greatest of the nodes that wait is taken, and what it reads comes in.
-use Rattle.std.proofs.Common.{◌<◌, List, ℕ, arith, length, subst, sym}
-use Rattle.std.proofs.lemmas.List.{get_or_default}
+use Rattle.std.proofs.Common.{◌≡◌, List, ℕ, ap, arith, subst, sym}
 use Rattle.xr_reached.specs.Reached.{Adds, AddsAll}
 use Rattle.xr_cone_nodes.specs.declared.node.Node.{Node}
-use Rattle.xr_cone_nodes.specs.Nodes.{no_node}
+use Rattle.xr_cone_nodes.specs.Nodes.{node_at}
 use Rattle.xr_graph.specs.Walk.{read_nodes}
 use Rattle.xr_graph.proofs.TakenNodes.{IsDescent, descent_begins, descent_ends, descent_more, descent_within}
 use Rattle.xr_graph.proofs.walk.reached_nodes.Goals as goal
@@ -26,28 +25,19 @@ pub nodes-preserved : goal.nodes-preserved
 nodes-preserved c =
     let nodes : List Node = c.args.nodes.now in
     let node : ℕ = c.in-Some.node in
-    let low = descent_within nodes c.args.top node c.nodes.taken.items c.nodes.reached c.take_greatest.new.self
-    c.nodes.invariant c.in-Some.ensures in
-    let up = low.0 in
-    let within : node < length nodes = (let top = c.requires.within in omega (arith, up, top)) in
-    let same = get_or_default nodes node c.index-nodes-node.result no_node within in
-    let adds = subst (λ (n : Node). AddsAll c.take_greatest.new.self (read_nodes n.body) c.insert_arguments.new.reached) same
-    c.in_ok-insert_arguments.ensures in
-    subst (λ (ps : List ℕ). IsDescent nodes c.args.top ps c.insert_arguments.new.reached) (sym c.in_ok-push.ensures.items)
+    let same : c.node.result.arguments.now ≡ read_nodes (node_at nodes node).body =
+    ap (λ (n : Node). read_nodes n.body) (sym c.node.ensures) in
+    let adds = subst (λ (ks : List ℕ). AddsAll c.take_greatest.new.self ks c.insert_all.new.reached) same
+    c.in_ok-insert_all.ensures in
+    subst (λ (ps : List ℕ). IsDescent nodes c.args.top ps c.insert_all.new.reached) (sym c.in_ok-push.ensures.items)
     (descent_more nodes c.args.top node c.nodes.taken.items c.nodes.reached c.take_greatest.new.self
-    c.insert_arguments.new.reached c.requires.ordered c.requires.within c.nodes.invariant c.in-Some.ensures adds)
+    c.insert_all.new.reached c.requires.ordered c.requires.within c.nodes.invariant c.in-Some.ensures adds)
 
-pub bounds-nodes-node : goal.bounds-nodes-node
-bounds-nodes-node c =
+pub node-requires : goal.node-requires
+node-requires c =
     let low = descent_within c.args.nodes.now c.args.top c.in-Some.node c.nodes.taken.items c.nodes.reached
     c.take_greatest.new.self c.nodes.invariant c.in-Some.ensures in
     let up = low.0 in let top = c.requires.within in omega (arith, up, top)
-
-pub offset_bounds-nodes-node : goal.offset_bounds-nodes-node
-offset_bounds-nodes-node c =
-    let low = descent_within c.args.nodes.now c.args.top c.in-Some.node c.nodes.taken.items c.nodes.reached
-    c.take_greatest.new.self c.nodes.invariant c.in-Some.ensures in
-    let up = low.0 in let top = c.requires.within in let few = c.requires.ordered.few in omega (arith, up, top, few)
 
 pub returns : goal.returns
 returns c = descent_ends c.args.nodes.now c.args.top c.nodes.taken.items c.nodes.reached c.nodes.invariant c.in_default.ensures

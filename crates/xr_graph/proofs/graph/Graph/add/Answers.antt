@@ -2,14 +2,19 @@
 use Rattle.std.proofs.Common.{◌<◌, ◌^◌, List, length, subst, sym}
 use Rattle.xr_cone_nodes.specs.declared.node.Node.{Node}
 use Rattle.xr_graph.specs.NodeRoots.{AreNodeRoots}
-use Rattle.xr_graph.proofs.TurnedTables.{kept_more}
+use Rattle.xr_graph.proofs.TurnedTables.{few_values, kept_more}
 use Rattle.xr_graph.proofs.graph.Graph.add.Goals as goal
+
+pub push-requires-clause-table : goal.push-requires-clause-table
+push-requires-clause-table c =
+    few_values c.args.roots.now c.args.values.now c.as_slice-2.result.now c.requires.roots.few c.requires.table
+    (rw c.as_slice-2.ensures.value c.in_ok-values.ensures)
 
 pub invariant_of-self-2 : goal.invariant_of-self-2
 invariant_of-self-2 c =
-    kept_more c.self.inside.nodes.items c.push.new.self.items c.args.place c.args.roots.now c.args.values.now
+    kept_more c.self.inside.nodes c.push.new.self c.args.place c.args.roots.now c.args.values.now
     c.in_ok-values.values.items c.self.invariant
     (subst (λ (ns : List Node). length ns < 2 ^ 27) (sym c.self.view_is) c.requires.few)
     (subst (λ (ns : List Node). AreNodeRoots (length ns) c.args.roots.now) (sym c.self.view_is) c.requires.roots)
     c.requires.table c.in_ok-values.ensures
-    (rw (c.nodes_of.ensures, c.from_vec.ensures) at c.in_ok-push.ensures.items)
+    (rw (c.as_slice.ensures, c.as_slice-2.ensures.value, c.nodes_of-arguments.ensures) at c.in_ok-push.ensures.ok)

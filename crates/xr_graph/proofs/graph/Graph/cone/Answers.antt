@@ -4,7 +4,7 @@ use Rattle.std.proofs.lemmas.Result.{IfOk-weaker}
 use Rattle.xr_cone_nodes.specs.declared.node.Node.{Node}
 use Rattle.xr_graph.specs.Graph.{IsConeOfNode}
 use Rattle.xr_graph.specs.Picked.{picked_by}
-use Rattle.xr_graph.specs.Walk.{AreAllTaken, AreTakenFrom, is_taken}
+use Rattle.xr_graph.specs.Walk.{AreTakenFrom, is_taken}
 use Rattle.xr_graph.proofs.GraphCones.{cone_of_node, picked_taken}
 use Rattle.xr_graph.proofs.ReachedCones.{cone_nodes}
 use Rattle.xr_graph.proofs.TakenNodes.{all_taken}
@@ -12,31 +12,28 @@ use Rattle.xr_graph.proofs.graph.Graph.cone.Goals as goal
 
 pub picked_nodes-requires-clause-taken : goal.picked_nodes-requires-clause-taken
 picked_nodes-requires-clause-taken c =
-    let nodes : List Node = c.self.inside.nodes.items in
+    let nodes : List Node = c.self.inside.nodes in
     let less : c.args.node < length nodes = subst (λ ns. c.args.node < length ns) (sym c.self.view_is) c.requires in
-    let are : AreTakenFrom nodes c.args.node c.in_ok-taken.taken.items = rw c.as_slice-nodes.ensures.value at c.in_ok-taken.ensures in
-    subst (λ ns. AreAllTaken ns c.in_ok-taken.taken.items) (sym c.as_slice-nodes.ensures.value)
-    (all_taken nodes c.args.node c.in_ok-taken.taken.items less are)
+    let are : AreTakenFrom nodes c.args.node c.in_ok-taken.taken.items = c.in_ok-taken.ensures in
+    all_taken nodes c.args.node c.in_ok-taken.taken.items less are
 
 pub new-requires : goal.new-requires
 new-requires c =
-    let nodes : List Node = c.self.inside.nodes.items in
+    let nodes : List Node = c.self.inside.nodes in
     let taken : List ℕ = c.in_ok-taken.taken.items in
     let less : c.args.node < length nodes = subst (λ ns. c.args.node < length ns) (sym c.self.view_is) c.requires in
-    let are : AreTakenFrom nodes c.args.node taken = rw c.as_slice-nodes.ensures.value at c.in_ok-taken.ensures in
-    let picked : c.in_ok-picked.picked.items ≡ picked_by nodes taken =
-    rw c.as_slice-nodes.ensures.value at c.in_ok-picked.ensures in
+    let are : AreTakenFrom nodes c.args.node taken = c.in_ok-taken.ensures in
+    let picked : c.in_ok-picked.picked.items ≡ picked_by nodes taken = c.in_ok-picked.ensures in
     cone_nodes nodes c.self.invariant c.args.node less (is_taken taken) are.reached c.in_ok-picked.picked.items
     (picked ∙ picked_taken nodes c.args.node taken are)
 
 pub returns : goal.returns
 returns c =
-    let nodes : List Node = c.self.inside.nodes.items in
+    let nodes : List Node = c.self.inside.nodes in
     let taken : List ℕ = c.in_ok-taken.taken.items in
     let less : c.args.node < length nodes = subst (λ ns. c.args.node < length ns) (sym c.self.view_is) c.requires in
-    let are : AreTakenFrom nodes c.args.node taken = rw c.as_slice-nodes.ensures.value at c.in_ok-taken.ensures in
-    let picked : c.in_ok-picked.picked.items ≡ picked_by nodes taken =
-    rw c.as_slice-nodes.ensures.value at c.in_ok-picked.ensures in
+    let are : AreTakenFrom nodes c.args.node taken = c.in_ok-taken.ensures in
+    let picked : c.in_ok-picked.picked.items ≡ picked_by nodes taken = c.in_ok-picked.ensures in
     let is : IsConeOfNode c.args.self.now c.args.node c.in_ok-picked.picked.items =
     subst (λ ns. IsConeOfNode ns c.args.node c.in_ok-picked.picked.items) c.self.view_is
     (cone_of_node nodes c.self.invariant c.args.node less (is_taken taken) are.reached c.in_ok-picked.picked.items

@@ -1,0 +1,46 @@
+-- What an audit tells.
+use Rattle.std.specs.Prelude.{◌≡◌, ◌↔◌, ℕ, zero, suc, ◌+◌, Bool, List, [], ◌∷◌, ◌++◌, IfSome, IsSome, if◌then◌else◌}
+use Rattle.xr_design.specs.declared.place.Place.{Place}
+use Rattle.xr_design.specs.Fits.{place_at}
+use Rattle.xr_design.specs.History.{HistoryView}
+use Rattle.xr_design.specs.Waveform.{certain_by}
+use Rattle.xr_report.specs.Counts.{one_if}
+use Rattle.xr_wave.specs.Contents.{Contents, job, written_of}
+use Rattle.xr_wave.specs.Pairs.{GiveBoth, IsUnknown}
+use Rattle.xr_audit.specs.Listed.{is_listed, is_open, is_origin, replayed_at}
+use Rattle.xr_audit.specs.declared.audit.Found.{Found}
+
+-- A listed place is told with what the replay shows and what is found there, x where it is unknown, and then with two
+-- fillings that give both bits.
+pub record IsFound (c : Contents) (replay : HistoryView) (place : Place) (found : Found) : Type 0 where
+  pub place_is : found.place ≡ place
+  pub replayed_is : found.replayed ≡ replayed_at replay place
+  pub found_is : found.found ≡ certain_by (written_of c place).mark (written_of c place).value
+  pub has_pair : IsSome found.pair ↔ IsUnknown c place
+  pub pair : IfSome found.pair (GiveBoth c place)
+  pub origin : found.origin ≡ is_origin c replay place
+
+-- Each of some places is told, in order, and nothing else is.
+abbrev pub AreFound : Contents → HistoryView → List Place → List Found → Type 0
+AreFound c replay [] [] = Unit {0}
+AreFound c replay (place ∷ places) (found ∷ others) = IsFound c replay place found × AreFound c replay places others
+AreFound c replay [] (found ∷ others) = ⊥
+AreFound c replay (place ∷ places) [] = ⊥
+
+-- The listed places among the first n, in place order, and how many of them are open.
+abbrev pub listed_if : Bool → Place → List Place
+listed_if listed place = if listed then place ∷ [] else []
+
+abbrev pub listed_below : Contents → HistoryView → ℕ → List Place
+listed_below c replay zero = []
+listed_below c replay (suc n) = listed_below c replay n
+    ++ listed_if (is_listed c replay (place_at (job c) n)) (place_at (job c) n)
+
+abbrev pub open_below : Contents → HistoryView → ℕ → ℕ
+open_below c replay zero = 0
+open_below c replay (suc n) = open_below c replay n + one_if (is_open c replay (place_at (job c) n))
+
+-- Some places are told behind what was told before.
+abbrev pub Adds : Contents → HistoryView → List Found → List Place → List Found → Type 0
+Adds c replay old places new =
+    (before : List Place) → AreFound c replay before old → AreFound c replay (before ++ places) new

@@ -1,0 +1,8 @@
+-- Lemmas on what is to blame.
+mod Joins
+mod ListedNumbers
+mod ToldBits
+mod Tables
+mod Tallies
+mod Turns
+mod RootCauses

@@ -1,0 +1,47 @@
+-- The walk begins with all bound bits, each of which the wave has.
+use Rattle.std.proofs.Common.{◌≡◌, ◌∷◌, ◌∙◌, List, [], length, ap, sym, subst, rules}
+use Rattle.std.specs.List.{AllByRecursion, filter}
+use Rattle.xr_design.specs.declared.stim.Stim.{Stim}
+use Rattle.xr_match.specs.BoundBits.{IsBitOf, bound_bits, left_of}
+use Rattle.xr_match.specs.declared.binding.Bound.{Bound}
+use Rattle.xr_match.specs.declared.bound_bits.BoundBit.{BoundBit}
+use Rattle.xr_match.proofs.BoundBitLemmas.{bits_within}
+use Rattle.xr_blame.specs.Blamed.{is_unknown_bit}
+use Rattle.xr_blame.specs.declared.bits.Blamed.{Blamed}
+use Rattle.xr_blame.proofs.ToldBits.{AreToldBefore, bit_there, told_more}
+use Rattle.xr_blame.proofs.bits.blame_bits.Goals as goal
+
+pub bits-init : goal.bits-init
+bits-init c =
+    let wave = c.args.wave.now in
+    let bound = c.args.bound.now.bound in
+    let all : left_of c.new-bits.result ≡ bound_bits (length wave.stim.times) bound = c.new-bits.ensures
+    ∙ ap (λ (stim : Stim). bound_bits (length stim.times) c.as_slice.result.now) c.stim.ensures
+    ∙ ap (λ (l : List Bound). bound_bits (length wave.stim.times) l) c.as_slice.ensures in
+    let none : AreToldBefore wave bound [] (left_of c.new-bits.result) =
+    record { bits = []; are = tt; whole = ap (filter (is_unknown_bit wave)) all } in
+    record {
+      told = subst (λ (told : List Blamed). AreToldBefore wave bound told (left_of c.new-bits.result))
+          (sym c.new-blamed.ensures.items) none;
+      causes = c.new-causes.ensures;
+      within = subst (λ (bits : List BoundBit). AllByRecursion (IsBitOf wave.design (length wave.stim.times)) bits)
+          (sym all) (bits_within wave.design (length wave.stim.times) bound c.requires.binding.each);
+    }
+
+pub add_bit-requires-clause-bit : goal.add_bit-requires-clause-bit
+add_bit-requires-clause-bit c =
+    let wave = c.args.wave.now in
+    let is : IsBitOf wave.design (length wave.stim.times) c.in-Some.bit = search rules in
+    bit_there wave c.count-count.ensures.wave c.requires.finished c.in-Some.bit is
+
+pub bits-preserved : goal.bits-preserved
+bits-preserved c =
+    let wave = c.args.wave.now in
+    let left : left_of c.bits.bits ≡ c.in-Some.bit ∷ left_of c.next.new.self = c.in-Some.ensures.bit in
+    record {
+      told = told_more wave c.args.bound.now.bound _ _ c.in-Some.bit (left_of c.bits.bits) (left_of c.next.new.self) left
+          c.bits.invariant.told c.in_ok-add_bit.ensures.added;
+      causes = c.in_ok-add_bit.ensures.same;
+      within = (subst (λ (bits : List BoundBit).
+          AllByRecursion (IsBitOf wave.design (length wave.stim.times)) bits) left c.bits.invariant.within).1;
+    }

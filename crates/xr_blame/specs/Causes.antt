@@ -1,0 +1,27 @@
+-- What is to blame for roots, and that a place follows its root.
+use Rattle.std.specs.Prelude.{◌≡◌, ℕ, Bool, List}
+use Rattle.std.specs.List.{AllByRecursion}
+use Rattle.xr_design.specs.declared.place.Place.{Place}
+use Rattle.xr_design.specs.Filling.{IsFilling, bit_of}
+use Rattle.xr_model.specs.Class.{flipped}
+use Rattle.xr_wave.specs.Contents.{Contents, job}
+use Rattle.xr_cone.specs.Known.{IsRightOf, TracerView}
+use Rattle.xr_blame.specs.ToBlame.{IsToBlame, bit_in}
+use Rattle.xr_blame.specs.declared.halves.Cause.{Cause}
+
+-- In the world of every filling a place has the bit of another, or its complement where the way to it inverts.
+abbrev pub Follows : Contents → ℕ → ℕ → Bool → Type 0
+Follows c number other inverted = (filling : List Place) → IsFilling (job c) filling
+    → bit_in c (bit_of (job c) filling) number ≡ flipped inverted (bit_in c (bit_of (job c) filling) other)
+
+-- What stands with the number of a place is to blame for it.
+abbrev pub IsFound : Contents → ℕ × Cause → Type 0
+IsFound c entry = IsToBlame c entry.0 entry.1.source entry.1.others
+
+abbrev pub AreFound : Contents → List (ℕ × Cause) → Type 0
+AreFound c entries = AllByRecursion (IsFound c) entries
+
+-- So does each of these entries, and what is known of places is right.
+pub record AreCauses (c : Contents) (entries : List (ℕ × Cause)) (tracer : TracerView) : Type 0 where
+  pub found : AreFound c entries
+  pub right : IsRightOf c tracer

@@ -1,0 +1,89 @@
+//! The unknown bits, each with a source and a filling to blame.
+
+ghost use Rattle.std.specs.Prelude.{◌≡◌, ◌+◌, ◌-◌, ◌*◌, ◌<◌, IfOk, OnOk, length};
+ghost use Rattle.xr_design.specs.Job.{number_of};
+ghost use Rattle.xr_match.specs.Binding.{FitsBinding};
+ghost use Rattle.xr_wave.specs.Contents.{IsFinished, job};
+ghost use Rattle.xr_blame.specs.Blamed.{AddsBit, AreBlamed, HasBit, bit_place, is_unknown_bit, unknown_bits};
+
+use crate::causes::Causes;
+use std::alloc::Global;
+use xr_base::Memory;
+use xr_design::{Filling, Mark, Place, Stim};
+use xr_match::{Binding, BoundBit, BoundBits};
+use xr_wave::Wave;
+
+/// An unknown bit at a moment's last round, with a source and a filling to blame.
+#[derive(Debug, Drop)]
+pub struct Blamed {
+    /// The variable's number in the recording.
+    pub variable: u32,
+    /// How many of its bits stand on the left.
+    pub bit: u32,
+    pub place: Place,
+    /// The place that flips the bit by itself.
+    pub source: Place,
+    /// What else gets 1 then; it doesn't list the source.
+    pub others: Filling,
+}
+
+/// The unknown bits, in the order of a report. Takes their fillings, and each of these again for each root that bits
+/// have in common.
+pub fn blame_bits(alloc: Global, wave: &Wave<'_>, bound: &Binding) -> Result<Vec<Blamed>, Memory>
+    requires finished { IsFinished wave.now }
+    requires binding { FitsBinding wave.now.design bound.now }
+    ensures { IfOk result (λ bits. AreBlamed wave.now (unknown_bits wave.now bound.now.bound) bits.items) }
+{
+    // With it comes the fact that the wave is sound.
+    let _count = wave.count();
+    let mut causes = Causes::new(alloc, wave);
+    let mut blamed = Vec::new(alloc);
+    let mut bits = BoundBits::new(wave.stim(), bound.bound.as_slice());
+    'bits: while let Some(bit) = bits.next() {
+        add_bit(alloc, &mut blamed, wave, &mut causes, bit)?;
+    }
+    Ok(blamed)
+}
+
+/// Tells a bit, where it is unknown.
+fn add_bit(
+    alloc: Global,
+    blamed: &mut Vec<Blamed>,
+    wave: &Wave<'_>,
+    causes: &mut Causes<'_, '_>,
+    bit: BoundBit,
+) -> Result<(), Memory>
+    requires bit { HasBit wave.now bit }
+    requires causes { causes.old ≡ wave.now }
+    ensures added { OnOk result (AddsBit wave.now bit blamed.old.items blamed.new.items) }
+    ensures same { OnOk result (causes.new ≡ wave.now) }
+{
+    let place = bit_place(wave.stim(), bit);
+    match wave.mark(place) {
+        Mark::Unknown => {
+            let cause = causes.find(alloc, place)?;
+            blamed.push(Blamed {
+                variable: bit.variable,
+                bit: bit.bit,
+                place,
+                source: cause.source,
+                others: cause.others,
+            })?;
+            Ok(())
+        }
+        Mark::Certain => Ok(()),
+        Mark::Undecided => Ok(()),
+    }
+}
+
+/// The place of a bound bit at the last round of its moment.
+fn bit_place(stim: &Stim, bit: BoundBit) -> Place
+    requires { bit.moment < length stim.now.times }
+    ensures step { result.step ≡ bit.moment * stim.now.rounds + stim.now.rounds - 1 }
+    ensures net { result.net ≡ bit.net }
+{
+    Place {
+        step: bit.moment * stim.rounds + (stim.rounds - 1),
+        net: bit.net,
+    }
+}

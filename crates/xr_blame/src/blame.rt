@@ -1,0 +1,41 @@
+//! The unknown bits with their causes, and how many bits each source is to blame for.
+
+ghost use Rattle.std.specs.Prelude.{IfOk};
+ghost use Rattle.xr_match.specs.Binding.{FitsBinding};
+ghost use Rattle.xr_wave.specs.Contents.{IsFinished, job};
+ghost use Rattle.xr_blame.specs.Blamed.{AreBlamed, unknown_bits};
+ghost use Rattle.xr_blame.specs.Table.{IsTable};
+
+use crate::bits::{Blamed, blame_bits};
+use crate::table::table_of;
+use std::alloc::Global;
+use xr_base::Memory;
+use xr_design::Place;
+use xr_match::Binding;
+use xr_wave::Wave;
+
+/// What is to blame for the unknown bits.
+#[derive(Debug, Drop)]
+pub struct Blame {
+    /// In the order of a report.
+    pub bits: Vec<Blamed>,
+    /// Each source once with the number of its bits, the greatest number first, then in place order.
+    pub table: Vec<(Place, u64)>,
+}
+
+/// A source and a filling to blame for each bound bit that is unknown at its moment's last round, and the table of the
+/// sources. No clause says which of several sources is named.
+///
+/// Takes a filling for each of these bits and one for each root that they have in common, 8 bytes for each bit and 32
+/// for each source. The cone of each root is made once, from what was traced for those before it too, and gives one value
+/// more than the number of places that its two fillings list has binary digits.
+pub fn blame_of(alloc: Global, wave: &Wave<'_>, bound: &Binding) -> Result<Blame, Memory>
+    requires finished { IsFinished wave.now }
+    requires binding { FitsBinding wave.now.design bound.now }
+    ensures bits { IfOk result (λ blame. AreBlamed wave.now (unknown_bits wave.now bound.now.bound) blame.bits.items) }
+    ensures table { IfOk result (λ blame. IsTable (job wave.now) blame.bits.items blame.table.items) }
+{
+    let bits = blame_bits(alloc, wave, bound)?;
+    let table = table_of(alloc, &wave.circuit(), bits.as_slice())?;
+    Ok(Blame { bits, table })
+}

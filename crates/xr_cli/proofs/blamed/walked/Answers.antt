@@ -1,0 +1,18 @@
+-- The wave is found, and what is listed of it.
+use Rattle.xr_words.specs.Words.{blame_values}
+use Rattle.xr_cli.proofs.Walk.{blame_found}
+use Rattle.xr_cli.proofs.blamed.walked.Goals as goal
+
+pub returns-clause-prepared : goal.returns-clause-prepared
+returns-clause-prepared g c =
+    blame_found (blame_values c.args.words.now) c.args.job.now.netlist c.args.job.now.recorded
+    record { history = c.args.history.now; wave = c.in_ok-wave.wave; shown = c.in_ok-_shown._shown }
+    c.in_ok-listed.field-0
+    record {
+      fits = c.requires.fits;
+      times = c.read_times.ensures;
+      replay = c.requires.replay;
+      repaired = c.in_ok-wave.ensures.repaired;
+      shows = c.in_ok-_shown.ensures;
+    }
+    c.in_ok-listed.ensures

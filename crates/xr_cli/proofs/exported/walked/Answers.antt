@@ -1,0 +1,18 @@
+-- The wave is found, and its texts.
+use Rattle.xr_words.specs.Words.{export_values}
+use Rattle.xr_cli.proofs.Walk.{export_found}
+use Rattle.xr_cli.proofs.exported.walked.Goals as goal
+
+pub returns-clause-prepared : goal.returns-clause-prepared
+returns-clause-prepared g c =
+    export_found (export_values c.args.words.now) c.args.job.now.netlist c.args.job.now.recorded
+    record { history = c.args.history.now; wave = c.in_ok-wave.wave; shown = c.in_ok-_shown._shown }
+    c.in_ok-export_texts.field-0
+    record {
+      fits = c.requires.fits;
+      times = c.read_times.ensures;
+      replay = c.requires.replay;
+      repaired = c.in_ok-wave.ensures.repaired;
+      shows = c.in_ok-_shown.ensures;
+    }
+    c.in_ok-export_texts.ensures

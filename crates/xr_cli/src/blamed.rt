@@ -1,0 +1,73 @@
+//! The repair of a job, and what is to blame for the bits that stay unknown.
+
+ghost use Rattle.std.specs.Prelude.{◌≡◌, IfOk};
+ghost use Rattle.xr_design.specs.Handed.{IsReplay};
+ghost use Rattle.xr_job.specs.Compared.{job_in};
+ghost use Rattle.xr_run.specs.Prepared.{PreparedAlone, answer_of};
+ghost use Rattle.xr_words.specs.Words.{blame_values};
+ghost use Rattle.xr_cli.specs.Listed.{ListsBlame};
+ghost use Rattle.xr_cli.specs.Phases.{blamed_phases, walk_blamed};
+ghost use Rattle.xr_cli.specs.Repair.{FitsParts, IsWaveOf};
+
+use crate::cause::Refused;
+use crate::checked::ready_with;
+use crate::judged::compared;
+use crate::parts::Parts;
+use crate::walked::wave_of;
+use std::alloc::Global;
+use xr_base::Memory;
+use xr_code::read_times;
+use xr_design::History;
+use xr_listing::blame_text;
+use xr_run::{Ready, Refusal, Report};
+use xr_shelf::Sink;
+use xr_wave::Wave;
+use xr_words::BlameWords;
+
+/// What the words ask of a job. The sink is told how far the walk has come.
+pub fn blamed<'a, O: Sink>(
+    alloc: Global,
+    words: &BlameWords<'a>,
+    job: &Parts,
+    out: &mut O,
+) -> Result<Ready<'a>, Refusal<Refused>>
+    requires fits { FitsParts job.now }
+    ensures prepared { PreparedAlone (blamed_phases (blame_values words.now) job.now.netlist job.now.recorded)
+        answer_of result }
+    ensures out { O.view out.new ≡ O.view out.old }
+{
+    let history = compared(alloc, &job.netlist, &job.recorded)?;
+    walked(alloc, words, job, &history, out)
+}
+
+/// The walk over the places of a job that agrees, and what is to blame.
+fn walked<'a, O: Sink>(
+    alloc: Global,
+    words: &BlameWords<'a>,
+    job: &Parts,
+    history: &History,
+    out: &mut O,
+) -> Result<Ready<'a>, Refusal<Refused>>
+    requires fits { FitsParts job.now }
+    requires replay { IsReplay (job_in job.now.netlist job.now.recorded) history.now }
+    ensures prepared { PreparedAlone (walk_blamed (blame_values words.now) job.now.netlist job.now.recorded)
+        answer_of result }
+    ensures out { O.view out.new ≡ O.view out.old }
+{
+    let conflicts = words.conflicts;
+    let wave = wave_of(alloc, &job.netlist, &job.recorded, history, conflicts, out)?;
+    // With these come the facts that the times are numbers of 64 bits, and that a history shows what the wave has.
+    read_times(&job.recorded.stim);
+    let _shown = wave.history(alloc)?;
+    Ok(listed(alloc, job, &wave)?)
+}
+
+/// What is to blame for the unknown bits of a finished wave of a job.
+fn listed<'a>(alloc: Global, job: &Parts, wave: &Wave<'_>) -> Result<Ready<'a>, Memory>
+    requires fits { FitsParts job.now }
+    requires wave { IsWaveOf job.now.netlist job.now.recorded wave.now }
+    ensures { IfOk result (λ ready. ListsBlame job.now.recorded.binding.bound wave.now (answer_of ready)) }
+{
+    let text = blame_text(alloc, wave, &job.recorded.binding)?;
+    Ok(ready_with(alloc, Report::new(alloc, text)?))
+}

@@ -1,0 +1,59 @@
+//! The repair of a job, and what is written of it for other solvers.
+
+ghost use Rattle.std.specs.Prelude.{◌≡◌};
+ghost use Rattle.xr_design.specs.Handed.{IsReplay};
+ghost use Rattle.xr_job.specs.Compared.{job_in};
+ghost use Rattle.xr_run.specs.Prepared.{PreparedAlone, answer_of};
+ghost use Rattle.xr_words.specs.Words.{export_values};
+ghost use Rattle.xr_cli.specs.Phases.{exported_phases, walk_exported};
+ghost use Rattle.xr_cli.specs.Repair.{FitsParts};
+
+use crate::cause::Refused;
+use crate::judged::compared;
+use crate::parts::Parts;
+use crate::walked::wave_of;
+use std::alloc::Global;
+use xr_code::read_times;
+use xr_design::History;
+use xr_export::export_texts;
+use xr_run::{Ready, Refusal};
+use xr_shelf::Sink;
+use xr_words::ExportWords;
+
+/// What the words ask of a job. The sink is told how far the walk has come.
+pub fn exported<'a, O: Sink>(
+    alloc: Global,
+    words: &ExportWords<'a>,
+    job: &Parts,
+    out: &mut O,
+) -> Result<Ready<'a>, Refusal<Refused>>
+    requires fits { FitsParts job.now }
+    ensures prepared { PreparedAlone (exported_phases (export_values words.now) job.now.netlist job.now.recorded)
+        answer_of result }
+    ensures out { O.view out.new ≡ O.view out.old }
+{
+    let history = compared(alloc, &job.netlist, &job.recorded)?;
+    walked(alloc, words, job, &history, out)
+}
+
+/// The walk over the places of a job that agrees, and its texts.
+fn walked<'a, O: Sink>(
+    alloc: Global,
+    words: &ExportWords<'a>,
+    job: &Parts,
+    history: &History,
+    out: &mut O,
+) -> Result<Ready<'a>, Refusal<Refused>>
+    requires fits { FitsParts job.now }
+    requires replay { IsReplay (job_in job.now.netlist job.now.recorded) history.now }
+    ensures prepared { PreparedAlone (walk_exported (export_values words.now) job.now.netlist job.now.recorded)
+        answer_of result }
+    ensures out { O.view out.new ≡ O.view out.old }
+{
+    let conflicts = words.conflicts;
+    let wave = wave_of(alloc, &job.netlist, &job.recorded, history, conflicts, out)?;
+    // With these come the facts that the times are numbers of 64 bits, and that a history shows what the wave has.
+    read_times(&job.recorded.stim);
+    let _shown = wave.history(alloc)?;
+    Ok(export_texts(alloc, words.prefix, &wave)?)
+}

@@ -1,0 +1,3 @@
+-- Definitions of what is printed of a wave.
+pub mod Places
+pub mod Blame

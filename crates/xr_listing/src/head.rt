@@ -1,0 +1,27 @@
+//! The first line.
+
+ghost use Rattle.std.specs.Prelude.{◌≡◌, ◌++◌, OnOk};
+ghost use Rattle.xr_listing.specs.Blame as spec;
+
+use xr_base::{Memory, put, put_number};
+use xr_report::counts_of;
+use xr_wave::Wave;
+
+// head = "blame bits " number " sources " number " undecided " number
+pub fn put_head(
+    text: &mut Vec<u8>,
+    wave: &Wave<'_>,
+    bits: usize,
+    sources: usize,
+) -> Result<(), Memory>
+    ensures { OnOk result (text.new.items ≡ text.old.items ++ spec.head_line wave.now bits sources) }
+{
+    let undecided = counts_of(wave).undecided;
+    put(text, b"blame bits ")?;
+    put_number(text, bits as u64)?;
+    put(text, b" sources ")?;
+    put_number(text, sources as u64)?;
+    put(text, b" undecided ")?;
+    put_number(text, u64::from(undecided))?;
+    put(text, b"\n")
+}

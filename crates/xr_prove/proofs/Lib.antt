@@ -1,0 +1,2 @@
+-- Lemmas of proofs by their texts.
+pub mod OneProof

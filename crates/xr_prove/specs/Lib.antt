@@ -1,0 +1,2 @@
+-- Definitions of proofs by their texts.
+pub mod Proof
