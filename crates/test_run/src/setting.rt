@@ -1,7 +1,8 @@
 //! The files and the sink that a run meets, and what it leaves.
 //!
 //! `put NAME TEXT` is a file without a newline at its end, `< NAME` one of the lines beneath, and `grow NAME 1000 TEXT`
-//! puts a text so many times after a file. `fail shelf 7` and `fail sink 1` let a call fail, and `pieces 5` is the most bytes that a call moves; without it they are 4,096.
+//! puts a text so many times after a file. `fail shelf 7` and `fail sink 1` let a call fail, and `pieces 5` is the most
+//! bytes that a call moves; without it they are 4,096.
 
 use crate::given::{Case, text_of};
 use std::alloc::{AllocError, Global};

@@ -2,16 +2,29 @@
 
 use std::alloc::{AllocError, Global};
 
-/// The words of a line; those of the line `no words` are none.
+/// The words of a line, in which `␣` stands for a blank within a word; those of the line `no words` are none.
 pub fn words_of(alloc: Global, line: &str) -> Result<Vec<String>, AllocError> {
     let mut words = Vec::new(alloc);
     if line == "no words" {
         return Ok(words);
     }
     for word in line.split(' ') {
-        words.push(String::from_str(alloc, word)?)?;
+        words.push(word_in(alloc, word)?)?;
     }
     Ok(words)
+}
+
+fn word_in(alloc: Global, text: &str) -> Result<String, AllocError> {
+    let mut word = String::new(alloc);
+    let mut begun = false;
+    for part in text.split('␣') {
+        if begun {
+            word.push(' ')?;
+        }
+        word.push_str(part)?;
+        begun = true;
+    }
+    Ok(word)
 }
 
 /// The words of another command for the job of a line: this beginning, then what stands behind the line's command, without
@@ -27,7 +40,7 @@ pub fn words_instead(
     for word in line.split(' ').skip(1) {
         let is_option = options.iter().any(|option| *option == word);
         if !drops && !is_option {
-            words.push(String::from_str(alloc, word)?)?;
+            words.push(word_in(alloc, word)?)?;
         }
         drops = is_option;
     }

@@ -9,4 +9,6 @@ mod designs;
 #[cfg(test)]
 mod job;
 #[cfg(test)]
+mod lanes;
+#[cfg(test)]
 mod waves;

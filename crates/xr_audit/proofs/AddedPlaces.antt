@@ -4,7 +4,7 @@ use Rattle.xr_design.specs.History.{HistoryView}
 use Rattle.xr_design.specs.declared.place.Place.{Place}
 use Rattle.xr_wave.specs.Contents.{Contents}
 use Rattle.xr_audit.specs.Found.{Adds, AreFound, IsFound, listed_if}
-use Rattle.xr_audit.specs.declared.audit.Found.{Found}
+use Rattle.xr_audit.specs.declared.found.Found.{Found}
 
 pub one_added : (c : Contents) (replay : HistoryView) (old : List Found) (place : Place) (found : Found)
     → IsFound c replay place found → Adds c replay old (place ∷ []) (old ++ found ∷ [])

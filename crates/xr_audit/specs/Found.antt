@@ -1,17 +1,20 @@
 -- What an audit tells.
-use Rattle.std.specs.Prelude.{◌≡◌, ◌↔◌, ℕ, zero, suc, ◌+◌, Bool, List, [], ◌∷◌, ◌++◌, IfSome, IsSome, if◌then◌else◌}
+use Rattle.std.specs.Prelude.{◌≡◌, ◌↔◌, ℕ, zero, suc, ◌+◌, Bool, true, List, [], ◌∷◌, ◌++◌, IfSome, IsSome, if◌then◌else◌}
 use Rattle.xr_design.specs.declared.place.Place.{Place}
-use Rattle.xr_design.specs.Fits.{place_at}
+use Rattle.xr_design.specs.Filling.{IsPlace}
+use Rattle.xr_design.specs.Fits.{IsPlain, place_at}
 use Rattle.xr_design.specs.History.{HistoryView}
+use Rattle.xr_design.specs.Job.{Job}
 use Rattle.xr_design.specs.Waveform.{certain_by}
 use Rattle.xr_report.specs.Counts.{one_if}
 use Rattle.xr_wave.specs.Contents.{Contents, job, written_of}
 use Rattle.xr_wave.specs.Pairs.{GiveBoth, IsUnknown}
 use Rattle.xr_audit.specs.Listed.{is_listed, is_open, is_origin, replayed_at}
-use Rattle.xr_audit.specs.declared.audit.Found.{Found}
+use Rattle.xr_audit.specs.Row.{IsRowTold}
+use Rattle.xr_audit.specs.declared.found.Found.{Found}
 
 -- A listed place is told with what the replay shows and what is found there, x where it is unknown, and then with two
--- fillings that give both bits.
+-- fillings that give both bits; an origin with its row.
 pub record IsFound (c : Contents) (replay : HistoryView) (place : Place) (found : Found) : Type 0 where
   pub place_is : found.place ≡ place
   pub replayed_is : found.replayed ≡ replayed_at replay place
@@ -19,6 +22,7 @@ pub record IsFound (c : Contents) (replay : HistoryView) (place : Place) (found 
   pub has_pair : IsSome found.pair ↔ IsUnknown c place
   pub pair : IfSome found.pair (GiveBoth c place)
   pub origin : found.origin ≡ is_origin c replay place
+  pub row : IsRowTold found.origin (job c) replay place found.row
 
 -- Each of some places is told, in order, and nothing else is.
 abbrev pub AreFound : Contents → HistoryView → List Place → List Found → Type 0
@@ -44,3 +48,11 @@ open_below c replay (suc n) = open_below c replay n + one_if (is_open c replay (
 abbrev pub Adds : Contents → HistoryView → List Found → List Place → List Found → Type 0
 Adds c replay old places new =
     (before : List Place) → AreFound c replay before old → AreFound c replay (before ++ places) new
+
+-- An origin is driven by a primitive.
+abbrev pub IsDriven : Job → Found → Type 0
+IsDriven j found = found.origin ≡ true → IsPlain (j.driver found.place.net) → ⊥
+
+-- It is told of a place of the job.
+abbrev pub HasPlace : Job → Found → Type 0
+HasPlace j found = IsPlace j found.place

@@ -41,23 +41,23 @@ abbrev pub is_open : Contents → HistoryView → Place → Bool
 is_open c replay place = leaves_open (written_of c place).mark (replayed_at replay place)
 
 -- The places whose values the replay reads for a place: those of a copy's argument and of a cell's nets in its step;
--- those of a register's nets two steps back and one, and its own one step back.
+-- those of a register's nets two steps back and one, and its own one step back, whatever its clock pins are.
 abbrev pub place_in : ℕ → ℕ → Place
 place_in step net = record { step = step; net = net }
 
 abbrev pub places_in : ℕ → List Pin → List Place
 places_in step pins = map (place_in step) (net_pins pins)
 
-abbrev pub places_back : List Pin → Option ℕ → List Place
-places_back pins None = []
-places_back pins (Some step) = places_in step pins
+abbrev pub places_earlier : List Pin → Option ℕ → List Place
+places_earlier pins None = []
+places_earlier pins (Some step) = places_in step pins
 
-abbrev pub old_places : Job → ℕ → List Pin → List Place
-old_places j step pins = places_back pins (two_back j step)
+abbrev pub earlier_places : Job → ℕ → List Pin → List Place
+earlier_places j step pins = places_earlier pins (two_back j step)
 
-abbrev pub register_arguments : Job → Place → Latching → List Place
-register_arguments j place latching = if place.step == 0 then [] else
-    old_places j place.step latching.pins
+abbrev pub register_reads : Job → Place → Latching → List Place
+register_reads j place latching = if place.step == 0 then [] else
+    earlier_places j place.step latching.pins
     ++ (places_in (place.step - 1) latching.pins ++ place_in (place.step - 1) place.net ∷ [])
 
 abbrev pub replay_arguments_of : Job → Place → Driver → List Place
@@ -66,7 +66,7 @@ replay_arguments_of j place Undriven = []
 replay_arguments_of j place (Constant bit) = []
 replay_arguments_of j place (Copy argument) = place_in place.step argument ∷ []
 replay_arguments_of j place (Cell table pins) = places_in place.step pins
-replay_arguments_of j place (Register latching) = register_arguments j place latching
+replay_arguments_of j place (Register latching) = register_reads j place latching
 
 abbrev pub replay_arguments : Job → Place → List Place
 replay_arguments j place = replay_arguments_of j place (j.driver place.net)

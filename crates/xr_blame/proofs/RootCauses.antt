@@ -1,6 +1,7 @@
 -- What is to blame for a root is to blame for its place.
 use Rattle.std.proofs.Common.{◌≡◌, ◌≢◌, ℕ, ◌+◌, ◌<◌, ◌≤◌, ◌==◌, ◌||◌, Option, Bool, true, false, List, [], ◌∷◌, refl, sym, ap, ◌∙◌, subst, arith, ⊎_elim}
 use Rattle.std.proofs.lemmas.Bool.{cases_eq, cases_lt, eq-eqb, ne_eqb, lt-ltb, le-ltb}
+use Rattle.xr_cell.specs.Value.{is_unknown}
 use Rattle.xr_cell.specs.declared.value.Value.{Value}
 use Rattle.xr_design.specs.declared.place.Place.{Place}
 use Rattle.xr_design.specs.declared.waveform.Mark.{Mark}
@@ -9,7 +10,7 @@ use Rattle.xr_design.specs.declared.waveform.Written.{Written}
 use Rattle.xr_design.specs.Filling.{IsFilling, IsPlace, bit_of}
 use Rattle.xr_design.specs.Fits.{place_at}
 use Rattle.xr_design.specs.Job.{Job, number_of, places_of}
-use Rattle.xr_design.specs.Waveform.{certain, written_at}
+use Rattle.xr_design.specs.Waveform.{certain, certain_by, written_at}
 use Rattle.xr_design.proofs.Exact.{empty_filling}
 use Rattle.xr_design.proofs.Numbers.{number_of_place_at}
 use Rattle.std.specs.Map.{lookup}
@@ -28,12 +29,24 @@ use Rattle.xr_wave.specs.Contents.{Contents, IsWave, IsWritten, class_in, job, s
 use Rattle.xr_wave.specs.Pairs.{GiveBoth, IsRootOf, IsUnknown, root_in}
 use Rattle.xr_blame.specs.Joined.{IsJoined, joined_bit, stands_below, stands_from}
 use Rattle.xr_blame.specs.Causes.{AreFound, Follows}
+use Rattle.xr_blame.specs.Halves.{LeadsAcross}
 use Rattle.xr_blame.specs.declared.halves.Cause.{Cause}
 use Rattle.xr_blame.specs.ToBlame.{IsToBlame, bit_in}
 use Rattle.xr_blame.proofs.Joins.{are_joined}
 use Rattle.xr_blame.proofs.Turns.{same_bits}
 use Rattle.std.proofs.Common.{◌++◌, Bor, None, Some, cond, filter}
 use Rattle.std.specs.Prelude.{option_copied}
+
+-- An unknown place has no certain value.
+open_by : (mark : Mark) (value : Value) → mark ≡ Unknown → is_unknown (certain_by mark value) ≡ true
+open_by Certain value is = cc
+open_by Unknown value is = refl
+open_by Undecided value is = refl
+
+pub unknown_open : (written : List Written) (number : ℕ) → (written_at written number).mark ≡ Unknown
+    → is_unknown (certain written number) ≡ true
+unfolding certain
+unknown_open written number is = open_by (written_at written number).mark (written_at written number).value is
 
 alone : (j : Job) (place : Place) → IsPlace j place → IsFilling j (place ∷ [])
 alone j place is = record { places = (is, tt); ascending = λ k less. absurd (omega arith) }
@@ -180,6 +193,17 @@ module _ (c : Contents) (wave : IsWave c) (place : Place) (root : Place × Bool)
   pair_differs fillings both =
       differ_at_root c (number_of (job c) place) (number_of (job c) root.0) root.1 fillings.0 fillings.1 root_follows
       both.zero_filling both.one_filling (λ same. (let e = sym both.gives_zero ∙ same ∙ both.gives_one in cc))
+
+  -- So they lead across there.
+  pub pair_leads : (fillings : List Place × List Place) → GiveBoth c place fillings
+      → LeadsAcross c (number_of (job c) root.0) fillings.0 fillings.1
+  pair_leads fillings both = record {
+    wave = wave;
+    within = (let low = is.written.written in let up = wave.holds.sound.within in omega (arith, low, up));
+    zero_filling = both.zero_filling;
+    one_filling = both.one_filling;
+    differ = pair_differs fillings both;
+  }
 
 -- ---- what was found
 

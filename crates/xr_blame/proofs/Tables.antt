@@ -1,7 +1,7 @@
 -- The counts of the sources, sorted, are the table.
 use Rattle.std.proofs.Common.{◌≡◌, ◌≢◌, ◌⊎◌, ℕ, zero, suc, ◌+◌, ◌<◌, ◌≤◌, ◌==◌, Bool, true, false, List, [], ◌∷◌, All, length, map, get_or, if◌then◌else◌, nat_lt, refl, sym, ap, ◌∙◌, subst, arith, inl, inr, ⊎_elim}
 use Rattle.std.specs.Prelude.{count_by, sum_by}
-use Rattle.std.specs.List.{AllAdjacentBelow}
+use Rattle.std.specs.List.{AllAdjacentBelow, AllByRecursion}
 use Rattle.std.specs.List.Sorted.{IsPermutation, IsSorted}
 use Rattle.std.specs.Ordering.{is_lt, nat_cmp, ordering_then}
 use Rattle.std.proofs.Common.{Ordering}
@@ -16,7 +16,7 @@ use Rattle.xr_design.specs.Filling.{IsPlace}
 use Rattle.xr_design.specs.Fits.{Fits, place_at}
 use Rattle.xr_design.specs.Job.{Job, number_of, places_of}
 use Rattle.xr_design.proofs.Handed.{number_within}
-use Rattle.xr_design.proofs.Numbers.{number_of_place_at}
+use Rattle.xr_design.proofs.Numbers.{is_place_at, number_of_place_at}
 use Rattle.xr_report.specs.Counts.{one_if}
 use Rattle.xr_blame.specs.Table.{ComesBefore, IsTable, Row, bits_of}
 use Rattle.xr_blame.specs.Tally.{Counted, IsTally, count_in, row_at, rows_for}
@@ -139,6 +139,14 @@ rows_placed j fits (r ∷ rows) n within =
     ∙ ap (λ (m : ℕ). (if m == n then 1 else 0) + rows_of_numbers j rows n) here
     ∙ ap (λ (k : ℕ). (if r.1 == n then 1 else 0) + k) rest ∙ sym (one_row rows r n)
 
+places_there : (j : Job) → Fits j → (rows : List Counted) → All (λ (row : Counted). row.1 < places_of j) rows
+    → AllByRecursion (λ (row : Row). IsPlace j row.0) (map (row_at j) rows)
+places_there j fits [] within = tt
+places_there j fits (r ∷ rows) within = (
+  is_place_at j r.1 fits.ordering fits.all (All-head (λ (row : Counted). row.1 < places_of j) r rows within),
+  places_there j fits rows (All-tail (λ (row : Counted). row.1 < places_of j) r rows within),
+)
+
 at_most_one : (k : ℕ) (b : Bool) → k ≡ one_if b → k ≤ 1
 at_most_one k true is = omega (arith, is)
 at_most_one k false is = omega (arith, is)
@@ -170,6 +178,7 @@ module _ (j : Job) (fits : Fits j) (bits : List Blamed) (orig xs : List ℕ) (co
 
     pub table_is : IsSorted compared rows → IsTable j bits (map (row_at j) rows)
     table_is order = record {
+      places = places_there j fits rows rows_within;
       numbers = All-map (λ (row : Row). row.1 ≡ bits_of j bits row.0) (row_at j) rows
           (λ k d less. (let row = get_or rows k d in
           let counts = All-permutation (λ (r : Counted). r.0.0 ≡ count_in xs r.1) counted rows sorted tally.counts k d less in

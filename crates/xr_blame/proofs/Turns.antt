@@ -12,7 +12,6 @@ use Rattle.xr_design.specs.Waveform.{certain}
 use Rattle.xr_design.proofs.Worlds.{world_bit_local}
 use Rattle.xr_wave.specs.Contents.{Contents, IsWave, job}
 use Rattle.xr_blame.specs.Halves.{AreListed, IsQuiet, IsTurn, LeadsAcross, halfway}
-use Rattle.xr_cone_nodes.specs.declared.node.Node.{Node}
 use Rattle.xr_blame.specs.Joined.{IsJoined, joined_bit}
 use Rattle.xr_blame.specs.ToBlame.{IsToBlame, bit_in}
 
@@ -75,7 +74,7 @@ cuts_same c wave zero one number low high within order quiet =
         (cases_lt k high))
         (cases_lt k low)
 
-same_read : (xs : List ℕ) (i d e : ℕ) → i < length xs → get_or xs i d ≡ get_or xs i e
+pub same_read : (xs : List ℕ) (i d e : ℕ) → i < length xs → get_or xs i d ≡ get_or xs i e
 same_read xs i d e less = get_or_default_zero xs i d less ∙ sym (get_or_default_zero xs i e less)
 
 pub read_at : (xs : List ℕ) (i e n : ℕ) → i < length xs → n ≡ get_or xs i n → get_or xs i e ≡ n
@@ -96,8 +95,8 @@ others_quiet j zero one numbers are i k up below above =
     (λ (low : n < i). (let h = below n low in omega (arith, h, same)))
     (λ (high : i ≤ n). (let h = above n high less in omega (arith, h, same))) (cases_lt n i)))
 
-module _ (c : Contents) (wave : IsWave c) (number : ℕ) (nodes : List Node) (zero one : List Place)
-    (leads : LeadsAcross c number nodes zero one) (numbers : List ℕ) (are : AreListed (job c) zero one numbers) where
+module _ (c : Contents) (wave : IsWave c) (number : ℕ) (zero one : List Place)
+    (leads : LeadsAcross c number zero one) (numbers : List ℕ) (are : AreListed (job c) zero one numbers) where
   abbrev end : ℕ
   end = places_of (job c)
 
@@ -117,7 +116,7 @@ module _ (c : Contents) (wave : IsWave c) (number : ℕ) (nodes : List Node) (ze
   cut_end i more = get_or-eq_default numbers end more
 
   within_end : number < end
-  within_end = leads.cone.reach.within
+  within_end = leads.within
 
   -- One is listed at least.
   pub some_listed : 0 < length numbers
@@ -174,6 +173,14 @@ module _ (c : Contents) (wave : IsWave c) (number : ℕ) (nodes : List Node) (ze
           let h = rising i (i + 1) (omega arith) more in omega (arith, there, h, same)))
           (λ (last : length numbers ≤ i + 1). (let there = cut_end (i + 1) last in
           let h = low_within i less in absurd (omega (arith, there, h, same)))) (cases_lt (i + 1) (length numbers))
+
+  -- Where one alone is listed, the bit turns there.
+  pub one_turns : length numbers ≤ 1 → IsTurn c zero one number (get_or numbers 0 0)
+  one_turns few =
+      let some = some_listed in
+      let long : length numbers ≡ 0 + 1 = omega (arith, some, few) in
+      cuts_turn 0 (halfway c zero one number 0) some (sym cuts_begin)
+      (ap (λ (n : ℕ). halfway c zero one number (cut n)) (sym long) ∙ cuts_end)
 
 -- The bits of a cut, and of the next one, are those of the filling without the cut's place, or with it.
 below_cut : (j : Job) (zero one : List Place) (cut below from k : ℕ) → cut ≤ below → k < cut

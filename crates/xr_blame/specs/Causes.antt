@@ -5,8 +5,9 @@ use Rattle.xr_design.specs.declared.place.Place.{Place}
 use Rattle.xr_design.specs.Filling.{IsFilling, bit_of}
 use Rattle.xr_model.specs.Class.{flipped}
 use Rattle.xr_wave.specs.Contents.{Contents, job}
-use Rattle.xr_cone.specs.Known.{IsRightOf, TracerView}
+use Rattle.xr_cone.specs.Cones.{AreRightOf}
 use Rattle.xr_blame.specs.ToBlame.{IsToBlame, bit_in}
+use Rattle.xr_blame.specs.declared.causes.Causes.{Causes as ACauses}
 use Rattle.xr_blame.specs.declared.halves.Cause.{Cause}
 
 -- In the world of every filling a place has the bit of another, or its complement where the way to it inverts.
@@ -21,7 +22,7 @@ IsFound c entry = IsToBlame c entry.0 entry.1.source entry.1.others
 abbrev pub AreFound : Contents → List (ℕ × Cause) → Type 0
 AreFound c entries = AllByRecursion (IsFound c) entries
 
--- So does each of these entries, and what is known of places is right.
-pub record AreCauses (c : Contents) (entries : List (ℕ × Cause)) (tracer : TracerView) : Type 0 where
-  pub found : AreFound c entries
-  pub right : IsRightOf c tracer
+-- Each entry stands so, and what helps to find cones is right of the wave.
+pub record AreCauses (c : Contents) (causes : ACauses) : Type 0 where
+  pub found : AreFound c causes.found.entries
+  pub right : AreRightOf c causes.cones

@@ -1,22 +1,22 @@
 -- The way between two fillings, halved.
 use Rattle.std.specs.Prelude.{◌≡◌, ◌≢◌, ℕ, ◌+◌, ◌<◌, Bool, false, List, All, not}
 use Rattle.std.specs.List.Sorted.{IsNonDecreasing}
-use Rattle.xr_cone_nodes.specs.declared.node.Node.{Node}
-use Rattle.xr_cone_nodes.specs.Traced.{IsConeOf}
 use Rattle.xr_design.specs.declared.place.Place.{Place}
 use Rattle.xr_design.specs.Filling.{IsFilling, bit_of}
 use Rattle.xr_design.specs.Job.{Job, places_of}
-use Rattle.xr_wave.specs.Contents.{Contents, job}
+use Rattle.xr_wave.specs.Contents.{Contents, IsWave, job}
 use Rattle.xr_blame.specs.Joined.{joined_bit}
 use Rattle.xr_blame.specs.ToBlame.{bit_in}
+use Rattle.xr_blame.specs.declared.halves.Way.{Way}
 
 -- The bit of the place of a number where one filling holds below a number and another from it on.
 abbrev pub halfway : Contents → List Place → List Place → ℕ → ℕ → Bool
 halfway c zero one number cut = bit_in c (joined_bit (job c) one cut zero cut) number
 
--- Nodes are the cone of the place of a number, to which two fillings give two bits.
-pub record LeadsAcross (c : Contents) (number : ℕ) (nodes : List Node) (zero one : List Place) : Type 0 where
-  pub cone : IsConeOf c number nodes
+-- Two fillings give the place of a number two bits.
+pub record LeadsAcross (c : Contents) (number : ℕ) (zero one : List Place) : Type 0 where
+  pub wave : IsWave c
+  pub within : number < places_of (job c)
   pub zero_filling : IsFilling (job c) zero
   pub one_filling : IsFilling (job c) one
   pub differ : bit_in c (bit_of (job c) zero) number ≢ bit_in c (bit_of (job c) one) number
@@ -36,3 +36,15 @@ pub record AreListed (j : Job) (zero one : List Place) (numbers : List ℕ) : Ty
   pub within : All (λ number. number < places_of j) numbers
   pub ascending : IsNonDecreasing numbers
   pub others : (k : ℕ) → All (λ number. number ≢ k) numbers → IsQuiet j zero one k
+
+-- So does a way.
+abbrev pub IsWay : Way → Type 0
+IsWay way = LeadsAcross way.wave.now way.number way.zero.now way.one.now
+
+-- At a cut the bit turns on a way.
+abbrev pub TurnsAt : Way → ℕ → Type 0
+TurnsAt way cut = IsTurn way.wave.now way.zero.now way.one.now way.number cut
+
+-- Numbers are those of the places that its fillings list.
+abbrev pub AreAlong : Way → List ℕ → Type 0
+AreAlong way numbers = AreListed (job way.wave.now) way.zero.now way.one.now numbers

@@ -1,7 +1,8 @@
 -- How many bits each source is to blame for.
 use Rattle.std.specs.Prelude.{◌≡◌, ◌⊎◌, ℕ, ◌<◌, ◌==◌, List, All, count_by, length, map, nat_lt, sum_by}
-use Rattle.std.specs.List.{AllAdjacentBelow}
+use Rattle.std.specs.List.{AllAdjacentBelow, AllByRecursion}
 use Rattle.xr_design.specs.declared.place.Place.{Place}
+use Rattle.xr_design.specs.Filling.{IsPlace}
 use Rattle.xr_design.specs.Job.{Job, number_of}
 use Rattle.xr_report.specs.Counts.{one_if}
 use Rattle.xr_blame.specs.declared.bits.Blamed.{Blamed}
@@ -28,6 +29,7 @@ ComesBefore j row other =
 -- Each place that is the source of bits has one row, and no other has one. The greatest number comes first, then the
 -- place order decides. The numbers add up to that of all bits.
 pub record IsTable (j : Job) (bits : List Blamed) (table : List Row) : Type 0 where
+  pub places : AllByRecursion (λ (row : Row). IsPlace j row.0) table
   pub numbers : All (λ (row : Row). row.1 ≡ bits_of j bits row.0) table
   pub rows : (place : Place) → rows_of j table place ≡ one_if (nat_lt 0 (bits_of j bits place))
   pub order : AllAdjacentBelow (ComesBefore j) table (length table)

@@ -5,6 +5,7 @@ ghost use Rattle.xr_design.specs.Job.{number_of};
 ghost use Rattle.xr_match.specs.Binding.{FitsBinding};
 ghost use Rattle.xr_wave.specs.Contents.{IsFinished, job};
 ghost use Rattle.xr_blame.specs.Blamed.{AddsBit, AreBlamed, HasBit, bit_place, is_unknown_bit, unknown_bits};
+ghost use Rattle.xr_blame.specs.Causes.{AreCauses};
 
 use crate::causes::Causes;
 use std::alloc::Global;
@@ -36,7 +37,7 @@ pub fn blame_bits(alloc: Global, wave: &Wave<'_>, bound: &Binding) -> Result<Vec
 {
     // With it comes the fact that the wave is sound.
     let _count = wave.count();
-    let mut causes = Causes::new(alloc, wave);
+    let mut causes = Causes::new(alloc)?;
     let mut blamed = Vec::new(alloc);
     let mut bits = BoundBits::new(wave.stim(), bound.bound.as_slice());
     'bits: while let Some(bit) = bits.next() {
@@ -50,18 +51,18 @@ fn add_bit(
     alloc: Global,
     blamed: &mut Vec<Blamed>,
     wave: &Wave<'_>,
-    causes: &mut Causes<'_, '_>,
+    causes: &mut Causes,
     bit: BoundBit,
 ) -> Result<(), Memory>
     requires bit { HasBit wave.now bit }
-    requires causes { causes.old ≡ wave.now }
+    requires causes { AreCauses wave.now causes.old }
     ensures added { OnOk result (AddsBit wave.now bit blamed.old.items blamed.new.items) }
-    ensures same { OnOk result (causes.new ≡ wave.now) }
+    ensures causes { OnOk result (AreCauses wave.now causes.new) }
 {
     let place = bit_place(wave.stim(), bit);
     match wave.mark(place) {
         Mark::Unknown => {
-            let cause = causes.find(alloc, place)?;
+            let cause = causes.find(alloc, wave, place)?;
             blamed.push(Blamed {
                 variable: bit.variable,
                 bit: bit.bit,

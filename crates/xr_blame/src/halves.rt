@@ -1,13 +1,13 @@
 //! The way from one filling of a place to another, halved until they differ in one place: as many values of a cone as
-//! the number of places that the two list has binary digits, and one more.
+//! the number of places that the two list has binary digits, and one more; none where they list one place alone.
 
-ghost use Rattle.std.specs.Prelude.{◌≡◌, ◌≤◌, ◌++◌, IfOk, OnOk, map};
+ghost use Rattle.std.specs.Prelude.{◌≡◌, ◌≤◌, ◌++◌, IfOk, OnOk, length, map};
 ghost use Rattle.std.specs.List.{AllByRecursion};
+ghost use Rattle.xr_cone_nodes.specs.Traced.{IsConeOf};
 ghost use Rattle.xr_design.specs.Circuit.{CircuitFits, job_in};
 ghost use Rattle.xr_design.specs.Filling.{IsPlace};
-ghost use Rattle.xr_design.specs.Job.{number_of, places_of};
-ghost use Rattle.xr_wave.specs.Contents.{job};
-ghost use Rattle.xr_blame.specs.Halves.{AreListed, IsTurn, LeadsAcross, halfway};
+ghost use Rattle.xr_design.specs.Job.{number_of};
+ghost use Rattle.xr_blame.specs.Halves.{AreAlong, IsWay, TurnsAt, halfway};
 ghost use Rattle.xr_blame.specs.ToBlame.{IsToBlame};
 
 use crate::join::join;
@@ -17,12 +17,11 @@ use xr_cone_nodes::Cone;
 use xr_design::{Circuit, Filling, Place};
 use xr_wave::Wave;
 
-/// The cone of a place of a wave, by its number, and two fillings that give it two bits.
+/// A place of a wave, by its number, and two fillings that give it two bits.
 #[derive(Clone, Copy)]
 pub struct Way<'w, 'a> {
     pub wave: &'w Wave<'a>,
     pub number: usize,
-    pub cone: &'w Cone,
     pub zero: &'w [Place],
     pub one: &'w [Place],
 }
@@ -46,14 +45,14 @@ impl Cause {
     }
 }
 
-/// What is to blame for the place. Takes 24 bytes for each place of both fillings, and the memory of a value of the
-/// cone.
-pub fn halve(alloc: Global, way: &Way<'_, '_>) -> Result<Cause, Memory>
-    requires { LeadsAcross way.now.wave.now way.now.number way.now.cone.now.nodes way.now.zero.now way.now.one.now }
+/// What is to blame for the place, where the bit turns at the place of a number. Takes eight bytes for each place that
+/// the fillings list.
+pub fn cause_at(alloc: Global, way: &Way<'_, '_>, cut: usize) -> Result<Cause, Memory>
+    requires way { IsWay way.now }
+    requires turn { TurnsAt way.now cut }
     ensures { IfOk result (λ cause. IsToBlame way.now.wave.now way.now.number cause.source cause.others) }
 {
     let circuit = way.wave.circuit();
-    let cut = find_turn(alloc, way)?;
     let others = join(alloc, &circuit, way.one, cut, way.zero, cut + 1)?;
     Ok(Cause {
         source: circuit.place_of(cut),
@@ -61,18 +60,25 @@ pub fn halve(alloc: Global, way: &Way<'_, '_>) -> Result<Cause, Memory>
     })
 }
 
-/// The number of a place on the way before which the place has one bit, and behind which it has the other.
-fn find_turn(alloc: Global, way: &Way<'_, '_>) -> Result<usize, Memory>
-    requires { LeadsAcross way.now.wave.now way.now.number way.now.cone.now.nodes way.now.zero.now way.now.one.now }
-    ensures { IfOk result (IsTurn way.now.wave.now way.now.zero.now way.now.one.now way.now.number) }
+/// The number of a place on the way before which the place has one bit, and behind which it has the other, by the cone
+/// of the place. Takes 8 bytes for each place that the fillings list, and the memory of a value of the cone.
+pub fn find_turn(
+    alloc: Global,
+    way: &Way<'_, '_>,
+    cone: &Cone,
+    listed: &[usize],
+) -> Result<usize, Memory>
+    requires way { IsWay way.now }
+    requires cone { IsConeOf way.now.wave.now way.now.number cone.now.nodes }
+    requires listed { AreAlong way.now listed.now }
+    ensures { IfOk result (TurnsAt way.now) }
 {
-    let listed = listed_numbers(alloc, way)?;
-    let first = value_at(alloc, way, 0)?;
+    let first = value_at(alloc, way, cone, 0)?;
     let mut low = 0;
     let mut high = listed.len();
     'halves: while high - low > 1 {
         let middle = low + (high - low) / 2;
-        if value_at(alloc, way, listed[middle])? == first {
+        if value_at(alloc, way, cone, listed[middle])? == first {
             low = middle;
         } else {
             high = middle;
@@ -82,19 +88,30 @@ fn find_turn(alloc: Global, way: &Way<'_, '_>) -> Result<usize, Memory>
 }
 
 /// The bit of the place where the second filling holds below a number and the first from it on.
-fn value_at(alloc: Global, way: &Way<'_, '_>, cut: usize) -> Result<bool, Memory>
-    requires { LeadsAcross way.now.wave.now way.now.number way.now.cone.now.nodes way.now.zero.now way.now.one.now }
+fn value_at(alloc: Global, way: &Way<'_, '_>, cone: &Cone, cut: usize) -> Result<bool, Memory>
+    requires way { IsWay way.now }
+    requires cone { IsConeOf way.now.wave.now way.now.number cone.now.nodes }
     ensures { IfOk result (λ bit. bit ≡ halfway way.now.wave.now way.now.zero.now way.now.one.now way.now.number cut) }
 {
     let circuit = way.wave.circuit();
     let filling = join(alloc, &circuit, way.one, cut, way.zero, cut)?;
-    way.cone.value(alloc, &filling)
+    cone.value(alloc, &filling)
 }
 
-/// The numbers of the places that the two fillings list, ascending.
-fn listed_numbers(alloc: Global, way: &Way<'_, '_>) -> Result<Vec<usize>, Memory>
-    requires { LeadsAcross way.now.wave.now way.now.number way.now.cone.now.nodes way.now.zero.now way.now.one.now }
-    ensures { IfOk result (λ numbers. AreListed (job way.now.wave.now) way.now.zero.now way.now.one.now numbers.items) }
+/// The number of the place at which the bit turns, where the fillings list one place alone.
+pub fn only_turn(way: &Way<'_, '_>, listed: &[usize]) -> usize
+    requires way { IsWay way.now }
+    requires listed { AreAlong way.now listed.now }
+    requires one { length listed.now ≤ 1 }
+    ensures { TurnsAt way.now result }
+{
+    listed[0]
+}
+
+/// The numbers of the places that the two fillings list, ascending. Takes 16 bytes for each.
+pub fn listed_numbers(alloc: Global, way: &Way<'_, '_>) -> Result<Vec<usize>, Memory>
+    requires { IsWay way.now }
+    ensures { IfOk result (λ numbers. AreAlong way.now numbers.items) }
 {
     let circuit = way.wave.circuit();
     let mut numbers = Vec::new(alloc);

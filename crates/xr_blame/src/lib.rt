@@ -8,6 +8,7 @@ mod blame;
 mod causes;
 mod halves;
 mod join;
+mod roots;
 mod table;
 
 pub use bits::Blamed;

@@ -1,5 +1,5 @@
 -- What each command finds says what is promised.
-use Rattle.std.proofs.Common.{◌≡◌, ◌∙◌, ℕ, List, [], ◌∷◌, length, IsTrue, Bool, Result, Ok, Err, inl, inr, refl, sym, ap, subst}
+use Rattle.std.proofs.Common.{◌≡◌, ◌∙◌, ℕ, List, [], ◌∷◌, length, IsTrue, Bool, Ok, inl, inr, refl, sym, ap, subst}
 use Rattle.std.specs.List.{AllByRecursion}
 use Rattle.xr_cert_text.specs.Wrong.{IsTextOf}
 use Rattle.xr_cert.proofs.Fitted.{checked_accepted}
@@ -22,61 +22,34 @@ use Rattle.xr_report.specs.Report.{report_text}
 use Rattle.xr_job.specs.Compared.{job_in}
 use Rattle.xr_job.specs.declared.netlist.Netlist.{Netlist as ANetlist}
 use Rattle.xr_job.specs.declared.recorded.Recorded.{Recorded}
-use Rattle.xr_run.specs.Phases.{Answer, ComesTo, Phases, text_held, ◌>>=◌}
+use Rattle.xr_run.specs.Phases.{Answer, ComesTo, text_held}
 use Rattle.xr_shelf.specs.Shelf.{Files}
 use Rattle.xr_wave.specs.Contents.{Contents, IsFinished, IsWave}
 use Rattle.xr_words.specs.Line.{IsScopeName}
-use Rattle.xr_words.specs.Words.{BlameValues, CheckValues, ExportValues, JobValues, Means, OfBlame, OfCheck, OfExport, OfMake, OfProve, OfRepair, OfReplay, ProveValues, RepairValues, ReplayValues, Values}
-use Rattle.xr_words.proofs.ScopeNames.{scope_named}
-use Rattle.xr_cli.specs.Answers.{Says, SaysBlame, SaysCheck, SaysExport, SaysProve, SaysRepair, SaysReplay, netlist_held, recording_held}
+use Rattle.xr_words.specs.Words.{BlameValues, CheckValues, ExportValues, Means, OfBlame, OfCheck, OfExport, OfFix, OfMake, OfProve, OfRepair, OfReplay, ProveValues, RepairValues, ReplayValues, Values, AuditValues, OfAudit}
+use Rattle.xr_words.proofs.ScopeNames.{scope_named, sets_named}
+use Rattle.xr_cli.specs.Answers.{Says, SaysBlame, SaysCheck, SaysExport, SaysProve, SaysRepair, SaysReplay, SaysAudit}
+use Rattle.xr_phases.specs.Texts.{netlist_held, recording_held, IsAgreed, IsJob}
 use Rattle.xr_cli.specs.Blames.{Blames}
-use Rattle.xr_cli.specs.Certificate.{IsCertified}
+use Rattle.xr_phases.specs.Certificate.{IsCertified}
 use Rattle.xr_cli.specs.Checks.{Checks}
-use Rattle.xr_cli.specs.Code.{code_in, moments_line}
+use Rattle.xr_phases.specs.Code.{code_in, moments_line}
 use Rattle.xr_cli.specs.Exported.{Exported}
 use Rattle.xr_cli.specs.Foreign.{refuted_line, repair_for}
 use Rattle.xr_cli.specs.Headline.{value_in, wave_of}
 use Rattle.xr_cli.specs.Listed.{ListsBlame, repair_to_blame}
-use Rattle.xr_cli.specs.Phases.{blamed_phases, check_answer, coded_phases, compared_check, exported_phases, forces_in, job_phases, parts, phases_of, prove_answer, prove_phases, repair_answer, repaired_phases, replay_answer, scope_of}
-use Rattle.xr_cli.specs.Repair.{beginning}
-use Rattle.xr_cli.specs.Texts.{IsAgreed, IsJob}
-use Rattle.xr_cli.specs.declared.cause.Refused.{Refused}
-use Rattle.xr_cli.specs.declared.cause.Refused.TheVariants.{Certificate, Code, Compare, LongCertificate, LongCnf, LongCode, LongLog, LongNetlist, LongRecording, Netlist, Optimistic, Proof, Recording}
-use Rattle.xr_cli.specs.declared.parts.Parts.{Parts}
+use Rattle.xr_cli.specs.Phases.{blamed_phases, check_answer, coded_phases, compared_check, exported_phases, fixed_phases, forces_in, phases_of, prove_answer, prove_phases, repair_answer, repaired_phases, replay_answer, audited_phases}
+use Rattle.xr_phases.specs.Phases.{parts, scope_of}
+use Rattle.xr_phases.specs.Repair.{beginning}
+use Rattle.xr_phases.specs.declared.cause.Refused.TheVariants.{Certificate, Code, Compare, LongCertificate, LongCnf, LongCode, LongLog, Optimistic, Proof}
+use Rattle.xr_phases.specs.declared.parts.Parts.{Parts}
+use Rattle.xr_cli.proofs.Fixing.{fix_says}
 use Rattle.xr_cli.proofs.Headlines as headlines
 use Rattle.xr_cli.proofs.Headlines.{Made, headline}
-use Rattle.xr_cli.proofs.Jobs.{fits_job}
+use Rattle.xr_phases.proofs.Jobs.{fits_job}
 use Rattle.xr_cli.proofs.Making.{make_says}
-
-answers_one : (a b : Answer) → ◌≡◌ {A = Result Answer Refused} (Ok a) (Ok b) → a ≡ b
-answers_one a b same = cc
-
-no_answer : (a : Answer) (c : Refused) → ◌≡◌ {A = Result Answer Refused} (Ok a) (Err c) → ⊥
-no_answer a c same = cc
-
--- ---- a job
-
--- What the phases of a job found, of the texts that the files hold, and what those after them come to.
-record JobFound (told : Bool) (files : Files) (w : JobValues) (next : Parts → Phases Answer Refused) (answer : Answer) : Type 0 where
-  n : ANetlist
-  r : Recorded
-  job : IsJob w (netlist_held files w) (recording_held files w) n r
-  more : ComesTo told files (next (parts n r)) (Ok answer)
-
-module _ (told : Bool) (files : Files) (t : IsTrue told) (w : JobValues) (next : Parts → Phases Answer Refused) (answer : Answer) where
-  job_found : ComesTo told files (job_phases w >>= next) (Ok answer) → JobFound told files w next answer
-  job_found (inl first) = absurd (no_answer answer LongNetlist first.1)
-  job_found (inr (text, read, inl (e, refused, is))) = absurd (no_answer answer (Netlist e) is)
-  job_found (inr (text, read, inr (n, has, inl first))) = absurd (no_answer answer LongRecording first.1)
-  job_found (inr (text, read, inr (n, has, inr (recording, again, inl (e, refused, is))))) = absurd (no_answer answer (Recording e) is)
-  job_found (inr (text, read, inr (n, has, inr (recording, again, inr (r, held, more))))) =
-      let job : IsJob w text recording n r = record { netlist_is = record { fits = read.fits; is = has }; fits = again.fits; is = held } in
-      record {
-        n = n;
-        r = r;
-        job = subst (λ (l : List ℕ). IsJob w (netlist_held files w) l n r) (again.is t) (subst (λ (l : List ℕ). IsJob w l recording n r) (read.is t) job);
-        more = more;
-      }
+use Rattle.xr_cli.proofs.Auditing.{audits}
+use Rattle.xr_phases.proofs.JobTexts.{answers_one, no_answer, JobFound, job_found}
 
 -- ---- each command
 
@@ -230,6 +203,20 @@ module _ (told : Bool) (files : Files) (t : IsTrue told) where
         };
       }
 
+-- ---- where the replay knows too much
+
+module _ (told : Bool) (files : Files) (t : IsTrue told) where
+  audit_says : (w : AuditValues) (answer : Answer) → JobFound told files w.job (λ (job : Parts). audited_phases w job.netlist job.recorded) answer
+      → SaysAudit files w answer
+  audit_says w answer found = go found.more
+    where
+      go : ComesTo told files (audited_phases w found.n found.r) (Ok answer) → SaysAudit files w answer
+      go (inl (e, refused, is)) = absurd (no_answer answer (Compare e) is)
+      go (inr (agreed, faultless, inl (none, never, is))) = absurd never
+      go (inr (agreed, faultless, inr (listed, lists, same))) =
+          subst (SaysAudit files w) (sym (answers_one answer listed same))
+          (audits w (netlist_held files w.job) (recording_held files w.job) listed found.n found.r found.job faultless lists)
+
 -- ---- what is to blame
 
 blames : (w : BlameValues) (netlist recording : List ℕ) (answer : Answer) (is : Made (repair_to_blame w) netlist recording)
@@ -277,5 +264,10 @@ answers_say told files line (OfMake w) answer t means comes = make_says told fil
 answers_say told files line (OfExport w) answer t means comes =
     export_says told files t w answer (job_found told files t w.job (λ (job : Parts). exported_phases w job.netlist job.recorded) answer comes)
 answers_say told files line (OfProve w) answer t means comes = prove_says told files t w answer comes
+answers_say told files line (OfAudit w) answer t means comes =
+    audit_says told files t w answer (job_found told files t w.job (λ (job : Parts). audited_phases w job.netlist job.recorded) answer comes)
 answers_say told files line (OfBlame w) answer t means comes =
     blame_says told files t w answer (job_found told files t w.job (λ (job : Parts). blamed_phases w job.netlist job.recorded) answer comes)
+answers_say told files line (OfFix w) answer t means comes =
+    fix_says told files t w answer (sets_named line w means)
+    (job_found told files t w.job (λ (job : Parts). fixed_phases w job.netlist job.recorded) answer comes)

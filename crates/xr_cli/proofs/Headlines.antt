@@ -18,7 +18,7 @@ use Rattle.xr_design.specs.declared.waveform.Mark.TheVariants.{Certain, Unknown,
 use Rattle.xr_design.specs.declared.waveform.Written.{Written}
 use Rattle.xr_match.specs.Binding.{FitsBound}
 use Rattle.xr_match.specs.declared.binding.Bound.{Bound}
-use Rattle.xr_model.proofs.Uniqueness.{sound_exact}
+use Rattle.xr_model.proofs.Uniqueness.{sound_exact, yields_one}
 use Rattle.xr_model.specs.Line.{GivesBoth}
 use Rattle.xr_model.specs.Sound.{HasLicence, IsDecided, Sound, SoundBy}
 use Rattle.xr_model.specs.Stated.{stated}
@@ -42,7 +42,6 @@ use Rattle.xr_forces.specs.ForcesOf.{AreForcesOf, forces_of}
 use Rattle.xr_forces.specs.Waves.{values_of}
 use Rattle.xr_forces.proofs.Showing.{forces_exist, forces_show}
 use Rattle.xr_forces.proofs.TextLaws.{text_shown}
-use Rattle.xr_model.proofs.Uniqueness.{yields_one}
 use Rattle.xr_report.specs.Report.{report_text}
 use Rattle.xr_job.specs.Compared.{job_in}
 use Rattle.xr_job.specs.declared.netlist.Netlist.{Netlist as ANetlist}
@@ -50,11 +49,12 @@ use Rattle.xr_job.specs.declared.recorded.Recorded.{Recorded}
 use Rattle.xr_words.specs.Line.{IsScopeName}
 use Rattle.xr_words.specs.Words.{RepairValues}
 use Rattle.xr_cli.specs.Headline.{Certifies, Headline, IsBit, IsForceCode, ShowsWaveform, place_of_bit, value_in}
-use Rattle.xr_cli.specs.Phases.{forces_in, scope_of}
-use Rattle.xr_cli.specs.Repair.{FitsJob, Found, IsFound, beginning}
-use Rattle.xr_cli.specs.Texts.{IsJob}
+use Rattle.xr_cli.specs.Phases.{forces_in}
+use Rattle.xr_phases.specs.Phases.{scope_of}
+use Rattle.xr_phases.specs.Repair.{FitsJob, Found, IsFound, beginning}
+use Rattle.xr_phases.specs.Texts.{IsJob}
 use Rattle.xr_cli.proofs.OwnForces.{own_forces_said}
-use Rattle.xr_cli.proofs.Jobs.{circuit_fits, fits_job, last_place, number_back, place_there, replay_shown}
+use Rattle.xr_phases.proofs.Jobs.{circuit_fits, fits_job, last_place, number_back, place_there, replay_shown}
 
 -- ---- what is known of a place by its mark
 
@@ -105,7 +105,7 @@ wave_with design order stim history limit written lines = record {
   lines = lines;
 }
 
-wave_is : (c : Contents) (design : Design) (order : List ℕ) (stim : Stim) (history : HistoryView) (limit : ℕ)
+pub wave_is : (c : Contents) (design : Design) (order : List ℕ) (stim : Stim) (history : HistoryView) (limit : ℕ)
     → c.design ≡ design → c.order ≡ order → c.stim ≡ stim → c.history ≡ history → c.limit ≡ limit
     → c ≡ wave_with design order stim history limit c.written c.lines
 wave_is c design order stim history limit a b d e f = rw (← a, ← b, ← d, ← e, ← f) refl

@@ -1,20 +1,12 @@
 -- Lemmas on the program.
+mod Auditing
 mod Answering
-mod CheckedPlaces
-mod Faults
-mod FoundPlaces
+mod Fixing
 mod Headlines
-mod Jobs
 mod Lawfully
-mod Lines
 mod Making
-mod ObjectingOnce
-mod OneCheck
-mod OneCode
-mod OneHistory
-mod OneStimulus
 mod OwnForces
+mod Restarts
 mod Runs
-mod Scopes
 mod TextsOf
 mod Walk

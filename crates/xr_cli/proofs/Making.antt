@@ -22,12 +22,13 @@ use Rattle.xr_shelf.specs.Shelf.{Files}
 use Rattle.xr_wave.specs.Contents.{Contents}
 use Rattle.xr_words.specs.Words.{MakeValues, RepairValues}
 use Rattle.xr_cli.specs.Answers.{SaysMake}
-use Rattle.xr_cli.specs.Made.{IsRecordingOf, LengthComes, MadeComes, made_conflicts, made_job, made_netlist}
+use Rattle.xr_cli.specs.Made.{IsRecordingOf, MadeComes, made_conflicts, made_job, made_netlist}
+use Rattle.xr_phases.specs.Repair.{LengthComes}
 use Rattle.xr_cli.specs.Makes.{Makes}
 use Rattle.xr_cli.specs.Phases.{forces_in, make_answer, make_phases}
 use Rattle.xr_cli.specs.Texts.{IsMadeOf}
-use Rattle.xr_cli.specs.declared.cause.Refused.{Refused}
-use Rattle.xr_cli.specs.declared.cause.Refused.TheVariants.{Compare, LongNetlist, LongRecording, Netlist, Optimistic, Recording}
+use Rattle.xr_phases.specs.declared.cause.Refused.{Refused}
+use Rattle.xr_phases.specs.declared.cause.Refused.TheVariants.{Compare, LongNetlist, LongRecording, Netlist, Optimistic, Recording}
 use Rattle.xr_cli.proofs.Headlines as headlines
 
 -- ---- each phase comes to one thing

@@ -13,10 +13,10 @@ use Rattle.xr_job.specs.Compared.{job_in}
 use Rattle.xr_job.specs.declared.netlist.Netlist.{Netlist as ANetlist}
 use Rattle.xr_job.specs.declared.recorded.Recorded.{Recorded}
 use Rattle.xr_words.specs.Line.{IsScopeName}
-use Rattle.xr_cli.specs.Code.{code_in}
-use Rattle.xr_cli.specs.Phases.{parts}
-use Rattle.xr_cli.specs.Repair.{FitsJob}
-use Rattle.xr_cli.proofs.Jobs.{circuit_fits, fits_job}
+use Rattle.xr_phases.specs.Code.{code_in}
+use Rattle.xr_phases.specs.Phases.{parts}
+use Rattle.xr_phases.specs.Repair.{FitsJob}
+use Rattle.xr_phases.proofs.Jobs.{circuit_fits, fits_job}
 
 pub own_forces_said : (n : ANetlist) (r : Recorded) (scope : List (List ℕ)) (values : ℕ → Value) → FitsJob n r → HasSmallTimes r.stim → AllByRecursion IsScopeName scope
     → Says (code_in (parts n r) (code_text n.design r.stim scope (forces_of (job_in n r) values)) scope) (forces_of (job_in n r) values)

@@ -1,82 +1,43 @@
 -- What a run comes to, in the words of the program.
-use Rattle.std.proofs.Common.{◌≡◌, ℕ, ◌≤◌, List, [], ◌∷◌, length, IsTrue, Bool, Result, Ok, Err, inl, inr, sym, subst}
+use Rattle.std.proofs.Common.{◌≡◌, ℕ, ◌≤◌, List, [], ◌∷◌, length, IsTrue, Bool, Err, inl, inr, sym, subst, arith}
 use Rattle.xr_shelf.specs.Shelf.{Files, View}
 use Rattle.xr_shelf.specs.Sink.{SinkView}
-use Rattle.xr_run.specs.Ends.{Comes, RanWords}
-use Rattle.xr_run.specs.Phases.{Answer, ComesTo, IsRead, PassesAll, Phases, text_held, ◌>>=◌}
+use Rattle.xr_run.specs.Ends.{Comes, LineMade, LinePrinted, RanWords}
+use Rattle.xr_run.specs.Lines.{line}
+use Rattle.xr_phases.specs.Cause.{status_of, text_of}
+use Rattle.xr_run.specs.Phases.{Answer, ComesTo, IsRead, PassesAll, text_held, ◌>>=◌}
 use Rattle.xr_run.specs.Rows.{Start}
 use Rattle.xr_run.proofs.Comes.{comes}
 use Rattle.xr_run.proofs.Exact.{err_same, ok_err}
-use Rattle.xr_job.specs.Netlist.{NetlistComes}
 use Rattle.xr_job.specs.declared.netlist.Netlist.{Netlist as ANetlist}
 use Rattle.xr_job.specs.declared.recorded.Recorded.{Recorded}
-use Rattle.xr_words.specs.Words.{BlameValues, CheckValues, ExportValues, JobValues, MakeValues, OfBlame, OfCheck, OfExport, OfMake, OfProve, OfRepair, OfReplay, ProveValues, RepairValues, ReplayValues, Values}
+use Rattle.xr_words.specs.Words.{BlameValues, CheckValues, ExportValues, JobValues, MakeValues, OfBlame, OfCheck, OfExport, OfFix, OfMake, OfProve, OfRepair, OfReplay, ProveValues, RepairValues, ReplayValues, Values, AuditValues, OfAudit}
 use Rattle.xr_cert_text.specs.Wrong.{IsTextOf}
 use Rattle.xr_code.specs.Says.{FirstFault}
-use Rattle.xr_cli.specs.Answers.{netlist_held, recording_held}
-use Rattle.xr_cli.specs.Certificate.{IsWrong}
-use Rattle.xr_cli.specs.Code.{code_in, text_limit}
+use Rattle.xr_phases.specs.Texts.{FixFails, netlist_held, recording_held, AreRefused, CheckFails, CodeFails, HasJob, HasNetlist, IsObjected, RepairFails}
+use Rattle.xr_phases.specs.Certificate.{IsWrong}
+use Rattle.xr_phases.specs.Code.{code_in, text_limit}
 use Rattle.xr_cli.specs.Commands.{commands}
 use Rattle.xr_cli.specs.Ends.{AreInOrder, Done, IsComplete, IsTheOne, RefusesTexts, TextsRefused}
 use Rattle.xr_cli.specs.Foreign.{repair_for}
 use Rattle.xr_cli.specs.Made.{made_conflicts, made_job, made_netlist}
 use Rattle.xr_cli.specs.Listed.{repair_to_blame}
-use Rattle.xr_cli.specs.Phases.{blamed_phases, check_answer, coded_phases, compared_check, exported_phases, job_phases, parts, prove_answer, prove_phases, phases_of, repair_answer, repaired_phases, replay_answer, scope_of}
-use Rattle.xr_cli.specs.Phases.{make_answer, make_phases, recorded_made, repaired_made}
+use Rattle.xr_cli.specs.Phases.{blamed_phases, check_answer, coded_phases, compared_check, exported_phases, fixed_phases, prove_answer, prove_phases, phases_of, repair_answer, repaired_phases, replay_answer, make_answer, make_phases, recorded_made, repaired_made, audited_phases}
+use Rattle.xr_phases.specs.Phases.{parts, scope_of}
 use Rattle.xr_cli.specs.Proves.{IsUnproved}
-use Rattle.xr_cli.specs.Repair.{IsObjectionIn, netlist_limit, recording_limit}
-use Rattle.xr_cli.specs.Texts.{AreRefused, CheckFails, CodeFails, HasJob, HasNetlist, IsJob, IsObjected, IsRepairable, RepairFails}
-use Rattle.xr_cli.specs.Texts.{IsMadeOf, IsMadeRefused, IsMakeable, IsOneMade}
-use Rattle.xr_cli.specs.declared.cause.Objection.{Objection}
-use Rattle.xr_cli.specs.declared.cause.Refused.{Refused}
-use Rattle.xr_cli.specs.declared.cause.Refused.TheVariants.{Certificate, Code, Compare, LongCertificate, LongCnf, LongCode, LongLog, LongNetlist, LongRecording, Netlist, Optimistic, Proof, Recording}
-use Rattle.xr_cli.specs.declared.parts.Parts.{Parts}
+use Rattle.xr_phases.specs.Repair.{IsObjectionIn, recording_limit}
+use Rattle.xr_cli.specs.Texts.{AuditFails, IsRepairable, IsMadeOf, IsMadeRefused, IsMakeable, IsOneMade}
+use Rattle.xr_phases.specs.declared.cause.Objection.{Objection}
+use Rattle.xr_phases.specs.declared.cause.Refused.{Refused}
+use Rattle.xr_phases.specs.declared.cause.Refused.TheVariants.{Certificate, Code, Compare, LongCertificate, LongCnf, LongCode, LongLog, LongNetlist, LongRecording, Netlist, Optimistic, Proof, Recording}
+use Rattle.xr_phases.specs.declared.parts.Parts.{Parts}
 use Rattle.xr_cli.proofs.Answering.{answers_say}
+use Rattle.xr_phases.specs.Sets.{sets_of}
+use Rattle.xr_cli.proofs.Fixing.{fix_fails}
 use Rattle.xr_cli.proofs.Lawfully.{lawful}
 use Rattle.xr_cli.proofs.Making.{made_is_one}
-use Rattle.xr_cli.proofs.ObjectingOnce.{one_cause}
-
--- ---- what texts are refused for
-
-netlist_there : (w : JobValues) (text : List ℕ) (n : ANetlist) → length text ≤ netlist_limit → NetlistComes text w.top (Ok n) → HasNetlist w text n
-netlist_there w text n fits has = record { fits = fits; is = has }
-
-module _ (told : Bool) (files : Files) (t : IsTrue told) (w : JobValues) (next : Parts → Phases Answer Refused) (After : Parts → Refused → Type 0) (cause : Refused)
-    (after : (n : ANetlist) (r : Recorded) → ComesTo told files (next (parts n r)) (Err cause) → After (parts n r) cause) where
-  abbrev AreBy : List ℕ → List ℕ → Refused → Type 0
-  AreBy netlist recording c = AreRefused w netlist recording After c
-
-  by_cause : (netlist recording : List ℕ) (is : Refused) → ◌≡◌ {A = Result Answer Refused} (Err cause) (Err is) → AreBy netlist recording is → AreBy netlist recording cause
-  by_cause netlist recording is same refused = subst (AreBy netlist recording) (sym (err_same {B = Answer} cause is same)) refused
-
-  -- The texts that were read are those that the files hold.
-  at_netlist : (text : List ℕ) → IsRead told files w.netlists netlist_limit text → AreBy text (recording_held files w) cause
-      → AreBy (netlist_held files w) (recording_held files w) cause
-  at_netlist text read refused = subst (λ (l : List ℕ). AreBy l (recording_held files w) cause) (read.is t) refused
-
-  at_both : (text recording : List ℕ) → IsRead told files w.netlists netlist_limit text → IsRead told files (w.recording ∷ []) recording_limit recording
-      → AreBy text recording cause → AreBy (netlist_held files w) (recording_held files w) cause
-  at_both text recording read again refused = at_netlist text read (subst (λ (l : List ℕ). AreBy text l cause) (again.is t) refused)
-
-  -- What the phases of a job and those after them refuse, by its cause.
-  refused_by : ComesTo told files (job_phases w >>= next) (Err cause) → AreBy (netlist_held files w) (recording_held files w) cause
-  refused_by (inl first) = by_cause (netlist_held files w) (recording_held files w) LongNetlist first.1 (AreRefused.long_netlist (first.0 t))
-  refused_by (inr (text, read, inl (e, refused, is))) =
-      at_netlist text read (by_cause text (recording_held files w) (Netlist e) is (AreRefused.netlist_fails record { fits = read.fits; is = refused }))
-  refused_by (inr (text, read, inr (n, has, inl first))) =
-      at_netlist text read
-      (by_cause text (recording_held files w) LongRecording first.1 (AreRefused.long_recording record { n = n; netlist_is = netlist_there w text n read.fits has; long = first.0 t }))
-  refused_by (inr (text, read, inr (n, has, inr (recording, again, inl (e, refused, is))))) =
-      at_both text recording read again
-      (by_cause text recording (Recording e) is (AreRefused.recording_fails record { n = n; netlist_is = netlist_there w text n read.fits has; fits = again.fits; is = refused }))
-  refused_by (inr (text, read, inr (n, has, inr (recording, again, inr (r, held, more))))) =
-      at_both text recording read again
-      (AreRefused.job_fails record {
-        n = n;
-        r = r;
-        job = record { netlist_is = netlist_there w text n read.fits has; fits = again.fits; is = held };
-        holds = after n r more;
-      })
+use Rattle.xr_phases.proofs.ObjectingOnce.{one_cause}
+use Rattle.xr_phases.proofs.JobTexts.{netlist_there, refused_by, job_passes}
 
 -- ---- of each command
 
@@ -143,6 +104,15 @@ module _ (told : Bool) (files : Files) (t : IsTrue told) (w : ProveValues) (caus
       (subst (IsUnproved cnf log) (sym (err_same {B = Answer} cause (Proof fault) same))
       (IsUnproved.unproved record { cnf_fits = read.fits; log_fits = again.fits } is))
   prove_refused (inr (cnf, read, inr (log, again, inr (count, is, same)))) = absurd (ok_err (prove_answer count) cause (sym same))
+
+-- ---- where the replay knows too much
+
+audit_fails : (told : Bool) (files : Files) (job : Parts) (w : AuditValues) (cause : Refused) → ComesTo told files (audited_phases w job.netlist job.recorded) (Err cause)
+    → AuditFails job cause
+audit_fails told files job w cause (inl (e, refused, is)) =
+    subst (AuditFails job) (sym (err_same {B = Answer} cause (Compare e) is)) (AuditFails.disagrees refused)
+audit_fails told files job w cause (inr (agreed, faultless, inl (none, never, same))) = absurd never
+audit_fails told files job w cause (inr (agreed, faultless, inr (answer, lists, same))) = absurd (ok_err answer cause (sym same))
 
 -- ---- what is to blame
 
@@ -213,9 +183,15 @@ texts_refused s (OfExport w) cause t comes =
     refused_by s.shelf_told s.shelf.files t w.job (λ (job : Parts). exported_phases w job.netlist job.recorded) (RepairFails w.conflicts) cause
     (λ n r. export_fails s.shelf_told s.shelf.files (parts n r) w cause) comes
 texts_refused s (OfProve w) cause t comes = prove_refused s.shelf_told s.shelf.files t w cause comes
+texts_refused s (OfAudit w) cause t comes =
+    refused_by s.shelf_told s.shelf.files t w.job (λ (job : Parts). audited_phases w job.netlist job.recorded) AuditFails cause
+    (λ n r. audit_fails s.shelf_told s.shelf.files (parts n r) w cause) comes
 texts_refused s (OfBlame w) cause t comes =
     refused_by s.shelf_told s.shelf.files t w.job (λ (job : Parts). blamed_phases w job.netlist job.recorded) (RepairFails w.conflicts) cause
     (λ n r. blame_fails s.shelf_told s.shelf.files (parts n r) w cause) comes
+texts_refused s (OfFix w) cause t comes =
+    refused_by s.shelf_told s.shelf.files t w.job (λ (job : Parts). fixed_phases w job.netlist job.recorded) (FixFails w.conflicts (sets_of w.sets)) cause
+    (λ n r. fix_fails s.shelf_told s.shelf.files (parts n r) w cause) comes
 
 -- A place that a repair finds otherwise is of a job that agrees.
 objected_of : (conflicts : ℕ) (job : Parts) (o : Objection) → RepairFails conflicts job (Optimistic o) → IsObjected conflicts o job.netlist job.recorded
@@ -250,21 +226,19 @@ the_one s (OfExport w) cause refused =
     (λ o is. job_of w.job (netlist_held s.shelf.files w.job) (recording_held s.shelf.files w.job) w.conflicts o
     (subst (AreRefused w.job (netlist_held s.shelf.files w.job) (recording_held s.shelf.files w.job) (RepairFails w.conflicts)) is refused))
 the_one s (OfProve w) cause refused = tt
+the_one s (OfAudit w) cause refused = tt
 the_one s (OfBlame w) cause refused =
     one_cause w.job (netlist_held s.shelf.files w.job) (recording_held s.shelf.files w.job) w.conflicts cause
     (λ o is. job_of w.job (netlist_held s.shelf.files w.job) (recording_held s.shelf.files w.job) w.conflicts o
     (subst (AreRefused w.job (netlist_held s.shelf.files w.job) (recording_held s.shelf.files w.job) (RepairFails w.conflicts)) is refused))
+the_one s (OfFix w) cause refused = tt
 
 -- ---- texts in order
 
-not_objected : (w : RepairValues) (netlist recording : List ℕ) (is : IsRepairable w netlist recording) (o : Objection) → IsObjectionIn w.conflicts is.n is.r o → ⊥
+not_objected : (w : RepairValues) (netlist recording : List ℕ) (is : IsRepairable w netlist recording) (o : Objection) → IsObjectionIn w.conflicts is.n is.r.stim o → ⊥
 not_objected w netlist recording is o objects = is.none objects.history objects.objects.otherwise objects.replay objects.objects.objects
 
-job_passes : (files : Files) (w : JobValues) (next : Parts → Phases Answer Refused) (n : ANetlist) (r : Recorded) → IsJob w (netlist_held files w) (recording_held files w) n r
-    → PassesAll files (next (parts n r)) → PassesAll files (job_phases w >>= next)
-job_passes files w next n r is after = (is.netlist_is.fits, (n, is.netlist_is.is, (is.fits, (r, is.is, after))))
-
-made_not_objected : (w : MakeValues) (is : IsMakeable w) (o : Objection) → IsObjectionIn made_conflicts is.n is.r o → ⊥
+made_not_objected : (w : MakeValues) (is : IsMakeable w) (o : Objection) → IsObjectionIn made_conflicts is.n is.r.stim o → ⊥
 made_not_objected w is o objects = is.none objects.history objects.objects.otherwise objects.replay objects.objects.objects
 
 passes_all : (files : Files) (words : Values) → AreInOrder files words → PassesAll files (phases_of words)
@@ -291,12 +265,24 @@ passes_all files (OfExport w) is =
     job_passes files w.job (λ (job : Parts). exported_phases w job.netlist job.recorded) is.n is.r is.job
     (tt, is.faultless, (objected, λ found there. ((λ none never. never), λ answer written. tt)))
 passes_all files (OfProve w) is = (is.short.cnf_fits, (is.short.log_fits, (is.count, is.proof, tt)))
+passes_all files (OfAudit w) is =
+    job_passes files w.job (λ (job : Parts). audited_phases w job.netlist job.recorded) is.n is.r is.job
+    (tt, is.faultless, ((λ none never. never), λ answer lists. tt))
 passes_all files (OfBlame w) is =
     let objected = not_objected (repair_to_blame w) (netlist_held files w.job) (recording_held files w.job) is in
     job_passes files w.job (λ (job : Parts). blamed_phases w job.netlist job.recorded) is.n is.r is.job
     (tt, is.faultless, (objected, λ found there. ((λ none never. never), λ answer lists. tt)))
+passes_all files (OfFix w) is =
+    job_passes files w.job (λ (job : Parts). fixed_phases w job.netlist job.recorded) is.n is.r is.job
+    (tt, is.faultless, (is.stim, is.started, (is.none, λ before walked. (is.none_set, λ after again. tt))))
 
 -- ---- a run
+
+-- A line of a status below 20 was made.
+line_printed : (told : Bool) (text : List ℕ) (own : ℕ) (old new : SinkView) (status : ℕ) → status ≤ 19 → LineMade told text own old new status
+    → LinePrinted told text own old new status
+line_printed told text own old new status few (inl printed) = printed
+line_printed told text own old new status few (inr none) = let is = none.is in absurd (omega (arith, few, is))
 
 module _ (s : Start) (shelf : View) (sink : SinkView) (status : ℕ) where
   pub all_comes : RanWords commands s shelf sink status → Comes commands s shelf sink status
@@ -324,7 +310,7 @@ module _ (s : Start) (shelf : View) (sink : SinkView) (status : ℕ) where
           refused = λ t. texts_refused s there.0 is.cause t is.row.comes;
           one = λ t. the_one s there.0 is.cause (texts_refused s there.0 is.cause t is.row.comes);
           row = is.row;
-          printed = is.line;
+          printed = line_printed s.sink_told (line (text_of is.cause)) (status_of is.cause) s.sink sink status high is.line;
         }
 
     pub is_complete : IsComplete s shelf sink status

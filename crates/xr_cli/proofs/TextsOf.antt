@@ -1,5 +1,5 @@
 -- The texts of a finished wave of a job.
-use Rattle.std.proofs.Common.{◌≡◌, ◌∙◌, ℕ, List, [], Result, Ok, Err, IfOk, ap, refl, subst, sym}
+use Rattle.std.proofs.Common.{◌≡◌, ◌∙◌, ℕ, List, [], Result, Ok, Err, IfOk, ap, refl, subst, sym, arith}
 use Rattle.xr_code.specs.Steps.{HasEvents}
 use Rattle.xr_code.proofs.Writing.{can_be_written}
 use Rattle.xr_design.specs.Force.{AreEvents, forced_by}
@@ -16,7 +16,7 @@ use Rattle.xr_cert_text.specs.Text.{cert_text}
 use Rattle.xr_code.specs.Laws.{HasSmallTimes}
 use Rattle.xr_code.specs.Written.{code_text}
 use Rattle.xr_design.specs.History.{HistoryView}
-use Rattle.xr_out.specs.Text.{vcd_text}
+use Rattle.xr_out.specs.Text.{vcd_text, HasSteps}
 use Rattle.xr_report.specs.Report.{head_text, report_text}
 use Rattle.xr_run.specs.Phases.{Answer}
 use Rattle.xr_run.specs.Prepared.{answer_of}
@@ -25,11 +25,13 @@ use Rattle.xr_wave.specs.Contents.{Contents, job}
 use Rattle.xr_wave.specs.Shown.{ShowsWave}
 use Rattle.xr_words.specs.Words.{MakeValues, RepairValues}
 use Rattle.xr_cli.specs.Made.{made_netlist}
-use Rattle.xr_cli.specs.Phases.{HasTexts, answer_with, check_answer, forces_in, make_answer, make_with, scope_of}
-use Rattle.xr_cli.specs.declared.parts.Parts.{Parts}
-use Rattle.xr_cli.specs.Repair.{FitsJob, IsWaveOf}
-use Rattle.xr_cli.proofs.Jobs.{fits_job}
+use Rattle.xr_cli.specs.Phases.{HasTexts, answer_with, check_answer, forces_in, make_answer, make_with}
+use Rattle.xr_phases.specs.Phases.{scope_of}
+use Rattle.xr_phases.specs.declared.parts.Parts.{Parts}
+use Rattle.xr_phases.specs.Repair.{FitsJob, IsWaveOf}
+use Rattle.xr_phases.proofs.Jobs.{fits_job}
 use Rattle.xr_forces.proofs.Forced.{are_events}
+use Rattle.xr_design.specs.Handed.{HasPlaces}
 
 -- A wave of a job has the job's circuit.
 pub job_same : (n : ANetlist) (r : Recorded) (wave : Contents) → IsWaveOf n r wave → job wave ≡ job_in n r
@@ -74,3 +76,15 @@ pub made_texts : (w : MakeValues) (netlist recording head : List ℕ) (wave : Co
 made_texts w netlist recording head wave forces made same is (Err e) answered = tt
 made_texts w netlist recording head wave forces made same is (Ok ready) answered =
     answered ∙ (λ t. make_with w (made t) recording ((is ∙ ap (head_text wave) same) t))
+
+-- A history with the job's places has each step.
+pub has_steps : (n : ANetlist) (r : Recorded) (history : HistoryView) → FitsJob n r → HasPlaces (job_in n r) history → HasSteps n.design r.stim history
+has_steps n r history fits places =
+    let all = places.all in
+    let few = fits.recorded.stim.places in
+    record {
+      nets = places.nets;
+      places = all;
+      few = omega (arith, all, few);
+      few_nets = fits.netlist.design.few;
+    }

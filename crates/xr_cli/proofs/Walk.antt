@@ -16,15 +16,15 @@ use Rattle.xr_job.specs.declared.recorded.Recorded.{Recorded}
 use Rattle.xr_export.specs.Export.{Exports}
 use Rattle.xr_prove.specs.Proof.{ProofComes}
 use Rattle.xr_words.specs.Words.{BlameValues, CheckValues, ExportValues, MakeValues, RepairValues, ReplayValues}
-use Rattle.xr_cli.specs.Certificate.{CheckComes, IsCertified}
-use Rattle.xr_cli.specs.Code.{ForcedComes, IsForced}
+use Rattle.xr_phases.specs.Certificate.{CheckComes, IsCertified}
+use Rattle.xr_phases.specs.Code.{ForcedComes, IsForced}
 use Rattle.xr_cli.specs.Foreign.{ExportComes}
 use Rattle.xr_cli.specs.Listed.{BlameComes, ListsBlame}
 use Rattle.xr_cli.specs.Made.{made_conflicts}
-use Rattle.xr_cli.specs.Phases.{check_answer, checked_phases, forced_phases, forces_in, itself, make_answer, no_cause, proof_cause, proof_phases, prove_answer, repair_answer, replay_answer}
-use Rattle.xr_cli.specs.Phases.{walk_blamed, walk_cause, walk_exported, walk_made, walk_phases}
-use Rattle.xr_cli.specs.Repair.{Found, IsFound, WalkComes}
-use Rattle.xr_cli.specs.declared.parts.Parts.{Parts}
+use Rattle.xr_cli.specs.Phases.{check_answer, checked_phases, forced_phases, forces_in, make_answer, proof_phases, prove_answer, repair_answer, replay_answer, walk_blamed, walk_exported, walk_made, walk_phases}
+use Rattle.xr_phases.specs.Phases.{itself, no_cause, proof_cause, walk_cause}
+use Rattle.xr_phases.specs.Repair.{Found, IsFound, WalkComes}
+use Rattle.xr_phases.specs.declared.parts.Parts.{Parts}
 
 -- A wave that is found, with its texts.
 pub walk_found : (w : RepairValues) (n : ANetlist) (r : Recorded) (found : Found) (ready : Ready) → IsFound w.conflicts n r found

@@ -2,24 +2,22 @@
 use Rattle.std.specs.Prelude.{◌≡◌, ℕ, List, [], ◌∷◌}
 use Rattle.xr_shelf.specs.Shelf.{Files}
 use Rattle.xr_run.specs.Phases.{Answer, text_held}
-use Rattle.xr_words.specs.Words.{BlameValues, CheckValues, ExportValues, JobValues, MakeValues, ProveValues}
-use Rattle.xr_words.specs.Words.{RepairValues, ReplayValues, Values}
-use Rattle.xr_words.specs.Words.{OfBlame, OfCheck, OfExport, OfMake, OfProve, OfRepair, OfReplay}
+use Rattle.xr_words.specs.Words.{FixValues, OfFix}
+use Rattle.xr_words.specs.Words.{BlameValues, CheckValues, ExportValues, MakeValues, ProveValues, RepairValues}
+use Rattle.xr_words.specs.Words.{AuditValues}
+use Rattle.xr_words.specs.Words.{ReplayValues, Values, OfBlame, OfCheck, OfExport, OfMake, OfProve, OfRepair, OfReplay}
+use Rattle.xr_words.specs.Words.{OfAudit}
+use Rattle.xr_cli.specs.Audits.{Audits}
 use Rattle.xr_cli.specs.Blames.{Blames}
 use Rattle.xr_cli.specs.Checks.{Checks}
 use Rattle.xr_cli.specs.Exported.{Exported}
+use Rattle.xr_cli.specs.Fixes.{Fixes}
 use Rattle.xr_cli.specs.Headline.{Headline}
 use Rattle.xr_cli.specs.Makes.{Makes}
 use Rattle.xr_cli.specs.Phases.{answer_with, make_with}
+use Rattle.xr_phases.specs.Texts.{netlist_held, recording_held}
 use Rattle.xr_cli.specs.Proves.{Proves}
 use Rattle.xr_cli.specs.Replays.{Replays}
-
--- The texts that the files of a job hold.
-abbrev pub netlist_held : Files → JobValues → List ℕ
-netlist_held files w = text_held files w.netlists
-
-abbrev pub recording_held : Files → JobValues → List ℕ
-recording_held files w = text_held files (w.recording ∷ [])
 
 -- V, C and X are written in this order and the report printed, and the headline holds of them and of the texts that the
 -- files hold.
@@ -64,8 +62,15 @@ pub record SaysProve (files : Files) (w : ProveValues) (answer : Answer) : Type 
   pub proves : Proves (text_held files (w.cnf ∷ [])) (text_held files (w.log ∷ [])) printed
 
 -- No file is written, and what is printed is of the texts that the files hold.
+abbrev pub SaysAudit : Files → AuditValues → Answer → Type 0
+SaysAudit files w answer = Audits w (netlist_held files w.job) (recording_held files w.job) answer
+
 abbrev pub SaysBlame : Files → BlameValues → Answer → Type 0
 SaysBlame files w answer = Blames w (netlist_held files w.job) (recording_held files w.job) answer
+
+-- No file is written, and what is printed is of the texts that the files hold.
+abbrev pub SaysFix : Files → FixValues → Answer → Type 0
+SaysFix files w answer = Fixes w (netlist_held files w.job) (recording_held files w.job) answer
 
 abbrev pub Says : Files → Values → Answer → Type 0
 Says files (OfRepair w) answer = SaysRepair files w answer
@@ -74,4 +79,6 @@ Says files (OfCheck w) answer = SaysCheck files w answer
 Says files (OfMake w) answer = SaysMake w answer
 Says files (OfExport w) answer = SaysExport files w answer
 Says files (OfProve w) answer = SaysProve files w answer
+Says files (OfAudit w) answer = SaysAudit files w answer
 Says files (OfBlame w) answer = SaysBlame files w answer
+Says files (OfFix w) answer = SaysFix files w answer

@@ -16,8 +16,8 @@ use Rattle.xr_model.specs.Growth.{Holds}
 use Rattle.xr_report.specs.Report.{report_text}
 use Rattle.xr_words.specs.Words.{CheckValues}
 use Rattle.xr_cli.specs.Headline.{value_in, wave_of}
-use Rattle.xr_cli.specs.Repair.{Agrees, beginning}
-use Rattle.xr_cli.specs.Texts.{IsJob}
+use Rattle.xr_phases.specs.Repair.{Agrees, beginning}
+use Rattle.xr_phases.specs.Texts.{IsJob}
 
 -- The texts stand for a job whose recording agrees with its replay.
 pub record Checks (w : CheckValues) (netlist recording cert report : List ℕ) : Type 0 where

@@ -1,9 +1,9 @@
 -- The set of commands.
 use Rattle.xr_run.specs.Ends.{Commands, reporting_of}
 use Rattle.xr_words.specs.Words.{Means, Values}
-use Rattle.xr_cli.specs.Cause.{status_of, text_of}
+use Rattle.xr_phases.specs.Cause.{status_of, text_of}
 use Rattle.xr_cli.specs.Phases.{phases_of}
-use Rattle.xr_cli.specs.declared.cause.Refused.{Refused}
+use Rattle.xr_phases.specs.declared.cause.Refused.{Refused}
 
 abbrev pub commands : Commands
 commands = record {

@@ -2,21 +2,27 @@
 use Rattle.std.specs.Prelude.{◌≡◌, ◌⊎◌, ℕ, [], ◌∷◌, IsTrue}
 use Rattle.xr_shelf.specs.Shelf.{Files, View}
 use Rattle.xr_shelf.specs.Sink.{SinkView}
-use Rattle.xr_run.specs.Ends.{LineMade, NoFault}
+use Rattle.xr_run.specs.Ends.{LinePrinted, NoFault}
 use Rattle.xr_run.specs.Lines.{line}
 use Rattle.xr_run.specs.Phases.{text_held}
 use Rattle.xr_run.specs.Rows.{DoneRow, Start, TextRow}
+use Rattle.xr_words.specs.Words.{OfFix}
 use Rattle.xr_words.specs.Words.{Means, OfBlame, OfCheck, OfExport, OfMake, OfProve, OfRepair, OfReplay, Values}
-use Rattle.xr_cli.specs.Answers.{Says, netlist_held, recording_held}
-use Rattle.xr_cli.specs.Cause.{status_of, text_of}
+use Rattle.xr_words.specs.Words.{OfAudit}
+use Rattle.xr_cli.specs.Answers.{Says}
+use Rattle.xr_phases.specs.Sets.{sets_of}
+use Rattle.xr_phases.specs.Texts.{FixFails, netlist_held, recording_held, AreRefused, CheckFails, CodeFails, IsOneCause}
+use Rattle.xr_phases.specs.Texts.{RepairFails}
+use Rattle.xr_phases.specs.Cause.{status_of, text_of}
 use Rattle.xr_cli.specs.Commands.{commands}
 use Rattle.xr_cli.specs.Foreign.{repair_for}
 use Rattle.xr_cli.specs.Listed.{repair_to_blame}
-use Rattle.xr_cli.specs.Phases.{phases_of, scope_of}
+use Rattle.xr_cli.specs.Phases.{phases_of}
+use Rattle.xr_phases.specs.Phases.{scope_of}
 use Rattle.xr_cli.specs.Proves.{IsProvable, IsUnproved}
-use Rattle.xr_cli.specs.Texts.{AreRefused, CheckFails, CodeFails, IsCheckable, IsMadeRefused, IsMakeable, IsOneCause}
-use Rattle.xr_cli.specs.Texts.{IsOneMade, IsRepairable, IsReplayable, RepairFails}
-use Rattle.xr_cli.specs.declared.cause.Refused.{Refused}
+use Rattle.xr_cli.specs.Texts.{IsFixable, IsCheckable, IsMadeRefused, IsMakeable, IsOneMade, IsRepairable, IsReplayable}
+use Rattle.xr_cli.specs.Texts.{AuditFails, IsAuditable}
+use Rattle.xr_phases.specs.declared.cause.Refused.{Refused}
 
 -- 0: the words mean this, and its answer is written and printed. Where the shelf tells, the answer says what is
 -- promised.
@@ -40,8 +46,13 @@ TextsRefused files (OfMake w) cause = IsMadeRefused w cause
 TextsRefused files (OfExport w) cause =
     AreRefused w.job (netlist_held files w.job) (recording_held files w.job) (RepairFails w.conflicts) cause
 TextsRefused files (OfProve w) cause = IsUnproved (text_held files (w.cnf ∷ [])) (text_held files (w.log ∷ [])) cause
+TextsRefused files (OfAudit w) cause =
+    AreRefused w.job (netlist_held files w.job) (recording_held files w.job) AuditFails cause
 TextsRefused files (OfBlame w) cause =
     AreRefused w.job (netlist_held files w.job) (recording_held files w.job) (RepairFails w.conflicts) cause
+TextsRefused files (OfFix w) cause =
+    AreRefused w.job (netlist_held files w.job) (recording_held files w.job)
+    (FixFails w.conflicts (sets_of w.sets)) cause
 
 -- Without an undecided line before it, a place that `repair`, `make`, `export` or `blame` finds otherwise is the one of
 -- the texts.
@@ -52,9 +63,11 @@ IsTheOne files (OfCheck w) cause = Unit {0}
 IsTheOne files (OfMake w) cause = IsOneMade w cause
 IsTheOne files (OfExport w) cause = IsOneCause w.job (netlist_held files w.job) (recording_held files w.job) cause
 IsTheOne files (OfProve w) cause = Unit {0}
+IsTheOne files (OfAudit w) cause = Unit {0}
 IsTheOne files (OfBlame w) cause = IsOneCause w.job (netlist_held files w.job) (recording_held files w.job) cause
+IsTheOne files (OfFix w) cause = Unit {0}
 
--- 5 to 16: the texts are refused for a cause of that status, and its line is printed.
+-- 5 to 17: the texts are refused for a cause of that status, and its line is printed.
 pub record RefusesTexts (s : Start) (shelf : View) (sink : SinkView) (status : ℕ) : Type 0 where
   pub words : Values
   pub means : Means s.line words
@@ -63,7 +76,7 @@ pub record RefusesTexts (s : Start) (shelf : View) (sink : SinkView) (status : �
   pub refused : IsTrue s.shelf_told → TextsRefused s.shelf.files words cause
   pub one : IsTrue s.shelf_told → IsTheOne s.shelf.files words cause
   pub row : TextRow (phases_of words) s shelf cause
-  pub printed : LineMade s.sink_told (line (text_of cause)) (status_of cause) s.sink sink status
+  pub printed : LinePrinted s.sink_told (line (text_of cause)) (status_of cause) s.sink sink status
 
 -- The texts of a command are all in order.
 abbrev pub AreInOrder : Files → Values → Type 0
@@ -75,8 +88,10 @@ AreInOrder files (OfCheck w) =
 AreInOrder files (OfMake w) = IsMakeable w
 AreInOrder files (OfExport w) = IsRepairable (repair_for w) (netlist_held files w.job) (recording_held files w.job)
 AreInOrder files (OfProve w) = IsProvable (text_held files (w.cnf ∷ [])) (text_held files (w.log ∷ []))
+AreInOrder files (OfAudit w) = IsAuditable w (netlist_held files w.job) (recording_held files w.job)
 AreInOrder files (OfBlame w) =
     IsRepairable (repair_to_blame w) (netlist_held files w.job) (recording_held files w.job)
+AreInOrder files (OfFix w) = IsFixable w (netlist_held files w.job) (recording_held files w.job)
 
 -- Then the command does what it says, want of memory and faults aside.
 abbrev pub IsComplete : Start → View → SinkView → ℕ → Type 0

@@ -16,8 +16,8 @@ use Rattle.xr_run.specs.Phases.{Answer}
 use Rattle.xr_words.specs.Words.{ExportValues}
 use Rattle.xr_cli.specs.Foreign.{repair_for}
 use Rattle.xr_cli.specs.Headline.{Certifies, wave_of}
-use Rattle.xr_cli.specs.Repair.{Agrees}
-use Rattle.xr_cli.specs.Texts.{IsJob}
+use Rattle.xr_phases.specs.Repair.{Agrees}
+use Rattle.xr_phases.specs.Texts.{IsJob}
 
 -- The texts stand for a job whose recording agrees with its replay; there are a waveform of all its places and lines,
 -- so that:

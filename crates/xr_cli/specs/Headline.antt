@@ -30,10 +30,10 @@ use Rattle.xr_code.specs.Says.{Says}
 use Rattle.xr_code.specs.Written.{code_text}
 use Rattle.xr_forces.specs.ForcesOf.{AreForcesOf}
 use Rattle.xr_design.specs.declared.force.Event.{Event}
-use Rattle.xr_cli.specs.Code.{IsForced, code_in}
-use Rattle.xr_cli.specs.Phases.{parts, scope_of}
-use Rattle.xr_cli.specs.Repair.{Agrees, FitsJob, beginning}
-use Rattle.xr_cli.specs.Texts.{IsJob}
+use Rattle.xr_phases.specs.Code.{IsForced, code_in}
+use Rattle.xr_phases.specs.Phases.{parts, scope_of}
+use Rattle.xr_phases.specs.Repair.{Agrees, FitsJob, beginning}
+use Rattle.xr_phases.specs.Texts.{IsJob}
 
 -- A bit of a bound variable in a moment, and the place that shows it: its net at the moment's last step.
 pub record IsBit (n : ANetlist) (r : Recorded) (moment : ℕ) (b : Bound) (bit : ℕ) : Type 0 where

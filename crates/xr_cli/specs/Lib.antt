@@ -1,11 +1,8 @@
 -- Definitions of the program.
-pub mod Cause
-pub mod Repair
-pub mod Code
 pub mod Made
-pub mod Certificate
 pub mod Foreign
 pub mod Listed
+pub mod Restarts
 pub mod Phases
 pub mod Texts
 pub mod Headline
@@ -14,7 +11,10 @@ pub mod Checks
 pub mod Makes
 pub mod Exported
 pub mod Proves
+pub mod Audited
+pub mod Audits
 pub mod Blames
+pub mod Fixes
 pub mod Answers
 pub mod Commands
 pub mod Ends

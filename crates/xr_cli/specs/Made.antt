@@ -1,5 +1,5 @@
 -- The made job that a number and a number of gates stand for.
-use Rattle.std.specs.Prelude.{ℕ, ◌<◌, ◌≤◌, List, [], Result, Ok, Err, codes, length}
+use Rattle.std.specs.Prelude.{ℕ, List, [], Result, Ok, Err, codes}
 use Rattle.xr_job.specs.declared.netlist.Netlist.{Netlist as ANetlist}
 use Rattle.xr_make.specs.Netlist.{netlist_text}
 use Rattle.xr_make.specs.Recording.{IsMadeRecording}
@@ -34,8 +34,3 @@ IsRecordingOf w n text = IsMadeRecording n.design n.order w.number w.gates text
 abbrev pub MadeComes : MakeValues → ANetlist → Result (List ℕ) ⊥ → Type 0
 MadeComes w n (Ok text) = IsRecordingOf w n text
 MadeComes w n (Err none) = ⊥
-
--- A text has at most so many bytes, or more.
-abbrev pub LengthComes : ℕ → List ℕ → Result (Unit {0}) (Unit {0}) → Type 0
-LengthComes limit text (Ok short) = length text ≤ limit
-LengthComes limit text (Err long) = limit < length text

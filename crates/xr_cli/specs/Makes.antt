@@ -16,8 +16,8 @@ use Rattle.xr_report.specs.Report.{head_text}
 use Rattle.xr_words.specs.Words.{MakeValues}
 use Rattle.xr_cli.specs.Headline.{value_in, wave_of}
 use Rattle.xr_cli.specs.Made.{IsRecordingOf, made_conflicts, made_job, made_netlist}
-use Rattle.xr_cli.specs.Repair.{Agrees}
-use Rattle.xr_cli.specs.Texts.{IsJob}
+use Rattle.xr_phases.specs.Repair.{Agrees}
+use Rattle.xr_phases.specs.Texts.{IsJob}
 
 -- The texts stand for a job whose recording agrees with its replay; there are a waveform of all its places and lines,
 -- so that:

@@ -1,114 +1,46 @@
 -- The phases of the commands.
-use Rattle.std.specs.Prelude.{◌≡◌, ℕ, List, [], ◌∷◌, Vec}
+use Rattle.std.specs.Prelude.{◌≡◌, ℕ, List, [], ◌∷◌, length, Vec}
 use Rattle.std.specs.declared.alloc.Global.{Global}
 use Rattle.xr_cert.specs.Step.{cert_of}
 use Rattle.xr_cert_text.specs.Text.{cert_text}
 use Rattle.xr_cert_text.specs.declared.cert.Cert.{Cert}
 use Rattle.xr_code.specs.Laws.{HasSmallTimes}
 use Rattle.xr_code.specs.Written.{code_text}
-use Rattle.xr_code.specs.declared.fault.CodeFault.{CodeFault}
 use Rattle.xr_design.specs.History.{HistoryView}
 use Rattle.xr_design.specs.declared.force.Event.{Event}
+use Rattle.xr_design.specs.declared.stim.Stim.{Stim}
+use Rattle.xr_listing.specs.Fixed.{fix_text}
 use Rattle.xr_forces.specs.ForcesOf.{forces_of}
 use Rattle.xr_forces.specs.Waves.{values_of}
 use Rattle.xr_run.specs.Phases.{Answer, Phases, ◌>>=◌, reads, judges, searches}
 use Rattle.xr_out.specs.Text.{vcd_text}
 use Rattle.xr_prove.specs.Proof.{ProofComes}
-use Rattle.xr_prove.specs.declared.fault.ProofFault.{ProofFault}
 use Rattle.xr_report.specs.Report.{head_text, report_text}
 use Rattle.xr_wave.specs.Contents.{Contents, job}
 use Rattle.xr_wave.specs.Shown.{ShowsWave}
 use Rattle.xr_job.specs.Netlist.{NetlistComes}
 use Rattle.xr_job.specs.Recorded.{RecordingComes}
-use Rattle.xr_job.specs.declared.compare_refusal.CompareRefusal.{CompareRefusal}
 use Rattle.xr_job.specs.declared.netlist.Netlist.{Netlist as ANetlist}
-use Rattle.xr_job.specs.declared.netlist_refusal.NetlistRefusal.{NetlistRefusal}
 use Rattle.xr_job.specs.declared.recorded.Recorded.{Recorded}
-use Rattle.xr_job.specs.declared.recording_refusal.RecordingRefusal.{RecordingRefusal}
-use Rattle.xr_words.specs.Line.{pieces_of}
-use Rattle.xr_words.specs.Words.{BlameValues, CheckValues, ExportValues, JobValues, MakeValues, ProveValues}
-use Rattle.xr_words.specs.Words.{RepairValues, ReplayValues, Values}
-use Rattle.xr_words.specs.Words.{OfBlame, OfCheck, OfExport, OfMake, OfProve, OfRepair, OfReplay}
-use Rattle.xr_cli.specs.Certificate.{CertificateComes, CheckComes}
-use Rattle.xr_cli.specs.Code.{CodeComes, ForcedComes, code_in, moments_line, text_limit}
+use Rattle.xr_words.specs.Words.{OfFix}
+use Rattle.xr_words.specs.Words.{BlameValues, CheckValues, ExportValues, FixValues, MakeValues, ProveValues}
+use Rattle.xr_words.specs.Words.{RepairValues, AuditValues}
+use Rattle.xr_words.specs.Words.{ReplayValues, Values, OfBlame, OfCheck, OfExport, OfMake, OfProve, OfRepair, OfReplay}
+use Rattle.xr_words.specs.Words.{OfAudit}
+use Rattle.xr_phases.specs.Certificate.{CheckComes}
+use Rattle.xr_phases.specs.Code.{ForcedComes, moments_line, text_limit}
+use Rattle.xr_phases.specs.Phases.{certificate_phases, code_phases, compare_cause, itself, job_phases, netlist_cause}
+use Rattle.xr_phases.specs.Phases.{no_cause, proof_cause, recording_cause, scope_of, start_cause, walk_cause}
+use Rattle.xr_phases.specs.Sets.{StartsCome, sets_of}
 use Rattle.xr_cli.specs.Foreign.{ExportComes, refuted_line}
+use Rattle.xr_cli.specs.Audited.{AuditComes}
 use Rattle.xr_cli.specs.Listed.{BlameComes}
-use Rattle.xr_cli.specs.Made.{LengthComes, MadeComes, made_conflicts, made_job, made_netlist}
-use Rattle.xr_cli.specs.Repair.{CompareComes, Found, WalkComes, netlist_limit, recording_limit, rule_of}
-use Rattle.xr_cli.specs.declared.cause.Objection.{Objection}
-use Rattle.xr_cli.specs.declared.cause.Refused.{Refused}
-use Rattle.xr_cli.specs.declared.cause.Refused.TheVariants.{LongNetlist, Netlist, LongRecording, Recording, Compare}
-use Rattle.xr_cli.specs.declared.cause.Refused.TheVariants.{Certificate, Code, LongCertificate, LongCode, Optimistic}
-use Rattle.xr_cli.specs.declared.cause.Refused.TheVariants.{LongCnf, LongLog, Proof}
-use Rattle.xr_cli.specs.declared.cause.Uncertified.{Uncertified}
-use Rattle.xr_cli.specs.declared.parts.Parts.{Parts}
-
--- The causes that the phases find.
-abbrev pub netlist_cause : NetlistRefusal → Refused
-netlist_cause e = Netlist e
-
-abbrev pub recording_cause : RecordingRefusal → Refused
-recording_cause e = Recording e
-
-abbrev pub compare_cause : CompareRefusal → Refused
-compare_cause e = Compare e
-
-abbrev pub walk_cause : Objection → Refused
-walk_cause objection = Optimistic objection
-
-abbrev pub code_cause : CodeFault → Refused
-code_cause fault = Code fault
-
-abbrev pub uncertified_cause : Uncertified → Refused
-uncertified_cause cause = Certificate cause
-
-abbrev pub proof_cause : ProofFault → Refused
-proof_cause fault = Proof fault
-
-abbrev pub no_cause : ⊥ → Refused
-no_cause none = absurd none
-
-abbrev pub long_netlist : Unit {0} → Refused
-long_netlist _ = LongNetlist
-
-abbrev pub long_recording : Unit {0} → Refused
-long_recording _ = LongRecording
-
--- What is found, as it is; and that something was.
-abbrev pub itself : {X : Type 0} → X → X
-itself x = x
-
-abbrev pub nothing_in : {X : Type 0} → X → Unit {0}
-nothing_in _ = tt
-
--- The bytes of a text that is made.
-abbrev pub bytes_in : Vec ℕ Global → List ℕ
-bytes_in text = text.items
-
--- ---- a job
-
-abbrev pub parts : ANetlist → Recorded → Parts
-parts n r = record { netlist = n; recorded = r }
-
--- The names of the scope, from the outermost.
-abbrev pub scope_of : JobValues → List (List ℕ)
-scope_of w = pieces_of 46 w.scope
-
-abbrev pub netlist_phases : JobValues → Phases ANetlist Refused
-netlist_phases w = do
-  text ← reads w.netlists netlist_limit LongNetlist
-  judges (NetlistComes text w.top) netlist_cause
-
-abbrev pub recording_phases : JobValues → ANetlist → Phases Recorded Refused
-recording_phases w n = do
-  text ← reads (w.recording ∷ []) recording_limit LongRecording
-  judges (RecordingComes text n.design (scope_of w) w.rounds (rule_of w.start)) recording_cause
-
-abbrev pub job_phases : JobValues → Phases Parts Refused
-job_phases w = do
-  n ← netlist_phases w
-  r ← recording_phases w n
-  Phases.Finds (parts n r)
+use Rattle.xr_phases.specs.Repair.{LengthComes, CompareComes, Found, ReplayWalkComes, WalkComes, netlist_limit}
+use Rattle.xr_phases.specs.Repair.{recording_limit, rule_of}
+use Rattle.xr_cli.specs.Made.{MadeComes, made_conflicts, made_job, made_netlist}
+use Rattle.xr_phases.specs.declared.cause.Refused.{Refused}
+use Rattle.xr_phases.specs.declared.cause.Refused.TheVariants.{LongNetlist, LongRecording, LongCnf, LongLog}
+use Rattle.xr_phases.specs.declared.parts.Parts.{Parts}
 
 -- ---- repair
 
@@ -168,11 +100,6 @@ replay_answer w job history = record {
   printed = moments_line job.recorded.stim;
 }
 
-abbrev pub code_phases : ReplayValues → Parts → Phases (List Event) Refused
-code_phases w job = do
-  text ← reads (w.code ∷ []) text_limit LongCode
-  judges (CodeComes (code_in job text (scope_of w.job))) code_cause
-
 abbrev pub forced_phases : ReplayValues → Parts → List Event → Phases Answer Refused
 forced_phases w job forces = do
   history ← searches (ForcedComes job forces) no_cause
@@ -193,11 +120,6 @@ replay_phases w = do
 -- No file is written, and the report of the wave is printed.
 abbrev pub check_answer : Parts → Contents → Answer
 check_answer job wave = record { files = []; printed = report_text wave job.recorded.binding (forces_in wave) }
-
-abbrev pub certificate_phases : List ℕ → Phases Cert Refused
-certificate_phases name = do
-  text ← reads (name ∷ []) text_limit LongCertificate
-  judges (CertificateComes text) uncertified_cause
 
 abbrev pub checked_phases : CheckValues → Parts → Cert → Phases Answer Refused
 checked_phases w job cert = do
@@ -220,6 +142,16 @@ check_phases w = do
   compared_check w job
 
 -- ---- make
+
+-- The causes, and the bytes of a text that is made.
+abbrev pub long_netlist : Unit {0} → Refused
+long_netlist _ = LongNetlist
+
+abbrev pub long_recording : Unit {0} → Refused
+long_recording _ = LongRecording
+
+abbrev pub bytes_in : Vec ℕ Global → List ℕ
+bytes_in text = text.items
 
 -- F and R are written in this order.
 abbrev pub make_with : MakeValues → List ℕ → List ℕ → List ℕ → Answer
@@ -308,6 +240,23 @@ prove_phases w = do
   cnf ← reads (w.cnf ∷ []) text_limit LongCnf
   log_phases w cnf
 
+-- ---- audit
+
+-- The places that the replay knows otherwise are printed. Over a blank history no place is found otherwise, so the walk
+-- is refused for none.
+abbrev pub walk_audited : AuditValues → ANetlist → Recorded → Phases Answer Refused
+walk_audited w n r = searches (AuditComes w.conflicts n r) no_cause
+
+abbrev pub audited_phases : AuditValues → ANetlist → Recorded → Phases Answer Refused
+audited_phases w n r = do
+  agreed ← judges (CompareComes n r) compare_cause
+  walk_audited w n r
+
+abbrev pub audit_phases : AuditValues → Phases Answer Refused
+audit_phases w = do
+  job ← job_phases w.job
+  audited_phases w job.netlist job.recorded
+
 -- ---- blame
 
 -- What is to blame for the unknown bits is printed.
@@ -326,6 +275,38 @@ blame_phases w = do
   job ← job_phases w.job
   blamed_phases w job.netlist job.recorded
 
+-- ---- fix
+
+-- No file is written, and what the starts make known is printed, of so many as are set.
+abbrev pub fix_answer : FixValues → Recorded → Contents → Contents → Answer
+fix_answer w r before after =
+    record { files = []; printed = fix_text (length (sets_of w.sets)) before after r.binding }
+
+abbrev pub walk_set : FixValues → ANetlist → Recorded → Stim → Contents → Phases Answer Refused
+walk_set w n r stim before = do
+  after ← searches (ReplayWalkComes w.conflicts n stim) walk_cause
+  Phases.Finds (fix_answer w r before after.wave)
+
+abbrev pub walk_fixed : FixValues → ANetlist → Recorded → Stim → Phases Answer Refused
+walk_fixed w n r stim = do
+  before ← searches (ReplayWalkComes w.conflicts n r.stim) walk_cause
+  walk_set w n r stim before.wave
+
+abbrev pub set_phases : FixValues → ANetlist → Recorded → Phases Answer Refused
+set_phases w n r = do
+  stim ← judges (StartsCome n r.stim (sets_of w.sets)) start_cause
+  walk_fixed w n r stim
+
+abbrev pub fixed_phases : FixValues → ANetlist → Recorded → Phases Answer Refused
+fixed_phases w n r = do
+  agreed ← judges (CompareComes n r) compare_cause
+  set_phases w n r
+
+abbrev pub fix_phases : FixValues → Phases Answer Refused
+fix_phases w = do
+  job ← job_phases w.job
+  fixed_phases w job.netlist job.recorded
+
 -- ---- all
 
 abbrev pub phases_of : Values → Phases Answer Refused
@@ -335,4 +316,6 @@ phases_of (OfCheck w) = check_phases w
 phases_of (OfMake w) = make_phases w
 phases_of (OfExport w) = export_phases w
 phases_of (OfProve w) = prove_phases w
+phases_of (OfAudit w) = audit_phases w
 phases_of (OfBlame w) = blame_phases w
+phases_of (OfFix w) = fix_phases w

@@ -2,10 +2,10 @@
 use Rattle.std.specs.Prelude.{◌≡◌, ℕ, ◌<◌, ◌≤◌, List, length}
 use Rattle.xr_prove.specs.Proof.{IsProof, IsProofFault}
 use Rattle.xr_prove.specs.declared.fault.ProofFault.{ProofFault}
-use Rattle.xr_cli.specs.Code.{text_limit}
+use Rattle.xr_phases.specs.Code.{text_limit}
 use Rattle.xr_cli.specs.Foreign.{refuted_line}
-use Rattle.xr_cli.specs.declared.cause.Refused.{Refused}
-use Rattle.xr_cli.specs.declared.cause.Refused.TheVariants.{LongCnf, LongLog, Proof}
+use Rattle.xr_phases.specs.declared.cause.Refused.{Refused}
+use Rattle.xr_phases.specs.declared.cause.Refused.TheVariants.{LongCnf, LongLog, Proof}
 
 -- The texts stand for a formula and for a log over its variables, the log refutes the formula, and the number of its
 -- clauses is printed.

@@ -7,9 +7,9 @@ use Rattle.xr_job.specs.declared.netlist.Netlist.{Netlist as ANetlist}
 use Rattle.xr_job.specs.declared.recorded.Recorded.{Recorded}
 use Rattle.xr_out.specs.Text.{vcd_text}
 use Rattle.xr_words.specs.Words.{ReplayValues}
-use Rattle.xr_cli.specs.Code.{IsForced, code_in, moments_line}
-use Rattle.xr_cli.specs.Phases.{parts, scope_of}
-use Rattle.xr_cli.specs.Texts.{IsJob}
+use Rattle.xr_phases.specs.Code.{IsForced, code_in, moments_line}
+use Rattle.xr_phases.specs.Phases.{parts, scope_of}
+use Rattle.xr_phases.specs.Texts.{IsJob}
 
 -- The texts stand for a job, whose recording need not agree with its replay.
 pub record Replays (w : ReplayValues) (netlist recording code vcd printed : List ℕ) : Type 0 where

@@ -1,8 +1,10 @@
 //! The commands, a file each.
 
+pub mod audit;
 pub mod blame;
 pub mod check;
 pub mod export;
+pub mod fix;
 pub mod make;
 pub mod prove;
 pub mod repair;

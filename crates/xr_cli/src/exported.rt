@@ -6,16 +6,13 @@ ghost use Rattle.xr_job.specs.Compared.{job_in};
 ghost use Rattle.xr_run.specs.Prepared.{PreparedAlone, answer_of};
 ghost use Rattle.xr_words.specs.Words.{export_values};
 ghost use Rattle.xr_cli.specs.Phases.{exported_phases, walk_exported};
-ghost use Rattle.xr_cli.specs.Repair.{FitsParts};
+ghost use Rattle.xr_phases.specs.Repair.{FitsParts};
 
-use crate::cause::Refused;
-use crate::judged::compared;
-use crate::parts::Parts;
-use crate::walked::wave_of;
 use std::alloc::Global;
 use xr_code::read_times;
 use xr_design::History;
 use xr_export::export_texts;
+use xr_phases::{Parts, Refused, compared, wave_of};
 use xr_run::{Ready, Refusal};
 use xr_shelf::Sink;
 use xr_words::ExportWords;

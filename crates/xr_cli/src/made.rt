@@ -9,18 +9,12 @@ ghost use Rattle.xr_run.specs.Prepared.{Judged, PreparedAlone, answer_of};
 ghost use Rattle.xr_wave.specs.Contents.{IsFinished};
 ghost use Rattle.xr_words.specs.Words.{make_values};
 ghost use Rattle.xr_cli.specs.Made.{made_job, made_netlist};
-ghost use Rattle.xr_cli.specs.Phases.{bytes_in, itself, make_answer, make_phases, make_with, netlist_made};
-ghost use Rattle.xr_cli.specs.Phases.{recorded_made, recording_cause, recording_made, repaired_made, scope_of};
-ghost use Rattle.xr_cli.specs.Phases.{walk_made, with_recording};
-ghost use Rattle.xr_cli.specs.Repair.{FitsParts, rule_of};
+ghost use Rattle.xr_cli.specs.Phases.{bytes_in, make_answer, make_phases, make_with, netlist_made, recorded_made};
+ghost use Rattle.xr_cli.specs.Phases.{recording_made, repaired_made, walk_made, with_recording};
+ghost use Rattle.xr_phases.specs.Phases.{itself, recording_cause, scope_of};
+ghost use Rattle.xr_phases.specs.Repair.{FitsParts, rule_of};
 
-use crate::cause::Refused;
-use crate::job::{NETLIST_BYTES, RECORDING_BYTES};
-use crate::judged::{compared, netlist_in, recorded_in, short_in};
 use crate::made_texts::MadeTexts;
-use crate::parts::Parts;
-use crate::scope::names_of;
-use crate::walked::wave_of;
 use std::alloc::Global;
 use xr_base::Memory;
 use xr_code::read_times;
@@ -28,6 +22,10 @@ use xr_design::{History, StartRule};
 use xr_forces::forces_of;
 use xr_job::{Netlist, Recorded};
 use xr_make::{made_netlist, made_recording};
+use xr_phases::{
+    NETLIST_BYTES, Parts, RECORDING_BYTES, Refused, compared, names_of, netlist_in, recorded_in,
+    short_in, wave_of,
+};
 use xr_report::write_head;
 use xr_run::{Output, Ready, Refusal, Report};
 use xr_shelf::Sink;

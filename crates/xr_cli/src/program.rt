@@ -7,9 +7,11 @@ ghost use Rattle.xr_words.specs.Words.{Means, values_of};
 ghost use Rattle.xr_cli.specs.Commands.{commands};
 ghost use Rattle.xr_cli.specs.Ends.{Done, IsComplete, RefusesTexts};
 
+use crate::commands::audit::Audit;
 use crate::commands::blame::Blame;
 use crate::commands::check::Check;
 use crate::commands::export::Export;
+use crate::commands::fix::Fix;
 use crate::commands::make::Make;
 use crate::commands::prove::Prove;
 use crate::commands::repair::Repair;
@@ -64,6 +66,8 @@ fn run_words<S: Shelf, O: Sink>(
         Command::Make(words) => run_command(alloc, &Make { words }, shelf, out),
         Command::Export(words) => run_command(alloc, &Export { words }, shelf, out),
         Command::Prove(words) => run_command(alloc, &Prove { words }, shelf, out),
+        Command::Audit(words) => run_command(alloc, &Audit { words }, shelf, out),
         Command::Blame(words) => run_command(alloc, &Blame { words }, shelf, out),
+        Command::Fix(words) => run_command(alloc, &Fix { words }, shelf, out),
     }
 }

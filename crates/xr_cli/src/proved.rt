@@ -4,12 +4,13 @@ ghost use Rattle.std.specs.Prelude.{◌≡◌, IfOk};
 ghost use Rattle.xr_prove.specs.Proof.{ProofComes};
 ghost use Rattle.xr_run.specs.Prepared.{Judged, PreparedAlone, answer_of};
 ghost use Rattle.xr_cli.specs.Foreign.{refuted_line};
-ghost use Rattle.xr_cli.specs.Phases.{itself, proof_cause, proof_phases, prove_answer};
+ghost use Rattle.xr_phases.specs.Phases.{itself, proof_cause};
+ghost use Rattle.xr_cli.specs.Phases.{proof_phases, prove_answer};
 
-use crate::cause::Refused;
 use crate::checked::ready_with;
 use std::alloc::Global;
 use xr_base::{Memory, put, put_number};
+use xr_phases::Refused;
 use xr_prove::{ProofErr, check_proof};
 use xr_run::{Ready, Refusal, Report};
 

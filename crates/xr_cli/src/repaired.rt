@@ -6,16 +6,13 @@ ghost use Rattle.xr_job.specs.Compared.{job_in};
 ghost use Rattle.xr_run.specs.Prepared.{PreparedAlone, answer_of};
 ghost use Rattle.xr_words.specs.Words.{repair_values};
 ghost use Rattle.xr_cli.specs.Phases.{repaired_phases, walk_phases};
-ghost use Rattle.xr_cli.specs.Repair.{FitsJob, FitsParts};
+ghost use Rattle.xr_phases.specs.Repair.{FitsJob, FitsParts};
 
-use crate::cause::Refused;
-use crate::judged::compared;
-use crate::parts::Parts;
 use crate::texts::texts_of;
-use crate::walked::wave_of;
 use std::alloc::Global;
 use xr_design::History;
 use xr_job::{Netlist, Recorded};
+use xr_phases::{Parts, Refused, compared, wave_of};
 use xr_run::{Ready, Refusal};
 use xr_shelf::Sink;
 use xr_words::RepairWords;

@@ -5,9 +5,8 @@ ghost use Rattle.xr_wave.specs.Shown.{ShowsWave};
 ghost use Rattle.xr_run.specs.Prepared.{answer_of};
 ghost use Rattle.xr_words.specs.Words.{repair_values};
 ghost use Rattle.xr_cli.specs.Phases.{HasTexts, answer_with};
-ghost use Rattle.xr_cli.specs.Repair.{FitsJob, IsWaveOf};
+ghost use Rattle.xr_phases.specs.Repair.{FitsJob, IsWaveOf};
 
-use crate::scope::names_of;
 use std::alloc::Global;
 use xr_base::Memory;
 use xr_cert::write_cert;
@@ -16,6 +15,7 @@ use xr_design::History;
 use xr_forces::forces_of;
 use xr_job::{Netlist, Recorded};
 use xr_out::vcd_text;
+use xr_phases::names_of;
 use xr_report::write_report;
 use xr_run::{Output, Ready, Report};
 use xr_wave::Wave;

@@ -6,17 +6,18 @@ use Rattle.std.proofs.Math.ListN.{get_or-append}
 use Rattle.std.proofs.Math.Seq.{get_or-append_seam}
 use Rattle.std.proofs.lemmas.Bool.{cases_eq}
 use Rattle.std.proofs.lemmas.List.{get_or_default}
-use Rattle.std.proofs.lemmas.List.Elements.{Contains-append_left, Contains-get_or, Contains-push, Contains-push_cases}
+use Rattle.std.proofs.lemmas.List.Elements.{All-contains, Contains-append_left, Contains-get_or, Contains-push, Contains-push_cases}
 use Rattle.xr_cell.specs.declared.value.Value.{Value}
 use Rattle.xr_model.specs.Node.{ruled}
 use Rattle.xr_model.proofs.PlacesWhere.{in_picked}
 use Rattle.xr_proof.specs.Assignment.{HasNoZero}
 use Rattle.xr_proof.specs.Log.{Fit}
+use Rattle.xr_proof.proofs.ClosedSets.{all_from}
 use Rattle.xr_cone_nodes.specs.declared.node.Node.{Node}
 use Rattle.xr_cone_nodes.specs.declared.node.NodeBody.{NodeBody as Body}
 use Rattle.xr_cone_nodes.specs.declared.node.NodeBody.TheVariants.{Carried, Rule}
 use Rattle.xr_cone_nodes.specs.Nodes.{AreNodes, IsTable, StandsAt, body_at, body_of, node_at}
-use Rattle.xr_cnf.specs.Clauses.{AreQueryClauses, IsBodyClause, IsNodeClause, IsTableClause, denial_of, node_says}
+use Rattle.xr_cnf.specs.Clauses.{AreNodeClauses, AreQueryClauses, IsBodyClause, IsNodeClause, IsTableClause, denial_of, node_says}
 use Rattle.xr_cnf.specs.Growth.{AreOnce, IsEarlyClause, IsGrown}
 use Rattle.xr_cnf.specs.Literals.{AreLiterals, IsLiteral, literal_at, says, variables_of}
 use Rattle.xr_cnf.proofs.NodeLiterals.{ruled_few}
@@ -201,3 +202,26 @@ query_clauses nodes literals lists clauses base grown once = record {
       (Contains-append_left lists (denial_of literals base ∷ []) clause (grown.added clause is));
   denial = once.all (denial_of literals base) (Contains-push lists (denial_of literals base));
 }
+
+-- The clauses of the nodes alone.
+module _ (nodes : List Node) (literals : List ℤ) (are_nodes : AreNodes nodes) (are : AreLiterals nodes literals)
+    (lists : List (List ℤ)) (grown : IsGrown (IsNodeClause nodes literals) [] lists) where
+  pub nodes_no_zero : All HasNoZero lists
+  nodes_no_zero = all_from HasNoZero lists (λ clause at.
+      All-contains HasNoZero (lists ++ denial_of literals false ∷ []) clause
+      (lists_no_zero nodes literals are_nodes are lists false grown)
+      (Contains-append_left lists (denial_of literals false ∷ []) clause at))
+
+  node_of : (clause : List ℤ) → Contains lists clause → IsNodeClause nodes literals clause
+  node_of clause at = ⊎_elim (λ (none : Contains [] clause). absurd (let less = none.1 in omega (arith, less)))
+      (λ (node : IsNodeClause nodes literals clause). node) (grown.each clause at)
+
+  pub node_clauses_made : (clauses : List (List ℤ)) → AreOnce lists clauses → AreNodeClauses nodes literals clauses
+  node_clauses_made clauses once = record {
+    each = λ clause at. node_of clause (once.each clause at);
+    all = λ clause is. once.all clause (grown.added clause is);
+    once = once.once;
+    fit = all_from (λ c. All (λ l. nat_abs l ≤ variables_of nodes) c) clauses (λ clause at.
+        all_from (λ l. nat_abs l ≤ variables_of nodes) clause (λ l inside.
+        (clause_literal nodes literals are_nodes are clause (node_of clause (once.each clause at)) l inside).few));
+  }

@@ -55,3 +55,11 @@ pub record AreMade (nodes : List Node) (literals : List ℤ) (base : Bool) (clau
   pub of_query : AreQueryClauses nodes literals base clauses
   pub once : AllPairs (λ a b. a ≢ b) clauses
   pub fit : Fit (variables_of nodes) clauses
+
+-- Lists are the clauses of the nodes alone, each once, and no variable of them is over the number of the nodes'
+-- variables.
+pub record AreNodeClauses (nodes : List Node) (literals : List ℤ) (clauses : List (List ℤ)) : Type 0 where
+  pub each : (clause : List ℤ) → Contains clauses clause → IsNodeClause nodes literals clause
+  pub all : (clause : List ℤ) → IsNodeClause nodes literals clause → Contains clauses clause
+  pub once : AllPairs (λ a b. a ≢ b) clauses
+  pub fit : Fit (variables_of nodes) clauses

@@ -12,5 +12,6 @@ mod query;
 mod tables;
 
 pub use answers::{conclude, give_up};
+pub use literals::{literals_of, turned, variables_of};
 pub use model::model_filling;
-pub use query::clauses;
+pub use query::{clauses, node_clauses};

@@ -3,7 +3,7 @@
 ghost use Rattle.std.specs.Prelude.{◌≡◌, ◌^◌, ◌<◌, ◌≤◌, ◌∷◌, ◌++◌, [], IfOk, OnOk, length};
 ghost use Rattle.std.specs.List.{All};
 ghost use Rattle.xr_cone_nodes.specs.Nodes.{AreNodes, StandsAt};
-ghost use Rattle.xr_cnf.specs.Clauses.{AreMade, IsBodyClause, IsNodeClause, denial_of};
+ghost use Rattle.xr_cnf.specs.Clauses.{AreMade, AreNodeClauses, IsBodyClause, IsNodeClause, denial_of};
 ghost use Rattle.xr_cnf.specs.Growth.{IsGrown};
 ghost use Rattle.xr_cnf.specs.Literals.{AreLiterals, IsLiteral};
 ghost use Rattle.xr_cnf.specs.Query.{IsQueryOfNodes};
@@ -45,6 +45,18 @@ fn clauses_over(
     let mut lists = Lists::new(alloc);
     add_nodes(alloc, &mut lists, nodes, literals)?;
     add_denial(alloc, &mut lists, literals, base)?;
+    let clauses = lists.into_clauses(alloc)?;
+    Ok(clauses)
+}
+
+/// The clauses of all minimal choices of the tables of nodes, over their literals, each once.
+pub fn node_clauses(alloc: Global, nodes: &[Node], literals: &[i32]) -> Result<Vec<Clause>, Memory>
+    requires nodes { AreNodes nodes.now }
+    requires literals { AreLiterals nodes.now literals.now }
+    ensures { IfOk result (λ clauses. AreNodeClauses nodes.now literals.now clauses.items) }
+{
+    let mut lists = Lists::new(alloc);
+    add_nodes(alloc, &mut lists, nodes, literals)?;
     let clauses = lists.into_clauses(alloc)?;
     Ok(clauses)
 }

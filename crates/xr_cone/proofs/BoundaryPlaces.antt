@@ -32,8 +32,8 @@ use Rattle.xr_cone_nodes.specs.declared.node.NodeBody.TheVariants.{Carried, Rule
 use Rattle.xr_cone_nodes.specs.Nodes.{body_at, body_of, node_at, place_of_node}
 use Rattle.xr_cone_nodes.specs.Traced.{IsWholeCone, cone_in}
 use Rattle.xr_cone.specs.Boundary.{IsBoundary, IsCertainBoundary, IsFallingBoundary, IsPlaceIn, is_certain_in, boundary_in, is_boundary, is_outside, number_in, read_in, reads}
-use Rattle.xr_cone.specs.InWave.{IsInReach}
-use Rattle.xr_cone.proofs.NumberBits.{index_among}
+use Rattle.xr_rests.specs.InWave.{IsInReach}
+use Rattle.xr_rests.proofs.NumberBits.{index_among}
 
 or_nothing : (b : Bool) → b || false ≡ b
 or_nothing true = refl
@@ -169,7 +169,7 @@ taken_ends all taken waiting so none = record {
 }
 
 -- A place that some places read is below the greatest of them.
-reader_below : (c : Contents) (root k : ℕ) (places : List ℕ) → AllByRecursion (λ p. p ≤ root) places
+pub reader_below : (c : Contents) (root k : ℕ) (places : List ℕ) → AllByRecursion (λ p. p ≤ root) places
     → list_any (reads (job c) (certain c.written) k) places ≡ true → k < root
 reader_below c root k [] all some = cc
 reader_below c root k (p ∷ ps) all some = ⊎_elim

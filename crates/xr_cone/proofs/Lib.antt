@@ -1,11 +1,9 @@
 -- Lemmas on cones as they are traced.
 mod BoundaryPlaces
 mod ConeNodes
-mod EssentialBits
 pub mod GrownCones
 pub mod KnownBodies
+mod NearPlaces
 mod NextLine
-mod NumberBits
-mod RisingLists
 mod TracedBodies
 mod TracedPlaces

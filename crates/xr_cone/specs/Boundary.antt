@@ -1,5 +1,5 @@
 -- The boundary of a cone: the places that its places read and that aren't of it, and which of these are certain.
-use Rattle.std.specs.Prelude.{◌≡◌, ℕ, ◌<◌, ◌&&◌, Bool, not, List, [], filter, length, map, reverse}
+use Rattle.std.specs.Prelude.{◌≡◌, ℕ, ◌+◌, ◌<◌, ◌&&◌, ◌||◌, Bool, not, List, [], filter, length, map, reverse}
 use Rattle.std.specs.List.{AllByRecursion, list_any}
 use Rattle.xr_cell.specs.declared.value.Value.{Value}
 use Rattle.xr_cell.specs.Value.{is_unknown}
@@ -10,7 +10,7 @@ use Rattle.xr_design.specs.Job.{Job, number_of, places_of}
 use Rattle.xr_design.specs.Waveform.{certain}
 use Rattle.xr_model.specs.Assignment.{argument_places}
 use Rattle.xr_model.specs.Class.{class_of}
-use Rattle.xr_model.specs.Cone.{cone, is_carried}
+use Rattle.xr_model.specs.Cone.{cone, in_cone, is_carried}
 use Rattle.xr_model.specs.Places.{among, places_where}
 use Rattle.xr_wave.specs.Contents.{Contents, job}
 use Rattle.xr_cone_nodes.specs.declared.node.Node.{Node}
@@ -38,11 +38,24 @@ abbrev pub boundary_in : Contents → ℕ → List ℕ
 boundary_in c root = boundary (job c) (certain c.written) root
 
 -- The certain boundary are its certain places.
+abbrev pub certain_boundary : Job → (ℕ → Value) → ℕ → List ℕ
+certain_boundary j certain root = filter (λ k. not (is_unknown (certain k))) (boundary j certain root)
+
 abbrev pub is_certain_in : Contents → ℕ → Bool
 is_certain_in c k = not (is_unknown (certain c.written k))
 
 abbrev pub certain_boundary_in : Contents → ℕ → List ℕ
-certain_boundary_in c root = filter (is_certain_in c) (boundary_in c root)
+certain_boundary_in c root = certain_boundary (job c) (certain c.written) root
+
+-- Places of the cone and of its boundary.
+abbrev pub is_near : Job → (ℕ → Value) → ℕ → ℕ → Bool
+is_near j certain root k = in_cone j certain root k || is_boundary j certain root k
+
+abbrev pub near : Job → (ℕ → Value) → ℕ → List ℕ
+near j certain root = places_where (is_near j certain root) (root + 1)
+
+abbrev pub near_in : Contents → ℕ → List ℕ
+near_in c root = near (job c) (certain c.written) root
 
 -- Nodes are the whole cone of some place of a wave.
 pub record IsSomeCone (c : Contents) (nodes : List Node) : Type 0 where
@@ -57,6 +70,13 @@ IsBoundary c nodes places =
 abbrev pub IsCertainBoundary : Contents → List Node → List Place → Type 0
 IsCertainBoundary c nodes places =
     (root : ℕ) → IsWholeCone c root nodes → places ≡ map (place_at (job c)) (certain_boundary_in c root)
+
+-- Numbers of places are those of the places of the cone, in place order, or of these and its boundary.
+abbrev pub AreInside : Contents → List Node → List ℕ → Type 0
+AreInside c nodes numbers = (root : ℕ) → IsWholeCone c root nodes → numbers ≡ cone (job c) (certain c.written) root
+
+abbrev pub AreNear : Contents → List Node → List ℕ → Type 0
+AreNear c nodes numbers = (root : ℕ) → IsWholeCone c root nodes → numbers ≡ near_in c root
 
 -- Numbers of places are those of the boundary, from the greatest to the least, each of a written place of the job.
 pub record IsFallingBoundary (c : Contents) (nodes : List Node) (numbers : List ℕ) : Type 0 where

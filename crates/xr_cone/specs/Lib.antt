@@ -1,8 +1,5 @@
 -- Definitions of what code finds of a cone.
 pub mod Boundary
 pub mod Cones
-pub mod InWave
 pub mod Known
 pub mod Placed
-pub mod Table
-pub mod Traced

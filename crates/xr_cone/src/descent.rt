@@ -2,15 +2,15 @@
 
 ghost use Rattle.std.specs.Prelude.{IfOk, OnOk};
 ghost use Rattle.xr_reached.specs.Reached.{AddsAll};
-ghost use Rattle.xr_cone.specs.InWave.{AreTracedIn, IsInReach};
+ghost use Rattle.xr_rests.specs.InWave.{AreTracedIn, IsInReach};
 ghost use Rattle.xr_cone.specs.Known.{IsRightOf};
-ghost use Rattle.xr_cone.specs.Traced.{supports_in};
+ghost use Rattle.xr_rests.specs.Traced.{supports_in};
 
-use crate::traced::TracedBody;
 use crate::tracer::Tracer;
 use std::alloc::Global;
 use xr_base::Memory;
 use xr_reached::Reached;
+use xr_rests::TracedBody;
 use xr_wave::Wave;
 
 /// The places of a cone, the greatest first: all that reach a place stand behind it, so once it is the greatest that is
@@ -48,7 +48,8 @@ pub fn insert_supports(reached: &mut Reached, body: &TracedBody) -> Result<(), M
     }
 }
 
-fn insert_all(reached: &mut Reached, places: &[usize]) -> Result<(), Memory>
+/// Some places come in.
+pub fn insert_all(reached: &mut Reached, places: &[usize]) -> Result<(), Memory>
     ensures { OnOk result (AddsAll reached.old places.now reached.new) }
 {
     'places: for place in places {

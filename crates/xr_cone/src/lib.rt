@@ -6,22 +6,23 @@
 //! for each choice of bits for its uncertain arguments, at most 2^13; a tracer keeps what it rests on, so that it costs
 //! this once. Nothing grows with the wave but the slots of a tracer, up to their bound. Start at
 //! `Cones::cone`, which takes a cone from the graph of lanes as long as that is kept; `Tracer::trace` traces it. `trace` and
-//! `trace_at` are for one cone alone, `boundary` and `certain_boundary` for what its rules read.
+//! `trace_at` are for one cone alone, `boundary`, `certain_boundary` and `near_places` for what its rules read.
 #![tactic(auto)]
 
 mod cones;
 mod descent;
 mod laws;
+mod near;
 mod outside;
 mod positions;
-mod table;
 mod traced;
 mod tracer;
 mod tracing;
 
 pub use cones::Cones;
 pub use laws::tracers_stay_right;
-pub use outside::{boundary, certain_boundary};
+pub use near::{cone_places, near_places, position_in, positions_in};
+pub use outside::{boundary, certain_boundary, is_among};
 pub use tracer::Tracer;
 pub use tracing::{trace, trace_at};
 pub use xr_cone_choices::{Choice, minimal_choices};

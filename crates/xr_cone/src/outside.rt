@@ -10,7 +10,7 @@ ghost use Rattle.xr_design.specs.Job.{places_of};
 ghost use Rattle.xr_model.specs.Places.{among};
 ghost use Rattle.xr_reached.specs.Reached.{AddsAll, AreTaken};
 ghost use Rattle.xr_cone.specs.Boundary.{IsBoundary, IsCertainBoundary, IsFallingBoundary, IsPlaceIn, IsSomeCone, is_certain_in, is_outside, number_in, read_in};
-ghost use Rattle.xr_cone.specs.InWave.{IsInReach};
+ghost use Rattle.xr_rests.specs.InWave.{IsInReach};
 
 use std::alloc::Global;
 use xr_base::Memory;
@@ -41,7 +41,7 @@ pub fn certain_boundary(alloc: Global, wave: &Wave<'_>, cone: &Cone) -> Result<V
 }
 
 /// The numbers of the boundary places, the greatest first.
-fn falling_boundary(alloc: Global, wave: &Wave<'_>, cone: &Cone) -> Result<Vec<usize>, Memory>
+pub fn falling_boundary(alloc: Global, wave: &Wave<'_>, cone: &Cone) -> Result<Vec<usize>, Memory>
     requires { IsSomeCone wave.now cone.now.nodes }
     ensures { IfOk result (λ numbers. IsFallingBoundary wave.now cone.now.nodes numbers.items) }
 {
@@ -82,7 +82,12 @@ fn is_certain(wave: &Wave<'_>, number: usize) -> bool
     Source::value(wave, number).is_known()
 }
 
-fn numbers_of(alloc: Global, circuit: &Circuit<'_>, nodes: &[Node]) -> Result<Vec<usize>, Memory>
+/// The numbers of the places of nodes.
+pub fn numbers_of(
+    alloc: Global,
+    circuit: &Circuit<'_>,
+    nodes: &[Node],
+) -> Result<Vec<usize>, Memory>
     requires fits { CircuitFits circuit.now }
     requires places { AllByRecursion (IsPlaceIn (job_in circuit.now)) nodes.now }
     ensures { IfOk result (λ numbers. numbers.items ≡ map (number_in (job_in circuit.now)) nodes.now) }
@@ -130,7 +135,8 @@ fn add_outside(cone: &[usize], places: &[usize], reached: &mut Reached) -> Resul
     Ok(())
 }
 
-fn is_among(places: &[usize], place: usize) -> bool
+/// Whether a place is among places that ascend. Takes no memory.
+pub fn is_among(places: &[usize], place: usize) -> bool
     requires { IsStrictlyIncreasing places.now }
     ensures { result ≡ among places.now place }
 {
@@ -141,7 +147,7 @@ fn is_among(places: &[usize], place: usize) -> bool
 }
 
 /// The places that are reached, the greatest first.
-fn taken_of(alloc: Global, mut reached: Reached) -> Result<Vec<usize>, Memory>
+pub fn taken_of(alloc: Global, mut reached: Reached) -> Result<Vec<usize>, Memory>
     ensures { IfOk result (λ taken. AreTaken reached taken.items) }
 {
     let mut taken = Vec::new(alloc);

@@ -5,13 +5,13 @@ ghost use Rattle.std.specs.List.{AllByRecursion};
 ghost use Rattle.std.specs.List.Sorted.{IsStrictlyIncreasing};
 ghost use Rattle.xr_model.specs.Places.{among};
 ghost use Rattle.xr_cone.specs.Placed.{IsPlaced};
-ghost use Rattle.xr_cone.specs.Traced.{supports_in};
+ghost use Rattle.xr_rests.specs.Traced.{supports_in};
 
-use crate::traced::TracedBody;
 use crate::tracer::slot_of;
 use std::alloc::Global;
 use xr_base::Memory;
 use xr_cone_nodes::{NodeBody, Positions, Values};
+use xr_rests::TracedBody;
 
 /// What a place rests on, where that is among some places. Each is looked for first where it is hinted that it stands.
 pub fn place_body(
@@ -37,9 +37,10 @@ pub fn place_body(
     }
 }
 
-fn positions_of(hints: &[u32], places: &[usize], arguments: &[usize]) -> Positions
+/// Where some places stand in a list that ascends.
+pub fn positions_of(hints: &[u32], places: &[usize], arguments: &[usize]) -> Positions
     requires rising { IsStrictlyIncreasing places.now }
-    requires few { length places.now < 2 ^ 27 }
+    requires few { length places.now ≤ 2 ^ 27 }
     requires few_arguments { length arguments.now ≤ 13 }
     requires all { AllByRecursion (λ k. among places.now k ≡ true) arguments.now }
     ensures within { AllByRecursion (λ p. p < length places.now) result }
@@ -53,9 +54,9 @@ fn positions_of(hints: &[u32], places: &[usize], arguments: &[usize]) -> Positio
 }
 
 /// Where a place stands in a list that ascends.
-fn position_of(hints: &[u32], places: &[usize], place: usize) -> u32
+pub fn position_of(hints: &[u32], places: &[usize], place: usize) -> u32
     requires rising { IsStrictlyIncreasing places.now }
-    requires few { length places.now < 2 ^ 27 }
+    requires few { length places.now ≤ 2 ^ 27 }
     requires inside { among places.now place ≡ true }
     ensures within { result < length places.now }
     ensures place { slice_index places.now result ≡ place }

@@ -53,10 +53,22 @@ power_smaller k low = pow-le-pow_right (omega arith) low
 pub one_block : (sources : ℕ) → sources < 8 → 2 ^ sources ≤ 256
 one_block sources less = power_small sources (omega arith)
 
-pub more_blocks : (sources : ℕ) → 8 ≤ sources → sources ≤ 12
-    → (2 ^ sources ≤ 256 * (1 * 2 ^ (sources - 8) % 2 ^ 64)) × (1 * 2 ^ (sources - 8) % 2 ^ 64 ≤ 16)
+pub more_blocks : (sources : ℕ) → 8 ≤ sources → sources ≤ 16
+    → (2 ^ sources ≤ 256 * (1 * 2 ^ (sources - 8) % 2 ^ 64)) × (1 * 2 ^ (sources - 8) % 2 ^ 64 ≤ 256)
 more_blocks sources low few =
-    let small = power_smaller (sources - 8) (omega arith) in
+    let small = power_small (sources - 8) (omega arith) in
     let whole : 8 + (sources - 8) ≡ sources = omega arith in
     let split : 2 ^ sources ≡ 256 * 2 ^ (sources - 8) = ap (λ n. 2 ^ n) (sym whole) ∙ pow-add 2 8 (sources - 8) in
     (omega (arith, small, split), omega (arith, small))
+
+power_some : (k : ℕ) → 0 ≤ k → 2 ^ 0 ≤ 2 ^ k
+power_some k low = pow-le-pow_right (omega arith) low
+
+pub some_blocks : (sources : ℕ) → 8 ≤ sources → sources ≤ 16 → 0 < 1 * 2 ^ (sources - 8) % 2 ^ 64
+some_blocks sources low few =
+    let small = power_small (sources - 8) (omega arith) in
+    let some = power_some (sources - 8) (omega arith) in
+    omega (arith, small, some)
+
+pub few_blocks : (sources : ℕ) → 8 ≤ sources → sources ≤ 12 → 1 * 2 ^ (sources - 8) % 2 ^ 64 ≤ 16
+few_blocks sources low few = (let small = power_smaller (sources - 8) (omega arith) in omega (arith, small))

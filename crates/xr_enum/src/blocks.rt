@@ -5,11 +5,13 @@ ghost use Rattle.xr_enum.specs.Blocks.{IsBlock, AreLanesOf};
 
 use xr_cone_nodes::LaneBits;
 
-/// How many blocks hold all fillings.
+/// How many blocks hold all fillings. Takes no memory.
 pub fn number_blocks(sources: usize) -> usize
-    requires { sources ≤ 12 }
+    requires { sources ≤ 16 }
     ensures enough { 2 ^ sources ≤ 256 * result }
-    ensures few { result ≤ 16 }
+    ensures some { 0 < result }
+    ensures few { result ≤ 256 }
+    ensures fewer { sources ≤ 12 → result ≤ 16 }
 {
     if sources < 8 { 1 } else { 1 << (sources - 8) }
 }
@@ -20,12 +22,13 @@ pub fn fill_block(given: &mut [LaneBits; 12], block: usize)
     ensures long { length given.new ≡ 12 }
 {
     'sources: for source in 0..12 {
-        given[source] = lanes_of(block, source);
+        given[source] = source_lanes(block, source);
     }
 }
 
-fn lanes_of(block: usize, source: usize) -> LaneBits
-    requires { source ≤ 12 }
+/// The lanes of a source in a block. Takes no memory.
+pub fn source_lanes(block: usize, source: usize) -> LaneBits
+    requires { source < 64 }
     ensures { AreLanesOf block source result }
 {
     if source < 8 {

@@ -53,8 +53,8 @@ fn has_no_fewer(block: usize, found: Option<usize>) -> bool
     }
 }
 
-/// Of what is found twice, the number with fewer ones, the first where they have as many.
-fn fewer(first: Option<usize>, second: Option<usize>) -> Option<usize>
+/// Of what is found twice, the number with fewer ones, the first where they have as many. Takes no memory.
+pub fn fewer(first: Option<usize>, second: Option<usize>) -> Option<usize>
     ensures { result ≡ fewer first second }
 {
     match first {

@@ -7,4 +7,6 @@ mod blocks;
 mod decision;
 mod found;
 
+pub use blocks::{number_blocks, source_lanes};
 pub use decision::{Decided, decide};
+pub use found::fewer;

@@ -1,6 +1,6 @@
 -- Pieces that are set one by one.
 use Rattle.std.proofs.Common.{◌≡◌, ℕ, zero, suc, ◌+◌, ◌<◌, Bool, true, false, not, Option, None, Some, List, [], ◌∷◌, ◌++◌, length, take, get_or, refl, sym, ap, ◌∙◌, subst, arith, add-one, ⊎_elim, if◌then◌else◌, slice_set}
-use Rattle.std.specs.Prelude.{◌≢◌, Err, IfErr, Ok, Result}
+use Rattle.std.specs.Prelude.{Err, IfErr, IfSome, Ok, Result}
 use Rattle.std.specs.Result.{IsErrAnd}
 use Rattle.std.proofs.Math.ListN.{length-set}
 use Rattle.std.proofs.lemmas.Bool.{cases_eq}
@@ -11,8 +11,10 @@ use Rattle.xr_design.specs.declared.design.Design.{Design}
 use Rattle.xr_elab_names.specs.Sets.{has}
 use Rattle.xr_fix.specs.Registers.{register_named}
 use Rattle.xr_fix.specs.Started.{AreFine, IsFirstFault, Piece, fault_at, fault_by, names_of, piece_at, started_below, with_start}
-use Rattle.xr_fix.specs.declared.starts.FixErr.{FixErr}
-use Rattle.xr_fix.specs.declared.starts.FixErr.TheVariants.{Memory}
+use Rattle.xr_fix.specs.Fault.{fault_in}
+use Rattle.xr_fix.specs.declared.refusal.FixErr.{FixErr}
+use Rattle.xr_fix.specs.declared.refusal.FixErr.TheVariants.{Refused}
+use Rattle.xr_fix.specs.declared.refusal.StartFault.{StartFault}
 
 -- What is in hand at a piece: the names of the pieces before it, and whether its own is another.
 pub record IsInHand (design : Design) (pieces : List Piece) (n : ℕ) (seen : List (List ℕ)) (new : Bool)
@@ -44,7 +46,7 @@ fault_is design starts pieces n names fresh found is =
     ∙ ap (λ (o : Option ℕ). fault_by o (has (names_of (take n pieces)) name) starts (n + 1)) is.found
 
 pub first_fault : (design : Design) (starts : List Value) (pieces : List Piece) (n : ℕ) (names : List (List ℕ))
-    (fresh : Bool) (found : Option ℕ) (fault : FixErr) → IsInHand design pieces n names fresh found
+    (fresh : Bool) (found : Option ℕ) (fault : StartFault) → IsInHand design pieces n names fresh found
     → AreFine design starts pieces n → fault_by found (not fresh) starts (n + 1) ≡ Some fault
     → IsFirstFault design starts pieces fault
 first_fault design starts pieces n names fresh found fault is fine at_fault = record {
@@ -103,8 +105,8 @@ piece_set design starts pieces n names more fresh found net now hand before is f
 
 -- So is the error that is answered for it.
 pub refused_by : {A : Type 0} {design : Design} {starts : List Value} {pieces : List Piece} (result : Result A FixErr)
-    (fault : FixErr) → IsErrAnd result (λ e. e ≡ fault) → IsFirstFault design starts pieces fault
-    → IfErr result (λ e. e ≢ Memory → IsFirstFault design starts pieces e)
+    (fault : StartFault) → IsErrAnd result (λ e. e ≡ Refused fault) → IsFirstFault design starts pieces fault
+    → IfErr result (λ e. IfSome (fault_in e) (IsFirstFault design starts pieces))
 refused_by (Ok a) fault is first = tt
-refused_by {A} {design} {starts} {pieces} (Err e) fault is first = λ other.
-    subst (IsFirstFault design starts pieces) (sym is) first
+refused_by {A} {design} {starts} {pieces} (Err e) fault is first =
+    subst (λ (x : FixErr). IfSome (fault_in x) (IsFirstFault design starts pieces)) (sym is) first

@@ -8,8 +8,8 @@ use Rattle.xr_design.specs.declared.stim.Stim.{Stim}
 use Rattle.xr_elab_names.specs.Sets.{has}
 use Rattle.xr_laws.specs.Starts.{DifferInStarts}
 use Rattle.xr_fix.specs.Registers.{register_named}
-use Rattle.xr_fix.specs.declared.starts.FixErr.{FixErr}
-use Rattle.xr_fix.specs.declared.starts.FixErr.TheVariants.{NoRegister, Twice, KnownStart}
+use Rattle.xr_fix.specs.declared.refusal.StartFault.{StartFault}
+use Rattle.xr_fix.specs.declared.refusal.StartFault.TheVariants.{NoRegister, Twice, KnownStart}
 
 -- A written name, and the bit that its register is to start with.
 abbrev pub Piece : Type 0
@@ -26,19 +26,19 @@ abbrev pub register_at : Design → List Piece → ℕ → Option ℕ
 register_at design pieces k = register_named design.nets (piece_at pieces k).0
 
 -- A start that isn't x can't be set.
-abbrev pub start_fault : Value → ℕ → Option FixErr
+abbrev pub start_fault : Value → ℕ → Option StartFault
 start_fault Zero index = Some (KnownStart index)
 start_fault One index = Some (KnownStart index)
 start_fault X index = None
 start_fault Z index = Some (KnownStart index)
 
 -- Why a piece is at fault, by its register, whether an earlier piece has its name, the starts, and its number from 1.
-abbrev pub fault_by : Option ℕ → Bool → List Value → ℕ → Option FixErr
+abbrev pub fault_by : Option ℕ → Bool → List Value → ℕ → Option StartFault
 fault_by None twice starts index = Some (NoRegister index)
 fault_by (Some net) true starts index = Some (Twice index)
 fault_by (Some net) false starts index = start_fault (slice_index_or starts net X) index
 
-abbrev pub fault_at : Design → List Value → List Piece → ℕ → Option FixErr
+abbrev pub fault_at : Design → List Value → List Piece → ℕ → Option StartFault
 fault_at design starts pieces k =
     fault_by (register_at design pieces k) (has (names_of (take k pieces)) (piece_at pieces k).0) starts (k + 1)
 
@@ -47,7 +47,7 @@ abbrev pub AreFine : Design → List Value → List Piece → ℕ → Type 0
 AreFine design starts pieces n = (k : ℕ) → k < n → fault_at design starts pieces k ≡ None
 
 -- The first piece at fault, and why.
-pub record IsFirstFault (design : Design) (starts : List Value) (pieces : List Piece) (fault : FixErr) : Type 0 where
+pub record IsFirstFault (design : Design) (starts : List Value) (pieces : List Piece) (fault : StartFault) : Type 0 where
   pub at : ℕ
   pub within : at < length pieces
   pub is : fault_at design starts pieces at ≡ Some fault

@@ -1,50 +1,18 @@
 //! A stimulus whose registers start with given bits.
 
-ghost use Rattle.std.specs.Prelude.{◌≡◌, ◌≢◌, ◌<◌, ◌≤◌, ◌^◌, None, Some, IfErr, IfOk, IfSome, OnOk, length};
+ghost use Rattle.std.specs.Prelude.{◌≡◌, ◌<◌, ◌≤◌, ◌^◌, None, Some, IfErr, IfOk, IfSome, OnOk, length};
 ghost use Rattle.xr_design.specs.Design.{FitsDesign};
 ghost use Rattle.xr_design.specs.Stim.{FitsStim};
+ghost use Rattle.xr_fix.specs.Fault.{fault_in};
 ghost use Rattle.xr_fix.specs.Started as spec;
-ghost use Rattle.xr_fix.specs.declared.starts.FixErr.TheVariants.{Memory as OutOfMemory};
 
+use crate::refusal::{FixErr, StartFault};
 use crate::registers::Registers;
-use std::alloc::{AllocError, Global};
+use std::alloc::Global;
 use xr_base::{Items, Memory};
 use xr_cell::Value;
 use xr_design::{Bytes, Design, Stim};
 use xr_elab_names::NameSet;
-
-/// Why starts can't be set. Pieces are numbered from 1.
-#[derive(Clone, Copy, Debug, PartialEq, Eq)]
-pub enum FixErr {
-    /// The name isn't that of a register.
-    NoRegister { index: usize },
-    /// An earlier piece has the name.
-    Twice { index: usize },
-    /// The register's start isn't x.
-    KnownStart { index: usize },
-    /// There was no memory.
-    Memory,
-}
-
-impl From<Memory> for FixErr {
-    ghost use Rattle.xr_fix.specs.declared.starts.FixErr.TheVariants.{Memory as OutOfMemory};
-
-    ghost from_gives = { λ _ refusal. refusal ≡ OutOfMemory };
-
-    fn from(_: Memory) -> Self {
-        FixErr::Memory
-    }
-}
-
-impl From<AllocError> for FixErr {
-    ghost use Rattle.xr_fix.specs.declared.starts.FixErr.TheVariants.{Memory as OutOfMemory};
-
-    ghost from_gives = { λ _ refusal. refusal ≡ OutOfMemory };
-
-    fn from(_: AllocError) -> Self {
-        FixErr::Memory
-    }
-}
 
 /// The stimulus with these bits as starts, each of the register with a written name, and all else equal; or the first
 /// piece at fault. Takes a byte for each value of the stimulus, the written names of all registers once, and a few
@@ -58,7 +26,8 @@ pub fn with_starts(
     requires design { FitsDesign design.now }
     requires stim { FitsStim design.now stim.now }
     ensures started { IfOk result (spec.IsStarted design.now stim.now sets.now) }
-    ensures refused { IfErr result (λ e. e ≢ OutOfMemory → spec.IsFirstFault design.now stim.now.starts sets.now e) }
+    ensures refused { IfErr result (λ e. IfSome (fault_in e)
+        (spec.IsFirstFault design.now stim.now.starts sets.now)) }
 
     // so it fits too, and only unknown starts were set
     ensures fits { IfOk result (FitsStim design.now) }
@@ -87,7 +56,7 @@ fn started(
     requires starts { length starts.now ≡ length design.now.nets }
     ensures fine { OnOk result (spec.AreFine design.now starts.now sets.now (length sets.now)) }
     ensures started { IfOk result (λ new. new.items ≡ spec.started design.now starts.now sets.now) }
-    ensures refused { IfErr result (λ e. e ≢ OutOfMemory → spec.IsFirstFault design.now starts.now sets.now e) }
+    ensures refused { IfErr result (λ e. IfSome (fault_in e) (spec.IsFirstFault design.now starts.now sets.now)) }
 {
     let registers = Registers::new(alloc, design)?;
     let mut names = NameSet::new(alloc);
@@ -102,21 +71,26 @@ fn started(
 }
 
 /// The register of a piece with this number, or why the piece is at fault.
-fn register_of(net: Option<u32>, again: bool, starts: &[Value], index: usize) -> Result<u32, FixErr>
+fn register_of(
+    net: Option<u32>,
+    again: bool,
+    starts: &[Value],
+    index: usize,
+) -> Result<u32, StartFault>
     requires { IfSome net (λ n. n < length starts.now) }
     ensures register { IfOk result (λ n. net ≡ Some n) }
     ensures fine { OnOk result (spec.fault_by net again starts.now index ≡ None) }
     ensures fault { IfErr result (λ e. spec.fault_by net again starts.now index ≡ Some e) }
 {
     let Some(net) = net else {
-        return Err(FixErr::NoRegister { index });
+        return Err(StartFault::NoRegister { index });
     };
     if again {
-        return Err(FixErr::Twice { index });
+        return Err(StartFault::Twice { index });
     }
     match starts[net as usize] {
         Value::X => Ok(net),
-        _ => Err(FixErr::KnownStart { index }),
+        _ => Err(StartFault::KnownStart { index }),
     }
 }
 

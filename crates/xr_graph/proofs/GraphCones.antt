@@ -71,7 +71,7 @@ only_among : (from k : ℕ) → among (from ∷ []) k ≡ true → from ≡ k
 only_among from k at = ⊎_elim (λ (same : (from == k) ≡ true). eqb-true from k same)
     (λ (none : false ≡ true). let e : false ≡ true = none in cc) (or_cases (from == k) false at)
 
-maps_at : {A B C : Type 0} (f : A → C) (g : B → C) (xs : List A) (ys : List B) (d : A) (e : B) (i : ℕ)
+pub maps_at : {A B C : Type 0} (f : A → C) (g : B → C) (xs : List A) (ys : List B) (d : A) (e : B) (i : ℕ)
     → map f xs ≡ map g ys → i < length xs → f (slice_index_or xs i d) ≡ g (slice_index_or ys i e)
 maps_at f g [] ys d e i same less = absurd (omega arith)
 maps_at f g (x ∷ xs) [] d e i same less = cc

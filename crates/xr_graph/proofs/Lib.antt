@@ -1,4 +1,5 @@
 -- Lemmas on graphs.
+pub mod GraphBits
 pub mod GraphCones
 pub mod GrownGraphs
 pub mod KeptLists

@@ -1,4 +1,5 @@
 -- Definitions of graphs.
+pub mod Bits
 pub mod Graph
 pub mod Kept
 pub mod Picked

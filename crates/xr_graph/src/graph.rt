@@ -1,10 +1,12 @@
 //! The nodes that are kept, and the cones of their places.
 
 ghost use Rattle.std.specs.Prelude.{◌≡◌, ◌<◌, ◌≤◌, ◌^◌, [], IfOk, OnOk, length};
+ghost use Rattle.xr_cone_nodes.specs.Nodes.{StandsAt, node_at};
 ghost use Rattle.xr_graph.specs.Graph.{IsConeOfNode};
+ghost use Rattle.xr_graph.specs.Kept.{node_of};
 ghost use Rattle.xr_graph.specs.NodeRoots.{AddsNode, AreNodeRoots};
 
-use crate::kept::KeptNodes;
+use crate::kept::{KeptNode, KeptNodes};
 use crate::node_root::{NodeRoot, nodes_of, turned_values};
 use crate::picked::picked_nodes;
 use crate::walk::reached_nodes;
@@ -69,6 +71,15 @@ impl Graph {
         self.nodes
             .push(place, arguments.as_slice(), values.as_slice())?;
         Ok(())
+    }
+
+    /// The node of a number: its place, the nodes that it reads, and its table over these. Takes no memory.
+    pub fn node(&self, number: usize) -> KeptNode<'_>
+        requires { number < length self.now }
+        ensures node { node_at self.now number ≡ node_of result }
+        ensures stands { StandsAt number (node_of result).body }
+    {
+        self.nodes.node(number)
     }
 
     /// The cone of the place of a node: the nodes that are reached from it, by a heap of them in O(m log m) for m nodes.

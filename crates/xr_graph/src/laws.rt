@@ -1,5 +1,6 @@
 //! The laws of graphs. These functions do nothing: what each ensures is a law, proved here once.
 
+ghost use Rattle.xr_graph.specs.Bits.{WorldLaw};
 ghost use Rattle.xr_graph.specs.Graph.{BeginLaw, StayLaw};
 ghost use Rattle.xr_graph.specs.NodeRoots.{GrowLaw};
 
@@ -16,4 +17,9 @@ pub fn graphs_stay()
 /// With the node of a place after those of the others it is a graph.
 pub fn graphs_grow()
     ensures { GrowLaw }
+{}
+
+/// The nodes have the bits of their places in the world of a filling.
+pub fn nodes_give_worlds()
+    ensures { WorldLaw }
 {}

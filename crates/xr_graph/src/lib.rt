@@ -2,7 +2,8 @@
 //! place rests on, so that a cone is found among kept nodes, without a class, a rule or a carried place.
 //!
 //! Where a place has the complement of its root, the table that reads it is kept with that bit turned: so a node of the
-//! graph is a node of a cone, by other positions. Start at specs/Graph.antt, then at `Graph`.
+//! graph is a node of a cone, by other positions. Start at specs/Graph.antt, then at `Graph`; specs/Bits.antt says what
+//! bits its nodes have under a filling.
 #![tactic(auto)]
 
 mod graph;
@@ -13,5 +14,6 @@ mod picked;
 mod walk;
 
 pub use graph::Graph;
-pub use laws::{graphs_begin, graphs_grow, graphs_stay};
+pub use kept::KeptNode;
+pub use laws::{graphs_begin, graphs_grow, graphs_stay, nodes_give_worlds};
 pub use node_root::NodeRoot;

@@ -70,7 +70,14 @@ keeps_count old new keeps = rw (keeps.first, keeps.literals) refl
 
 pub covered_next : (c : Contents) (old new lanes : LanesView) (literal : LiteralView) (place : ℕ) → lanes ≡ new → Keeps old new
     → IsRightOf c new → place ≡ count_of old → count_of old < length c.written → IsLiteralIn c new.nodes literal place
-    → IsRightOf c (record { nodes = lanes.nodes; first = lanes.first; literals = lanes.literals ++ literal ∷ []; next = None; graph = lanes.graph })
+    → IsRightOf c (record {
+      nodes = lanes.nodes;
+      first = lanes.first;
+      literals = lanes.literals ++ literal ∷ [];
+      next = None;
+      graph = lanes.graph;
+      shared = lanes.shared;
+    })
 covered_next c old new lanes literal place same keeps right is less holds =
     let count = keeps_count old new keeps in
     rw same (covered_more c new literal right (rw count less)
@@ -86,7 +93,14 @@ drop_at (x ∷ xs) (suc n) i =
 
 pub forgets_right : (c : Contents) (lanes : LanesView) (n : ℕ) → n + 3 * (job c).width ≡ length lanes.literals
     → IsRightOf c lanes
-    → IsRightOf c (record { nodes = lanes.nodes; first = lanes.first + n; literals = drop n lanes.literals; next = lanes.next; graph = lanes.graph })
+    → IsRightOf c (record {
+      nodes = lanes.nodes;
+      first = lanes.first + n;
+      literals = drop n lanes.literals;
+      next = lanes.next;
+      graph = lanes.graph;
+      shared = lanes.shared;
+    })
 forgets_right c lanes n kept right = record {
   some = right.some;
   zero = right.zero;
@@ -99,6 +113,7 @@ forgets_right c lanes n kept right = record {
   far = λ k near. omega (arith, near, long, kept);
   next = subst (λ m. IfSome lanes.next (IsNextNode c lanes.nodes m)) count right.next;
   graph = right.graph;
+  shared = right.shared;
   below = subst (λ m. AllByRecursion (λ k. k < m + looked lanes.next) (numbers_of lanes.nodes)) count right.below;
 }
   where

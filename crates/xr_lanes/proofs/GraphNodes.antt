@@ -40,11 +40,11 @@ use Rattle.xr_lanes.proofs.LiteralBits.{covered_arguments}
 use Rattle.xr_lanes.proofs.NearPlaces.{essential_argument}
 
 -- The numbers of the nodes after the first.
-numbers_long : (nodes : List NodeView) → length (numbers_of nodes) ≡ length nodes - 1
+pub numbers_long : (nodes : List NodeView) → length (numbers_of nodes) ≡ length nodes - 1
 numbers_long [] = refl
 numbers_long (n ∷ ns) = (let long = length-map ns place_of_node in omega (arith, long))
 
-number_at : (nodes : List NodeView) (node : ℕ) → 0 < node → node < length nodes
+pub number_at : (nodes : List NodeView) (node : ℕ) → 0 < node → node < length nodes
     → slice_index (numbers_of nodes) (node - 1) ≡ (node_at nodes node).place
 number_at [] node some less = absurd (omega (arith, less))
 number_at (n ∷ ns) zero some less = absurd (omega (arith, some))
@@ -67,7 +67,7 @@ below_last n x [] same all = (omega (arith, same), tt)
 below_last n x (y ∷ ys) same all = ((let less = all.0 in omega (arith, less)), below_last n x ys same all.1)
 
 -- The node of a place comes in.
-graph_long : (c : Contents) (nodes : List NodeView) (graph : List Node) → IsGraphIn c nodes graph
+pub graph_long : (c : Contents) (nodes : List NodeView) (graph : List Node) → IsGraphIn c nodes graph
     → length (numbers_of nodes) ≡ length graph
 graph_long c nodes graph is = sym (length-map (numbers_of nodes) (place_at (job c))) ∙ sym (ap length is.is_graph.places)
     ∙ length-map graph graph_place
@@ -196,7 +196,7 @@ are_roots c covered place arguments values roots wave reach rests before after i
 }
 
 -- The next place has its node in the graph, and that node's cone.
-next_node : (c : Contents) (lanes : LanesView) (node : ℕ) → IsRightOf c lanes → lanes.next ≡ Some node
+pub next_node : (c : Contents) (lanes : LanesView) (node : ℕ) → IsRightOf c lanes → lanes.next ≡ Some node
     → IsNextNode c lanes.nodes (count_of lanes) node
 next_node c lanes node right is = subst (λ o. IfSome o (IsNextNode c lanes.nodes (count_of lanes))) is right.next
 

@@ -33,6 +33,7 @@ use Rattle.xr_lanes.specs.Literal.{AreSources, HasBits, IsLiteralOf, IsNodeOf, L
 use Rattle.xr_lanes.specs.declared.literal.Covered.{Covered}
 use Rattle.xr_lanes.specs.declared.node.Made.{Made}
 use Rattle.xr_lanes.proofs.GraphNodes.{below_last, below_more, graph_grows, graph_stays, numbers_more}
+use Rattle.xr_lanes.proofs.SharedTables.{shared_grows, shared_moves}
 
 -- One node more.
 pub node_more : (nodes : List NodeView) (place : ℕ) (lane_bits : List ℕ) (found : Option (List ℕ))
@@ -117,6 +118,7 @@ right_made c lanes covered place made graph wave right none at same is grows = r
   };
   graph = graph_grows c lanes.nodes _ place made.roots.items made.values lanes.graph graph wave right.some is.own is.roots.few
       (subst (λ ns. IsRooted c (numbers_of ns) place made.roots.items made.values) same is.roots.rooted) right.graph grows;
+  shared = shared_grows c (place_at (job c) place) made.roots.items made.values lanes.graph graph lanes.shared grows right.shared;
   below = subst (λ xs. AllByRecursion (λ k. k < count_of lanes + 1) xs) (sym (numbers_more lanes.nodes _ right.some))
       (below_last (count_of lanes) made.place (numbers_of lanes.nodes) (is.own ∙ at) before);
 }
@@ -135,7 +137,14 @@ looked_most (Some node) = omega arith
 
 pub covered_more : (c : Contents) (lanes : LanesView) (literal : LiteralView) → IsRightOf c lanes
     → count_of lanes < length c.written → IsLiteralIn c lanes.nodes literal (count_of lanes)
-    → IsRightOf c (record { nodes = lanes.nodes; first = lanes.first; literals = lanes.literals ++ literal ∷ []; next = None; graph = lanes.graph })
+    → IsRightOf c (record {
+      nodes = lanes.nodes;
+      first = lanes.first;
+      literals = lanes.literals ++ literal ∷ [];
+      next = None;
+      graph = lanes.graph;
+      shared = lanes.shared;
+    })
 covered_more c lanes literal right less holds = record {
   some = right.some;
   zero = right.zero;
@@ -147,6 +156,7 @@ covered_more c lanes literal right less holds = record {
   far = λ k near. right.far k (omega (arith, near, long));
   next = tt;
   graph = right.graph;
+  shared = right.shared;
   below = below_more (looked_count lanes) (lanes.first + length more + looked None) (numbers_of lanes.nodes)
       (let most = looked_most lanes.next in omega (arith, most, long)) right.below;
 }
@@ -219,6 +229,7 @@ right_grows c d lanes v wave same grown right = record {
   far = subst (λ (j : Job). ReachesBack j lanes.first (count_of lanes)) (sym same) right.far;
   next = next_moved lanes.next right.next;
   graph = graph_stays c d lanes.nodes v lanes.graph wave same grown right.graph;
+  shared = shared_moves c d lanes.graph lanes.shared same right.shared;
   below = right.below;
 }
   where

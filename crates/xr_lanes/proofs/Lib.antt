@@ -7,6 +7,9 @@ pub mod LiteralBits
 pub mod LiteralSources
 pub mod NearPlaces
 pub mod NodeLists
+pub mod RootedPlaces
+pub mod SharedLanes
+pub mod SharedTables
 pub mod SpanLists
 pub mod TableLanes
 pub mod Unions

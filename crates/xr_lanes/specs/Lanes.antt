@@ -8,15 +8,17 @@ use Rattle.xr_cone_nodes.specs.declared.node.Node.{Node}
 use Rattle.xr_lanes.specs.Graphs.{IsGraphIn}
 use Rattle.xr_lanes.specs.Literal.{AreLiteralsFrom, IsNodeOf, LiteralView, ReachesBack}
 use Rattle.xr_lanes.specs.Nodes.{Extends, NodeView, node_at, numbers_of, zero_node}
+use Rattle.xr_lanes.specs.Shared.{IsSharedIn, SharedView}
 
 -- The nodes, the literals of the last places that are covered, from a first one on, the node of the place after them, if it
--- was looked at, and the graph of the nodes, if it is kept.
+-- was looked at, the graph of the nodes, if it is kept, and the tables that its nodes share.
 pub record LanesView : Type 0 where
   pub nodes : List NodeView
   pub first : ℕ
   pub literals : List LiteralView
   pub next : Option ℕ
   pub graph : Option (List Node)
+  pub shared : SharedView
 
 -- How many places are covered: these are the first ones of the wave.
 abbrev pub count_of : LanesView → ℕ
@@ -36,8 +38,8 @@ pub record IsNextNode (c : Contents) (nodes : List NodeView) (place node : ℕ) 
   pub holds : IsNodeOf (job c) (certain c.written) nodes node place
 
 -- All literals are right of a wave, whose places they cover, and so are the node of the place after these, and the graph,
--- if it is kept; what later places may read is covered, and each node after the first is of a place that is covered or
--- looked at.
+-- if it is kept, with the tables that its nodes share; what later places may read is covered, and each node after the first
+-- is of a place that is covered or looked at.
 pub record IsRightOf (c : Contents) (lanes : LanesView) : Type 0 where
   pub some : 0 < length lanes.nodes
   pub zero : node_at lanes.nodes 0 ≡ zero_node
@@ -46,6 +48,7 @@ pub record IsRightOf (c : Contents) (lanes : LanesView) : Type 0 where
   pub far : ReachesBack (job c) lanes.first (count_of lanes)
   pub next : IfSome lanes.next (IsNextNode c lanes.nodes (count_of lanes))
   pub graph : IfSome lanes.graph (IsGraphIn c lanes.nodes)
+  pub shared : IsSharedIn c lanes.graph lanes.shared
   pub below : AllByRecursion (λ k. k < looked_count lanes) (numbers_of lanes.nodes)
 
 -- They are right of every wave where no place is covered.

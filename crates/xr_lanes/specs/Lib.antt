@@ -10,4 +10,6 @@ pub mod Literal
 pub mod Made
 pub mod Nodes
 pub mod Pairs
+pub mod Roots
+pub mod Shared
 pub mod Union

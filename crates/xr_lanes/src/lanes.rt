@@ -6,16 +6,18 @@ ghost use Rattle.xr_design.specs.Waveform.{certain};
 ghost use Rattle.xr_model.specs.Cone.{is_carried};
 ghost use Rattle.xr_wave.specs.Contents.{class_in, next_number};
 ghost use Rattle.xr_wave.specs.Token.{HasNext, LineHolds, pair_line};
-ghost use Rattle.xr_cone_nodes.specs.Traced.{IsNextCone};
+ghost use Rattle.xr_cone_nodes.specs.Traced.{IsConeOf, IsNextCone};
 ghost use Rattle.xr_lanes.specs.InWave.{IsInReach, IsLiteralIn};
 ghost use Rattle.xr_lanes.specs.Lanes.{IsLookedAt, IsNextNode, IsRightOf, IsRightOfAny, Keeps, constant, count_of};
+ghost use Rattle.xr_lanes.specs.Roots.{HasNode, place_of};
 ghost use Rattle.xr_lanes.specs.Pairs.{AllAgree, GiveBoth, HasNoPair, bit_under, lane_filling};
 
 use crate::graphs::{cone_of, grown};
-use crate::literal::{Covered, Literal, literal_at};
+use crate::literal::{Covered, Literal, constant, literal_at, without_first};
 use crate::node::{make_node, put_node};
 use crate::nodes::Nodes;
 use crate::pair::{bit_of, filling_of, lanes_of, pair_of};
+use crate::shared::Shared;
 use std::alloc::Global;
 use std::marker::Model;
 use xr_base::Memory;
@@ -27,7 +29,8 @@ use xr_model::ClassByNumber;
 use xr_wave::{Pair, Wave};
 
 /// The literals of the first places of a wave. Contracts see the nodes, the literals of the last of these places from a
-/// first one on, the node of the place after them, once it is looked at, and the graph of the nodes, as long as it is kept.
+/// first one on, the node of the place after them, once it is looked at, and the graph of the nodes, as long as it is
+/// kept, with the tables that its nodes share.
 #[derive(Drop)]
 pub struct Lanes {
     nodes: Nodes,
@@ -35,6 +38,7 @@ pub struct Lanes {
     literals: Vec<Literal>,
     next: Option<usize>,
     graph: Option<Graph>,
+    shared: Shared,
     room: Vec<Value>,
     positions: Vec<u32>,
 }
@@ -51,6 +55,7 @@ impl Model for Lanes {
       literals = lanes.literals.items;
       next = lanes.next;
       graph = lanes.graph;
+      shared = lanes.shared;
     } };
 
     ghost invariant = { λ lanes. lanes.first + length lanes.literals.items ≤ 2 ^ 27 };
@@ -67,6 +72,7 @@ impl Lanes {
             literals: Vec::new(alloc),
             next: None,
             graph: Some(Graph::new(alloc)),
+            shared: Shared::new(alloc),
             room: Vec::new(alloc),
             positions: Vec::new(alloc),
         })
@@ -86,7 +92,18 @@ impl Lanes {
         ensures right { OnOk result (IsRightOf wave.now self.new) }
         ensures all { OnOk result (count_of self.new ≡ length wave.now.written) }
     {
-        'places: while self.count() < wave.count() {
+        self.cover(alloc, wave, wave.count())
+    }
+
+    /// Covers the first places of a wave, as many as a count says, as `follow` does.
+    pub fn cover(&mut self, alloc: Global, wave: &Wave<'_>, count: usize) -> Result<(), Memory>
+        requires right { IsRightOf wave.now self.old }
+        requires more { count_of self.old ≤ count }
+        requires written { count ≤ length wave.now.written }
+        ensures right { OnOk result (IsRightOf wave.now self.new) }
+        ensures count { OnOk result (count_of self.new ≡ count) }
+    {
+        'places: while self.count() < count {
             self.cover_one(alloc, wave)?;
             self.forget_old(alloc, wave)?;
         }
@@ -258,7 +275,7 @@ impl Lanes {
     }
 
     /// The places that are covered.
-    fn covered(&self) -> Covered<'_>
+    pub(crate) fn covered(&self) -> Covered<'_>
         ensures nodes { result.nodes.now ≡ self.now.nodes }
         ensures first { result.first ≡ self.now.first }
         ensures literals { result.literals.now ≡ self.now.literals }
@@ -284,6 +301,24 @@ impl Lanes {
         }
     }
 
+    /// The same where its sources are kept and at most 16, and the tables over them show a filling that gives another
+    /// bit than the empty one.
+    pub fn find_shared(&mut self, alloc: Global, wave: &Wave<'_>) -> Result<Option<Pair>, Memory>
+        requires right { IsRightOf wave.now self.old }
+        requires looked { IsLookedAt wave.now self.old }
+        ensures holds { IfOk result (λ found. IfSome found (λ pair. LineHolds wave.now (pair_line pair))) }
+        ensures right { OnOk result (IsRightOf wave.now self.new) }
+        ensures looked { OnOk result (IsLookedAt wave.now self.new) }
+    {
+        match self.next {
+            None => unreachable!(),
+            Some(node) => match self.nodes.sources(node) {
+                None => Ok(None),
+                Some(list) => self.shared.pair(alloc, wave, &self.graph, node - 1, list),
+            },
+        }
+    }
+
     /// The cone of the next place, which was looked at, as long as the graph is kept: what is reached in it from its node.
     /// Takes what the nodes of the cone take, and at most 4 bytes a node of the graph.
     pub fn cone(&mut self, alloc: Global, wave: &Wave<'_>) -> Result<Option<Cone>, Memory>
@@ -297,6 +332,22 @@ impl Lanes {
             None => unreachable!(),
             Some(node) => cone_of(alloc, &self.graph, node - 1, &mut self.positions),
         }
+    }
+
+    /// The cone of the place of a node, as long as the graph is kept, as `cone` gives that of the next place.
+    pub fn cone_at(
+        &mut self,
+        alloc: Global,
+        wave: &Wave<'_>,
+        node: usize,
+    ) -> Result<Option<Cone>, Memory>
+        requires right { IsRightOf wave.now self.old }
+        requires node { HasNode self.old node }
+        ensures cone { IfOk result (λ found. IfSome found (λ cone. IsConeOf wave.now (place_of self.old node) cone.nodes)) }
+        ensures keeps { self.new ≡ self.old }
+    {
+        let _circuit = wave.circuit();
+        cone_of(alloc, &self.graph, node - 1, &mut self.positions)
     }
 
     /// What the filling of a lane lists of the sources of the next place, which was looked at, where they are kept. Takes 8
@@ -348,22 +399,6 @@ impl Lanes {
             Some(node) => lanes_of(self.nodes.lane_bits(node)),
         }
     }
-}
-
-/// Literals without the first ones.
-fn without_first(alloc: Global, literals: &[Literal], count: usize) -> Result<Vec<Literal>, Memory>
-    requires { count ≤ length literals.now }
-    ensures { IfOk result (λ rest. rest.items ≡ drop count literals.now) }
-{
-    let rest = literals[count..].to_vec(alloc)?;
-    Ok(rest)
-}
-
-/// The literal of a bit.
-fn constant(bit: bool) -> Literal
-    ensures { result ≡ constant bit }
-{
-    Literal::new(0, bit)
 }
 
 /// The value of a written place where it is certain, else x.

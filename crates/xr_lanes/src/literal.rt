@@ -1,13 +1,16 @@
 //! Literals: a node, as it is or inverted, as in and-inverter graphs. Each place that is covered has one.
 
-ghost use Rattle.std.specs.Prelude.{◌≡◌, ◌<◌, ◌≤◌, ◌+◌, ◌^◌, None, Some, MatchOption, length};
+ghost use Rattle.std.specs.Prelude.{◌≡◌, ◌<◌, ◌≤◌, ◌+◌, ◌^◌, None, Some, IfOk, MatchOption, drop, length};
 ghost use Rattle.xr_model.specs.Class.{flipped};
 ghost use Rattle.xr_cone_nodes.specs.Lanes.{HasLanes};
 ghost use Rattle.xr_lanes.specs.Covered.{IsCovered, covered_bit, covered_literal, covered_sources};
+ghost use Rattle.xr_lanes.specs.Lanes.{constant};
 ghost use Rattle.xr_lanes.specs.Literal.{literal_of, turned};
 
 use crate::nodes::Nodes;
+use std::alloc::Global;
 use std::marker::Model;
+use xr_base::Memory;
 use xr_cone_nodes::LaneBits;
 
 /// A node by number, as it is or inverted, in 4 bytes: twice the number, and 1 more where it is inverted.
@@ -68,6 +71,26 @@ fn flipped(inverted: bool, bit: bool) -> bool
     ensures { result ≡ flipped inverted bit }
 {
     if inverted { !bit } else { bit }
+}
+
+/// Literals without the first ones.
+pub fn without_first(
+    alloc: Global,
+    literals: &[Literal],
+    count: usize,
+) -> Result<Vec<Literal>, Memory>
+    requires { count ≤ length literals.now }
+    ensures { IfOk result (λ rest. rest.items ≡ drop count literals.now) }
+{
+    let rest = literals[count..].to_vec(alloc)?;
+    Ok(rest)
+}
+
+/// The literal of a bit.
+pub fn constant(bit: bool) -> Literal
+    ensures { result ≡ constant bit }
+{
+    Literal::new(0, bit)
 }
 
 /// Places that have literals: the last ones, from a first one on, over some nodes.

@@ -74,6 +74,14 @@ impl Nodes {
         self.lists.is_full()
     }
 
+    /// The place of a node, by number. Takes no memory.
+    pub fn place(&self, node: usize) -> usize
+        requires { node < length self.now }
+        ensures { result ≡ (node_at self.now node).place }
+    {
+        self.nodes[node].place as usize
+    }
+
     /// The bits of a node in the lanes. Takes no memory.
     pub fn lane_bits(&self, node: usize) -> LaneBits
         requires { node < length self.now }

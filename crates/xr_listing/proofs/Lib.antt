@@ -1,2 +1,4 @@
 -- Lemmas on what is printed.
+mod ItemPlaces
+mod Appended
 mod ToldPlaces

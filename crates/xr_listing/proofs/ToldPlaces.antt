@@ -18,12 +18,12 @@ kept : {X : Type 0} (P : X → Type 0) (x : X) (xs : List X) (is : Bool) → P x
 kept P x xs true here all = (here, all)
 kept P x xs false here all = all
 
-all_kept : {X : Type 0} (P : X → Type 0) (p : X → Bool) (xs : List X) → AllByRecursion P xs → AllByRecursion P (filter p xs)
+pub all_kept : {X : Type 0} (P : X → Type 0) (p : X → Bool) (xs : List X) → AllByRecursion P xs → AllByRecursion P (filter p xs)
 all_kept P p [] all = tt
 all_kept P p (x ∷ xs) all = kept P x (filter p xs) (p x) all.0 (all_kept P p xs all.1)
 
 module _ (c : Contents) where
-  place_there : (bit : BoundBit) → IsBitOf c.design (length c.stim.times) bit → IsPlace (job c) (bit_place c bit)
+  pub place_there : (bit : BoundBit) → IsBitOf c.design (length c.stim.times) bit → IsPlace (job c) (bit_place c bit)
   place_there bit is =
       let room = step_small c.stim.rounds bit.moment (length c.stim.times) is.moment in
       let some = c.stim.some_round in

@@ -47,5 +47,4 @@ pub record TellsBlame (c : Contents) (bound : List Bound) (text : List ℕ) : Ty
   pub table : List Row
   pub blamed : AreBlamed c (unknown_bits c bound) bits
   pub sources : IsTable (job c) bits table
-  pub places : AllByRecursion (HasSource c) table
   pub text_is : text ≡ blame_text c bits table

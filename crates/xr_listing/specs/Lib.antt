@@ -1,3 +1,5 @@
 -- Definitions of what is printed of a wave.
 pub mod Places
 pub mod Blame
+pub mod Fixed
+pub mod Audit

@@ -23,6 +23,12 @@ place_text c place =
     name_at c place ++ codes " #" ++ decimal (time_of c place.step) ++ codes " round "
     ++ decimal (place.step % c.stim.rounds)
 
+-- `#T round J NAME`
+unfoldable pub timed_text : Contents → Place → List ℕ
+timed_text c place =
+    codes "#" ++ decimal (time_of c place.step) ++ codes " round " ++ decimal (place.step % c.stim.rounds) ++ codes " "
+    ++ name_at c place
+
 -- A place of a filling: a space, its step, a space and the number of its net.
 abbrev pub listed_text : Place → List ℕ
 listed_text place = codes " " ++ decimal place.step ++ codes " " ++ decimal place.net

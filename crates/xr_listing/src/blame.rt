@@ -7,7 +7,7 @@ ghost use Rattle.xr_match.specs.Binding.{FitsBinding};
 ghost use Rattle.xr_wave.specs.Contents.{IsFinished};
 
 use crate::head::put_head;
-use crate::rows::{are_places, put_bits, put_sources};
+use crate::rows::{put_bits, put_sources};
 use std::alloc::Global;
 use xr_base::Memory;
 use xr_blame::{Blame, blame_of};
@@ -24,10 +24,6 @@ pub fn blame_text(alloc: Global, wave: &Wave<'_>, bound: &Binding) -> Result<Vec
     ensures { IfOk result (λ text. spec.TellsBlame wave.now bound.now.bound text.items) }
 {
     let blame = blame_of(alloc, wave, bound)?;
-    // The clause of a table tells its sources by their numbers alone, so that they are places is seen here.
-    if !are_places(wave, blame.table.as_slice()) {
-        return Err(Memory);
-    }
     text_of(alloc, wave, &blame)
 }
 

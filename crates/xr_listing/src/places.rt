@@ -46,6 +46,26 @@ pub fn put_place(
     put_number(text, u64::from(round_of(wave, place)))
 }
 
+// timed = "#" time " round " number " " name
+#[tactic(auto, unfolding(crate::specs::Places::timed_text))]
+pub fn put_timed(
+    alloc: Global,
+    text: &mut Vec<u8>,
+    wave: &Wave<'_>,
+    place: Place,
+) -> Result<(), Memory>
+    requires { IsPlace (job wave.now) place }
+    ensures { OnOk result (text.new.items ≡ text.old.items ++ spec.timed_text wave.now place) }
+{
+    let name = wave.design().written_name(alloc, place.net)?;
+    put(text, b"#")?;
+    put_number(text, time_of(wave, place))?;
+    put(text, b" round ")?;
+    put_number(text, u64::from(round_of(wave, place)))?;
+    put(text, b" ")?;
+    put(text, name.as_slice())
+}
+
 // filling = { " " step " " net }
 pub fn put_filling(text: &mut Vec<u8>, filling: &[Place]) -> Result<(), Memory>
     ensures { OnOk result (text.new.items ≡ text.old.items ++ flat_map spec.listed_text filling.now) }

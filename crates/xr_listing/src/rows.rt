@@ -1,6 +1,6 @@
 //! The lines of the bits and of the sources.
 
-ghost use Rattle.std.specs.Prelude.{◌≡◌, ◌++◌, OnOk, IsTrue};
+ghost use Rattle.std.specs.Prelude.{◌≡◌, ◌++◌, OnOk};
 ghost use Rattle.std.specs.List.{AllByRecursion, flat_map};
 ghost use Rattle.xr_listing.specs.Blame as spec;
 
@@ -76,12 +76,4 @@ fn put_source(
     put(text, b" bits ")?;
     put_number(text, row.1)?;
     put(text, b"\n")
-}
-
-/// Whether each source is a place of the job.
-pub fn are_places(wave: &Wave<'_>, table: &[(Place, u64)]) -> bool
-    ensures { IsTrue result → AllByRecursion (spec.HasSource wave.now) table.now }
-{
-    let circuit = wave.circuit();
-    table.iter().all(|row| circuit.has_place(row.0))
 }

@@ -9,4 +9,5 @@ mod lanes;
 mod tries;
 
 pub use check::{BadPair, check_pair};
+pub use lanes::least_lane;
 pub use tries::{other_lane, pair_of_lane, try_in, try_lanes};

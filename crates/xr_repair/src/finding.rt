@@ -1,4 +1,5 @@
-//! What the next place, a Line place, has under all fillings: by lanes, or else by its cone.
+//! What the next place, a Line place, has under all fillings: by lanes, by tables over few sources, or else by its
+//! cone.
 
 ghost use Rattle.std.specs.Prelude.{◌<◌, ◌≤◌, IfOk, OnOk, length};
 ghost use Rattle.xr_cone_nodes.specs.Traced.{IsNextCone};
@@ -21,7 +22,7 @@ use xr_wave::Wave;
 /// Up to this many sources, every filling of them is tried.
 const ENUMERATED: usize = 12;
 
-/// What is shown of the next place: by two lanes that differ there, or else by its cone.
+/// What is shown of the next place: by two lanes that differ there, or else by tables or its cone.
 #[tactic(auto, using(crate::proofs::Searching::pair_accepted))]
 pub fn find(alloc: Global, wave: &Wave<'_>, aids: &mut Aids) -> Result<Found, Memory>
     requires class { IsLineNext wave.now }
@@ -31,6 +32,21 @@ pub fn find(alloc: Global, wave: &Wave<'_>, aids: &mut Aids) -> Result<Found, Me
 {
     aids.cones.lanes.look(alloc, wave)?;
     match aids.cones.lanes.find(alloc, wave)? {
+        Some(pair) => Ok(Found::Pair(pair)),
+        None => find_by_tables(alloc, wave, aids),
+    }
+}
+
+/// The same by the tables that nodes share, or else by its cone.
+#[tactic(auto, using(crate::proofs::Searching::pair_accepted))]
+fn find_by_tables(alloc: Global, wave: &Wave<'_>, aids: &mut Aids) -> Result<Found, Memory>
+    requires class { IsLineNext wave.now }
+    requires right { AreRightOf wave.now aids.old }
+    requires looked { IsLookedAt wave.now aids.old.cones.lanes }
+    ensures shown { IfOk result (IsShown wave.now) }
+    ensures right { OnOk result (AreRightOf wave.now aids.new) }
+{
+    match aids.cones.lanes.find_shared(alloc, wave)? {
         Some(pair) => Ok(Found::Pair(pair)),
         None => find_by_cone(alloc, wave, aids),
     }

@@ -5,7 +5,7 @@ use Rattle.std.specs.List.{AllByRecursion, list_any}
 use Rattle.std.specs.Str.{bytes_eq}
 use Rattle.clap.proofs.WalkLemmas.{list_any-map}
 use Rattle.xr_words.specs.declared.forms.Name.{Name}
-use Rattle.xr_words.specs.declared.forms.Name.TheVariants.{Blame, Check, Export, Make, Prove, Repair, Replay}
+use Rattle.xr_words.specs.declared.forms.Name.TheVariants.{Blame, Check, Export, Fix, Make, Prove, Repair, Replay, Audit}
 use Rattle.xr_words.specs.declared.line.Line.{Line}
 use Rattle.xr_words.specs.declared.option.Kind.{Kind}
 use Rattle.xr_words.specs.declared.option.Kind.TheVariants as kind
@@ -127,7 +127,7 @@ line_alike a b same has words items files l = record {
 -- ---- the word of a command
 
 names : List Name
-names = Repair ∷ Replay ∷ Check ∷ Make ∷ Export ∷ Prove ∷ Blame ∷ []
+names = Repair ∷ Replay ∷ Check ∷ Make ∷ Export ∷ Prove ∷ Audit ∷ Blame ∷ Fix ∷ []
 
 abbrev name_among : List Name → Text → Option Name
 name_among [] word = None
@@ -141,7 +141,9 @@ found Check = refl
 found Make = refl
 found Export = refl
 found Prove = refl
+found Audit = refl
 found Blame = refl
+found Fix = refl
 
 pub same_name : (a b : Name) → word_of a ≡ word_of b → a ≡ b
 same_name a b same = let both : Some a ≡ Some b = sym (found a) ∙ ap (name_among names) same ∙ found b in cc

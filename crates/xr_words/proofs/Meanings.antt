@@ -4,9 +4,9 @@ use Rattle.std.specs.Str.{bytes_eq}
 use Rattle.xr_words.specs.Forms.{IsCommand, IsNamed, IsNamedOnly, has_files, word_of}
 use Rattle.xr_words.specs.Line.{HasFiles, Item, Text, given, words_of_items}
 use Rattle.xr_words.specs.Read.{files_of, value_of}
-use Rattle.xr_words.specs.Words.{AreOutside, BlameValues, CheckValues, ExportValues, Gives, GivesBlame, GivesCheck, GivesExport, GivesJob, GivesMake, GivesProve, GivesRepair, GivesReplay, IsCount, IsNumberTo, IsStart, JobValues, MakeValues, Means, MeansOnly, OfBlame, OfCheck, OfExport, OfMake, OfProve, OfRepair, OfReplay, ProveValues, RepairValues, ReplayValues, Values, name_of, netlists_of, start_word}
+use Rattle.xr_words.specs.Words.{AreOutside, BlameValues, CheckValues, ExportValues, FixValues, Gives, GivesBlame, GivesCheck, GivesExport, GivesFix, GivesJob, GivesMake, GivesProve, GivesRepair, GivesReplay, IsCount, IsNumberTo, IsStart, JobValues, MakeValues, Means, MeansOnly, OfBlame, OfFix, OfCheck, OfExport, OfMake, OfProve, OfRepair, OfReplay, ProveValues, RepairValues, ReplayValues, Values, name_of, netlists_of, start_word, AuditValues, GivesAudit, OfAudit}
 use Rattle.xr_words.specs.declared.forms.Name.{Name}
-use Rattle.xr_words.specs.declared.forms.Name.TheVariants.{Blame, Check, Export, Make, Prove, Repair, Replay}
+use Rattle.xr_words.specs.declared.forms.Name.TheVariants.{Blame, Check, Export, Fix, Make, Prove, Repair, Replay, Audit}
 use Rattle.xr_words.specs.declared.line.Line.{Line}
 use Rattle.xr_words.specs.declared.words.Start.{Start}
 use Rattle.xr_words.specs.declared.words.Start.TheVariants.{Cold, Recorded}
@@ -70,8 +70,17 @@ module _ (option other : Text → Option Text) (each : AreAlike option other) wh
     cnf = text_by (codes "cnf") refl v.cnf gives.cnf;
     log = text_by (codes "log") refl v.log gives.log;
   }
+  gives_by (OfAudit v) gives = record {
+    job = job_by v.job gives.job;
+    conflicts = conflicts_by v.conflicts gives.conflicts;
+  }
   gives_by (OfBlame v) gives = record {
     job = job_by v.job gives.job;
+    conflicts = conflicts_by v.conflicts gives.conflicts;
+  }
+  gives_by (OfFix v) gives = record {
+    job = job_by v.job gives.job;
+    sets = text_by (codes "set") refl v.sets gives.sets;
     conflicts = conflicts_by v.conflicts gives.conflicts;
   }
 
@@ -154,11 +163,24 @@ one_prove option a b first second =
     let log = some_same a.log b.log (option (codes "log")) first.log second.log in
     λ i. record { cnf = cnf i; log = log i }
 
+one_audit : (option : Text → Option Text) (a b : AuditValues) → GivesAudit option a → GivesAudit option b → a.job.netlists ≡ b.job.netlists → a ≡ b
+one_audit option a b first second netlists =
+    let job = one_job option a.job b.job first.job second.job netlists in
+    let conflicts = one_count (option (codes "conflicts")) 1000 100000 a.conflicts b.conflicts first.conflicts second.conflicts in
+    λ i. record { job = job i; conflicts = conflicts i }
+
 one_blame : (option : Text → Option Text) (a b : BlameValues) → GivesBlame option a → GivesBlame option b → a.job.netlists ≡ b.job.netlists → a ≡ b
 one_blame option a b first second netlists =
     let job = one_job option a.job b.job first.job second.job netlists in
     let conflicts = one_count (option (codes "conflicts")) 1000 100000 a.conflicts b.conflicts first.conflicts second.conflicts in
     λ i. record { job = job i; conflicts = conflicts i }
+
+one_fix : (option : Text → Option Text) (a b : FixValues) → GivesFix option a → GivesFix option b → a.job.netlists ≡ b.job.netlists → a ≡ b
+one_fix option a b first second netlists =
+    let job = one_job option a.job b.job first.job second.job netlists in
+    let sets = some_same a.sets b.sets (option (codes "set")) first.sets second.sets in
+    let conflicts = one_count (option (codes "conflicts")) 1000 100000 a.conflicts b.conflicts first.conflicts second.conflicts in
+    λ i. record { job = job i; sets = sets i; conflicts = conflicts i }
 
 -- ---- values of one command
 
@@ -169,7 +191,9 @@ ValuesOf Check = CheckValues
 ValuesOf Make = MakeValues
 ValuesOf Export = ExportValues
 ValuesOf Prove = ProveValues
+ValuesOf Audit = AuditValues
 ValuesOf Blame = BlameValues
+ValuesOf Fix = FixValues
 
 abbrev pub of : (name : Name) → ValuesOf name → Values
 of Repair v = OfRepair v
@@ -178,7 +202,9 @@ of Check v = OfCheck v
 of Make v = OfMake v
 of Export v = OfExport v
 of Prove v = OfProve v
+of Audit v = OfAudit v
 of Blame v = OfBlame v
+of Fix v = OfFix v
 
 -- Values are those of a command.
 pub record AreOf (name : Name) (v : Values) : Type 0 where
@@ -192,7 +218,9 @@ their_own (OfCheck v) = record { own = v; is = refl }
 their_own (OfMake v) = record { own = v; is = refl }
 their_own (OfExport v) = record { own = v; is = refl }
 their_own (OfProve v) = record { own = v; is = refl }
+their_own (OfAudit v) = record { own = v; is = refl }
 their_own (OfBlame v) = record { own = v; is = refl }
+their_own (OfFix v) = record { own = v; is = refl }
 
 pub are_of : (name : Name) (v : Values) → name_of v ≡ name → AreOf name v
 are_of name v is = subst (λ (n : Name). AreOf n v) is (their_own v)
@@ -204,7 +232,9 @@ one_own Check option a b first second netlists = ap OfCheck (one_check option a 
 one_own Make option a b first second netlists = ap OfMake (one_make option a b first second)
 one_own Export option a b first second netlists = ap OfExport (one_export option a b first second netlists)
 one_own Prove option a b first second netlists = ap OfProve (one_prove option a b first second)
+one_own Audit option a b first second netlists = ap OfAudit (one_audit option a b first second netlists)
 one_own Blame option a b first second netlists = ap OfBlame (one_blame option a b first second netlists)
+one_own Fix option a b first second netlists = ap OfFix (one_fix option a b first second netlists)
 
 pub one_values : (option : Text → Option Text) (a b : Values) → name_of b ≡ name_of a → Gives option a → Gives option b → netlists_of a ≡ netlists_of b → a ≡ b
 one_values option a b name first second netlists =

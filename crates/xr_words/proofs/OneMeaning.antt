@@ -5,7 +5,7 @@ use Rattle.std.specs.List.{list_all, list_any}
 use Rattle.std.specs.Str.{bytes_eq}
 use Rattle.clap.proofs.WalkLemmas.{list_any-map}
 use Rattle.xr_words.specs.declared.forms.Name.{Name}
-use Rattle.xr_words.specs.declared.forms.Name.TheVariants.{Blame, Check, Export, Make, Prove, Repair, Replay}
+use Rattle.xr_words.specs.declared.forms.Name.TheVariants.{Blame, Check, Export, Fix, Make, Prove, Repair, Replay, Audit}
 use Rattle.xr_words.specs.declared.option.Kind.{Kind}
 use Rattle.xr_words.specs.declared.option.Kind.TheVariants as kind
 use Rattle.xr_words.specs.declared.option.Opt.{Opt}
@@ -70,7 +70,9 @@ table_in_order Check = refl
 table_in_order Make = refl
 table_in_order Export = refl
 table_in_order Prove = refl
+table_in_order Audit = refl
 table_in_order Blame = refl
+table_in_order Fix = refl
 
 in_order : (name : Name) (os : List Opt) → map plain os ≡ table_of name → are_options os ≡ true
 in_order name os table =

@@ -1,12 +1,12 @@
--- The scope of a line of the set, cut at its dots, gives names alone.
+-- The scope of a line of the set, cut at its dots, gives names alone; and a list of sets, cut at its commas, sets.
 use Rattle.std.proofs.Common.{◌≡◌, ◌∙◌, List, [], ◌∷◌, map, Option, Some, None, Bool, true, false, cond, codes, refl, sym, ap, subst}
 use Rattle.std.specs.Prelude.{option_map}
 use Rattle.std.specs.List.{AllByRecursion}
 use Rattle.std.specs.Str.{bytes_eq}
-use Rattle.xr_words.specs.Forms.{IsCommand, Plain, PlainKind, Scope, needs, plain, plain_kind, table_of}
-use Rattle.xr_words.specs.Line.{Fits, IsKnown, IsScopeName, Item, Text, given, name_in, named, pieces_of, value_in}
-use Rattle.xr_words.specs.Words.{Means, OfRepair, RepairValues}
-use Rattle.xr_words.specs.declared.forms.Name.TheVariants.{Repair}
+use Rattle.xr_words.specs.Forms.{IsCommand, Plain, PlainKind, Scope, Sets, needs, plain, plain_kind, table_of}
+use Rattle.xr_words.specs.Line.{Fits, IsKnown, IsScopeName, IsSet, Item, Text, given, name_in, named, pieces_of, value_in}
+use Rattle.xr_words.specs.Words.{FixValues, Means, OfFix, OfRepair, RepairValues}
+use Rattle.xr_words.specs.declared.forms.Name.TheVariants.{Fix, Repair}
 use Rattle.xr_words.specs.declared.option.Opt.{Opt}
 use Rattle.xr_words.proofs.Commands.{FitsPlain, to_plain}
 use Rattle.xr_words.proofs.Rows.{same_text}
@@ -71,3 +71,27 @@ module _ (words : List Text) (items : List Item) (files : List Text) (is : IsCom
 -- So does the scope that words of `repair` name.
 pub scope_named : (words : List Text) (v : RepairValues) → Means words (OfRepair v) → AllByRecursion IsScopeName (pieces_of 46 v.job.scope)
 scope_named words v m = scope_fits words m.items v.job.netlists m.is v.job.scope m.gives.job.scope
+
+-- ---- sets
+
+sets_in_table : plain_named (table_of Fix) (codes "set") ≡ Some (needs (codes "set") Sets)
+unfolding plain_named
+sets_in_table = refl
+
+module _ (words : List Text) (items : List Item) (files : List Text) (is : IsCommand Fix words items files) (value : Text) (has : given items (codes "set") ≡ Some value) where
+  sets_taken : IsTaken is.options (codes "set") value
+  sets_taken = taken is.options items is.line.known (codes "set") value has
+
+  sets_kind : plain_kind sets_taken.option.kind ≡ Sets
+  sets_kind =
+      let found : Some (plain sets_taken.option) ≡ Some (needs (codes "set") Sets) =
+      sym (ap (λ (o : Option Opt). option_map plain o) sets_taken.is) ∙ sym (plain_of is.options (codes "set"))
+      ∙ ap (λ (ps : List Plain). plain_named ps (codes "set")) is.table ∙ sets_in_table in
+      ap (λ (p : Plain). p.values) (some_plain (plain sets_taken.option) (needs (codes "set") Sets) found)
+
+  sets_fit : AllByRecursion IsSet (pieces_of 44 value)
+  sets_fit = subst (λ (k : PlainKind). FitsPlain k value) sets_kind (to_plain sets_taken.option.kind value sets_taken.fits)
+
+-- The list of sets that words of `fix` give is one.
+pub sets_named : (words : List Text) (v : FixValues) → Means words (OfFix v) → AllByRecursion IsSet (pieces_of 44 v.sets)
+sets_named words v m = sets_fit words m.items v.job.netlists m.is v.sets m.gives.sets

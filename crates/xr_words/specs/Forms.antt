@@ -2,7 +2,7 @@
 use Rattle.std.specs.Str.{bytes_eq}
 use Rattle.std.specs.Prelude.{◌≡◌, ℕ, Bool, true, false, List, [], ◌∷◌, map, codes}
 use Rattle.xr_words.specs.declared.forms.Name.{Name}
-use Rattle.xr_words.specs.declared.forms.Name.TheVariants.{Blame, Check, Export, Make, Prove, Repair, Replay}
+use Rattle.xr_words.specs.declared.forms.Name.TheVariants.{Blame, Check, Export, Fix, Make, Prove, Repair, Replay, Audit}
 use Rattle.xr_words.specs.declared.option.Kind.{Kind}
 use Rattle.xr_words.specs.declared.option.Kind.TheVariants as kind
 use Rattle.xr_words.specs.declared.option.Opt.{Opt}
@@ -73,7 +73,9 @@ table_of Make =
     ∷ needs (codes "netlist") Writes ∷ needs (codes "record") Writes ∷ []
 table_of Export = job (needs (codes "to") Prefix ∷ rounds ∷ conflicts ∷ start ∷ [])
 table_of Prove = needs (codes "cnf") Reads ∷ needs (codes "log") Reads ∷ []
+table_of Audit = job (rounds ∷ conflicts ∷ start ∷ [])
 table_of Blame = job (rounds ∷ conflicts ∷ start ∷ [])
+table_of Fix = job (needs (codes "set") Sets ∷ rounds ∷ conflicts ∷ start ∷ [])
 
 abbrev pub has_files : Name → Bool
 has_files Repair = true
@@ -82,7 +84,9 @@ has_files Check = true
 has_files Make = false
 has_files Export = true
 has_files Prove = false
+has_files Audit = true
 has_files Blame = true
+has_files Fix = true
 
 abbrev pub word_of : Name → Text
 word_of Repair = codes "repair"
@@ -91,7 +95,9 @@ word_of Check = codes "check"
 word_of Make = codes "make"
 word_of Export = codes "export"
 word_of Prove = codes "prove"
+word_of Audit = codes "audit"
 word_of Blame = codes "blame"
+word_of Fix = codes "fix"
 
 -- The words are a command, and after it a line of its options.
 pub record IsCommand (name : Name) (words : List Text) (items : List Item) (files : List Text) : Type 0 where

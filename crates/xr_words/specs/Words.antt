@@ -5,16 +5,20 @@
 -- `make --number N --gates N --netlist F --record R`
 -- `export --to PREFIX --record R --scope S --top T [--rounds N] [--conflicts N] [--start W] FILE..`
 -- `prove --cnf F --log G`
+-- `audit --record R --scope S --top T [--rounds N] [--conflicts N] [--start W] FILE..`
 -- `blame --record R --scope S --top T [--rounds N] [--conflicts N] [--start W] FILE..`
--- with W being `cold` or `recorded`.
+-- `fix --set LIST --record R --scope S --top T [--rounds N] [--conflicts N] [--start W] FILE..`
+-- with W being `cold` or `recorded`, and LIST being pieces joined by commas, each a name, `=`, and `0` or `1`.
 use Rattle.std.specs.Prelude.{◌≡◌, ℕ, ◌≤◌, List, [], ◌∷◌, Option, Some, None, codes, map, string_bytes}
 use Rattle.xr_words.specs.declared.forms.Name.{Name}
-use Rattle.xr_words.specs.declared.forms.Name.TheVariants.{Blame, Check, Export, Make, Prove, Repair, Replay}
+use Rattle.xr_words.specs.declared.forms.Name.TheVariants.{Blame, Check, Export, Fix, Make, Prove, Repair, Replay, Audit}
+use Rattle.xr_words.specs.declared.words.AuditWords.{AuditWords}
 use Rattle.xr_words.specs.declared.words.BlameWords.{BlameWords}
 use Rattle.xr_words.specs.declared.words.CheckWords.{CheckWords}
 use Rattle.xr_words.specs.declared.words.Command.{Command}
 use Rattle.xr_words.specs.declared.words.Command.TheVariants as command
 use Rattle.xr_words.specs.declared.words.ExportWords.{ExportWords}
+use Rattle.xr_words.specs.declared.words.FixWords.{FixWords}
 use Rattle.xr_words.specs.declared.words.JobWords.{JobWords}
 use Rattle.xr_words.specs.declared.words.MakeWords.{MakeWords}
 use Rattle.xr_words.specs.declared.words.ProveWords.{ProveWords}
@@ -89,8 +93,17 @@ pub record ProveValues : Type 0 where
   pub cnf : Text
   pub log : Text
 
+pub record AuditValues : Type 0 where
+  pub job : JobValues
+  pub conflicts : ℕ
+
 pub record BlameValues : Type 0 where
   pub job : JobValues
+  pub conflicts : ℕ
+
+pub record FixValues : Type 0 where
+  pub job : JobValues
+  pub sets : Text
   pub conflicts : ℕ
 
 pub data Values : Type 0 where
@@ -100,7 +113,9 @@ pub data Values : Type 0 where
   OfMake : MakeValues → Values
   OfExport : ExportValues → Values
   OfProve : ProveValues → Values
+  OfAudit : AuditValues → Values
   OfBlame : BlameValues → Values
+  OfFix : FixValues → Values
 
 -- The command, and the FILEs after its options.
 abbrev pub name_of : Values → Name
@@ -110,7 +125,9 @@ name_of (OfCheck v) = Check
 name_of (OfMake v) = Make
 name_of (OfExport v) = Export
 name_of (OfProve v) = Prove
+name_of (OfAudit v) = Audit
 name_of (OfBlame v) = Blame
+name_of (OfFix v) = Fix
 
 abbrev pub netlists_of : Values → List Text
 netlists_of (OfRepair v) = v.job.netlists
@@ -119,7 +136,9 @@ netlists_of (OfCheck v) = v.job.netlists
 netlists_of (OfMake v) = []
 netlists_of (OfExport v) = v.job.netlists
 netlists_of (OfProve v) = []
+netlists_of (OfAudit v) = v.job.netlists
 netlists_of (OfBlame v) = v.job.netlists
+netlists_of (OfFix v) = v.job.netlists
 
 -- ---- the set
 
@@ -174,9 +193,20 @@ pub record GivesProve (option : Text → Option Text) (v : ProveValues) : Type 0
   pub cnf : option (codes "cnf") ≡ Some v.cnf
   pub log : option (codes "log") ≡ Some v.log
 
+-- These are those of `audit`, which writes no file.
+pub record GivesAudit (option : Text → Option Text) (v : AuditValues) : Type 0 where
+  pub job : GivesJob option v.job
+  pub conflicts : IsCount (option (codes "conflicts")) 1000 100000 v.conflicts
+
 -- These are those of `blame`, which writes no file.
 pub record GivesBlame (option : Text → Option Text) (v : BlameValues) : Type 0 where
   pub job : GivesJob option v.job
+  pub conflicts : IsCount (option (codes "conflicts")) 1000 100000 v.conflicts
+
+-- These are those of `fix`, which writes no file.
+pub record GivesFix (option : Text → Option Text) (v : FixValues) : Type 0 where
+  pub job : GivesJob option v.job
+  pub sets : option (codes "set") ≡ Some v.sets
   pub conflicts : IsCount (option (codes "conflicts")) 1000 100000 v.conflicts
 
 abbrev pub Gives : (Text → Option Text) → Values → Type 0
@@ -186,7 +216,9 @@ Gives option (OfCheck v) = GivesCheck option v
 Gives option (OfMake v) = GivesMake option v
 Gives option (OfExport v) = GivesExport option v
 Gives option (OfProve v) = GivesProve option v
+Gives option (OfAudit v) = GivesAudit option v
 Gives option (OfBlame v) = GivesBlame option v
+Gives option (OfFix v) = GivesFix option v
 
 -- The words are in the set, and mean this.
 pub record Means (words : List Text) (v : Values) : Type 0 where
@@ -243,8 +275,14 @@ export_values words = record { job = job_values words.job; prefix = words.prefix
 abbrev pub prove_values : ProveWords → ProveValues
 prove_values words = record { cnf = words.cnf.now; log = words.log.now }
 
+abbrev pub audit_values : AuditWords → AuditValues
+audit_values words = record { job = job_values words.job; conflicts = words.conflicts }
+
 abbrev pub blame_values : BlameWords → BlameValues
 blame_values words = record { job = job_values words.job; conflicts = words.conflicts }
+
+abbrev pub fix_values : FixWords → FixValues
+fix_values words = record { job = job_values words.job; sets = words.sets.now; conflicts = words.conflicts }
 
 abbrev pub values_of : Command → Values
 values_of (command.Repair words) = OfRepair (repair_values words)
@@ -253,4 +291,6 @@ values_of (command.Check words) = OfCheck (check_values words)
 values_of (command.Make words) = OfMake (make_values words)
 values_of (command.Export words) = OfExport (export_values words)
 values_of (command.Prove words) = OfProve (prove_values words)
+values_of (command.Audit words) = OfAudit (audit_values words)
 values_of (command.Blame words) = OfBlame (blame_values words)
+values_of (command.Fix words) = OfFix (fix_values words)

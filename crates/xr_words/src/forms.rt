@@ -15,7 +15,9 @@ pub enum Name {
     Make,
     Export,
     Prove,
+    Audit,
     Blame,
+    Fix,
 }
 
 const RECORD: Opt<'static> = Opt {
@@ -160,7 +162,23 @@ static PROVE: [Opt<'static>; 2] = [
     },
 ];
 
+static AUDIT: [Opt<'static>; 6] = [RECORD, SCOPE, TOP, ROUNDS, CONFLICTS, START];
+
 static BLAME: [Opt<'static>; 6] = [RECORD, SCOPE, TOP, ROUNDS, CONFLICTS, START];
+
+static FIX: [Opt<'static>; 7] = [
+    RECORD,
+    SCOPE,
+    TOP,
+    Opt {
+        name: "set",
+        required: true,
+        kind: Kind::Sets,
+    },
+    ROUNDS,
+    CONFLICTS,
+    START,
+];
 
 /// The options of a command.
 pub fn options_of<'a>(name: Name) -> &'a [Opt<'a>]
@@ -174,7 +192,9 @@ pub fn options_of<'a>(name: Name) -> &'a [Opt<'a>]
         Name::Make => &MAKE,
         Name::Export => &EXPORT,
         Name::Prove => &PROVE,
+        Name::Audit => &AUDIT,
         Name::Blame => &BLAME,
+        Name::Fix => &FIX,
     }
 }
 
@@ -183,7 +203,13 @@ pub fn has_files(name: Name) -> bool
     ensures { result ≡ has_files name }
 {
     match name {
-        Name::Repair | Name::Replay | Name::Check | Name::Export | Name::Blame => true,
+        Name::Repair
+        | Name::Replay
+        | Name::Check
+        | Name::Export
+        | Name::Audit
+        | Name::Blame
+        | Name::Fix => true,
         Name::Make | Name::Prove => false,
     }
 }
@@ -199,7 +225,9 @@ pub fn word_of<'a>(name: Name) -> &'a str
         Name::Make => "make",
         Name::Export => "export",
         Name::Prove => "prove",
+        Name::Audit => "audit",
         Name::Blame => "blame",
+        Name::Fix => "fix",
     }
 }
 
@@ -215,7 +243,9 @@ pub fn name_of(word: &str) -> Option<Name>
         "make" => Some(Name::Make),
         "export" => Some(Name::Export),
         "prove" => Some(Name::Prove),
+        "audit" => Some(Name::Audit),
         "blame" => Some(Name::Blame),
+        "fix" => Some(Name::Fix),
         _ => None,
     }
 }

@@ -2,12 +2,15 @@
 //! at `specs/Forms.antt` for the options of each command, and at `specs/Line.antt` for what a line of options is.
 //!
 //! `forms.rt` lists the commands and their options; a new command adds its rows there, and beside `repair.rt` a file
-//! that makes its typed words of the values. `line.rt` reads a line of any list of options.
+//! that makes its typed words of the values. `line.rt` reads a line of any list of options, so that a program without
+//! commands has its own.
 #![tactic(auto)]
 
+mod audit;
 mod blame;
 mod check;
 mod export;
+mod fix;
 mod forms;
 mod job;
 mod laws;
@@ -26,10 +29,14 @@ mod usage;
 mod values;
 mod words;
 
+pub use job::files_in;
 pub use laws::words_mean_one;
+pub use line::{Line, read_line};
+pub use option::{Kind, Opt};
+pub use outputs::are_apart;
 pub use read::read_words;
-pub use usage::usage_of;
+pub use usage::{usage_of, usage_of_line};
 pub use words::{
-    BlameWords, CheckWords, Command, ExportWords, JobWords, MakeWords, ProveWords, RepairWords,
-    ReplayWords, Start,
+    AuditWords, BlameWords, CheckWords, Command, ExportWords, FixWords, JobWords, MakeWords,
+    ProveWords, RepairWords, ReplayWords, Start,
 };

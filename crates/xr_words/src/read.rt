@@ -2,12 +2,14 @@
 
 ghost use Rattle.std.specs.Prelude.{IfOk, IfSome, IfNone, map, string_bytes};
 ghost use Rattle.xr_words.specs.Forms.{IsNamed, IsNamedOnly};
-ghost use Rattle.xr_words.specs.declared.forms.Name.TheVariants.{Blame, Check, Export, Make, Prove, Repair, Replay};
+ghost use Rattle.xr_words.specs.declared.forms.Name.TheVariants.{Blame, Check, Export, Fix, Make, Prove, Repair, Replay, Audit};
 ghost use Rattle.xr_words.specs.Words.{AreOutside, Means, MeansOnly, values_of};
 
+use crate::audit::audit_of;
 use crate::blame::blame_of;
 use crate::check::check_of;
 use crate::export::export_of;
+use crate::fix::fix_of;
 use crate::forms::Name;
 use crate::job::files_in;
 use crate::line::Line;
@@ -47,7 +49,9 @@ fn command_of<'a>(words: &'a [String], named: &Named<'a>) -> Option<Command<'a>>
         Name::Make => make_in(words, &named.line),
         Name::Export => export_in(words, &named.line),
         Name::Prove => prove_in(words, &named.line),
+        Name::Audit => audit_in(words, &named.line),
         Name::Blame => blame_in(words, &named.line),
+        Name::Fix => fix_in(words, &named.line),
     }
 }
 
@@ -117,6 +121,17 @@ fn prove_in<'a>(_words: &'a [String], line: &Line<'a>) -> Option<Command<'a>>
     Some(Command::Prove(words))
 }
 
+fn audit_in<'a>(words: &'a [String], line: &Line<'a>) -> Option<Command<'a>>
+    requires is { IsNamed (map string_bytes words.now) Audit line.now }
+    requires only { IsNamedOnly (map string_bytes words.now) Audit line.now }
+    ensures set { IfSome result (λ c. Means (map string_bytes words.now) (values_of c)) }
+    ensures only { IfSome result (λ c. MeansOnly (map string_bytes words.now) (values_of c)) }
+    ensures none { IfNone result (AreOutside (map string_bytes words.now)) }
+{
+    let words = audit_of(line, files_in(words, line))?;
+    Some(Command::Audit(words))
+}
+
 fn blame_in<'a>(words: &'a [String], line: &Line<'a>) -> Option<Command<'a>>
     requires is { IsNamed (map string_bytes words.now) Blame line.now }
     requires only { IsNamedOnly (map string_bytes words.now) Blame line.now }
@@ -126,4 +141,15 @@ fn blame_in<'a>(words: &'a [String], line: &Line<'a>) -> Option<Command<'a>>
 {
     let words = blame_of(line, files_in(words, line))?;
     Some(Command::Blame(words))
+}
+
+fn fix_in<'a>(words: &'a [String], line: &Line<'a>) -> Option<Command<'a>>
+    requires is { IsNamed (map string_bytes words.now) Fix line.now }
+    requires only { IsNamedOnly (map string_bytes words.now) Fix line.now }
+    ensures set { IfSome result (λ c. Means (map string_bytes words.now) (values_of c)) }
+    ensures only { IfSome result (λ c. MeansOnly (map string_bytes words.now) (values_of c)) }
+    ensures none { IfNone result (AreOutside (map string_bytes words.now)) }
+{
+    let words = fix_of(line, files_in(words, line))?;
+    Some(Command::Fix(words))
 }

@@ -1,18 +1,21 @@
 //! The usage of a command, as `clap` puts it.
 
 use crate::forms::{Name, has_files, name_of, options_of, word_of};
+use crate::option::Opt;
 use crate::told::command_of;
 use std::alloc::{AllocError, Global};
 
 /// Every command.
-const NAMES: [Name; 7] = [
+const NAMES: [Name; 9] = [
     Name::Repair,
     Name::Replay,
     Name::Check,
     Name::Make,
     Name::Export,
     Name::Prove,
+    Name::Audit,
     Name::Blame,
+    Name::Fix,
 ];
 
 /// The usage of the command that the words begin with, and of every command where they begin with none: for people to
@@ -25,6 +28,19 @@ pub fn usage_of(alloc: Global, words: &[String]) -> Result<String, AllocError> {
         },
         None => put_usages(alloc, &NAMES),
     }
+}
+
+/// The usage of a program without commands: for people to read, a line.
+pub fn usage_of_line<'a>(
+    alloc: Global,
+    program: &'a str,
+    options: &'a [Opt<'a>],
+    files: bool,
+) -> Result<String, AllocError> {
+    let mut command = command_of(alloc, program, options, files)?.bin_name(program)?;
+    let mut text = command.render_usage()?;
+    text.push('\n')?;
+    Ok(text)
 }
 
 fn put_usages(alloc: Global, names: &[Name]) -> Result<String, AllocError> {

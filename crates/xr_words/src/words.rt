@@ -11,7 +11,9 @@ pub enum Command<'a> {
     Make(MakeWords<'a>),
     Export(ExportWords<'a>),
     Prove(ProveWords<'a>),
+    Audit(AuditWords<'a>),
     Blame(BlameWords<'a>),
+    Fix(FixWords<'a>),
 }
 
 /// What registers hold before the first step.
@@ -119,10 +121,32 @@ pub struct ProveWords<'a> {
     pub log: &'a str,
 }
 
+/// The words of `audit`.
+#[derive(Clone, Copy, Debug)]
+pub struct AuditWords<'a> {
+    pub job: JobWords<'a>,
+    /// The clauses of a search, 1 to 100,000.
+    pub conflicts: u32,
+    ghost some_clauses: { 1 ≤ conflicts },
+    ghost few_clauses: { conflicts ≤ 100000 },
+}
+
 /// The words of `blame`.
 #[derive(Clone, Copy, Debug)]
 pub struct BlameWords<'a> {
     pub job: JobWords<'a>,
+    /// The clauses of a search, 1 to 100,000.
+    pub conflicts: u32,
+    ghost some_clauses: { 1 ≤ conflicts },
+    ghost few_clauses: { conflicts ≤ 100000 },
+}
+
+/// The words of `fix`.
+#[derive(Clone, Copy, Debug)]
+pub struct FixWords<'a> {
+    pub job: JobWords<'a>,
+    /// The starts to be set: pieces joined by commas, each a name, `=`, and `0` or `1`.
+    pub sets: &'a str,
     /// The clauses of a search, 1 to 100,000.
     pub conflicts: u32,
     ghost some_clauses: { 1 ≤ conflicts },

@@ -1,19 +1,11 @@
 //! The program `xrepair`: real files and standard output for `xr_cli::run`.
 #![tactic(auto)]
 
-mod file_shelf;
-mod out_sink;
-mod progress;
-mod words;
-
-use file_shelf::FileShelf;
-use out_sink::OutSink;
-use progress::Progress;
 use std::io;
 use std::io::{Eprint, IsTerminal};
 use std::process::ExitCode;
-use words::{refuse, words_of};
 use xr_cli::run;
+use xr_files::{FileShelf, OutSink, Progress, refuse, words_of};
 use xr_shelf::Sink;
 use xr_words::usage_of;
 

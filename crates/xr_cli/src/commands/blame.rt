@@ -4,9 +4,8 @@ ghost use Rattle.xr_words.specs.Words.{blame_values};
 ghost use Rattle.xr_cli.specs.Phases.{blame_phases};
 
 use crate::blamed::blamed;
-use crate::cause::Refused;
-use crate::job::job_of;
 use std::alloc::Global;
+use xr_phases::{Refused, job_of};
 use xr_run::{Prepare, Ready, Refusal};
 use xr_shelf::{Shelf, Sink};
 use xr_words::BlameWords;

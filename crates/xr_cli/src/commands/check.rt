@@ -5,16 +5,12 @@ ghost use Rattle.xr_design.specs.Handed.{IsReplay};
 ghost use Rattle.xr_job.specs.Compared.{job_in};
 ghost use Rattle.xr_run.specs.Prepared.{Prepared, answer_of};
 ghost use Rattle.xr_cli.specs.Phases.{certified_phases, check_phases, compared_check};
-ghost use Rattle.xr_cli.specs.Repair.{FitsParts};
+ghost use Rattle.xr_phases.specs.Repair.{FitsParts};
 
-use crate::cause::Refused;
-use crate::certified::certificate_of;
 use crate::checked::checked;
-use crate::job::job_of;
-use crate::judged::compared;
-use crate::parts::Parts;
 use std::alloc::Global;
 use xr_design::History;
+use xr_phases::{Parts, Refused, certificate_of, compared, job_of};
 use xr_run::{Prepare, Ready, Refusal};
 use xr_shelf::{Shelf, Sink};
 use xr_words::CheckWords;

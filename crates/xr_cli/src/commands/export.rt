@@ -4,10 +4,9 @@
 ghost use Rattle.xr_words.specs.Words.{export_values};
 ghost use Rattle.xr_cli.specs.Phases.{export_phases};
 
-use crate::cause::Refused;
 use crate::exported::exported;
-use crate::job::job_of;
 use std::alloc::Global;
+use xr_phases::{Refused, job_of};
 use xr_run::{Prepare, Ready, Refusal};
 use xr_shelf::{Shelf, Sink};
 use xr_words::ExportWords;

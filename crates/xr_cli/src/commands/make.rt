@@ -3,9 +3,9 @@
 ghost use Rattle.xr_words.specs.Words.{make_values};
 ghost use Rattle.xr_cli.specs.Phases.{make_phases};
 
-use crate::cause::Refused;
 use crate::made::made;
 use std::alloc::Global;
+use xr_phases::Refused;
 use xr_run::{Prepare, Ready, Refusal};
 use xr_shelf::{Shelf, Sink};
 use xr_words::MakeWords;

@@ -4,10 +4,9 @@ ghost use Rattle.xr_run.specs.Prepared.{Prepared, answer_of};
 ghost use Rattle.xr_words.specs.Words.{prove_values};
 ghost use Rattle.xr_cli.specs.Phases.{log_phases, prove_phases};
 
-use crate::cause::Refused;
-use crate::forced::TEXT_BYTES;
 use crate::proved::proved;
 use std::alloc::Global;
+use xr_phases::{Refused, TEXT_BYTES};
 use xr_run::{Prepare, Ready, Refusal, read_input};
 use xr_shelf::{Shelf, Sink};
 use xr_words::ProveWords;

@@ -4,10 +4,9 @@
 ghost use Rattle.xr_words.specs.Words.{repair_values};
 ghost use Rattle.xr_cli.specs.Phases.{repair_phases};
 
-use crate::cause::Refused;
-use crate::job::job_of;
 use crate::repaired::repaired;
 use std::alloc::Global;
+use xr_phases::{Refused, job_of};
 use xr_run::{Prepare, Ready, Refusal};
 use xr_shelf::{Shelf, Sink};
 use xr_words::RepairWords;

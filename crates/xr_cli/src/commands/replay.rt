@@ -4,14 +4,11 @@
 ghost use Rattle.xr_words.specs.Words.{replay_values};
 ghost use Rattle.xr_run.specs.Prepared.{Prepared, answer_of};
 ghost use Rattle.xr_cli.specs.Phases.{coded_phases, replay_phases};
-ghost use Rattle.xr_cli.specs.Repair.{FitsParts};
+ghost use Rattle.xr_phases.specs.Repair.{FitsParts};
 
-use crate::cause::Refused;
-use crate::forced::forces_of;
-use crate::job::job_of;
-use crate::parts::Parts;
 use crate::replayed::replayed;
 use std::alloc::Global;
+use xr_phases::{Parts, Refused, forces_of, job_of};
 use xr_run::{Prepare, Ready, Refusal};
 use xr_shelf::{Shelf, Sink};
 use xr_words::ReplayWords;

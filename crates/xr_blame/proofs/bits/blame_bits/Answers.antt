@@ -23,7 +23,7 @@ bits-init c =
     record {
       told = subst (λ (told : List Blamed). AreToldBefore wave bound told (left_of c.new-bits.result))
           (sym c.new-blamed.ensures.items) none;
-      causes = c.new-causes.ensures;
+      causes = c.in_ok-causes.ensures wave;
       within = subst (λ (bits : List BoundBit). AllByRecursion (IsBitOf wave.design (length wave.stim.times)) bits)
           (sym all) (bits_within wave.design (length wave.stim.times) bound c.requires.binding.each);
     }
@@ -41,7 +41,7 @@ bits-preserved c =
     record {
       told = told_more wave c.args.bound.now.bound _ _ c.in-Some.bit (left_of c.bits.bits) (left_of c.next.new.self) left
           c.bits.invariant.told c.in_ok-add_bit.ensures.added;
-      causes = c.in_ok-add_bit.ensures.same;
+      causes = c.in_ok-add_bit.ensures.causes;
       within = (subst (λ (bits : List BoundBit).
           AllByRecursion (IsBitOf wave.design (length wave.stim.times)) bits) left c.bits.invariant.within).1;
     }

@@ -2,13 +2,14 @@
 use Rattle.std.proofs.Common.{◌≡◌, length}
 use Rattle.std.specs.List.{AllByRecursion}
 use Rattle.xr_match.specs.BoundBits.{IsBitOf, left_of}
+use Rattle.xr_blame.specs.Causes.{AreCauses}
 use Rattle.xr_blame.proofs.ToldBits.{AreToldBefore}
 use Rattle.xr_blame.proofs.bits.blame_bits.Given as goal
 
 abbrev pub invariant-bits : goal.invariant-bits
 invariant-bits l = record {
   told : AreToldBefore l.wave l.bound.bound l.blamed.items (left_of l.bits);
-  causes : l.causes ≡ l.wave;
+  causes : AreCauses l.wave l.causes;
   within : AllByRecursion (IsBitOf l.wave.design (length l.wave.stim.times)) (left_of l.bits);
 }
 

@@ -3,7 +3,7 @@ use Rattle.std.proofs.Common.{◌≡◌, ◌<◌, ◌+◌, ◌/◌, ◌-◌, ◌
 use Rattle.xr_design.specs.Job.{places_of}
 use Rattle.xr_wave.specs.Contents.{job}
 use Rattle.xr_blame.specs.Halves.{IsTurn, halfway}
-use Rattle.xr_blame.proofs.Turns.{cuts_begin, cuts_end, cuts_turn, not_first, read_at, some_listed}
+use Rattle.xr_blame.proofs.Turns.{cuts_begin, cuts_end, cuts_turn, not_first, same_read, some_listed}
 use Rattle.xr_blame.proofs.halves.find_turn.Goals as goal
 
 pub halves-init : goal.halves-init
@@ -12,17 +12,15 @@ halves-init c =
     let zeros = c.args.way.now.zero.now in
     let ones = c.args.way.now.one.now in
     let number = c.args.way.now.number in
-    let numbers = c.in_ok-listed.listed.items in
-    let sound = c.requires.cone.wave in
-    let long : c.len-high.result ≡ length numbers = c.len-high.ensures ∙ c.in_ok-listed.listed.ok.0 in
+    let numbers = c.args.listed.now in
+    let sound = c.requires.way.wave in
     let first = c.in_ok-first.ensures in
-    let some = some_listed wave sound number _ zeros ones c.requires numbers c.in_ok-listed.ensures in
+    let some = some_listed wave sound number zeros ones c.requires.way numbers c.requires.listed in
     record {
-      order = omega (arith, long, some);
-      within = omega (arith, long);
-      low = sym (cuts_begin wave sound number _ zeros ones c.requires numbers c.in_ok-listed.ensures) ∙ sym first;
-      high = ap (λ (n : ℕ). halfway wave zeros ones number (get_or numbers n (places_of (job wave)))) long
-          ∙ cuts_end wave sound number _ zeros ones c.requires numbers c.in_ok-listed.ensures ∙ ap not (sym first);
+      order = some;
+      within = omega arith;
+      low = sym (cuts_begin wave sound number zeros ones c.requires.way numbers c.requires.listed) ∙ sym first;
+      high = cuts_end wave sound number zeros ones c.requires.way numbers c.requires.listed ∙ ap not (sym first);
     }
 
 pub halves-preserved : goal.halves-preserved
@@ -31,12 +29,12 @@ halves-preserved c =
     let zeros = c.args.way.now.zero.now in
     let ones = c.args.way.now.one.now in
     let number = c.args.way.now.number in
-    let numbers = c.in_ok-listed.listed.items in
+    let numbers = c.args.listed.now in
     let middle = c.halves.low + (c.halves.high - c.halves.low) / 2 in
     let test = c.halves-test.true in
     let within = c.halves.invariant.within in
     let less : middle < length numbers = omega (arith, test, within) in
-    let read = read_at numbers middle (places_of (job wave)) c.index.result.now less c.index.ensures in
+    let read = same_read numbers middle (places_of (job wave)) 0 less in
     record {
       order = omega (arith, test);
       within = omega (arith, less);
@@ -51,15 +49,15 @@ returns c =
     let zeros = c.args.way.now.zero.now in
     let ones = c.args.way.now.one.now in
     let number = c.args.way.now.number in
-    let numbers = c.in_ok-listed.listed.items in
+    let numbers = c.args.listed.now in
     let low = c.halves.low in
     let order = c.halves.invariant.order in
     let within = c.halves.invariant.within in
     let less : low < length numbers = omega (arith, order, within) in
     let test = c.halves-test.false in
     let next : c.halves.high ≡ low + 1 = omega (arith, order, test) in
-    let turn = cuts_turn wave c.requires.cone.wave number _ zeros ones c.requires numbers c.in_ok-listed.ensures low
+    let turn = cuts_turn wave c.requires.way.wave number zeros ones c.requires.way numbers c.requires.listed low
     c.in_ok-first.first less c.halves.invariant.low
     (ap (λ (n : ℕ). halfway wave zeros ones number (get_or numbers n (places_of (job wave)))) (sym next)
     ∙ c.halves.invariant.high) in
-    subst (IsTurn wave zeros ones number) (read_at numbers low 0 c.index-2.result.now less c.index-2.ensures) turn
+    turn

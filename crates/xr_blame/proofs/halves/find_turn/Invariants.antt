@@ -8,11 +8,11 @@ use Rattle.xr_blame.proofs.halves.find_turn.Given as goal
 abbrev pub invariant-halves : goal.invariant-halves
 invariant-halves l = record {
   order : l.low < l.high;
-  within : l.high ≤ length l.listed.items;
+  within : l.high ≤ length l.listed;
   low : halfway l.way.wave.now l.way.zero.now l.way.one.now l.way.number
-      (slice_index_or l.listed.items l.low (places_of (job l.way.wave.now))) ≡ l.first;
+      (slice_index_or l.listed l.low (places_of (job l.way.wave.now))) ≡ l.first;
   high : halfway l.way.wave.now l.way.zero.now l.way.one.now l.way.number
-      (slice_index_or l.listed.items l.high (places_of (job l.way.wave.now))) ≡ not l.first;
+      (slice_index_or l.listed l.high (places_of (job l.way.wave.now))) ≡ not l.first;
 }
 
 abbrev pub decreases-halves : goal.decreases-halves

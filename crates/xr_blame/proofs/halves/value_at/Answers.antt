@@ -19,5 +19,5 @@ returns c =
     c.in_ok-filling.ensures in
     IfOk-weaker c.value.result _ _ (λ bit is. is wave c.args.way.now.number c.requires.cone joined.is_filling
     ∙ same_bits wave c.circuit-circuit.ensures.wave (bit_of (job wave) c.in_ok-filling.filling)
-    (joined_bit (job wave) ones cut zeros cut) c.args.way.now.number c.requires.cone.reach.within
+    (joined_bit (job wave) ones cut zeros cut) c.args.way.now.number c.requires.way.within
     (λ k low. joined.bits k)) c.value.ensures.world

@@ -1,6 +1,6 @@
 -- The certificate is checked, and its report.
 use Rattle.xr_words.specs.Words.{check_values}
-use Rattle.xr_cli.proofs.CheckedPlaces.{certified_of_job}
+use Rattle.xr_phases.proofs.CheckedPlaces.{certified_of_job}
 use Rattle.xr_cli.proofs.Walk.{check_found}
 use Rattle.xr_cli.proofs.checked.checked.Goals as goal
 

@@ -2,8 +2,9 @@
 use Rattle.xr_run.specs.Prepared.{answer_of}
 use Rattle.xr_run.proofs.Then.{judged_then}
 use Rattle.xr_words.specs.Words.{make_values}
-use Rattle.xr_cli.specs.Phases.{compare_cause, nothing_in, walk_made}
-use Rattle.xr_cli.specs.Repair.{CompareComes}
+use Rattle.xr_phases.specs.Phases.{compare_cause, nothing_in}
+use Rattle.xr_cli.specs.Phases.{walk_made}
+use Rattle.xr_phases.specs.Repair.{CompareComes}
 use Rattle.xr_cli.proofs.made.repaired.Goals as goal
 
 pub returns-clause-prepared : goal.returns-clause-prepared

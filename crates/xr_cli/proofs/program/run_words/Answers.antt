@@ -3,7 +3,7 @@ use Rattle.std.proofs.Common.{rules, ◌≡◌, subst}
 use Rattle.xr_run.specs.Ends.{RanWords}
 use Rattle.xr_words.specs.declared.words.Command.{Command}
 use Rattle.xr_words.specs.declared.words.Command.TheVariants as command
-use Rattle.xr_words.specs.Words.{Means, OfBlame, OfCheck, OfExport, OfMake, OfProve, OfRepair, OfReplay, blame_values, check_values, export_values, make_values, prove_values, repair_values, replay_values, values_of}
+use Rattle.xr_words.specs.Words.{Means, OfBlame, OfCheck, OfExport, OfFix, OfMake, OfProve, OfRepair, OfReplay, blame_values, check_values, export_values, fix_values, make_values, prove_values, repair_values, replay_values, values_of, OfAudit, audit_values}
 use Rattle.xr_cli.proofs.program.run_words.Goals as goal
 
 pub returns-in-Repair : goal.returns-in-Repair
@@ -36,7 +36,17 @@ returns-in-Prove g c = λ line means.
     let is : c.args.command ≡ command.Prove c.in-Prove.words = search rules in
     RanWords.ends_within (OfProve (prove_values c.in-Prove.words)) (subst (λ (x : Command). Means line (values_of x)) is means) (c.run_command-in-Prove.ensures line)
 
+pub returns-in-Audit : goal.returns-in-Audit
+returns-in-Audit g c = λ line means.
+    let is : c.args.command ≡ command.Audit c.in-Audit.words = search rules in
+    RanWords.ends_within (OfAudit (audit_values c.in-Audit.words)) (subst (λ (x : Command). Means line (values_of x)) is means) (c.run_command-in-Audit.ensures line)
+
 pub returns-in-Blame : goal.returns-in-Blame
 returns-in-Blame g c = λ line means.
     let is : c.args.command ≡ command.Blame c.in-Blame.words = search rules in
     RanWords.ends_within (OfBlame (blame_values c.in-Blame.words)) (subst (λ (x : Command). Means line (values_of x)) is means) (c.run_command-in-Blame.ensures line)
+
+pub returns-in-Fix : goal.returns-in-Fix
+returns-in-Fix g c = λ line means.
+    let is : c.args.command ≡ command.Fix c.in-Fix.words = search rules in
+    RanWords.ends_within (OfFix (fix_values c.in-Fix.words)) (subst (λ (x : Command). Means line (values_of x)) is means) (c.run_command-in-Fix.ensures line)

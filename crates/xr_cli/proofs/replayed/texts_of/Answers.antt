@@ -1,5 +1,5 @@
 -- The history has a place for each net at each step.
-use Rattle.xr_cli.proofs.Jobs.{has_steps}
+use Rattle.xr_cli.proofs.TextsOf.{has_steps}
 use Rattle.xr_cli.proofs.replayed.texts_of.Goals as goal
 
 pub vcd_text-requires-clause-steps : goal.vcd_text-requires-clause-steps

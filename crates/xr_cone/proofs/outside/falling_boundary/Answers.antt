@@ -11,7 +11,7 @@ use Rattle.xr_cone_nodes.specs.declared.node.Node.{Node}
 use Rattle.xr_cone_nodes.specs.Nodes.{no_node, node_at}
 use Rattle.xr_cone_nodes.specs.Traced.{cone_in}
 use Rattle.xr_cone.specs.Boundary.{IsPlaceIn, number_in, read_in}
-use Rattle.xr_cone.specs.InWave.{IsInReach}
+use Rattle.xr_rests.specs.InWave.{IsInReach}
 use Rattle.xr_cone.proofs.BoundaryPlaces.{as_many, cone_rising, falling, nodes_placed, nodes_read, numbers_are, position_reach}
 use Rattle.xr_cone.proofs.outside.falling_boundary.Goals as goal
 

@@ -7,7 +7,8 @@ pub pair_of_number-requires-clause-small : goal.pair_of_number-requires-clause-s
 pair_of_number-requires-clause-small c =
     let least = rw c.in-Some.is at c.tries.invariant.1 in
     let below = least.below in
-    let few = c.number_blocks-block-end.ensures.few in
+    let fewer = rw c.sources-sources.ensures at c.number_blocks-block-end.ensures.fewer in
+    let few = fewer c.requires.few in
     let end = c.tries.auto.block-end in
     omega (arith, below, few, end)
 

@@ -4,8 +4,7 @@ use Rattle.std.specs.Map.{lookup}
 use Rattle.std.proofs.lemmas.Result.{IfOk-weaker}
 use Rattle.indexmap.proofs.CallerLemmas.{insert_entry-new}
 use Rattle.xr_design.specs.Job.{Job, number_of}
-use Rattle.xr_wave.specs.Contents.{Contents, job}
-use Rattle.xr_cone.specs.Known.{IsRightOf}
+use Rattle.xr_wave.specs.Contents.{job}
 use Rattle.xr_blame.specs.Causes.{AreFound}
 use Rattle.xr_blame.specs.ToBlame.{IsToBlame}
 use Rattle.xr_blame.specs.declared.halves.Cause.{Cause}
@@ -14,25 +13,23 @@ use Rattle.xr_blame.proofs.causes.Causes.find_line.Goals as goal
 
 pub returns-in-Some-clause-cause : goal.returns-in-Some-clause-cause
 returns-in-Some-clause-cause c =
-    let wave = c.self.inside.wave.now in
-    let root = c.args.root.0 in
+    let wave = c.args.wave.now in
+    let root = c.args.root.place in
     let cause = c.in-Some.cause.now in
     let number : c.number_of-number.result ≡ number_of (job wave) root =
     c.number_of-number.ensures.number ∙ ap (λ (j : Job). number_of j root) c.circuit.ensures.job in
-    let blames = found_blames wave c.self.inside.found.entries c.number_of-number.result cause c.self.invariant.found
+    let blames = found_blames wave c.args.self.now.found.entries c.number_of-number.result cause c.requires.right.found
     (sym c.in-Some.ensures.value) in
-    let here : IsToBlame c.args.self.now (number_of (job c.args.self.now) root) cause.source cause.others =
-    subst (λ (w : Contents). IsToBlame w (number_of (job w) root) cause.source cause.others) c.self.view_is
-    (subst (λ (n : ℕ). IsToBlame wave n cause.source cause.others) number blames) in
+    let here : IsToBlame wave (number_of (job wave) root) cause.source cause.others =
+    subst (λ (n : ℕ). IsToBlame wave n cause.source cause.others) number blames in
     IfOk-weaker c.copied.result _ _ (λ copy same. subst
-    (λ (x : Cause). IsToBlame c.args.self.now (number_of (job c.args.self.now) root) x.source x.others) (sym same) here)
-    c.copied.ensures
+    (λ (x : Cause). IsToBlame wave (number_of (job wave) root) x.source x.others) (sym same) here) c.copied.ensures
 
-pub invariant_of-self-2 : goal.invariant_of-self-2
-invariant_of-self-2 c =
-    let wave = c.self.inside.wave.now in
-    let root = c.args.root.0 in
-    let entries = c.self.inside.found.entries in
+pub returns-clause-right : goal.returns-clause-right
+returns-clause-right c =
+    let wave = c.args.wave.now in
+    let root = c.args.root.place in
+    let entries = c.args.self.now.found.entries in
     let number : c.number_of-number.result ≡ number_of (job wave) root =
     c.number_of-number.ensures.number ∙ ap (λ (j : Job). number_of j root) c.circuit.ensures.job in
     let absent : lookup (λ (k : ℕ). c.number_of-number.result == k) entries ≡ None =
@@ -43,11 +40,7 @@ invariant_of-self-2 c =
     record {
       found = subst (AreFound wave)
           (sym (c.in_ok-insert.ensures.entries
-          ∙ insert_entry-new _ c.self.inside.found c.number_of-number.result c.in_ok-kept.kept absent))
-          (found_more wave entries c.number_of-number.result c.in_ok-kept.kept c.self.invariant.found blames);
+          ∙ insert_entry-new _ c.args.self.now.found c.number_of-number.result c.in_ok-kept.kept absent))
+          (found_more wave entries c.number_of-number.result c.in_ok-kept.kept c.requires.right.found blames);
       right = c.in_ok-cause.ensures.right;
     }
-
-pub line_cause-requires-clause-right : goal.line_cause-requires-clause-right
-line_cause-requires-clause-right c =
-    subst (IsRightOf c.self.inside.wave.now) (sym c.replace-tracer.ensures.value) c.self.invariant.right

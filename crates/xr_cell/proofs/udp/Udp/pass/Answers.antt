@@ -1,9 +1,8 @@
 -- A pin more of a pass.
-use Rattle.std.proofs.Common.{◌<◌, ◌∙◌, sym, ap, length, arith}
+use Rattle.std.proofs.Common.{◌<◌, ◌∙◌, sym, length, arith}
 use Rattle.std.proofs.lemmas.List.{get_or_default}
 use Rattle.xr_cell.specs.declared.value.Value.TheVariants.{Zero, X}
-use Rattle.xr_cell.specs.Table.{change}
-use Rattle.xr_cell.proofs.Nexts.{pass_step, pass_stay, moved_pass}
+use Rattle.xr_cell.proofs.Nexts.{is_turned, pass_step, pass_stay, moved_pass}
 use Rattle.xr_cell.proofs.udp.Udp.pass.Goals as goal
 use Rattle.xr_cell.proofs.udp.Udp.pass.Goals.{then-is_turn, else-is_turn}
 
@@ -20,7 +19,8 @@ loop-pin-preserved c = λ earlier same.
     let before = c.loop-pin.invariant earlier same in
     elim c.if-is_turn.branch [
       | then-is_turn w ↦
-          let pins_are = w.turn-state.ensures.pins in
-          moved_pass t old new earlier _ c.args.q _ _ _ _ (w.pins-is ∙ pins_are) (w.state-is ∙ w.turn-state.ensures.state ∙ ap (λ p. change t p pin _ c.loop-pin.state) pins_are) (pass_step t c.args.clock c.args.clocks old new earlier c.args.q c.loop-pin.pins c.loop-pin.state pin _ _ was now (sym c.is_turn.ensures ∙ w.if-is_turn.true) before)
-      | else-is_turn w ↦ moved_pass t old new earlier _ c.args.q _ _ _ _ w.pins-is w.state-is (pass_stay t c.args.clock c.args.clocks old new earlier c.args.q c.loop-pin.pins c.loop-pin.state pin _ _ was now (sym c.is_turn.ensures ∙ w.if-is_turn.false) before)
+          let pins_are = w.turn-reached.ensures.pins in
+          let turned = is_turned t old new pin _ _ c.loop-pin.reached.state w.turn-reached.result pins_are w.turn-reached.ensures.state w.turn-reached.ensures.row in
+          moved_pass t old new earlier _ c.args.from _ _ _ _ (w.pins-is ∙ pins_are) w.reached-is (pass_step t c.args.clock c.args.clocks old new earlier c.args.from c.loop-pin.pins c.loop-pin.reached _ pin _ _ was now (sym c.is_turn.ensures ∙ w.if-is_turn.true) before turned)
+      | else-is_turn w ↦ moved_pass t old new earlier _ c.args.from _ _ _ _ w.pins-is w.reached-is (pass_stay t c.args.clock c.args.clocks old new earlier c.args.from c.loop-pin.pins c.loop-pin.reached pin _ _ was now (sym c.is_turn.ensures ∙ w.if-is_turn.false) before)
     ]

@@ -2,7 +2,8 @@
 use Rattle.xr_run.specs.Prepared.{answer_of}
 use Rattle.xr_run.proofs.Then.{prepared_then}
 use Rattle.xr_words.specs.Words.{check_values}
-use Rattle.xr_cli.specs.Phases.{certificate_phases, checked_phases, itself}
+use Rattle.xr_phases.specs.Phases.{certificate_phases, itself}
+use Rattle.xr_cli.specs.Phases.{checked_phases}
 use Rattle.xr_cli.proofs.commands.check.check_agreed.Goals as goal
 
 pub returns : goal.returns

@@ -4,8 +4,9 @@ use Rattle.xr_run.specs.Phases.{judges}
 use Rattle.xr_run.specs.Prepared.{answer_of}
 use Rattle.xr_run.proofs.Then.{judged_prepared, prepared_then}
 use Rattle.xr_words.specs.Words.{check_values}
-use Rattle.xr_cli.specs.Phases.{certified_phases, compare_cause, nothing_in}
-use Rattle.xr_cli.specs.Repair.{CompareComes}
+use Rattle.xr_cli.specs.Phases.{certified_phases}
+use Rattle.xr_phases.specs.Phases.{compare_cause, nothing_in}
+use Rattle.xr_phases.specs.Repair.{CompareComes}
 use Rattle.xr_cli.proofs.commands.check.check_job.Goals as goal
 
 pub returns : goal.returns

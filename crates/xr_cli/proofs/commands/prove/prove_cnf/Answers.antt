@@ -3,9 +3,9 @@ use Rattle.std.proofs.Common.{[], ◌∷◌, List, ℕ, subst}
 use Rattle.xr_run.specs.Prepared.{PreparedAlone, answer_of}
 use Rattle.xr_run.proofs.Then.{read_then}
 use Rattle.xr_words.specs.Words.{prove_values}
-use Rattle.xr_cli.specs.Code.{text_limit}
+use Rattle.xr_phases.specs.Code.{text_limit}
 use Rattle.xr_cli.specs.Phases.{proof_phases}
-use Rattle.xr_cli.specs.declared.cause.Refused.TheVariants.{LongLog}
+use Rattle.xr_phases.specs.declared.cause.Refused.TheVariants.{LongLog}
 use Rattle.xr_cli.proofs.commands.prove.prove_cnf.Goals as goal
 
 pub returns : goal.returns

@@ -2,7 +2,8 @@
 use Rattle.xr_run.specs.Prepared.{answer_of}
 use Rattle.xr_run.proofs.Then.{prepared_then}
 use Rattle.xr_words.specs.Words.{replay_values}
-use Rattle.xr_cli.specs.Phases.{code_phases, forced_phases, itself}
+use Rattle.xr_phases.specs.Phases.{code_phases, itself}
+use Rattle.xr_cli.specs.Phases.{forced_phases}
 use Rattle.xr_cli.proofs.commands.replay.replay_job.Goals as goal
 
 pub returns : goal.returns

@@ -10,5 +10,6 @@ returns-clause-cone c =
       literals = c.self.inside.literals.items;
       next = c.self.inside.next;
       graph = c.self.inside.graph;
+      shared = c.self.inside.shared;
     }) c.in-Some.node c.cone_of.result c.circuit-circuit.ensures.wave c.requires.right c.requires.looked c.self.view_is
     c.in-Some.is c.cone_of.ensures

@@ -14,6 +14,7 @@ returns-clause-right c =
       literals = xs;
       next = None;
       graph = c.self.inside.graph;
+      shared = c.self.inside.shared;
     })) (sym c.in_ok-push.ensures.items)
     (covered_next c.args.wave.now c.args.self.now c.literal_of.new.self (record {
       nodes = c.self.inside.nodes;
@@ -22,6 +23,7 @@ returns-clause-right c =
       literals = c.self.inside.literals.items;
       next = c.self.inside.next;
       graph = c.self.inside.graph;
+      shared = c.self.inside.shared;
     }) c.in_ok-literal.literal
     c.count-place.result c.self.view_is c.in_ok-literal.ensures.keeps c.in_ok-literal.ensures.right
     c.count-place.ensures c.requires.more c.in_ok-literal.ensures.literal)

@@ -23,6 +23,7 @@ returns-clause-right c =
       literals = xs;
       next = c.self.inside.next;
       graph = c.self.inside.graph;
+      shared = c.self.inside.shared;
     }))
     (sym (c.in_ok-rest.ensures ∙ ap (drop (c.len-2.result - 3 * c.width_of-kept.result)) same))
     (forgets_right c.args.wave.now (record {
@@ -32,5 +33,6 @@ returns-clause-right c =
           c.self.inside.literals.items;
       next = c.self.inside.next;
       graph = c.self.inside.graph;
+      shared = c.self.inside.shared;
     }) (c.len-2.result - 3 * c.width_of-kept.result) kept
     (subst (IsRightOf c.args.wave.now) (sym c.self.view_is) c.requires))

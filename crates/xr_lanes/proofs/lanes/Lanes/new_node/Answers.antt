@@ -26,6 +26,7 @@ make_node-requires-clause-covered c =
           c.self.inside.literals.items;
       next = c.self.inside.next;
       graph = c.self.inside.graph;
+      shared = c.self.inside.shared;
     }) _ c.args.place
     (subst (IsRightOf c.args.wave.now) (sym c.self.view_is) c.requires.right)
     (c.requires.place ∙ ap (λ (l : LanesView). count_of l) (sym c.self.view_is))
@@ -40,6 +41,7 @@ make_node-requires-clause-before c =
           c.self.inside.literals.items;
       next = c.self.inside.next;
       graph = c.self.inside.graph;
+      shared = c.self.inside.shared;
     }) c.args.place
     (subst (IsRightOf c.args.wave.now) (sym c.self.view_is) c.requires.right)
     (c.requires.place ∙ ap (λ (l : LanesView). count_of l) (sym c.self.view_is))
@@ -66,6 +68,7 @@ returns-clause-right c =
           c.self.inside.literals.items;
       next = c.self.inside.next;
       graph = c.self.inside.graph;
+      shared = c.self.inside.shared;
     } in
     let place_is : c.place_of.result ≡ place_at (job c.args.wave.now) c.args.place =
     c.place_of.ensures ∙ ap (λ (j : Job). place_at j c.args.place) c.circuit-circuit.ensures.job in
@@ -86,6 +89,7 @@ returns-clause-right c =
           c.self.inside.literals.items;
       next = Some c.in_ok-node.node;
       graph = c.in_ok-self-inside.field-0;
+      shared = c.self.inside.shared;
     })) (sym c.in_ok-node.ensures.puts)
     (subst (λ (n : ℕ). IsRightOf c.args.wave.now (record {
       nodes = with_made c.self.inside.nodes made;
@@ -94,6 +98,7 @@ returns-clause-right c =
           c.self.inside.literals.items;
       next = Some n;
       graph = c.in_ok-self-inside.field-0;
+      shared = c.self.inside.shared;
     })) (sym c.in_ok-node.ensures.node)
     (right_made c.args.wave.now lanes _ c.args.place made c.in_ok-self-inside.field-0 c.circuit-circuit.ensures.wave
     (subst (IsRightOf c.args.wave.now) (sym c.self.view_is) c.requires.right)

@@ -3,7 +3,8 @@ use Rattle.std.proofs.Common.{rules, ◌≡◌, Err}
 use Rattle.xr_run.specs.Prepared.{answer_of}
 use Rattle.xr_run.proofs.Then.{prepared_refused, prepared_then}
 use Rattle.xr_words.specs.Words.{check_values}
-use Rattle.xr_cli.specs.Phases.{compared_check, itself, job_phases}
+use Rattle.xr_cli.specs.Phases.{compared_check}
+use Rattle.xr_phases.specs.Phases.{itself, job_phases}
 use Rattle.xr_cli.proofs.commands.check.CheckPrepare.prepare.Goals as goal
 
 pub returns-clause-prepared : goal.returns-clause-prepared

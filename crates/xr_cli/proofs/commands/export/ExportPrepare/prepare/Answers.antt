@@ -3,8 +3,9 @@ use Rattle.std.proofs.Common.{rules, ◌≡◌, Err}
 use Rattle.xr_run.specs.Prepared.{answer_of}
 use Rattle.xr_run.proofs.Then.{prepared_refused, prepared_then}
 use Rattle.xr_words.specs.Words.{export_values}
-use Rattle.xr_cli.specs.Phases.{itself, job_phases, exported_phases}
-use Rattle.xr_cli.specs.declared.parts.Parts.{Parts}
+use Rattle.xr_phases.specs.Phases.{itself, job_phases}
+use Rattle.xr_cli.specs.Phases.{exported_phases}
+use Rattle.xr_phases.specs.declared.parts.Parts.{Parts}
 use Rattle.xr_cli.proofs.commands.export.ExportPrepare.prepare.Goals as goal
 
 pub returns-clause-prepared : goal.returns-clause-prepared

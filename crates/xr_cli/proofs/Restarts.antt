@@ -1,0 +1,37 @@
+-- A job under set starts fits, and its wave stands beside that under the recorded ones.
+use Rattle.std.proofs.Common.{◌≡◌, ◌∙◌, ℕ, ◌≤◌, List, length, sym, ap, subst}
+use Rattle.xr_design.specs.Circuit.{PartsFit}
+use Rattle.xr_design.specs.History.{HistoryView}
+use Rattle.xr_design.specs.Stim.{FitsStim}
+use Rattle.xr_design.specs.declared.design.Design.{Design}
+use Rattle.xr_design.specs.declared.stim.Stim.{Stim}
+use Rattle.xr_design.proofs.OrdersFit.{job_fits}
+use Rattle.xr_fix.specs.Gained.{AreBeside}
+use Rattle.xr_job.specs.declared.netlist.Netlist.{Netlist as ANetlist}
+use Rattle.xr_job.specs.declared.recorded.Recorded.{Recorded}
+use Rattle.xr_laws.specs.Starts.{DifferInStarts}
+use Rattle.xr_match.specs.Binding.{FitsBinding}
+use Rattle.xr_wave.specs.Contents.{Contents}
+use Rattle.xr_phases.specs.Repair.{FitsJob, IsRepairedBy}
+
+pub set_fits : (n : ANetlist) (r : Recorded) (stim : Stim) → FitsJob n r → FitsStim n.design stim → DifferInStarts r.stim stim → PartsFit n.design n.order stim
+set_fits n r stim fits fits_stim others = record {
+  fits_job = job_fits n.design n.order stim fits.netlist.design fits.netlist.order fits_stim
+      (subst (λ (k : ℕ). 1 ≤ k) (sym others.rounds) fits.recorded.some_round) (subst (λ (k : ℕ). k ≤ 16) (sym others.rounds) fits.recorded.few_rounds);
+  fits_stim = fits_stim;
+}
+
+pub are_beside : (conflicts : ℕ) (n : ANetlist) (old new : Stim) (h i : HistoryView) (before after : Contents) → DifferInStarts old new
+    → IsRepairedBy conflicts n old h before → IsRepairedBy conflicts n new i after → AreBeside before after
+are_beside conflicts n old new h i before after others first second = record {
+  design = second.of_job.design ∙ sym first.of_job.design;
+  order = second.of_job.order ∙ sym first.of_job.order;
+  moments = ap (λ (s : Stim). length s.times) second.of_job.stim ∙ ap (λ (times : List ℕ). length times) others.times ∙ sym (ap (λ (s : Stim). length s.times) first.of_job.stim);
+  rounds = ap (λ (s : Stim). s.rounds) second.of_job.stim ∙ others.rounds ∙ sym (ap (λ (s : Stim). s.rounds) first.of_job.stim);
+  finished = first.finished;
+  finished_too = second.finished;
+}
+
+pub bound_there : (conflicts : ℕ) (n : ANetlist) (r : Recorded) (h : HistoryView) (before : Contents) → FitsJob n r → IsRepairedBy conflicts n r.stim h before
+    → FitsBinding before.design r.binding
+bound_there conflicts n r h before fits first = subst (λ (d : Design). FitsBinding d r.binding) (sym first.of_job.design) fits.recorded.binding

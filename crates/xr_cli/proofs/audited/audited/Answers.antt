@@ -1,0 +1,15 @@
+-- The recording agrees, and then the walk.
+use Rattle.xr_run.specs.Prepared.{answer_of}
+use Rattle.xr_run.proofs.Then.{judged_then}
+use Rattle.xr_words.specs.Words.{audit_values}
+use Rattle.xr_phases.specs.Phases.{compare_cause, nothing_in}
+use Rattle.xr_cli.specs.Phases.{walk_audited}
+use Rattle.xr_phases.specs.Repair.{CompareComes}
+use Rattle.xr_cli.proofs.audited.audited.Goals as goal
+
+pub returns-clause-prepared : goal.returns-clause-prepared
+returns-clause-prepared g c =
+    let n = c.args.job.now.netlist in
+    let r = c.args.job.now.recorded in
+    judged_then (CompareComes n r) compare_cause (λ (agreed : Unit {0}). walk_audited (audit_values c.args.words.now) n r) nothing_in answer_of
+    c.in_ok-history.history c.walked.result c.in_ok-history.ensures.judged c.walked.ensures.prepared

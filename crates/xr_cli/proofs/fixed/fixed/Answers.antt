@@ -1,0 +1,15 @@
+-- The recording agrees, and then the starts are set.
+use Rattle.xr_run.specs.Prepared.{answer_of}
+use Rattle.xr_run.proofs.Then.{judged_then}
+use Rattle.xr_words.specs.Words.{fix_values}
+use Rattle.xr_phases.specs.Phases.{compare_cause, nothing_in}
+use Rattle.xr_cli.specs.Phases.{set_phases}
+use Rattle.xr_phases.specs.Repair.{CompareComes}
+use Rattle.xr_cli.proofs.fixed.fixed.Goals as goal
+
+pub returns-clause-prepared : goal.returns-clause-prepared
+returns-clause-prepared g c =
+    let n = c.args.job.now.netlist in
+    let r = c.args.job.now.recorded in
+    judged_then (CompareComes n r) compare_cause (λ (agreed : Unit {0}). set_phases (fix_values c.args.words.now) n r) nothing_in answer_of
+    c.in_ok-history.history c.restarted.result c.in_ok-history.ensures.judged c.restarted.ensures.prepared

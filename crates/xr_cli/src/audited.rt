@@ -1,0 +1,94 @@
+//! The repair of a job over a blank history, and the places that its replay knows otherwise.
+
+ghost use Rattle.std.specs.Prelude.{◌≡◌, IfErr, IfOk};
+ghost use Rattle.xr_audit.specs.Listed.{IsAudit};
+ghost use Rattle.xr_design.specs.Handed.{IsBlank, IsReplay};
+ghost use Rattle.xr_job.specs.Compared.{job_in};
+ghost use Rattle.xr_run.specs.Prepared.{IsJudgedBy, PreparedAlone, answer_of};
+ghost use Rattle.xr_wave.specs.Contents.{IsLimit};
+ghost use Rattle.xr_words.specs.Words.{audit_values};
+ghost use Rattle.xr_cli.specs.Audited.{AuditComes, PrintsAudit};
+ghost use Rattle.xr_cli.specs.Phases.{audited_phases, walk_audited};
+ghost use Rattle.xr_phases.specs.Phases.{no_cause};
+ghost use Rattle.xr_phases.specs.Repair.{FitsParts, IsRepairedBy};
+
+use crate::checked::ready_with;
+use std::alloc::Global;
+use xr_base::Memory;
+use xr_design::History;
+use xr_listing::audit_text;
+use xr_phases::{Parts, Refused, compared, wave_under};
+use xr_run::{Ready, Refusal, Report};
+use xr_shelf::Sink;
+use xr_wave::Wave;
+use xr_words::AuditWords;
+
+/// What the words ask of a job. The sink is told how far the walk has come.
+pub fn audited<'a, O: Sink>(
+    alloc: Global,
+    words: &AuditWords<'a>,
+    job: &Parts,
+    out: &mut O,
+) -> Result<Ready<'a>, Refusal<Refused>>
+    requires fits { FitsParts job.now }
+    ensures prepared { PreparedAlone (audited_phases (audit_values words.now) job.now.netlist job.now.recorded)
+        answer_of result }
+    ensures out { O.view out.new ≡ O.view out.old }
+{
+    let history = compared(alloc, &job.netlist, &job.recorded)?;
+    walked(alloc, words, job, &history, out)
+}
+
+/// The walk over the places of a job that agrees, of which nothing is known, and its audit beside the replay.
+fn walked<'a, O: Sink>(
+    alloc: Global,
+    words: &AuditWords<'a>,
+    job: &Parts,
+    history: &History,
+    out: &mut O,
+) -> Result<Ready<'a>, Refusal<Refused>>
+    requires fits { FitsParts job.now }
+    requires replay { IsReplay (job_in job.now.netlist job.now.recorded) history.now }
+    ensures prepared { PreparedAlone (walk_audited (audit_values words.now) job.now.netlist job.now.recorded)
+        answer_of result }
+    ensures out { O.view out.new ≡ O.view out.old }
+{
+    let conflicts = words.conflicts;
+    let blank = History::blank(alloc, &job.netlist.design, &job.recorded.stim)?;
+    let wave = blank_wave(alloc, job, &blank, conflicts, out)?;
+    Ok(listed(alloc, &wave, history)?)
+}
+
+/// The finished wave of a job over a blank history, which no place contradicts.
+fn blank_wave<'b, O: Sink>(
+    alloc: Global,
+    job: &'b Parts,
+    blank: &'b History,
+    conflicts: u32,
+    out: &mut O,
+) -> Result<Wave<'b>, Refusal<Refused>>
+    requires fits { FitsParts job.now }
+    requires blank { IsBlank (job_in job.now.netlist job.now.recorded) blank.now }
+    requires conflicts { IsLimit conflicts }
+    ensures repaired { IfOk result (IsRepairedBy conflicts job.now.netlist job.now.recorded.stim blank.now) }
+    ensures refused { IfErr result (IsJudgedBy (AuditComes conflicts job.now.netlist job.now.recorded) no_cause) }
+    ensures out { O.view out.new ≡ O.view out.old }
+{
+    wave_under(
+        alloc,
+        &job.netlist,
+        &job.recorded.stim,
+        blank,
+        conflicts,
+        out,
+    )
+}
+
+/// The audit of a finished wave beside the replay.
+fn listed<'a>(alloc: Global, wave: &Wave<'_>, history: &History) -> Result<Ready<'a>, Memory>
+    requires { IsAudit wave.now history.now }
+    ensures { IfOk result (λ ready. PrintsAudit wave.now history.now (answer_of ready)) }
+{
+    let text = audit_text(alloc, wave, history)?;
+    Ok(ready_with(alloc, Report::new(alloc, text)?))
+}

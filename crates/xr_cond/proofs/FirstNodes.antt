@@ -1,0 +1,96 @@
+-- The nodes, places and numbers with which a condition begins.
+use Rattle.std.proofs.Common.{◌≡◌, ℕ, ◌<◌, Bool, true, false, List, [], ◌∷◌, if◌then◌else◌, length, map, sym, ap, ◌∙◌, arith, subst}
+use Rattle.std.specs.Prelude.{nat_lt}
+use Rattle.std.specs.List.{AllByRecursion}
+use Rattle.std.proofs.lemmas.List.{length-map}
+use Rattle.xr_design.specs.Filling.{IsPlace}
+use Rattle.xr_design.specs.Fits.{Fits, place_at}
+use Rattle.xr_design.specs.Job.{Job, number_of, places_of}
+use Rattle.xr_design.specs.Waveform.{certain}
+use Rattle.xr_design.specs.declared.place.Place.{Place}
+use Rattle.xr_design.proofs.Numbers.{is_place_at, numbers_of_places}
+use Rattle.xr_model.proofs.PlacesWhere.{among_all}
+use Rattle.xr_wave.specs.Contents.{Contents, job}
+use Rattle.xr_cone.specs.Boundary.{certain_boundary_in, near_in}
+use Rattle.xr_cone_nodes.specs.declared.node.Node.{Node}
+use Rattle.xr_cone_nodes.specs.Traced.{cone_in}
+use Rattle.xr_cond.specs.First.{HasTurnNodes, IsConeOfCertain, IsFirstQuery, IsNextFirst}
+use Rattle.xr_cond.specs.TurnNodes.{AreAround, AreNodesAround}
+use Rattle.xr_cond.specs.Turns.{first_due}
+use Rattle.xr_cond.specs.View.{due_count}
+use Rattle.xr_cond.specs.declared.next.NextQuery.{NextQuery}
+use Rattle.xr_cond.proofs.NextTurns.{due_long}
+use Rattle.xr_cond.proofs.TurnChoices.{boundary_low, listed_beside}
+
+all_places : (j : Job) → Fits j → (numbers : List ℕ) → AllByRecursion (λ k. k < places_of j) numbers
+    → AllByRecursion (IsPlace j) (map (place_at j) numbers)
+all_places j fits [] all = tt
+all_places j fits (n ∷ ns) all = (is_place_at j n fits.ordering fits.all all.0, all_places j fits ns all.1)
+
+module _ (c : Contents) (root : ℕ) (cone : List Node) (of : IsConeOfCertain c root cone) where
+  fits : Fits (job c)
+  fits = of.whole.wave.fits.fits_job
+
+  boundary_within : AllByRecursion (λ k. k < places_of (job c)) (certain_boundary_in c root)
+  boundary_within = among_all (λ k. k < places_of (job c)) (certain_boundary_in c root) (λ k at.
+      (let low = boundary_low (job c) (certain c.written) root k
+      (listed_beside (job c) (certain c.written) root k at) in
+      let up = of.whole.reach.within in omega (arith, low, up)))
+
+  pub listed_places : (listed : List Place) → listed ≡ map (place_at (job c)) (certain_boundary_in c root)
+      → AllByRecursion (IsPlace (job c)) listed
+  listed_places listed are = subst (AllByRecursion (IsPlace (job c))) (sym are)
+      (all_places (job c) fits (certain_boundary_in c root) boundary_within)
+
+  pub around_of : (places inside : List ℕ) → places ≡ near_in c root → inside ≡ cone_in c root
+      → AreAround c root places inside
+  around_of places inside places_are inside_are = record {
+    wave = of.whole.wave;
+    reach = of.whole.reach;
+    free = of.whole.free;
+    places_are = places_are;
+    inside_are = inside_are;
+  }
+
+  pub numbers_back : (listed : List Place) → listed ≡ map (place_at (job c)) (certain_boundary_in c root)
+      → map (number_of (job c)) listed ≡ certain_boundary_in c root
+  numbers_back listed are = ap (map (number_of (job c))) are
+      ∙ numbers_of_places (job c) (certain_boundary_in c root) fits.ordering fits.all boundary_within
+
+  pub has_turn_nodes : (listed : List Place) (places inside numbers : List ℕ) (nodes : List Node)
+      → listed ≡ map (place_at (job c)) (certain_boundary_in c root) → places ≡ near_in c root → inside ≡ cone_in c root
+      → AreNodesAround c places inside nodes → numbers ≡ map (number_of (job c)) listed
+      → HasTurnNodes c root places nodes numbers
+  has_turn_nodes listed places inside numbers nodes listed_are places_are inside_are are made = record {
+    are = are root (around_of places inside places_are inside_are);
+    has = of.has;
+    places_are = places_are;
+    numbers_are = made ∙ numbers_back listed listed_are;
+  }
+
+-- Where some are due, they are all.
+due_all : (b : List ℕ) (place : ℕ) (rest : List ℕ) → first_due b ≡ place ∷ rest → b ≡ place ∷ rest
+due_all b place rest = by (nat_lt 64 (length b))
+  where
+    by : (many : Bool) → (if many then [] else b) ≡ place ∷ rest → b ≡ place ∷ rest
+    by true e = cc
+    by false e = e
+
+pub next_first : (c : Contents) (cone : List Node) (next : NextQuery) → IsFirstQuery c cone next → IsNextFirst c cone next
+next_first c cone next first root of place rest due =
+    first root of place rest (due_all (certain_boundary_in c root) place rest due)
+
+pub none_first : (c : Contents) (cone : List Node) (listed : List Place) (next : NextQuery)
+    → ((root : ℕ) → IsConeOfCertain c root cone → listed ≡ map (place_at (job c)) (certain_boundary_in c root))
+    → due_count (length listed) ≡ 0 → IsNextFirst c cone next
+none_first c cone listed next are none root of place rest due =
+    let long = ap length (are root of) ∙ length-map (certain_boundary_in c root) (place_at (job c)) in
+    let count = sym (ap length due) ∙ due_long (certain_boundary_in c root) ∙ ap due_count (sym long) ∙ none in
+    absurd (omega (arith, count))
+
+pub some_due : (count : ℕ) → 0 < due_count count → 0 < count
+some_due count = by (nat_lt 64 count)
+  where
+    by : (many : Bool) → 0 < (if many then 0 else count) → 0 < count
+    by true less = absurd (omega (arith, less))
+    by false less = less

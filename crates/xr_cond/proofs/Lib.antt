@@ -1,0 +1,19 @@
+-- Proofs about conditions and their turns.
+pub mod ApartClauses
+pub mod ApartLists
+pub mod AroundPlaces
+pub mod AssembledQueries
+pub mod FirstNodes
+pub mod FirstQueries
+pub mod KeptConditions
+pub mod KeptUnits
+pub mod MadeSteps
+pub mod NextTurns
+pub mod NodeLists
+pub mod TurnChoices
+pub mod TurnClauses
+pub mod TurnLiterals
+pub mod TurnModels
+pub mod WholeLists
+pub mod WholeValues
+pub mod WorkedConditions

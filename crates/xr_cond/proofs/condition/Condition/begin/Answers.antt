@@ -1,0 +1,13 @@
+-- No turn is made.
+use Rattle.std.proofs.Common.{rules, ◌≡◌, length, refl, ap, ◌∙◌}
+use Rattle.std.specs.Vec.{vec_len}
+use Rattle.xr_cond.specs.View.{due_count, first_count}
+use Rattle.xr_cond.proofs.NextTurns.{begun}
+use Rattle.xr_cond.proofs.condition.Condition.begin.Goals as goal
+
+pub returns-clause-begun : goal.returns-clause-begun
+returns-clause-begun c =
+    let long : vec_len c.args.listed ≡ length c.args.listed.items = search rules in
+    begun c.args.listed.items c.args.next c.args.limit _ c.in_ok-turns.ensures.items
+    (c.first_count-kept.ensures ∙ ap first_count (c.len.ensures ∙ long))
+    (c.due_count-due.ensures ∙ ap due_count (c.len-2.ensures ∙ long)) refl refl refl

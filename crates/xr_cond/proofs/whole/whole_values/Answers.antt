@@ -1,0 +1,14 @@
+-- The values of all numbers are the whole table.
+use Rattle.std.proofs.Common.{rules, ◌≡◌, ◌^◌, ◌∙◌, ap}
+use Rattle.xr_design.specs.Job.{number_of}
+use Rattle.xr_wave.specs.Contents.{job}
+use Rattle.xr_cond.proofs.WholeValues.{number_within, whole_all}
+use Rattle.xr_cond.proofs.whole.whole_values.Goals as goal
+
+pub returns : goal.returns
+returns c =
+    let end : c.numbers.number ≡ 2 ^ c.args.count = search rules in
+    whole_all c.args.wave.now (number_of (job c.args.wave.now) c.args.place) c.numbers.number c.numbers.values.items
+    c.circuit-circuit.ensures.wave
+    (number_within (job c.args.wave.now) c.circuit-circuit.ensures.wave.fits.fits_job c.args.place c.requires.reached.within)
+    (end ∙ ap (λ n. 2 ^ n) c.requires.count) c.numbers.invariant

@@ -1,0 +1,57 @@
+//! Conditions made by a search.
+
+ghost use Rattle.std.specs.Prelude.{◌≡◌, ◌<◌, IfOk};
+ghost use Rattle.xr_cond.specs.First.{IsCertainCone, IsConditionOfCone};
+ghost use Rattle.xr_cond.specs.View.{IsFinishedFrom, IsStep};
+
+use crate::condition::Condition;
+use std::alloc::Global;
+use xr_base::Memory;
+use xr_cone_nodes::Cone;
+use xr_sat::{Outcome, solve};
+use xr_wave::Wave;
+
+/// The condition of a certain place that has a cone, with all turns made. Takes memory as `Condition::new` does, and
+/// that of one search at a time.
+pub fn condition_of(
+    alloc: Global,
+    wave: &Wave<'_>,
+    cone: Cone,
+    limit: u32,
+) -> Result<Condition, Memory>
+    requires cone { IsCertainCone wave.now cone.nodes }
+    requires limit { limit ≡ wave.now.limit }
+    ensures condition { IfOk result (IsConditionOfCone wave.now cone.nodes) }
+    ensures finished { IfOk result (λ condition. condition.due ≡ 0) }
+{
+    let _circuit = wave.circuit();
+    let condition = Condition::new(alloc, wave, cone)?;
+    finish(alloc, condition, limit)
+}
+
+/// Makes all turns that are due, each by a search of at most as many clauses as the limit of a fresh log.
+pub fn finish(alloc: Global, condition: Condition, limit: u32) -> Result<Condition, Memory>
+    requires limit { limit ≡ condition.limit }
+    requires some { 0 < limit }
+    ensures { IfOk result (IsFinishedFrom condition) }
+{
+    let mut now = condition;
+    'turns: while now.turns_due() > 0 {
+        now = make_turn(alloc, now, limit)?;
+    }
+    Ok(now)
+}
+
+/// Makes one turn.
+fn make_turn(alloc: Global, condition: Condition, limit: u32) -> Result<Condition, Memory>
+    requires due { 0 < condition.due }
+    requires limit { limit ≡ condition.limit }
+    requires some { 0 < limit }
+    ensures { IfOk result (IsStep condition) }
+{
+    match solve(alloc, condition.next_query(), limit)? {
+        Outcome::Model(model) => Ok(condition.need(model)),
+        Outcome::Refuted(proof) => Ok(condition.drop_place(proof)),
+        Outcome::Limit(proof) => Ok(condition.tried(proof)),
+    }
+}

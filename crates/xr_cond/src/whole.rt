@@ -1,0 +1,34 @@
+//! Whole tables: the rule of a place for all bits of its argument places, certain ones among them.
+
+ghost use Rattle.std.specs.Prelude.{◌≡◌, ◌≤◌, IfOk, length};
+ghost use Rattle.xr_design.specs.Job.{number_of};
+ghost use Rattle.xr_wave.specs.Contents.{IsReached, arguments_in, job};
+ghost use Rattle.xr_cond.specs.TurnNodes.{AreWholeValues};
+
+use std::alloc::Global;
+use xr_base::Memory;
+use xr_cell::Value;
+use xr_design::Place;
+use xr_wave::Wave;
+
+/// The values of the rule of a place, by number: bit k of the number is the bit of argument place k. Takes a byte a
+/// value, of at most 2^13.
+pub fn whole_values(
+    alloc: Global,
+    wave: &Wave<'_>,
+    place: Place,
+    count: usize,
+) -> Result<Vec<Value>, Memory>
+    requires reached { IsReached wave.now place }
+    requires count { count ≡ length (arguments_in wave.now (number_of (job wave.now) place)) }
+    requires few { count ≤ 13 }
+    ensures { IfOk result (λ values. AreWholeValues wave.now (number_of (job wave.now) place) values.items) }
+{
+    let _circuit = wave.circuit();
+    let end: u16 = 1 << count;
+    let mut values = Vec::with_capacity(alloc, end as usize)?;
+    'numbers: for number in 0..end {
+        values.push(wave.rule_value(place, number))?;
+    }
+    Ok(values)
+}

@@ -1,0 +1,186 @@
+-- Tables that nodes share, as nodes come in and as the wave grows, and what they show of the next place.
+use Rattle.std.proofs.Common.{◌≡◌, ℕ, ◌+◌, ◌-◌, ◌<◌, not, Bool, true, false, List, [], ◌∷◌, ◌++◌, Option, None, Some, IfSome, length, map, slice_index, refl, sym, ap, ◌∙◌, subst, arith, ⊎_elim, if◌then◌else◌}
+use Rattle.std.specs.List.{AllByRecursion}
+use Rattle.std.specs.List.Sorted.{IsStrictlyIncreasing}
+use Rattle.std.proofs.lemmas.Bool.{or_cases}
+use Rattle.xr_cell.specs.declared.value.Value.{Value}
+use Rattle.xr_design.specs.declared.place.Place.{Place}
+use Rattle.xr_design.specs.Filling.{IsFilling}
+use Rattle.xr_design.specs.Fits.{place_at}
+use Rattle.xr_design.specs.Job.{Job, places_of}
+use Rattle.xr_design.specs.Waveform.{GivesBoth, certain}
+use Rattle.xr_design.proofs.Exact.{empty_filling}
+use Rattle.xr_design.proofs.Numbers.{filling_at}
+use Rattle.xr_model.specs.Cone.{is_source}
+use Rattle.xr_model.specs.Places.{among}
+use Rattle.xr_model.proofs.PlacesWhere.{all_among, among_all, picked_rises}
+use Rattle.xr_rests.proofs.RisingLists.{Rises, rises}
+use Rattle.xr_wave.specs.Contents.{Contents, IsWave, job, next_number}
+use Rattle.xr_cone_nodes.specs.declared.node.Node.{Node}
+use Rattle.xr_cone_nodes.specs.Nodes.{chosen, number_bits}
+use Rattle.xr_cone_nodes.specs.Traced.{world_in}
+use Rattle.xr_graph.proofs.GraphBits.{world_law}
+use Rattle.xr_graph.specs.Bits.{graph_bit}
+use Rattle.xr_graph.specs.NodeRoots.{AddsNode}
+use Rattle.xr_graph.specs.declared.node_root.NodeRoot.{NodeRoot}
+use Rattle.xr_tables.proofs.RightTables.{stay_law}
+use Rattle.xr_tables.specs.Other.{IsOther}
+use Rattle.xr_tables.specs.Tables.{AreTablesOf, AreTablesOfAny, TablesView, filling_by}
+use Rattle.xr_tables.specs.declared.other.Other.{Other}
+use Rattle.xr_lanes.specs.Graphs.{GrowsBy}
+use Rattle.xr_lanes.specs.Made.{AreSourcesIn}
+use Rattle.xr_lanes.specs.Pairs.{bit_under}
+use Rattle.xr_lanes.specs.Shared.{AreListable, IsListIn, IsNextIn, IsOtherNext, IsSharedIn, SharedView}
+use Rattle.xr_lanes.specs.Union.{IsUnion}
+use Rattle.xr_lanes.proofs.LanePairs.{sources_low}
+use Rattle.xr_lanes.proofs.Unions.{increases}
+
+-- A list without tables.
+no_tables : (graph : Option (List Node)) (tables : TablesView) → AreTablesOfAny tables
+    → IfSome graph (λ nodes. AreTablesOf nodes tables)
+no_tables None tables right = tt
+no_tables (Some nodes) tables right = right nodes
+
+pub shared_listed : (c : Contents) (graph : Option (List Node)) (numbers : List ℕ) (tables : TablesView)
+    → AreListable c numbers → tables.list ≡ map (place_at (job c)) numbers → AreTablesOfAny tables
+    → IsSharedIn c graph (record { numbers = numbers; tables = tables })
+shared_listed c graph numbers tables are places right = record {
+  list = record { numbers = are; places = places };
+  tables = no_tables graph tables right;
+}
+
+pub shared_empty : (c : Contents) (graph : Option (List Node)) (numbers : List ℕ) (tables : TablesView) → numbers ≡ []
+    → tables.list ≡ [] → AreTablesOfAny tables → IsSharedIn c graph (record { numbers = numbers; tables = tables })
+shared_empty c graph numbers tables none places right =
+    shared_listed c graph numbers tables
+    (subst (AreListable c) (sym none) (record { rises = λ k less. absurd (omega (arith, less)); within = tt }))
+    (places ∙ ap (map (place_at (job c))) (sym none)) right
+
+-- They stay right as a node comes in,
+pub shared_grows : (c : Contents) (place : Place) (roots : List NodeRoot) (values : List Value)
+    (old new : Option (List Node)) (shared : SharedView) → GrowsBy old place roots values new → IsSharedIn c old shared
+    → IsSharedIn c new shared
+shared_grows c place roots values old None shared grows is = record { list = is.list; tables = tt }
+shared_grows c place roots values None (Some new) shared grows is = absurd grows
+shared_grows c place roots values (Some old) (Some new) shared grows is = record {
+  list = is.list;
+  tables = subst (λ (nodes : List Node). AreTablesOf nodes shared.tables) (sym grows.adds.nodes)
+      (stay_law old _ shared.tables is.tables);
+}
+
+-- and whatever is written.
+listable_moves : (c d : Contents) (numbers : List ℕ) → job d ≡ job c → AreListable c numbers → AreListable d numbers
+listable_moves c d numbers same are = record {
+  rises = are.rises;
+  within = subst (λ (j : Job). AllByRecursion (λ k. k < places_of j) numbers) (sym same) are.within;
+}
+
+pub shared_moves : (c d : Contents) (graph : Option (List Node)) (shared : SharedView) → job d ≡ job c
+    → IsSharedIn c graph shared → IsSharedIn d graph shared
+shared_moves c d graph shared same is = record {
+  list = record {
+    numbers = listable_moves c d shared.numbers same is.list.numbers;
+    places = is.list.places ∙ ap (λ (j : Job). map (place_at j) shared.numbers) (sym same);
+  };
+  tables = is.tables;
+}
+
+-- The sources of a place can be listed, and so can two lists together.
+pub sources_listable : (c : Contents) (place : ℕ) (list : List ℕ) → place < places_of (job c) → AreSourcesIn c place list
+    → AreListable c list
+sources_listable c place list within are = record {
+  rises = subst IsStrictlyIncreasing (sym are) (picked_rises (is_source (job c) (certain c.written) place) (place + 1));
+  within = sources_low c place list within are;
+}
+
+pub union_listable : (c : Contents) (some others all : List ℕ) → AreListable c some → AreListable c others
+    → IsUnion some others all → AreListable c all
+union_listable c some others all first second is = record {
+  rises = is.rises;
+  within = among_all (λ k. k < places_of (job c)) all (λ k at.
+      ⊎_elim (λ (e : among some k ≡ true). all_among (λ k. k < places_of (job c)) some k first.within e)
+      (λ (e : among others k ≡ true). all_among (λ k. k < places_of (job c)) others k second.within e)
+      (or_cases (among some k) (among others k) (sym (is.are k) ∙ at)));
+}
+
+-- What bits choose of numbers.
+abbrev picked : List ℕ → (ℕ → Bool) → List ℕ
+picked [] bits = []
+picked (x ∷ xs) bits = if bits 0 then x ∷ picked xs (λ k. bits (k + 1)) else picked xs (λ k. bits (k + 1))
+
+chosen_map : (f : ℕ → Place) (xs : List ℕ) (bits : ℕ → Bool) → chosen (map f xs) bits ≡ map f (picked xs bits)
+chosen_map f [] bits = refl
+chosen_map f (x ∷ xs) bits = step (bits 0) (chosen_map f xs (λ k. bits (k + 1)))
+  where
+    step : (b : Bool) → chosen (map f xs) (λ k. bits (k + 1)) ≡ map f (picked xs (λ k. bits (k + 1)))
+        → (if b then f x ∷ chosen (map f xs) (λ k. bits (k + 1)) else chosen (map f xs) (λ k. bits (k + 1)))
+        ≡ map f (if b then x ∷ picked xs (λ k. bits (k + 1)) else picked xs (λ k. bits (k + 1)))
+    step true ih = ap (λ zs. f x ∷ zs) ih
+    step false ih = ih
+
+picked_all : (P : ℕ → Type 0) (xs : List ℕ) (bits : ℕ → Bool) → AllByRecursion P xs → AllByRecursion P (picked xs bits)
+picked_all P [] bits all = tt
+picked_all P (x ∷ xs) bits all = step (bits 0) (picked_all P xs (λ k. bits (k + 1)) all.1)
+  where
+    step : (b : Bool) → AllByRecursion P (picked xs (λ k. bits (k + 1)))
+        → AllByRecursion P (if b then x ∷ picked xs (λ k. bits (k + 1)) else picked xs (λ k. bits (k + 1)))
+    step true ih = (all.0, ih)
+    step false ih = ih
+
+picked_up : (xs : List ℕ) (bits : ℕ → Bool) → Rises xs → Rises (picked xs bits)
+picked_up [] bits up = tt
+picked_up (x ∷ xs) bits up =
+    step (bits 0) (picked_all (λ y. x < y) xs (λ k. bits (k + 1)) up.0) (picked_up xs (λ k. bits (k + 1)) up.1)
+  where
+    step : (b : Bool) → AllByRecursion (λ y. x < y) (picked xs (λ k. bits (k + 1))) → Rises (picked xs (λ k. bits (k + 1)))
+        → Rises (if b then x ∷ picked xs (λ k. bits (k + 1)) else picked xs (λ k. bits (k + 1)))
+    step true above ih = (above, ih)
+    step false above ih = ih
+
+-- What the number of a filling lists is a filling.
+number_filling : (c : Contents) (shared : SharedView) (number : ℕ) → IsWave c → IsListIn c shared
+    → IsFilling (job c) (filling_by shared.tables.list number)
+number_filling c shared number wave is =
+    let fits = wave.fits.fits_job in
+    let bits : ℕ → Bool = number_bits number in
+    subst (IsFilling (job c))
+    (sym (ap (λ (list : List Place). chosen list bits) is.places ∙ chosen_map (place_at (job c)) shared.numbers bits))
+    (filling_at (job c) (picked shared.numbers bits) fits.ordering fits.all
+    (picked_all (λ k. k < places_of (job c)) shared.numbers bits is.numbers.within)
+    (increases (picked shared.numbers bits) (picked_up shared.numbers bits (rises shared.numbers is.numbers.rises))))
+
+-- What tables show of the node of the next place.
+pub other_next : (c : Contents) (nodes : List Node) (shared : SharedView) (node : ℕ) (other : Other) → IsWave c
+    → IsListIn c shared → IsNextIn c node nodes → IsOther nodes shared.tables.list node other → IsOtherNext c other
+other_next c nodes shared node other wave list next is =
+    let filled : IsFilling (job c) other.filling =
+    subst (IsFilling (job c)) (sym is.filling) (number_filling c shared is.number wave list) in
+    record {
+      filled = filled;
+      empty = is.empty ∙ world [] (empty_filling (job c));
+      differs = sym (world other.filling filled) ∙ is.differs;
+    }
+  where
+    world : (filling : List Place) → IsFilling (job c) filling → graph_bit nodes filling node ≡ bit_under c filling
+    world filling filled =
+        world_law c nodes next.numbers filling node wave next.ordered next.is_graph filled next.within
+        ∙ ap (world_in c filling) next.is
+
+-- So the two fillings are a pair.
+pub both_up : (c : Contents) (other : Other) → IsOtherNext c other → other.empty ≡ false
+    → GivesBoth (job c) c.written (next_number c) (record { zero = []; one = other.filling })
+both_up c other is zeroed = record {
+  zero_filling = empty_filling (job c);
+  one_filling = is.filled;
+  gives_zero = sym is.empty ∙ zeroed;
+  gives_one = is.differs ∙ ap not zeroed;
+}
+
+pub both_down : (c : Contents) (other : Other) → IsOtherNext c other → other.empty ≡ true
+    → GivesBoth (job c) c.written (next_number c) (record { zero = other.filling; one = [] })
+both_down c other is one = record {
+  zero_filling = is.filled;
+  one_filling = empty_filling (job c);
+  gives_zero = is.differs ∙ ap not one;
+  gives_one = sym is.empty ∙ one;
+}

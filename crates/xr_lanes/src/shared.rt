@@ -1,0 +1,160 @@
+//! Tables that all nodes share over one list of at most 16 sources, and the pairs that they show.
+
+ghost use Rattle.std.specs.Prelude.{◌≡◌, ◌<◌, ◌≤◌, Some, IfOk, IfSome, OnOk, length, map};
+ghost use Rattle.std.specs.List.{AllByRecursion};
+ghost use Rattle.std.specs.List.Sorted.{IsStrictlyIncreasing};
+ghost use Rattle.xr_design.specs.Circuit.{CircuitFits, job_in};
+ghost use Rattle.xr_design.specs.Fits.{place_at};
+ghost use Rattle.xr_design.specs.Job.{places_of};
+ghost use Rattle.xr_wave.specs.Contents.{job, next_number};
+ghost use Rattle.xr_wave.specs.Token.{HasNext, LineHolds, pair_line};
+ghost use Rattle.xr_lanes.specs.Made.{AreSourcesIn};
+ghost use Rattle.xr_lanes.specs.Shared.{AreListable, IsListIn, IsNextIn, IsOtherNext, IsSharedIn, IsSharedOf, IsSharedOfAny, KeepsShared};
+
+use crate::union::union;
+use std::alloc::Global;
+use std::marker::Model;
+use xr_base::{Items, Memory};
+use xr_design::{Circuit, Place};
+use xr_graph::Graph;
+use xr_tables::{Other, SourceTables};
+use xr_wave::{Pair, Wave};
+
+/// How many sources the list has at most.
+const MOST: usize = 16;
+
+/// The list by the numbers of its places, and the tables over it.
+#[derive(Drop)]
+pub struct Shared {
+    numbers: Vec<u32>,
+    tables: SourceTables,
+}
+
+impl Model for Shared {
+    ghost use Rattle.xr_lanes.specs.Shared.{SharedView};
+
+    ghost Value = { SharedView };
+
+    ghost view = { λ shared. record { numbers = shared.numbers.items; tables = shared.tables } };
+}
+
+impl Shared {
+    /// No list, and no tables. Takes no memory.
+    pub fn new(alloc: Global) -> Shared
+        ensures { IsSharedOfAny result }
+    {
+        Shared {
+            numbers: Vec::new(alloc),
+            tables: SourceTables::new(alloc),
+        }
+    }
+
+    /// The token of the next place, which has these sources and this node of the graph, where they are few and tables
+    /// show that a filling of places of the list gives it another bit than the empty one.
+    pub fn pair(
+        &mut self,
+        alloc: Global,
+        wave: &Wave<'_>,
+        graph: &Option<Graph>,
+        node: usize,
+        sources: &[u32],
+    ) -> Result<Option<Pair>, Memory>
+        requires next { HasNext wave.now }
+        requires right { IsSharedIn wave.now graph.now self.old }
+        requires node { IfSome graph.now (IsNextIn wave.now node) }
+        requires sources { AreSourcesIn wave.now (next_number wave.now) sources.now }
+        ensures holds { IfOk result (λ found. IfSome found (λ pair. LineHolds wave.now (pair_line pair))) }
+        ensures right { OnOk result (IsSharedIn wave.now graph.now self.new) }
+    {
+        if sources.len() > MOST {
+            return Ok(None);
+        }
+        match graph {
+            None => Ok(None),
+            Some(graph) => {
+                self.take_in(alloc, wave, sources)?;
+                self.pair_in(alloc, wave, graph, node)
+            }
+        }
+    }
+
+    /// The list stays where it has these sources, gets them where there is room, and else becomes them.
+    fn take_in(&mut self, alloc: Global, wave: &Wave<'_>, sources: &[u32]) -> Result<(), Memory>
+        requires list { IsListIn wave.now self.old }
+        requires few { length sources.now ≤ 16 }
+        requires sources { AreListable wave.now sources.now }
+        ensures { OnOk result (KeepsShared wave.now self.old self.new) }
+    {
+        let all = union(alloc, self.numbers.as_slice(), sources)?;
+        if all.len() <= self.numbers.len() {
+            Ok(())
+        } else if all.len() <= MOST {
+            self.set(alloc, wave, all)
+        } else {
+            let own = sources.to_vec(alloc)?;
+            self.set(alloc, wave, own)
+        }
+    }
+
+    /// Another list.
+    fn set(&mut self, alloc: Global, wave: &Wave<'_>, numbers: Vec<u32>) -> Result<(), Memory>
+        requires few { length numbers.items ≤ 16 }
+        requires numbers { AreListable wave.now numbers.items }
+        ensures { OnOk result (IsSharedOf wave.now self.new) }
+    {
+        let circuit = wave.circuit();
+        let list = places_at(alloc, &circuit, numbers.as_slice())?;
+        self.tables.set_list(list);
+        self.numbers = numbers;
+        Ok(())
+    }
+
+    /// The token, where the tables over the list show it.
+    fn pair_in(
+        &mut self,
+        alloc: Global,
+        wave: &Wave<'_>,
+        graph: &Graph,
+        node: usize,
+    ) -> Result<Option<Pair>, Memory>
+        requires next { HasNext wave.now }
+        requires right { IsSharedIn wave.now (Some graph.now) self.old }
+        requires node { IsNextIn wave.now node graph.now }
+        ensures holds { IfOk result (λ found. IfSome found (λ pair. LineHolds wave.now (pair_line pair))) }
+        ensures right { OnOk result (IsSharedIn wave.now (Some graph.now) self.new) }
+    {
+        let _circuit = wave.circuit();
+        match self.tables.other(alloc, graph, node)? {
+            None => Ok(None),
+            Some(other) => Ok(Some(pair_by(alloc, wave, other))),
+        }
+    }
+}
+
+/// The places of some numbers.
+fn places_at(alloc: Global, circuit: &Circuit<'_>, numbers: &[u32]) -> Result<Vec<Place>, Memory>
+    requires fits { CircuitFits circuit.now }
+    requires within { AllByRecursion (λ k. k < places_of (job_in circuit.now)) numbers.now }
+    ensures { IfOk result (λ places. places.items ≡ map (place_at (job_in circuit.now)) numbers.now) }
+{
+    let mut places = Vec::with_capacity(alloc, numbers.len())?;
+    'places: for index in 0..numbers.len() {
+        places.push(circuit.place_of(numbers[index] as usize))?;
+    }
+    Ok(places)
+}
+
+/// The empty filling and another one are a pair of the next place, in the order that its bit under the empty one says.
+fn pair_by(alloc: Global, wave: &Wave<'_>, other: Other) -> Pair
+    requires next { HasNext wave.now }
+    requires other { IsOtherNext wave.now other }
+    ensures { LineHolds wave.now (pair_line result) }
+{
+    let Other { filling, empty } = other;
+    let none = Items::from_vec(Vec::new(alloc));
+    if empty {
+        Pair::from_law(wave, filling, none)
+    } else {
+        Pair::from_law(wave, none, filling)
+    }
+}

@@ -1,0 +1,70 @@
+-- What a check refuses is of the job.
+use Rattle.std.proofs.Common.{◌≡◌, ℕ, ap, subst, sym}
+use Rattle.xr_cert.specs.Checked.{IsChecked, IsRefusalOf}
+use Rattle.xr_cert.proofs.Faultless.{begun_same}
+use Rattle.xr_cert.specs.declared.refusal.CertFault.{CertFault}
+use Rattle.xr_cert.specs.declared.refusal.CertFault.TheVariants.{BadEnum, BadLog, BadPair, Header, Missing, Stray, Syntax}
+use Rattle.xr_cert.specs.declared.refusal.CheckErr.TheVariants.{Optimistic as Objects, Refused as IsRefused}
+use Rattle.xr_cert.proofs.NamedPlaces.{missing_is_place, objection_is_place}
+use Rattle.xr_cert_text.specs.declared.cert.Cert.{Cert}
+use Rattle.xr_design.specs.Filling.{IsPlace}
+use Rattle.xr_design.specs.Handed.{IsReplay}
+use Rattle.xr_design.specs.History.{HistoryView}
+use Rattle.xr_job.specs.Compared.{job_in}
+use Rattle.xr_wave.specs.Contents.{Contents}
+use Rattle.xr_wave.specs.declared.advance.Optimistic.{Optimistic as FoundOtherwise}
+use Rattle.xr_phases.specs.Certificate.{IsCertified, IsMissingAt, IsUncertified, uncertified_by}
+use Rattle.xr_phases.specs.Repair.{FitsParts, IsWaveOf, beginning, objection_of}
+use Rattle.xr_phases.specs.declared.cause.Objection.{Objection}
+use Rattle.xr_phases.specs.declared.cause.Refused.TheVariants.{Certificate, Optimistic}
+use Rattle.xr_phases.specs.declared.cause.Uncertified.{Uncertified}
+use Rattle.xr_phases.specs.declared.parts.Parts.{Parts}
+
+module _ (conflicts : ℕ) (job : Parts) (history : HistoryView) (cert : Cert) where
+  -- A place that lacks its line is one of the job's.
+  pub missing_at : (fault : CertFault) → IsRefusalOf (beginning conflicts job.netlist job.recorded history) cert (IsRefused fault) → IsMissingAt (job_in job.netlist job.recorded) fault
+  missing_at (Missing place) refused = missing_is_place (beginning conflicts job.netlist job.recorded history) cert place refused
+  missing_at (Syntax line) refused = tt
+  missing_at (Header line) refused = tt
+  missing_at (Stray line) refused = tt
+  missing_at (BadLog line) refused = tt
+  missing_at (BadPair line) refused = tt
+  missing_at (BadEnum line) refused = tt
+
+  -- So is one that is found otherwise.
+  pub objected_at : (found : FoundOtherwise) → IsRefusalOf (beginning conflicts job.netlist job.recorded history) cert (Objects found) → IsPlace (job_in job.netlist job.recorded) found.place
+  objected_at found refused = objection_is_place (beginning conflicts job.netlist job.recorded history) cert found refused
+
+  pub refused_for : (fault : CertFault) (cause : Uncertified) → FitsParts job → IsReplay (job_in job.netlist job.recorded) history
+      → IsRefusalOf (beginning conflicts job.netlist job.recorded history) cert (IsRefused fault) → cause ≡ uncertified_by job fault
+      → IsUncertified conflicts job cert (Certificate cause)
+  refused_for fault cause fits replay refused is =
+      record { fits = fits; history = history; replay = replay; refusal = IsRefused fault; refused = refused; is = ap (λ (u : Uncertified). Certificate u) is }
+
+  pub objected_for : (found : FoundOtherwise) (objection : Objection) → FitsParts job → IsReplay (job_in job.netlist job.recorded) history
+      → IsRefusalOf (beginning conflicts job.netlist job.recorded history) cert (Objects found) → objection ≡ objection_of job.netlist job.recorded.stim found
+      → IsUncertified conflicts job cert (Optimistic objection)
+  objected_for found objection fits replay refused is =
+      record { fits = fits; history = history; replay = replay; refusal = Objects found; refused = refused; is = ap (λ (o : Objection). Optimistic o) is }
+
+-- A wave that is checked over a replay is certified.
+pub certified_by : (conflicts : ℕ) (job : Parts) (history : HistoryView) (cert : Cert) (wave : Contents) → FitsParts job → IsReplay (job_in job.netlist job.recorded) history
+    → IsChecked (beginning conflicts job.netlist job.recorded history) cert wave → IsCertified conflicts job cert wave
+certified_by conflicts job history cert wave fits replay checked =
+    let same : wave.history ≡ history = ap (λ (c : Contents). c.history) (begun_same checked.goes) in
+    record {
+      fits = fits;
+      replay = subst (IsReplay (job_in job.netlist job.recorded)) (sym same) replay;
+      checked = subst (λ (h : HistoryView). IsChecked (beginning conflicts job.netlist job.recorded h) cert wave) (sym same) checked;
+    }
+
+-- It is a finished wave of the job.
+pub certified_of_job : (conflicts : ℕ) (job : Parts) (cert : Cert) (wave : Contents) → IsCertified conflicts job cert wave → IsWaveOf job.netlist job.recorded wave
+certified_of_job conflicts job cert wave certified =
+    let same = begun_same certified.checked.goes in
+    record {
+      design = ap (λ (c : Contents). c.design) same;
+      order = ap (λ (c : Contents). c.order) same;
+      stim = ap (λ (c : Contents). c.stim) same;
+      finished = certified.checked.finished;
+    }

@@ -1,0 +1,220 @@
+-- What is found otherwise in a job is one.
+use Rattle.std.proofs.Common.{◌≡◌, ◌∙◌, ℕ, ◌+◌, ◌/◌, ◌%◌, ◌<◌, List, [], ◌∷◌, length, Result, Ok, refl, sym, ap, subst, arith, cond}
+use Rattle.std.specs.Prelude.{slice_index, count_by}
+use Rattle.std.proofs.lemmas.List.Sums.{sum_by-cons}
+use Rattle.xr_cell.specs.declared.value.Value.{Value}
+use Rattle.xr_cell.specs.Value.{IsKnown}
+use Rattle.xr_design.specs.declared.design.Design.{Design}
+use Rattle.xr_design.specs.declared.stim.Stim.{Stim}
+use Rattle.xr_design.specs.declared.waveform.Written.{Written}
+use Rattle.xr_design.specs.Fits.{place_at}
+use Rattle.xr_design.specs.Handed.{IsReplay, shown_of}
+use Rattle.xr_design.specs.History.{HistoryView}
+use Rattle.xr_design.specs.Job.{Job, job_of, places_of}
+use Rattle.xr_design.specs.Replay.{shown_at}
+use Rattle.xr_design.specs.Waveform.{certain_by, certain, written_at}
+use Rattle.xr_model.specs.Sound.{IsOptimistic, Sound}
+use Rattle.xr_model.specs.Stated.{body_at}
+use Rattle.xr_model.specs.Class.{class_of}
+use Rattle.xr_model.specs.Yields.{written_by}
+use Rattle.xr_model.specs.declared.line.Body.{Body}
+use Rattle.xr_model.specs.declared.line.Body.TheVariants.{Enumerated, Refuted, Pair, Undecided}
+use Rattle.xr_model.specs.declared.line.Line.{Line as ALine}
+use Rattle.xr_laws.specs.Objection.{AllDecide, Decides, Objects}
+use Rattle.xr_laws.proofs.Objections.{one_objection}
+use Rattle.xr_wave.specs.Contents.{Contents, nothing_written}
+use Rattle.xr_wave.specs.declared.advance.Optimistic.{Optimistic as FoundOtherwise}
+use Rattle.xr_repair.specs.Repaired.{IsObjection}
+use Rattle.xr_objection.specs.Objections.{AreTheSame}
+use Rattle.xr_objection.proofs.Objecting.{fits_start, objections_object, place_reported, replayed_reported}
+use Rattle.xr_job.specs.Names.{net_name}
+use Rattle.xr_job.specs.declared.netlist.Netlist.{Netlist as ANetlist}
+use Rattle.xr_job.specs.declared.netlist_refusal.NetlistRefusal.{NetlistRefusal}
+use Rattle.xr_job.proofs.OneNetlist.{one_outcome}
+use Rattle.xr_words.specs.Words.{JobValues}
+use Rattle.xr_phases.specs.Phases.{scope_of}
+use Rattle.xr_phases.specs.Repair.{IsObjectionIn, is_undecided_body, is_undecided_line, rule_of}
+use Rattle.xr_phases.specs.Texts.{HasJob, IsJob, IsObjected, IsOneCause}
+use Rattle.xr_phases.specs.declared.cause.Objection.{Objection}
+use Rattle.xr_phases.specs.declared.cause.Refused.{Refused}
+use Rattle.xr_phases.specs.declared.cause.Refused.TheVariants.{Certificate, Code, Compare, LongCertificate, LongCnf, LongCode, LongLog, LongNetlist, LongRecording, Netlist, Optimistic, Proof, Recording, Start}
+use Rattle.xr_phases.proofs.Jobs.{replay_shown}
+use Rattle.xr_phases.proofs.OneStimulus.{one_stim}
+
+-- ---- lines without an undecided body
+
+none_here : (body : Body) (n : ℕ) → cond (is_undecided_body body) 1 0 + n ≡ 0 → Decides body
+none_here (Enumerated bit) n none = tt
+none_here (Refuted bit log) n none = tt
+none_here (Pair first second) n none = tt
+none_here (Undecided log) n none = omega (arith, none)
+
+none_later : (c n : ℕ) → c + n ≡ 0 → n ≡ 0
+none_later c n none = omega (arith, none)
+
+none_decide : (lines : List ALine) → count_by is_undecided_line lines ≡ 0 → AllDecide lines
+none_decide [] none = tt
+none_decide (line ∷ lines) none =
+    let parts : cond (is_undecided_body line.body) 1 0 + count_by is_undecided_line lines ≡ 0 =
+    sym (sum_by-cons (λ (x : ALine). cond (is_undecided_line x) 1 0) line lines) ∙ none in (
+      none_here line.body (count_by is_undecided_line lines) parts,
+      none_decide lines
+          (none_later (cond (is_undecided_body line.body) 1 0) (count_by is_undecided_line lines) parts),
+    )
+
+-- ---- objections for histories that show the same
+
+module _ (j : Job) (limit : ℕ) (shown other : ℕ → Value) (v : List Written) (lines : List ALine) (found : Written)
+    (same : (k : ℕ) → k < places_of j → shown k ≡ other k) where
+  sound_for : Sound j limit shown v lines → Sound j limit other v lines
+  sound_for sound = record {
+    within = sound.within;
+    classes = sound.classes;
+    exact = sound.exact;
+    shows = record {
+      known = λ k less known. sound.shows.known k less (subst IsKnown (sym (here k less)) known) ∙ here k less;
+      uncertain = λ k less open_. sound.shows.uncertain k less open_ ∙ here k less;
+      open_ = λ k less mark known. sound.shows.open_ k less mark (subst IsKnown (sym (here k less)) known);
+    };
+  }
+    where
+      here : (k : ℕ) → k < length v → shown k ≡ other k
+      here k less = same k (let all = sound.within in omega (arith, less, all))
+
+  objects_for : Objects j limit shown v lines found → Objects j limit other v lines found
+  objects_for objects =
+      let n = length v in
+      let here : shown n ≡ other n = same n objects.said.within in
+      record {
+        sound = sound_for objects.sound;
+        new = objects.new;
+        said = record {
+          within = objects.said.within;
+          lines = objects.said.lines;
+          as_said = objects.said.as_said
+              ∙ ap (written_by (written_at v) (class_of j (certain v) n) (body_at j objects.new n)) here;
+        };
+        optimistic = subst (IsOptimistic found.mark found.value) here objects.optimistic;
+      }
+
+-- ---- two objections of one job
+
+module _ (design : Design) (order : List ℕ) (stim : Stim) where
+  abbrev TheJob : Job
+  TheJob = job_of design order stim
+
+  abbrev start : HistoryView → ℕ → Contents
+  start history conflicts = nothing_written design order stim history conflicts
+
+  of_replay : (history : HistoryView) (conflicts : ℕ) (otherwise : FoundOtherwise) → IsReplay TheJob history
+      → (o : IsObjection (start history conflicts) otherwise)
+      → Objects TheJob conflicts (shown_at TheJob) o.before.written otherwise.lines.items o.written
+  of_replay history conflicts otherwise replay o =
+      objects_for TheJob conflicts (shown_of TheJob history) (shown_at TheJob) o.before.written otherwise.lines.items o.written
+      (λ k less. replay_shown TheJob history k replay less) (objections_object (start history conflicts) otherwise o)
+
+  found_same : (h i : HistoryView) (c d : ℕ) (one other : FoundOtherwise) → IsReplay TheJob h → IsReplay TheJob i
+      → IsObjection (start h c) one → IsObjection (start i d) other → AllDecide one.lines.items → AllDecide other.lines.items
+      → AreTheSame one other
+  found_same h i c d one other replay_h replay_i o p decide_o decide_p =
+      let first = of_replay h c one replay_h o in
+      let second = of_replay i d other replay_i p in
+      let same = one_objection TheJob c d (shown_at TheJob) o.before.written p.before.written one.lines.items
+      other.lines.items o.written p.written (fits_start (start h c) one o) first second decide_o decide_p in
+      record {
+        place = place_reported (start h c) one o ∙ ap (place_at TheJob) same.0 ∙ sym (place_reported (start i d) other p);
+        replayed = replayed_reported (start h c) one o ∙ replay_shown TheJob h (length o.before.written) replay_h first.said.within
+            ∙ ap (shown_at TheJob) same.0
+            ∙ sym (replay_shown TheJob i (length p.before.written) replay_i second.said.within)
+            ∙ sym (replayed_reported (start i d) other p);
+        found = o.reports.found_is ∙ ap (λ (w : Written). certain_by w.mark w.value) same.1 ∙ sym p.reports.found_is;
+      }
+
+-- What is said of the same is the same.
+abbrev objection_for : ANetlist → Stim → FoundOtherwise → Objection
+objection_for n stim otherwise = record {
+  time = slice_index stim.times (otherwise.place.step / stim.rounds);
+  round = otherwise.place.step % stim.rounds;
+  name = net_name n.design otherwise.place.net;
+  replayed = otherwise.replayed;
+  found = otherwise.found;
+  undecided = count_by is_undecided_line otherwise.lines.items;
+}
+
+same_line : (n : ANetlist) (stim : Stim) (one other : FoundOtherwise) → AreTheSame one other
+    → count_by is_undecided_line one.lines.items ≡ count_by is_undecided_line other.lines.items
+    → objection_for n stim one ≡ objection_for n stim other
+same_line n stim one other same counts = rw (same.place, same.replayed, same.found, counts) refl
+
+netlists_same : (a b : ANetlist) → ◌≡◌ {A = Result ANetlist NetlistRefusal} (Ok a) (Ok b) → a ≡ b
+netlists_same a b same = cc
+
+module _ (w : JobValues) (netlist recording : List ℕ) (c d : ℕ) (a b : Objection)
+    (first : HasJob w netlist recording (IsObjected c a)) (second : HasJob w netlist recording (IsObjected d b))
+    (none_a : a.undecided ≡ 0) (none_b : b.undecided ≡ 0) where
+  nets : first.n ≡ second.n
+  nets = netlists_same first.n second.n
+      (one_outcome netlist w.top (Ok first.n) (Ok second.n) first.job.netlist_is.is second.job.netlist_is.is)
+
+  job : IsJob w netlist recording first.n second.r
+  job = subst (λ (n : ANetlist). IsJob w netlist recording n second.r) (sym nets) second.job
+
+  abbrev objects : IsObjectionIn d first.n second.r.stim b
+  objects = subst (λ (n : ANetlist). IsObjectionIn d n second.r.stim b) (sym nets) second.holds.objects
+
+  stims : first.r.stim ≡ second.r.stim
+  stims = one_stim recording first.n.design (scope_of w) w.rounds (rule_of w.start) first.r second.r first.job.is job.is
+
+  abbrev one : FoundOtherwise
+  one = first.holds.objects.objects.otherwise
+
+  abbrev other : FoundOtherwise
+  other = objects.objects.otherwise
+
+  one_is : a ≡ objection_for first.n first.r.stim one
+  one_is = first.holds.objects.objects.is
+
+  other_is : b ≡ objection_for first.n first.r.stim other
+  other_is = objects.objects.is ∙ ap (λ (s : Stim). objection_for first.n s other) (sym stims)
+
+  undecided_a : count_by is_undecided_line one.lines.items ≡ 0
+  undecided_a = sym (ap (λ (o : Objection). o.undecided) one_is) ∙ none_a
+
+  undecided_b : count_by is_undecided_line other.lines.items ≡ 0
+  undecided_b = sym (ap (λ (o : Objection). o.undecided) other_is) ∙ none_b
+
+  replay : IsReplay (job_of first.n.design first.n.order first.r.stim) objects.history
+  replay = subst (λ (s : Stim). IsReplay (job_of first.n.design first.n.order s) objects.history) (sym stims) objects.replay
+
+  objection : IsObjection (nothing_written first.n.design first.n.order first.r.stim objects.history d) other
+  objection = subst (λ (s : Stim). IsObjection (nothing_written first.n.design first.n.order s objects.history d) other)
+      (sym stims) objects.objects.objects
+
+  same : AreTheSame one other
+  same = found_same first.n.design first.n.order first.r.stim first.holds.objects.history objects.history c d one other
+      first.holds.objects.replay replay first.holds.objects.objects.objects objection (none_decide one.lines.items undecided_a)
+      (none_decide other.lines.items undecided_b)
+
+  pub once : b ≡ a
+  once = other_is ∙ sym (same_line first.n first.r.stim one other same (undecided_a ∙ sym undecided_b)) ∙ sym one_is
+
+-- ---- what texts are refused for
+
+pub one_cause : (w : JobValues) (netlist recording : List ℕ) (conflicts : ℕ) (cause : Refused)
+    → ((o : Objection) → cause ≡ Optimistic o → HasJob w netlist recording (IsObjected conflicts o))
+    → IsOneCause w netlist recording cause
+one_cause w netlist recording conflicts LongNetlist has = tt
+one_cause w netlist recording conflicts (Netlist e) has = tt
+one_cause w netlist recording conflicts LongRecording has = tt
+one_cause w netlist recording conflicts (Recording e) has = tt
+one_cause w netlist recording conflicts (Compare e) has = tt
+one_cause w netlist recording conflicts LongCode has = tt
+one_cause w netlist recording conflicts (Code fault) has = tt
+one_cause w netlist recording conflicts LongCertificate has = tt
+one_cause w netlist recording conflicts (Certificate cause) has = tt
+one_cause w netlist recording conflicts LongCnf has = tt
+one_cause w netlist recording conflicts LongLog has = tt
+one_cause w netlist recording conflicts (Proof fault) has = tt
+one_cause w netlist recording conflicts (Start fault) has = tt
+one_cause w netlist recording conflicts (Optimistic o) has = λ none limit other is none_other.
+    once w netlist recording conflicts limit o other (has o refl) is none none_other

@@ -1,0 +1,194 @@
+-- A certificate's text stands for one certificate or has one first wrong line, and a check comes to one thing.
+use Rattle.std.proofs.Common.{◌≡◌, ◌∙◌, ℕ, ◌+◌, List, [], ◌∷◌, ◌++◌, length, Result, Ok, Err, None, refl, sym, ap, subst}
+use Rattle.std.proofs.lemmas.List.{append_assoc}
+use Rattle.xr_cert.specs.Checked.{IsAccepted, IsChecked, IsRefusalOf}
+use Rattle.xr_cert.specs.declared.refusal.CertFault.{CertFault}
+use Rattle.xr_cert.specs.declared.refusal.CertFault.TheVariants.{Syntax}
+use Rattle.xr_cert.specs.declared.refusal.CheckErr.{CheckErr}
+use Rattle.xr_cert.specs.declared.refusal.CheckErr.TheVariants.{Memory, Optimistic as Objects, Refused as IsRefused}
+use Rattle.xr_cert.specs.Laws.{IsSameFault, IsSameObjection}
+use Rattle.xr_cert.proofs.Faultless.{accepts_all, begun_same}
+use Rattle.xr_cert.proofs.Fitted.{checked_accepted}
+use Rattle.xr_cert.proofs.OneFault.{one_fault}
+use Rattle.xr_cert_text.proofs.RunLaws.{run_only}
+use Rattle.xr_cert_text.proofs.PlainLaws.{cert_lines_back}
+use Rattle.xr_cert_text.specs.declared.cert.Cert.{Cert}
+use Rattle.xr_cert_text.specs.Pieces.{lines_in}
+use Rattle.xr_cert_text.specs.Text.{cert_lines}
+use Rattle.xr_cert_text.specs.Wrong.{AreViable, IsFirstWrong, IsTextOf, IsWrongAfter}
+use Rattle.xr_design.specs.History.{HistoryView}
+use Rattle.xr_job.specs.Compared.{job_in}
+use Rattle.xr_wave.specs.Contents.{Contents}
+use Rattle.xr_run.specs.Phases.{IsOne}
+use Rattle.xr_phases.specs.Certificate.{CertificateComes, CheckComes, IsCauseOf, uncertified_by}
+use Rattle.xr_phases.specs.Repair.{beginning, objection_of}
+use Rattle.xr_phases.specs.declared.cause.Refused.{Refused}
+use Rattle.xr_phases.specs.declared.cause.Refused.TheVariants.{Certificate, Optimistic}
+use Rattle.xr_phases.specs.declared.cause.Uncertified.TheVariants.{Line}
+use Rattle.xr_phases.specs.declared.parts.Parts.{Parts}
+use Rattle.xr_phases.proofs.Jobs.{fits_job}
+use Rattle.xr_phases.proofs.OneHistory.{one_history}
+
+-- ---- one list split at two entries
+
+-- The entries stand at one position; or the second one after the first; or before it.
+data Splits {X : Type 0} (xs ys : List X) (p q : X) (r s : List X) : Type 0 where
+  at_one : xs ≡ ys → p ≡ q → r ≡ s → Splits xs ys p q r s
+  later : (more : List X) → ys ≡ xs ++ p ∷ more → r ≡ more ++ q ∷ s → Splits xs ys p q r s
+  earlier : (more : List X) → xs ≡ ys ++ q ∷ more → s ≡ more ++ p ∷ r → Splits xs ys p q r s
+
+head_same : {X : Type 0} (a b : X) (xs ys : List X) → a ∷ xs ≡ b ∷ ys → a ≡ b
+head_same a b xs ys same = cc
+
+tail_same : {X : Type 0} (a b : X) (xs ys : List X) → a ∷ xs ≡ b ∷ ys → xs ≡ ys
+tail_same a b xs ys same = cc
+
+cons_same : {X : Type 0} (a b : X) (xs ys : List X) → a ≡ b → xs ≡ ys → a ∷ xs ≡ b ∷ ys
+cons_same a b xs ys head tail = λ t. head t ∷ tail t
+
+more_split : {X : Type 0} (a b : X) (xs ys : List X) (p q : X) (r s : List X) → a ≡ b → Splits xs ys p q r s → Splits (a ∷ xs) (b ∷ ys) p q r s
+more_split a b xs ys p q r s same (at_one here pq rs) = at_one (cons_same a b xs ys same here) pq rs
+more_split a b xs ys p q r s same (later more is rest) = later more (cons_same b a ys (xs ++ p ∷ more) (sym same) is) rest
+more_split a b xs ys p q r s same (earlier more is rest) = earlier more (cons_same a b xs (ys ++ q ∷ more) same is) rest
+
+splits : {X : Type 0} (xs ys : List X) (p q : X) (r s : List X) → xs ++ p ∷ r ≡ ys ++ q ∷ s → Splits xs ys p q r s
+splits [] [] p q r s same = at_one refl (head_same p q r s same) (tail_same p q r s same)
+splits [] (y ∷ ys) p q r s same =
+    later ys (ap (λ (x : _). x ∷ ys) (sym (head_same p y r (ys ++ q ∷ s) same))) (tail_same p y r (ys ++ q ∷ s) same)
+splits (x ∷ xs) [] p q r s same =
+    earlier xs (ap (λ (a : _). a ∷ xs) (head_same x q (xs ++ p ∷ r) s same)) (sym (tail_same x q (xs ++ p ∷ r) s same))
+splits (x ∷ xs) (y ∷ ys) p q r s same =
+    more_split x y xs ys p q r s (head_same x y (xs ++ p ∷ r) (ys ++ q ∷ s) same)
+    (splits xs ys p q r s (tail_same x y (xs ++ p ∷ r) (ys ++ q ∷ s) same))
+
+-- ---- the text of a certificate
+
+-- Lines with which a certificate begins are so also in front of others.
+front_viable : (front more : List (List ℕ)) (piece : List ℕ) → AreViable (front ++ piece ∷ more) → AreViable (front ++ piece ∷ [])
+front_viable front more piece viable = record {
+  cert = viable.cert;
+  more = more ++ viable.more;
+  fits = viable.fits;
+  begins = viable.begins ∙ append_assoc front (piece ∷ more) viable.more ∙ sym (append_assoc front (piece ∷ []) (more ++ viable.more));
+}
+
+-- So the line after them isn't wrong, where a newline stands after it.
+not_wrong : (text : List ℕ) (front more : List (List ℕ)) (piece : List ℕ) (rest before : List (List ℕ)) (last : List ℕ) (after : List (List ℕ))
+    → AreViable (front ++ piece ∷ more) → rest ≡ before ++ last ∷ after → IsWrongAfter text front piece rest → ⊥
+not_wrong text front more piece [] [] last after viable is wrong = absurd (let bad : [] ≡ last ∷ after = is in cc)
+not_wrong text front more piece [] (b ∷ bs) last after viable is wrong = absurd (let bad : [] ≡ b ∷ (bs ++ last ∷ after) = is in cc)
+not_wrong text front more piece (next ∷ rest) before last after viable is wrong = wrong (front_viable front more piece viable)
+
+one_wrong : (text : List ℕ) (a b : ℕ) → IsFirstWrong text a → IsFirstWrong text b → a ≡ b
+one_wrong text a b first second = go (splits first.front second.front first.piece second.piece first.rest second.rest (sym first.split ∙ second.split))
+  where
+    go : Splits first.front second.front first.piece second.piece first.rest second.rest → a ≡ b
+    go (at_one here pq rs) = first.number ∙ ap (λ (f : List (List ℕ)). length f + 1) here ∙ sym second.number
+    go (later more is rest) =
+        absurd (not_wrong text first.front more first.piece first.rest more second.piece second.rest (subst AreViable is second.viable) rest first.wrong)
+    go (earlier more is rest) =
+        absurd (not_wrong text second.front more second.piece second.rest more first.piece first.rest (subst AreViable is first.viable) rest second.wrong)
+
+nothing_after : {X : Type 0} (more : List X) (p : X) (r : List X) → [] ≡ more ++ p ∷ r → ⊥
+nothing_after [] p r same = absurd cc
+nothing_after (m ∷ more) p r same = absurd cc
+
+stands_unwrong : (text : List ℕ) (cert : Cert) (line : ℕ) → IsTextOf text cert → IsFirstWrong text line → ⊥
+stands_unwrong text cert line stands first =
+    go (splits first.front (cert_lines cert) first.piece [] first.rest [] (sym first.split ∙ (ap lines_in stands.written ∙ cert_lines_back cert stands.fits)))
+  where
+    at_last : (rest : List (List ℕ)) → rest ≡ [] → IsWrongAfter text first.front first.piece rest → ⊥
+    at_last [] is wrong = wrong cert stands
+    at_last (next ∷ rest) is wrong = absurd (let bad : next ∷ rest ≡ [] = is in cc)
+
+    go : Splits first.front (cert_lines cert) first.piece [] first.rest [] → ⊥
+    go (at_one here pq rs) = at_last first.rest rs first.wrong
+    go (later more is rest) =
+        not_wrong text first.front more first.piece first.rest more [] []
+        (record { cert = cert; more = []; fits = stands.fits; begins = is ∙ sym (append_nothing (first.front ++ first.piece ∷ more)) })
+        rest first.wrong
+      where
+        append_nothing : {X : Type 0} (xs : List X) → xs ++ [] ≡ xs
+        append_nothing [] = refl
+        append_nothing (x ∷ xs) = ap (λ (l : List _). x ∷ l) (append_nothing xs)
+    go (earlier more is rest) = nothing_after more first.piece first.rest rest
+
+pub one_text : (text : List ℕ) (a b : Cert) → IsTextOf text a → IsTextOf text b → a ≡ b
+one_text text a b first second = let both : ◌≡◌ {A = Result Cert ℕ} (Ok a) (Ok b) = sym (run_only text a first) ∙ run_only text b second in cc
+
+pub one_certificate : (text : List ℕ) → IsOne (CertificateComes text)
+one_certificate text (Ok a) (Ok b) first second = ap Ok (one_text text a b first second)
+one_certificate text (Ok a) (Err f) first second = absurd (stands_unwrong text a second.at first second.first)
+one_certificate text (Err e) (Ok b) first second = absurd (stands_unwrong text b first.at second first.first)
+one_certificate text (Err e) (Err f) first second =
+    ap Err (first.is ∙ ap (λ (at : ℕ). Line (Syntax at)) (one_wrong text first.at second.at first.first second.first) ∙ sym second.is)
+
+-- ---- the check of one
+
+-- A wave that went along has all but its lines and what is written of its start.
+along_is : (start c : Contents) (cert : Cert) → IsChecked start cert c → c ≡ record start { written = c.written; lines = c.lines }
+along_is start c cert checked = ap (λ (d : Contents). record d { written = c.written; lines = c.lines }) (begun_same checked.goes)
+
+module _ (start : Contents) (cert : Cert) (empty : start.written ≡ []) (none : start.lines ≡ []) where
+  accepted_by : (a : Contents) → IsChecked start cert a → IsAccepted start cert a.written
+  accepted_by a checked = checked_accepted start cert a empty none checked
+
+  same_written : (a b : Contents) → IsChecked start cert a → IsChecked start cert b → b.written ≡ a.written
+  same_written a b first second = accepts_all start cert a.written (Ok b) none (accepted_by a first) second tt
+
+  same_waves : (a b : Contents) → IsChecked start cert a → IsChecked start cert b → a ≡ b
+  same_waves a b first second =
+      let written = sym (same_written a b first second) in
+      let lines = first.lines ∙ sym second.lines in
+      along_is start a cert first
+      ∙ (λ t. record start { written = written t; lines = lines t })
+      ∙ sym (along_is start b cert second)
+
+  unrefused : (a : Contents) (e : CheckErr) → IsChecked start cert a → IsRefusalOf start cert e → e ≡ Memory
+  unrefused a e checked refused = accepts_all start cert a.written (Err e) none (accepted_by a checked) tt refused
+
+-- Two refusals of one certificate have one cause.
+module _ (job : Parts) (start : Contents) (cert : Cert) where
+  same_cause : (e f : CheckErr) (one other : Refused) → IsSameFault e f → IsCauseOf job e one → IsCauseOf job f other → one ≡ other
+  same_cause (IsRefused e) (IsRefused f) one other same first second = first ∙ ap (λ (fault : CertFault). Certificate (uncertified_by job fault)) same ∙ sym second
+  same_cause (IsRefused e) (Objects b) one other same first second = absurd same
+  same_cause (IsRefused e) Memory one other same first second = absurd same
+  same_cause (Objects a) (IsRefused f) one other same first second = absurd same
+  same_cause (Objects a) (Objects b) one other same first second = first ∙ objections same ∙ sym second
+    where
+      objections : IsSameObjection a b → Optimistic (objection_of job.netlist job.recorded.stim a) ≡ Optimistic (objection_of job.netlist job.recorded.stim b)
+      objections alike = rw (alike.place, alike.replayed, alike.found, alike.lines) refl
+  same_cause (Objects a) Memory one other same first second = absurd same
+  same_cause Memory f one other same first second = absurd same
+
+  no_cause_of : (e : CheckErr) (cause : Refused) → IsCauseOf job e cause → e ≡ Memory → ⊥
+  no_cause_of (IsRefused fault) cause is same = absurd cc
+  no_cause_of (Objects found) cause is same = absurd cc
+  no_cause_of Memory cause is same = absurd is
+
+  causes_one : (e f : CheckErr) (one other : Refused) → IsRefusalOf start cert e → IsRefusalOf start cert f → IsCauseOf job e one → IsCauseOf job f other → one ≡ other
+  causes_one e f one other (IsRefusalOf.number differ) (IsRefusalOf.number again) first second = first ∙ sym second
+  causes_one e f one other (IsRefusalOf.number differ) (IsRefusalOf.line numbers fault) first second = absurd (differ numbers)
+  causes_one e f one other (IsRefusalOf.line numbers fault) (IsRefusalOf.number differ) first second = absurd (differ numbers)
+  causes_one e f one other (IsRefusalOf.line numbers fault) (IsRefusalOf.line again second_fault) first second =
+      same_cause e f one other (one_fault start cert.lines e f fault second_fault (no_cause_of e one first) (no_cause_of f other second)) first second
+
+pub one_check : (conflicts : ℕ) (job : Parts) (cert : Cert) → IsOne (CheckComes conflicts job cert)
+one_check conflicts job cert (Ok a) (Ok b) first second =
+    let same = one_history (job_in job.netlist job.recorded) (fits_job job.netlist job.recorded first.fits) (λ place. None) a.history b.history first.replay second.replay in
+    ap Ok (same_waves (beginning conflicts job.netlist job.recorded a.history) cert refl refl a b first.checked
+    (subst (λ (h : HistoryView). IsChecked (beginning conflicts job.netlist job.recorded h) cert b) (sym same) second.checked))
+one_check conflicts job cert (Ok a) (Err f) first second =
+    let same = one_history (job_in job.netlist job.recorded) (fits_job job.netlist job.recorded first.fits) (λ place. None) a.history second.history first.replay second.replay in
+    absurd (no_cause_of job (beginning conflicts job.netlist job.recorded a.history) cert second.refusal f second.is
+    (unrefused (beginning conflicts job.netlist job.recorded a.history) cert refl refl a second.refusal first.checked
+    (subst (λ (h : HistoryView). IsRefusalOf (beginning conflicts job.netlist job.recorded h) cert second.refusal) (sym same) second.refused)))
+one_check conflicts job cert (Err e) (Ok b) first second =
+    let same = one_history (job_in job.netlist job.recorded) (fits_job job.netlist job.recorded first.fits) (λ place. None) b.history first.history second.replay first.replay in
+    absurd (no_cause_of job (beginning conflicts job.netlist job.recorded b.history) cert first.refusal e first.is
+    (unrefused (beginning conflicts job.netlist job.recorded b.history) cert refl refl b first.refusal second.checked
+    (subst (λ (h : HistoryView). IsRefusalOf (beginning conflicts job.netlist job.recorded h) cert first.refusal) (sym same) first.refused)))
+one_check conflicts job cert (Err e) (Err f) first second =
+    let same = one_history (job_in job.netlist job.recorded) (fits_job job.netlist job.recorded first.fits) (λ place. None) first.history second.history first.replay second.replay in
+    ap Err (causes_one job (beginning conflicts job.netlist job.recorded first.history) cert first.refusal second.refusal e f first.refused
+    (subst (λ (h : HistoryView). IsRefusalOf (beginning conflicts job.netlist job.recorded h) cert second.refusal) (sym same) second.refused) first.is second.is)

@@ -1,0 +1,82 @@
+-- What a certificate comes to for a job.
+use Rattle.std.specs.Prelude.{◌≡◌, ℕ, ◌/◌, ◌%◌, List, Result, Ok, Err, slice_index}
+use Rattle.xr_design.specs.Filling.{IsPlace}
+use Rattle.xr_design.specs.Handed.{IsReplay}
+use Rattle.xr_design.specs.History.{HistoryView}
+use Rattle.xr_design.specs.Job.{Job}
+use Rattle.xr_design.specs.declared.place.Place.{Place}
+use Rattle.xr_cert.specs.Checked.{IsChecked, IsRefusalOf}
+use Rattle.xr_cert.specs.declared.refusal.CertFault.{CertFault}
+use Rattle.xr_cert.specs.declared.refusal.CertFault.TheVariants.{Missing, Syntax}
+use Rattle.xr_cert.specs.declared.refusal.CheckErr.{CheckErr}
+use Rattle.xr_cert.specs.declared.refusal.CheckErr.TheVariants.{Memory, Optimistic as Objects, Refused as IsRefused}
+use Rattle.xr_cert_text.specs.Wrong.{IsFirstWrong, IsTextOf}
+use Rattle.xr_cert_text.specs.declared.cert.Cert.{Cert}
+use Rattle.xr_job.specs.Compared.{job_in}
+use Rattle.xr_job.specs.Names.{net_name}
+use Rattle.xr_wave.specs.Contents.{Contents}
+use Rattle.xr_phases.specs.Repair.{FitsParts, beginning, objection_of}
+use Rattle.xr_phases.specs.declared.cause.Lack.{Lack}
+use Rattle.xr_phases.specs.declared.cause.Refused.{Refused}
+use Rattle.xr_phases.specs.declared.cause.Refused.TheVariants.{Certificate, Optimistic}
+use Rattle.xr_phases.specs.declared.cause.Uncertified.{Uncertified}
+use Rattle.xr_phases.specs.declared.cause.Uncertified.TheVariants.{Lacks, Line}
+use Rattle.xr_phases.specs.declared.parts.Parts.{Parts}
+
+-- ---- its text
+
+-- The first wrong line of a text.
+pub record IsWrong (text : List ℕ) (cause : Uncertified) : Type 0 where
+  pub at : ℕ
+  pub first : IsFirstWrong text at
+  pub is : cause ≡ Line (Syntax at)
+
+-- A text stands for a certificate, or has a first wrong line.
+abbrev pub CertificateComes : List ℕ → Result Cert Uncertified → Type 0
+CertificateComes text (Ok cert) = IsTextOf text cert
+CertificateComes text (Err cause) = IsWrong text cause
+
+-- ---- its check
+
+-- A place by the time of its moment, its round and the written name of its net.
+abbrev pub lack_of : Parts → Place → Lack
+lack_of job place = record {
+  time = slice_index job.recorded.stim.times (place.step / job.recorded.stim.rounds);
+  round = place.step % job.recorded.stim.rounds;
+  name = net_name job.netlist.design place.net;
+}
+
+abbrev pub uncertified_by : Parts → CertFault → Uncertified
+uncertified_by job (Missing place) = Lacks (lack_of job place)
+uncertified_by job fault = Line fault
+
+-- A place that lacks its line is one of the job's.
+abbrev pub IsMissingAt : Job → CertFault → Type 0
+IsMissingAt j (Missing place) = IsPlace j place
+IsMissingAt j fault = Unit {0}
+
+-- The cause of a check that ends early.
+abbrev pub IsCauseOf : Parts → CheckErr → Refused → Type 0
+IsCauseOf job (IsRefused fault) cause = cause ≡ Certificate (uncertified_by job fault)
+IsCauseOf job (Objects found) cause = cause ≡ Optimistic (objection_of job.netlist job.recorded.stim found)
+IsCauseOf job Memory cause = ⊥
+
+-- A certificate is checked over the job's replay, with this wave.
+pub record IsCertified (conflicts : ℕ) (job : Parts) (cert : Cert) (wave : Contents) : Type 0 where
+  pub fits : FitsParts job
+  pub replay : IsReplay (job_in job.netlist job.recorded) wave.history
+  pub checked : IsChecked (beginning conflicts job.netlist job.recorded wave.history) cert wave
+
+-- It is refused over the job's replay, for this cause.
+pub record IsUncertified (conflicts : ℕ) (job : Parts) (cert : Cert) (cause : Refused) : Type 0 where
+  pub fits : FitsParts job
+  pub history : HistoryView
+  pub replay : IsReplay (job_in job.netlist job.recorded) history
+  pub refusal : CheckErr
+  pub refused : IsRefusalOf (beginning conflicts job.netlist job.recorded history) cert refusal
+  pub is : IsCauseOf job refusal cause
+
+-- The check comes to a wave, or to a refusal.
+abbrev pub CheckComes : ℕ → Parts → Cert → Result Contents Refused → Type 0
+CheckComes conflicts job cert (Ok wave) = IsCertified conflicts job cert wave
+CheckComes conflicts job cert (Err cause) = IsUncertified conflicts job cert cause

@@ -1,0 +1,149 @@
+-- What the texts of a job stand for, and what they are refused for.
+use Rattle.std.specs.Prelude.{◌≡◌, ℕ, ◌<◌, ◌≤◌, List, [], ◌∷◌, length, Ok, Err}
+use Rattle.xr_cert_text.specs.Wrong.{IsTextOf}
+use Rattle.xr_cert_text.specs.declared.cert.Cert.{Cert}
+use Rattle.xr_code.specs.Says.{FirstFault}
+use Rattle.xr_code.specs.declared.fault.CodeFault.{CodeFault}
+use Rattle.xr_replay.specs.Fault.{IsFaultless}
+use Rattle.xr_design.specs.declared.stim.Stim.{Stim}
+use Rattle.xr_fix.specs.Started.{IsFirstFault, IsStarted, Piece}
+use Rattle.xr_fix.specs.declared.refusal.StartFault.{StartFault}
+use Rattle.xr_job.specs.Compared.{IsRefusedReplay, job_in}
+use Rattle.xr_job.specs.Netlist.{NetlistComes}
+use Rattle.xr_job.specs.Recorded.{RecordingComes}
+use Rattle.xr_job.specs.declared.compare_refusal.CompareRefusal.{CompareRefusal}
+use Rattle.xr_job.specs.declared.netlist.Netlist.{Netlist as ANetlist}
+use Rattle.xr_job.specs.declared.netlist_refusal.NetlistRefusal.{NetlistRefusal}
+use Rattle.xr_job.specs.declared.recorded.Recorded.{Recorded}
+use Rattle.xr_job.specs.declared.recording_refusal.RecordingRefusal.{RecordingRefusal}
+use Rattle.xr_run.specs.Phases.{text_held}
+use Rattle.xr_shelf.specs.Shelf.{Files}
+use Rattle.xr_words.specs.Words.{JobValues}
+use Rattle.xr_phases.specs.Certificate.{IsUncertified, IsWrong}
+use Rattle.xr_phases.specs.Code.{code_in, text_limit}
+use Rattle.xr_phases.specs.Phases.{parts, scope_of}
+use Rattle.xr_phases.specs.Repair.{IsObjectionIn, IsWalked, Walked, netlist_limit, recording_limit, rule_of}
+use Rattle.xr_phases.specs.declared.cause.Objection.{Objection}
+use Rattle.xr_phases.specs.declared.cause.Refused.{Refused}
+use Rattle.xr_phases.specs.declared.cause.Refused.TheVariants.{LongNetlist, Netlist, LongRecording, Recording}
+use Rattle.xr_phases.specs.declared.cause.Refused.TheVariants.{Certificate, Code, Compare, LongCertificate, LongCode}
+use Rattle.xr_phases.specs.declared.cause.Refused.TheVariants.{Optimistic, Start}
+use Rattle.xr_phases.specs.declared.cause.Uncertified.{Uncertified}
+use Rattle.xr_phases.specs.declared.parts.Parts.{Parts}
+
+-- The texts that the files of a job hold.
+abbrev pub netlist_held : Files → JobValues → List ℕ
+netlist_held files w = text_held files w.netlists
+
+abbrev pub recording_held : Files → JobValues → List ℕ
+recording_held files w = text_held files (w.recording ∷ [])
+
+-- The netlist's text isn't too long, and stands for this design with its order.
+pub record HasNetlist (w : JobValues) (netlist : List ℕ) (n : ANetlist) : Type 0 where
+  pub fits : length netlist ≤ netlist_limit
+  pub is : NetlistComes netlist w.top (Ok n)
+
+-- Nor is the recording's, and it stands for this recording of the design, with its binding and its stimulus.
+pub record IsJob (w : JobValues) (netlist recording : List ℕ) (n : ANetlist) (r : Recorded) : Type 0 where
+  pub netlist_is : HasNetlist w netlist n
+  pub fits : length recording ≤ recording_limit
+  pub is : RecordingComes recording n.design (scope_of w) w.rounds (rule_of w.start) (Ok r)
+
+-- ---- refused
+
+pub record IsRefusedNetlist (w : JobValues) (netlist : List ℕ) (e : NetlistRefusal) : Type 0 where
+  pub fits : length netlist ≤ netlist_limit
+  pub is : NetlistComes netlist w.top (Err e)
+
+-- The netlist stands for a design, and the recording is too long.
+pub record IsLongRecording (w : JobValues) (netlist recording : List ℕ) : Type 0 where
+  pub n : ANetlist
+  pub netlist_is : HasNetlist w netlist n
+  pub long : recording_limit < length recording
+
+-- Or it has a fault, or is none of the design.
+pub record IsRefusedRecording (w : JobValues) (netlist recording : List ℕ) (e : RecordingRefusal) : Type 0 where
+  pub n : ANetlist
+  pub netlist_is : HasNetlist w netlist n
+  pub fits : length recording ≤ recording_limit
+  pub is : RecordingComes recording n.design (scope_of w) w.rounds (rule_of w.start) (Err e)
+
+-- The texts stand for a job, of which this holds.
+pub record HasJob (w : JobValues) (netlist recording : List ℕ) (Holds : ANetlist → Recorded → Type 0) : Type 0 where
+  pub n : ANetlist
+  pub r : Recorded
+  pub job : IsJob w netlist recording n r
+  pub holds : Holds n r
+
+-- The recording of a job agrees with its replay.
+abbrev pub IsAgreed : Parts → Type 0
+IsAgreed job = IsFaultless (job_in job.netlist job.recorded) job.recorded.recording job.recorded.binding
+
+-- The recording agrees with the replay, and a place is found otherwise.
+pub record IsObjected (conflicts : ℕ) (objection : Objection) (n : ANetlist) (r : Recorded) : Type 0 where
+  pub faultless : IsFaultless (job_in n r) r.recording r.binding
+  pub objects : IsObjectionIn conflicts n r.stim objection
+
+-- It agrees, no place is found otherwise in the walk under the recorded starts, and one is under the set ones.
+pub record IsObjectedSet (conflicts : ℕ) (pieces : List Piece) (objection : Objection) (job : Parts) : Type 0 where
+  pub agreed : IsAgreed job
+  pub stim : Stim
+  pub started : IsStarted job.netlist.design job.recorded.stim pieces stim
+  pub before : Walked
+  pub walked : IsWalked conflicts job.netlist job.recorded.stim before
+  pub objects : IsObjectionIn conflicts job.netlist stim objection
+
+-- What texts are refused for, by its cause: those of the netlist and of the recording come first, in this order; then
+-- what is refused of the job that they stand for.
+pub data AreRefused (w : JobValues) (netlist recording : List ℕ)
+    (After : Parts → Refused → Type 0) : Refused → Type 0 where
+  long_netlist : netlist_limit < length netlist → AreRefused w netlist recording After LongNetlist
+  netlist_fails : {e : NetlistRefusal} → IsRefusedNetlist w netlist e → AreRefused w netlist recording After (Netlist e)
+  long_recording : IsLongRecording w netlist recording → AreRefused w netlist recording After LongRecording
+  recording_fails : {e : RecordingRefusal} → IsRefusedRecording w netlist recording e
+      → AreRefused w netlist recording After (Recording e)
+  job_fails : {cause : Refused} → HasJob w netlist recording (λ n r. After (parts n r) cause)
+      → AreRefused w netlist recording After cause
+
+-- `repair`: the recording disagrees, or a place is found otherwise.
+pub data RepairFails (conflicts : ℕ) (job : Parts) : Refused → Type 0 where
+  disagrees : {e : CompareRefusal} → IsRefusedReplay job.netlist job.recorded e → RepairFails conflicts job (Compare e)
+  objected : {objection : Objection} → IsObjected conflicts objection job.netlist job.recorded
+      → RepairFails conflicts job (Optimistic objection)
+
+-- `replay`: the code is too long, or has a fault.
+pub data CodeFails (code : List ℕ) (scope : List (List ℕ)) (job : Parts) : Refused → Type 0 where
+  too_long : text_limit < length code → CodeFails code scope job LongCode
+  faulty : {fault : CodeFault} → FirstFault (code_in job code scope) fault → CodeFails code scope job (Code fault)
+
+-- `check`: the recording disagrees; or it agrees, and the certificate is too long, has a wrong line, or stands for one
+-- that isn't accepted for the job.
+pub data CheckFails (conflicts : ℕ) (cert : List ℕ) (job : Parts) : Refused → Type 0 where
+  disagrees : {e : CompareRefusal} → IsRefusedReplay job.netlist job.recorded e
+      → CheckFails conflicts cert job (Compare e)
+  too_long : IsAgreed job → text_limit < length cert → CheckFails conflicts cert job LongCertificate
+  wrong : {cause : Uncertified} → IsAgreed job → IsWrong cert cause → CheckFails conflicts cert job (Certificate cause)
+  unaccepted : {cause : Refused} → IsAgreed job → (certificate : Cert) → IsTextOf cert certificate
+      → IsUncertified conflicts job certificate cause → CheckFails conflicts cert job cause
+
+-- `fix`: the recording disagrees; or it agrees, and a start can't be set; or they are set, and a place is found otherwise
+-- under the recorded starts, or else under the set ones.
+pub data FixFails (conflicts : ℕ) (pieces : List Piece) (job : Parts) : Refused → Type 0 where
+  disagrees : {e : CompareRefusal} → IsRefusedReplay job.netlist job.recorded e → FixFails conflicts pieces job (Compare e)
+  unset : {fault : StartFault} → IsAgreed job
+      → IsFirstFault job.netlist.design job.recorded.stim.starts pieces fault → FixFails conflicts pieces job (Start fault)
+  objected : {objection : Objection} → (stim : Stim) → IsStarted job.netlist.design job.recorded.stim pieces stim
+      → IsObjected conflicts objection job.netlist job.recorded → FixFails conflicts pieces job (Optimistic objection)
+  objected_set : {objection : Objection} → IsObjectedSet conflicts pieces objection job
+      → FixFails conflicts pieces job (Optimistic objection)
+
+-- ---- a place that is found otherwise
+
+-- Without an undecided body among the lines before it, it is the one of these texts, whatever the limit of the search.
+abbrev pub IsOneObjection : JobValues → List ℕ → List ℕ → Objection → Type 0
+IsOneObjection w netlist recording objection = objection.undecided ≡ 0 → (conflicts : ℕ) (other : Objection)
+    → HasJob w netlist recording (IsObjected conflicts other) → other.undecided ≡ 0 → other ≡ objection
+
+abbrev pub IsOneCause : JobValues → List ℕ → List ℕ → Refused → Type 0
+IsOneCause w netlist recording (Optimistic objection) = IsOneObjection w netlist recording objection
+IsOneCause w netlist recording _ = Unit {0}

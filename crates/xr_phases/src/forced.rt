@@ -1,0 +1,68 @@
+//! The forces that a code's text says.
+
+ghost use Rattle.std.specs.Prelude.{◌≡◌, IfOk};
+ghost use Rattle.xr_design.specs.Force.{AreEvents};
+ghost use Rattle.xr_job.specs.Compared.{job_in};
+ghost use Rattle.xr_run.specs.Prepared.{Judged, Prepared};
+ghost use Rattle.xr_words.specs.Words.{replay_values};
+ghost use Rattle.xr_phases.specs.Code.{CodeComes, code_in};
+ghost use Rattle.xr_phases.specs.Phases.{code_cause, code_phases, itself};
+ghost use Rattle.xr_phases.specs.Repair.{FitsParts};
+
+use crate::cause::Refused;
+use crate::parts::Parts;
+use crate::pieces::names_of;
+use std::alloc::Global;
+use xr_code::{CodeErr, read_code};
+use xr_design::{Bytes, Forces};
+use xr_run::{Refusal, read_input};
+use xr_shelf::Shelf;
+use xr_words::ReplayWords;
+
+/// The most bytes of a code or a certificate: more than any text in memory has.
+pub const TEXT_BYTES: usize = isize::MAX as usize;
+
+/// The forces that the code says which the words name.
+pub fn forces_of<S: Shelf>(
+    alloc: Global,
+    shelf: &mut S,
+    words: &ReplayWords<'_>,
+    job: &Parts,
+) -> Result<Forces, Refusal<Refused>>
+    requires { FitsParts job.now }
+    ensures prepared { Prepared S.told (code_phases (replay_values words.now) job.now) itself
+        (S.view shelf.old) (S.view shelf.new) result }
+    ensures events { IfOk result (AreEvents (job_in job.now.netlist job.now.recorded)) }
+{
+    let scope = names_of(alloc, words.job.scope)?;
+    let text = read_input(alloc, shelf, words.code, TEXT_BYTES, Refused::LongCode)?;
+    forces_in(alloc, job, text.as_slice(), scope.as_slice())
+}
+
+/// The forces that a text says.
+fn forces_in(
+    alloc: Global,
+    job: &Parts,
+    text: &[u8],
+    scope: &[Bytes],
+) -> Result<Forces, Refusal<Refused>>
+    requires { FitsParts job.now }
+    ensures judged { Judged (CodeComes (code_in job.now text.now scope.now)) code_cause itself result }
+    ensures events { IfOk result (AreEvents (job_in job.now.netlist job.now.recorded)) }
+{
+    let netlist = &job.netlist;
+    match read_code(
+        alloc,
+        text,
+        &netlist.design,
+        &netlist.order,
+        &job.recorded.stim,
+        scope,
+    ) {
+        Ok(forces) => Ok(forces),
+        Err(CodeErr::Refused(fault)) => Err(Refusal::Text {
+            cause: Refused::Code(fault),
+        }),
+        Err(CodeErr::Memory) => Err(Refusal::Memory),
+    }
+}

@@ -1,0 +1,101 @@
+//! The netlist and the recording that the words of a command name.
+
+ghost use Rattle.std.specs.Prelude.{◌≡◌, IfOk};
+ghost use Rattle.xr_job.specs.Netlist.{FitsNetlist};
+ghost use Rattle.xr_job.specs.Recorded.{FitsRecorded};
+ghost use Rattle.xr_run.specs.Prepared.{Prepared};
+ghost use Rattle.xr_words.specs.Words.{job_values};
+ghost use Rattle.xr_phases.specs.Phases.{itself, job_phases, netlist_phases, recording_phases};
+ghost use Rattle.xr_phases.specs.Repair.{FitsParts, rule_of};
+
+use crate::cause::Refused;
+use crate::judged::{netlist_in, recorded_in};
+use crate::parts::Parts;
+use crate::pieces::names_of;
+use std::alloc::Global;
+use xr_design::StartRule;
+use xr_job::{Netlist, Recorded};
+use xr_run::{Refusal, read_input, read_inputs};
+use xr_shelf::Shelf;
+use xr_words::{JobWords, Start};
+
+/// The most bytes of a netlist.
+pub const NETLIST_BYTES: usize = 67_108_864;
+
+/// The most bytes of a recording.
+pub const RECORDING_BYTES: usize = 268_435_456;
+
+/// The job that the words name.
+pub fn job_of<S: Shelf>(
+    alloc: Global,
+    shelf: &mut S,
+    words: &JobWords<'_>,
+) -> Result<Parts, Refusal<Refused>>
+    ensures prepared { Prepared S.told (job_phases (job_values words.now)) itself
+        (S.view shelf.old) (S.view shelf.new) result }
+    ensures fits { IfOk result FitsParts }
+{
+    let netlist = netlist_of(alloc, shelf, words)?;
+    let recorded = recorded_of(alloc, shelf, words, &netlist)?;
+    Ok(Parts { netlist, recorded })
+}
+
+/// The netlist that the words name.
+fn netlist_of<S: Shelf>(
+    alloc: Global,
+    shelf: &mut S,
+    words: &JobWords<'_>,
+) -> Result<Netlist, Refusal<Refused>>
+    ensures prepared { Prepared S.told (netlist_phases (job_values words.now)) itself
+        (S.view shelf.old) (S.view shelf.new) result }
+    ensures fits { IfOk result FitsNetlist }
+{
+    let text = read_inputs(
+        alloc,
+        shelf,
+        words.netlists,
+        NETLIST_BYTES,
+        Refused::LongNetlist,
+    )?;
+    netlist_in(alloc, text.as_slice(), words.top)
+}
+
+/// The recording that the words name, of a design.
+fn recorded_of<S: Shelf>(
+    alloc: Global,
+    shelf: &mut S,
+    words: &JobWords<'_>,
+    netlist: &Netlist,
+) -> Result<Recorded, Refusal<Refused>>
+    requires { FitsNetlist netlist.now }
+    ensures prepared { Prepared S.told (recording_phases (job_values words.now) netlist.now) itself
+        (S.view shelf.old) (S.view shelf.new) result }
+    ensures fits { IfOk result (FitsRecorded netlist.now.design) }
+{
+    let scope = names_of(alloc, words.scope)?;
+    let text = read_input(
+        alloc,
+        shelf,
+        words.recording,
+        RECORDING_BYTES,
+        Refused::LongRecording,
+    )?;
+    recorded_in(
+        alloc,
+        netlist,
+        text.as_slice(),
+        scope.as_slice(),
+        words.rounds,
+        rule_of(words.start),
+    )
+}
+
+/// The rule that the words name.
+fn rule_of(start: Start) -> StartRule
+    ensures { result ≡ rule_of start }
+{
+    match start {
+        Start::Cold => StartRule::Cold,
+        Start::Recorded => StartRule::Recorded,
+    }
+}

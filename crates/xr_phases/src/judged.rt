@@ -1,0 +1,90 @@
+//! What texts come to, as phases of a command.
+
+ghost use Rattle.std.specs.Prelude.{◌≡◌, ◌<◌, ◌≤◌, ◌^◌, length, IfOk};
+ghost use Rattle.xr_design.specs.Handed.{IsReplay};
+ghost use Rattle.xr_job.specs.Compared.{job_in};
+ghost use Rattle.xr_job.specs.Netlist.{FitsNetlist, NetlistComes};
+ghost use Rattle.xr_job.specs.Recorded.{FitsRecorded, RecordingComes};
+ghost use Rattle.xr_run.specs.Prepared.{Judged};
+ghost use Rattle.xr_phases.specs.Repair.{LengthComes, CompareComes};
+ghost use Rattle.xr_phases.specs.Phases.{compare_cause, itself, netlist_cause, nothing_in, recording_cause};
+
+use crate::cause::Refused;
+use std::alloc::Global;
+use xr_design::{Bytes, History, StartRule};
+use xr_job::{
+    CompareErr, Netlist, NetlistErr, Recorded, RecordingErr, read_netlist, read_recording,
+    replay_and_compare,
+};
+use xr_run::Refusal;
+
+/// A text of at most so many bytes; else the cause.
+pub fn short_in(text: &[u8], limit: usize, cause: Refused) -> Result<(), Refusal<Refused>>
+    ensures { Judged (LengthComes limit text.now) (λ long. cause) nothing_in result }
+{
+    if text.len() > limit {
+        return Err(Refusal::Text { cause });
+    }
+    Ok(())
+}
+
+/// The design of a netlist's text.
+pub fn netlist_in(alloc: Global, text: &[u8], top: &str) -> Result<Netlist, Refusal<Refused>>
+    ensures judged { Judged (NetlistComes text.now top.now) netlist_cause itself result }
+    ensures fits { IfOk result FitsNetlist }
+{
+    match read_netlist(alloc, text, top) {
+        Ok(netlist) => Ok(netlist),
+        Err(NetlistErr::Refused(cause)) => Err(Refusal::Text {
+            cause: Refused::Netlist(cause),
+        }),
+        Err(NetlistErr::Memory) => Err(Refusal::Memory),
+    }
+}
+
+/// What a text records of a design.
+pub fn recorded_in(
+    alloc: Global,
+    netlist: &Netlist,
+    text: &[u8],
+    scope: &[Bytes],
+    rounds: u32,
+    start: StartRule,
+) -> Result<Recorded, Refusal<Refused>>
+    requires size { length text.now ≤ 2 ^ 28 }
+    requires fits { FitsNetlist netlist.now }
+    requires some { 0 < length scope.now }
+    requires round { 1 ≤ rounds }
+    requires rounds { rounds ≤ 16 }
+    ensures judged { Judged (RecordingComes text.now netlist.now.design scope.now rounds start)
+        recording_cause itself result }
+    ensures fits { IfOk result (FitsRecorded netlist.now.design) }
+{
+    match read_recording(alloc, netlist, text, scope, rounds, start) {
+        Ok(recorded) => Ok(recorded),
+        Err(RecordingErr::Refused(cause)) => Err(Refusal::Text {
+            cause: Refused::Recording(cause),
+        }),
+        Err(RecordingErr::Memory) => Err(Refusal::Memory),
+    }
+}
+
+/// The replay of a job whose recording agrees with it.
+pub fn compared(
+    alloc: Global,
+    netlist: &Netlist,
+    recorded: &Recorded,
+) -> Result<History, Refusal<Refused>>
+    requires netlist { FitsNetlist netlist.now }
+    requires recorded { FitsRecorded netlist.now.design recorded.now }
+    ensures judged { Judged (CompareComes netlist.now recorded.now) compare_cause nothing_in result }
+    ensures replay { IfOk result (IsReplay (job_in netlist.now recorded.now)) }
+{
+    match replay_and_compare(alloc, netlist, recorded) {
+        Ok(history) => Ok(history),
+        Err(CompareErr::Refused(cause)) => Err(Refusal::Text {
+            cause: Refused::Compare(cause),
+        }),
+        Err(CompareErr::Memory) => Err(Refusal::Memory),
+    }
+}

@@ -1,0 +1,7 @@
+-- Lemmas on tables over sources.
+pub mod ChosenLanes
+pub mod KeptBlocks
+pub mod ListedPlaces
+pub mod OtherNumbers
+pub mod ReachedNodes
+pub mod RightTables

@@ -1,0 +1,22 @@
+//! Tables of the nodes of a graph over a list of at most 16 sources: the bit of each node under the filling of every
+//! number, 256 fillings a block. They are kept from question to question, so each node of the graph is evaluated once
+//! for a list.
+//!
+//! A question walks down to nodes that have tables, by a heap, makes what is missing from there up, and looks for a
+//! number whose filling gives the node another bit than the empty one. What isn't used for long makes room. Nothing
+//! promises that such a number is found. Start at specs/Tables.antt, then at `SourceTables`.
+#![tactic(auto)]
+
+mod choice;
+mod evaluate;
+mod fillings;
+mod kept;
+mod laws;
+mod missing;
+mod other;
+mod tables;
+
+pub use choice::table_lanes;
+pub use laws::tables_stay;
+pub use other::Other;
+pub use tables::SourceTables;

@@ -1,0 +1,3 @@
+-- Lemmas of xr_trim_cli.
+pub mod Lines
+pub mod Runs

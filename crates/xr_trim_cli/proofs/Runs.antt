@@ -1,0 +1,102 @@
+-- What a run comes to.
+use Rattle.std.proofs.Common.{◌≡◌, ℕ, ◌≤◌, List, [], ◌∷◌, length, IsTrue, Bool, Result, Ok, Err, inl, inr, refl, sym, subst, arith}
+use Rattle.std.proofs.lemmas.List.Elements.{All-contains, All-nil, All-push, Contains-push}
+use Rattle.xr_shelf.specs.Shelf.{Files, View}
+use Rattle.xr_shelf.specs.Sink.{SinkView}
+use Rattle.xr_run.specs.Ends.{Comes, RanWords}
+use Rattle.xr_run.specs.Outputs.{File, IsWhole, WrittenTo}
+use Rattle.xr_run.specs.Phases.{Answer, ComesTo, text_held}
+use Rattle.xr_run.specs.Rows.{Start}
+use Rattle.xr_run.proofs.Comes.{Lawful, comes}
+use Rattle.xr_run.proofs.Exact.{err_same, ok_err}
+use Rattle.xr_trim.specs.Trims.{IsTrimmed, TrimComes}
+use Rattle.xr_trim.proofs.OneWay.{one_outcome}
+use Rattle.xr_trim_cli.specs.Cause.{status_of}
+use Rattle.xr_trim_cli.specs.Commands.{commands}
+use Rattle.xr_trim_cli.specs.Done.{Done, IsKept, IsRefusedFor, RefusesText}
+use Rattle.xr_trim_cli.specs.Phases.{trim_answer, trim_phases}
+use Rattle.xr_trim_cli.specs.Words.{TrimValues}
+use Rattle.xr_trim_cli.specs.declared.cause.Refused.{Refused}
+use Rattle.xr_trim_cli.specs.declared.cause.Refused.TheVariants.{Long, Text}
+use Rattle.xr_trim_cli.proofs.Lines.{one_meaning}
+
+-- ---- laws
+
+statuses : (cause : Refused) → (5 ≤ status_of cause) × (status_of cause ≤ 19)
+statuses Long = (omega arith, omega arith)
+statuses (Text fault) = (omega arith, omega arith)
+
+lawful : (s : Start) → Lawful commands s
+lawful s = record {
+  of_texts = λ w cause means is. statuses cause;
+  one_meaning = one_meaning s.line;
+  exact = λ w means text. (one_outcome text w.top, λ out found. tt);
+}
+
+-- ---- status 0
+
+answer_same : (a b : Answer) → ◌≡◌ {A = Result Answer Refused} (Ok a) (Ok b) → a ≡ b
+answer_same a b h = cc
+
+pub record Answered (told : Bool) (files : Files) (w : TrimValues) (answer : Answer) : Type 0 where
+  pub out : List ℕ
+  pub trimmed : IsTrue told → IsTrimmed (text_held files w.files) w.top out
+  pub is : answer ≡ trim_answer w out
+
+answered : (told : Bool) (files : Files) (w : TrimValues) (answer : Answer) → ComesTo told files (trim_phases w) (Ok answer) → Answered told files w answer
+answered told files w answer (inl first) = absurd (ok_err answer Long first.1)
+answered told files w answer (inr (text, read, inl (e, refused, is))) = absurd (ok_err answer (Text e) is)
+answered told files w answer (inr (text, read, inr (out, found, is))) = record {
+  out = out;
+  trimmed = λ t. subst (λ (l : List ℕ). IsTrimmed l w.top out) (read.is t) found;
+  is = answer_same answer (trim_answer w out) is;
+}
+
+kept_of : (told : Bool) (old new : Files) (w : TrimValues) (answer : Answer) → IsTrue told → Answered told old w answer
+    → WrittenTo told (length answer.files) answer.files old new → IsKept w old new
+kept_of told old new w answer t a written =
+    let one : WrittenTo told 1 (record { name = w.to; bytes = a.out } ∷ []) old new = subst (λ (x : Answer). WrittenTo told (length x.files) x.files old new) a.is written in
+    let file : File = record { name = w.to; bytes = a.out } in
+    record {
+      out = a.out;
+      trimmed = a.trimmed t;
+      written = All-contains (IsWhole told new) (file ∷ []) file one.whole (Contains-push [] file) t;
+      others = λ name other. one.rest name (λ has. other (All-contains (λ n. n ≡ w.to) (w.to ∷ []) name (All-push (λ n. n ≡ w.to) [] w.to (All-nil (λ n. n ≡ w.to)) refl) has));
+    }
+
+module _ (s : Start) (shelf : View) (sink : SinkView) (status : ℕ) where
+  pub all_comes : RanWords commands s shelf sink status → Comes commands s shelf sink status
+  all_comes ran = comes commands s (lawful s) shelf sink status ran
+
+  module _ (all : Comes commands s shelf sink status) where
+    pub done_says : status ≡ 0 → Done s shelf
+    done_says zero =
+        let there = all.done zero in
+        let row = there.2 in record {
+          words = there.0;
+          means = there.1;
+          kept = λ t. kept_of s.shelf_told s.shelf.files shelf.files there.0 row.answer t (answered s.shelf_told s.shelf.files there.0 row.answer row.stands) row.written;
+        }
+
+-- ---- refusals
+
+refused_for : (told : Bool) (files : Files) (w : TrimValues) (cause : Refused) → IsTrue told → ComesTo told files (trim_phases w) (Err cause)
+    → IsRefusedFor (text_held files w.files) w.top cause
+refused_for told files w cause t (inl first) =
+    subst (IsRefusedFor (text_held files w.files) w.top) (sym (err_same {B = Answer} cause Long first.1)) (first.0 t)
+refused_for told files w cause t (inr (text, read, inl (e, refused, is))) =
+    subst (IsRefusedFor (text_held files w.files) w.top) (sym (err_same {B = Answer} cause (Text e) is))
+    (subst (λ (l : List ℕ). TrimComes l w.top (Err e)) (read.is t) refused)
+refused_for told files w cause t (inr (text, read, inr (out, found, is))) = absurd (ok_err (trim_answer w out) cause (sym is))
+
+module _ (s : Start) (shelf : View) (sink : SinkView) (status : ℕ) (all : Comes commands s shelf sink status) where
+  pub refuses_text : 5 ≤ status → status ≤ 19 → RefusesText s status
+  refuses_text low high =
+      let there = all.texts low high in
+      let is = there.2 in record {
+        words = there.0;
+        means = there.1;
+        cause = is.cause;
+        status_is = is.status_is;
+        refused = λ t. refused_for s.shelf_told s.shelf.files there.0 is.cause t is.row.comes;
+      }

@@ -1,0 +1,24 @@
+-- Why texts are refused: its status and its words.
+use Rattle.std.specs.Prelude.{ℕ, List, ◌++◌, codes, decimal}
+use Rattle.xr_text.specs.Left.{fault_words, place_of}
+use Rattle.xr_trim.specs.declared.fault.TrimFault.{TrimFault}
+use Rattle.xr_trim.specs.declared.fault.TrimFault.TheVariants.{Token, Open, NoTop}
+use Rattle.xr_trim_cli.specs.declared.cause.Refused.{Refused}
+use Rattle.xr_trim_cli.specs.declared.cause.Refused.TheVariants.{Long, Text}
+
+abbrev pub status_of : Refused → ℕ
+status_of Long = 11
+status_of (Text fault) = 5
+
+-- `refused: netlist at AT: WORD`
+abbrev pub placed_text : ℕ → List ℕ → List ℕ
+placed_text at words = codes "refused: netlist at " ++ (decimal at ++ (codes ": " ++ words))
+
+abbrev pub fault_text : TrimFault → List ℕ
+fault_text (Token fault) = placed_text (place_of fault) (fault_words fault)
+fault_text (Open at) = placed_text at (codes "open definition")
+fault_text (NoTop name) = codes "refused: netlist: no module " ++ name
+
+abbrev pub text_of : Refused → List ℕ
+text_of Long = codes "refused: too large netlist"
+text_of (Text fault) = fault_text fault

@@ -1,0 +1,35 @@
+//! Why a text is refused.
+
+use crate::line::line_of;
+use std::alloc::Global;
+use xr_base::Memory;
+use xr_run::Cause;
+use xr_trim::TrimFault;
+
+/// Why a text is refused.
+#[derive(Debug, Drop)]
+pub enum Refused {
+    /// The joined text has more than 1,073,741,824 bytes.
+    Long,
+    /// The text can't be trimmed.
+    Text(TrimFault),
+}
+
+impl Cause for Refused {
+    ghost use Rattle.xr_trim_cli.specs.Cause as spec;
+
+    ghost status_of = { spec.status_of };
+
+    ghost text_of = { spec.text_of };
+
+    fn status(&self) -> u8 {
+        match self {
+            Refused::Long => 11,
+            Refused::Text(_) => 5,
+        }
+    }
+
+    fn line(&self, alloc: Global) -> Result<Vec<u8>, Memory> {
+        line_of(alloc, self)
+    }
+}

@@ -1,0 +1,16 @@
+//! The program `xrtrim` as one call. Start at `run`, and at `specs/Done.antt`, which says what status 0 promises and
+//! what a text is refused for; what else a run comes to by its status is xr_run's.
+//!
+//! A run goes by these files: `program.rt` (words to a command), `words.rt` (the set of lines), `command.rt` (its
+//! phases, as in `specs/Phases.antt`), `cause.rt` and `line.rt` (what a text is refused for, and its line). What is
+//! kept of a text is xr_trim's, how files are read and written xr_run's.
+#![tactic(auto)]
+
+mod cause;
+mod command;
+mod line;
+mod program;
+mod trim_words;
+mod words;
+
+pub use program::{run, usage};

@@ -1,0 +1,15 @@
+//! The words of a line of the set, each as the value that it stands for.
+
+ghost use Rattle.std.specs.Prelude.{◌<◌, length};
+
+/// The words of a line of the set.
+#[derive(Clone, Copy, Debug)]
+pub struct TrimWords<'a> {
+    /// The top module.
+    pub top: &'a str,
+    /// The file that is written.
+    pub to: &'a str,
+    /// The files that are read, one or more.
+    pub files: &'a [String],
+    ghost some: { 0 < length files.now },
+}

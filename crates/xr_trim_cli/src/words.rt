@@ -1,0 +1,69 @@
+//! The words of a command line.
+
+ghost use Rattle.std.specs.Prelude.{◌≡◌, ◌<◌, [], ◌∷◌, List, IfNone, IfOk, IfSome, length, map, string_bytes, true};
+ghost use Rattle.xr_words.specs.Forms.{plain};
+ghost use Rattle.xr_words.specs.Line.{Text, are_options};
+ghost use Rattle.xr_words.specs.Read.{value_of};
+ghost use Rattle.xr_trim_cli.specs.Words.{AreOutside, Gives, IsTrimLine, Means, TrimValues, table, trim_values};
+
+use crate::trim_words::TrimWords;
+use std::alloc::Global;
+use xr_base::Memory;
+use xr_words::{Kind, Line, Opt, are_apart, files_in, read_line};
+
+static OPTIONS: [Opt<'static>; 2] = [
+    Opt {
+        name: "top",
+        required: true,
+        kind: Kind::Name,
+    },
+    Opt {
+        name: "to",
+        required: true,
+        kind: Kind::Writes,
+    },
+];
+
+/// The options of a line.
+pub fn options<'a>() -> &'a [Opt<'a>]
+    ensures table { map plain result.now ≡ table }
+    ensures order { are_options result.now ≡ true }
+{
+    &OPTIONS
+}
+
+/// Reads the words, or answers that they aren't in the set.
+pub fn read_trim_words(alloc: Global, words: &[String]) -> Result<Option<TrimWords<'_>>, Memory>
+    ensures set { IfOk result (λ o. IfSome o (λ w. Means (map string_bytes words.now) (trim_values w))) }
+    ensures none { IfOk result (λ o. IfNone o (AreOutside (map string_bytes words.now))) }
+{
+    match read_line(alloc, "xrtrim", options(), true, words)? {
+        Some(line) => Ok(words_in(words, &line)),
+        None => Ok(None),
+    }
+}
+
+/// The words of a line of the options, none where one has no value that it may have.
+fn words_in<'a>(words: &'a [String], line: &Line<'a>) -> Option<TrimWords<'a>>
+    requires { IsTrimLine (map string_bytes words.now) line.now }
+    ensures set { IfSome result (λ w. Means (map string_bytes words.now) (trim_values w)) }
+    ensures none { IfNone result (AreOutside (map string_bytes words.now)) }
+{
+    words_of(line, files_in(words, line))
+}
+
+/// What the options name together with the FILEs, none where one lacks, or where the file that is written is a FILE.
+fn words_of<'a>(line: &Line<'a>, files: &'a [String]) -> Option<TrimWords<'a>>
+    requires { 0 < length files.now }
+    ensures files { IfSome result (λ w. (trim_values w).files ≡ map string_bytes files.now) }
+    ensures gives { IfSome result (λ w. Gives (value_of line.now) (trim_values w)) }
+    ensures none { IfNone result ((v : TrimValues) → v.files ≡ map string_bytes files.now
+        → Gives (value_of line.now) v → ⊥) }
+{
+    let top = line.get("top")?;
+    let to = line.get("to")?;
+    if !are_apart(&[to], &[], files) {
+        return None;
+    }
+    Some(TrimWords { top, to, files })
+}
