@@ -6,6 +6,7 @@ use crate::words::{text_of, word_and_number};
 use std::alloc::{AllocError, Global};
 use test_cases::{Part, PartKind, Parts, Report, Section};
 use xr_base::Memory;
+use xr_cert::Form;
 
 /// The texts of a job and of a certificate, if there is one; how many rounds a moment has, and how many clauses the log
 /// of a search; and whether a certificate is without its last byte.
@@ -93,7 +94,8 @@ fn compare_part(
     let mut out = Vec::new(alloc);
     match text_of(part.head) {
         "read" => put_read(alloc, &mut out, texts)?,
-        "own" => put_job(alloc, &mut out, texts, Task::Own)?,
+        "own" => put_job(alloc, &mut out, texts, Task::Own(Form::Lines))?,
+        "own 2" => put_job(alloc, &mut out, texts, Task::Own(Form::Turns))?,
         _ => put_job(alloc, &mut out, texts, Task::Check)?,
     }
     let want = part.content(alloc)?;

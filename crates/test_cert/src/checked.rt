@@ -7,10 +7,11 @@ use crate::job::Job;
 use crate::refusal::{put_fault, put_objection, put_words};
 use std::alloc::Global;
 use xr_base::{Memory, put, put_number};
-use xr_cert::{Cert, CertErr, CheckErr, read_cert, write_cert};
-use xr_cert_text::write_text;
+use xr_cert::{Cert, CertErr, CheckErr, Checked, Entry, Form, read_cert, write_cert};
+use xr_cert_text::{put_beginning, put_end, put_line, put_turn};
 use xr_repair::RepairErr;
 use xr_report::counts_of;
+use xr_turns::conditions_of;
 use xr_wave::Wave;
 
 /// Puts what the reading of a certificate comes to, and whether its text is the same when it is written again.
@@ -29,7 +30,7 @@ pub fn put_read(alloc: Global, out: &mut Vec<u8>, texts: &Texts) -> Result<(), M
 }
 
 fn put_again(alloc: Global, out: &mut Vec<u8>, text: &[u8], cert: &Cert) -> Result<(), Memory> {
-    let again = write_text(alloc, cert.head, cert.lines.as_slice())?;
+    let again = text_of(alloc, cert)?;
     if again.as_slice() == text {
         put(out, b"ok\n")
     } else {
@@ -37,22 +38,41 @@ fn put_again(alloc: Global, out: &mut Vec<u8>, text: &[u8], cert: &Cert) -> Resu
     }
 }
 
-/// Puts the certificate that the repair of a job writes.
-pub fn put_own(out: &mut Vec<u8>, job: &Job<'_>) -> Result<(), Memory>
+/// The text of a certificate, line by line.
+fn text_of(alloc: Global, cert: &Cert) -> Result<Vec<u8>, Memory> {
+    let entries = cert.entries.as_slice();
+    let mut text = Vec::new(alloc);
+    put_beginning(&mut text, cert.form, cert.head)?;
+    for entry in entries {
+        match entry {
+            Entry::Line(line) => put_line(&mut text, line)?,
+            Entry::Turn(line) => put_turn(&mut text, line.place, &line.turn)?,
+        }
+    }
+    put_end(&mut text, entries.len())?;
+    Ok(text)
+}
+
+/// Puts the certificate of a form that the repair of a job writes.
+pub fn put_own(out: &mut Vec<u8>, job: &Job<'_>, form: Form) -> Result<(), Memory>
     requires { FitsJob job.now }
 {
-    match own_text(job) {
+    match own_text(job, form) {
         Ok(text) => put(out, text.as_slice()),
         Err(RepairErr::Optimistic(found)) => put_objection(out, job, &found),
         Err(RepairErr::Memory) => Err(Memory),
     }
 }
 
-fn own_text(job: &Job<'_>) -> Result<Vec<u8>, RepairErr>
+fn own_text(job: &Job<'_>, form: Form) -> Result<Vec<u8>, RepairErr>
     requires { FitsJob job.now }
 {
     let wave = job.repaired()?;
-    Ok(write_cert(job.alloc, &wave)?)
+    let conditions = match form {
+        Form::Lines => Vec::new(job.alloc),
+        Form::Turns => conditions_of(job.alloc, &wave)?,
+    };
+    Ok(write_cert(job.alloc, &wave, form, conditions.as_slice())?)
 }
 
 /// Puts what the check of a certificate comes to: the case's, or the repair's own where it has none.
@@ -61,14 +81,17 @@ pub fn put_checked(out: &mut Vec<u8>, job: &Job<'_>, texts: &Texts) -> Result<()
 {
     match &texts.cert {
         Some(text) => put_check(out, job, text.as_slice()),
-        None => put_own_checked(out, job),
+        None => {
+            put_own_checked(out, job, Form::Lines)?;
+            put_own_checked(out, job, Form::Turns)
+        }
     }
 }
 
-fn put_own_checked(out: &mut Vec<u8>, job: &Job<'_>) -> Result<(), Memory>
+fn put_own_checked(out: &mut Vec<u8>, job: &Job<'_>, form: Form) -> Result<(), Memory>
     requires { FitsJob job.now }
 {
-    match own_text(job) {
+    match own_text(job, form) {
         Ok(text) => put_check(out, job, text.as_slice()),
         Err(RepairErr::Optimistic(found)) => put_objection(out, job, &found),
         Err(RepairErr::Memory) => Err(Memory),
@@ -88,8 +111,9 @@ fn put_check(out: &mut Vec<u8>, job: &Job<'_>, text: &[u8]) -> Result<(), Memory
 fn put_cert(out: &mut Vec<u8>, job: &Job<'_>, text: &[u8], cert: Cert) -> Result<(), Memory>
     requires { FitsJob job.now }
 {
+    let form = cert.form;
     match job.checked(cert) {
-        Ok(wave) => put_wave(out, job, text, &wave),
+        Ok(checked) => put_accepted_text(out, job, text, form, &checked),
         Err(CheckErr::Refused(fault)) => put_fault(out, job, fault),
         Err(CheckErr::Optimistic(found)) => put_objection(out, job, &found),
         Err(CheckErr::Memory) => Err(Memory),
@@ -97,12 +121,23 @@ fn put_cert(out: &mut Vec<u8>, job: &Job<'_>, text: &[u8], cert: Cert) -> Result
 }
 
 /// Puts how many places of a checked wave have which end. Its own text is the certificate's.
-fn put_wave(out: &mut Vec<u8>, job: &Job<'_>, text: &[u8], wave: &Wave<'_>) -> Result<(), Memory> {
-    let again = write_cert(job.alloc, wave)?;
+fn put_accepted_text(
+    out: &mut Vec<u8>,
+    job: &Job<'_>,
+    text: &[u8],
+    form: Form,
+    checked: &Checked<'_>,
+) -> Result<(), Memory> {
+    let again = write_cert(
+        job.alloc,
+        &checked.wave,
+        form,
+        checked.conditions.as_slice(),
+    )?;
     if again.as_slice() != text {
         return put(out, b"another text\n");
     }
-    put_accepted(out, wave)
+    put_accepted(out, &checked.wave)
 }
 
 fn put_accepted(out: &mut Vec<u8>, wave: &Wave<'_>) -> Result<(), Memory> {

@@ -9,7 +9,7 @@ use crate::case::Texts;
 use crate::checked::{put_checked, put_own};
 use std::alloc::Global;
 use xr_base::{Memory, put};
-use xr_cert::{Cert, CheckErr, check_cert};
+use xr_cert::{Cert, CheckErr, Checked, Form, check_cert};
 use xr_design::{Bytes, History, StartRule};
 use xr_job::{Netlist, Recorded, read_netlist, read_recording, replay_and_compare};
 use xr_repair::{RepairErr, repair};
@@ -41,8 +41,8 @@ impl<'j> Job<'j> {
         )
     }
 
-    /// The wave of a certificate.
-    pub fn checked(&self, cert: Cert) -> Result<Wave<'j>, CheckErr>
+    /// The wave and the conditions of a certificate.
+    pub fn checked(&self, cert: Cert) -> Result<Checked<'j>, CheckErr>
         requires { FitsJob self.now }
     {
         check_cert(
@@ -60,7 +60,7 @@ impl<'j> Job<'j> {
 /// What is asked of a job.
 #[derive(Clone, Copy, Debug, PartialEq, Eq)]
 pub enum Task {
-    Own,
+    Own(Form),
     Check,
 }
 
@@ -132,7 +132,7 @@ fn put_task(out: &mut Vec<u8>, job: &Job<'_>, texts: &Texts, task: Task) -> Resu
     requires { FitsJob job.now }
 {
     match task {
-        Task::Own => put_own(out, job),
+        Task::Own(form) => put_own(out, job, form),
         Task::Check => put_checked(out, job, texts),
     }
 }

@@ -17,12 +17,13 @@
 //! end 0
 //! > check
 //! accepted known 0 repaired 4 unknown 4 undecided 0
+//! accepted known 0 repaired 4 unknown 4 undecided 0
 //! ```
 //!
 //! - `> read`: `ok` where the certificate is read, and its text is the same when it is written again; else the refusal.
-//! - `> own`: the certificate that the repair of the job writes.
+//! - `> own`: the certificate that the repair of the job writes, of form 1; `> own 2` of form 2.
 //! - `> check`: how many places have which end by the certificate, or the refusal. A case without `< cert` has the
-//!   repair's own. Of what is accepted the text is the same when it is written again.
+//!   repair's own, of form 1 and then of form 2. Of what is accepted the text is the same when it is written again.
 #![tactic(auto)]
 
 mod case;

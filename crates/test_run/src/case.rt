@@ -6,7 +6,7 @@
 //! and each file is as it was; but a repair with status 0 also writes o.v and o.xc, and `make` m.v and r.vcd,
 //! named or not.
 //!
-//! The certificate of a repair with status 0 is then checked, and its code replayed. What `make` wrote is made once more, and
+//! The certificate of a repair with status 0 is then checked and upgraded, and its code replayed. What `make` wrote is made once more, and
 //! repaired. Of what `export` wrote, each query is proved by its log. `cut o.xc` makes of a case one run
 //! for each beginning of the file, and `fail each` one for each call of the shelf, which fails, with `> calls` for a table
 //! of them.

@@ -78,7 +78,8 @@ fn old_suspect(wave: &Wave<'_>, replayed: &History, step: u32, pins: &[Pin]) -> 
     requires later { 0 < step }
     requires step { step < (job wave.now).moments * (job wave.now).rounds }
     requires pins { AllByRecursion (λ n. n < (job wave.now).width) (net_pins pins.now) }
-    ensures { result ≡ list_any (spec.is_suspect wave.now replayed.now) (spec.earlier_places (job wave.now) step pins.now) }
+    ensures { result
+        ≡ list_any (spec.is_suspect wave.now replayed.now) (spec.earlier_places (job wave.now) step pins.now) }
 {
     match wave.circuit().two_back(step as usize) {
         Some(earlier) => any_suspect(wave, replayed, earlier as u32, pins),

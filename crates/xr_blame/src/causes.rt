@@ -46,7 +46,8 @@ impl Causes {
         requires right { AreCauses wave.now self.old }
         requires written { IsWritten wave.now place }
         requires unknown { IsUnknown wave.now place }
-        ensures cause { IfOk result (λ cause. IsToBlame wave.now (number_of (job wave.now) place) cause.source cause.others) }
+        ensures cause { IfOk result
+            (λ cause. IsToBlame wave.now (number_of (job wave.now) place) cause.source cause.others) }
         ensures right { OnOk result (AreCauses wave.now self.new) }
     {
         let root = root_of(alloc, wave, &mut self.cones.lanes, place)?;

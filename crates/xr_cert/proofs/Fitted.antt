@@ -9,18 +9,23 @@ use Rattle.xr_model.specs.declared.line.Body.{Body}
 use Rattle.xr_model.specs.declared.line.Line.{Line as ALine}
 use Rattle.xr_wave.specs.Contents.{Contents, job, shown_in}
 use Rattle.xr_along.proofs.Fitted.{along_job, logs_along_fit}
-use Rattle.xr_cert_text.specs.declared.cert.Cert.{Cert as ACert}
 use Rattle.xr_along.specs.Along.{BodyFitsAt, LogsFit}
+use Rattle.xr_cond.specs.View.{ConditionView}
+use Rattle.xr_cert_text.specs.declared.cert.Cert.{Cert as ACert}
 use Rattle.xr_cert.specs.Checked.{HasNumbers, IsAccepted, IsChecked}
+use Rattle.xr_cert.specs.Entries.{lines_in}
 use Rattle.xr_cert.specs.Laws.{OwnAccepted}
-use Rattle.xr_cert.specs.Step.{cert_of}
+use Rattle.xr_cert.specs.Step.{cert_in}
+use Rattle.xr_cert.specs.declared.check.Checked.{Checked}
 use Rattle.xr_cert.specs.declared.refusal.CheckErr.{CheckErr}
 use Rattle.xr_cert.proofs.Faultless.{begun_same}
+use Rattle.xr_cert.proofs.OwnEntries.{own_lines, own_turned}
 
 -- A certificate that is checked is accepted.
-pub checked_accepted : (start : Contents) (cert : ACert) (c : Contents) → start.written ≡ [] → start.lines ≡ [] → IsChecked start cert c
-    → IsAccepted start cert c.written
-checked_accepted start cert c written lines checked =
+pub checked_accepted : (start : Contents) (cert : ACert) (c : Contents) (conditions : List ConditionView)
+    → start.written ≡ []
+    → start.lines ≡ [] → IsChecked start cert c conditions → IsAccepted start cert c.written
+checked_accepted start cert c conditions written lines checked =
     let j = job c in
     let same = begun_same checked.goes in
     let fits : Fits (job start) = subst Fits (along_job checked.goes) checked.wave.fits.fits_job in
@@ -28,28 +33,39 @@ checked_accepted start cert c written lines checked =
     let there : IsAccepted (record c { written = start.written; lines = start.lines }) cert c.written = record {
       numbers = subst (λ (d : Contents). HasNumbers d cert.head) (sym same) checked.numbers;
       long = checked.finished;
-      yields = subst (λ (ls : List ALine). Yields j c.limit (shown_in c) c.written ls) checked.lines checked.wave.holds.yields;
+      yields = subst (λ (ls : List ALine). Yields j c.limit (shown_in c) c.written ls) checked.lines
+          checked.wave.holds.yields;
       honest = sound_honest j c.limit (shown_in c) c.written c.lines checked.wave.holds.sound;
-      logs = subst (λ (ls : List ALine). (place : ℕ) (body : Body) → place < length c.written → body_at j ls place ≡ Some body
+      logs = subst (λ (ls : List ALine). (place : ℕ) (body : Body) → place < length c.written
+          → body_at j ls place ≡ Some body
           → BodyFitsAt c c.written place body) checked.lines fitted;
+      turned = checked.turned;
     } in
     subst (λ (d : Contents). IsAccepted d cert c.written) same there
 
-pub accepted_all : (start : Contents) (cert : ACert) (result : Result Contents CheckErr) → start.written ≡ [] → start.lines ≡ []
-    → IfOk result (IsChecked start cert) → IfOk result (λ c. IsAccepted start cert c.written)
-accepted_all start cert (Ok c) written lines checked = checked_accepted start cert c written lines checked
+pub accepted_all : (start : Contents) (cert : ACert) (result : Result Checked CheckErr) → start.written ≡ []
+    → start.lines ≡ []
+    → IfOk result (λ checked. IsChecked start cert checked.wave checked.conditions)
+    → IfOk result (λ checked. IsAccepted start cert checked.wave.written)
+accepted_all start cert (Ok found) written lines checked =
+    checked_accepted start cert found.wave found.conditions written lines checked
 accepted_all start cert (Err e) written lines checked = tt
 
 -- So is that of a finished wave that went along lines.
 pub own_accepted : OwnAccepted
-own_accepted start c written lines goes wave finished =
+own_accepted form start c conditions written lines goes wave finished are =
     let same = begun_same goes in
     let fits : Fits (job start) = subst Fits (along_job goes) wave.fits.fits_job in
-    let there : IsAccepted (record c { written = start.written; lines = start.lines }) (cert_of c) c.written = record {
+    let own : c.lines ≡ lines_in (cert_in form c conditions).entries = sym (own_lines c.lines conditions) in
+    let there : IsAccepted (record c { written = start.written; lines = start.lines })
+    (cert_in form c conditions) c.written = record {
       numbers = record { rounds = refl; conflicts = refl; moments = refl; nets = refl };
       long = finished;
-      yields = wave.holds.yields;
+      yields = subst (λ (ls : List ALine). Yields (job c) c.limit (shown_in c) c.written ls) own wave.holds.yields;
       honest = sound_honest (job c) c.limit (shown_in c) c.written c.lines wave.holds.sound;
-      logs = logs_along_fit start c goes fits written lines;
+      logs = subst (λ (ls : List ALine). (place : ℕ) (body : Body) → place < length c.written
+          → body_at (job c) ls place ≡ Some body
+          → BodyFitsAt c c.written place body) own (logs_along_fit start c goes fits written lines);
+      turned = own_turned form c conditions are;
     } in
-    subst (λ (d : Contents). IsAccepted d (cert_of c) c.written) same there
+    subst (λ (d : Contents). IsAccepted d (cert_in form c conditions) c.written) same there

@@ -1,14 +1,20 @@
 -- Lemmas of checked certificates.
 pub mod Accepting
+pub mod AllLines
 pub mod Dues
 pub mod Faultless
 pub mod Fitted
 pub mod Going
-pub mod Literals
 pub mod NamedPlaces
 pub mod OneFault
+pub mod OwnEntries
+pub mod OwnLines
 pub mod OwnText
+pub mod OwnTurns
+pub mod PutEntries
+pub mod Reasons
 pub mod Refusing
-pub mod SameQueries
+pub mod Standing
 pub mod Taking
-pub mod Walked
+pub mod TurnCounts
+pub mod Ways

@@ -1,5 +1,5 @@
 -- Why a body isn't accepted at the next place.
-use Rattle.std.proofs.Common.{◌≡◌, ◌≢◌, ℕ, ◌<◌, ◌≤◌, Bool, true, false, List, [], ◌∷◌, length, refl, sym, subst, ap, ◌∙◌, arith}
+use Rattle.std.proofs.Common.{◌≡◌, ◌≢◌, ℕ, ◌<◌, ◌≤◌, Bool, true, false, List, [], length, refl, sym, subst, ap, ◌∙◌, arith}
 use Rattle.std.specs.Prelude.{ℤ, IfErr, IfOk, Result, Ok, Err}
 use Rattle.std.specs.List.{All}
 use mathlib.Core.Bool.{beq}
@@ -30,20 +30,19 @@ use Rattle.xr_wave.specs.Token.{BudgetToken, HasNext, HoldsNext, IsLineNext, Lin
 use Rattle.xr_wave.specs.declared.token.How.{How}
 use Rattle.xr_wave.specs.declared.token.How.TheVariants.{Enumerated as HowEnumerated, Refuted as HowRefuted}
 use Rattle.xr_along.specs.Accepted.{AcceptsLine, BodyFits, LogFits, NamesNext, variables_next}
-use Rattle.xr_cert.specs.Step.{BodyStops, IsEnumeration, IsSpent, IsSpentBy, IsTokenOf, Stops, next_line}
-use Rattle.xr_cert.specs.Walk.{IsCertFault, body_fault, due_line, refused}
+use Rattle.xr_cert.specs.Step.{BodyStops, IsEnumeration, IsSpent, IsSpentBy, IsTokenOf, Stops, faults, next_line}
+use Rattle.xr_cert.specs.Walk.{body_fault, refused}
 use Rattle.xr_cert.specs.declared.refusal.CheckErr.{CheckErr}
 use Rattle.xr_cert.specs.declared.refusal.CheckErr.TheVariants.{Refused}
-use Rattle.xr_cert.proofs.SameQueries.{fresh_same, refutes_same, same_clauses}
+use Rattle.xr_turns.proofs.SameQueries.{fresh_same, refutes_same, same_clauses}
 
 abbrev line : Place → Body → ALine
 line place body = record { place = place; body = body }
 
 -- A body that isn't accepted stops the walk, with the fault of its kind.
-pub stops_by : (c : Contents) (body : Body) (line : ℕ) → line ≡ due_line c → IsLineNext c
-    → (AcceptsLine c (next_line c body) → ⊥) → BodyStops c body (Refused (body_fault line body))
-stops_by c body line is next refuses rest =
-    subst (λ n. IsCertFault c (next_line c body ∷ rest) (Refused (body_fault n body))) (sym is) (refused (next_line c body) rest next refl refuses)
+pub stops_by : (c : Contents) (body : Body) (number : ℕ) → IsLineNext c → (AcceptsLine c (next_line c body) → ⊥)
+    → BodyStops c number body (Refused (body_fault number body))
+stops_by c body number next refuses = faults (λ rest. refused (next_line c body) rest next refl refuses)
 
 -- The sources of the nodes are those of the place.
 pub sources_long : (c : Contents) (nodes : List Node) → IsNextCone c nodes
@@ -228,9 +227,9 @@ pub spent_by : (c after : Contents) (body : Body) (spent : ALine) → IsTokenOf 
     → IsSpentBy c body after
 spent_by c after body spent token done = subst (λ l. IsSpent c l after) token.is done
 
-pub stops_at : (c : Contents) (body : Body) (spent : ALine) (e : CheckErr) → IsTokenOf c body spent → Stops c spent e
-    → BodyStops c body e
-stops_at c body spent e token stops = subst (λ l. Stops c l e) token.is stops
+pub stops_at : (c : Contents) (number : ℕ) (body : Body) (spent : ALine) (e : CheckErr) → IsTokenOf c body spent
+    → Stops c number spent e → BodyStops c number body e
+stops_at c number body spent e token stops = subst (λ l. Stops c number l e) token.is stops
 
 -- An enumeration's token.
 how_is : (how : How) (bit : Bool) → IsEnumeration how → bit_of how ≡ bit → how ≡ HowEnumerated bit
@@ -257,10 +256,10 @@ pub spent_all : (c : Contents) (body : Body) (spent : ALine) (result : Result Co
 spent_all c body spent (Ok after) token done = spent_by c after body spent token done
 spent_all c body spent (Err e) token done = tt
 
-pub stops_all : (c : Contents) (body : Body) (spent : ALine) (result : Result Contents CheckErr) → IsTokenOf c body spent
-    → IfErr result (Stops c spent) → IfErr result (BodyStops c body)
-stops_all c body spent (Ok after) token stops = tt
-stops_all c body spent (Err e) token stops = stops_at c body spent e token stops
+pub stops_all : (c : Contents) (number : ℕ) (body : Body) (spent : ALine) (result : Result Contents CheckErr)
+    → IsTokenOf c body spent → IfErr result (Stops c number spent) → IfErr result (BodyStops c number body)
+stops_all c number body spent (Ok after) token stops = tt
+stops_all c number body spent (Err e) token stops = stops_at c number body spent e token stops
 
 pub no_truth : false ≡ true → ⊥
 no_truth is = absurd cc
@@ -280,7 +279,7 @@ pub spent_named : (c : Contents) (named : ALine) (result : Result Contents Check
 spent_named c named (Ok after) names done = subst (λ (l : ALine). IsSpent c l after) (named_line c named names) done
 spent_named c named (Err e) names done = tt
 
-pub stops_named : (c : Contents) (named : ALine) (result : Result Contents CheckErr) → NamesNext c named
-    → IfErr result (BodyStops c named.body) → IfErr result (Stops c named)
-stops_named c named (Ok after) names stops = tt
-stops_named c named (Err e) names stops = subst (λ (l : ALine). Stops c l e) (named_line c named names) stops
+pub stops_named : (c : Contents) (number : ℕ) (named : ALine) (result : Result Contents CheckErr) → NamesNext c named
+    → IfErr result (BodyStops c number named.body) → IfErr result (Stops c number named)
+stops_named c number named (Ok after) names stops = tt
+stops_named c number named (Err e) names stops = subst (λ (l : ALine). Stops c number l e) (named_line c named names) stops

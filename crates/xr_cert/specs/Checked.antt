@@ -9,13 +9,15 @@ use Rattle.xr_model.specs.Stated.{body_at}
 use Rattle.xr_model.specs.Yields.{Yields}
 use Rattle.xr_model.specs.declared.line.Body.{Body}
 use Rattle.xr_wave.specs.Contents.{Contents, IsFinished, IsWave, job, shown_in}
+use Rattle.xr_cond.specs.View.{ConditionView}
 use Rattle.xr_cert_text.specs.declared.cert.Cert.{Cert}
 use Rattle.xr_cert_text.specs.declared.cert.Head.{Head}
 use Rattle.xr_along.specs.Along.{BodyFitsAt, GoesAlong}
 use Rattle.xr_laws.specs.Alike.{IsOneFor, IsOneForHistories}
 use Rattle.xr_cert_text.specs.Wrong.{IsFirstWrong}
+use Rattle.xr_cert.specs.Entries.{AreConditionsFor, AreTurned, AreTurnedIn, entries_of, lines_in}
 use Rattle.xr_cert.specs.Walk.{IsFirstCertFault}
-use Rattle.xr_cert.specs.declared.refusal.CertFault.TheVariants.{BadEnum, BadLog, BadPair, Header, Missing, Stray, Syntax}
+use Rattle.xr_cert.specs.declared.refusal.CertFault.TheVariants.{BadEnum, BadLog, BadPair, BadTurn, Header, Missing, Stray, Syntax}
 use Rattle.xr_cert.specs.declared.refusal.CertErr.{CertErr}
 use Rattle.xr_cert.specs.declared.refusal.CertErr.TheVariants.{Refused as Unread, Memory}
 use Rattle.xr_cert.specs.declared.refusal.CertFault.{CertFault}
@@ -31,6 +33,7 @@ IsSyntax text (Stray line) = ⊥
 IsSyntax text (BadLog line) = ⊥
 IsSyntax text (BadPair line) = ⊥
 IsSyntax text (BadEnum line) = ⊥
+IsSyntax text (BadTurn line) = ⊥
 
 abbrev pub IsReadRefusal : List ℕ → CertErr → Type 0
 IsReadRefusal text (Unread fault) = IsSyntax text fault
@@ -46,13 +49,17 @@ pub record AreNumbers (design : Design) (stim : Stim) (limit : ℕ) (head : Head
 abbrev pub HasNumbers : Contents → Head → Type 0
 HasNumbers start head = AreNumbers start.design start.stim start.limit head
 
--- A certificate is checked: its numbers are those of the run, and a finished wave went on by its lines, which are the
--- wave's. Where no place is undecided, every sound waveform of the job without undecided places is this one, and for
+-- A certificate is checked: its numbers are those of the run, a finished wave went on by its lines of Line places,
+-- which are the wave's, behind each of these stand its turns, which the conditions keep, and these are those of its
+-- form. Where no place is undecided, every sound waveform of the job without undecided places is this one, and for
 -- another history it has the same marks and certain values.
-pub record IsChecked (start : Contents) (cert : Cert) (c : Contents) : Type 0 where
+pub record IsChecked (start : Contents) (cert : Cert) (c : Contents) (conditions : List ConditionView) : Type 0 where
   pub numbers : HasNumbers start cert.head
   pub goes : GoesAlong start c
-  pub lines : c.lines ≡ cert.lines
+  pub lines : c.lines ≡ lines_in cert.entries
+  pub turned : AreTurnedIn cert.form c cert.entries
+  pub stated : cert.entries ≡ entries_of c.lines conditions
+  pub conditions_are : AreConditionsFor cert.form c conditions
   pub finished : IsFinished c
   pub wave : IsWave c
   pub one : IsOneFor (job c) (shown_in c) c.written
@@ -61,14 +68,16 @@ pub record IsChecked (start : Contents) (cert : Cert) (c : Contents) : Type 0 wh
 -- It is refused: for a number of the second line, or at the first fault of its lines.
 pub data IsRefusalOf (start : Contents) (cert : Cert) : CheckErr → Type 0 where
   number : (HasNumbers start cert.head → ⊥) → IsRefusalOf start cert (Refused (Header 2))
-  line : {e : CheckErr} → HasNumbers start cert.head → IsFirstCertFault start cert.lines e → IsRefusalOf start cert e
+  line : {e : CheckErr} → HasNumbers start cert.head → IsFirstCertFault cert.form start cert.entries e
+      → IsRefusalOf start cert e
 
--- A certificate is accepted: its numbers are those of the run, and its lines yield a waveform of all places, none of
--- which is optimistic; its logs name variables of their queries.
+-- A certificate is accepted: its numbers are those of the run, its lines of Line places yield a waveform of all places,
+-- none of which is optimistic, its logs name variables of their queries, and behind each line stand its turns.
 pub record IsAccepted (start : Contents) (cert : Cert) (waveform : List Written) : Type 0 where
   pub numbers : HasNumbers start cert.head
   pub long : length waveform ≡ places_of (job start)
-  pub yields : Yields (job start) start.limit (shown_in start) waveform cert.lines
+  pub yields : Yields (job start) start.limit (shown_in start) waveform (lines_in cert.entries)
   pub honest : IsHonest (shown_in start) waveform
-  pub logs : (place : ℕ) (body : Body) → place < length waveform → body_at (job start) cert.lines place ≡ Some body
-      → BodyFitsAt start waveform place body
+  pub logs : (place : ℕ) (body : Body) → place < length waveform
+      → body_at (job start) (lines_in cert.entries) place ≡ Some body → BodyFitsAt start waveform place body
+  pub turned : AreTurned cert.form (job start) start.limit waveform cert.entries

@@ -2,14 +2,17 @@
 use Rattle.std.specs.Prelude.{◌≡◌, List, []}
 use Rattle.xr_design.specs.declared.place.Place.{Place}
 use Rattle.xr_design.specs.Filling.{IsPlace}
-use Rattle.xr_model.specs.declared.line.Line.{Line as ALine}
 use Rattle.xr_wave.specs.Contents.{Contents, IsFinished, IsWave, job}
 use Rattle.xr_wave.specs.declared.advance.Optimistic.{Optimistic}
 use Rattle.xr_cert_text.specs.declared.cert.Cert.{Cert as ACert}
 use Rattle.xr_cert_text.specs.Text.{cert_text}
 use Rattle.xr_cert_text.specs.Wrong.{IsTextOf}
 use Rattle.xr_cert.specs.Checked.{IsAccepted, IsChecked, IsRefusalOf}
-use Rattle.xr_cert.specs.Step.{cert_of}
+use Rattle.xr_cond.specs.View.{ConditionView}
+use Rattle.xr_cert_text.specs.declared.cert.Entry.{Entry}
+use Rattle.xr_cert_text.specs.declared.cert.Form.{Form}
+use Rattle.xr_cert.specs.Entries.{AreConditionsFor}
+use Rattle.xr_cert.specs.Step.{cert_in}
 use Rattle.xr_along.specs.Along.{GoesAlong}
 use Rattle.xr_cert.specs.Walk.{IsFirstCertFault}
 use Rattle.xr_cert.specs.declared.refusal.CertFault.TheVariants.{Missing}
@@ -38,23 +41,27 @@ IsReason e = e ≡ Memory → ⊥
 
 -- Lines have one first fault beside want of memory,
 abbrev pub OneFault : Type 0
-OneFault = (start : Contents) (lines : List ALine) (e f : CheckErr)
-    → IsFirstCertFault start lines e → IsFirstCertFault start lines f → IsReason e → IsReason f → IsSameFault e f
+OneFault = (form : Form) (start : Contents) (entries : List Entry) (e f : CheckErr) → start.lines ≡ []
+    → IsFirstCertFault form start entries e → IsFirstCertFault form start entries f → IsReason e → IsReason f
+    → IsSameFault e f
 
 -- and none where they are those of a checked certificate.
 abbrev pub CheckedHasNone : Type 0
-CheckedHasNone = (start : Contents) (cert : ACert) (c : Contents) (e : CheckErr) → start.lines ≡ []
-    → IsChecked start cert c → IsFirstCertFault start cert.lines e → IsReason e → ⊥
+CheckedHasNone = (start : Contents) (cert : ACert) (c : Contents) (conditions : List ConditionView) (e : CheckErr)
+    → start.lines ≡ [] → IsChecked start cert c conditions → IsFirstCertFault cert.form start cert.entries e
+    → IsReason e → ⊥
 
--- The certificate of a finished wave that went along lines from nothing is accepted, and yields the wave.
+-- The certificate of a form of a finished wave that went along lines from nothing is accepted, and yields the wave.
 abbrev pub OwnAccepted : Type 0
-OwnAccepted = (start c : Contents) → start.written ≡ [] → start.lines ≡ [] → GoesAlong start c → IsWave c → IsFinished c
-    → IsAccepted start (cert_of c) c.written
+OwnAccepted = (form : Form) (start c : Contents) (conditions : List ConditionView) → start.written ≡ []
+    → start.lines ≡ [] → GoesAlong start c → IsWave c → IsFinished c → AreConditionsFor form c conditions
+    → IsAccepted start (cert_in form c conditions) c.written
 
 -- The text of such a wave, finished or not, stands for its certificate: so it is read back.
 abbrev pub OwnTextStands : Type 0
-OwnTextStands = (start c : Contents) → start.lines ≡ [] → GoesAlong start c → IsWave c
-    → IsTextOf (cert_text (cert_of c)) (cert_of c)
+OwnTextStands = (form : Form) (start c : Contents) (conditions : List ConditionView) → start.lines ≡ []
+    → GoesAlong start c → IsWave c → AreConditionsFor form c conditions
+    → IsTextOf (cert_text (cert_in form c conditions)) (cert_in form c conditions)
 
 -- The place that lacks its line is one of the job, and so is the one that the history knows otherwise.
 abbrev pub MissingIsPlace : Type 0
@@ -62,5 +69,5 @@ MissingIsPlace = (start : Contents) (cert : ACert) (place : Place) → IsRefusal
     → IsPlace (job start) place
 
 abbrev pub ObjectionIsPlace : Type 0
-ObjectionIsPlace = (start : Contents) (cert : ACert) (objection : Optimistic) → IsRefusalOf start cert (Objects objection)
-    → IsPlace (job start) objection.place
+ObjectionIsPlace = (start : Contents) (cert : ACert) (objection : Optimistic)
+    → IsRefusalOf start cert (Objects objection) → IsPlace (job start) objection.place

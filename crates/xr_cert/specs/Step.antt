@@ -1,22 +1,43 @@
 -- One line of the walk.
-use Rattle.std.specs.Prelude.{◌≡◌, List, [], ◌∷◌, ◌++◌, length}
+use Rattle.std.specs.Prelude.{◌≡◌, ℕ, List, [], ◌∷◌, length}
 use Rattle.xr_design.specs.Fits.{place_at}
 use Rattle.xr_model.specs.declared.line.Body.{Body}
 use Rattle.xr_model.specs.declared.line.Body.TheVariants as body
-use Rattle.xr_cert_text.specs.declared.cert.Cert.{Cert}
 use Rattle.xr_model.specs.declared.line.Line.{Line as ALine}
-use Rattle.xr_wave.specs.Contents.{Contents, IsFinished, IsWave, job, next_number, next_seen, shown_in}
+use Rattle.xr_wave.specs.Contents.{Contents, job, next_number}
 use Rattle.xr_wave.specs.Token.{HoldsNext, LineAgrees, with_line}
 use Rattle.xr_wave.specs.declared.token.How.{How}
 use Rattle.xr_wave.specs.declared.token.How.TheVariants.{Enumerated, Refuted}
+use Rattle.xr_cond.specs.View.{ConditionView}
 use Rattle.xr_along.specs.Accepted.{AcceptsLine, IsLater, NamesNext}
-use Rattle.xr_wave.specs.Advance.{IsPlain}
-use Rattle.xr_along.specs.Along.{GoesAlong}
-use Rattle.xr_laws.specs.Alike.{IsOneFor, IsOneForHistories}
-use Rattle.xr_cert.specs.Walk.{IsCertFault, IsFirstCertFault}
+use Rattle.xr_cert_text.specs.declared.cert.Cert.{Cert}
+use Rattle.xr_cert_text.specs.declared.cert.Entry.{Entry}
+use Rattle.xr_cert_text.specs.declared.cert.Entry.TheVariants.{Line}
+use Rattle.xr_cert_text.specs.declared.cert.Form.{Form}
+use Rattle.xr_cert_text.specs.declared.cert.Form.TheVariants.{Lines}
+use Rattle.xr_cert.specs.Entries.{entries_of}
+use Rattle.xr_cert.specs.Walk.{IsCertFault}
 use Rattle.xr_cert.specs.declared.due.Due.{Due}
 use Rattle.xr_cert.specs.declared.due.Due.TheVariants.{Here, Later, Astray}
 use Rattle.xr_cert.specs.declared.refusal.CheckErr.{CheckErr}
+use Rattle.xr_cert.specs.declared.refusal.CheckErr.TheVariants.{Memory}
+
+-- The certificate of a form of a wave: the numbers of its run, its lines, and the turns of conditions behind these.
+abbrev pub cert_in : Form → Contents → List ConditionView → Cert
+cert_in form c conditions = record {
+  form = form;
+  head = record {
+    rounds = c.stim.rounds;
+    conflicts = c.limit;
+    moments = length c.stim.times;
+    nets = length c.design.nets;
+  };
+  entries = entries_of c.lines conditions;
+}
+
+-- That of form 1.
+abbrev pub cert_of : Contents → Cert
+cert_of c = cert_in Lines c []
 
 -- Whether a line is of the next place, of a later one, or of neither.
 abbrev pub IsDue : Contents → ALine → Due → Type 0
@@ -30,21 +51,10 @@ pub record IsSpent (c : Contents) (line : ALine) (after : Contents) : Type 0 whe
   pub agrees : LineAgrees c line
   pub is : after ≡ with_line c line
 
--- The wave can't go on by a line, whatever stands after it.
-abbrev pub Stops : Contents → ALine → CheckErr → Type 0
-Stops c line e = (rest : List ALine) → IsCertFault c (line ∷ rest) e
-
--- The certificate of a wave: the numbers of its run, and its lines.
-abbrev pub cert_of : Contents → Cert
-cert_of c = record {
-  head = record {
-    rounds = c.stim.rounds;
-    conflicts = c.limit;
-    moments = length c.stim.times;
-    nets = length c.design.nets;
-  };
-  lines = c.lines;
-}
+-- The wave can't go on by a line of this number, whatever stands after it, or there is no memory.
+pub data Stops (c : Contents) (number : ℕ) (line : ALine) : CheckErr → Type 0 where
+  faults : {e : CheckErr} → ((rest : List Entry) → IsCertFault c number (Line line ∷ rest) e) → Stops c number line e
+  no_memory : Stops c number line Memory
 
 -- The line of the next place with a body.
 abbrev pub next_line : Contents → Body → ALine
@@ -53,39 +63,8 @@ next_line c body = record { place = place_at (job c) (next_number c); body = bod
 abbrev pub IsSpentBy : Contents → Body → Contents → Type 0
 IsSpentBy c body after = IsSpent c (next_line c body) after
 
-abbrev pub BodyStops : Contents → Body → CheckErr → Type 0
-BodyStops c body e = Stops c (next_line c body) e
-
--- A wave has gone along lines up to a Line place, or to the end: from one wave to another by these lines.
-pub record GoesBy (start : Contents) (lines : List ALine) (c : Contents) : Type 0 where
-  pub goes : GoesAlong start c
-  pub lines_are : c.lines ≡ start.lines ++ lines
-  pub stops : IsPlain (next_seen c) → ⊥
-
-abbrev pub IsAlong : Contents → Contents → Type 0
-IsAlong start c = GoesBy start [] c
-
-abbrev pub IsTaken : Contents → ALine → Contents → Type 0
-IsTaken start line c = GoesBy start (line ∷ []) c
-
--- It went along all lines and to the end.
-pub record IsDoneAlong (start : Contents) (lines : List ALine) (c : Contents) : Type 0 where
-  pub along : GoesBy start lines c
-  pub finished : IsFinished c
-  pub wave : IsWave c
-  pub one : IsOneFor (job c) (shown_in c) c.written
-  pub alike : IsOneForHistories (job c) c.written
-
--- It stops at the first fault of lines,
-abbrev pub StopsAt : Contents → List ALine → CheckErr → Type 0
-StopsAt start lines e = IsFirstCertFault start lines e
-
--- whatever stands after them.
-abbrev pub EndsAt : Contents → CheckErr → Type 0
-EndsAt start e = (rest : List ALine) → IsFirstCertFault start rest e
-
-abbrev pub StopsBy : Contents → ALine → CheckErr → Type 0
-StopsBy start line e = (rest : List ALine) → IsFirstCertFault start (line ∷ rest) e
+abbrev pub BodyStops : Contents → ℕ → Body → CheckErr → Type 0
+BodyStops c number body e = Stops c number (next_line c body) e
 
 -- A body isn't accepted at the next place.
 abbrev pub Refuses : Contents → Body → Type 0

@@ -1,7 +1,7 @@
 -- The words of a refused certificate.
 use Rattle.std.specs.Prelude.{ℕ, List, ◌++◌, codes, decimal}
 use Rattle.xr_cert.specs.declared.refusal.CertFault.{CertFault}
-use Rattle.xr_cert.specs.declared.refusal.CertFault.TheVariants.{Syntax, Header, Missing, Stray, BadLog, BadPair, BadEnum}
+use Rattle.xr_cert.specs.declared.refusal.CertFault.TheVariants.{Syntax, Header, Missing, Stray, BadLog, BadPair, BadEnum, BadTurn}
 
 -- The number of a line, and a word.
 abbrev pub line_says : ℕ → List ℕ → List ℕ
@@ -16,3 +16,4 @@ fault_text (Stray line) = line_says line (codes "stray")
 fault_text (BadLog line) = line_says line (codes "log")
 fault_text (BadPair line) = line_says line (codes "pair")
 fault_text (BadEnum line) = line_says line (codes "enumeration")
+fault_text (BadTurn line) = line_says line (codes "turn")

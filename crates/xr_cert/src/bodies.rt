@@ -6,7 +6,6 @@ ghost use Rattle.xr_model.specs.declared.line.Body.TheVariants as body;
 ghost use Rattle.xr_wave.specs.Contents.{IsWave};
 ghost use Rattle.xr_wave.specs.Token.{IsLineNext, LineHolds, settled_line};
 ghost use Rattle.xr_cert.specs.Step.{BodyStops, IsEnumeration, IsSpentBy};
-ghost use Rattle.xr_cert.specs.Walk.{due_line};
 
 use crate::logs::{exhausted_token, refuted_token};
 use crate::pairs::pair_token;
@@ -33,9 +32,8 @@ pub fn spend_body<'a>(
 ) -> Result<Wave<'a>, CheckErr>
     requires class { IsLineNext wave }
     requires cone { IsNextCone wave cone.now.nodes }
-    requires due { line ≡ due_line wave }
     ensures ok { IfOk result (IsSpentBy wave.entry body) }
-    ensures err { IfErr result (BodyStops wave.entry body) }
+    ensures err { IfErr result (BodyStops wave.entry line body) }
 {
     match body {
         Body::Enumerated(bit) => spend_enumerated(alloc, wave, cone, bit, line),
@@ -55,9 +53,8 @@ fn spend_enumerated<'a>(
 ) -> Result<Wave<'a>, CheckErr>
     requires class { IsLineNext wave }
     requires cone { IsNextCone wave cone.now.nodes }
-    requires due { line ≡ due_line wave }
     ensures ok { IfOk result (IsSpentBy wave.entry (body.Enumerated bit)) }
-    ensures err { IfErr result (BodyStops wave.entry (body.Enumerated bit)) }
+    ensures err { IfErr result (BodyStops wave.entry line (body.Enumerated bit)) }
 {
     if cone.sources().len() > ENUMERATED {
         return Err(CheckErr::Refused(CertFault::BadEnum { line }));
@@ -83,9 +80,8 @@ fn spend_bit<'a>(
     requires wave { IsWave wave }
     requires holds { LineHolds wave (settled_line proof) }
     requires enumeration { IsEnumeration proof.how }
-    requires due { line ≡ due_line wave }
     ensures ok { IfOk result (IsSpentBy wave.entry (body.Enumerated bit)) }
-    ensures err { IfErr result (BodyStops wave.entry (body.Enumerated bit)) }
+    ensures err { IfErr result (BodyStops wave.entry line (body.Enumerated bit)) }
 {
     if proof.value() == bit {
         return spend_settled(wave, proof);
@@ -105,9 +101,8 @@ fn spend_refuted<'a>(
 ) -> Result<Wave<'a>, CheckErr>
     requires class { IsLineNext wave }
     requires cone { IsNextCone wave cone.now.nodes }
-    requires due { line ≡ due_line wave }
     ensures ok { IfOk result (IsSpentBy wave.entry (body.Refuted bit log)) }
-    ensures err { IfErr result (BodyStops wave.entry (body.Refuted bit log)) }
+    ensures err { IfErr result (BodyStops wave.entry line (body.Refuted bit log)) }
 {
     match refuted_token(alloc, &wave, cone, bit, log) {
         Ok(Some(proof)) => spend_settled(wave, proof),
@@ -127,9 +122,8 @@ fn spend_fillings<'a>(
 ) -> Result<Wave<'a>, CheckErr>
     requires class { IsLineNext wave }
     requires cone { IsNextCone wave cone.now.nodes }
-    requires due { line ≡ due_line wave }
     ensures ok { IfOk result (IsSpentBy wave.entry (body.Pair zero one)) }
-    ensures err { IfErr result (BodyStops wave.entry (body.Pair zero one)) }
+    ensures err { IfErr result (BodyStops wave.entry line (body.Pair zero one)) }
 {
     match pair_token(alloc, &wave, cone, zero, one) {
         Ok(Some(proof)) => spend_pair(wave, proof),
@@ -148,9 +142,8 @@ fn spend_undecided<'a>(
 ) -> Result<Wave<'a>, CheckErr>
     requires class { IsLineNext wave }
     requires cone { IsNextCone wave cone.now.nodes }
-    requires due { line ≡ due_line wave }
     ensures ok { IfOk result (IsSpentBy wave.entry (body.Undecided log)) }
-    ensures err { IfErr result (BodyStops wave.entry (body.Undecided log)) }
+    ensures err { IfErr result (BodyStops wave.entry line (body.Undecided log)) }
 {
     match exhausted_token(alloc, &wave, cone, log) {
         Ok(Some(proof)) => spend_budget(wave, proof),

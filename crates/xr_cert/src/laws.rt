@@ -19,8 +19,8 @@ pub fn own_text_reads_back()
     ensures { spec.OwnTextStands }
 {}
 
-/// The places that a check of a certificate names are those of the job: one that lacks its line, and one that the history
-/// knows otherwise.
+/// The places that a check of a certificate names are those of the job: one that lacks its line, and one that the
+/// history knows otherwise.
 pub fn refusals_name_places()
     ensures missing { spec.MissingIsPlace }
     ensures objection { spec.ObjectionIsPlace }

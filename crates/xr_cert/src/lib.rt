@@ -1,24 +1,31 @@
-//! Certificates: written from a finished wave, read, and checked by themselves. A certificate that is checked gives a
-//! finished wave, sound and yielded by exactly its lines; any other is refused with its first fault.
+//! Certificates of both forms: written from a finished wave and its conditions, read, and checked by themselves. A
+//! certificate that is checked gives a finished wave, sound and yielded by exactly its lines, and in form 2 the
+//! conditions that its turns make; any other is refused with its first fault.
 //!
-//! Start at `check_cert` and specs/Checked.antt, then at specs/Walk.antt.
+//! Start at `check_cert` and specs/Checked.antt, then at specs/Walk.antt and specs/Entries.antt; specs/Standing.antt
+//! says where the walk of the code stands between two lines.
 #![tactic(auto)]
 
 mod bodies;
 mod check;
 mod due;
 mod laws;
+mod lines;
 mod logs;
 mod pairs;
 mod refusal;
 mod spend;
 mod text;
 mod told;
+mod turned;
+mod walk;
+mod walked;
+mod written;
 
-pub use check::check_cert;
+pub use check::{Checked, check_cert};
 pub use laws::{
     faults_are_one, own_certificate_is_accepted, own_text_reads_back, refusals_name_places,
 };
 pub use refusal::{CertErr, CertFault, CheckErr};
 pub use text::{read_cert, write_cert};
-pub use xr_cert_text::{Cert, Head};
+pub use xr_cert_text::{Cert, Entry, Form, Head};

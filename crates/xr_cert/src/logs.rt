@@ -1,7 +1,6 @@
 //! The logs of lines, checked against the query of the next place.
 
-ghost use Rattle.std.specs.Prelude.{◌≡◌, ◌<◌, ◌≤◌, ◌^◌, ◌↔◌, IfNone, IfOk, IfSome, IsTrue, length, nat_abs};
-ghost use Rattle.std.specs.List.{All};
+ghost use Rattle.std.specs.Prelude.{◌≡◌, ◌<◌, ◌≤◌, ◌^◌, ◌↔◌, IfNone, IfOk, IfSome, IsTrue, length};
 ghost use Rattle.xr_cone_nodes.specs.Traced.{IsNextCone};
 ghost use Rattle.xr_cnf.specs.Query.{IsQueryOfNodes};
 ghost use Rattle.xr_cone_nodes.specs.Nodes.{nothing, root_bit, sources_of};
@@ -14,7 +13,8 @@ use std::alloc::Global;
 use xr_base::Memory;
 use xr_cnf::clauses;
 use xr_cone::Cone;
-use xr_proof::{Checker, Clause, Cnf, Log};
+use xr_proof::{Cnf, Log};
+use xr_turns::logs::{checker_for, fits};
 use xr_wave::{Budget, How, Settled, Wave};
 
 /// A place isn't undecided with up to this many sources.
@@ -121,47 +121,4 @@ fn fresh_token(
         Ok(proof) => Ok(Some(Budget::from_law(wave, proof.into_log()))),
         Err(_) => Ok(None),
     }
-}
-
-/// Whether a log names variables up to this one alone.
-fn fits(log: &Log, vars: u32) -> bool
-    ensures { IsTrue result ↔ Fit vars log.now }
-{
-    let clauses = log.as_slice();
-    'clauses: for place in 0..clauses.len() {
-        if !clause_fits(clauses[place].as_slice(), vars) {
-            return false;
-        }
-    }
-    true
-}
-
-fn clause_fits(literals: &[i32], vars: u32) -> bool
-    ensures { IsTrue result ↔ All (λ l. nat_abs l ≤ vars) literals.now }
-{
-    'literals: for literal in literals {
-        if literal.unsigned_abs() > vars {
-            return false;
-        }
-    }
-    true
-}
-
-/// A checker with room for a formula and a log.
-fn checker_for(alloc: Global, query: &Cnf, log: &Log) -> Result<Checker, Memory>
-    requires { query.now.vars ≤ 2 ^ 27 }
-    ensures { IfOk result (λ checker. checker ≡ query.now.vars) }
-{
-    let formula = query.clauses.as_slice();
-    let count = formula.len().saturating_add(log.as_slice().len());
-    let literals = literals_of(formula).saturating_add(literals_of(log.as_slice()));
-    Checker::with_room(alloc, query.vars, count, literals)
-}
-
-fn literals_of(clauses: &[Clause]) -> usize {
-    let mut count: usize = 0;
-    'clauses: for place in 0..clauses.len() {
-        count = count.saturating_add(clauses[place].as_slice().len());
-    }
-    count
 }

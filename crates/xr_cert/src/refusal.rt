@@ -25,6 +25,9 @@ pub enum CertFault {
     BadPair { line: usize },
     /// The place has more than 12 sources, or some filling gives the other bit.
     BadEnum { line: usize },
+    /// A turn is due, and this line isn't the turn line of its place, or what it says doesn't hold; or it is the last
+    /// one.
+    BadTurn { line: usize },
 }
 
 /// Why a text isn't read.
@@ -59,6 +62,7 @@ impl fmt::Display for CertFault {
             CertFault::BadLog { line } => write!(f, "certificate line {line}: log"),
             CertFault::BadPair { line } => write!(f, "certificate line {line}: pair"),
             CertFault::BadEnum { line } => write!(f, "certificate line {line}: enumeration"),
+            CertFault::BadTurn { line } => write!(f, "certificate line {line}: turn"),
         }
     }
 }

@@ -1,6 +1,6 @@
 //! Spending what a line shows of the next place.
 
-ghost use Rattle.std.specs.Prelude.{IfErr, IfOk};
+ghost use Rattle.std.specs.Prelude.{ℕ, IfErr, IfOk};
 ghost use Rattle.xr_wave.specs.Token.{IsLineNext, budget_line, pair_line, settled_line};
 ghost use Rattle.xr_along.specs.Accepted.{AcceptsLine};
 ghost use Rattle.xr_cert.specs.Step.{IsSpent, Stops};
@@ -13,7 +13,7 @@ pub fn spend_settled<'a>(wave: Wave<'a>, proof: Settled) -> Result<Wave<'a>, Che
     requires class { IsLineNext wave }
     requires token { AcceptsLine wave (settled_line proof) }
     ensures ok { IfOk result (IsSpent wave.entry (settled_line proof)) }
-    ensures err { IfErr result (Stops wave.entry (settled_line proof)) }
+    ensures err { (number : ℕ) → IfErr result (Stops wave.entry number (settled_line proof)) }
 {
     if wave.contradicts_settled(&proof) {
         return Err(CheckErr::Optimistic(wave.object_settled(proof)));
@@ -32,7 +32,7 @@ pub fn spend_pair<'a>(wave: Wave<'a>, proof: Pair) -> Result<Wave<'a>, CheckErr>
     requires class { IsLineNext wave }
     requires token { AcceptsLine wave (pair_line proof) }
     ensures ok { IfOk result (IsSpent wave.entry (pair_line proof)) }
-    ensures err { IfErr result (Stops wave.entry (pair_line proof)) }
+    ensures err { (number : ℕ) → IfErr result (Stops wave.entry number (pair_line proof)) }
 {
     if wave.contradicts_pair(&proof) {
         return Err(CheckErr::Optimistic(wave.object_pair(proof)));
@@ -51,7 +51,7 @@ pub fn spend_budget<'a>(wave: Wave<'a>, proof: Budget) -> Result<Wave<'a>, Check
     requires class { IsLineNext wave }
     requires token { AcceptsLine wave (budget_line proof) }
     ensures ok { IfOk result (IsSpent wave.entry (budget_line proof)) }
-    ensures err { IfErr result (Stops wave.entry (budget_line proof)) }
+    ensures err { (number : ℕ) → IfErr result (Stops wave.entry number (budget_line proof)) }
 {
     match wave.defer(proof) {
         Ok(wave) => Ok(wave),

@@ -6,18 +6,27 @@ ghost use Rattle.xr_cert_text.specs.Text.{cert_text};
 ghost use Rattle.xr_cert_text.specs.Wrong.{IsTextOf};
 ghost use Rattle.xr_cert.specs.Checked.{IsReadRefusal};
 ghost use Rattle.xr_cert.specs.declared.refusal.CertErr.TheVariants.{Memory as OutOfMemory};
-ghost use Rattle.xr_cert.specs.Step.{cert_of};
+ghost use Rattle.xr_cert.specs.Step.{cert_in};
 
 use crate::refusal::{CertErr, CertFault};
+use crate::written::put_lines;
 use std::alloc::Global;
 use xr_base::Memory;
-use xr_cert_text::{Cert, Head, TextErr, read_text, write_text};
+use xr_cert_read::{TextErr, read_text};
+use xr_cert_text::{Cert, Form, Head, put_beginning, put_end};
+use xr_cond::Condition;
 use xr_design::width_of;
 use xr_wave::Wave;
 
-/// The text of a wave's lines. Takes the text's bytes.
-pub fn write_cert(alloc: Global, wave: &Wave<'_>) -> Result<Vec<u8>, Memory>
-    ensures { IfOk result (λ text. text.items ≡ cert_text (cert_of wave.now)) }
+/// The text of a wave's certificate of a form: its lines, and behind each that gives a bit the turns of the next
+/// condition. Takes the text's bytes, in steps that double.
+pub fn write_cert(
+    alloc: Global,
+    wave: &Wave<'_>,
+    form: Form,
+    conditions: &[Condition],
+) -> Result<Vec<u8>, Memory>
+    ensures { IfOk result (λ text. text.items ≡ cert_text (cert_in form wave.now conditions.now)) }
 {
     let circuit = wave.circuit();
     let head = Head {
@@ -26,7 +35,11 @@ pub fn write_cert(alloc: Global, wave: &Wave<'_>) -> Result<Vec<u8>, Memory>
         moments: circuit.stim.times.as_slice().len() as u32,
         nets: width_of(&circuit) as u32,
     };
-    write_text(alloc, head, wave.lines())
+    let mut text = Vec::new(alloc);
+    put_beginning(&mut text, form, head)?;
+    let count = put_lines(&mut text, wave.lines(), conditions)?;
+    put_end(&mut text, count)?;
+    Ok(text)
 }
 
 /// The certificate that a text stands for, or its first wrong line. Takes the memory of the lines.

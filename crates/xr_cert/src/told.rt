@@ -1,6 +1,6 @@
 //! Bodies that lanes tell to hold at the next place, without its cone.
 
-ghost use Rattle.std.specs.Prelude.{IfErr, IfOk, IsTrue};
+ghost use Rattle.std.specs.Prelude.{ℕ, IfErr, IfOk, IsTrue};
 ghost use Rattle.xr_lanes.specs.Lanes.{IsLookedAt, IsRightOf};
 ghost use Rattle.xr_model.specs.declared.line.Body.TheVariants as body;
 ghost use Rattle.xr_wave.specs.Token.{HoldsNext, IsLineNext};
@@ -55,7 +55,7 @@ pub fn spend_told<'a>(wave: Wave<'a>, body: Body) -> Result<Wave<'a>, CheckErr>
     requires class { IsLineNext wave }
     requires told { IsTold wave body }
     ensures ok { IfOk result (IsSpentBy wave.entry body) }
-    ensures err { IfErr result (BodyStops wave.entry body) }
+    ensures err { (number : ℕ) → IfErr result (BodyStops wave.entry number body) }
 {
     match body {
         Body::Pair(zero, one) => {

@@ -1,34 +1,12 @@
--- Texts that grow word by word, and numbers that grow digit by digit.
-use Rattle.std.proofs.Common.{◌≡◌, ℕ, suc, ◌+◌, ◌-◌, ◌*◌, ◌<◌, ◌≤◌, List, [], ◌∷◌, ◌++◌, length, slice_index, drop, get_or, map, None, refl, sym, ◌∙◌, ap, append_assoc, add-one, drop-cons, arith}
+-- Texts that grow word by word.
+use Rattle.std.proofs.Common.{◌≡◌, ℕ, suc, ◌+◌, ◌<◌, List, [], ◌∷◌, ◌++◌, length, drop, get_or, map, refl, sym, ◌∙◌, ap, append_assoc, add-one, drop-cons}
 use Rattle.std.specs.Prelude.{codes}
 use Rattle.std.specs.List.{flat_map}
+use Rattle.std.proofs.lemmas.Grind.{flat_map-append}
 use Rattle.std.proofs.lemmas.List.{append-nil}
-use Rattle.std.proofs.lemmas.Bool.Decides.{nat_tests}
-use Rattle.xr_cert_text.specs.Numbers.{at_most, number_from}
-use Rattle.xr_cert_text.specs.Pieces.{joined_by, spaced}
-
--- A number only grows by more digits.
-number_from-le : (n : ℕ) (ds : List ℕ) → n ≤ number_from n ds
-number_from-le n [] = omega arith
-number_from-le n (d ∷ ds) = omega (arith, number_from-le (n * 10 + (d - 48)) ds)
-
-at_most-past : (limit n : ℕ) → limit < n → at_most limit n ≡ None
-at_most-past limit n lt = grind (arith, nat_tests)
-
-past_at_most : (limit n : ℕ) → None ≡ at_most limit n → limit < n
-past_at_most limit n h = grind (arith, nat_tests)
-
-past : (limit n d : ℕ) (ds : List ℕ) → None ≡ at_most limit (number_from n (d ∷ []))
-    → at_most limit (number_from n (d ∷ ds)) ≡ None
-past limit n d ds h =
-    let lt : limit < n * 10 + (d - 48) = past_at_most limit (n * 10 + (d - 48)) h in
-    at_most-past limit (number_from (n * 10 + (d - 48)) ds) (omega (arith, lt, number_from-le (n * 10 + (d - 48)) ds))
-
--- A number that is over the limit stays so.
-pub past_from : (limit n : ℕ) (ds : List ℕ) (d : ℕ) → 1 ≤ length ds → None ≡ at_most limit (n * 10 + (slice_index ds 0 - 48))
-    → at_most limit (number_from n ds) ≡ None
-past_from limit n [] d lt h = absurd (omega (arith, lt))
-past_from limit n (x ∷ ds) d lt h = past limit n x ds h
+use Rattle.xr_cert_text.specs.declared.cert.Cert.{Cert}
+use Rattle.xr_cert_text.specs.Pieces.{joined_by, line_of_words, spaced}
+use Rattle.xr_cert_text.specs.Text.{beginning_text, cert_text, end_text, end_words, entry_text, head_words, title, with_newline}
 
 pub spaced-append : (vs ws : List (List ℕ)) → spaced (vs ++ ws) ≡ spaced vs ++ spaced ws
 spaced-append [] ws = refl
@@ -72,3 +50,16 @@ pub head_grown : (text a b c d : List ℕ)
     → ((((text ++ (codes "rounds " ++ a)) ++ (codes " conflicts " ++ b)) ++ (codes " moments " ++ c)) ++ (codes " nets " ++ d)) ++ codes "\n"
     ≡ text ++ (codes "rounds " ++ a ++ codes " conflicts " ++ b ++ codes " moments " ++ c ++ codes " nets " ++ d ++ codes "\n")
 head_grown text a b c d = simp append_assoc
+
+-- A text is its beginning, the lines between, and its end.
+pub cert_text_parts : (cert : Cert) → cert_text cert
+    ≡ beginning_text cert.form cert.head ++ flat_map with_newline (map entry_text cert.entries) ++ end_text (length cert.entries)
+cert_text_parts cert =
+    let first : List ℕ = with_newline (title cert.form) in
+    let second : List ℕ = with_newline (line_of_words (head_words cert.head)) in
+    let last : List ℕ = line_of_words (end_words (length cert.entries)) in
+    let middle : List ℕ = flat_map with_newline (map entry_text cert.entries) in
+    let rest : flat_map with_newline (map entry_text cert.entries ++ last ∷ []) ≡ middle ++ with_newline last =
+    flat_map-append with_newline (map entry_text cert.entries) (last ∷ []) ∙ ap (λ t. middle ++ t) (append-nil (with_newline last)) in
+    ap (λ t. first ++ (second ++ t)) rest
+    ∙ (sym (append_assoc first second (middle ++ with_newline last)) ∙ sym (append_assoc (first ++ second) middle (with_newline last)))

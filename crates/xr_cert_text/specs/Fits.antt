@@ -1,12 +1,18 @@
--- Which certificates have a text: numbers of places and of the second line are below 2^32, variables below 2^31, and a
--- log has at least one clause.
+-- Which certificates have a text: numbers of places and of the second line are below 2^32, variables below 2^31, a log
+-- has at least one clause, a model at least one value, and in form 1 there are no turns.
 use Rattle.std.specs.Prelude.{◌≢◌, ℤ, pos, ◌<◌, ◌^◌, List, length, nat_abs}
 use Rattle.std.specs.List.{AllByRecursion}
 use Rattle.xr_design.specs.declared.place.Place.{Place}
 use Rattle.xr_model.specs.declared.line.Body.{Body}
 use Rattle.xr_model.specs.declared.line.Body.TheVariants.{Enumerated, Refuted, Pair, Undecided}
 use Rattle.xr_model.specs.declared.line.Line.{Line}
+use Rattle.xr_model.specs.declared.turn.Turn.{Turn}
+use Rattle.xr_model.specs.declared.turn.Turn.TheVariants.{Dropped, Needed, Tried}
+use Rattle.xr_model.specs.declared.turn.TurnLine.{TurnLine}
 use Rattle.xr_cert_text.specs.declared.cert.Cert.{Cert}
+use Rattle.xr_cert_text.specs.declared.cert.Entry.{Entry}
+use Rattle.xr_cert_text.specs.declared.cert.Form.{Form}
+use Rattle.xr_cert_text.specs.declared.cert.Form.TheVariants.{Lines, Turns}
 use Rattle.xr_cert_text.specs.declared.cert.Head.{Head}
 
 pub record FitsPlace (place : Place) : Type 0 where
@@ -34,6 +40,20 @@ pub record FitsLine (line : Line) : Type 0 where
   pub place : FitsPlace line.place
   pub body : FitsBody line.body
 
+abbrev pub FitsTurn : Turn → Type 0
+FitsTurn (Dropped log) = FitsLog log
+FitsTurn (Needed model) = 0 < length model
+FitsTurn (Tried log) = FitsLog log
+
+pub record FitsTurnLine (line : TurnLine) : Type 0 where
+  pub place : FitsPlace line.place
+  pub turn : FitsTurn line.turn
+
+abbrev pub FitsEntry : Form → Entry → Type 0
+FitsEntry form (Entry.Line line) = FitsLine line
+FitsEntry Lines (Entry.Turn line) = ⊥
+FitsEntry Turns (Entry.Turn line) = FitsTurnLine line
+
 pub record FitsHead (head : Head) : Type 0 where
   pub rounds : head.rounds < 2 ^ 32
   pub conflicts : head.conflicts < 2 ^ 32
@@ -42,5 +62,5 @@ pub record FitsHead (head : Head) : Type 0 where
 
 pub record FitsCert (cert : Cert) : Type 0 where
   pub head : FitsHead cert.head
-  pub lines : AllByRecursion FitsLine cert.lines
-  pub count : length cert.lines < 2 ^ 64
+  pub entries : AllByRecursion (FitsEntry cert.form) cert.entries
+  pub count : length cert.entries < 2 ^ 64

@@ -6,7 +6,13 @@ use Rattle.xr_design.specs.declared.place.Place.{Place}
 use Rattle.xr_model.specs.declared.line.Body.{Body}
 use Rattle.xr_model.specs.declared.line.Body.TheVariants.{Enumerated, Refuted, Pair, Undecided}
 use Rattle.xr_model.specs.declared.line.Line.{Line}
+use Rattle.xr_model.specs.declared.turn.Turn.{Turn}
+use Rattle.xr_model.specs.declared.turn.Turn.TheVariants.{Dropped, Needed, Tried}
+use Rattle.xr_model.specs.declared.turn.TurnLine.{TurnLine}
 use Rattle.xr_cert_text.specs.declared.cert.Cert.{Cert}
+use Rattle.xr_cert_text.specs.declared.cert.Entry.{Entry}
+use Rattle.xr_cert_text.specs.declared.cert.Form.{Form}
+use Rattle.xr_cert_text.specs.declared.cert.Form.TheVariants.{Lines, Turns}
 use Rattle.xr_cert_text.specs.declared.cert.Head.{Head}
 use Rattle.xr_cert_text.specs.Pieces.{line_of_words}
 
@@ -48,8 +54,40 @@ line_words line = body_letter line.body ∷ place_words line.place ++ body_words
 abbrev pub line_text : Line → List ℕ
 line_text line = line_of_words (line_words line)
 
-abbrev pub title : List ℕ
-title = codes "xrepair certificate 1"
+-- A turn is a letter, its place, and the log or the model. A model is a word of one digit for each variable.
+abbrev pub digit : Bool → ℕ
+digit false = 48
+digit true = 49
+
+abbrev pub model_word : List Bool → List ℕ
+model_word model = map digit model
+
+abbrev pub turn_letter : Turn → List ℕ
+turn_letter (Dropped log) = codes "-"
+turn_letter (Needed model) = codes "+"
+turn_letter (Tried log) = codes "~"
+
+abbrev pub turn_body_words : Turn → List (List ℕ)
+turn_body_words (Dropped log) = log_words log
+turn_body_words (Needed model) = model_word model ∷ []
+turn_body_words (Tried log) = log_words log
+
+abbrev pub turn_words : TurnLine → List (List ℕ)
+turn_words line = turn_letter line.turn ∷ place_words line.place ++ codes ":" ∷ turn_body_words line.turn
+
+abbrev pub turn_text : TurnLine → List ℕ
+turn_text line = line_of_words (turn_words line)
+
+abbrev pub entry_words : Entry → List (List ℕ)
+entry_words (Entry.Line line) = line_words line
+entry_words (Entry.Turn line) = turn_words line
+
+abbrev pub entry_text : Entry → List ℕ
+entry_text entry = line_of_words (entry_words entry)
+
+abbrev pub title : Form → List ℕ
+title Lines = codes "xrepair certificate 1"
+title Turns = codes "xrepair certificate 2"
 
 -- The numbers of the second line, each after its word.
 abbrev pub head_words : Head → List (List ℕ)
@@ -62,8 +100,8 @@ end_words count = codes "end" ∷ decimal count ∷ []
 
 -- The lines of a certificate.
 abbrev pub cert_lines : Cert → List (List ℕ)
-cert_lines cert = title ∷ line_of_words (head_words cert.head) ∷ map line_text cert.lines
-    ++ line_of_words (end_words (length cert.lines)) ∷ []
+cert_lines cert = title cert.form ∷ line_of_words (head_words cert.head) ∷ map entry_text cert.entries
+    ++ line_of_words (end_words (length cert.entries)) ∷ []
 
 -- Its text: a newline after each line.
 abbrev pub with_newline : List ℕ → List ℕ
@@ -71,3 +109,10 @@ with_newline line = line ++ 10 ∷ []
 
 abbrev pub cert_text : Cert → List ℕ
 cert_text cert = flat_map with_newline (cert_lines cert)
+
+-- The text in front of the lines between, and that after so many of them.
+abbrev pub beginning_text : Form → Head → List ℕ
+beginning_text form head = with_newline (title form) ++ with_newline (line_of_words (head_words head))
+
+abbrev pub end_text : ℕ → List ℕ
+end_text count = with_newline (line_of_words (end_words count))

@@ -1,8 +1,6 @@
 -- Which texts are certificates, and the first wrong line of one that isn't.
 use Rattle.std.specs.Prelude.{◌≡◌, ℕ, ◌+◌, List, [], ◌∷◌, ◌++◌, length}
 use Rattle.xr_cert_text.specs.declared.cert.Cert.{Cert}
-use Rattle.xr_cert_text.specs.declared.refusal.TextErr.{TextErr}
-use Rattle.xr_cert_text.specs.declared.refusal.TextErr.TheVariants.{Refused, Memory}
 use Rattle.xr_cert_text.specs.Fits.{FitsCert}
 use Rattle.xr_cert_text.specs.Pieces.{lines_in}
 use Rattle.xr_cert_text.specs.Text.{cert_lines, cert_text}
@@ -34,8 +32,3 @@ pub record IsFirstWrong (text : List ℕ) (line : ℕ) : Type 0 where
   pub number : line ≡ length front + 1
   pub viable : AreViable front
   pub wrong : IsWrongAfter text front piece rest
-
--- A text is refused for its first wrong line.
-abbrev pub IsTextRefusal : List ℕ → TextErr → Type 0
-IsTextRefusal text (Refused wrong) = IsFirstWrong text wrong.line
-IsTextRefusal text Memory = Unit {0}

@@ -1,24 +1,18 @@
-//! The text of a certificate: which texts stand for which lines, the writer, and the reader with its first wrong line.
+//! The text of a certificate of either form: which texts stand for which certificates, which line of a text is the
+//! first wrong one, and the writers.
 //!
-//! The text of a certificate is a function of it. A machine reads line by line (specs/Machine.antt), and each reader's
-//! contract is an equation of its runs; that both say the same is proved once. Time and memory are linear in the text.
-//! Start at specs/Text.antt, which says what is written, and at specs/Wrong.antt, which says what is refused; then at
-//! `write_text` and `read_text`.
+//! The text of a certificate is a function of it. Time and memory are linear in the text. Start at specs/Text.antt,
+//! which says what is written, and at specs/Wrong.antt, which says what is refused; then at `put_beginning`,
+//! `put_line`, `put_turn` and `put_end`, which write a text in this order. `xr_cert_read` reads it.
 #![tactic(auto)]
 
 mod cert;
-mod line;
-mod lines;
-mod logs;
-mod numbers;
-mod pieces;
-mod put_line;
-mod read;
-mod refusal;
-mod words;
+mod put_words;
 mod write;
+mod write_line;
+mod write_turn;
 
-pub use cert::{Cert, Head};
-pub use read::read_text;
-pub use refusal::{TextErr, WrongLine};
-pub use write::write_text;
+pub use cert::{Cert, Entry, Form, Head};
+pub use write::{put_beginning, put_end};
+pub use write_line::put_line;
+pub use write_turn::put_turn;

@@ -1,33 +1,28 @@
-//! The text of a certificate.
+//! What stands in a certificate's text in front of the lines between, and after them.
 
-ghost use Rattle.std.specs.Prelude.{◌≡◌, ◌++◌, decimal, length, map, IfOk, OnOk};
-ghost use Rattle.std.specs.List.{flat_map};
-ghost use Rattle.xr_cert_text.specs.Machine.{cert_with};
+ghost use Rattle.std.specs.Prelude.{◌≡◌, ◌++◌, decimal, OnOk};
 ghost use Rattle.xr_cert_text.specs.Pieces.{line_of_words};
-ghost use Rattle.xr_cert_text.specs.Text.{cert_text, end_words, with_newline, head_words, line_text, title};
+ghost use Rattle.xr_cert_text.specs.Text.{beginning_text, end_text, head_words, title, with_newline};
 
-use crate::cert::Head;
-use crate::put_line::put_line;
-use std::alloc::Global;
+use crate::cert::{Form, Head};
 use xr_base::{Memory, put, put_number};
-use xr_model::Line;
 
-/// The text of a certificate with these numbers and lines. Takes the text's bytes, in steps that double.
-pub fn write_text(alloc: Global, head: Head, lines: &[Line]) -> Result<Vec<u8>, Memory>
-    ensures { IfOk result (λ text. text.items ≡ cert_text (cert_with head lines.now)) }
+/// Puts the first two lines of a certificate after a text. Takes the text's bytes, in steps that double.
+pub fn put_beginning(text: &mut Vec<u8>, form: Form, head: Head) -> Result<(), Memory>
+    ensures { OnOk result (text.new.items ≡ text.old.items ++ beginning_text form head) }
 {
-    let mut text = Vec::new(alloc);
-    put_title(&mut text)?;
-    put_head(&mut text, head)?;
-    put_lines(&mut text, lines)?;
-    put_end(&mut text, lines.len())?;
-    Ok(text)
+    put(text, title_line(form))?;
+    put_head(text, head)?;
+    Ok(())
 }
 
-fn put_title(text: &mut Vec<u8>) -> Result<(), Memory>
-    ensures { OnOk result (text.new.items ≡ text.old.items ++ with_newline title) }
+fn title_line(form: Form) -> &'static [u8]
+    ensures { result.now ≡ with_newline (title form) }
 {
-    put(text, b"xrepair certificate 1\n")
+    match form {
+        Form::Lines => b"xrepair certificate 1\n",
+        Form::Turns => b"xrepair certificate 2\n",
+    }
 }
 
 // head = "rounds" number "conflicts" number "moments" number "nets" number
@@ -49,17 +44,10 @@ fn put_field(text: &mut Vec<u8>, word: &[u8], number: u32) -> Result<(), Memory>
     put_number(text, u64::from(number))
 }
 
-fn put_lines(text: &mut Vec<u8>, lines: &[Line]) -> Result<(), Memory>
-    ensures { OnOk result (text.new.items ≡ text.old.items ++ flat_map with_newline (map line_text lines.now)) }
-{
-    'lines: for line in lines {
-        put_line(text, line)?;
-    }
-    Ok(())
-}
-
-fn put_end(text: &mut Vec<u8>, count: usize) -> Result<(), Memory>
-    ensures { OnOk result (text.new.items ≡ text.old.items ++ with_newline (line_of_words (end_words count))) }
+/// Puts the last line of a certificate, which has so many lines between, after a text. Takes the text's bytes, in steps
+/// that double.
+pub fn put_end(text: &mut Vec<u8>, count: usize) -> Result<(), Memory>
+    ensures { OnOk result (text.new.items ≡ text.old.items ++ end_text count) }
 {
     put(text, b"end ")?;
     put_number(text, count as u64)?;

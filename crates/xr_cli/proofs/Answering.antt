@@ -1,52 +1,39 @@
 -- What each command finds says what is promised.
-use Rattle.std.proofs.Common.{◌≡◌, ◌∙◌, ℕ, List, [], ◌∷◌, length, IsTrue, Bool, Ok, inl, inr, refl, sym, ap, subst}
+use Rattle.std.proofs.Common.{ℕ, List, [], ◌∷◌, ◌++◌, IsTrue, Bool, Ok, inl, inr, refl, sym, subst}
 use Rattle.std.specs.List.{AllByRecursion}
 use Rattle.xr_cert_text.specs.Wrong.{IsTextOf}
-use Rattle.xr_cert.proofs.Fitted.{checked_accepted}
-use Rattle.xr_cert.proofs.Faultless.{begun_same}
-use Rattle.xr_cert.specs.Step.{cert_of}
+use Rattle.xr_cert.specs.Step.{cert_in}
+use Rattle.xr_cert_text.specs.declared.cert.Form.TheVariants.{Turns}
 use Rattle.xr_cert_text.specs.Text.{cert_text}
 use Rattle.xr_code.specs.Says.{Says as CodeSays}
 use Rattle.xr_code.specs.Written.{code_text}
 use Rattle.xr_out.specs.Text.{vcd_text}
-use Rattle.xr_design.specs.Handed.{shown_of}
-use Rattle.xr_cert_text.specs.declared.cert.Cert.{Cert}
-use Rattle.xr_design.specs.Job.{places_of}
-use Rattle.xr_forces.specs.ForcesOf.{forces_of}
-use Rattle.xr_forces.proofs.Showing.{forces_exist}
-use Rattle.xr_model.specs.Growth.{Holds}
-use Rattle.xr_model.specs.declared.line.Line.{Line as ALine}
 use Rattle.xr_export.specs.Export.{Exports}
 use Rattle.xr_prove.specs.Proof.{IsProof}
 use Rattle.xr_report.specs.Report.{report_text}
-use Rattle.xr_job.specs.Compared.{job_in}
-use Rattle.xr_job.specs.declared.netlist.Netlist.{Netlist as ANetlist}
-use Rattle.xr_job.specs.declared.recorded.Recorded.{Recorded}
 use Rattle.xr_run.specs.Phases.{Answer, ComesTo, text_held}
 use Rattle.xr_shelf.specs.Shelf.{Files}
-use Rattle.xr_wave.specs.Contents.{Contents, IsFinished, IsWave}
-use Rattle.xr_words.specs.Line.{IsScopeName}
-use Rattle.xr_words.specs.Words.{BlameValues, CheckValues, ExportValues, Means, OfBlame, OfCheck, OfExport, OfFix, OfMake, OfProve, OfRepair, OfReplay, ProveValues, RepairValues, ReplayValues, Values, AuditValues, OfAudit}
+use Rattle.xr_wave.specs.Contents.{Contents}
+use Rattle.xr_line.specs.Line.{IsScopeName}
+use Rattle.xr_words.specs.Words.{BlameValues, CheckValues, ExportValues, Means, OfBlame, OfCheck, OfExport, OfFix, OfMake, OfProve, OfRepair, OfReplay, OfUpgrade, ProveValues, RepairValues, ReplayValues, UpgradeValues, Values, AuditValues, OfAudit}
 use Rattle.xr_words.proofs.ScopeNames.{scope_named, sets_named}
-use Rattle.xr_cli.specs.Answers.{Says, SaysBlame, SaysCheck, SaysExport, SaysProve, SaysRepair, SaysReplay, SaysAudit}
-use Rattle.xr_phases.specs.Texts.{netlist_held, recording_held, IsAgreed, IsJob}
+use Rattle.xr_cli.specs.Answers.{Says, SaysBlame, SaysCheck, SaysExport, SaysProve, SaysRepair, SaysReplay, SaysAudit, SaysUpgrade}
+use Rattle.xr_phases.specs.Texts.{netlist_held, recording_held}
 use Rattle.xr_cli.specs.Blames.{Blames}
-use Rattle.xr_phases.specs.Certificate.{IsCertified}
+use Rattle.xr_phases.specs.Certificate.{form_of}
 use Rattle.xr_cli.specs.Checks.{Checks}
 use Rattle.xr_phases.specs.Code.{code_in, moments_line}
 use Rattle.xr_cli.specs.Exported.{Exported}
 use Rattle.xr_cli.specs.Foreign.{refuted_line, repair_for}
-use Rattle.xr_cli.specs.Headline.{value_in, wave_of}
 use Rattle.xr_cli.specs.Listed.{ListsBlame, repair_to_blame}
-use Rattle.xr_cli.specs.Phases.{blamed_phases, check_answer, coded_phases, compared_check, exported_phases, fixed_phases, forces_in, phases_of, prove_answer, prove_phases, repair_answer, repaired_phases, replay_answer, audited_phases}
+use Rattle.xr_cli.specs.Phases.{blamed_phases, check_answer, coded_phases, compared_check, compared_upgrade, exported_phases, fixed_phases, forces_in, phases_of, prove_answer, prove_phases, repair_answer, repaired_phases, replay_answer, audited_phases, upgrade_answer, whole_report}
 use Rattle.xr_phases.specs.Phases.{parts, scope_of}
-use Rattle.xr_phases.specs.Repair.{beginning}
 use Rattle.xr_phases.specs.declared.cause.Refused.TheVariants.{Certificate, Code, Compare, LongCertificate, LongCnf, LongCode, LongLog, Optimistic, Proof}
 use Rattle.xr_phases.specs.declared.parts.Parts.{Parts}
+use Rattle.xr_cli.proofs.Certified.{checks, upgrades}
 use Rattle.xr_cli.proofs.Fixing.{fix_says}
 use Rattle.xr_cli.proofs.Headlines as headlines
 use Rattle.xr_cli.proofs.Headlines.{Made, headline}
-use Rattle.xr_phases.proofs.Jobs.{fits_job}
 use Rattle.xr_cli.proofs.Making.{make_says}
 use Rattle.xr_cli.proofs.Auditing.{audits}
 use Rattle.xr_phases.proofs.JobTexts.{answers_one, no_answer, JobFound, job_found}
@@ -61,15 +48,16 @@ module _ (told : Bool) (files : Files) (t : IsTrue told) where
       go : ComesTo told files (repaired_phases w found.n found.r) (Ok answer) → SaysRepair files w answer
       go (inl (e, refused, is)) = absurd (no_answer answer (Compare e) is)
       go (inr (agreed, faultless, inl (o, refused, is))) = absurd (no_answer answer (Optimistic o) is)
-      go (inr (agreed, faultless, inr (there, is, same))) =
+      go (inr (agreed, faultless, inr (there, is, inl (none, never, same)))) = absurd never
+      go (inr (agreed, faultless, inr (there, is, inr (conditions, are, same)))) =
           let made : Made w (netlist_held files w.job) (recording_held files w.job) = record { n = found.n; r = found.r; job = found.job; faultless = faultless; found = there; is = is } in
           record {
             vcd = vcd_text found.n.design found.r.binding found.r.stim there.shown;
             code = code_text found.n.design found.r.stim (scope_of w.job) (forces_in there.wave);
-            cert = cert_text (cert_of there.wave);
-            report = report_text there.wave found.r.binding (forces_in there.wave);
-            answer_is = answers_one answer (repair_answer w found.n found.r there) same;
-            headline = headline w (netlist_held files w.job) (recording_held files w.job) made named;
+            cert = cert_text (cert_in (form_of w.form) there.wave conditions);
+            report = whole_report there.wave found.r.binding conditions;
+            answer_is = answers_one answer (repair_answer w found.n found.r there conditions) same;
+            headline = headline w (netlist_held files w.job) (recording_held files w.job) made named conditions are;
           }
 
   replay_says : (w : ReplayValues) (answer : Answer) → JobFound told files w.job (coded_phases w) answer → SaysReplay files w answer
@@ -99,43 +87,6 @@ module _ (told : Bool) (files : Files) (t : IsTrue told) where
 
 -- ---- a certificate
 
-module _ (w : CheckValues) (n : ANetlist) (r : Recorded) (cert : Cert) (wave : Contents) (certified : IsCertified w.conflicts (parts n r) cert wave) where
-  abbrev TheStart : Contents
-  TheStart = beginning w.conflicts n r wave.history
-
-  abbrev TheWave : Contents
-  TheWave = wave_of n r wave.history w.conflicts wave.written cert.lines
-
-  wave_same : wave ≡ TheWave
-  wave_same =
-      ap (λ (c : Contents). record c { written = wave.written; lines = wave.lines }) (begun_same certified.checked.goes)
-      ∙ ap (λ (ls : List ALine). wave_of n r wave.history w.conflicts wave.written ls) certified.checked.lines
-
-  certified_holds : Holds (job_in n r) w.conflicts (shown_of (job_in n r) wave.history) wave.written cert.lines
-  certified_holds = (subst IsWave wave_same certified.checked.wave).holds
-
-  certified_whole : length wave.written ≡ places_of (job_in n r)
-  certified_whole = subst IsFinished wave_same certified.checked.finished
-
-  checks : (netlist recording text : List ℕ) → IsJob w.job netlist recording n r → IsAgreed (parts n r) → IsTextOf text cert
-      → Checks w netlist recording text (report_text wave r.binding (forces_in wave))
-  checks netlist recording text job faultless stands = record {
-    n = n;
-    r = r;
-    job = job;
-    replay = wave.history;
-    agrees = record { replay = certified.replay; faultless = faultless };
-    certificate = cert;
-    stands = stands;
-    waveform = wave.written;
-    whole = certified_whole;
-    accepted = checked_accepted TheStart cert wave refl refl certified.checked;
-    holds = certified_holds;
-    events = forces_of (job_in n r) (value_in wave.written);
-    are = forces_exist (job_in n r) (value_in wave.written) (fits_job n r certified.fits);
-    report_is = ap (λ (c : Contents). report_text c r.binding (forces_in c)) wave_same;
-  }
-
 module _ (told : Bool) (files : Files) (t : IsTrue told) where
   check_says : (w : CheckValues) (answer : Answer) → JobFound told files w.job (compared_check w) answer → SaysCheck files w answer
   check_says w answer found = go found.more
@@ -145,12 +96,33 @@ module _ (told : Bool) (files : Files) (t : IsTrue told) where
       go (inr (agreed, faultless, inl first)) = absurd (no_answer answer LongCertificate first.1)
       go (inr (agreed, faultless, inr (text, read, inl (wrong, is, same)))) = absurd (no_answer answer (Certificate wrong) same)
       go (inr (agreed, faultless, inr (text, read, inr (cert, stands, inl (cause, is, same))))) = absurd (no_answer answer cause same)
-      go (inr (agreed, faultless, inr (text, read, inr (cert, stands, inr (wave, certified, same))))) =
+      go (inr (agreed, faultless, inr (text, read, inr (cert, stands, inr (shows, is, same))))) =
+          let checked = checks w found.n found.r cert shows.wave is.conditions is.certified (netlist_held files w.job) (recording_held files w.job) (text_held files (w.cert ∷ []))
+          found.job faultless (subst (λ (l : List ℕ). IsTextOf l cert) (read.is t) stands) in
           record {
-            report = report_text wave found.r.binding (forces_in wave);
-            answer_is = answers_one answer (check_answer (parts found.n found.r) wave) same;
-            checks = checks w found.n found.r cert wave certified (netlist_held files w.job) (recording_held files w.job) (text_held files (w.cert ∷ []))
-                found.job faultless (subst (λ (l : List ℕ). IsTextOf l cert) (read.is t) stands);
+            report = report_text shows.wave found.r.binding (forces_in shows.wave) ++ shows.listing;
+            answer_is = answers_one answer (check_answer (parts found.n found.r) shows) same;
+            checks = subst (λ (l : List ℕ). Checks w (netlist_held files w.job) (recording_held files w.job) (text_held files (w.cert ∷ []))
+                (report_text shows.wave found.r.binding (forces_in shows.wave) ++ l)) (sym is.listing_is) checked;
+          }
+
+  upgrade_says : (w : UpgradeValues) (answer : Answer) → JobFound told files w.job (compared_upgrade w) answer → SaysUpgrade files w answer
+  upgrade_says w answer found = go found.more
+    where
+      go : ComesTo told files (compared_upgrade w (parts found.n found.r)) (Ok answer) → SaysUpgrade files w answer
+      go (inl (e, refused, is)) = absurd (no_answer answer (Compare e) is)
+      go (inr (agreed, faultless, inl first)) = absurd (no_answer answer LongCertificate first.1)
+      go (inr (agreed, faultless, inr (text, read, inl (wrong, is, same)))) = absurd (no_answer answer (Certificate wrong) same)
+      go (inr (agreed, faultless, inr (text, read, inr (cert, stands, inl (wrong, is, same))))) = absurd (no_answer answer (Certificate wrong) same)
+      go (inr (agreed, faultless, inr (text, read, inr (cert, stands, inr (plain, form, inl (cause, is, same)))))) = absurd (no_answer answer cause same)
+      go (inr (agreed, faultless, inr (text, read, inr (cert, stands, inr (plain, form, inr (shows, is, inl (none, never, same))))))) = absurd never
+      go (inr (agreed, faultless, inr (text, read, inr (cert, stands, inr (plain, form, inr (shows, is, inr (conditions, are, same))))))) =
+          record {
+            upgraded = cert_text (cert_in Turns shows.wave conditions);
+            report = whole_report shows.wave found.r.binding conditions;
+            answer_is = answers_one answer (upgrade_answer w (parts found.n found.r) shows.wave conditions) same;
+            upgrades = upgrades w found.n found.r cert shows.wave is.conditions is.certified conditions are (netlist_held files w.job) (recording_held files w.job)
+                (text_held files (w.cert ∷ [])) found.job faultless (subst (λ (l : List ℕ). IsTextOf l cert) (read.is t) stands) form;
           }
 
 -- ---- to other solvers, and from them
@@ -168,7 +140,7 @@ exported w netlist recording answer is exports =
       lines = is.found.wave.lines;
       whole = headlines.finished (repair_for w) netlist recording is;
       holds = (headlines.wave (repair_for w) netlist recording is).holds;
-      certifies = headlines.certifies_so (repair_for w) netlist recording is;
+      certifies = headlines.certifies_so (repair_for w) netlist recording is [] refl;
       exports = subst (λ (c : Contents). Exports w.prefix c answer) (headlines.same (repair_for w) netlist recording is) exports;
     }
 
@@ -260,6 +232,8 @@ answers_say told files line (OfReplay w) answer t means comes =
     replay_says told files t w answer (job_found told files t w.job (coded_phases w) answer comes)
 answers_say told files line (OfCheck w) answer t means comes =
     check_says told files t w answer (job_found told files t w.job (compared_check w) answer comes)
+answers_say told files line (OfUpgrade w) answer t means comes =
+    upgrade_says told files t w answer (job_found told files t w.job (compared_upgrade w) answer comes)
 answers_say told files line (OfMake w) answer t means comes = make_says told files w answer comes
 answers_say told files line (OfExport w) answer t means comes =
     export_says told files t w answer (job_found told files t w.job (λ (job : Parts). exported_phases w job.netlist job.recorded) answer comes)

@@ -1,14 +1,12 @@
 -- The audit of a job: a blank history is contradicted nowhere, and the wave over it is one of the job.
-use Rattle.std.proofs.Common.{◌≡◌, ℕ, ◌<◌, Result, Ok, Err, IfErr, List, length, refl, sym, ap, subst}
+use Rattle.std.proofs.Common.{◌≡◌, ℕ, Result, Ok, Err, IfErr, List, length, refl, sym, ap, subst}
 use Rattle.xr_audit.specs.Listed.{IsAudit}
 use Rattle.xr_cell.specs.Value.{IsKnown}
 use Rattle.xr_cell.specs.declared.value.Value.{Value}
 use Rattle.xr_cell.specs.declared.value.Value.TheVariants.{X}
 use Rattle.xr_design.specs.Handed.{IsBlank, IsReplay}
 use Rattle.xr_design.specs.History.{HistoryView}
-use Rattle.xr_design.specs.Job.{Job, places_of}
 use Rattle.xr_design.specs.Replay.{Held}
-use Rattle.xr_design.specs.declared.stim.Stim.{Stim}
 use Rattle.xr_design.specs.declared.waveform.Mark.{Mark}
 use Rattle.xr_design.specs.declared.waveform.Mark.TheVariants.{Certain, Unknown, Undecided}
 use Rattle.xr_job.specs.Compared.{job_in}
@@ -17,7 +15,7 @@ use Rattle.xr_job.specs.declared.recorded.Recorded.{Recorded}
 use Rattle.xr_model.specs.Sound.{IsOptimistic}
 use Rattle.xr_objection.proofs.Objecting.{objections_object}
 use Rattle.xr_run.specs.Prepared.{IsJudgedBy, PreparedAlone, answer_of}
-use Rattle.xr_run.specs.Phases.{Answer, searches}
+use Rattle.xr_run.specs.Phases.{Answer}
 use Rattle.xr_run.specs.declared.ready.Ready.{Ready}
 use Rattle.xr_run.specs.declared.refusal.Refusal.{Refusal}
 use Rattle.xr_run.specs.declared.refusal.Refusal.TheVariants.{Read, Long, Text, Memory}
@@ -29,7 +27,7 @@ use Rattle.xr_cli.specs.Audits.{Audits}
 use Rattle.xr_cli.specs.Headline.{wave_of}
 use Rattle.xr_cli.specs.Phases.{walk_audited}
 use Rattle.xr_phases.specs.Phases.{no_cause, walk_cause}
-use Rattle.xr_phases.specs.Repair.{FitsJob, IsObjectionBy, IsRepairedBy, WaveComes}
+use Rattle.xr_phases.specs.Repair.{IsObjectionBy, IsRepairedBy, WaveComes}
 use Rattle.xr_phases.specs.Texts.{IsAgreed, IsJob}
 use Rattle.xr_phases.specs.Phases.{parts}
 use Rattle.xr_phases.specs.declared.cause.Objection.{Objection}

@@ -1,27 +1,25 @@
 -- What `fix` finds says what is promised, and what it refuses.
-use Rattle.std.proofs.Common.{◌≡◌, ◌∙◌, ℕ, List, [], ◌∷◌, length, map, IsTrue, Bool, true, false, take, Ok, Err, inl, inr, refl, sym, ap, subst, arith}
+use Rattle.std.proofs.Common.{◌≡◌, ◌∙◌, ℕ, length, IsTrue, Bool, Ok, Err, inl, inr, sym, ap, subst}
 use Rattle.std.specs.List.{AllByRecursion}
 use Rattle.xr_design.specs.declared.stim.Stim.{Stim}
-use Rattle.xr_fix.specs.Started.{Piece}
 use Rattle.xr_job.specs.declared.netlist.Netlist.{Netlist as ANetlist}
 use Rattle.xr_listing.specs.Fixed.{fix_text}
 use Rattle.xr_run.specs.Phases.{Answer, ComesTo}
 use Rattle.xr_run.proofs.Exact.{err_same, ok_err}
 use Rattle.xr_shelf.specs.Shelf.{Files}
 use Rattle.xr_wave.specs.Contents.{Contents, IsFinished, IsWave}
-use Rattle.xr_words.specs.Line.{IsSet, pieces_of}
+use Rattle.xr_line.specs.Line.{IsSet, pieces_of}
 use Rattle.xr_words.specs.Words.{FixValues}
-use Rattle.xr_phases.specs.Phases.{parts}
 use Rattle.xr_phases.specs.Repair.{IsWalked, Walked}
-use Rattle.xr_phases.specs.Sets.{piece_text, sets_of}
-use Rattle.xr_phases.specs.Texts.{FixFails, netlist_held, recording_held}
+use Rattle.xr_phases.specs.Sets.{sets_of}
+use Rattle.xr_phases.specs.Texts.{FixFails}
 use Rattle.xr_phases.specs.declared.cause.Refused.{Refused}
 use Rattle.xr_phases.specs.declared.cause.Refused.TheVariants.{Compare, Optimistic, Start}
 use Rattle.xr_phases.specs.declared.parts.Parts.{Parts}
 use Rattle.xr_phases.proofs.JobTexts.{JobFound, answers_one, no_answer}
 use Rattle.xr_phases.proofs.SetTexts.{sets_text}
 use Rattle.xr_cli.specs.Answers.{SaysFix}
-use Rattle.xr_cli.specs.Fixes.{HasWave, wave_in, wave_under}
+use Rattle.xr_cli.specs.Fixes.{HasWave, wave_under}
 use Rattle.xr_cli.specs.Phases.{fix_answer, fixed_phases}
 use Rattle.xr_cli.proofs.Headlines.{wave_is}
 

@@ -31,9 +31,11 @@ use Rattle.xr_out.specs.Text.{vcd_text}
 use Rattle.std.specs.List.{AllByRecursion}
 use Rattle.xr_along.specs.Along.{GoesAlong}
 use Rattle.xr_cert.specs.Checked.{IsAccepted}
-use Rattle.xr_cert.specs.Step.{cert_of}
+use Rattle.xr_cert.specs.Entries.{AreConditionsFor, entries_of, lines_in}
+use Rattle.xr_cert.specs.Step.{cert_in}
 use Rattle.xr_cert.proofs.Fitted.{own_accepted}
 use Rattle.xr_cert.proofs.OwnText.{own_text_stands}
+use Rattle.xr_cond.specs.View.{ConditionView}
 use Rattle.xr_cert_text.specs.Text.{cert_text}
 use Rattle.xr_code.specs.Written.{code_text}
 use Rattle.xr_design.specs.Circuit.{PartsFit}
@@ -42,17 +44,18 @@ use Rattle.xr_forces.specs.ForcesOf.{AreForcesOf, forces_of}
 use Rattle.xr_forces.specs.Waves.{values_of}
 use Rattle.xr_forces.proofs.Showing.{forces_exist, forces_show}
 use Rattle.xr_forces.proofs.TextLaws.{text_shown}
-use Rattle.xr_report.specs.Report.{report_text}
 use Rattle.xr_job.specs.Compared.{job_in}
 use Rattle.xr_job.specs.declared.netlist.Netlist.{Netlist as ANetlist}
 use Rattle.xr_job.specs.declared.recorded.Recorded.{Recorded}
-use Rattle.xr_words.specs.Line.{IsScopeName}
+use Rattle.xr_line.specs.Line.{IsScopeName}
 use Rattle.xr_words.specs.Words.{RepairValues}
 use Rattle.xr_cli.specs.Headline.{Certifies, Headline, IsBit, IsForceCode, ShowsWaveform, place_of_bit, value_in}
-use Rattle.xr_cli.specs.Phases.{forces_in}
+use Rattle.xr_cli.specs.Phases.{forces_in, whole_report}
+use Rattle.xr_phases.specs.Certificate.{form_of}
 use Rattle.xr_phases.specs.Phases.{scope_of}
 use Rattle.xr_phases.specs.Repair.{FitsJob, Found, IsFound, beginning}
 use Rattle.xr_phases.specs.Texts.{IsJob}
+use Rattle.xr_cli.proofs.Needing.{each_needs}
 use Rattle.xr_cli.proofs.OwnForces.{own_forces_said}
 use Rattle.xr_phases.proofs.Jobs.{circuit_fits, fits_job, last_place, number_back, place_there, replay_shown}
 
@@ -263,52 +266,59 @@ module _ (w : RepairValues) (netlist recording : List ℕ) (is : Made w netlist 
   along_there : GoesAlong (beginning w.conflicts is.n is.r is.found.history) TheWave
   along_there = subst (GoesAlong (beginning w.conflicts is.n is.r is.found.history)) same is.is.repaired.along
 
-  accepted_so : IsAccepted (beginning w.conflicts is.n is.r is.found.history) (cert_of TheWave) written
-  accepted_so = own_accepted (beginning w.conflicts is.n is.r is.found.history) TheWave refl refl along_there wave finished
+  -- Of conditions that the form of the words asks for.
+  module _ (conditions : List ConditionView) (are : AreConditionsFor (form_of w.form) TheWave conditions) where
+    accepted_so : IsAccepted (beginning w.conflicts is.n is.r is.found.history) (cert_in (form_of w.form) TheWave conditions) written
+    accepted_so = own_accepted (form_of w.form) (beginning w.conflicts is.n is.r is.found.history) TheWave conditions refl refl along_there wave finished are
 
-  pub certifies_so : Certifies w is.n is.r is.found.history written lines (cert_text (cert_of TheWave))
-  certifies_so = record {
-    stands = own_text_stands (beginning w.conflicts is.n is.r is.found.history) TheWave refl along_there wave;
-    accepted = accepted_so;
-    one = λ other accepted.
-        yields_one j w.conflicts fits shown_at_place other written lines (accepted.long ∙ sym finished) (let long = accepted.long in omega (arith, long))
-        accepted.yields accepted_so.yields;
-  }
+    pub certifies_so : Certifies w is.n is.r is.found.history written lines conditions (cert_text (cert_in (form_of w.form) TheWave conditions))
+    certifies_so = record {
+      stands = own_text_stands (form_of w.form) (beginning w.conflicts is.n is.r is.found.history) TheWave conditions refl along_there wave are;
+      accepted = accepted_so;
+      one = λ other accepted.
+          yields_one j w.conflicts fits shown_at_place other written (lines_in (entries_of lines conditions)) (accepted.long ∙ sym finished)
+          (let long = accepted.long in omega (arith, long)) accepted.yields accepted_so.yields;
+    }
 
-  headline_there : AllByRecursion IsScopeName (scope_of w.job) → Headline w netlist recording (vcd_text is.n.design is.r.binding is.r.stim is.found.shown)
-      (code_text is.n.design is.r.stim (scope_of w.job) (forces_in TheWave)) (cert_text (cert_of TheWave)) (report_text TheWave is.r.binding (forces_in TheWave))
-  unfolding forces_so
-  headline_there named = record {
-    n = is.n;
-    r = is.r;
-    job = is.job;
-    fits = is.is.fits;
-    replay = is.found.history;
-    agrees = record { replay = is.is.replay; faultless = is.faultless };
-    waveform = written;
-    lines = lines;
-    whole = finished;
-    holds = wave.holds;
-    shown = V;
-    shows = v_shows;
-    vcd_is = refl;
-    forces = forces_so named;
-    certifies = certifies_so;
-    report_is = refl;
-    known = λ moment b bit there. known_so (place_of_bit is.n is.r moment b bit) (within_at moment b bit there);
-    unknown = λ moment b bit there. unknown_so (place_of_bit is.n is.r moment b bit) (within_at moment b bit there);
-    undecided = λ moment b bit there.
-        undecided_licence j w.conflicts written lines (place_of_bit is.n is.r moment b bit)
-        (written_at written (place_of_bit is.n is.r moment b bit)).mark (written_at written (place_of_bit is.n is.r moment b bit)).value
-        (exact_at (place_of_bit is.n is.r moment b bit) (within_at moment b bit there));
-    stand = λ moment b bit there recorded. v_shows (place_of_bit is.n is.r moment b bit) (within_at moment b bit there)
-        ∙ stands moment b bit there recorded;
-    only = only_so;
-  }
+    headline_there : AllByRecursion IsScopeName (scope_of w.job) → Headline w netlist recording (vcd_text is.n.design is.r.binding is.r.stim is.found.shown)
+        (code_text is.n.design is.r.stim (scope_of w.job) (forces_in TheWave)) (cert_text (cert_in (form_of w.form) TheWave conditions))
+        (whole_report TheWave is.r.binding conditions)
+    unfolding forces_so
+    headline_there named = record {
+      n = is.n;
+      r = is.r;
+      job = is.job;
+      fits = is.is.fits;
+      replay = is.found.history;
+      agrees = record { replay = is.is.replay; faultless = is.faultless };
+      waveform = written;
+      lines = lines;
+      whole = finished;
+      holds = wave.holds;
+      shown = V;
+      shows = v_shows;
+      vcd_is = refl;
+      forces = forces_so named;
+      conditions = conditions;
+      conditions_are = are;
+      certifies = certifies_so;
+      report_is = refl;
+      needs = each_needs (form_of w.form) TheWave conditions are;
+      known = λ moment b bit there. known_so (place_of_bit is.n is.r moment b bit) (within_at moment b bit there);
+      unknown = λ moment b bit there. unknown_so (place_of_bit is.n is.r moment b bit) (within_at moment b bit there);
+      undecided = λ moment b bit there.
+          undecided_licence j w.conflicts written lines (place_of_bit is.n is.r moment b bit)
+          (written_at written (place_of_bit is.n is.r moment b bit)).mark (written_at written (place_of_bit is.n is.r moment b bit)).value
+          (exact_at (place_of_bit is.n is.r moment b bit) (within_at moment b bit there));
+      stand = λ moment b bit there recorded. v_shows (place_of_bit is.n is.r moment b bit) (within_at moment b bit there)
+          ∙ stands moment b bit there recorded;
+      only = only_so;
+    }
 
-  pub headline : AllByRecursion IsScopeName (scope_of w.job) → Headline w netlist recording (vcd_text is.n.design is.r.binding is.r.stim is.found.shown)
-      (code_text is.n.design is.r.stim (scope_of w.job) (forces_in is.found.wave)) (cert_text (cert_of is.found.wave))
-      (report_text is.found.wave is.r.binding (forces_in is.found.wave))
-  headline named = subst (λ (c : Contents). Headline w netlist recording (vcd_text is.n.design is.r.binding is.r.stim is.found.shown)
-      (code_text is.n.design is.r.stim (scope_of w.job) (forces_in c)) (cert_text (cert_of c)) (report_text c is.r.binding (forces_in c)))
-      (sym same) (headline_there named)
+  pub headline : AllByRecursion IsScopeName (scope_of w.job) → (conditions : List ConditionView) → AreConditionsFor (form_of w.form) is.found.wave conditions
+      → Headline w netlist recording (vcd_text is.n.design is.r.binding is.r.stim is.found.shown)
+      (code_text is.n.design is.r.stim (scope_of w.job) (forces_in is.found.wave)) (cert_text (cert_in (form_of w.form) is.found.wave conditions))
+      (whole_report is.found.wave is.r.binding conditions)
+  headline named conditions are = subst (λ (c : Contents). Headline w netlist recording (vcd_text is.n.design is.r.binding is.r.stim is.found.shown)
+      (code_text is.n.design is.r.stim (scope_of w.job) (forces_in c)) (cert_text (cert_in (form_of w.form) c conditions)) (whole_report c is.r.binding conditions))
+      (sym same) (headline_there conditions (subst (λ (c : Contents). AreConditionsFor (form_of w.form) c conditions) same are) named)

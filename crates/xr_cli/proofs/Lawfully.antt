@@ -4,20 +4,20 @@ use Rattle.xr_run.specs.Phases.{AreExact}
 use Rattle.xr_run.specs.Rows.{Start}
 use Rattle.xr_run.proofs.Comes.{Lawful}
 use Rattle.xr_run.proofs.Causes.{EachCause, each_cause}
-use Rattle.xr_words.specs.Words.{MakeValues, OfBlame, OfCheck, OfExport, OfFix, OfMake, OfProve, OfRepair, OfReplay, Values, OfAudit}
+use Rattle.xr_words.specs.Words.{MakeValues, OfBlame, OfCheck, OfExport, OfFix, OfMake, OfProve, OfRepair, OfReplay, OfUpgrade, Values, OfAudit}
 use Rattle.xr_words.proofs.OneMeaning.{one_meaning}
 use Rattle.xr_job.proofs.OneNetlist.{one_outcome}
 use Rattle.xr_prove.proofs.OneProof.{one_proof}
 use Rattle.xr_cli.specs.Commands.{commands}
 use Rattle.xr_phases.specs.Code.{code_in}
 use Rattle.xr_cli.specs.Made.{made_job, made_netlist}
-use Rattle.xr_cli.specs.Phases.{blamed_phases, coded_phases, compared_check, exported_phases, fixed_phases, make_phases, phases_of, repaired_phases, audited_phases}
+use Rattle.xr_cli.specs.Phases.{blamed_phases, coded_phases, compared_check, compared_upgrade, exported_phases, fixed_phases, make_phases, phases_of, repaired_phases, audited_phases}
 use Rattle.xr_phases.specs.Phases.{parts, scope_of}
 use Rattle.xr_phases.specs.Repair.{netlist_limit, recording_limit, rule_of}
 use Rattle.xr_phases.specs.declared.parts.Parts.{Parts}
 use Rattle.xr_cli.proofs.Making.{one_length, one_made}
 use Rattle.xr_phases.proofs.OneCode.{one_code}
-use Rattle.xr_phases.proofs.OneCheck.{one_certificate, one_check}
+use Rattle.xr_phases.proofs.OneCheck.{one_certificate, one_check, one_form}
 use Rattle.xr_phases.specs.Sets.{sets_of}
 use Rattle.xr_phases.proofs.OneStart.{one_started}
 use Rattle.xr_phases.proofs.OneJob.{one_recorded, orders_of, one_compared, job_exact}
@@ -46,11 +46,19 @@ made_exact w = (
 
 each_exact : (w : Values) → AreExact (phases_of w)
 each_exact (OfRepair w) = job_exact w.job (λ (job : Parts). repaired_phases w job.netlist job.recorded)
-    (λ n r orders. (one_compared n r orders, λ agreed faultless found is. tt))
+    (λ n r orders. (one_compared n r orders, λ agreed faultless found is conditions are. tt))
 each_exact (OfReplay w) = job_exact w.job (coded_phases w)
     (λ n r orders text. (one_code (code_in (parts n r) text (scope_of w.job)), λ forces says history is. tt))
 each_exact (OfCheck w) = job_exact w.job (compared_check w)
     (λ n r orders. (one_compared n r orders, λ agreed faultless text. (one_certificate text, λ cert stands. (one_check w.conflicts (parts n r) cert, λ wave is. tt))))
+each_exact (OfUpgrade w) = job_exact w.job (compared_upgrade w)
+    (λ n r orders. (
+      one_compared n r orders,
+      λ agreed faultless text. (
+        one_certificate text,
+        λ cert stands. (one_form cert, λ plain form. (one_check w.conflicts (parts n r) cert, λ shows is conditions are. tt)),
+      ),
+    ))
 each_exact (OfMake w) = made_exact w
 each_exact (OfExport w) = job_exact w.job (λ (job : Parts). exported_phases w job.netlist job.recorded)
     (λ n r orders. (one_compared n r orders, λ agreed faultless found is answer written. tt))
@@ -87,7 +95,13 @@ made_of_texts w = (
 
 each_of_texts : (w : Values) → EachCause IsOfTexts (phases_of w)
 each_of_texts (OfRepair w) = job_of_texts w.job (λ (job : Parts). repaired_phases w job.netlist job.recorded)
-    (λ n r. (of_compare n r, λ agreed faultless. ((λ o objects. of_objection o), λ found is. tt)))
+    (λ n r. (
+      of_compare n r,
+      λ agreed faultless. (
+        (λ o objects. of_objection o),
+        λ found is. ((λ none never. absurd never), λ conditions are. tt),
+      ),
+    ))
 each_of_texts (OfReplay w) = job_of_texts w.job (coded_phases w)
     (λ n r. (of_long_code, λ text. ((λ fault first. of_code fault), λ forces says. ((λ none is. absurd none), λ history is. tt))))
 each_of_texts (OfCheck w) = job_of_texts w.job (compared_check w)
@@ -98,6 +112,23 @@ each_of_texts (OfCheck w) = job_of_texts w.job (compared_check w)
         λ text. (
           (λ wrong is. of_certificate wrong),
           λ cert stands. ((λ cause is. of_cause (parts n r) is.refusal cause is.is), λ wave is. tt),
+        ),
+      ),
+    ))
+each_of_texts (OfUpgrade w) = job_of_texts w.job (compared_upgrade w)
+    (λ n r. (
+      of_compare n r,
+      λ agreed faultless. (
+        of_long_certificate,
+        λ text. (
+          (λ wrong is. of_certificate wrong),
+          λ cert stands. (
+            (λ wrong is. of_certificate wrong),
+            λ plain form. (
+              (λ cause is. of_cause (parts n r) is.refusal cause is.is),
+              λ shows is. ((λ none never. absurd never), λ conditions are. tt),
+            ),
+          ),
         ),
       ),
     ))

@@ -1,10 +1,12 @@
 -- Lemmas on the program.
 mod Auditing
+mod Certified
 mod Answering
 mod Fixing
 mod Headlines
 mod Lawfully
 mod Making
+mod Needing
 mod OwnForces
 mod Restarts
 mod Runs

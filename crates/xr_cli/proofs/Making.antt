@@ -21,6 +21,7 @@ use Rattle.xr_run.proofs.Then.{prepared_refused, prepared_then}
 use Rattle.xr_shelf.specs.Shelf.{Files}
 use Rattle.xr_wave.specs.Contents.{Contents}
 use Rattle.xr_words.specs.Words.{MakeValues, RepairValues}
+use Rattle.xr_words.specs.declared.words.Form.TheVariants.{Lines}
 use Rattle.xr_cli.specs.Answers.{SaysMake}
 use Rattle.xr_cli.specs.Made.{IsRecordingOf, MadeComes, made_conflicts, made_job, made_netlist}
 use Rattle.xr_phases.specs.Repair.{LengthComes}
@@ -70,7 +71,7 @@ made_is_one w a b first second =
 -- ---- what is found
 
 abbrev made_repair : RepairValues
-made_repair = record { job = made_job; vcd = []; code = []; cert = []; conflicts = made_conflicts }
+made_repair = record { job = made_job; vcd = []; code = []; cert = []; form = Lines; conflicts = made_conflicts }
 
 makes : (w : MakeValues) (recording : List ℕ) (is : headlines.Made made_repair (made_netlist w) recording) → IsRecordingOf w is.n recording
     → Makes w (made_netlist w) recording (head_text is.found.wave (forces_in is.found.wave))

@@ -12,7 +12,7 @@ use Rattle.xr_forces.proofs.Showing.{forces_exist}
 use Rattle.xr_job.specs.Compared.{job_in}
 use Rattle.xr_job.specs.declared.netlist.Netlist.{Netlist as ANetlist}
 use Rattle.xr_job.specs.declared.recorded.Recorded.{Recorded}
-use Rattle.xr_words.specs.Line.{IsScopeName}
+use Rattle.xr_line.specs.Line.{IsScopeName}
 use Rattle.xr_phases.specs.Code.{code_in}
 use Rattle.xr_phases.specs.Phases.{parts}
 use Rattle.xr_phases.specs.Repair.{FitsJob}

@@ -1,5 +1,5 @@
 -- A job under set starts fits, and its wave stands beside that under the recorded ones.
-use Rattle.std.proofs.Common.{◌≡◌, ◌∙◌, ℕ, ◌≤◌, List, length, sym, ap, subst}
+use Rattle.std.proofs.Common.{◌∙◌, ℕ, ◌≤◌, List, length, sym, ap, subst}
 use Rattle.xr_design.specs.Circuit.{PartsFit}
 use Rattle.xr_design.specs.History.{HistoryView}
 use Rattle.xr_design.specs.Stim.{FitsStim}

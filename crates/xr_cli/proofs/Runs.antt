@@ -1,28 +1,28 @@
 -- What a run comes to, in the words of the program.
-use Rattle.std.proofs.Common.{◌≡◌, ℕ, ◌≤◌, List, [], ◌∷◌, length, IsTrue, Bool, Err, inl, inr, sym, subst, arith}
+use Rattle.std.proofs.Common.{◌≡◌, ◌∙◌, ℕ, ◌≤◌, List, [], ◌∷◌, length, IsTrue, Bool, Err, inl, inr, refl, sym, ap, subst, arith}
 use Rattle.xr_shelf.specs.Shelf.{Files, View}
 use Rattle.xr_shelf.specs.Sink.{SinkView}
 use Rattle.xr_run.specs.Ends.{Comes, LineMade, LinePrinted, RanWords}
 use Rattle.xr_run.specs.Lines.{line}
 use Rattle.xr_phases.specs.Cause.{status_of, text_of}
-use Rattle.xr_run.specs.Phases.{Answer, ComesTo, IsRead, PassesAll, text_held, ◌>>=◌}
+use Rattle.xr_run.specs.Phases.{Answer, ComesTo, IsRead, PassesAll, text_held}
 use Rattle.xr_run.specs.Rows.{Start}
 use Rattle.xr_run.proofs.Comes.{comes}
 use Rattle.xr_run.proofs.Exact.{err_same, ok_err}
 use Rattle.xr_job.specs.declared.netlist.Netlist.{Netlist as ANetlist}
 use Rattle.xr_job.specs.declared.recorded.Recorded.{Recorded}
-use Rattle.xr_words.specs.Words.{BlameValues, CheckValues, ExportValues, JobValues, MakeValues, OfBlame, OfCheck, OfExport, OfFix, OfMake, OfProve, OfRepair, OfReplay, ProveValues, RepairValues, ReplayValues, Values, AuditValues, OfAudit}
+use Rattle.xr_words.specs.Words.{BlameValues, CheckValues, ExportValues, JobValues, MakeValues, OfBlame, OfCheck, OfExport, OfFix, OfMake, OfProve, OfRepair, OfReplay, OfUpgrade, ProveValues, RepairValues, ReplayValues, UpgradeValues, Values, AuditValues, OfAudit}
 use Rattle.xr_cert_text.specs.Wrong.{IsTextOf}
 use Rattle.xr_code.specs.Says.{FirstFault}
-use Rattle.xr_phases.specs.Texts.{FixFails, netlist_held, recording_held, AreRefused, CheckFails, CodeFails, HasJob, HasNetlist, IsObjected, RepairFails}
-use Rattle.xr_phases.specs.Certificate.{IsWrong}
+use Rattle.xr_phases.specs.Texts.{FixFails, netlist_held, recording_held, AreRefused, CheckFails, CodeFails, HasJob, HasNetlist, IsObjected, RepairFails, UpgradeFails}
+use Rattle.xr_phases.specs.Certificate.{IsWrong, check_shows}
 use Rattle.xr_phases.specs.Code.{code_in, text_limit}
 use Rattle.xr_cli.specs.Commands.{commands}
 use Rattle.xr_cli.specs.Ends.{AreInOrder, Done, IsComplete, IsTheOne, RefusesTexts, TextsRefused}
 use Rattle.xr_cli.specs.Foreign.{repair_for}
 use Rattle.xr_cli.specs.Made.{made_conflicts, made_job, made_netlist}
 use Rattle.xr_cli.specs.Listed.{repair_to_blame}
-use Rattle.xr_cli.specs.Phases.{blamed_phases, check_answer, coded_phases, compared_check, exported_phases, fixed_phases, prove_answer, prove_phases, phases_of, repair_answer, repaired_phases, replay_answer, make_answer, make_phases, recorded_made, repaired_made, audited_phases}
+use Rattle.xr_cli.specs.Phases.{blamed_phases, check_answer, coded_phases, compared_check, compared_upgrade, exported_phases, fixed_phases, prove_answer, prove_phases, phases_of, repair_answer, repaired_phases, replay_answer, make_answer, make_phases, recorded_made, repaired_made, audited_phases, upgrade_answer}
 use Rattle.xr_phases.specs.Phases.{parts, scope_of}
 use Rattle.xr_cli.specs.Proves.{IsUnproved}
 use Rattle.xr_phases.specs.Repair.{IsObjectionIn, recording_limit}
@@ -30,6 +30,7 @@ use Rattle.xr_cli.specs.Texts.{AuditFails, IsRepairable, IsMadeOf, IsMadeRefused
 use Rattle.xr_phases.specs.declared.cause.Objection.{Objection}
 use Rattle.xr_phases.specs.declared.cause.Refused.{Refused}
 use Rattle.xr_phases.specs.declared.cause.Refused.TheVariants.{Certificate, Code, Compare, LongCertificate, LongCnf, LongCode, LongLog, LongNetlist, LongRecording, Netlist, Optimistic, Proof, Recording}
+use Rattle.xr_phases.specs.declared.cause.Uncertified.{Uncertified}
 use Rattle.xr_phases.specs.declared.parts.Parts.{Parts}
 use Rattle.xr_cli.proofs.Answering.{answers_say}
 use Rattle.xr_phases.specs.Sets.{sets_of}
@@ -46,7 +47,9 @@ module _ (told : Bool) (files : Files) (t : IsTrue told) (job : Parts) where
   repair_fails w cause (inl (e, refused, is)) = subst (RepairFails w.conflicts job) (sym (err_same {B = Answer} cause (Compare e) is)) (RepairFails.disagrees refused)
   repair_fails w cause (inr (agreed, faultless, inl (o, refused, is))) =
       subst (RepairFails w.conflicts job) (sym (err_same {B = Answer} cause (Optimistic o) is)) (RepairFails.objected record { faultless = faultless; objects = refused })
-  repair_fails w cause (inr (agreed, faultless, inr (found, is, same))) = absurd (ok_err (repair_answer w job.netlist job.recorded found) cause (sym same))
+  repair_fails w cause (inr (agreed, faultless, inr (found, is, inl (none, never, same)))) = absurd never
+  repair_fails w cause (inr (agreed, faultless, inr (found, is, inr (conditions, are, same)))) =
+      absurd (ok_err (repair_answer w job.netlist job.recorded found conditions) cause (sym same))
 
   code_fails : (w : ReplayValues) (cause : Refused) → ComesTo told files (coded_phases w job) (Err cause)
       → CodeFails (text_held files (w.code ∷ [])) (scope_of w.job) job cause
@@ -69,7 +72,27 @@ module _ (told : Bool) (files : Files) (t : IsTrue told) (job : Parts) where
   check_fails w cause (inr (agreed, faultless, inr (text, read, inr (cert, stands, inl (refused, is, same))))) =
       subst (CheckFails w.conflicts (text_held files (w.cert ∷ [])) job) (sym (err_same {B = Answer} cause refused same))
       (CheckFails.unaccepted faultless cert (subst (λ (l : List ℕ). IsTextOf l cert) (read.is t) stands) is)
-  check_fails w cause (inr (agreed, faultless, inr (text, read, inr (cert, stands, inr (wave, is, same))))) = absurd (ok_err (check_answer job wave) cause (sym same))
+  check_fails w cause (inr (agreed, faultless, inr (text, read, inr (cert, stands, inr (shows, is, same))))) = absurd (ok_err (check_answer job shows) cause (sym same))
+
+  upgrade_fails : (w : UpgradeValues) (cause : Refused) → ComesTo told files (compared_upgrade w job) (Err cause)
+      → UpgradeFails w.conflicts (text_held files (w.cert ∷ [])) job cause
+  upgrade_fails w cause (inl (e, refused, is)) =
+      subst (UpgradeFails w.conflicts (text_held files (w.cert ∷ [])) job) (sym (err_same {B = Answer} cause (Compare e) is)) (UpgradeFails.disagrees refused)
+  upgrade_fails w cause (inr (agreed, faultless, inl first)) =
+      subst (UpgradeFails w.conflicts (text_held files (w.cert ∷ [])) job) (sym (err_same {B = Answer} cause LongCertificate first.1)) (UpgradeFails.too_long faultless (first.0 t))
+  upgrade_fails w cause (inr (agreed, faultless, inr (text, read, inl (wrong, is, same)))) =
+      subst (UpgradeFails w.conflicts (text_held files (w.cert ∷ [])) job) (sym (err_same {B = Answer} cause (Certificate wrong) same))
+      (UpgradeFails.wrong faultless (subst (λ (l : List ℕ). IsWrong l wrong) (read.is t) is))
+  upgrade_fails w cause (inr (agreed, faultless, inr (text, read, inr (cert, stands, inl (wrong, is, same))))) =
+      subst (UpgradeFails w.conflicts (text_held files (w.cert ∷ [])) job)
+      (sym (err_same {B = Answer} cause (Certificate wrong) same ∙ ap (λ (u : Uncertified). Certificate u) is.1))
+      (UpgradeFails.turned faultless cert (subst (λ (l : List ℕ). IsTextOf l cert) (read.is t) stands) is.0)
+  upgrade_fails w cause (inr (agreed, faultless, inr (text, read, inr (cert, stands, inr (plain, form, inl (refused, is, same)))))) =
+      subst (UpgradeFails w.conflicts (text_held files (w.cert ∷ [])) job) (sym (err_same {B = Answer} cause refused same))
+      (UpgradeFails.unaccepted faultless cert (subst (λ (l : List ℕ). IsTextOf l cert) (read.is t) stands) form is)
+  upgrade_fails w cause (inr (agreed, faultless, inr (text, read, inr (cert, stands, inr (plain, form, inr (shows, is, inl (none, never, same))))))) = absurd never
+  upgrade_fails w cause (inr (agreed, faultless, inr (text, read, inr (cert, stands, inr (plain, form, inr (shows, is, inr (conditions, are, same))))))) =
+      absurd (ok_err (upgrade_answer w job shows.wave conditions) cause (sym same))
 
 -- ---- to other solvers, and from them
 
@@ -178,6 +201,9 @@ texts_refused s (OfReplay w) cause t comes =
 texts_refused s (OfCheck w) cause t comes =
     refused_by s.shelf_told s.shelf.files t w.job (compared_check w) (CheckFails w.conflicts (text_held s.shelf.files (w.cert ∷ []))) cause
     (λ n r. check_fails s.shelf_told s.shelf.files t (parts n r) w cause) comes
+texts_refused s (OfUpgrade w) cause t comes =
+    refused_by s.shelf_told s.shelf.files t w.job (compared_upgrade w) (UpgradeFails w.conflicts (text_held s.shelf.files (w.cert ∷ []))) cause
+    (λ n r. upgrade_fails s.shelf_told s.shelf.files t (parts n r) w cause) comes
 texts_refused s (OfMake w) cause t comes = make_refused s.shelf_told s.shelf.files w cause comes
 texts_refused s (OfExport w) cause t comes =
     refused_by s.shelf_told s.shelf.files t w.job (λ (job : Parts). exported_phases w job.netlist job.recorded) (RepairFails w.conflicts) cause
@@ -220,6 +246,7 @@ the_one s (OfRepair w) cause refused =
     (subst (AreRefused w.job (netlist_held s.shelf.files w.job) (recording_held s.shelf.files w.job) (RepairFails w.conflicts)) is refused))
 the_one s (OfReplay w) cause refused = tt
 the_one s (OfCheck w) cause refused = tt
+the_one s (OfUpgrade w) cause refused = tt
 the_one s (OfMake w) cause refused = the_one_made w cause refused
 the_one s (OfExport w) cause refused =
     one_cause w.job (netlist_held s.shelf.files w.job) (recording_held s.shelf.files w.job) w.conflicts cause
@@ -244,13 +271,37 @@ made_not_objected w is o objects = is.none objects.history objects.objects.other
 passes_all : (files : Files) (words : Values) → AreInOrder files words → PassesAll files (phases_of words)
 passes_all files (OfRepair w) is =
     let objected = not_objected w (netlist_held files w.job) (recording_held files w.job) is in
-    job_passes files w.job (λ (job : Parts). repaired_phases w job.netlist job.recorded) is.n is.r is.job (tt, is.faultless, (objected, λ found there. tt))
+    job_passes files w.job (λ (job : Parts). repaired_phases w job.netlist job.recorded) is.n is.r is.job (tt, is.faultless, (objected, λ found there. ((λ none never. never), λ conditions are. tt)))
 passes_all files (OfReplay w) is =
     job_passes files w.job (coded_phases w) is.n is.r is.job
     (is.fits, (is.events, is.says, ((λ none never. never), λ history there. tt)))
 passes_all files (OfCheck w) is =
-    job_passes files w.job (compared_check w) is.n is.r is.job
-    (tt, is.faultless, (is.fits, (is.certificate, is.stands, (is.wave, is.certified, tt))))
+    job_passes files w.job (compared_check w) is.n is.r is.job (
+      tt,
+      is.faultless,
+      (is.fits, (is.certificate, is.stands, (check_shows is.wave is.conditions, record { conditions = is.conditions; certified = is.certified; listing_is = refl }, tt))),
+    )
+passes_all files (OfUpgrade w) is =
+    job_passes files w.job (compared_upgrade w) is.n is.r is.job (
+      tt,
+      is.faultless,
+      (
+        is.fits,
+        (
+          is.certificate,
+          is.stands,
+          (
+            tt,
+            is.form_is,
+            (
+              check_shows is.wave is.conditions,
+              record { conditions = is.conditions; certified = is.certified; listing_is = refl },
+              ((λ none never. never), λ conditions are. tt),
+            ),
+          ),
+        ),
+      ),
+    )
 passes_all files (OfMake w) is = (
   tt,
   is.job.netlist_is.fits,

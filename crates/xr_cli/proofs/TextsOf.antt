@@ -1,5 +1,5 @@
 -- The texts of a finished wave of a job.
-use Rattle.std.proofs.Common.{◌≡◌, ◌∙◌, ℕ, List, [], Result, Ok, Err, IfOk, ap, refl, subst, sym, arith}
+use Rattle.std.proofs.Common.{◌≡◌, ◌∙◌, ℕ, List, [], ◌∷◌, ◌++◌, Result, Ok, Err, IfOk, ap, refl, subst, sym, arith}
 use Rattle.xr_code.specs.Steps.{HasEvents}
 use Rattle.xr_code.proofs.Writing.{can_be_written}
 use Rattle.xr_design.specs.Force.{AreEvents, forced_by}
@@ -11,8 +11,13 @@ use Rattle.xr_job.specs.Compared.{job_in}
 use Rattle.xr_job.specs.declared.netlist.Netlist.{Netlist as ANetlist}
 use Rattle.xr_job.specs.declared.recorded.Recorded.{Recorded}
 use Rattle.xr_base.specs.declared.memory.Memory.{Memory}
-use Rattle.xr_cert.specs.Step.{cert_of}
+use Rattle.xr_cert.specs.Entries.{AreConditionsFor}
+use Rattle.xr_cert.specs.Step.{cert_in}
 use Rattle.xr_cert_text.specs.Text.{cert_text}
+use Rattle.xr_cert_text.specs.declared.cert.Form.{Form}
+use Rattle.xr_cert_text.specs.declared.cert.Form.TheVariants.{Turns}
+use Rattle.xr_cond.specs.View.{ConditionView}
+use Rattle.xr_listing.specs.Conditions.{conditions_text}
 use Rattle.xr_code.specs.Laws.{HasSmallTimes}
 use Rattle.xr_code.specs.Written.{code_text}
 use Rattle.xr_design.specs.History.{HistoryView}
@@ -23,9 +28,10 @@ use Rattle.xr_run.specs.Prepared.{answer_of}
 use Rattle.xr_run.specs.declared.ready.Ready.{Ready}
 use Rattle.xr_wave.specs.Contents.{Contents, job}
 use Rattle.xr_wave.specs.Shown.{ShowsWave}
-use Rattle.xr_words.specs.Words.{MakeValues, RepairValues}
+use Rattle.xr_words.specs.Words.{MakeValues, RepairValues, UpgradeValues}
 use Rattle.xr_cli.specs.Made.{made_netlist}
-use Rattle.xr_cli.specs.Phases.{HasTexts, answer_with, check_answer, forces_in, make_answer, make_with}
+use Rattle.xr_cli.specs.Phases.{HasTexts, answer_with, check_answer, forces_in, make_answer, make_with, upgrade_answer, whole_report}
+use Rattle.xr_phases.specs.Certificate.{check_shows, form_of}
 use Rattle.xr_phases.specs.Phases.{scope_of}
 use Rattle.xr_phases.specs.declared.parts.Parts.{Parts}
 use Rattle.xr_phases.specs.Repair.{FitsJob, IsWaveOf}
@@ -45,29 +51,47 @@ wave_forces_written n r wave forces fits is are =
 
 -- The answer has the texts of the wave.
 pub wave_texts : (w : RepairValues) (n : ANetlist) (r : Recorded) (wave : Contents) (shown : HistoryView) (forces : List Event) (scope : List (List ℕ)) (vcd code cert report : List ℕ)
-    → HasSmallTimes r.stim → ShowsWave wave shown → forces ≡ forces_in wave → scope ≡ scope_of w.job
-    → vcd ≡ vcd_text n.design r.binding r.stim shown → code ≡ code_text n.design r.stim scope forces → cert ≡ cert_text (cert_of wave)
-    → report ≡ report_text wave r.binding forces → (result : Result Ready Memory)
+    (form : Form) (conditions listed : List ConditionView) → HasSmallTimes r.stim → ShowsWave wave shown → forces ≡ forces_in wave → scope ≡ scope_of w.job
+    → vcd ≡ vcd_text n.design r.binding r.stim shown → code ≡ code_text n.design r.stim scope forces → form ≡ form_of w.form
+    → AreConditionsFor form wave conditions → listed ≡ conditions → cert ≡ cert_text (cert_in form wave listed)
+    → report ≡ report_text wave r.binding forces ++ conditions_text wave listed → (result : Result Ready Memory)
     → IfOk result (λ ready. answer_of ready ≡ answer_with w vcd code cert report) → IfOk result (λ ready. HasTexts w n r wave (answer_of ready))
-wave_texts w n r wave shown forces scope vcd code cert report times shows same named vcd_is code_is cert_is report_is (Err e) is = tt
-wave_texts w n r wave shown forces scope vcd code cert report times shows same named vcd_is code_is cert_is report_is (Ok ready) is = record {
+wave_texts w n r wave shown forces scope vcd code cert report form conditions listed times shows same named vcd_is code_is form_is are listed_is cert_is report_is (Err e) is = tt
+wave_texts w n r wave shown forces scope vcd code cert report form conditions listed times shows same named vcd_is code_is form_is are listed_is cert_is report_is (Ok ready) is = record {
   times = times;
   shown = shown;
   shows = shows;
-  is = is ∙ (λ t. answer_with w (vcd_is t) (code_there t) (cert_is t) (report_there t));
+  conditions = conditions;
+  conditions_are = subst (λ (f : Form). AreConditionsFor f wave conditions) form_is are;
+  is = is ∙ (λ t. answer_with w (vcd_is t) (code_there t) (cert_there t) (report_there t));
 }
   where
     code_there : code ≡ code_text n.design r.stim (scope_of w.job) (forces_in wave)
     code_there = code_is ∙ (λ t. code_text n.design r.stim (named t) (same t))
 
-    report_there : report ≡ report_text wave r.binding (forces_in wave)
-    report_there = report_is ∙ ap (report_text wave r.binding) same
+    cert_there : cert ≡ cert_text (cert_in (form_of w.form) wave conditions)
+    cert_there = cert_is ∙ (λ t. cert_text (cert_in (form_is t) wave (listed_is t)))
 
--- The answer of a check has the report of its wave.
-pub report_answer : (job : Parts) (wave : Contents) (forces : List Event) (report : List ℕ) (answer : Answer) → forces ≡ forces_in wave
-    → report ≡ report_text wave job.recorded.binding forces → answer ≡ record { files = []; printed = report } → answer ≡ check_answer job wave
-report_answer job wave forces report answer same is answered =
-    answered ∙ (λ t. record { files = []; printed = (is ∙ ap (report_text wave job.recorded.binding) same) t })
+    report_there : report ≡ whole_report wave r.binding conditions
+    report_there = report_is ∙ (λ t. report_text wave r.binding (same t) ++ conditions_text wave (listed_is t))
+
+-- The answer of a check has the report of its wave, and the lines of its conditions.
+pub report_answer : (job : Parts) (wave : Contents) (conditions : List ConditionView) (forces : List Event) (report : List ℕ) (answer : Answer) → forces ≡ forces_in wave
+    → report ≡ report_text wave job.recorded.binding forces ++ conditions_text wave conditions → answer ≡ record { files = []; printed = report }
+    → answer ≡ check_answer job (check_shows wave conditions)
+report_answer job wave conditions forces report answer same is answered =
+    answered ∙ (λ t. record { files = []; printed = (is ∙ ap (λ (fs : List Event). report_text wave job.recorded.binding fs ++ conditions_text wave conditions) same) t })
+
+-- The answer of an upgrade has the certificate of form 2, and that report.
+pub upgrade_texts : (w : UpgradeValues) (job : Parts) (wave : Contents) (conditions : List ConditionView) (forces : List Event) (cert report : List ℕ) (answer : Answer)
+    → forces ≡ forces_in wave → cert ≡ cert_text (cert_in Turns wave conditions) → report ≡ report_text wave job.recorded.binding forces ++ conditions_text wave conditions
+    → answer ≡ record { files = record { name = w.to; bytes = cert } ∷ []; printed = report } → answer ≡ upgrade_answer w job wave conditions
+upgrade_texts w job wave conditions forces cert report answer same cert_is is answered =
+    answered
+    ∙ (λ t. record {
+      files = record { name = w.to; bytes = cert_is t } ∷ [];
+      printed = (is ∙ ap (λ (fs : List Event). report_text wave job.recorded.binding fs ++ conditions_text wave conditions) same) t;
+    })
 
 -- The answer of a made job has its netlist, and the first lines of the report of its wave.
 pub made_texts : (w : MakeValues) (netlist recording head : List ℕ) (wave : Contents) (forces : List Event) → netlist ≡ made_netlist w → forces ≡ forces_in wave

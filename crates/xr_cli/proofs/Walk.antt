@@ -1,38 +1,42 @@
 -- What a walk comes to, as phases.
-use Rattle.std.proofs.Common.{◌≡◌, ℕ, List, Ok}
+use Rattle.std.proofs.Common.{◌≡◌, ℕ, List, Ok, refl}
+use Rattle.xr_cert.specs.Entries.{AreConditionsFor}
 use Rattle.xr_cert_text.specs.declared.cert.Cert.{Cert}
+use Rattle.xr_cert_text.specs.declared.cert.Form.TheVariants.{Turns}
+use Rattle.xr_cond.specs.View.{ConditionView}
 use Rattle.xr_design.specs.History.{HistoryView}
 use Rattle.xr_design.specs.declared.force.Event.{Event}
 use Rattle.xr_forces.specs.ForcesOf.{AreForcesOf}
 use Rattle.xr_forces.specs.Waves.{values_of}
 use Rattle.xr_forces.proofs.Showing.{forces_are_one}
 use Rattle.xr_wave.specs.Contents.{Contents, job}
-use Rattle.xr_run.specs.Phases.{Phases, judges, searches}
+use Rattle.xr_run.specs.Phases.{Phases, searches}
 use Rattle.xr_run.specs.Prepared.{PreparedAlone, answer_of}
 use Rattle.xr_run.specs.declared.ready.Ready.{Ready}
-use Rattle.xr_run.proofs.Then.{found_prepared, judged_prepared, judged_then, prepared_then, searched_prepared, searched_then}
+use Rattle.xr_run.proofs.Then.{found_prepared, judged_then, prepared_then, searched_prepared, searched_then}
 use Rattle.xr_job.specs.declared.netlist.Netlist.{Netlist as ANetlist}
 use Rattle.xr_job.specs.declared.recorded.Recorded.{Recorded}
 use Rattle.xr_export.specs.Export.{Exports}
 use Rattle.xr_prove.specs.Proof.{ProofComes}
-use Rattle.xr_words.specs.Words.{BlameValues, CheckValues, ExportValues, MakeValues, RepairValues, ReplayValues}
-use Rattle.xr_phases.specs.Certificate.{CheckComes, IsCertified}
+use Rattle.xr_words.specs.Words.{BlameValues, CheckValues, ExportValues, MakeValues, RepairValues, ReplayValues, UpgradeValues}
+use Rattle.xr_phases.specs.Certificate.{CheckComes, CheckShows, ConditionsCome, IsCertified, check_shows, form_of}
 use Rattle.xr_phases.specs.Code.{ForcedComes, IsForced}
 use Rattle.xr_cli.specs.Foreign.{ExportComes}
 use Rattle.xr_cli.specs.Listed.{BlameComes, ListsBlame}
 use Rattle.xr_cli.specs.Made.{made_conflicts}
-use Rattle.xr_cli.specs.Phases.{check_answer, checked_phases, forced_phases, forces_in, make_answer, proof_phases, prove_answer, repair_answer, replay_answer, walk_blamed, walk_exported, walk_made, walk_phases}
+use Rattle.xr_cli.specs.Phases.{check_answer, checked_phases, checked_upgrade, forced_phases, forces_in, make_answer, proof_phases, prove_answer, repair_answer, replay_answer, walk_blamed, texts_phases, turned_phases, upgrade_answer, walk_exported, walk_made, walk_phases}
 use Rattle.xr_phases.specs.Phases.{itself, no_cause, proof_cause, walk_cause}
 use Rattle.xr_phases.specs.Repair.{Found, IsFound, WalkComes}
 use Rattle.xr_phases.specs.declared.parts.Parts.{Parts}
 
 -- A wave that is found, with its texts.
-pub walk_found : (w : RepairValues) (n : ANetlist) (r : Recorded) (found : Found) (ready : Ready) → IsFound w.conflicts n r found
-    → answer_of ready ≡ repair_answer w n r found → PreparedAlone (walk_phases w n r) answer_of (Ok ready)
-walk_found w n r found ready is same = λ told v.
-    prepared_then told (Phases.Searches (WalkComes w.conflicts n r) walk_cause (λ (x : Found). Phases.Finds x)) (λ (x : Found). Phases.Finds (repair_answer w n r x)) itself answer_of v v v
-    found (Ok ready) (searched_prepared told (WalkComes w.conflicts n r) walk_cause itself v (Ok found) record { found = is; refused = tt })
-    (found_prepared told answer_of (repair_answer w n r found) v ready same)
+pub walk_found : (w : RepairValues) (n : ANetlist) (r : Recorded) (found : Found) (conditions : List ConditionView) (ready : Ready)
+    → IsFound w.conflicts n r found → AreConditionsFor (form_of w.form) found.wave conditions → answer_of ready ≡ repair_answer w n r found conditions
+    → PreparedAlone (walk_phases w n r) answer_of (Ok ready)
+walk_found w n r found conditions ready is are same =
+    searched_then (WalkComes w.conflicts n r) walk_cause (texts_phases w n r) itself answer_of found (Ok ready) record { found = is; refused = tt }
+    (searched_then (ConditionsCome (form_of w.form) found.wave) no_cause (λ (x : List ConditionView). Phases.Finds (repair_answer w n r found x)) itself answer_of
+    conditions (Ok ready) record { found = are; refused = tt } (λ told v. found_prepared told answer_of (repair_answer w n r found conditions) v ready same))
 
 -- A wave of a made job that is found, with what is printed of it.
 pub made_found : (w : MakeValues) (recording : List ℕ) (n : ANetlist) (r : Recorded) (found : Found) (ready : Ready) → IsFound made_conflicts n r found
@@ -49,13 +53,29 @@ replay_found w job forces history ready is same = λ told v.
     history (Ok ready) (searched_prepared told (ForcedComes job forces) no_cause itself v (Ok history) record { found = is; refused = tt })
     (found_prepared told answer_of (replay_answer w job history) v ready same)
 
+-- What a check shows of a certified wave and its conditions.
+shown : (conflicts : ℕ) (job : Parts) (cert : Cert) (wave : Contents) (conditions : List ConditionView) → IsCertified conflicts job cert wave conditions
+    → CheckComes conflicts job cert (Ok (check_shows wave conditions))
+shown conflicts job cert wave conditions is = record { conditions = conditions; certified = is; listing_is = refl }
+
 -- A certified wave, with its report.
-pub check_found : (w : CheckValues) (job : Parts) (cert : Cert) (wave : Contents) (ready : Ready) → IsCertified w.conflicts job cert wave
-    → answer_of ready ≡ check_answer job wave → PreparedAlone (checked_phases w job cert) answer_of (Ok ready)
-check_found w job cert wave ready is same = λ told v.
-    prepared_then told (judges (CheckComes w.conflicts job cert) itself) (λ (x : Contents). Phases.Finds (check_answer job x)) itself answer_of v v v
-    wave (Ok ready) (judged_prepared told (CheckComes w.conflicts job cert) itself itself v (Ok wave) record { found = is; refused = tt })
-    (found_prepared told answer_of (check_answer job wave) v ready same)
+pub check_found : (w : CheckValues) (job : Parts) (cert : Cert) (wave : Contents) (conditions : List ConditionView) (ready : Ready)
+    → IsCertified w.conflicts job cert wave conditions → answer_of ready ≡ check_answer job (check_shows wave conditions)
+    → PreparedAlone (checked_phases w job cert) answer_of (Ok ready)
+check_found w job cert wave conditions ready is same =
+    judged_then (CheckComes w.conflicts job cert) itself (λ (x : CheckShows). Phases.Finds (check_answer job x)) itself answer_of
+    (check_shows wave conditions) (Ok ready) record { found = shown w.conflicts job cert wave conditions is; refused = tt }
+    (λ told v. found_prepared told answer_of (check_answer job (check_shows wave conditions)) v ready same)
+
+-- A certified wave, with the certificate of form 2 of it and of conditions, and its report.
+pub upgrade_found : (w : UpgradeValues) (job : Parts) (cert : Cert) (wave : Contents) (conditions found : List ConditionView) (ready : Ready)
+    → IsCertified w.conflicts job cert wave conditions → AreConditionsFor Turns wave found → answer_of ready ≡ upgrade_answer w job wave found
+    → PreparedAlone (checked_upgrade w job cert) answer_of (Ok ready)
+upgrade_found w job cert wave conditions found ready is are same =
+    judged_then (CheckComes w.conflicts job cert) itself (λ (x : CheckShows). turned_phases w job x.wave) itself answer_of
+    (check_shows wave conditions) (Ok ready) record { found = shown w.conflicts job cert wave conditions is; refused = tt }
+    (searched_then (ConditionsCome Turns wave) no_cause (λ (x : List ConditionView). Phases.Finds (upgrade_answer w job wave x)) itself answer_of
+    found (Ok ready) record { found = are; refused = tt } (λ told v. found_prepared told answer_of (upgrade_answer w job wave found) v ready same))
 
 -- A wave that is found, with what is written of it for other solvers.
 pub export_found : (w : ExportValues) (n : ANetlist) (r : Recorded) (found : Found) (ready : Ready) → IsFound w.conflicts n r found

@@ -4,6 +4,7 @@ use Rattle.xr_shelf.specs.Shelf.{Files}
 use Rattle.xr_run.specs.Phases.{Answer, text_held}
 use Rattle.xr_words.specs.Words.{FixValues, OfFix}
 use Rattle.xr_words.specs.Words.{BlameValues, CheckValues, ExportValues, MakeValues, ProveValues, RepairValues}
+use Rattle.xr_words.specs.Words.{OfUpgrade, UpgradeValues}
 use Rattle.xr_words.specs.Words.{AuditValues}
 use Rattle.xr_words.specs.Words.{ReplayValues, Values, OfBlame, OfCheck, OfExport, OfMake, OfProve, OfRepair, OfReplay}
 use Rattle.xr_words.specs.Words.{OfAudit}
@@ -18,6 +19,7 @@ use Rattle.xr_cli.specs.Phases.{answer_with, make_with}
 use Rattle.xr_phases.specs.Texts.{netlist_held, recording_held}
 use Rattle.xr_cli.specs.Proves.{Proves}
 use Rattle.xr_cli.specs.Replays.{Replays}
+use Rattle.xr_cli.specs.Upgrades.{Upgrades}
 
 -- V, C and X are written in this order and the report printed, and the headline holds of them and of the texts that the
 -- files hold.
@@ -42,6 +44,14 @@ pub record SaysCheck (files : Files) (w : CheckValues) (answer : Answer) : Type 
   pub report : List ℕ
   pub answer_is : answer ≡ record { files = []; printed = report }
   pub checks : Checks w (netlist_held files w.job) (recording_held files w.job) (text_held files (w.cert ∷ [])) report
+
+-- Y is written, and it and the report are of the certificate that the file of X holds.
+pub record SaysUpgrade (files : Files) (w : UpgradeValues) (answer : Answer) : Type 0 where
+  pub upgraded : List ℕ
+  pub report : List ℕ
+  pub answer_is : answer ≡ record { files = record { name = w.to; bytes = upgraded } ∷ []; printed = report }
+  pub upgrades : Upgrades w (netlist_held files w.job) (recording_held files w.job) (text_held files (w.cert ∷ []))
+      upgraded report
 
 -- F and R are written in this order, and what is printed is of the job that they stand for.
 pub record SaysMake (w : MakeValues) (answer : Answer) : Type 0 where
@@ -76,6 +86,7 @@ abbrev pub Says : Files → Values → Answer → Type 0
 Says files (OfRepair w) answer = SaysRepair files w answer
 Says files (OfReplay w) answer = SaysReplay files w answer
 Says files (OfCheck w) answer = SaysCheck files w answer
+Says files (OfUpgrade w) answer = SaysUpgrade files w answer
 Says files (OfMake w) answer = SaysMake w answer
 Says files (OfExport w) answer = SaysExport files w answer
 Says files (OfProve w) answer = SaysProve files w answer

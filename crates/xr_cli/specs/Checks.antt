@@ -1,8 +1,10 @@
 -- What the check of a certificate promises, a field a sentence.
-use Rattle.std.specs.Prelude.{◌≡◌, ℕ, List, length}
+use Rattle.std.specs.Prelude.{◌≡◌, ℕ, List, ◌++◌, length}
 use Rattle.xr_cert.specs.Checked.{IsAccepted}
+use Rattle.xr_cert.specs.Entries.{AreConditionsFor, entries_of, lines_in}
 use Rattle.xr_cert_text.specs.Wrong.{IsTextOf}
 use Rattle.xr_cert_text.specs.declared.cert.Cert.{Cert}
+use Rattle.xr_cond.specs.View.{ConditionView}
 use Rattle.xr_design.specs.Handed.{shown_of}
 use Rattle.xr_design.specs.History.{HistoryView}
 use Rattle.xr_design.specs.Job.{places_of}
@@ -12,10 +14,12 @@ use Rattle.xr_forces.specs.ForcesOf.{AreForcesOf}
 use Rattle.xr_job.specs.Compared.{job_in}
 use Rattle.xr_job.specs.declared.netlist.Netlist.{Netlist as ANetlist}
 use Rattle.xr_job.specs.declared.recorded.Recorded.{Recorded}
+use Rattle.xr_listing.specs.Conditions.{conditions_text}
 use Rattle.xr_model.specs.Growth.{Holds}
 use Rattle.xr_report.specs.Report.{report_text}
 use Rattle.xr_words.specs.Words.{CheckValues}
 use Rattle.xr_cli.specs.Headline.{value_in, wave_of}
+use Rattle.xr_cli.specs.Needs.{EachNeeds}
 use Rattle.xr_phases.specs.Repair.{Agrees, beginning}
 use Rattle.xr_phases.specs.Texts.{IsJob}
 
@@ -33,8 +37,17 @@ pub record Checks (w : CheckValues) (netlist recording cert report : List ℕ) :
   pub waveform : List Written
   pub whole : length waveform ≡ places_of (job_in n r)
   pub accepted : IsAccepted (beginning w.conflicts n r replay) certificate waveform
-  pub holds : Holds (job_in n r) w.conflicts (shown_of (job_in n r) replay) waveform certificate.lines
-  -- What is printed is the report of that waveform.
+  pub holds : Holds (job_in n r) w.conflicts (shown_of (job_in n r) replay) waveform (lines_in certificate.entries)
+  -- In form 2 there is a condition for each certain Line place, whose turns stand in the text; in form 1 there is none.
+  pub conditions : List ConditionView
+  pub conditions_are : AreConditionsFor certificate.form
+      (wave_of n r replay w.conflicts waveform (lines_in certificate.entries)) conditions
+  pub stated : certificate.entries ≡ entries_of (lines_in certificate.entries) conditions
+  -- What is printed is the report of that waveform, and the lines of the conditions.
   pub events : List Event
   pub are : AreForcesOf (job_in n r) (value_in waveform) events
-  pub report_is : report ≡ report_text (wave_of n r replay w.conflicts waveform certificate.lines) r.binding events
+  pub report_is : report
+      ≡ report_text (wave_of n r replay w.conflicts waveform (lines_in certificate.entries)) r.binding events
+      ++ conditions_text (wave_of n r replay w.conflicts waveform (lines_in certificate.entries)) conditions
+  -- Each of these places needs the places that its line lists.
+  pub needs : EachNeeds (job_in n r) waveform conditions

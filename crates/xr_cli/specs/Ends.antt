@@ -6,13 +6,13 @@ use Rattle.xr_run.specs.Ends.{LinePrinted, NoFault}
 use Rattle.xr_run.specs.Lines.{line}
 use Rattle.xr_run.specs.Phases.{text_held}
 use Rattle.xr_run.specs.Rows.{DoneRow, Start, TextRow}
-use Rattle.xr_words.specs.Words.{OfFix}
+use Rattle.xr_words.specs.Words.{OfFix, OfUpgrade}
 use Rattle.xr_words.specs.Words.{Means, OfBlame, OfCheck, OfExport, OfMake, OfProve, OfRepair, OfReplay, Values}
 use Rattle.xr_words.specs.Words.{OfAudit}
 use Rattle.xr_cli.specs.Answers.{Says}
 use Rattle.xr_phases.specs.Sets.{sets_of}
 use Rattle.xr_phases.specs.Texts.{FixFails, netlist_held, recording_held, AreRefused, CheckFails, CodeFails, IsOneCause}
-use Rattle.xr_phases.specs.Texts.{RepairFails}
+use Rattle.xr_phases.specs.Texts.{RepairFails, UpgradeFails}
 use Rattle.xr_phases.specs.Cause.{status_of, text_of}
 use Rattle.xr_cli.specs.Commands.{commands}
 use Rattle.xr_cli.specs.Foreign.{repair_for}
@@ -21,7 +21,7 @@ use Rattle.xr_cli.specs.Phases.{phases_of}
 use Rattle.xr_phases.specs.Phases.{scope_of}
 use Rattle.xr_cli.specs.Proves.{IsProvable, IsUnproved}
 use Rattle.xr_cli.specs.Texts.{IsFixable, IsCheckable, IsMadeRefused, IsMakeable, IsOneMade, IsRepairable, IsReplayable}
-use Rattle.xr_cli.specs.Texts.{AuditFails, IsAuditable}
+use Rattle.xr_cli.specs.Texts.{AuditFails, IsAuditable, IsUpgradable}
 use Rattle.xr_phases.specs.declared.cause.Refused.{Refused}
 
 -- 0: the words mean this, and its answer is written and printed. Where the shelf tells, the answer says what is
@@ -42,6 +42,9 @@ TextsRefused files (OfReplay w) cause =
 TextsRefused files (OfCheck w) cause =
     AreRefused w.job (netlist_held files w.job) (recording_held files w.job)
     (CheckFails w.conflicts (text_held files (w.cert ∷ []))) cause
+TextsRefused files (OfUpgrade w) cause =
+    AreRefused w.job (netlist_held files w.job) (recording_held files w.job)
+    (UpgradeFails w.conflicts (text_held files (w.cert ∷ []))) cause
 TextsRefused files (OfMake w) cause = IsMadeRefused w cause
 TextsRefused files (OfExport w) cause =
     AreRefused w.job (netlist_held files w.job) (recording_held files w.job) (RepairFails w.conflicts) cause
@@ -60,6 +63,7 @@ abbrev pub IsTheOne : Files → Values → Refused → Type 0
 IsTheOne files (OfRepair w) cause = IsOneCause w.job (netlist_held files w.job) (recording_held files w.job) cause
 IsTheOne files (OfReplay w) cause = Unit {0}
 IsTheOne files (OfCheck w) cause = Unit {0}
+IsTheOne files (OfUpgrade w) cause = Unit {0}
 IsTheOne files (OfMake w) cause = IsOneMade w cause
 IsTheOne files (OfExport w) cause = IsOneCause w.job (netlist_held files w.job) (recording_held files w.job) cause
 IsTheOne files (OfProve w) cause = Unit {0}
@@ -85,6 +89,8 @@ AreInOrder files (OfReplay w) =
     IsReplayable w (netlist_held files w.job) (recording_held files w.job) (text_held files (w.code ∷ []))
 AreInOrder files (OfCheck w) =
     IsCheckable w (netlist_held files w.job) (recording_held files w.job) (text_held files (w.cert ∷ []))
+AreInOrder files (OfUpgrade w) =
+    IsUpgradable w (netlist_held files w.job) (recording_held files w.job) (text_held files (w.cert ∷ []))
 AreInOrder files (OfMake w) = IsMakeable w
 AreInOrder files (OfExport w) = IsRepairable (repair_for w) (netlist_held files w.job) (recording_held files w.job)
 AreInOrder files (OfProve w) = IsProvable (text_held files (w.cnf ∷ [])) (text_held files (w.log ∷ []))

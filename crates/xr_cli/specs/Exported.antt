@@ -1,5 +1,5 @@
 -- What `export` promises, a field a sentence.
-use Rattle.std.specs.Prelude.{◌≡◌, ℕ, List, length}
+use Rattle.std.specs.Prelude.{◌≡◌, ℕ, List, [], length}
 use Rattle.xr_design.specs.Handed.{shown_of}
 use Rattle.xr_design.specs.History.{HistoryView}
 use Rattle.xr_design.specs.Job.{places_of}
@@ -33,7 +33,7 @@ pub record Exported (w : ExportValues) (netlist recording : List ℕ) (answer : 
   -- The waveform is sound for the replay, and the lines yield it.
   pub holds : Holds (job_in n r) w.conflicts (shown_of (job_in n r) replay) waveform lines
   -- The certificate of these lines is accepted for the job: they yield the waveform.
-  pub certifies : Certifies (repair_for w) n r replay waveform lines
+  pub certifies : Certifies (repair_for w) n r replay waveform lines []
       (cert_text (cert_of (wave_of n r replay w.conflicts waveform lines)))
   -- It is written, and then for each line the query of its place in the waveform and the line's log; what is printed
   -- tells how many there are.

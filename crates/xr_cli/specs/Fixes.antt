@@ -13,7 +13,7 @@ use Rattle.xr_model.specs.Growth.{Holds}
 use Rattle.xr_model.specs.declared.line.Line.{Line as ALine}
 use Rattle.xr_run.specs.Phases.{Answer}
 use Rattle.xr_wave.specs.Contents.{Contents}
-use Rattle.xr_words.specs.Line.{pieces_of}
+use Rattle.xr_line.specs.Line.{pieces_of}
 use Rattle.xr_words.specs.Words.{FixValues}
 use Rattle.xr_phases.specs.Repair.{Agrees}
 use Rattle.xr_phases.specs.Sets.{piece_text, sets_of}

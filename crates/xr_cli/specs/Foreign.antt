@@ -5,10 +5,11 @@ use Rattle.xr_run.specs.Lines.{line}
 use Rattle.xr_run.specs.Phases.{Answer}
 use Rattle.xr_wave.specs.Contents.{Contents}
 use Rattle.xr_words.specs.Words.{ExportValues, RepairValues}
+use Rattle.xr_words.specs.declared.words.Form.TheVariants.{Lines}
 
 -- An export repairs as these words say, whose files aren't written.
 abbrev pub repair_for : ExportValues → RepairValues
-repair_for w = record { job = w.job; vcd = []; code = []; cert = []; conflicts = w.conflicts }
+repair_for w = record { job = w.job; vcd = []; code = []; cert = []; form = Lines; conflicts = w.conflicts }
 
 -- The files of a wave are found; it comes to nothing else.
 abbrev pub ExportComes : List ℕ → Contents → Result Answer ⊥ → Type 0

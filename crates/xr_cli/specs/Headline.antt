@@ -1,5 +1,5 @@
 -- What a repair promises, a field a sentence.
-use Rattle.std.specs.Prelude.{◌≡◌, ◌≢◌, ℕ, ◌<◌, Bool, true, List, length, slice_index, Contains}
+use Rattle.std.specs.Prelude.{◌≡◌, ◌≢◌, ℕ, ◌<◌, ◌++◌, Bool, true, List, length, slice_index, Contains}
 use Rattle.xr_cell.specs.declared.value.Value.{Value}
 use Rattle.xr_cell.specs.Value.{IsKnown, bit_value, is_unknown}
 use Rattle.xr_design.specs.Job.{Job, at, places_of}
@@ -20,16 +20,21 @@ use Rattle.xr_job.specs.Compared.{job_in}
 use Rattle.xr_job.specs.declared.netlist.Netlist.{Netlist as ANetlist}
 use Rattle.xr_job.specs.declared.recorded.Recorded.{Recorded}
 use Rattle.xr_out.specs.Text.{vcd_text}
+use Rattle.xr_listing.specs.Conditions.{conditions_text}
 use Rattle.xr_report.specs.Report.{report_text}
 use Rattle.xr_wave.specs.Contents.{Contents}
 use Rattle.xr_words.specs.Words.{RepairValues}
 use Rattle.xr_cert.specs.Checked.{IsAccepted}
-use Rattle.xr_cert.specs.Step.{cert_of}
+use Rattle.xr_cert.specs.Entries.{AreConditionsFor}
+use Rattle.xr_cert.specs.Step.{cert_in}
 use Rattle.xr_cert_text.specs.Wrong.{IsTextOf}
 use Rattle.xr_code.specs.Says.{Says}
 use Rattle.xr_code.specs.Written.{code_text}
 use Rattle.xr_forces.specs.ForcesOf.{AreForcesOf}
 use Rattle.xr_design.specs.declared.force.Event.{Event}
+use Rattle.xr_cond.specs.View.{ConditionView}
+use Rattle.xr_cli.specs.Needs.{EachNeeds}
+use Rattle.xr_phases.specs.Certificate.{form_of}
 use Rattle.xr_phases.specs.Code.{IsForced, code_in}
 use Rattle.xr_phases.specs.Phases.{parts, scope_of}
 use Rattle.xr_phases.specs.Repair.{Agrees, FitsJob, beginning}
@@ -83,15 +88,17 @@ pub record IsForceCode (w : RepairValues) (n : ANetlist) (r : Recorded) (wavefor
   pub replayed : (history : HistoryView) → IsForced (parts n r) events history
       → vcd_text n.design r.binding r.stim history ≡ vcd
 
--- X stands for the certificate of the waveform's lines, and that is accepted for the job: it yields the waveform.
+-- X stands for the certificate of the form that the words name, of the waveform's lines and of conditions, and that is
+-- accepted for the job: it yields the waveform.
 pub record Certifies (w : RepairValues) (n : ANetlist) (r : Recorded) (replay : HistoryView) (waveform : List Written)
-    (lines : List ALine) (cert : List ℕ) : Type 0 where
-  pub stands : IsTextOf cert (cert_of (wave_of n r replay w.conflicts waveform lines))
+    (lines : List ALine) (conditions : List ConditionView) (cert : List ℕ) : Type 0 where
+  pub stands : IsTextOf cert
+      (cert_in (form_of w.form) (wave_of n r replay w.conflicts waveform lines) conditions)
   pub accepted : IsAccepted (beginning w.conflicts n r replay)
-      (cert_of (wave_of n r replay w.conflicts waveform lines)) waveform
+      (cert_in (form_of w.form) (wave_of n r replay w.conflicts waveform lines) conditions) waveform
   -- No other waveform is yielded by these lines.
   pub one : (other : List Written) → IsAccepted (beginning w.conflicts n r replay)
-      (cert_of (wave_of n r replay w.conflicts waveform lines)) other → other ≡ waveform
+      (cert_in (form_of w.form) (wave_of n r replay w.conflicts waveform lines) conditions) other → other ≡ waveform
 
 -- The texts stand for a job whose recording agrees with its replay; there are a waveform of all its places and lines,
 -- so that:
@@ -113,10 +120,17 @@ pub record Headline (w : RepairValues) (netlist recording : List ℕ) (vcd code 
   pub vcd_is : vcd ≡ vcd_text n.design r.binding r.stim shown
   -- Replaying the netlist with the code C writes V.
   pub forces : IsForceCode w n r waveform vcd code
-  -- The certificate X names the waveform: it is the one that its lines yield.
-  pub certifies : Certifies w n r replay waveform lines cert
-  -- The report tells how many places have which end, and what became of each recorded bit that is x or z.
+  -- In form 2 there is a condition for each certain Line place, in form 1 there is none.
+  pub conditions : List ConditionView
+  pub conditions_are : AreConditionsFor (form_of w.form) (wave_of n r replay w.conflicts waveform lines) conditions
+  -- The certificate X names the waveform: it is the one that its lines yield. It has the turns of the conditions.
+  pub certifies : Certifies w n r replay waveform lines conditions cert
+  -- The report tells how many places have which end, and what became of each recorded bit that is x or z, and has the
+  -- lines of the conditions.
   pub report_is : report ≡ report_text (wave_of n r replay w.conflicts waveform lines) r.binding forces.events
+      ++ conditions_text (wave_of n r replay w.conflicts waveform lines) conditions
+  -- Each of these places needs the places that its line lists.
+  pub needs : EachNeeds (job_in n r) waveform conditions
   -- Each bit that V shows known, its search ended, has that value in the two-valued circuit under every filling.
   pub known : ForBits n r (λ place recorded. (bit : Bool) → shown_of (job_in n r) shown place ≡ bit_value bit
       → (written_at waveform place).mark ≢ Undecided → Settles (job_in n r) waveform place bit)

@@ -5,9 +5,11 @@ pub mod Listed
 pub mod Restarts
 pub mod Phases
 pub mod Texts
+pub mod Needs
 pub mod Headline
 pub mod Replays
 pub mod Checks
+pub mod Upgrades
 pub mod Makes
 pub mod Exported
 pub mod Proves

@@ -5,10 +5,11 @@ use Rattle.xr_match.specs.declared.binding.Bound.{Bound}
 use Rattle.xr_run.specs.Phases.{Answer}
 use Rattle.xr_wave.specs.Contents.{Contents}
 use Rattle.xr_words.specs.Words.{BlameValues, RepairValues}
+use Rattle.xr_words.specs.declared.words.Form.TheVariants.{Lines}
 
 -- `blame` repairs as these words say, whose files aren't written.
 abbrev pub repair_to_blame : BlameValues → RepairValues
-repair_to_blame w = record { job = w.job; vcd = []; code = []; cert = []; conflicts = w.conflicts }
+repair_to_blame w = record { job = w.job; vcd = []; code = []; cert = []; form = Lines; conflicts = w.conflicts }
 
 -- No file is written, and what is printed tells what is to blame for the unknown bits of a wave.
 pub record ListsBlame (bound : List Bound) (wave : Contents) (answer : Answer) : Type 0 where

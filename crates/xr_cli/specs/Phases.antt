@@ -1,15 +1,20 @@
 -- The phases of the commands.
-use Rattle.std.specs.Prelude.{◌≡◌, ℕ, List, [], ◌∷◌, length, Vec}
+use Rattle.std.specs.Prelude.{◌≡◌, ℕ, List, [], ◌∷◌, ◌++◌, length, Vec}
 use Rattle.std.specs.declared.alloc.Global.{Global}
-use Rattle.xr_cert.specs.Step.{cert_of}
+use Rattle.xr_cert.specs.Entries.{AreConditionsFor}
+use Rattle.xr_cert.specs.Step.{cert_in}
 use Rattle.xr_cert_text.specs.Text.{cert_text}
 use Rattle.xr_cert_text.specs.declared.cert.Cert.{Cert}
+use Rattle.xr_cert_text.specs.declared.cert.Form.TheVariants.{Turns}
 use Rattle.xr_code.specs.Laws.{HasSmallTimes}
 use Rattle.xr_code.specs.Written.{code_text}
+use Rattle.xr_cond.specs.View.{ConditionView}
 use Rattle.xr_design.specs.History.{HistoryView}
 use Rattle.xr_design.specs.declared.force.Event.{Event}
 use Rattle.xr_design.specs.declared.stim.Stim.{Stim}
+use Rattle.xr_listing.specs.Conditions.{conditions_text}
 use Rattle.xr_listing.specs.Fixed.{fix_text}
+use Rattle.xr_match.specs.declared.binding.Binding.{Binding}
 use Rattle.xr_forces.specs.ForcesOf.{forces_of}
 use Rattle.xr_forces.specs.Waves.{values_of}
 use Rattle.xr_run.specs.Phases.{Answer, Phases, ◌>>=◌, reads, judges, searches}
@@ -24,13 +29,14 @@ use Rattle.xr_job.specs.declared.netlist.Netlist.{Netlist as ANetlist}
 use Rattle.xr_job.specs.declared.recorded.Recorded.{Recorded}
 use Rattle.xr_words.specs.Words.{OfFix}
 use Rattle.xr_words.specs.Words.{BlameValues, CheckValues, ExportValues, FixValues, MakeValues, ProveValues}
-use Rattle.xr_words.specs.Words.{RepairValues, AuditValues}
+use Rattle.xr_words.specs.Words.{RepairValues, AuditValues, UpgradeValues, OfUpgrade}
 use Rattle.xr_words.specs.Words.{ReplayValues, Values, OfBlame, OfCheck, OfExport, OfMake, OfProve, OfRepair, OfReplay}
 use Rattle.xr_words.specs.Words.{OfAudit}
-use Rattle.xr_phases.specs.Certificate.{CheckComes}
+use Rattle.xr_phases.specs.Certificate.{CheckComes, CheckShows, ConditionsCome, FormComes, form_of}
 use Rattle.xr_phases.specs.Code.{ForcedComes, moments_line, text_limit}
 use Rattle.xr_phases.specs.Phases.{certificate_phases, code_phases, compare_cause, itself, job_phases, netlist_cause}
-use Rattle.xr_phases.specs.Phases.{no_cause, proof_cause, recording_cause, scope_of, start_cause, walk_cause}
+use Rattle.xr_phases.specs.Phases.{no_cause, proof_cause, recording_cause, scope_of, start_cause, uncertified_cause}
+use Rattle.xr_phases.specs.Phases.{walk_cause}
 use Rattle.xr_phases.specs.Sets.{StartsCome, sets_of}
 use Rattle.xr_cli.specs.Foreign.{ExportComes, refuted_line}
 use Rattle.xr_cli.specs.Audited.{AuditComes}
@@ -56,27 +62,39 @@ answer_with w vcd code cert report = record {
   printed = report;
 }
 
--- V is the text of what the wave shows, C the code that forces it, X the certificate of the wave.
-abbrev pub texts_answer : RepairValues → ANetlist → Recorded → Contents → HistoryView → Answer
-texts_answer w n r wave shown =
-    answer_with w (vcd_text n.design r.binding r.stim shown)
-    (code_text n.design r.stim (scope_of w.job) (forces_in wave)) (cert_text (cert_of wave))
-    (report_text wave r.binding (forces_in wave))
+-- The report of a wave, and the lines of conditions.
+abbrev pub whole_report : Contents → Binding → List ConditionView → List ℕ
+whole_report wave binding conditions = report_text wave binding (forces_in wave) ++ conditions_text wave conditions
 
--- An answer is made so of a history that the wave shows, of times that are numbers of 64 bits.
+-- V is the text of what the wave shows, C the code that forces it, X the certificate of the wave and of conditions.
+abbrev pub texts_answer : RepairValues → ANetlist → Recorded → Contents → HistoryView → List ConditionView → Answer
+texts_answer w n r wave shown conditions =
+    answer_with w (vcd_text n.design r.binding r.stim shown)
+    (code_text n.design r.stim (scope_of w.job) (forces_in wave))
+    (cert_text (cert_in (form_of w.form) wave conditions)) (whole_report wave r.binding conditions)
+
+-- An answer is made so of a history that the wave shows, of times that are numbers of 64 bits, and of conditions of the
+-- wave, as the form asks for.
 pub record HasTexts (w : RepairValues) (n : ANetlist) (r : Recorded) (wave : Contents) (answer : Answer) : Type 0 where
   pub times : HasSmallTimes r.stim
   pub shown : HistoryView
   pub shows : ShowsWave wave shown
-  pub is : answer ≡ texts_answer w n r wave shown
+  pub conditions : List ConditionView
+  pub conditions_are : AreConditionsFor (form_of w.form) wave conditions
+  pub is : answer ≡ texts_answer w n r wave shown conditions
 
-abbrev pub repair_answer : RepairValues → ANetlist → Recorded → Found → Answer
-repair_answer w n r found = texts_answer w n r found.wave found.shown
+abbrev pub repair_answer : RepairValues → ANetlist → Recorded → Found → List ConditionView → Answer
+repair_answer w n r found conditions = texts_answer w n r found.wave found.shown conditions
+
+abbrev pub texts_phases : RepairValues → ANetlist → Recorded → Found → Phases Answer Refused
+texts_phases w n r found = do
+  conditions ← searches (ConditionsCome (form_of w.form) found.wave) no_cause
+  Phases.Finds (repair_answer w n r found conditions)
 
 abbrev pub walk_phases : RepairValues → ANetlist → Recorded → Phases Answer Refused
 walk_phases w n r = do
   found ← searches (WalkComes w.conflicts n r) walk_cause
-  Phases.Finds (repair_answer w n r found)
+  texts_phases w n r found
 
 abbrev pub repaired_phases : RepairValues → ANetlist → Recorded → Phases Answer Refused
 repaired_phases w n r = do
@@ -117,14 +135,17 @@ replay_phases w = do
 
 -- ---- check
 
--- No file is written, and the report of the wave is printed.
-abbrev pub check_answer : Parts → Contents → Answer
-check_answer job wave = record { files = []; printed = report_text wave job.recorded.binding (forces_in wave) }
+-- No file is written, and the report of the wave is printed, with the lines of its conditions.
+abbrev pub check_answer : Parts → CheckShows → Answer
+check_answer job shows = record {
+  files = [];
+  printed = report_text shows.wave job.recorded.binding (forces_in shows.wave) ++ shows.listing;
+}
 
 abbrev pub checked_phases : CheckValues → Parts → Cert → Phases Answer Refused
 checked_phases w job cert = do
-  wave ← judges (CheckComes w.conflicts job cert) itself
-  Phases.Finds (check_answer job wave)
+  shows ← judges (CheckComes w.conflicts job cert) itself
+  Phases.Finds (check_answer job shows)
 
 abbrev pub certified_phases : CheckValues → Parts → Phases Answer Refused
 certified_phases w job = do
@@ -140,6 +161,45 @@ abbrev pub check_phases : CheckValues → Phases Answer Refused
 check_phases w = do
   job ← job_phases w.job
   compared_check w job
+
+-- ---- upgrade
+
+-- Y is the certificate of form 2 of a wave and of conditions, and the report is printed with the lines of these.
+abbrev pub upgrade_answer : UpgradeValues → Parts → Contents → List ConditionView → Answer
+upgrade_answer w job wave conditions = record {
+  files = record { name = w.to; bytes = cert_text (cert_in Turns wave conditions) } ∷ [];
+  printed = whole_report wave job.recorded.binding conditions;
+}
+
+abbrev pub turned_phases : UpgradeValues → Parts → Contents → Phases Answer Refused
+turned_phases w job wave = do
+  conditions ← searches (ConditionsCome Turns wave) no_cause
+  Phases.Finds (upgrade_answer w job wave conditions)
+
+abbrev pub checked_upgrade : UpgradeValues → Parts → Cert → Phases Answer Refused
+checked_upgrade w job cert = do
+  shows ← judges (CheckComes w.conflicts job cert) itself
+  turned_phases w job shows.wave
+
+abbrev pub formed_upgrade : UpgradeValues → Parts → Cert → Phases Answer Refused
+formed_upgrade w job cert = do
+  plain ← judges (FormComes cert) uncertified_cause
+  checked_upgrade w job cert
+
+abbrev pub certified_upgrade : UpgradeValues → Parts → Phases Answer Refused
+certified_upgrade w job = do
+  cert ← certificate_phases w.cert
+  formed_upgrade w job cert
+
+abbrev pub compared_upgrade : UpgradeValues → Parts → Phases Answer Refused
+compared_upgrade w job = do
+  agreed ← judges (CompareComes job.netlist job.recorded) compare_cause
+  certified_upgrade w job
+
+abbrev pub upgrade_phases : UpgradeValues → Phases Answer Refused
+upgrade_phases w = do
+  job ← job_phases w.job
+  compared_upgrade w job
 
 -- ---- make
 
@@ -313,6 +373,7 @@ abbrev pub phases_of : Values → Phases Answer Refused
 phases_of (OfRepair w) = repair_phases w
 phases_of (OfReplay w) = replay_phases w
 phases_of (OfCheck w) = check_phases w
+phases_of (OfUpgrade w) = upgrade_phases w
 phases_of (OfMake w) = make_phases w
 phases_of (OfExport w) = export_phases w
 phases_of (OfProve w) = prove_phases w

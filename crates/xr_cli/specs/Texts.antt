@@ -1,7 +1,9 @@
 -- When the texts of a command are in order, and what those of a made job are refused for.
-use Rattle.std.specs.Prelude.{ℕ, ◌<◌, ◌≤◌, List, length}
+use Rattle.std.specs.Prelude.{◌≡◌, ℕ, ◌<◌, ◌≤◌, List, length}
 use Rattle.xr_cert_text.specs.Wrong.{IsTextOf}
 use Rattle.xr_cert_text.specs.declared.cert.Cert.{Cert}
+use Rattle.xr_cert_text.specs.declared.cert.Form.TheVariants.{Lines}
+use Rattle.xr_cond.specs.View.{ConditionView}
 use Rattle.xr_code.specs.Says.{Says}
 use Rattle.xr_design.specs.Handed.{IsReplay}
 use Rattle.xr_design.specs.History.{HistoryView}
@@ -16,7 +18,7 @@ use Rattle.xr_job.specs.declared.netlist_refusal.NetlistRefusal.{NetlistRefusal}
 use Rattle.xr_job.specs.declared.recorded.Recorded.{Recorded}
 use Rattle.xr_wave.specs.Contents.{Contents}
 use Rattle.xr_words.specs.Words.{FixValues}
-use Rattle.xr_words.specs.Words.{CheckValues, MakeValues, RepairValues, ReplayValues, AuditValues}
+use Rattle.xr_words.specs.Words.{CheckValues, MakeValues, RepairValues, ReplayValues, AuditValues, UpgradeValues}
 use Rattle.xr_phases.specs.Certificate.{IsCertified}
 use Rattle.xr_phases.specs.Code.{code_in, text_limit}
 use Rattle.xr_cli.specs.Made.{IsRecordingOf, made_conflicts, made_job, made_netlist}
@@ -70,7 +72,22 @@ pub record IsCheckable (w : CheckValues) (netlist recording cert : List ℕ) : T
   pub certificate : Cert
   pub stands : IsTextOf cert certificate
   pub wave : Contents
-  pub certified : IsCertified w.conflicts (parts n r) certificate wave
+  pub conditions : List ConditionView
+  pub certified : IsCertified w.conflicts (parts n r) certificate wave conditions
+
+-- So they do, with one of form 1.
+pub record IsUpgradable (w : UpgradeValues) (netlist recording cert : List ℕ) : Type 0 where
+  pub n : ANetlist
+  pub r : Recorded
+  pub job : IsJob w.job netlist recording n r
+  pub faultless : IsFaultless (job_in n r) r.recording r.binding
+  pub fits : length cert ≤ text_limit
+  pub certificate : Cert
+  pub stands : IsTextOf cert certificate
+  pub form_is : certificate.form ≡ Lines
+  pub wave : Contents
+  pub conditions : List ConditionView
+  pub certified : IsCertified w.conflicts (parts n r) certificate wave conditions
 
 -- The texts stand for a job that agrees, its starts can be set, and no place is found otherwise under the recorded starts,
 -- nor under the set ones.

@@ -8,7 +8,7 @@ ghost use Rattle.xr_run.specs.Prepared.{IsJudgedBy, PreparedAlone, answer_of};
 ghost use Rattle.xr_wave.specs.Contents.{IsLimit};
 ghost use Rattle.xr_words.specs.Words.{audit_values};
 ghost use Rattle.xr_cli.specs.Audited.{AuditComes, PrintsAudit};
-ghost use Rattle.xr_cli.specs.Phases.{audited_phases, walk_audited};
+ghost use Rattle.xr_cli.specs.Phases.{walk_audited};
 ghost use Rattle.xr_phases.specs.Phases.{no_cause};
 ghost use Rattle.xr_phases.specs.Repair.{FitsParts, IsRepairedBy};
 
@@ -17,30 +17,14 @@ use std::alloc::Global;
 use xr_base::Memory;
 use xr_design::History;
 use xr_listing::audit_text;
-use xr_phases::{Parts, Refused, compared, wave_under};
+use xr_phases::{Parts, Refused, wave_under};
 use xr_run::{Ready, Refusal, Report};
 use xr_shelf::Sink;
 use xr_wave::Wave;
 use xr_words::AuditWords;
 
-/// What the words ask of a job. The sink is told how far the walk has come.
-pub fn audited<'a, O: Sink>(
-    alloc: Global,
-    words: &AuditWords<'a>,
-    job: &Parts,
-    out: &mut O,
-) -> Result<Ready<'a>, Refusal<Refused>>
-    requires fits { FitsParts job.now }
-    ensures prepared { PreparedAlone (audited_phases (audit_values words.now) job.now.netlist job.now.recorded)
-        answer_of result }
-    ensures out { O.view out.new ≡ O.view out.old }
-{
-    let history = compared(alloc, &job.netlist, &job.recorded)?;
-    walked(alloc, words, job, &history, out)
-}
-
 /// The walk over the places of a job that agrees, of which nothing is known, and its audit beside the replay.
-fn walked<'a, O: Sink>(
+pub fn audited<'a, O: Sink>(
     alloc: Global,
     words: &AuditWords<'a>,
     job: &Parts,

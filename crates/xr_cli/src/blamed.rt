@@ -6,7 +6,7 @@ ghost use Rattle.xr_job.specs.Compared.{job_in};
 ghost use Rattle.xr_run.specs.Prepared.{PreparedAlone, answer_of};
 ghost use Rattle.xr_words.specs.Words.{blame_values};
 ghost use Rattle.xr_cli.specs.Listed.{ListsBlame};
-ghost use Rattle.xr_cli.specs.Phases.{blamed_phases, walk_blamed};
+ghost use Rattle.xr_cli.specs.Phases.{walk_blamed};
 ghost use Rattle.xr_phases.specs.Repair.{FitsParts, IsWaveOf};
 
 use crate::checked::ready_with;
@@ -15,30 +15,14 @@ use xr_base::Memory;
 use xr_code::read_times;
 use xr_design::History;
 use xr_listing::blame_text;
-use xr_phases::{Parts, Refused, compared, wave_of};
+use xr_phases::{Parts, Refused, wave_of};
 use xr_run::{Ready, Refusal, Report};
 use xr_shelf::Sink;
 use xr_wave::Wave;
 use xr_words::BlameWords;
 
-/// What the words ask of a job. The sink is told how far the walk has come.
-pub fn blamed<'a, O: Sink>(
-    alloc: Global,
-    words: &BlameWords<'a>,
-    job: &Parts,
-    out: &mut O,
-) -> Result<Ready<'a>, Refusal<Refused>>
-    requires fits { FitsParts job.now }
-    ensures prepared { PreparedAlone (blamed_phases (blame_values words.now) job.now.netlist job.now.recorded)
-        answer_of result }
-    ensures out { O.view out.new ≡ O.view out.old }
-{
-    let history = compared(alloc, &job.netlist, &job.recorded)?;
-    walked(alloc, words, job, &history, out)
-}
-
 /// The walk over the places of a job that agrees, and what is to blame.
-fn walked<'a, O: Sink>(
+pub fn blamed<'a, O: Sink>(
     alloc: Global,
     words: &BlameWords<'a>,
     job: &Parts,

@@ -9,3 +9,4 @@ pub mod make;
 pub mod prove;
 pub mod repair;
 pub mod replay;
+pub mod upgrade;

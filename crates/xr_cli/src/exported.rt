@@ -5,36 +5,20 @@ ghost use Rattle.xr_design.specs.Handed.{IsReplay};
 ghost use Rattle.xr_job.specs.Compared.{job_in};
 ghost use Rattle.xr_run.specs.Prepared.{PreparedAlone, answer_of};
 ghost use Rattle.xr_words.specs.Words.{export_values};
-ghost use Rattle.xr_cli.specs.Phases.{exported_phases, walk_exported};
+ghost use Rattle.xr_cli.specs.Phases.{walk_exported};
 ghost use Rattle.xr_phases.specs.Repair.{FitsParts};
 
 use std::alloc::Global;
 use xr_code::read_times;
 use xr_design::History;
 use xr_export::export_texts;
-use xr_phases::{Parts, Refused, compared, wave_of};
+use xr_phases::{Parts, Refused, wave_of};
 use xr_run::{Ready, Refusal};
 use xr_shelf::Sink;
 use xr_words::ExportWords;
 
-/// What the words ask of a job. The sink is told how far the walk has come.
-pub fn exported<'a, O: Sink>(
-    alloc: Global,
-    words: &ExportWords<'a>,
-    job: &Parts,
-    out: &mut O,
-) -> Result<Ready<'a>, Refusal<Refused>>
-    requires fits { FitsParts job.now }
-    ensures prepared { PreparedAlone (exported_phases (export_values words.now) job.now.netlist job.now.recorded)
-        answer_of result }
-    ensures out { O.view out.new ≡ O.view out.old }
-{
-    let history = compared(alloc, &job.netlist, &job.recorded)?;
-    walked(alloc, words, job, &history, out)
-}
-
 /// The walk over the places of a job that agrees, and its texts.
-fn walked<'a, O: Sink>(
+pub fn exported<'a, O: Sink>(
     alloc: Global,
     words: &ExportWords<'a>,
     job: &Parts,

@@ -9,7 +9,7 @@ ghost use Rattle.xr_run.specs.Prepared.{PreparedAlone, answer_of};
 ghost use Rattle.xr_words.specs.Words.{fix_values};
 ghost use Rattle.xr_phases.specs.Repair.{FitsParts, IsRepairedBy};
 ghost use Rattle.xr_cli.specs.Restarts.{IsRestarted};
-ghost use Rattle.xr_cli.specs.Phases.{fix_answer, fixed_phases, set_phases, walk_fixed, walk_set};
+ghost use Rattle.xr_cli.specs.Phases.{fix_answer, set_phases, walk_fixed, walk_set};
 
 use crate::checked::ready_with;
 use crate::restarted::Restarted;
@@ -17,30 +17,14 @@ use std::alloc::Global;
 use xr_base::Memory;
 use xr_design::History;
 use xr_listing::fix_text;
-use xr_phases::{Parts, Refused, compared, replay_of, replay_wave, sets_of, started};
+use xr_phases::{Parts, Refused, replay_of, replay_wave, sets_of, started};
 use xr_run::{Ready, Refusal, Report};
 use xr_shelf::Sink;
 use xr_wave::Wave;
 use xr_words::FixWords;
 
-/// What the words ask of a job. The sink is told how far each walk has come.
-pub fn fixed<'a, O: Sink>(
-    alloc: Global,
-    words: &FixWords<'_>,
-    job: &Parts,
-    out: &mut O,
-) -> Result<Ready<'a>, Refusal<Refused>>
-    requires fits { FitsParts job.now }
-    ensures prepared { PreparedAlone (fixed_phases (fix_values words.now) job.now.netlist job.now.recorded)
-        answer_of result }
-    ensures out { O.view out.new ≡ O.view out.old }
-{
-    let history = compared(alloc, &job.netlist, &job.recorded)?;
-    restarted(alloc, words, job, &history, out)
-}
-
 /// A job that agrees, with the starts that the words set.
-fn restarted<'a, O: Sink>(
+pub fn fixed<'a, O: Sink>(
     alloc: Global,
     words: &FixWords<'_>,
     job: &Parts,

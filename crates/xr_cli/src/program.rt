@@ -16,6 +16,7 @@ use crate::commands::make::Make;
 use crate::commands::prove::Prove;
 use crate::commands::repair::Repair;
 use crate::commands::replay::Replay;
+use crate::commands::upgrade::Upgrade;
 use std::alloc::Global;
 use xr_run::{refuse_memory, refuse_words, run_command};
 use xr_shelf::{Shelf, Sink};
@@ -63,6 +64,7 @@ fn run_words<S: Shelf, O: Sink>(
         Command::Repair(words) => run_command(alloc, &Repair { words }, shelf, out),
         Command::Replay(words) => run_command(alloc, &Replay { words }, shelf, out),
         Command::Check(words) => run_command(alloc, &Check { words }, shelf, out),
+        Command::Upgrade(words) => run_command(alloc, &Upgrade { words }, shelf, out),
         Command::Make(words) => run_command(alloc, &Make { words }, shelf, out),
         Command::Export(words) => run_command(alloc, &Export { words }, shelf, out),
         Command::Prove(words) => run_command(alloc, &Prove { words }, shelf, out),

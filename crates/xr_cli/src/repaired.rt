@@ -5,48 +5,33 @@ ghost use Rattle.xr_design.specs.Handed.{IsReplay};
 ghost use Rattle.xr_job.specs.Compared.{job_in};
 ghost use Rattle.xr_run.specs.Prepared.{PreparedAlone, answer_of};
 ghost use Rattle.xr_words.specs.Words.{repair_values};
-ghost use Rattle.xr_cli.specs.Phases.{repaired_phases, walk_phases};
-ghost use Rattle.xr_phases.specs.Repair.{FitsJob, FitsParts};
+ghost use Rattle.xr_cli.specs.Phases.{walk_phases};
+ghost use Rattle.xr_phases.specs.Repair.{FitsParts};
 
 use crate::texts::texts_of;
 use std::alloc::Global;
 use xr_design::History;
-use xr_job::{Netlist, Recorded};
-use xr_phases::{Parts, Refused, compared, wave_of};
+use xr_phases::{Parts, Refused, wave_of};
 use xr_run::{Ready, Refusal};
 use xr_shelf::Sink;
 use xr_words::RepairWords;
 
-/// What the words ask of a job. The sink is told how far the walk has come.
+/// The walk over the places of a job that agrees, and its texts.
 pub fn repaired<'a, O: Sink>(
     alloc: Global,
     words: &RepairWords<'a>,
     job: &Parts,
-    out: &mut O,
-) -> Result<Ready<'a>, Refusal<Refused>>
-    requires fits { FitsParts job.now }
-    ensures prepared { PreparedAlone (repaired_phases (repair_values words.now) job.now.netlist job.now.recorded)
-        answer_of result }
-    ensures out { O.view out.new ≡ O.view out.old }
-{
-    let history = compared(alloc, &job.netlist, &job.recorded)?;
-    walked(alloc, words, &job.netlist, &job.recorded, &history, out)
-}
-
-/// The walk over the places of a job that agrees, and its texts.
-fn walked<'a, O: Sink>(
-    alloc: Global,
-    words: &RepairWords<'a>,
-    netlist: &Netlist,
-    recorded: &Recorded,
     history: &History,
     out: &mut O,
 ) -> Result<Ready<'a>, Refusal<Refused>>
-    requires fits { FitsJob netlist.now recorded.now }
-    requires replay { IsReplay (job_in netlist.now recorded.now) history.now }
-    ensures prepared { PreparedAlone (walk_phases (repair_values words.now) netlist.now recorded.now) answer_of result }
+    requires fits { FitsParts job.now }
+    requires replay { IsReplay (job_in job.now.netlist job.now.recorded) history.now }
+    ensures prepared { PreparedAlone (walk_phases (repair_values words.now) job.now.netlist job.now.recorded)
+        answer_of result }
     ensures out { O.view out.new ≡ O.view out.old }
 {
+    let netlist = &job.netlist;
+    let recorded = &job.recorded;
     let wave = wave_of(alloc, netlist, recorded, history, words.conflicts, out)?;
     let shown = wave.history(alloc)?;
     Ok(texts_of(alloc, words, netlist, recorded, &wave, &shown)?)

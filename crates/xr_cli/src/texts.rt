@@ -7,6 +7,7 @@ ghost use Rattle.xr_words.specs.Words.{repair_values};
 ghost use Rattle.xr_cli.specs.Phases.{HasTexts, answer_with};
 ghost use Rattle.xr_phases.specs.Repair.{FitsJob, IsWaveOf};
 
+use crate::report::report_with;
 use std::alloc::Global;
 use xr_base::Memory;
 use xr_cert::write_cert;
@@ -15,8 +16,7 @@ use xr_design::History;
 use xr_forces::forces_of;
 use xr_job::{Netlist, Recorded};
 use xr_out::vcd_text;
-use xr_phases::names_of;
-use xr_report::write_report;
+use xr_phases::{conditions_for, form_of, names_of};
 use xr_run::{Output, Ready, Report};
 use xr_wave::Wave;
 use xr_words::RepairWords;
@@ -49,8 +49,11 @@ pub fn texts_of<'a>(
         scope.as_slice(),
         &forces,
     )?;
-    let cert = write_cert(alloc, wave)?;
-    let report = write_report(alloc, wave, binding, &forces)?;
+    let form = form_of(words.form);
+    let conditions = conditions_for(alloc, form, wave)?;
+    let listed = conditions.as_slice();
+    let cert = write_cert(alloc, wave, form, listed)?;
+    let report = report_with(alloc, wave, binding, &forces, listed)?;
     ready_of(alloc, words, vcd, code, cert, report)
 }
 

@@ -10,3 +10,4 @@ pub mod NodeLiterals
 pub mod OnceLists
 pub mod PutLiterals
 pub mod QueryClauses
+pub mod SameCones

@@ -257,13 +257,13 @@ last_place test root holds =
 
 module _ (c : Contents) (root : ℕ) (nodes : List Node) (is : IsConeOf c root nodes) (literals : List ℤ)
     (are : AreLiterals nodes literals) where
-  node_cone : (clause : List ℤ) → IsNodeClause nodes literals clause
+  pub node_cone : (clause : List ℤ) → IsNodeClause nodes literals clause
       → IsConeClause (job c) (certain c.written) root clause
   node_cone clause of = place_clause c root nodes is literals are of.position of.within of.arguments of.values
       (subst (IsBodyOver (job c) (certain c.written) (spots c root nodes is) (slice_index (spots c root nodes is) of.position)) of.body
       (is.bodies of.position of.within)) clause of.of_table
 
-  cone_node : (clause : List ℤ) → IsConeClause (job c) (certain c.written) root clause
+  pub cone_node : (clause : List ℤ) → IsConeClause (job c) (certain c.written) root clause
       → IsNodeClause nodes literals clause
   cone_node clause of =
       let places : List ℕ = spots c root nodes is in
@@ -297,7 +297,7 @@ module _ (c : Contents) (root : ℕ) (nodes : List Node) (is : IsConeOf c root n
                 (sym same) of.is_clause);
           }
 
-  denial_same : denial_of literals (root_bit nothing nodes) ≡ denial (job c) (certain c.written) root
+  pub denial_same : denial_of literals (root_bit nothing nodes) ≡ denial (job c) (certain c.written) root
   denial_same =
       let all = count c root nodes is in
       let some = is.are_nodes.some in

@@ -6,3 +6,4 @@ pub mod Literals
 pub mod Merged
 pub mod Models
 pub mod Query
+pub mod Same

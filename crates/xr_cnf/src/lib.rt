@@ -5,6 +5,7 @@
 
 mod answers;
 mod clause;
+mod laws;
 mod lists;
 mod literals;
 mod model;
@@ -12,6 +13,7 @@ mod query;
 mod tables;
 
 pub use answers::{conclude, give_up};
+pub use laws::same_cones_ask_the_same;
 pub use literals::{literals_of, turned, variables_of};
 pub use model::model_filling;
 pub use query::{clauses, node_clauses};

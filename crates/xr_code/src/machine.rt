@@ -115,7 +115,8 @@ fn begin_statement(progress: &mut Progress<'_>, forces: bool, at: usize) -> Resu
 /// The number of a wait.
 fn at_wait(progress: &mut Progress<'_>, at: usize, token: Token) -> Result<State, CodeErr>
     requires { IsThere progress.old }
-    ensures { Steps (spec.wait_by progress.old at token (words.number_of progress.old.code.text token)) result progress.new }
+    ensures { Steps (spec.wait_by progress.old at token (words.number_of progress.old.code.text token)) result
+        progress.new }
 {
     match digits_of(progress.code.text, token) {
         None => Err(refused(token)),
@@ -199,7 +200,8 @@ fn at_name(progress: &mut Progress<'_>, token: Token) -> Result<State, CodeErr>
 
 /// The number of an index.
 fn at_index(progress: &mut Progress<'_>, token: Token) -> Result<State, CodeErr>
-    ensures { Steps (spec.index_by progress.old token (words.number_of progress.old.code.text token)) result progress.new }
+    ensures { Steps (spec.index_by progress.old token (words.number_of progress.old.code.text token)) result
+        progress.new }
 {
     match digits_of(progress.code.text, token) {
         None => Err(refused(token)),
@@ -263,7 +265,8 @@ fn release(
     requires there { IsThere progress.old }
     requires moment { moment < length progress.old.code.stim.times }
     requires net { net < length progress.old.code.design.nets }
-    ensures { Steps (spec.release_by progress.old token moment net (forced_now progress.old.events net)) result progress.new }
+    ensures { Steps (spec.release_by progress.old token moment net (forced_now progress.old.events net)) result
+        progress.new }
 {
     if progress.statements.forced(net).is_none() {
         return Err(CodeErr::Refused(CodeFault::ReleaseUnforced { at: progress.at }));

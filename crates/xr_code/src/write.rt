@@ -44,7 +44,8 @@ fn put_events(
     events: &[Event],
 ) -> Result<(), Memory>
     requires { HasEvents design.now stim.now events.now }
-    ensures { OnOk result (text.new.items ≡ text.old.items ++ spec.event_lines design.now stim.now scope.now clock.start events.now) }
+    ensures { OnOk result
+        (text.new.items ≡ text.old.items ++ spec.event_lines design.now stim.now scope.now clock.start events.now) }
 {
     let mut now = Clock { time: 0, round: 0 };
     let mut rest = events;
@@ -96,7 +97,9 @@ fn put_event(
     event: &Event,
 ) -> Result<(), Memory>
     requires { event.now.net < length design.now.nets }
-    ensures { OnOk result (text.new.items ≡ text.old.items ++ spec.event_line (names.code_name design.now scope.now event.now.net) event.now.value) }
+    ensures { OnOk result (text.new.items
+        ≡ text.old.items
+        ++ spec.event_line (names.code_name design.now scope.now event.now.net) event.now.value) }
 {
     match event.value {
         Some(value) => {

@@ -1,19 +1,24 @@
 -- The nodes, places and numbers with which a condition begins.
-use Rattle.std.proofs.Common.{◌≡◌, ℕ, ◌<◌, Bool, true, false, List, [], ◌∷◌, if◌then◌else◌, length, map, sym, ap, ◌∙◌, arith, subst}
+use Rattle.std.proofs.Common.{◌≡◌, ℕ, zero, suc, ◌+◌, ◌-◌, ◌<◌, Bool, true, false, List, [], ◌∷◌, ◌++◌, if◌then◌else◌, length, length-append, map, refl, sym, ap, ◌∙◌, add-one, arith, subst, slice_index_or}
 use Rattle.std.specs.Prelude.{nat_lt}
 use Rattle.std.specs.List.{AllByRecursion}
-use Rattle.std.proofs.lemmas.List.{length-map}
+use Rattle.std.proofs.Math.Seq.{get_or-append_seam}
+use Rattle.std.proofs.lemmas.List.{length-map, map-append}
 use Rattle.xr_design.specs.Filling.{IsPlace}
 use Rattle.xr_design.specs.Fits.{Fits, place_at}
 use Rattle.xr_design.specs.Job.{Job, number_of, places_of}
 use Rattle.xr_design.specs.Waveform.{certain}
 use Rattle.xr_design.specs.declared.place.Place.{Place}
 use Rattle.xr_design.proofs.Numbers.{is_place_at, numbers_of_places}
+use Rattle.xr_model.specs.Cone.{in_cone}
+use Rattle.xr_model.specs.Places.{places_where}
+use Rattle.xr_model.proofs.Cones.{cone_self}
 use Rattle.xr_model.proofs.PlacesWhere.{among_all}
 use Rattle.xr_wave.specs.Contents.{Contents, job}
 use Rattle.xr_cone.specs.Boundary.{certain_boundary_in, near_in}
 use Rattle.xr_cone_nodes.specs.declared.node.Node.{Node}
-use Rattle.xr_cone_nodes.specs.Traced.{cone_in}
+use Rattle.xr_cone_nodes.specs.Nodes.{no_node, node_at, place_of_node}
+use Rattle.xr_cone_nodes.specs.Traced.{IsWholeCone, cone_in}
 use Rattle.xr_cond.specs.First.{HasTurnNodes, IsConeOfCertain, IsFirstQuery, IsNextFirst}
 use Rattle.xr_cond.specs.TurnNodes.{AreAround, AreNodesAround}
 use Rattle.xr_cond.specs.Turns.{first_due}
@@ -67,6 +72,33 @@ module _ (c : Contents) (root : ℕ) (cone : List Node) (of : IsConeOfCertain c 
     places_are = places_are;
     numbers_are = made ∙ numbers_back listed listed_are;
   }
+
+-- The last node of a cone is its place's.
+last_there : (test : ℕ → Bool) (root : ℕ) → test root ≡ true
+    → places_where test (root + 1) ≡ places_where test root ++ root ∷ []
+last_there test root holds = rw (add-one, holds) refl
+
+place_of_one : (nodes : List Node) (i : ℕ) → (node_at nodes i).place
+    ≡ slice_index_or (map place_of_node nodes) i no_node.place
+place_of_one [] i = refl
+place_of_one (n ∷ ns) zero = refl
+place_of_one (n ∷ ns) (suc i) = place_of_one ns i
+
+pub root_last : (c : Contents) (root : ℕ) (nodes : List Node) → IsWholeCone c root nodes
+    → (node_at nodes (length nodes - 1)).place ≡ place_at (job c) root
+root_last c root nodes is =
+    let before : List Place = map (place_at (job c)) (places_where (in_cone (job c) (certain c.written) root) root) in
+    let all : map place_of_node nodes ≡ before ++ place_at (job c) root ∷ [] =
+    is.places ∙ ap (map (place_at (job c))) (last_there (in_cone (job c) (certain c.written) root) root
+    (cone_self (job c) is.wave.fits.fits_job (certain c.written) root is.reach.within))
+    ∙ map-append (place_at (job c)) (places_where (in_cone (job c) (certain c.written) root) root) (root ∷ []) in
+    let long = sym (length-map nodes place_of_node) ∙ ap length all
+    ∙ length-append before (place_at (job c) root ∷ []) in
+    let at : length nodes - 1 ≡ length before = omega (arith, long) in
+    place_of_one nodes (length nodes - 1)
+    ∙ ap (λ ps. slice_index_or ps (length nodes - 1) no_node.place) all
+    ∙ ap (λ i. slice_index_or (before ++ place_at (job c) root ∷ []) i no_node.place) at
+    ∙ get_or-append_seam before (place_at (job c) root) [] no_node.place
 
 -- Where some are due, they are all.
 due_all : (b : List ℕ) (place : ℕ) (rest : List ℕ) → first_due b ≡ place ∷ rest → b ≡ place ∷ rest

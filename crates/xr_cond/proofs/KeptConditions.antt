@@ -14,8 +14,8 @@ use Rattle.xr_cone.specs.Boundary.{certain_boundary}
 use Rattle.xr_cond.specs.Condition.{IsCondition}
 use Rattle.xr_cond.specs.Laws.{TurnsLaw}
 use Rattle.xr_cond.specs.Turns.{AreTurns, IsTurn, due_after, first_due, first_kept, kept_after, kept_with}
-use Rattle.xr_cond.specs.declared.turn.Turn.{Turn}
-use Rattle.xr_cond.specs.declared.turn.Turn.TheVariants.{Dropped, Needed, Tried}
+use Rattle.xr_model.specs.declared.turn.Turn.{Turn}
+use Rattle.xr_model.specs.declared.turn.Turn.TheVariants.{Dropped, Needed, Tried}
 use Rattle.xr_cond.proofs.TurnModels.{turn_law}
 use Rattle.xr_cond.proofs.WholeLists.{whole_list_law}
 
@@ -38,7 +38,7 @@ turn_keeps : (j : Job) → Fits j → (c : ℕ → Value) (root : ℕ) (value : 
 turn_keeps j fits c root value limit kept due place (Dropped log) within condition is =
     (turn_law j c root value (kept ++ due) is.query fits within
     (λ k at. condition.places k (among_skipped kept due place k at)) is.is_query).0
-    (λ model is_model. no_model is.query.vars is.query.clauses log is.finds.1 is.finds.0 model is_model)
+    (λ model is_model. no_model is.query.vars is.query.clauses log is.finds.1 is.finds.0.no_zero model is_model)
 turn_keeps j fits c root value limit kept due place (Needed model) within condition is = stays j c root value kept due
     place condition
 turn_keeps j fits c root value limit kept due place (Tried log) within condition is = stays j c root value kept due

@@ -10,10 +10,12 @@ pub mod KeptUnits
 pub mod MadeSteps
 pub mod NextTurns
 pub mod NodeLists
+pub mod StayingConditions
 pub mod TurnChoices
 pub mod TurnClauses
 pub mod TurnLiterals
 pub mod TurnModels
+pub mod TurnsBefore
 pub mod WholeLists
 pub mod WholeValues
 pub mod WorkedConditions

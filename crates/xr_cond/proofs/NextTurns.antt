@@ -12,7 +12,7 @@ use Rattle.xr_design.specs.Fits.{place_at}
 use Rattle.xr_design.specs.Job.{Job}
 use Rattle.xr_design.specs.Waveform.{certain}
 use Rattle.xr_proof.specs.Assignment.{HasNoZero, IsModel}
-use Rattle.xr_proof.specs.Log.{AreFresh, Refutes}
+use Rattle.xr_proof.specs.Log.{AreFresh, Fit, Refutes}
 use Rattle.xr_proof.specs.declared.clause.Cnf.{Cnf}
 use Rattle.xr_model.proofs.PlacesWhere.{picked_rises}
 use Rattle.xr_cone.specs.Boundary.{boundary, certain_boundary, certain_boundary_in, is_boundary}
@@ -21,10 +21,10 @@ use Rattle.xr_cond.specs.Exchange.{IsNextExchanged, IsNextTaken}
 use Rattle.xr_cond.specs.Condition.{AreOfBoundary}
 use Rattle.xr_cond.specs.Turns.{AreTurnsOf, due_after, first_due, first_kept, kept_after, kept_with}
 use Rattle.xr_cond.specs.TurnQuery.{turn_denial, unit_clause}
-use Rattle.xr_cond.specs.View.{IsAbout, ConditionView, FindsNext, HeldLaw, HoldsTogether, IsBegun, IsConditionOf, IsKeeping, IsNextQuery, IsNextTurn, IsTurned, due_count, due_in, first_count, kept_in, current_list, next_in, settled_bit}
+use Rattle.xr_cond.specs.View.{IsAbout, ConditionView, FindsNext, HeldLaw, HoldsTogether, HoldsTurns, IsBegun, IsConditionOf, IsKeeping, IsNextQuery, IsNextTurn, IsTurned, due_count, due_in, first_count, kept_in, current_list, next_in, settled_bit}
 use Rattle.xr_cond.specs.declared.next.NextQuery.{NextQuery}
-use Rattle.xr_cond.specs.declared.turn.Turn.{Turn}
-use Rattle.xr_cond.specs.declared.turn.Turn.TheVariants.{Dropped, Needed, Tried}
+use Rattle.xr_model.specs.declared.turn.Turn.{Turn}
+use Rattle.xr_model.specs.declared.turn.Turn.TheVariants.{Dropped, Needed, Tried}
 use Rattle.xr_cond.proofs.ApartClauses.{turn_query_is}
 use Rattle.xr_cond.proofs.ApartLists.{skipped_apart}
 use Rattle.xr_cond.proofs.KeptConditions.{among_skipped, first_listed, turns_law, turns_more}
@@ -109,36 +109,49 @@ pub found_model : (view : ConditionView) (query : Cnf) (model : List Bool) → I
 found_model view query model next is c root of = (query, next c root of, is)
 
 pub found_refuted : (view : ConditionView) (query : Cnf) (log : List (List ℤ)) → IsNextQuery view query
-    → Refutes query.clauses log → FindsNext view (λ q. Refutes q.clauses log)
-found_refuted view query log next is c root of = (query, next c root of, is)
+    → Fit query.vars log → Refutes query.clauses log
+    → FindsNext view (λ q. Fit q.vars log × Refutes q.clauses log)
+found_refuted view query log next fit is c root of = (query, next c root of, (fit, is))
 
 pub found_fresh : (view : ConditionView) (query : Cnf) (log : List (List ℤ)) → IsNextQuery view query
-    → AreFresh query.clauses log → length log ≡ view.limit
-    → FindsNext view (λ q. AreFresh q.clauses log × (length log ≡ view.limit))
-found_fresh view query log next is long c root of = (query, next c root of, (is, long))
+    → Fit query.vars log → AreFresh query.clauses log → length log ≡ view.limit
+    → FindsNext view (λ q. Fit q.vars log × AreFresh q.clauses log × (length log ≡ view.limit))
+found_fresh view query log next fit is long c root of = (query, next c root of, (fit, is, long))
 
 -- Turns that say it.
 pub turn_dropped : (view : ConditionView) (log : List (List ℤ)) → All HasNoZero log
-    → FindsNext view (λ q. Refutes q.clauses log) → IsNextTurn view (Dropped log)
+    → FindsNext view (λ q. Fit q.vars log × Refutes q.clauses log) → IsNextTurn view (Dropped log)
 turn_dropped view log some finds c root is =
-    let found = finds c root is in record { query = found.0; is_query = found.1; finds = (some, found.2) }
+    let found = finds c root is in
+    record {
+      query = found.0;
+      is_query = found.1;
+      finds = (record { fit = found.2.0; no_zero = some }, found.2.1);
+    }
 
 pub turn_needed : (view : ConditionView) (model : List Bool)
     → FindsNext view (λ q. IsModel q.vars q.clauses model) → IsNextTurn view (Needed model)
 turn_needed view model finds c root is =
     let found = finds c root is in record { query = found.0; is_query = found.1; finds = found.2 }
 
-pub turn_tried : (view : ConditionView) (log : List (List ℤ))
-    → FindsNext view (λ q. AreFresh q.clauses log × (length log ≡ view.limit)) → IsNextTurn view (Tried log)
-turn_tried view log finds c root is =
+pub turn_tried : (view : ConditionView) (log : List (List ℤ)) → All HasNoZero log
+    → FindsNext view (λ q. Fit q.vars log × AreFresh q.clauses log × (length log ≡ view.limit))
+    → IsNextTurn view (Tried log)
+turn_tried view log some finds c root is =
     let found = finds c root is in
-    record { query = found.0; is_query = found.1; finds = (found.2.0, found.2.1 ∙ is.limit) }
+    record {
+      query = found.0;
+      is_query = found.1;
+      finds = (record { fit = found.2.0; no_zero = some }, found.2.1, found.2.2 ∙ is.limit);
+    }
 
 -- The parts of the condition after a turn.
 pub record AreTurnedParts (old : ConditionView) (turn : Turn) (new : ConditionView) : Type 0 where
   pub turns_are : new.turns ≡ old.turns ++ turn ∷ []
   pub due_is : new.due + 1 ≡ old.due
   pub limit_is : new.limit ≡ old.limit
+  pub place_is : new.place ≡ old.place
+  pub boundary_is : new.boundary ≡ old.boundary
   pub kept_is : (c : Contents) (root place : ℕ) (rest : List ℕ) → IsConditionOf c root old
       → due_in c root old.turns ≡ place ∷ rest
       → new.kept ≡ length (kept_with (kept_in c root old.turns) place turn)
@@ -155,6 +168,8 @@ turned old turn new some next parts = record {
   turns = parts.turns_are;
   due = parts.due_is;
   limit = parts.limit_is;
+  place = parts.place_is;
+  boundary = parts.boundary_is;
   is = after;
 }
   where
@@ -174,6 +189,8 @@ turned old turn new some next parts = record {
         record {
           wave = is.wave;
           has = is.has;
+          place = parts.place_is ∙ is.place;
+          boundary = parts.boundary_is ∙ is.boundary;
           limit = parts.limit_is ∙ is.limit;
           turns = subst (AreTurnsOf j (certain c.written) root (settled_bit c root) c.limit) (sym parts.turns_are) more.are;
           kept = parts.kept_is c root first.0 first.1 is first.2 ∙ ap length (sym kept_now);
@@ -198,13 +215,16 @@ more_due c root old place q more is ahead = let long = ap length ahead in let sa
 
 -- Where the place leaves.
 pub dropped_parts : (old : ConditionView) (log : List (List ℤ)) (new : ConditionView) → 0 < old.due
-    → new.turns ≡ old.turns ++ Dropped log ∷ [] → new.due ≡ old.due - 1 → new.limit ≡ old.limit → new.kept ≡ old.kept
+    → new.turns ≡ old.turns ++ Dropped log ∷ [] → new.due ≡ old.due - 1 → new.limit ≡ old.limit
+    → new.place ≡ old.place → new.boundary ≡ old.boundary → new.kept ≡ old.kept
     → new.listed ≡ remove old.listed old.kept → IsNextTaken old.next old.kept old.due new.next
     → AreTurnedParts old (Dropped log) new
-dropped_parts old log new some turns_are due_is limit_is kept_is listed_is taken = record {
+dropped_parts old log new some turns_are due_is limit_is place_is boundary_is kept_is listed_is taken = record {
   turns_are = turns_are;
   due_is = omega (arith, some, due_is);
   limit_is = limit_is;
+  place_is = place_is;
+  boundary_is = boundary_is;
   kept_is = λ c root place rest is first. kept_is ∙ is.kept;
   listed_is = λ c root place rest is first.
       (let before : List ℕ = kept_in c root old.turns in
@@ -242,12 +262,15 @@ keeping kept place (Needed model) stays = refl
 keeping kept place (Tried log) stays = refl
 
 pub kept_parts : (old : ConditionView) (turn : Turn) (new : ConditionView) → IsKeeping turn → 0 < old.due
-    → new.turns ≡ old.turns ++ turn ∷ [] → new.due ≡ old.due - 1 → new.limit ≡ old.limit → new.kept ≡ old.kept + 1
+    → new.turns ≡ old.turns ++ turn ∷ [] → new.due ≡ old.due - 1 → new.limit ≡ old.limit
+    → new.place ≡ old.place → new.boundary ≡ old.boundary → new.kept ≡ old.kept + 1
     → new.listed ≡ old.listed → IsNextExchanged old.next old.kept old.due new.next → AreTurnedParts old turn new
-kept_parts old turn new stays some turns_are due_is limit_is kept_is listed_is exchanged = record {
+kept_parts old turn new stays some turns_are due_is limit_is place_is boundary_is kept_is listed_is exchanged = record {
   turns_are = turns_are;
   due_is = omega (arith, some, due_is);
   limit_is = limit_is;
+  place_is = place_is;
+  boundary_is = boundary_is;
   kept_is = λ c root place rest is first.
       (let before : List ℕ = kept_in c root old.turns in
       let long = length-append before (place ∷ []) in
@@ -308,15 +331,18 @@ none_kept b place rest = by (nat_lt 64 (length b))
     by true e = cc
     by false e = refl
 
-pub begun : (listed : List Place) (next : NextQuery) (limit : ℕ) (new : ConditionView) → new.turns ≡ []
-    → new.kept ≡ first_count (length listed) → new.due ≡ due_count (length listed) → new.listed ≡ listed
-    → new.limit ≡ limit → new.next ≡ next → IsBegun listed next limit new
-begun listed next limit new none kept_is due_is listed_is limit_is next_is c root from =
+pub begun : (place : Place) (listed : List Place) (next : NextQuery) (limit : ℕ) (new : ConditionView)
+    → new.turns ≡ [] → new.kept ≡ first_count (length listed) → new.due ≡ due_count (length listed)
+    → new.listed ≡ listed → new.limit ≡ limit → new.next ≡ next → new.place ≡ place → new.boundary ≡ listed
+    → IsBegun place listed next limit new
+begun here listed next limit new none kept_is due_is listed_is limit_is next_is place_is boundary_is c root from =
     let b : List ℕ = certain_boundary_in c root in
     let long : length listed ≡ length b = ap length from.listed_are ∙ length-map b (place_at (job c)) in
     record {
       wave = from.wave;
       has = from.has;
+      place = place_is ∙ from.place_is;
+      boundary = boundary_is ∙ from.listed_are;
       limit = limit_is ∙ from.limit_is;
       turns = subst (AreTurnsOf (job c) (certain c.written) root (settled_bit c root) c.limit) (sym none) tt;
       kept = kept_is ∙ ap first_count long ∙ sym (first_long b) ∙ ap (λ ts. length (kept_in c root ts)) (sym none);
@@ -354,3 +380,27 @@ taken_together listed now kept due next new holds some now_is taken =
           ∙ length-remove next.query.clauses (next.cone + kept) (omega (arith, old, all, more)) in
           omega (arith, less, old, cone, shorter));
     }
+
+-- Where some are due all have their turns.
+pub due_all : (count : ℕ) → 0 < due_count count → due_count count ≡ count
+due_all count = by (nat_lt 64 count)
+  where
+    by : (many : Bool) → 0 < (if many then 0 else count) → (if many then 0 else count) ≡ count
+    by true some = absurd (omega (arith, some))
+    by false some = refl
+
+pub turns_begin : (boundary listed : List Place) (turns : List Turn) (due : ℕ) → boundary ≡ listed → turns ≡ []
+    → due ≡ due_count (length listed) → HoldsTurns boundary turns due
+turns_begin boundary listed turns due same none due_is some =
+    let all = due_all (length listed) (omega (arith, some, due_is)) in
+    let long = ap length same in
+    let short = ap length none in
+    omega (arith, all, long, short, due_is)
+
+-- One turn more is made.
+pub turns_left : (boundary : List Place) (turns now : List Turn) (turn : Turn) (due : ℕ) → HoldsTurns boundary turns due
+    → 0 < due → now ≡ turns ++ turn ∷ [] → HoldsTurns boundary now (due - 1)
+turns_left boundary turns now turn due holds some now_is more =
+    let all = holds some in
+    let long = ap length now_is ∙ length-append turns (turn ∷ []) in
+    omega (arith, all, long, some)

@@ -14,7 +14,7 @@ use Rattle.xr_proof.specs.declared.clause.Cnf.{Cnf}
 use Rattle.xr_proof.specs.Assignment.{HasNoModel, IsMet}
 use Rattle.xr_cond.specs.Condition.{AreOfBoundary, IsCondition, Obeys}
 use Rattle.xr_cond.specs.Turns.{AreTurnsOf, listed_by}
-use Rattle.xr_cond.specs.declared.turn.Turn.{Turn}
+use Rattle.xr_model.specs.declared.turn.Turn.{Turn}
 use Rattle.xr_cond.specs.TurnQuery.{IsTurnClause, IsTurnQuery, turn_choice_of, turn_model_of, turn_variables}
 
 -- A choice that obeys a list and gives the place the other value is a model of the list's turn query, from which it

@@ -1,15 +1,15 @@
 -- Turns: each certain boundary place is left out of the list in its turn, and stays out where the rest is a condition.
-use Rattle.std.specs.Prelude.{◌≡◌, ℕ, Bool, List, [], ◌∷◌, ◌++◌, drop, length, nat_lt, if◌then◌else◌}
+use Rattle.std.specs.Prelude.{◌≡◌, ℕ, ℤ, Bool, List, [], ◌∷◌, ◌++◌, drop, length, nat_lt, if◌then◌else◌}
 use Rattle.std.specs.List.{All}
 use Rattle.xr_cell.specs.declared.value.Value.{Value}
 use Rattle.xr_design.specs.Job.{Job}
 use Rattle.xr_proof.specs.Assignment.{HasNoZero, IsModel}
-use Rattle.xr_proof.specs.Log.{AreFresh, Refutes}
+use Rattle.xr_proof.specs.Log.{AreFresh, Fit, Refutes}
 use Rattle.xr_proof.specs.declared.clause.Cnf.{Cnf}
 use Rattle.xr_cone.specs.Boundary.{certain_boundary}
 use Rattle.xr_cond.specs.TurnQuery.{IsTurnQuery}
-use Rattle.xr_cond.specs.declared.turn.Turn.{Turn}
-use Rattle.xr_cond.specs.declared.turn.Turn.TheVariants.{Dropped, Needed, Tried}
+use Rattle.xr_model.specs.declared.turn.Turn.{Turn}
+use Rattle.xr_model.specs.declared.turn.Turn.TheVariants.{Dropped, Needed, Tried}
 
 -- The places that had their turn and stay in the list, after the turn of one more.
 abbrev pub kept_with : List ℕ → ℕ → Turn → List ℕ
@@ -17,12 +17,17 @@ kept_with kept place (Dropped log) = kept
 kept_with kept place (Needed model) = kept ++ place ∷ []
 kept_with kept place (Tried log) = kept ++ place ∷ []
 
+-- A log names variables of a query alone, and the literal 0 nowhere.
+pub record IsLogOf (query : Cnf) (log : List (List ℤ)) : Type 0 where
+  pub fit : Fit query.vars log
+  pub no_zero : All HasNoZero log
+
 -- What a turn says of a query: the log refutes it, the model makes every clause true, or the log is fresh and as long
 -- as the limit.
 abbrev pub TurnFinds : Cnf → ℕ → Turn → Type 0
-TurnFinds query limit (Dropped log) = All HasNoZero log × Refutes query.clauses log
+TurnFinds query limit (Dropped log) = IsLogOf query log × Refutes query.clauses log
 TurnFinds query limit (Needed model) = IsModel query.vars query.clauses model
-TurnFinds query limit (Tried log) = AreFresh query.clauses log × (length log ≡ limit)
+TurnFinds query limit (Tried log) = IsLogOf query log × AreFresh query.clauses log × (length log ≡ limit)
 
 -- It says so of the turn query of a list.
 pub record IsTurn (j : Job) (certain : ℕ → Value) (root : ℕ) (value : Bool) (limit : ℕ) (listed : List ℕ)

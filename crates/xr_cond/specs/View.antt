@@ -1,23 +1,26 @@
 -- What is seen of a condition under way, and when it is that of a place of a wave.
-use Rattle.std.specs.Prelude.{◌≡◌, ℕ, ◌+◌, ◌<◌, Bool, false, List, [], ◌∷◌, ◌++◌, if◌then◌else◌, length, map, nat_lt, ℤ}
+use Rattle.std.specs.Prelude.{◌≡◌, ℕ, ◌+◌, ◌<◌, Bool, false, List, [], ◌∷◌, ◌++◌, if◌then◌else◌, length, map, nat_lt, slice_index_or, ℤ}
 use Rattle.xr_design.specs.declared.place.Place.{Place}
 use Rattle.xr_design.specs.Fits.{place_at}
 use Rattle.xr_design.specs.Waveform.{certain}
 use Rattle.xr_design.specs.World.{decided}
 use Rattle.xr_proof.specs.declared.clause.Cnf.{Cnf}
 use Rattle.xr_cone.specs.Boundary.{certain_boundary_in}
+use Rattle.xr_cone.specs.Known.{IsGrown}
 use Rattle.xr_wave.specs.Contents.{Contents, IsWave, job}
 use Rattle.xr_cond.specs.Condition.{IsCondition}
 use Rattle.xr_cond.specs.Laws.{HasCertainBit}
 use Rattle.xr_cond.specs.TurnQuery.{AreWholeClauses, IsTurnQuery, turn_denial, turn_variables, unit_clause, unit_clauses}
 use Rattle.xr_cond.specs.Turns.{AreTurnsOf, IsTurn, due_by, kept_by, listed_by, next_listed}
 use Rattle.xr_cond.specs.declared.next.NextQuery.{NextQuery}
-use Rattle.xr_cond.specs.declared.turn.Turn.{Turn}
-use Rattle.xr_cond.specs.declared.turn.Turn.TheVariants.{Dropped, Needed, Tried}
+use Rattle.xr_model.specs.declared.turn.Turn.{Turn}
+use Rattle.xr_model.specs.declared.turn.Turn.TheVariants.{Dropped, Needed, Tried}
 
--- The list, how many of its first places had their turn and how many of the others are due, the turns, how long a fresh
--- log is, and the query of the next turn.
+-- The place, its certain boundary, the list, how many of its first places had their turn and how many of the others are
+-- due, the turns, how long a fresh log is, and the query of the next turn.
 pub record ConditionView : Type 0 where
+  pub place : Place
+  pub boundary : List Place
   pub listed : List Place
   pub kept : ℕ
   pub due : ℕ
@@ -29,6 +32,10 @@ pub record ConditionView : Type 0 where
 pub record HoldsTogether (listed : List Place) (kept due : ℕ) (next : NextQuery) : Type 0 where
   pub all : kept + due ≡ length listed
   pub long : 0 < due → length next.query.clauses ≡ next.cone + length listed
+
+-- Where turns are due, the boundary has one place for each turn, made or due.
+abbrev pub HoldsTurns : List Place → List Turn → ℕ → Type 0
+HoldsTurns boundary turns due = 0 < due → length turns + due ≡ length boundary
 
 -- The value of a certain place, and what turns leave of its boundary.
 abbrev pub settled_bit : Contents → ℕ → Bool
@@ -69,6 +76,8 @@ pub record IsAbout (c : Contents) (root : ℕ) (next : NextQuery) (listed : List
 pub record IsConditionOf (c : Contents) (root : ℕ) (view : ConditionView) : Type 0 where
   pub wave : IsWave c
   pub has : HasCertainBit (job c) c.written root (settled_bit c root)
+  pub place : view.place ≡ place_at (job c) root
+  pub boundary : view.boundary ≡ map (place_at (job c)) (certain_boundary_in c root)
   pub limit : view.limit ≡ c.limit
   pub turns : AreTurnsOf (job c) (certain c.written) root (settled_bit c root) c.limit view.turns
   pub kept : view.kept ≡ length (kept_in c root view.turns)
@@ -76,6 +85,11 @@ pub record IsConditionOf (c : Contents) (root : ℕ) (view : ConditionView) : Ty
   pub listed : view.listed ≡ map (place_at (job c)) (current_list c root view.turns)
   pub about : (place : ℕ) (rest : List ℕ) → due_in c root view.turns ≡ place ∷ rest
       → IsAbout c root view.next (kept_in c root view.turns ++ rest) place
+
+-- A place is that of the next turn: the first of the boundary behind those that had theirs.
+pub record IsNextPlace (view : ConditionView) (place : Place) : Type 0 where
+  pub within : length view.turns < length view.boundary
+  pub stands : slice_index_or view.boundary (length view.turns) place ≡ place
 
 -- A formula is the query of the next turn.
 abbrev pub IsNextQuery : ConditionView → Cnf → Type 0
@@ -97,6 +111,8 @@ pub record IsTurned (old : ConditionView) (turn : Turn) (new : ConditionView) : 
   pub turns : new.turns ≡ old.turns ++ turn ∷ []
   pub due : new.due + 1 ≡ old.due
   pub limit : new.limit ≡ old.limit
+  pub place : new.place ≡ old.place
+  pub boundary : new.boundary ≡ old.boundary
   pub is : (c : Contents) (root : ℕ) → IsConditionOf c root old → IsConditionOf c root new
 
 -- A turn after which its place stays.
@@ -113,24 +129,30 @@ IsStep old new = (turn : Turn) × IsTurned old turn new
 pub record IsFinishedFrom (old new : ConditionView) : Type 0 where
   pub none_due : new.due ≡ 0
   pub limit : new.limit ≡ old.limit
+  pub place : new.place ≡ old.place
+  pub boundary : new.boundary ≡ old.boundary
   pub is : (c : Contents) (root : ℕ) → IsConditionOf c root old → IsConditionOf c root new
 
 -- Some turns are made.
 pub record IsUnderWay (old now : ConditionView) : Type 0 where
   pub limit : now.limit ≡ old.limit
+  pub place : now.place ≡ old.place
+  pub boundary : now.boundary ≡ old.boundary
   pub is : (c : Contents) (root : ℕ) → IsConditionOf c root old → IsConditionOf c root now
 
 -- It begins with all certain boundary places of a place, and the query of the list without the first.
-pub record IsBeginning (c : Contents) (root : ℕ) (listed : List Place) (next : NextQuery) (limit : ℕ) : Type 0 where
+pub record IsBeginning (c : Contents) (root : ℕ) (place : Place) (listed : List Place) (next : NextQuery)
+    (limit : ℕ) : Type 0 where
   pub wave : IsWave c
   pub has : HasCertainBit (job c) c.written root (settled_bit c root)
+  pub place_is : place ≡ place_at (job c) root
   pub limit_is : limit ≡ c.limit
   pub listed_are : listed ≡ map (place_at (job c)) (certain_boundary_in c root)
-  pub about : (place : ℕ) (rest : List ℕ) → due_in c root [] ≡ place ∷ rest → IsAbout c root next rest place
+  pub about : (first : ℕ) (rest : List ℕ) → due_in c root [] ≡ first ∷ rest → IsAbout c root next rest first
 
-abbrev pub IsBegun : List Place → NextQuery → ℕ → ConditionView → Type 0
-IsBegun listed next limit view = (c : Contents) (root : ℕ)
-    → IsBeginning c root listed next limit → IsConditionOf c root view
+abbrev pub IsBegun : Place → List Place → NextQuery → ℕ → ConditionView → Type 0
+IsBegun place listed next limit view = (c : Contents) (root : ℕ)
+    → IsBeginning c root place listed next limit → IsConditionOf c root view
 
 -- Most places that have turns.
 abbrev pub first_count : ℕ → ℕ
@@ -138,6 +160,11 @@ first_count count = if nat_lt 64 count then count else 0
 
 abbrev pub due_count : ℕ → ℕ
 due_count count = if nat_lt 64 count then 0 else count
+
+-- A condition stays that of its place, whatever is written next.
+abbrev pub StayLaw : Type 0
+StayLaw = (c d : Contents) (root : ℕ) (view : ConditionView) → IsGrown c d → d.limit ≡ c.limit → IsWave d
+    → IsConditionOf c root view → IsConditionOf d root view
 
 -- The list of a condition, under way or finished, is a condition of its place.
 abbrev pub HeldLaw : Type 0

@@ -3,24 +3,26 @@
 ghost use Rattle.std.specs.Prelude.{◌≡◌, ◌<◌, ◌≤◌, ◌+◌, ◌++◌, ◌∷◌, [], IfOk, length};
 ghost use Rattle.std.specs.Vec.{vec_capacity, vec_len};
 ghost use Rattle.xr_proof.specs.Assignment.{IsModel};
-ghost use Rattle.xr_proof.specs.Log.{AreFresh, Refutes};
-ghost use Rattle.xr_cond.specs.View.{FindsNext, IsBegun, IsKeeping, IsNextQuery, IsNextTurn, IsTurned, due_count, first_count};
-ghost use Rattle.xr_cond.specs.declared.turn.Turn.TheVariants as turn;
+ghost use Rattle.xr_proof.specs.Log.{AreFresh, Fit, Refutes};
+ghost use Rattle.xr_cond.specs.View.{FindsNext, IsBegun, IsKeeping, IsNextPlace, IsNextQuery, IsNextTurn, IsTurned, due_count, first_count};
+ghost use Rattle.xr_model.specs.declared.turn.Turn.TheVariants as turn;
 
 use crate::change::{next_exchanged, next_taken};
-use crate::copy::copy_of;
+use crate::copy::{copy_of, copy_of_places};
 use crate::next::NextQuery;
-use crate::turn::Turn;
 use std::alloc::Global;
 use std::marker;
 use xr_base::Memory;
 use xr_design::Place;
+use xr_model::Turn;
 use xr_proof::{Cnf, Exhausted, Model, Refuted};
 
 /// The condition of a certain place, under way. Its list begins with all certain boundary places; each that is due is
 /// left out in its turn, in place order, and stays out where that turn drops it.
 #[derive(Debug, Drop)]
 pub struct Condition {
+    place: Place,
+    boundary: Vec<Place>,
     listed: Vec<Place>,
     kept: usize,
     due: usize,
@@ -32,11 +34,13 @@ pub struct Condition {
 impl marker::Model for Condition {
     ghost use Rattle.std.specs.Prelude.{◌+◌, ◌≤◌};
     ghost use Rattle.std.specs.Vec.{vec_capacity, vec_len};
-    ghost use Rattle.xr_cond.specs.View.{ConditionView, HoldsTogether};
+    ghost use Rattle.xr_cond.specs.View.{ConditionView, HoldsTogether, HoldsTurns};
 
     ghost Value = { ConditionView };
 
     ghost view = { λ some. record {
+      place = some.place;
+      boundary = some.boundary.items;
       listed = some.listed.items;
       kept = some.kept;
       due = some.due;
@@ -47,6 +51,7 @@ impl marker::Model for Condition {
 
     ghost invariant = { λ some.
         HoldsTogether some.listed.items some.kept some.due some.next
+        × HoldsTurns some.boundary.items some.turns.items some.due
         × (vec_len some.turns + some.due ≤ vec_capacity some.turns) };
 }
 
@@ -56,6 +61,20 @@ impl Condition {
         ensures { result ≡ self.now.due }
     {
         self.due
+    }
+
+    /// Its place. Takes no memory.
+    pub fn place(&self) -> Place
+        ensures { result ≡ self.now.place }
+    {
+        self.place
+    }
+
+    /// All certain boundary places, in place order. Takes no memory.
+    pub fn boundary(&self) -> &[Place]
+        ensures { result.now ≡ self.now.boundary }
+    {
+        self.boundary.as_slice()
     }
 
     /// The list, in place order. Takes no memory.
@@ -72,7 +91,33 @@ impl Condition {
         self.turns.as_slice()
     }
 
-    /// The query of the next turn: that of the list without the next place. Takes memory for a copy of it.
+    /// How long a fresh log is. Takes no memory.
+    pub fn limit(&self) -> u32
+        ensures { result ≡ self.now.limit }
+    {
+        self.limit
+    }
+
+    /// The place of the next turn. Takes no memory.
+    pub fn next_place(&self) -> Place
+        requires { 0 < self.now.due }
+        ensures { IsNextPlace self.now result }
+    {
+        self.boundary[self.turns.len()]
+    }
+
+    /// The query of the next turn, as it is kept: that of the list without the next place. Takes no memory.
+    pub fn next_query(&self) -> &Cnf
+        requires { 0 < self.now.due }
+        ensures query { IsNextQuery self.now result.now }
+        ensures value { result.now ≡ self.now.next.query }
+        ensures few { result.now.vars ≤ 2147483647 }
+        ensures fit { Fit result.now.vars result.now.clauses }
+    {
+        &self.next.query
+    }
+
+    /// A copy of the query of the next turn. Takes memory for it.
     pub fn query(&self, alloc: Global) -> Result<Cnf, Memory>
         requires { 0 < self.now.due }
         ensures { IfOk result (IsNextQuery self.now) }
@@ -83,10 +128,12 @@ impl Condition {
     /// The next place leaves the list, since a log refutes the query without it. Takes no memory.
     pub fn drop_place(self, proof: Refuted) -> Condition
         requires due { 0 < self.due }
-        requires refutes { FindsNext self (λ query. Refutes query.clauses proof) }
+        requires refutes { FindsNext self (λ query. Fit query.vars proof × Refutes query.clauses proof) }
         ensures { IsTurned self (turn.Dropped proof) result }
     {
         let Condition {
+            place,
+            boundary,
             mut listed,
             kept,
             due,
@@ -98,6 +145,8 @@ impl Condition {
         let next = next_taken(next, kept, due);
         let turns = with_turn(turns, Turn::Dropped(proof.into_log()));
         Condition {
+            place,
+            boundary,
             listed,
             kept,
             due: due - 1,
@@ -120,29 +169,34 @@ impl Condition {
     pub fn tried(self, proof: Exhausted) -> Condition
         requires due { 0 < self.due }
         requires fresh { FindsNext self
-            (λ query. AreFresh query.clauses proof × (length proof ≡ self.limit)) }
+            (λ query. Fit query.vars proof × AreFresh query.clauses proof × (length proof ≡ self.limit)) }
         ensures { IsTurned self (turn.Tried proof) result }
     {
         self.stay(Turn::Tried(proof.into_log()))
     }
 
-    /// The condition of all certain boundary places, and no turn made. Where they are more than 64 none is due. Takes
-    /// memory for all turns.
+    /// The condition of a place and all its certain boundary places, and no turn made. Where they are more than 64 none
+    /// is due. Takes memory for all turns, and 8 bytes for each place.
     pub(crate) fn begin(
         alloc: Global,
+        place: Place,
         listed: Vec<Place>,
         next: NextQuery,
         limit: u32,
     ) -> Result<Condition, Memory>
         requires { 0 < due_count (length listed.items)
             → length next.query.clauses ≡ next.cone + length listed.items }
-        ensures begun { IfOk result (IsBegun listed.items next limit) }
+        ensures begun { IfOk result (IsBegun place listed.items next limit) }
+        ensures none { IfOk result (λ condition. condition.turns ≡ []) }
         ensures limit { IfOk result (λ condition. condition.limit ≡ limit) }
     {
+        let boundary = copy_of_places(alloc, listed.as_slice())?;
         let kept = first_count(listed.len());
         let due = due_count(listed.len());
         let turns = Vec::with_capacity(alloc, due)?;
         Ok(Condition {
+            place,
+            boundary,
             listed,
             kept,
             due,
@@ -150,15 +204,6 @@ impl Condition {
             limit,
             next,
         })
-    }
-
-    /// The query of the next turn, as it is kept.
-    pub(crate) fn next_query(&self) -> &Cnf
-        requires { 0 < self.now.due }
-        ensures query { IsNextQuery self.now result.now }
-        ensures value { result.now ≡ self.now.next.query }
-    {
-        &self.next.query
     }
 
     /// The next place stays in the list.
@@ -169,6 +214,8 @@ impl Condition {
         ensures { IsTurned self turn result }
     {
         let Condition {
+            place,
+            boundary,
             listed,
             kept,
             due,
@@ -179,6 +226,8 @@ impl Condition {
         let next = next_exchanged(next, kept, due);
         let turns = with_turn(turns, turn);
         Condition {
+            place,
+            boundary,
             listed,
             kept: kept + 1,
             due: due - 1,

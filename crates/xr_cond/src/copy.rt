@@ -1,9 +1,10 @@
-//! Copies of formulas.
+//! Copies of formulas and of places.
 
 ghost use Rattle.std.specs.Prelude.{◌≡◌, IfOk};
 
 use std::alloc::Global;
 use xr_base::{Items, Memory};
+use xr_design::Place;
 use xr_proof::{Clause, Cnf};
 
 /// A formula once more. Takes four bytes a literal, and some for each clause.
@@ -32,4 +33,15 @@ fn copy_of_clause(alloc: Global, clause: &Clause) -> Result<Clause, Memory>
 {
     let literals = clause.as_slice().to_vec(alloc)?;
     Ok(Clause::from_vec(literals))
+}
+
+/// Places once more. Takes 8 bytes for each.
+pub fn copy_of_places(alloc: Global, places: &[Place]) -> Result<Vec<Place>, Memory>
+    ensures { IfOk result (λ copies. copies.items ≡ places.now) }
+{
+    let mut copies = Vec::with_capacity(alloc, places.len())?;
+    'places: for place in places {
+        copies.push(*place)?;
+    }
+    Ok(copies)
 }

@@ -1,7 +1,8 @@
 //! Conditions of cones, with which the turns begin.
 
-ghost use Rattle.std.specs.Prelude.{◌≡◌, ◌<◌, ◌+◌, IfOk, length};
+ghost use Rattle.std.specs.Prelude.{◌≡◌, ◌<◌, ◌+◌, ◌-◌, [], IfOk, length};
 ghost use Rattle.xr_cone.specs.Boundary.{IsCertainBoundary};
+ghost use Rattle.xr_cone_nodes.specs.Nodes.{node_at};
 ghost use Rattle.xr_cond.specs.First.{IsCertainCone, IsConditionOfCone, IsNextFirst};
 ghost use Rattle.xr_cond.specs.View.{due_count};
 
@@ -22,12 +23,21 @@ impl Condition {
     pub fn new(alloc: Global, wave: &Wave<'_>, cone: Cone) -> Result<Condition, Memory>
         requires { IsCertainCone wave.now cone.nodes }
         ensures condition { IfOk result (IsConditionOfCone wave.now cone.nodes) }
+        ensures none { IfOk result (λ condition. condition.turns ≡ []) }
         ensures limit { IfOk result (λ condition. condition.limit ≡ wave.now.limit) }
     {
         let listed = certain_boundary(alloc, wave, &cone)?;
         let next = next_of(alloc, wave, &cone, listed.as_slice())?;
-        Condition::begin(alloc, listed, next, wave.limit())
+        Condition::begin(alloc, last_place(&cone), listed, next, wave.limit())
     }
+}
+
+/// The place of the last node, which is the one that the cone is of.
+fn last_place(cone: &Cone) -> Place
+    ensures { result ≡ (node_at cone.now.nodes (length cone.now.nodes - 1)).place }
+{
+    let nodes = cone.nodes();
+    nodes[nodes.len() - 1].place
 }
 
 /// The query of the first turn, if one is due.

@@ -21,3 +21,8 @@ pub fn turns_keep_conditions()
 pub fn lists_are_conditions()
     ensures { held.HeldLaw }
 {}
+
+/// A condition of a place of a wave stays one, whatever is written next.
+pub fn conditions_stay_right()
+    ensures { held.StayLaw }
+{}

@@ -17,13 +17,13 @@ mod made;
 mod next;
 mod nodes;
 mod query;
-mod turn;
 mod units;
 mod whole;
 mod worked;
 
 pub use condition::Condition;
-pub use laws::{conditions_are_refuted, lists_are_conditions, turns_keep_conditions};
+pub use laws::{
+    conditions_are_refuted, conditions_stay_right, lists_are_conditions, turns_keep_conditions,
+};
 pub use made::{condition_of, finish};
-pub use turn::Turn;
 pub use worked::conditions_by_hand;

@@ -12,7 +12,7 @@ use crate::names::{cert_name, put_file};
 use crate::report::{count_logs, report_text};
 use std::alloc::Global;
 use xr_base::Memory;
-use xr_cert::write_cert;
+use xr_cert::{Form, write_cert};
 use xr_run::{Output, Ready, Report};
 use xr_wave::Wave;
 
@@ -42,7 +42,7 @@ fn put_certificate<'a>(
     ensures { OnOk result (map file_of outputs.new.items
         ≡ file (cert_name prefix.now) (cert_text (cert_of wave.now)) ∷ []) }
 {
-    let text = write_cert(alloc, wave)?;
+    let text = write_cert(alloc, wave, Form::Lines, &[])?;
     let name = cert_name(alloc, prefix)?;
     put_file(alloc, outputs, name, text)
 }

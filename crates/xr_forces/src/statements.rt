@@ -90,7 +90,8 @@ fn put_step(
     requires step { step < (job_in circuit.now).moments * (job_in circuit.now).rounds }
     requires forced { HasForced (job_in circuit.now).width statements.now step forced.now }
     requires rest { RestButFor (job_in circuit.now) statements.now from to step }
-    requires changes { HasChangesTo (job_in circuit.now) statements.now (step * (job_in circuit.now).width) changes.old }
+    requires changes { HasChangesTo (job_in circuit.now) statements.now (step * (job_in circuit.now).width)
+        changes.old }
     ensures { OnOk result
         (HasChangesTo (job_in circuit.now) statements.now ((step + 1) * (job_in circuit.now).width) changes.new) }
 {

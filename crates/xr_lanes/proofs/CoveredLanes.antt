@@ -8,16 +8,16 @@ use Rattle.xr_model.specs.Class.{class_of}
 use Rattle.xr_model.specs.declared.class.ClassByNumber.TheVariants.{Carried}
 use Rattle.xr_model.proofs.Roots.{carried_below}
 use Rattle.xr_wave.specs.Contents.{Contents, IsWave, job}
-use Rattle.xr_lanes.specs.InWave.{CoversBeforeIn, IsLiteralIn}
+use Rattle.xr_lane_nodes.specs.InWave.{CoversBeforeIn, IsLiteralIn}
+use Rattle.xr_lane_nodes.specs.Nodes.{numbers_of}
+use Rattle.xr_lane_nodes.specs.Covered.{IsCovered, covered_literal}
+use Rattle.xr_lane_nodes.specs.Literal.{LiteralView, no_literal, turned}
+use Rattle.xr_lane_nodes.specs.declared.literal.Covered.{Covered}
+use Rattle.xr_lane_nodes.proofs.NearPlaces.{near_carried}
+use Rattle.xr_lane_nodes.proofs.LiteralBits.{carried_literal, covered_near}
 use Rattle.xr_lanes.specs.Lanes.{IsNextNode, IsRightOf, Keeps, LanesView, count_of, looked, looked_count}
-use Rattle.xr_lanes.specs.Nodes.{numbers_of}
-use Rattle.xr_lanes.specs.Covered.{IsCovered, covered_literal}
-use Rattle.xr_lanes.specs.Literal.{LiteralView, no_literal, turned}
-use Rattle.xr_lanes.specs.declared.literal.Covered.{Covered}
 use Rattle.xr_lanes.proofs.GraphNodes.{below_more}
 use Rattle.xr_lanes.proofs.GrownLanes.{covered_more}
-use Rattle.xr_lanes.proofs.NearPlaces.{near_carried}
-use Rattle.xr_lanes.proofs.LiteralBits.{carried_literal, covered_near}
 
 -- The places that are covered are those of lanes.
 pub record IsOf (covered : Covered) (lanes : LanesView) : Type 0 where

@@ -23,15 +23,15 @@ use Rattle.xr_wave.specs.Contents.{Contents, IsWave, job}
 use Rattle.xr_cone_nodes.specs.declared.node.Node.{Node}
 use Rattle.xr_cone_nodes.specs.Lanes.{in_lane}
 use Rattle.xr_graph.specs.NodeRoots.{IsRooted}
-use Rattle.xr_lanes.specs.Given.{lane_given}
+use Rattle.xr_lane_nodes.specs.Given.{lane_given}
+use Rattle.xr_lane_nodes.specs.InWave.{IsNodeIn, IsLiteralIn}
+use Rattle.xr_lane_nodes.specs.Made.{HasSourcesIn, IsMadeNode, sources_by, with_made}
+use Rattle.xr_lane_nodes.specs.Nodes.{Extends, NodeView, node_at, numbers_of, with_node, zero_node}
+use Rattle.xr_lane_nodes.specs.Literal.{AreSources, HasBits, IsLiteralOf, IsNodeOf, LiteralView, ReachesBack, literal_bit, literal_in, no_literal, plain}
+use Rattle.xr_lane_nodes.specs.declared.literal.Covered.{Covered}
+use Rattle.xr_lane_nodes.specs.declared.node.Made.{Made}
 use Rattle.xr_lanes.specs.Graphs.{GrowsBy}
-use Rattle.xr_lanes.specs.InWave.{IsNodeIn, IsLiteralIn}
 use Rattle.xr_lanes.specs.Lanes.{IsNextNode, IsRightOf, LanesView, count_of, looked, looked_count}
-use Rattle.xr_lanes.specs.Made.{HasSourcesIn, IsMadeNode, sources_by, with_made}
-use Rattle.xr_lanes.specs.Nodes.{Extends, NodeView, node_at, numbers_of, with_node, zero_node}
-use Rattle.xr_lanes.specs.Literal.{AreSources, HasBits, IsLiteralOf, IsNodeOf, LiteralView, ReachesBack, literal_bit, literal_in, no_literal, plain}
-use Rattle.xr_lanes.specs.declared.literal.Covered.{Covered}
-use Rattle.xr_lanes.specs.declared.node.Made.{Made}
 use Rattle.xr_lanes.proofs.GraphNodes.{below_last, below_more, graph_grows, graph_stays, numbers_more}
 use Rattle.xr_lanes.proofs.SharedTables.{shared_grows, shared_moves}
 

@@ -24,12 +24,12 @@ use Rattle.xr_wave.specs.Token.{HasNext}
 use Rattle.xr_sources.proofs.GivenWorlds.{given_cut}
 use Rattle.xr_cone_nodes.specs.Lanes.{HasLanes, in_lane}
 use Rattle.xr_cone_nodes.proofs.PickedLists.{places_both}
-use Rattle.xr_lanes.specs.Given.{empty_lane, given_by, lane_given}
-use Rattle.xr_lanes.specs.InWave.{bit_in_lane}
+use Rattle.xr_lane_nodes.specs.Given.{empty_lane, given_by, lane_given}
+use Rattle.xr_lane_nodes.specs.InWave.{bit_in_lane}
+use Rattle.xr_lane_nodes.specs.Literal.{AreSources}
+use Rattle.xr_lane_nodes.specs.Made.{AreSourcesIn}
+use Rattle.xr_lane_nodes.specs.Nodes.{NodeView, node_at}
 use Rattle.xr_lanes.specs.Lanes.{IsNextNode}
-use Rattle.xr_lanes.specs.Literal.{AreSources}
-use Rattle.xr_lanes.specs.Made.{AreSourcesIn}
-use Rattle.xr_lanes.specs.Nodes.{NodeView, node_at}
 use Rattle.xr_lanes.specs.Pairs.{IsOther, ListsJust, bit_under, lane_filling}
 
 -- The lane of the empty filling has 0 everywhere.

@@ -1,5 +1,5 @@
 -- The roots of places by their literals, and the cones of the places of nodes.
-use Rattle.std.proofs.Common.{◌≡◌, ℕ, ◌-◌, ◌<◌, ◌≤◌, true, Bool, List, Option, None, Some, IfSome, length, refl, sym, ap, ◌∙◌, subst, arith}
+use Rattle.std.proofs.Common.{◌≡◌, ℕ, ◌-◌, ◌<◌, ◌≤◌, true, List, Option, None, Some, IfSome, length, sym, ap, ◌∙◌, subst, arith}
 use Rattle.std.specs.Prelude.{Result, IfOk}
 use Rattle.std.proofs.lemmas.Result.{IfOk-weaker}
 use Rattle.xr_cell.specs.Value.{is_unknown}
@@ -16,16 +16,16 @@ use Rattle.xr_model.specs.Root.{Root}
 use Rattle.xr_model.proofs.Roots.{root_within}
 use Rattle.xr_wave.specs.Contents.{Contents, IsWave, IsWritten, job}
 use Rattle.xr_wave.specs.Pairs.{IsRootOf, root_in}
-use Rattle.xr_lanes.specs.Covered.{IsCovered, covered_literal}
+use Rattle.xr_lane_nodes.specs.Covered.{IsCovered}
+use Rattle.xr_lane_nodes.specs.InWave.{IsLiteralIn}
+use Rattle.xr_lane_nodes.specs.Literal.{LiteralView, literal_in}
+use Rattle.xr_lane_nodes.specs.Nodes.{numbers_of}
+use Rattle.xr_lane_nodes.specs.declared.literal.Covered.{Covered}
+use Rattle.xr_lane_nodes.proofs.ArgumentRoots.{number_at}
 use Rattle.xr_lanes.specs.Graphs.{GivesCone, IsGraphIn}
-use Rattle.xr_lanes.specs.InWave.{IsLiteralIn}
 use Rattle.xr_lanes.specs.Lanes.{IsRightOf, LanesView, count_of}
-use Rattle.xr_lanes.specs.Literal.{LiteralView, literal_in}
-use Rattle.xr_lanes.specs.Nodes.{node_at, numbers_of}
 use Rattle.xr_lanes.specs.Roots.{HasNode, IsRootAt, place_of}
-use Rattle.xr_lanes.specs.declared.literal.Covered.{Covered}
 use Rattle.xr_lanes.proofs.CoveredLanes.{IsOf}
-use Rattle.xr_lanes.proofs.GraphNodes.{number_at}
 
 -- ---- cones
 

@@ -1,15 +1,15 @@
 -- Lanes with tables that their nodes share.
-use Rattle.std.proofs.Common.{◌≡◌, ℕ, ◌-◌, ◌<◌, List, [], ◌∷◌, Option, None, Some, IfSome, length, refl, sym, ◌∙◌, arith, subst}
+use Rattle.std.proofs.Common.{◌≡◌, ℕ, ◌-◌, List, [], ◌∷◌, Option, None, Some, IfSome, refl, ◌∙◌, arith}
 use Rattle.xr_wave.specs.Contents.{Contents}
 use Rattle.xr_cone_nodes.specs.declared.node.Node.{Node}
 use Rattle.xr_graph.proofs.GrownGraphs.{begin_law}
-use Rattle.xr_graph.specs.Graph.{AreOrdered}
+use Rattle.xr_lane_nodes.specs.Literal.{LiteralView}
+use Rattle.xr_lane_nodes.specs.Nodes.{NodeView, numbers_of, zero_node}
+use Rattle.xr_lane_nodes.proofs.ArgumentRoots.{number_at, numbers_long}
 use Rattle.xr_lanes.specs.Graphs.{IsGraphIn}
 use Rattle.xr_lanes.specs.Lanes.{IsLookedAt, IsRightOf, LanesView}
-use Rattle.xr_lanes.specs.Literal.{LiteralView}
-use Rattle.xr_lanes.specs.Nodes.{NodeView, numbers_of, zero_node}
 use Rattle.xr_lanes.specs.Shared.{IsNextIn, IsSharedIn, IsSharedOfAny, SharedView}
-use Rattle.xr_lanes.proofs.GraphNodes.{graph_long, next_node, number_at, numbers_long}
+use Rattle.xr_lanes.proofs.GraphNodes.{graph_long, next_node}
 
 -- The next place has its node in the graph.
 pub next_in : (c : Contents) (lanes : LanesView) (node : ℕ) → IsRightOf c lanes → IsLookedAt c lanes

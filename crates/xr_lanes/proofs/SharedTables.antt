@@ -1,39 +1,51 @@
 -- Tables that nodes share, as nodes come in and as the wave grows, and what they show of the next place.
-use Rattle.std.proofs.Common.{◌≡◌, ℕ, ◌+◌, ◌-◌, ◌<◌, not, Bool, true, false, List, [], ◌∷◌, ◌++◌, Option, None, Some, IfSome, length, map, slice_index, refl, sym, ap, ◌∙◌, subst, arith, ⊎_elim, if◌then◌else◌}
+use Rattle.std.proofs.Common.{◌≡◌, ℕ, ◌+◌, ◌*◌, ◌/◌, ◌%◌, ◌^◌, ◌<◌, ◌≤◌, ◌==◌, ◌&&◌, cond, not, Bool, true, false, List, [], ◌∷◌, Option, None, Some, IfSome, filter, length, map, refl, sym, ap, ◌∙◌, subst, arith, ⊎_elim, if◌then◌else◌}
+use Rattle.std.proofs.Math.Numerals.{add-one}
+use Rattle.std.proofs.Math.Path.{fun_ext}
 use Rattle.std.specs.List.{AllByRecursion}
 use Rattle.std.specs.List.Sorted.{IsStrictlyIncreasing}
-use Rattle.std.proofs.lemmas.Bool.{or_cases}
+use Rattle.std.proofs.lemmas.Bool.{eqb-true, or_cases}
+use Rattle.std.proofs.lemmas.List.{length-map}
+use Rattle.std.proofs.lemmas.Map.Views.{any-filter_same}
+use Rattle.std.proofs.lemmas.Nat.Bits.{bit_at-suc, bit_at_lowest}
 use Rattle.xr_cell.specs.declared.value.Value.{Value}
 use Rattle.xr_design.specs.declared.place.Place.{Place}
-use Rattle.xr_design.specs.Filling.{IsFilling}
-use Rattle.xr_design.specs.Fits.{place_at}
+use Rattle.xr_design.specs.Filling.{IsFilling, bit_of}
+use Rattle.xr_design.specs.Fits.{Fits, place_at}
 use Rattle.xr_design.specs.Job.{Job, places_of}
 use Rattle.xr_design.specs.Waveform.{GivesBoth, certain}
 use Rattle.xr_design.proofs.Exact.{empty_filling}
-use Rattle.xr_design.proofs.Numbers.{filling_at}
+use Rattle.xr_design.proofs.Numbers.{bit_of_at, filling_at}
 use Rattle.xr_model.specs.Cone.{is_source}
+use Rattle.xr_model.specs.Mask.{mask_of}
 use Rattle.xr_model.specs.Places.{among}
-use Rattle.xr_model.proofs.PlacesWhere.{all_among, among_all, picked_rises}
+use Rattle.xr_model.specs.declared.line.Body.TheVariants.{Enumerated}
+use Rattle.xr_model.proofs.AssignmentNumbers.{mask_small}
+use Rattle.xr_model.proofs.Cones.{cone_self}
+use Rattle.xr_model.proofs.LawProofs.{sources_decide}
+use Rattle.xr_model.proofs.PlacesWhere.{all_among, among_all, or_right, picked_rises}
+use Rattle.xr_model.proofs.SourceFillings.{source_among}
 use Rattle.xr_rests.proofs.RisingLists.{Rises, rises}
-use Rattle.xr_wave.specs.Contents.{Contents, IsWave, job, next_number}
+use Rattle.xr_wave.specs.Contents.{Contents, IsWave, job, next_number, shown_in}
+use Rattle.xr_wave.specs.Token.{HasNext, HoldsNext}
 use Rattle.xr_cone_nodes.specs.declared.node.Node.{Node}
 use Rattle.xr_cone_nodes.specs.Nodes.{chosen, number_bits}
 use Rattle.xr_cone_nodes.specs.Traced.{world_in}
 use Rattle.xr_graph.proofs.GraphBits.{world_law}
 use Rattle.xr_graph.specs.Bits.{graph_bit}
-use Rattle.xr_graph.specs.NodeRoots.{AddsNode}
 use Rattle.xr_graph.specs.declared.node_root.NodeRoot.{NodeRoot}
 use Rattle.xr_tables.proofs.RightTables.{stay_law}
-use Rattle.xr_tables.specs.Other.{IsOther}
+use Rattle.xr_tables.specs.Other.{IsOther, IsSame}
 use Rattle.xr_tables.specs.Tables.{AreTablesOf, AreTablesOfAny, TablesView, filling_by}
 use Rattle.xr_tables.specs.declared.other.Other.{Other}
+use Rattle.xr_lane_nodes.specs.Made.{AreSourcesIn}
+use Rattle.xr_lane_nodes.specs.Union.{IsUnion}
+use Rattle.xr_lane_nodes.proofs.Unions.{increases}
 use Rattle.xr_lanes.specs.Graphs.{GrowsBy}
-use Rattle.xr_lanes.specs.Made.{AreSourcesIn}
 use Rattle.xr_lanes.specs.Pairs.{bit_under}
-use Rattle.xr_lanes.specs.Shared.{AreListable, IsListIn, IsNextIn, IsOtherNext, IsSharedIn, SharedView}
-use Rattle.xr_lanes.specs.Union.{IsUnion}
+use Rattle.xr_lanes.specs.Shared.{AreListable, ListsAll, IsListIn, IsNextIn, IsOtherNext, IsSharedIn, SharedView}
+use Rattle.xr_lanes.specs.Shown.{GivesNext}
 use Rattle.xr_lanes.proofs.LanePairs.{sources_low}
-use Rattle.xr_lanes.proofs.Unions.{increases}
 
 -- A list without tables.
 no_tables : (graph : Option (List Node)) (tables : TablesView) → AreTablesOfAny tables
@@ -165,6 +177,105 @@ other_next c nodes shared node other wave list next is =
     world filling filled =
         world_law c nodes next.numbers filling node wave next.ordered next.is_graph filled next.within
         ∙ ap (world_in c filling) next.is
+
+-- The number of the bits of some numbers chooses those that have 1.
+low_bit : (b : Bool) (m : ℕ) → number_bits (cond b 1 0 + 2 * m) 0 ≡ b
+low_bit true m =
+    let e : (1 + 2 * m) % 2 ≡ 1 = omega arith in ap (λ bit. bit == 1) (bit_at_lowest (1 + 2 * m) ∙ e)
+low_bit false m =
+    let e : (0 + 2 * m) % 2 ≡ 0 = omega arith in ap (λ bit. bit == 1) (bit_at_lowest (0 + 2 * m) ∙ e)
+
+rest_of : (b : Bool) (m : ℕ) → (cond b 1 0 + 2 * m) / 2 ≡ m
+rest_of true m = omega arith
+rest_of false m = omega arith
+
+high_bits : (b : Bool) (m : ℕ) → (λ (k : ℕ). number_bits (cond b 1 0 + 2 * m) (k + 1)) ≡ number_bits m
+high_bits b m = fun_ext (λ k. ap (number_bits (cond b 1 0 + 2 * m)) (add-one k)
+    ∙ ap (λ bit. bit == 1) (bit_at-suc (cond b 1 0 + 2 * m) k) ∙ ap (λ n. number_bits n k) (rest_of b m))
+
+picked_mask : (xs : List ℕ) (bits : ℕ → Bool) → picked xs (number_bits (mask_of xs bits)) ≡ filter bits xs
+picked_mask [] bits = refl
+picked_mask (x ∷ xs) bits =
+    rw (low_bit (bits x) (mask_of xs bits), high_bits (bits x) (mask_of xs bits), picked_mask xs bits) refl
+
+-- So each filling gives the places of a list the bits that the filling of a number gives them.
+module _ (c : Contents) (shared : SharedView) (filling : List Place) (wave : IsWave c) (list : IsListIn c shared) where
+  abbrev j : Job
+  j = job c
+
+  abbrev bits : ℕ → Bool
+  bits = bit_of j filling
+
+  abbrev own_number : ℕ
+  own_number = mask_of shared.numbers bits
+
+  abbrev own : List Place
+  own = filling_by shared.tables.list own_number
+
+  number_small : own_number < 2 ^ length shared.tables.list
+  number_small =
+      let long : length shared.tables.list ≡ length shared.numbers =
+      ap length list.places ∙ length-map shared.numbers (place_at j) in
+      subst (λ n. own_number < 2 ^ n) (sym long) (mask_small shared.numbers bits)
+
+  own_picked : own ≡ map (place_at j) (picked shared.numbers (number_bits own_number))
+  own_picked = ap (λ (places : List Place). chosen places (number_bits own_number)) list.places
+      ∙ chosen_map (place_at j) shared.numbers (number_bits own_number)
+
+  own_bit : (k : ℕ) → among shared.numbers k ≡ true → bit_of j own k ≡ bits k
+  own_bit k listed =
+      let fits = wave.fits.fits_job in
+      let chosen_ones : List ℕ = picked shared.numbers (number_bits own_number) in
+      ap (λ f. bit_of j f k) own_picked
+      ∙ bit_of_at j chosen_ones k fits.ordering fits.all
+      (picked_all (λ i. i < places_of j) shared.numbers (number_bits own_number) list.numbers.within)
+      ∙ ap (λ xs. among xs k) (picked_mask shared.numbers bits)
+      ∙ any-filter_same (λ i. i == k) bits (bits k) (λ i same. ap bits (eqb-true i k same)) shared.numbers
+      ∙ rw listed (and_true (bits k))
+    where
+      and_true : (b : Bool) → b && true ≡ b
+      and_true true = refl
+      and_true false = refl
+
+-- What the node of the next place has under each number it has under each filling, where the list has its sources.
+pub gives_next : (c : Contents) (nodes : List Node) (shared : SharedView) (node : ℕ) (bit : Bool) (sources : List ℕ)
+    → IsWave c → HasNext c → IsListIn c shared → IsNextIn c node nodes → AreSourcesIn c (next_number c) sources
+    → ListsAll sources shared → IsSame nodes shared.tables.list node bit → GivesNext c bit
+gives_next c nodes shared node bit sources wave within list next are listed same filling filled =
+    sources_decide (job c) c.limit (shown_in c) c.written c.lines fits wave.holds.sound (next_number c) (next_number c)
+    filling other (record { written = omega arith; within = within }) filled other_filled alike
+    (cone_self (job c) fits (certain c.written) (next_number c) within)
+    ∙ ap (world_in c other) (sym next.is)
+    ∙ sym (world_law c nodes next.numbers other node wave next.ordered next.is_graph other_filled next.within)
+    ∙ same (mask_of shared.numbers (bit_of (job c) filling)) (number_small c shared filling wave list)
+  where
+    fits : Fits (job c)
+    fits = wave.fits.fits_job
+
+    other : List Place
+    other = filling_by shared.tables.list (mask_of shared.numbers (bit_of (job c) filling))
+
+    other_filled : IsFilling (job c) other
+    other_filled = number_filling c shared (mask_of shared.numbers (bit_of (job c) filling)) wave list
+
+    alike : (k : ℕ) → is_source (job c) (certain c.written) (next_number c) k ≡ true
+        → bit_of (job c) filling k ≡ bit_of (job c) other k
+    alike k source =
+        sym (own_bit c shared filling wave list k (listed k (subst (λ xs. among xs k ≡ true) (sym are)
+        (source_among (job c) fits (certain c.written) (next_number c) k within source))))
+
+-- Where that has at most 12 sources, this is an enumeration.
+pub few_enumerated : (c : Contents) (bit : Bool) (sources : List ℕ) → AreSourcesIn c (next_number c) sources
+    → length sources ≤ 12 → GivesNext c bit → HoldsNext c (Enumerated bit)
+few_enumerated c bit sources are few gives = record {
+  few = subst (λ xs. length xs ≤ 12) are few;
+  each = λ filling filled alone. gives filling filled;
+}
+
+-- A union has each of the two lists.
+pub union_listed : (some others all : List ℕ) → IsUnion some others all → (k : ℕ) → among others k ≡ true
+    → among all k ≡ true
+union_listed some others all is k listed = is.are k ∙ or_right (among some k) (among others k) listed
 
 -- So the two fillings are a pair.
 pub both_up : (c : Contents) (other : Other) → IsOtherNext c other → other.empty ≡ false

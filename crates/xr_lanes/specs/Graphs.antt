@@ -1,5 +1,5 @@
 -- The graph of the nodes.
-use Rattle.std.specs.Prelude.{ℕ, ◌-◌, ◌<◌, ◌^◌, List, Option, None, Some, length}
+use Rattle.std.specs.Prelude.{ℕ, ◌<◌, ◌^◌, List, Option, None, Some, length}
 use Rattle.xr_cell.specs.declared.value.Value.{Value}
 use Rattle.xr_design.specs.declared.place.Place.{Place}
 use Rattle.xr_wave.specs.Contents.{Contents}
@@ -7,19 +7,12 @@ use Rattle.xr_cone_nodes.specs.declared.node.Node.{Node}
 use Rattle.xr_graph.specs.Graph.{AreOrdered, IsConeOfNode, IsGraphOf}
 use Rattle.xr_graph.specs.NodeRoots.{AddsNode}
 use Rattle.xr_graph.specs.declared.node_root.NodeRoot.{NodeRoot}
-use Rattle.xr_lanes.specs.Covered.{covered_literal}
-use Rattle.xr_lanes.specs.Nodes.{NodeView, numbers_of}
-use Rattle.xr_lanes.specs.declared.literal.Covered.{Covered}
+use Rattle.xr_lane_nodes.specs.Nodes.{NodeView, numbers_of}
 
 -- A graph is that of the nodes after the first one: node n is its node n - 1.
 pub record IsGraphIn (c : Contents) (nodes : List NodeView) (graph : List Node) : Type 0 where
   pub ordered : AreOrdered graph
   pub is_graph : IsGraphOf c graph (numbers_of nodes)
-
--- The root of a place that has a literal, by the node in the graph.
-abbrev pub covered_root : Covered → ℕ → NodeRoot
-covered_root covered place =
-    record { node = (covered_literal covered place).node - 1; inverted = (covered_literal covered place).inverted }
 
 -- The node of a place came into a graph in which there was room.
 pub record ComesIn (old : List Node) (place : Place) (roots : List NodeRoot) (values : List Value)

@@ -1,13 +1,13 @@
 -- What lanes have of the places of a wave.
-use Rattle.std.specs.Prelude.{◌≡◌, ℕ, ◌+◌, ◌<◌, ◌≤◌, Bool, List, IfSome, IsSome, Option, None, Some, length}
+use Rattle.std.specs.Prelude.{◌≡◌, ℕ, ◌+◌, ◌<◌, ◌≤◌, List, IfSome, IsSome, Option, None, Some, length}
 use Rattle.std.specs.List.{AllByRecursion}
 use Rattle.xr_design.specs.Job.{places_of}
 use Rattle.xr_design.specs.Waveform.{certain}
 use Rattle.xr_wave.specs.Contents.{Contents, job}
 use Rattle.xr_cone_nodes.specs.declared.node.Node.{Node}
+use Rattle.xr_lane_nodes.specs.Literal.{AreLiteralsFrom, IsNodeOf, LiteralView, ReachesBack}
+use Rattle.xr_lane_nodes.specs.Nodes.{Extends, NodeView, node_at, numbers_of, zero_node}
 use Rattle.xr_lanes.specs.Graphs.{IsGraphIn}
-use Rattle.xr_lanes.specs.Literal.{AreLiteralsFrom, IsNodeOf, LiteralView, ReachesBack}
-use Rattle.xr_lanes.specs.Nodes.{Extends, NodeView, node_at, numbers_of, zero_node}
 use Rattle.xr_lanes.specs.Shared.{IsSharedIn, SharedView}
 
 -- The nodes, the literals of the last places that are covered, from a first one on, the node of the place after them, if it
@@ -65,7 +65,3 @@ pub record Keeps (old new : LanesView) : Type 0 where
 pub record IsLookedAt (c : Contents) (lanes : LanesView) : Type 0 where
   pub all : count_of lanes ≡ length c.written
   pub next : IsSome lanes.next
-
--- The literal of a bit: the first node, as it is or inverted.
-abbrev pub constant : Bool → LiteralView
-constant bit = record { node = 0; inverted = bit }

@@ -9,9 +9,9 @@ use Rattle.xr_design.specs.World.{world_bit}
 use Rattle.xr_model.specs.Cone.{source_filling}
 use Rattle.xr_wave.specs.Contents.{Contents, job, next_number}
 use Rattle.xr_cone_nodes.specs.Lanes.{in_lane}
-use Rattle.xr_lanes.specs.Given.{empty_lane, lane_given}
-use Rattle.xr_lanes.specs.InWave.{bit_in_lane}
-use Rattle.xr_lanes.specs.Nodes.{NodeView, node_at}
+use Rattle.xr_lane_nodes.specs.Given.{empty_lane, lane_given}
+use Rattle.xr_lane_nodes.specs.InWave.{bit_in_lane}
+use Rattle.xr_lane_nodes.specs.Nodes.{NodeView, node_at}
 
 -- In each lane there is the bit that there is in that of the empty filling.
 abbrev pub IsSame : List ℕ → Type 0

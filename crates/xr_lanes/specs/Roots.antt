@@ -4,8 +4,8 @@ use Rattle.xr_design.specs.declared.place.Place.{Place}
 use Rattle.xr_design.specs.Job.{number_of}
 use Rattle.xr_wave.specs.Contents.{Contents, job}
 use Rattle.xr_wave.specs.Pairs.{IsRootOf}
+use Rattle.xr_lane_nodes.specs.Nodes.{node_at}
 use Rattle.xr_lanes.specs.Lanes.{LanesView, count_of}
-use Rattle.xr_lanes.specs.Nodes.{node_at}
 
 -- The place of a number has no literal: it was forgotten, or isn't covered yet.
 abbrev pub IsUncovered : LanesView → ℕ → Type 0

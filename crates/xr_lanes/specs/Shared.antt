@@ -1,10 +1,11 @@
 -- Tables that all nodes share, over a list of sources by number.
-use Rattle.std.specs.Prelude.{◌≡◌, ℕ, ◌<◌, not, Bool, List, [], Option, IfSome, length, map, slice_index}
+use Rattle.std.specs.Prelude.{◌≡◌, ℕ, ◌<◌, not, true, List, [], Option, IfSome, length, map, slice_index}
 use Rattle.std.specs.List.{AllByRecursion}
 use Rattle.std.specs.List.Sorted.{IsStrictlyIncreasing}
 use Rattle.xr_design.specs.Filling.{IsFilling}
 use Rattle.xr_design.specs.Fits.{place_at}
 use Rattle.xr_design.specs.Job.{places_of}
+use Rattle.xr_model.specs.Places.{among}
 use Rattle.xr_wave.specs.Contents.{Contents, job, next_number}
 use Rattle.xr_cone_nodes.specs.declared.node.Node.{Node}
 use Rattle.xr_graph.specs.Graph.{AreOrdered, IsGraphOf}
@@ -42,6 +43,10 @@ IsSharedOfAny shared = (c : Contents) → IsSharedOf c shared
 -- What was right stays right.
 abbrev pub KeepsShared : Contents → SharedView → SharedView → Type 0
 KeepsShared c old new = (graph : Option (List Node)) → IsSharedIn c graph old → IsSharedIn c graph new
+
+-- It has some sources.
+abbrev pub ListsAll : List ℕ → SharedView → Type 0
+ListsAll sources shared = (k : ℕ) → among sources k ≡ true → among shared.numbers k ≡ true
 
 -- The next place has a node of the graph.
 pub record IsNextIn (c : Contents) (node : ℕ) (nodes : List Node) : Type 0 where

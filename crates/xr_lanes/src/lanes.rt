@@ -1,32 +1,32 @@
 //! The lanes of a wave.
 
-ghost use Rattle.std.specs.Prelude.{◌≡◌, ◌+◌, ◌<◌, ◌≤◌, None, Some, false, true, IfOk, IfSome, IsNone, IsSome, MatchOption, OnOk, drop, length};
+mod asked;
+
+ghost use Rattle.std.specs.Prelude.{◌≡◌, ◌+◌, ◌-◌, ◌<◌, ◌≤◌, None, Some, false, true, IfOk, OnOk, length};
 ghost use Rattle.xr_cell.specs.Value.{is_unknown};
 ghost use Rattle.xr_design.specs.Waveform.{certain};
 ghost use Rattle.xr_model.specs.Cone.{is_carried};
 ghost use Rattle.xr_wave.specs.Contents.{class_in, next_number};
-ghost use Rattle.xr_wave.specs.Token.{HasNext, LineHolds, pair_line};
-ghost use Rattle.xr_cone_nodes.specs.Traced.{IsConeOf, IsNextCone};
-ghost use Rattle.xr_lanes.specs.InWave.{IsInReach, IsLiteralIn};
-ghost use Rattle.xr_lanes.specs.Lanes.{IsLookedAt, IsNextNode, IsRightOf, IsRightOfAny, Keeps, constant, count_of};
-ghost use Rattle.xr_lanes.specs.Roots.{HasNode, place_of};
-ghost use Rattle.xr_lanes.specs.Pairs.{AllAgree, GiveBoth, HasNoPair, bit_under, lane_filling};
+ghost use Rattle.xr_wave.specs.Token.{HasNext};
+ghost use Rattle.xr_lane_nodes.specs.InWave.{IsInReach, IsLiteralIn};
+ghost use Rattle.xr_lane_nodes.specs.Literal.{constant};
+ghost use Rattle.xr_lanes.specs.Lanes.{IsLookedAt, IsNextNode, IsRightOf, IsRightOfAny, Keeps, count_of};
+ghost use Rattle.xr_lanes.specs.Roots.{place_of};
 
-use crate::graphs::{cone_of, grown};
-use crate::literal::{Covered, Literal, constant, literal_at, without_first};
-use crate::node::{make_node, put_node};
-use crate::nodes::Nodes;
-use crate::pair::{bit_of, filling_of, lanes_of, pair_of};
+use crate::equals::Equals;
+use crate::graphs::grown;
 use crate::shared::Shared;
 use std::alloc::Global;
 use std::marker::Model;
 use xr_base::Memory;
 use xr_cell::Value;
-use xr_cone_nodes::Cone;
-use xr_design::{Filling, Place, Source, width_of};
+use xr_design::{Source, width_of};
 use xr_graph::Graph;
+use xr_lane_nodes::{
+    Covered, Literal, Nodes, constant, literal_at, make_node, put_node, without_first,
+};
 use xr_model::ClassByNumber;
-use xr_wave::{Pair, Wave};
+use xr_wave::Wave;
 
 /// The literals of the first places of a wave. Contracts see the nodes, the literals of the last of these places from a
 /// first one on, the node of the place after them, once it is looked at, and the graph of the nodes, as long as it is
@@ -39,6 +39,7 @@ pub struct Lanes {
     next: Option<usize>,
     graph: Option<Graph>,
     shared: Shared,
+    equals: Equals,
     room: Vec<Value>,
     positions: Vec<u32>,
 }
@@ -73,6 +74,7 @@ impl Lanes {
             next: None,
             graph: Some(Graph::new(alloc)),
             shared: Shared::new(alloc),
+            equals: Equals::new(alloc),
             room: Vec::new(alloc),
             positions: Vec::new(alloc),
         })
@@ -286,123 +288,10 @@ impl Lanes {
             literals: self.literals.as_slice(),
         }
     }
-
-    /// The token of the next place, which was looked at, where two lanes give it 0 and 1 and its sources are kept: the empty
-    /// filling, and what the filling of a lane lists of the sources. Takes 8 bytes for each place that it lists.
-    pub fn find(&self, alloc: Global, wave: &Wave<'_>) -> Result<Option<Pair>, Memory>
-        requires right { IsRightOf wave.now self.now }
-        requires looked { IsLookedAt wave.now self.now }
-        ensures holds { IfOk result (λ found. IfSome found (λ pair. LineHolds wave.now (pair_line pair))) }
-        ensures none { IfOk result (λ found. IsNone found → IfSome self.now.next (HasNoPair self.now.nodes)) }
-    {
-        match self.next {
-            None => unreachable!(),
-            Some(node) => pair_of(alloc, wave, &self.nodes, node),
-        }
-    }
-
-    /// The same where its sources are kept and at most 16, and the tables over them show a filling that gives another
-    /// bit than the empty one.
-    pub fn find_shared(&mut self, alloc: Global, wave: &Wave<'_>) -> Result<Option<Pair>, Memory>
-        requires right { IsRightOf wave.now self.old }
-        requires looked { IsLookedAt wave.now self.old }
-        ensures holds { IfOk result (λ found. IfSome found (λ pair. LineHolds wave.now (pair_line pair))) }
-        ensures right { OnOk result (IsRightOf wave.now self.new) }
-        ensures looked { OnOk result (IsLookedAt wave.now self.new) }
-    {
-        match self.next {
-            None => unreachable!(),
-            Some(node) => match self.nodes.sources(node) {
-                None => Ok(None),
-                Some(list) => self.shared.pair(alloc, wave, &self.graph, node - 1, list),
-            },
-        }
-    }
-
-    /// The cone of the next place, which was looked at, as long as the graph is kept: what is reached in it from its node.
-    /// Takes what the nodes of the cone take, and at most 4 bytes a node of the graph.
-    pub fn cone(&mut self, alloc: Global, wave: &Wave<'_>) -> Result<Option<Cone>, Memory>
-        requires right { IsRightOf wave.now self.old }
-        requires looked { IsLookedAt wave.now self.old }
-        ensures cone { IfOk result (λ found. IfSome found (λ cone. IsNextCone wave.now cone.nodes)) }
-        ensures keeps { self.new ≡ self.old }
-    {
-        let _circuit = wave.circuit();
-        match self.next {
-            None => unreachable!(),
-            Some(node) => cone_of(alloc, &self.graph, node - 1, &mut self.positions),
-        }
-    }
-
-    /// The cone of the place of a node, as long as the graph is kept, as `cone` gives that of the next place.
-    pub fn cone_at(
-        &mut self,
-        alloc: Global,
-        wave: &Wave<'_>,
-        node: usize,
-    ) -> Result<Option<Cone>, Memory>
-        requires right { IsRightOf wave.now self.old }
-        requires node { HasNode self.old node }
-        ensures cone { IfOk result (λ found. IfSome found (λ cone. IsConeOf wave.now (place_of self.old node) cone.nodes)) }
-        ensures keeps { self.new ≡ self.old }
-    {
-        let _circuit = wave.circuit();
-        cone_of(alloc, &self.graph, node - 1, &mut self.positions)
-    }
-
-    /// What the filling of a lane lists of the sources of the next place, which was looked at, where they are kept. Takes 8
-    /// bytes for each place that it lists.
-    pub fn filling(
-        &self,
-        alloc: Global,
-        wave: &Wave<'_>,
-        lane: u32,
-    ) -> Result<Option<Filling>, Memory>
-        requires right { IsRightOf wave.now self.now }
-        requires looked { IsLookedAt wave.now self.now }
-        requires lane { lane < 256 }
-        ensures { IfOk result (λ found. IfSome found (λ filling. filling ≡ lane_filling wave.now lane)) }
-    {
-        match self.next {
-            None => unreachable!(),
-            Some(node) => filling_of(alloc, wave, &self.nodes, node, lane),
-        }
-    }
-
-    /// The bit of the next place, which was looked at, in the world of a filling, where that lists of its sources what the
-    /// filling of a lane does, and no other place, and they are kept; else none. Takes 8 bytes for each place that it lists.
-    pub fn bit(
-        &self,
-        alloc: Global,
-        wave: &Wave<'_>,
-        filling: &[Place],
-    ) -> Result<Option<bool>, Memory>
-        requires right { IsRightOf wave.now self.now }
-        requires looked { IsLookedAt wave.now self.now }
-        ensures { IfOk result (λ found. IfSome found (λ bit. bit ≡ bit_under wave.now filling.now)) }
-    {
-        match self.next {
-            None => unreachable!(),
-            Some(node) => bit_of(alloc, wave, &self.nodes, node, filling),
-        }
-    }
-
-    /// Two lanes that give the next place, which was looked at, 0 and 1; none exactly where all lanes give it the same bit.
-    /// Takes no memory.
-    pub fn pair(&self, wave: &Wave<'_>) -> Option<(u32, u32)>
-        requires right { IsRightOf wave.now self.now }
-        requires looked { IsLookedAt wave.now self.now }
-        ensures { MatchOption result (AllAgree wave.now) (GiveBoth wave.now) }
-    {
-        match self.next {
-            None => unreachable!(),
-            Some(node) => lanes_of(self.nodes.lane_bits(node)),
-        }
-    }
 }
 
 /// The value of a written place where it is certain, else x.
-fn certain_value(wave: &Wave<'_>, place: usize) -> Value
+pub fn certain_value(wave: &Wave<'_>, place: usize) -> Value
     requires { place < length wave.now.written }
     ensures { result ≡ certain wave.now.written place }
 {

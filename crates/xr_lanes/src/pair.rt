@@ -7,19 +7,18 @@ ghost use Rattle.xr_design.specs.Fits.{place_at};
 ghost use Rattle.xr_design.specs.Job.{places_of};
 ghost use Rattle.xr_wave.specs.Token.{HasNext, LineHolds, pair_line};
 ghost use Rattle.xr_cone_nodes.specs.Lanes.{HasLanes, IsOne};
-ghost use Rattle.xr_lanes.specs.Given.{lane_given};
+ghost use Rattle.xr_lane_nodes.specs.Given.{lane_given};
+ghost use Rattle.xr_lane_nodes.specs.InWave.{bit_in_lane};
+ghost use Rattle.xr_lane_nodes.specs.Made.{AreSourcesIn};
 ghost use Rattle.xr_lanes.specs.Lanes.{IsNextNode};
-ghost use Rattle.xr_lanes.specs.InWave.{bit_in_lane};
-ghost use Rattle.xr_lanes.specs.Made.{AreSourcesIn};
 ghost use Rattle.xr_lanes.specs.Pairs.{AreTwo, HasNoPair, IsOther, IsSame, ListsJust, bit_under, lane_filling};
 
 use crate::counts::Counts;
-use crate::given::given;
-use crate::nodes::Nodes;
 use std::alloc::Global;
 use xr_base::{Items, Memory};
 use xr_cone_nodes::LaneBits;
 use xr_design::{Circuit, Filling, Place};
+use xr_lane_nodes::{Nodes, given};
 use xr_wave::{Pair, Wave};
 
 /// The lane of the empty filling.

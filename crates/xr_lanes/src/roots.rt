@@ -9,8 +9,8 @@ ghost use Rattle.xr_lanes.specs.Lanes.{IsRightOf, count_of};
 ghost use Rattle.xr_lanes.specs.Roots.{IsRootAt, IsUncovered};
 
 use crate::lanes::Lanes;
-use crate::literal::literal_at;
 use xr_design::Place;
+use xr_lane_nodes::literal_at;
 use xr_wave::Wave;
 
 impl Lanes {

@@ -1,6 +1,7 @@
-//! Tables that all nodes share over one list of at most 16 sources, and the pairs that they show.
+//! Tables that all nodes share over one list of at most 16 sources, and what they show of the next place.
 
 ghost use Rattle.std.specs.Prelude.{◌≡◌, ◌<◌, ◌≤◌, Some, IfOk, IfSome, OnOk, length, map};
+ghost use Rattle.std.specs.Bool.{Decides};
 ghost use Rattle.std.specs.List.{AllByRecursion};
 ghost use Rattle.std.specs.List.Sorted.{IsStrictlyIncreasing};
 ghost use Rattle.xr_design.specs.Circuit.{CircuitFits, job_in};
@@ -8,16 +9,18 @@ ghost use Rattle.xr_design.specs.Fits.{place_at};
 ghost use Rattle.xr_design.specs.Job.{places_of};
 ghost use Rattle.xr_wave.specs.Contents.{job, next_number};
 ghost use Rattle.xr_wave.specs.Token.{HasNext, LineHolds, pair_line};
-ghost use Rattle.xr_lanes.specs.Made.{AreSourcesIn};
-ghost use Rattle.xr_lanes.specs.Shared.{AreListable, IsListIn, IsNextIn, IsOtherNext, IsSharedIn, IsSharedOf, IsSharedOfAny, KeepsShared};
+ghost use Rattle.xr_lane_nodes.specs.Made.{AreSourcesIn};
+ghost use Rattle.xr_lanes.specs.Shown.{IsShownNext};
+ghost use Rattle.xr_lanes.specs.Shared.{AreListable, ListsAll, IsListIn, IsNextIn, IsOtherNext, IsSharedIn, IsSharedOf, IsSharedOfAny, KeepsShared};
 
-use crate::union::union;
+use crate::shown::{Shown, settled_if_few};
 use std::alloc::Global;
 use std::marker::Model;
 use xr_base::{Items, Memory};
 use xr_design::{Circuit, Place};
 use xr_graph::Graph;
-use xr_tables::{Other, SourceTables};
+use xr_lane_nodes::union;
+use xr_tables::{Compared, Other, SourceTables};
 use xr_wave::{Pair, Wave};
 
 /// How many sources the list has at most.
@@ -49,31 +52,31 @@ impl Shared {
         }
     }
 
-    /// The token of the next place, which has these sources and this node of the graph, where they are few and tables
-    /// show that a filling of places of the list gives it another bit than the empty one.
-    pub fn pair(
+    /// What tables show of the next place, which has these sources and this node of the graph; nothing where its sources
+    /// aren't few.
+    pub fn show(
         &mut self,
         alloc: Global,
         wave: &Wave<'_>,
         graph: &Option<Graph>,
         node: usize,
         sources: &[u32],
-    ) -> Result<Option<Pair>, Memory>
+    ) -> Result<Shown, Memory>
         requires next { HasNext wave.now }
         requires right { IsSharedIn wave.now graph.now self.old }
         requires node { IfSome graph.now (IsNextIn wave.now node) }
         requires sources { AreSourcesIn wave.now (next_number wave.now) sources.now }
-        ensures holds { IfOk result (λ found. IfSome found (λ pair. LineHolds wave.now (pair_line pair))) }
+        ensures shown { IfOk result (IsShownNext wave.now) }
         ensures right { OnOk result (IsSharedIn wave.now graph.now self.new) }
     {
         if sources.len() > MOST {
-            return Ok(None);
+            return Ok(Shown::Nothing);
         }
         match graph {
-            None => Ok(None),
+            None => Ok(Shown::Nothing),
             Some(graph) => {
                 self.take_in(alloc, wave, sources)?;
-                self.pair_in(alloc, wave, graph, node)
+                self.show_in(alloc, wave, graph, node, sources)
             }
         }
     }
@@ -83,10 +86,11 @@ impl Shared {
         requires list { IsListIn wave.now self.old }
         requires few { length sources.now ≤ 16 }
         requires sources { AreListable wave.now sources.now }
-        ensures { OnOk result (KeepsShared wave.now self.old self.new) }
+        ensures keeps { OnOk result (KeepsShared wave.now self.old self.new) }
+        ensures listed { OnOk result (ListsAll sources.now self.new) }
     {
         let all = union(alloc, self.numbers.as_slice(), sources)?;
-        if all.len() <= self.numbers.len() {
+        if are_same(all.as_slice(), self.numbers.as_slice()) {
             Ok(())
         } else if all.len() <= MOST {
             self.set(alloc, wave, all)
@@ -100,7 +104,8 @@ impl Shared {
     fn set(&mut self, alloc: Global, wave: &Wave<'_>, numbers: Vec<u32>) -> Result<(), Memory>
         requires few { length numbers.items ≤ 16 }
         requires numbers { AreListable wave.now numbers.items }
-        ensures { OnOk result (IsSharedOf wave.now self.new) }
+        ensures right { OnOk result (IsSharedOf wave.now self.new) }
+        ensures numbers { OnOk result (self.new.numbers ≡ numbers.items) }
     {
         let circuit = wave.circuit();
         let list = places_at(alloc, &circuit, numbers.as_slice())?;
@@ -109,26 +114,36 @@ impl Shared {
         Ok(())
     }
 
-    /// The token, where the tables over the list show it.
-    fn pair_in(
+    /// What the tables over the list show, which has the sources of the next place.
+    fn show_in(
         &mut self,
         alloc: Global,
         wave: &Wave<'_>,
         graph: &Graph,
         node: usize,
-    ) -> Result<Option<Pair>, Memory>
+        sources: &[u32],
+    ) -> Result<Shown, Memory>
         requires next { HasNext wave.now }
         requires right { IsSharedIn wave.now (Some graph.now) self.old }
         requires node { IsNextIn wave.now node graph.now }
-        ensures holds { IfOk result (λ found. IfSome found (λ pair. LineHolds wave.now (pair_line pair))) }
+        requires sources { AreSourcesIn wave.now (next_number wave.now) sources.now }
+        requires listed { ListsAll sources.now self.old }
+        ensures shown { IfOk result (IsShownNext wave.now) }
         ensures right { OnOk result (IsSharedIn wave.now (Some graph.now) self.new) }
     {
         let _circuit = wave.circuit();
-        match self.tables.other(alloc, graph, node)? {
-            None => Ok(None),
-            Some(other) => Ok(Some(pair_by(alloc, wave, other))),
+        match self.tables.compare(alloc, graph, node)? {
+            Compared::Other(other) => Ok(Shown::Pair(pair_by(alloc, wave, other))),
+            Compared::Same(bit) => Ok(settled_if_few(wave, sources, bit)),
+            Compared::Nothing => Ok(Shown::Nothing),
         }
     }
+}
+
+fn are_same(first: &[u32], second: &[u32]) -> bool
+    ensures { Decides result (first.now ≡ second.now) }
+{
+    first == second
 }
 
 /// The places of some numbers.

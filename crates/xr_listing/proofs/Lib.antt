@@ -2,3 +2,4 @@
 mod ItemPlaces
 mod Appended
 mod ToldPlaces
+mod NeededPlaces

@@ -1,6 +1,6 @@
 -- What is printed of the unknown bits: a source to blame for each, and how many bits each source is behind.
 use Rattle.std.specs.Prelude.{◌≡◌, ℕ, List, ◌++◌, codes, decimal, length}
-use Rattle.std.specs.List.{AllByRecursion, flat_map}
+use Rattle.std.specs.List.{flat_map}
 use Rattle.xr_blame.specs.Blamed.{AreBlamed, unknown_bits}
 use Rattle.xr_blame.specs.Table.{IsTable, Row}
 use Rattle.xr_blame.specs.declared.bits.Blamed.{Blamed}

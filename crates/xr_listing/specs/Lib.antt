@@ -3,3 +3,4 @@ pub mod Places
 pub mod Blame
 pub mod Fixed
 pub mod Audit
+pub mod Conditions

@@ -7,6 +7,7 @@
 mod class;
 mod laws;
 mod line;
+mod turn;
 pub mod worked;
 
 pub use class::{Class, ClassByNumber};
@@ -16,3 +17,4 @@ pub use laws::{
     refuted_queries_settle, sound_waveforms_are_one, waveforms_stay_sound, worlds_are_consistent,
 };
 pub use line::{Body, Line};
+pub use turn::{Turn, TurnLine};

@@ -1,12 +1,13 @@
 -- What a check refuses is of the job.
-use Rattle.std.proofs.Common.{◌≡◌, ℕ, ap, subst, sym}
+use Rattle.std.proofs.Common.{◌≡◌, ℕ, List, ap, subst, sym}
 use Rattle.xr_cert.specs.Checked.{IsChecked, IsRefusalOf}
 use Rattle.xr_cert.proofs.Faultless.{begun_same}
 use Rattle.xr_cert.specs.declared.refusal.CertFault.{CertFault}
-use Rattle.xr_cert.specs.declared.refusal.CertFault.TheVariants.{BadEnum, BadLog, BadPair, Header, Missing, Stray, Syntax}
+use Rattle.xr_cert.specs.declared.refusal.CertFault.TheVariants.{BadEnum, BadLog, BadPair, BadTurn, Header, Missing, Stray, Syntax}
 use Rattle.xr_cert.specs.declared.refusal.CheckErr.TheVariants.{Optimistic as Objects, Refused as IsRefused}
 use Rattle.xr_cert.proofs.NamedPlaces.{missing_is_place, objection_is_place}
 use Rattle.xr_cert_text.specs.declared.cert.Cert.{Cert}
+use Rattle.xr_cond.specs.View.{ConditionView}
 use Rattle.xr_design.specs.Filling.{IsPlace}
 use Rattle.xr_design.specs.Handed.{IsReplay}
 use Rattle.xr_design.specs.History.{HistoryView}
@@ -30,6 +31,7 @@ module _ (conflicts : ℕ) (job : Parts) (history : HistoryView) (cert : Cert) w
   missing_at (BadLog line) refused = tt
   missing_at (BadPair line) refused = tt
   missing_at (BadEnum line) refused = tt
+  missing_at (BadTurn line) refused = tt
 
   -- So is one that is found otherwise.
   pub objected_at : (found : FoundOtherwise) → IsRefusalOf (beginning conflicts job.netlist job.recorded history) cert (Objects found) → IsPlace (job_in job.netlist job.recorded) found.place
@@ -47,20 +49,22 @@ module _ (conflicts : ℕ) (job : Parts) (history : HistoryView) (cert : Cert) w
   objected_for found objection fits replay refused is =
       record { fits = fits; history = history; replay = replay; refusal = Objects found; refused = refused; is = ap (λ (o : Objection). Optimistic o) is }
 
--- A wave that is checked over a replay is certified.
-pub certified_by : (conflicts : ℕ) (job : Parts) (history : HistoryView) (cert : Cert) (wave : Contents) → FitsParts job → IsReplay (job_in job.netlist job.recorded) history
-    → IsChecked (beginning conflicts job.netlist job.recorded history) cert wave → IsCertified conflicts job cert wave
-certified_by conflicts job history cert wave fits replay checked =
+-- A wave that is checked over a replay is certified, with its conditions.
+pub certified_by : (conflicts : ℕ) (job : Parts) (history : HistoryView) (cert : Cert) (wave : Contents) (conditions : List ConditionView) → FitsParts job
+    → IsReplay (job_in job.netlist job.recorded) history → IsChecked (beginning conflicts job.netlist job.recorded history) cert wave conditions
+    → IsCertified conflicts job cert wave conditions
+certified_by conflicts job history cert wave conditions fits replay checked =
     let same : wave.history ≡ history = ap (λ (c : Contents). c.history) (begun_same checked.goes) in
     record {
       fits = fits;
       replay = subst (IsReplay (job_in job.netlist job.recorded)) (sym same) replay;
-      checked = subst (λ (h : HistoryView). IsChecked (beginning conflicts job.netlist job.recorded h) cert wave) (sym same) checked;
+      checked = subst (λ (h : HistoryView). IsChecked (beginning conflicts job.netlist job.recorded h) cert wave conditions) (sym same) checked;
     }
 
 -- It is a finished wave of the job.
-pub certified_of_job : (conflicts : ℕ) (job : Parts) (cert : Cert) (wave : Contents) → IsCertified conflicts job cert wave → IsWaveOf job.netlist job.recorded wave
-certified_of_job conflicts job cert wave certified =
+pub certified_of_job : (conflicts : ℕ) (job : Parts) (cert : Cert) (wave : Contents) (conditions : List ConditionView) → IsCertified conflicts job cert wave conditions
+    → IsWaveOf job.netlist job.recorded wave
+certified_of_job conflicts job cert wave conditions certified =
     let same = begun_same certified.checked.goes in
     record {
       design = ap (λ (c : Contents). c.design) same;

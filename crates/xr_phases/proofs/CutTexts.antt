@@ -2,7 +2,7 @@
 use Rattle.std.proofs.Common.{◌≡◌, ◌≢◌, ⊎_elim, ℕ, ◌+◌, ◌<◌, List, [], ◌∷◌, length, drop, get_or, refl, sym, ◌∙◌, ap, arith, add-one, drop-cons, ◌++◌, append_assoc, append-nil}
 use Rattle.std.proofs.lemmas.Grind.{common_steps}
 use Rattle.std.proofs.lemmas.Bool.{cases_eq}
-use Rattle.xr_words.specs.Line.{pieces_of, before_first_piece}
+use Rattle.xr_line.specs.Line.{pieces_of, before_first_piece}
 
 cut_is : (cut byte : ℕ) (bytes : List ℕ) → byte ≡ cut → pieces_of cut (byte ∷ bytes) ≡ [] ∷ pieces_of cut bytes
 cut_is cut byte bytes is = grind (arith, common_steps)

@@ -6,6 +6,7 @@ pub mod FoundPlaces
 pub mod JobTexts
 pub mod Jobs
 pub mod Lines
+pub mod ListedOnce
 pub mod ObjectingOnce
 pub mod OneCheck
 pub mod OneCode

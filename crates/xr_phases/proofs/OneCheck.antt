@@ -1,32 +1,40 @@
 -- A certificate's text stands for one certificate or has one first wrong line, and a check comes to one thing.
-use Rattle.std.proofs.Common.{◌≡◌, ◌∙◌, ℕ, ◌+◌, List, [], ◌∷◌, ◌++◌, length, Result, Ok, Err, None, refl, sym, ap, subst}
+use Rattle.std.proofs.Common.{◌≡◌, ◌∙◌, ℕ, ◌+◌, List, [], ◌∷◌, ◌++◌, length, Result, Ok, Err, None, refl, sym, ap, subst, arith}
 use Rattle.std.proofs.lemmas.List.{append_assoc}
 use Rattle.xr_cert.specs.Checked.{IsAccepted, IsChecked, IsRefusalOf}
 use Rattle.xr_cert.specs.declared.refusal.CertFault.{CertFault}
 use Rattle.xr_cert.specs.declared.refusal.CertFault.TheVariants.{Syntax}
 use Rattle.xr_cert.specs.declared.refusal.CheckErr.{CheckErr}
 use Rattle.xr_cert.specs.declared.refusal.CheckErr.TheVariants.{Memory, Optimistic as Objects, Refused as IsRefused}
-use Rattle.xr_cert.specs.Laws.{IsSameFault, IsSameObjection}
-use Rattle.xr_cert.proofs.Faultless.{accepts_all, begun_same}
+use Rattle.xr_cert.specs.Entries.{lines_in as line_places}
+use Rattle.xr_cert.specs.Laws.{IsReason, IsSameFault, IsSameObjection}
+use Rattle.xr_cert.proofs.Faultless.{begun_same}
 use Rattle.xr_cert.proofs.Fitted.{checked_accepted}
-use Rattle.xr_cert.proofs.OneFault.{one_fault}
-use Rattle.xr_cert_text.proofs.RunLaws.{run_only}
-use Rattle.xr_cert_text.proofs.PlainLaws.{cert_lines_back}
+use Rattle.xr_cert.proofs.OneFault.{no_fault, one_fault}
+use Rattle.xr_cert_read.proofs.RunLaws.{run_only}
+use Rattle.xr_cert_read.proofs.PlainLaws.{cert_lines_back}
 use Rattle.xr_cert_text.specs.declared.cert.Cert.{Cert}
+use Rattle.xr_cert_text.specs.declared.cert.Form.TheVariants.{Lines, Turns}
 use Rattle.xr_cert_text.specs.Pieces.{lines_in}
 use Rattle.xr_cert_text.specs.Text.{cert_lines}
 use Rattle.xr_cert_text.specs.Wrong.{AreViable, IsFirstWrong, IsTextOf, IsWrongAfter}
+use Rattle.xr_cond.specs.View.{ConditionView}
+use Rattle.xr_design.specs.Fits.{Fits}
 use Rattle.xr_design.specs.History.{HistoryView}
+use Rattle.xr_design.specs.declared.waveform.Written.{Written}
 use Rattle.xr_job.specs.Compared.{job_in}
-use Rattle.xr_wave.specs.Contents.{Contents}
+use Rattle.xr_listing.specs.Conditions.{conditions_text}
+use Rattle.xr_model.proofs.Uniqueness.{yields_one}
+use Rattle.xr_wave.specs.Contents.{Contents, job, shown_in}
 use Rattle.xr_run.specs.Phases.{IsOne}
-use Rattle.xr_phases.specs.Certificate.{CertificateComes, CheckComes, IsCauseOf, uncertified_by}
+use Rattle.xr_phases.specs.Certificate.{CertificateComes, CheckComes, CheckShows, FormComes, IsCauseOf, uncertified_by}
 use Rattle.xr_phases.specs.Repair.{beginning, objection_of}
 use Rattle.xr_phases.specs.declared.cause.Refused.{Refused}
 use Rattle.xr_phases.specs.declared.cause.Refused.TheVariants.{Certificate, Optimistic}
 use Rattle.xr_phases.specs.declared.cause.Uncertified.TheVariants.{Line}
 use Rattle.xr_phases.specs.declared.parts.Parts.{Parts}
 use Rattle.xr_phases.proofs.Jobs.{fits_job}
+use Rattle.xr_phases.proofs.ListedOnce.{listed_once}
 use Rattle.xr_phases.proofs.OneHistory.{one_history}
 
 -- ---- one list split at two entries
@@ -126,29 +134,36 @@ one_certificate text (Err e) (Err f) first second =
 -- ---- the check of one
 
 -- A wave that went along has all but its lines and what is written of its start.
-along_is : (start c : Contents) (cert : Cert) → IsChecked start cert c → c ≡ record start { written = c.written; lines = c.lines }
-along_is start c cert checked = ap (λ (d : Contents). record d { written = c.written; lines = c.lines }) (begun_same checked.goes)
+along_is : (start c : Contents) (cert : Cert) (conditions : List ConditionView) → IsChecked start cert c conditions
+    → c ≡ record start { written = c.written; lines = c.lines }
+along_is start c cert conditions checked = ap (λ (d : Contents). record d { written = c.written; lines = c.lines }) (begun_same checked.goes)
 
-module _ (start : Contents) (cert : Cert) (empty : start.written ≡ []) (none : start.lines ≡ []) where
-  accepted_by : (a : Contents) → IsChecked start cert a → IsAccepted start cert a.written
-  accepted_by a checked = checked_accepted start cert a empty none checked
+module _ (start : Contents) (cert : Cert) (empty : start.written ≡ []) (none : start.lines ≡ []) (fits : Fits (job start)) where
+  same_written : (v w : List Written) → IsAccepted start cert v → IsAccepted start cert w → v ≡ w
+  same_written v w first second =
+      yields_one (job start) start.limit fits (shown_in start) v w (line_places cert.entries) (first.long ∙ sym second.long) (let long = first.long in omega (arith, long))
+      first.yields second.yields
 
-  same_written : (a b : Contents) → IsChecked start cert a → IsChecked start cert b → b.written ≡ a.written
-  same_written a b first second = accepts_all start cert a.written (Ok b) none (accepted_by a first) second tt
-
-  same_waves : (a b : Contents) → IsChecked start cert a → IsChecked start cert b → a ≡ b
-  same_waves a b first second =
-      let written = sym (same_written a b first second) in
+  same_waves : (a b : Contents) (vs ws : List ConditionView) → IsChecked start cert a vs → IsChecked start cert b ws → a ≡ b
+  same_waves a b vs ws first second =
+      let written =
+      same_written a.written b.written (checked_accepted start cert a vs empty none first) (checked_accepted start cert b ws empty none second) in
       let lines = first.lines ∙ sym second.lines in
-      along_is start a cert first
+      along_is start a cert vs first
       ∙ (λ t. record start { written = written t; lines = lines t })
-      ∙ sym (along_is start b cert second)
+      ∙ sym (along_is start b cert ws second)
 
-  unrefused : (a : Contents) (e : CheckErr) → IsChecked start cert a → IsRefusalOf start cert e → e ≡ Memory
-  unrefused a e checked refused = accepts_all start cert a.written (Err e) none (accepted_by a checked) tt refused
+  -- The conditions that are checked with a wave have one text.
+  same_listing : (a : Contents) (vs ws : List ConditionView) → IsChecked start cert a vs → IsChecked start cert a ws → conditions_text a vs ≡ conditions_text a ws
+  same_listing a vs ws first second =
+      listed_once cert.form a vs ws first.conditions_are second.conditions_are (sym first.stated ∙ second.stated)
+
+  unrefused : (a : Contents) (vs : List ConditionView) (e : CheckErr) → IsChecked start cert a vs → IsRefusalOf start cert e → IsReason e → ⊥
+  unrefused a vs e checked (IsRefusalOf.number differ) reason = differ checked.numbers
+  unrefused a vs e checked (IsRefusalOf.line numbers fault) reason = no_fault start cert a vs e none checked fault reason
 
 -- Two refusals of one certificate have one cause.
-module _ (job : Parts) (start : Contents) (cert : Cert) where
+module _ (job : Parts) (start : Contents) (cert : Cert) (none : start.lines ≡ []) where
   same_cause : (e f : CheckErr) (one other : Refused) → IsSameFault e f → IsCauseOf job e one → IsCauseOf job f other → one ≡ other
   same_cause (IsRefused e) (IsRefused f) one other same first second = first ∙ ap (λ (fault : CertFault). Certificate (uncertified_by job fault)) same ∙ sym second
   same_cause (IsRefused e) (Objects b) one other same first second = absurd same
@@ -171,24 +186,48 @@ module _ (job : Parts) (start : Contents) (cert : Cert) where
   causes_one e f one other (IsRefusalOf.number differ) (IsRefusalOf.line numbers fault) first second = absurd (differ numbers)
   causes_one e f one other (IsRefusalOf.line numbers fault) (IsRefusalOf.number differ) first second = absurd (differ numbers)
   causes_one e f one other (IsRefusalOf.line numbers fault) (IsRefusalOf.line again second_fault) first second =
-      same_cause e f one other (one_fault start cert.lines e f fault second_fault (no_cause_of e one first) (no_cause_of f other second)) first second
+      same_cause e f one other (one_fault cert.form start cert.entries e f none fault second_fault (no_cause_of e one first) (no_cause_of f other second)) first second
+
+shows_same : (a b : CheckShows) → a.wave ≡ b.wave → a.listing ≡ b.listing → a ≡ b
+shows_same a b wave listing = λ t. record { wave = wave t; listing = listing t }
 
 pub one_check : (conflicts : ℕ) (job : Parts) (cert : Cert) → IsOne (CheckComes conflicts job cert)
 one_check conflicts job cert (Ok a) (Ok b) first second =
-    let same = one_history (job_in job.netlist job.recorded) (fits_job job.netlist job.recorded first.fits) (λ place. None) a.history b.history first.replay second.replay in
-    ap Ok (same_waves (beginning conflicts job.netlist job.recorded a.history) cert refl refl a b first.checked
-    (subst (λ (h : HistoryView). IsChecked (beginning conflicts job.netlist job.recorded h) cert b) (sym same) second.checked))
+    let fits = fits_job job.netlist job.recorded first.certified.fits in
+    let same = one_history (job_in job.netlist job.recorded) fits (λ place. None) a.wave.history b.wave.history first.certified.replay second.certified.replay in
+    let start = beginning conflicts job.netlist job.recorded a.wave.history in
+    let again : IsChecked start cert b.wave second.conditions =
+    subst (λ (h : HistoryView). IsChecked (beginning conflicts job.netlist job.recorded h) cert b.wave second.conditions) (sym same) second.certified.checked in
+    let waves = same_waves start cert refl refl fits a.wave b.wave first.conditions second.conditions first.certified.checked again in
+    let there : IsChecked start cert a.wave second.conditions = subst (λ (c : Contents). IsChecked start cert c second.conditions) (sym waves) again in
+    let texts = same_listing start cert refl refl fits a.wave first.conditions second.conditions first.certified.checked there in
+    ap Ok (shows_same a b waves (first.listing_is ∙ texts ∙ ap (λ (c : Contents). conditions_text c second.conditions) waves ∙ sym second.listing_is))
 one_check conflicts job cert (Ok a) (Err f) first second =
-    let same = one_history (job_in job.netlist job.recorded) (fits_job job.netlist job.recorded first.fits) (λ place. None) a.history second.history first.replay second.replay in
-    absurd (no_cause_of job (beginning conflicts job.netlist job.recorded a.history) cert second.refusal f second.is
-    (unrefused (beginning conflicts job.netlist job.recorded a.history) cert refl refl a second.refusal first.checked
-    (subst (λ (h : HistoryView). IsRefusalOf (beginning conflicts job.netlist job.recorded h) cert second.refusal) (sym same) second.refused)))
+    let fits = fits_job job.netlist job.recorded first.certified.fits in
+    let same = one_history (job_in job.netlist job.recorded) fits (λ place. None) a.wave.history second.history first.certified.replay second.replay in
+    let start = beginning conflicts job.netlist job.recorded a.wave.history in
+    absurd (unrefused start cert refl refl fits a.wave first.conditions second.refusal first.certified.checked
+    (subst (λ (h : HistoryView). IsRefusalOf (beginning conflicts job.netlist job.recorded h) cert second.refusal) (sym same) second.refused)
+    (no_cause_of job start cert refl second.refusal f second.is))
 one_check conflicts job cert (Err e) (Ok b) first second =
-    let same = one_history (job_in job.netlist job.recorded) (fits_job job.netlist job.recorded first.fits) (λ place. None) b.history first.history second.replay first.replay in
-    absurd (no_cause_of job (beginning conflicts job.netlist job.recorded b.history) cert first.refusal e first.is
-    (unrefused (beginning conflicts job.netlist job.recorded b.history) cert refl refl b first.refusal second.checked
-    (subst (λ (h : HistoryView). IsRefusalOf (beginning conflicts job.netlist job.recorded h) cert first.refusal) (sym same) first.refused)))
+    let fits = fits_job job.netlist job.recorded first.fits in
+    let same = one_history (job_in job.netlist job.recorded) fits (λ place. None) b.wave.history first.history second.certified.replay first.replay in
+    let start = beginning conflicts job.netlist job.recorded b.wave.history in
+    absurd (unrefused start cert refl refl fits b.wave second.conditions first.refusal second.certified.checked
+    (subst (λ (h : HistoryView). IsRefusalOf (beginning conflicts job.netlist job.recorded h) cert first.refusal) (sym same) first.refused)
+    (no_cause_of job start cert refl first.refusal e first.is))
 one_check conflicts job cert (Err e) (Err f) first second =
     let same = one_history (job_in job.netlist job.recorded) (fits_job job.netlist job.recorded first.fits) (λ place. None) first.history second.history first.replay second.replay in
-    ap Err (causes_one job (beginning conflicts job.netlist job.recorded first.history) cert first.refusal second.refusal e f first.refused
+    ap Err (causes_one job (beginning conflicts job.netlist job.recorded first.history) cert refl first.refusal second.refusal e f first.refused
     (subst (λ (h : HistoryView). IsRefusalOf (beginning conflicts job.netlist job.recorded h) cert second.refusal) (sym same) second.refused) first.is second.is)
+
+-- ---- its form
+
+no_form : Lines ≡ Turns → ⊥
+no_form same = absurd cc
+
+pub one_form : (cert : Cert) → IsOne (FormComes cert)
+one_form cert (Ok a) (Ok b) first second = refl
+one_form cert (Ok a) (Err f) first second = absurd (no_form (sym first ∙ second.0))
+one_form cert (Err e) (Ok b) first second = absurd (no_form (sym second ∙ first.0))
+one_form cert (Err e) (Err f) first second = ap Err (first.1 ∙ sym second.1)

@@ -3,7 +3,7 @@ use Rattle.std.proofs.Common.{◌≡◌, ◌∙◌, ℕ, zero, suc, ◌+◌, ◌
 use Rattle.std.specs.List.{AllByRecursion}
 use Rattle.std.proofs.lemmas.Bool.{cases_eq}
 use Rattle.xr_fix.specs.Started.{Piece}
-use Rattle.xr_words.specs.Line.{IsSet}
+use Rattle.xr_line.specs.Line.{IsSet}
 use Rattle.xr_phases.specs.Sets.{digit_of, piece_text, set_of}
 
 -- the name, and the last byte, of a name with two bytes after it

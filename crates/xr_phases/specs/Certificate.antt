@@ -1,5 +1,6 @@
 -- What a certificate comes to for a job.
 use Rattle.std.specs.Prelude.{◌≡◌, ℕ, ◌/◌, ◌%◌, List, Result, Ok, Err, slice_index}
+use Rattle.xr_cond.specs.View.{ConditionView}
 use Rattle.xr_design.specs.Filling.{IsPlace}
 use Rattle.xr_design.specs.Handed.{IsReplay}
 use Rattle.xr_design.specs.History.{HistoryView}
@@ -7,14 +8,20 @@ use Rattle.xr_design.specs.Job.{Job}
 use Rattle.xr_design.specs.declared.place.Place.{Place}
 use Rattle.xr_cert.specs.Checked.{IsChecked, IsRefusalOf}
 use Rattle.xr_cert.specs.declared.refusal.CertFault.{CertFault}
-use Rattle.xr_cert.specs.declared.refusal.CertFault.TheVariants.{Missing, Syntax}
+use Rattle.xr_cert.specs.Entries.{AreConditionsFor}
+use Rattle.xr_cert.specs.declared.refusal.CertFault.TheVariants.{Header, Missing, Syntax}
 use Rattle.xr_cert.specs.declared.refusal.CheckErr.{CheckErr}
 use Rattle.xr_cert.specs.declared.refusal.CheckErr.TheVariants.{Memory, Optimistic as Objects, Refused as IsRefused}
 use Rattle.xr_cert_text.specs.Wrong.{IsFirstWrong, IsTextOf}
 use Rattle.xr_cert_text.specs.declared.cert.Cert.{Cert}
+use Rattle.xr_cert_text.specs.declared.cert.Form.{Form}
+use Rattle.xr_cert_text.specs.declared.cert.Form.TheVariants.{Lines, Turns}
 use Rattle.xr_job.specs.Compared.{job_in}
 use Rattle.xr_job.specs.Names.{net_name}
+use Rattle.xr_listing.specs.Conditions.{conditions_text}
 use Rattle.xr_wave.specs.Contents.{Contents}
+use Rattle.xr_words.specs.declared.words.Form.{Form as FormWord}
+use Rattle.xr_words.specs.declared.words.Form.TheVariants as named
 use Rattle.xr_phases.specs.Repair.{FitsParts, beginning, objection_of}
 use Rattle.xr_phases.specs.declared.cause.Lack.{Lack}
 use Rattle.xr_phases.specs.declared.cause.Refused.{Refused}
@@ -35,6 +42,18 @@ pub record IsWrong (text : List ℕ) (cause : Uncertified) : Type 0 where
 abbrev pub CertificateComes : List ℕ → Result Cert Uncertified → Type 0
 CertificateComes text (Ok cert) = IsTextOf text cert
 CertificateComes text (Err cause) = IsWrong text cause
+
+-- ---- its form
+
+-- The form that the words name.
+abbrev pub form_of : FormWord → Form
+form_of named.Lines = Lines
+form_of named.Turns = Turns
+
+-- It is of form 1; or it is of form 2, and its first line is refused.
+abbrev pub FormComes : Cert → Result (Unit {0}) Uncertified → Type 0
+FormComes cert (Ok plain) = cert.form ≡ Lines
+FormComes cert (Err cause) = (cert.form ≡ Turns) × (cause ≡ Line (Header 1))
 
 -- ---- its check
 
@@ -61,11 +80,26 @@ IsCauseOf job (IsRefused fault) cause = cause ≡ Certificate (uncertified_by jo
 IsCauseOf job (Objects found) cause = cause ≡ Optimistic (objection_of job.netlist job.recorded.stim found)
 IsCauseOf job Memory cause = ⊥
 
--- A certificate is checked over the job's replay, with this wave.
-pub record IsCertified (conflicts : ℕ) (job : Parts) (cert : Cert) (wave : Contents) : Type 0 where
+-- A certificate is checked over the job's replay, with this wave and these conditions.
+pub record IsCertified (conflicts : ℕ) (job : Parts) (cert : Cert) (wave : Contents)
+    (conditions : List ConditionView) : Type 0 where
   pub fits : FitsParts job
   pub replay : IsReplay (job_in job.netlist job.recorded) wave.history
-  pub checked : IsChecked (beginning conflicts job.netlist job.recorded wave.history) cert wave
+  pub checked : IsChecked (beginning conflicts job.netlist job.recorded wave.history) cert wave conditions
+
+-- What a check shows: a wave, and the lines of its conditions.
+pub record CheckShows : Type 0 where
+  pub wave : Contents
+  pub listing : List ℕ
+
+abbrev pub check_shows : Contents → List ConditionView → CheckShows
+check_shows wave conditions = record { wave = wave; listing = conditions_text wave conditions }
+
+-- The check of a certificate shows that.
+pub record IsCheckShown (conflicts : ℕ) (job : Parts) (cert : Cert) (shows : CheckShows) : Type 0 where
+  pub conditions : List ConditionView
+  pub certified : IsCertified conflicts job cert shows.wave conditions
+  pub listing_is : shows.listing ≡ conditions_text shows.wave conditions
 
 -- It is refused over the job's replay, for this cause.
 pub record IsUncertified (conflicts : ℕ) (job : Parts) (cert : Cert) (cause : Refused) : Type 0 where
@@ -76,7 +110,14 @@ pub record IsUncertified (conflicts : ℕ) (job : Parts) (cert : Cert) (cause : 
   pub refused : IsRefusalOf (beginning conflicts job.netlist job.recorded history) cert refusal
   pub is : IsCauseOf job refusal cause
 
--- The check comes to a wave, or to a refusal.
-abbrev pub CheckComes : ℕ → Parts → Cert → Result Contents Refused → Type 0
-CheckComes conflicts job cert (Ok wave) = IsCertified conflicts job cert wave
+-- The check comes to what the certificate shows, or to a refusal.
+abbrev pub CheckComes : ℕ → Parts → Cert → Result CheckShows Refused → Type 0
+CheckComes conflicts job cert (Ok shows) = IsCheckShown conflicts job cert shows
 CheckComes conflicts job cert (Err cause) = IsUncertified conflicts job cert cause
+
+-- ---- the conditions of a wave
+
+-- Those that a certificate of a form goes with are found; it comes to nothing else.
+abbrev pub ConditionsCome : Form → Contents → Result (List ConditionView) ⊥ → Type 0
+ConditionsCome form wave (Ok conditions) = AreConditionsFor form wave conditions
+ConditionsCome form wave (Err none) = ⊥

@@ -13,17 +13,18 @@ use Rattle.xr_job.specs.declared.netlist.Netlist.{Netlist as ANetlist}
 use Rattle.xr_job.specs.declared.netlist_refusal.NetlistRefusal.{NetlistRefusal}
 use Rattle.xr_job.specs.declared.recorded.Recorded.{Recorded}
 use Rattle.xr_job.specs.declared.recording_refusal.RecordingRefusal.{RecordingRefusal}
-use Rattle.xr_words.specs.Line.{pieces_of}
+use Rattle.xr_line.specs.Line.{pieces_of}
 use Rattle.xr_words.specs.Words.{JobValues, ReplayValues}
 use Rattle.xr_phases.specs.Certificate.{CertificateComes}
 use Rattle.xr_phases.specs.Code.{CodeComes, code_in, text_limit}
-use Rattle.xr_phases.specs.Repair.{netlist_limit, recording_limit, rule_of}
+use Rattle.xr_phases.specs.Repair.{CompareComes, netlist_limit, recording_limit, rule_of}
 use Rattle.xr_phases.specs.declared.cause.Objection.{Objection}
 use Rattle.xr_phases.specs.declared.cause.Refused.{Refused}
 use Rattle.xr_phases.specs.declared.cause.Refused.TheVariants.{LongNetlist, Netlist, LongRecording, Recording, Compare}
 use Rattle.xr_phases.specs.declared.cause.Refused.TheVariants.{Certificate, Code, LongCertificate, LongCode, Optimistic}
 use Rattle.xr_phases.specs.declared.cause.Refused.TheVariants.{Proof, Start}
 use Rattle.xr_phases.specs.declared.cause.Uncertified.{Uncertified}
+use Rattle.xr_phases.specs.declared.parts.Agreed.{Agreed}
 use Rattle.xr_phases.specs.declared.parts.Parts.{Parts}
 
 -- The causes that the phases find.
@@ -85,6 +86,16 @@ job_phases w = do
   n ← netlist_phases w
   r ← recording_phases w n
   Phases.Finds (parts n r)
+
+-- A job whose recording agrees with its replay.
+abbrev pub agreed_phases : JobValues → Phases Parts Refused
+agreed_phases w = do
+  job ← job_phases w
+  agreed ← judges (CompareComes job.netlist job.recorded) compare_cause
+  Phases.Finds job
+
+abbrev pub agreed_job : Agreed → Parts
+agreed_job agreed = agreed.job
 
 -- ---- a code, and a certificate
 

@@ -5,7 +5,7 @@ use Rattle.xr_design.specs.declared.stim.Stim.{Stim}
 use Rattle.xr_fix.specs.Started.{IsFirstFault, IsStarted, Piece}
 use Rattle.xr_fix.specs.declared.refusal.StartFault.{StartFault}
 use Rattle.xr_job.specs.declared.netlist.Netlist.{Netlist as ANetlist}
-use Rattle.xr_words.specs.Line.{pieces_of}
+use Rattle.xr_line.specs.Line.{pieces_of}
 
 -- A piece is a name, `=`, and the digit of a bit.
 abbrev pub digit_of : Bool → ℕ

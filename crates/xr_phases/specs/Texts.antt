@@ -2,6 +2,8 @@
 use Rattle.std.specs.Prelude.{◌≡◌, ℕ, ◌<◌, ◌≤◌, List, [], ◌∷◌, length, Ok, Err}
 use Rattle.xr_cert_text.specs.Wrong.{IsTextOf}
 use Rattle.xr_cert_text.specs.declared.cert.Cert.{Cert}
+use Rattle.xr_cert_text.specs.declared.cert.Form.TheVariants.{Lines, Turns}
+use Rattle.xr_cert.specs.declared.refusal.CertFault.TheVariants.{Header}
 use Rattle.xr_code.specs.Says.{FirstFault}
 use Rattle.xr_code.specs.declared.fault.CodeFault.{CodeFault}
 use Rattle.xr_replay.specs.Fault.{IsFaultless}
@@ -29,6 +31,7 @@ use Rattle.xr_phases.specs.declared.cause.Refused.TheVariants.{LongNetlist, Netl
 use Rattle.xr_phases.specs.declared.cause.Refused.TheVariants.{Certificate, Code, Compare, LongCertificate, LongCode}
 use Rattle.xr_phases.specs.declared.cause.Refused.TheVariants.{Optimistic, Start}
 use Rattle.xr_phases.specs.declared.cause.Uncertified.{Uncertified}
+use Rattle.xr_phases.specs.declared.cause.Uncertified.TheVariants.{Line}
 use Rattle.xr_phases.specs.declared.parts.Parts.{Parts}
 
 -- The texts that the files of a job hold.
@@ -125,6 +128,18 @@ pub data CheckFails (conflicts : ℕ) (cert : List ℕ) (job : Parts) : Refused 
   wrong : {cause : Uncertified} → IsAgreed job → IsWrong cert cause → CheckFails conflicts cert job (Certificate cause)
   unaccepted : {cause : Refused} → IsAgreed job → (certificate : Cert) → IsTextOf cert certificate
       → IsUncertified conflicts job certificate cause → CheckFails conflicts cert job cause
+
+-- `upgrade`: so it is of a certificate of form 1; one of form 2 is refused for its first line.
+pub data UpgradeFails (conflicts : ℕ) (cert : List ℕ) (job : Parts) : Refused → Type 0 where
+  disagrees : {e : CompareRefusal} → IsRefusedReplay job.netlist job.recorded e
+      → UpgradeFails conflicts cert job (Compare e)
+  too_long : IsAgreed job → text_limit < length cert → UpgradeFails conflicts cert job LongCertificate
+  wrong : {cause : Uncertified} → IsAgreed job → IsWrong cert cause
+      → UpgradeFails conflicts cert job (Certificate cause)
+  turned : IsAgreed job → (certificate : Cert) → IsTextOf cert certificate → certificate.form ≡ Turns
+      → UpgradeFails conflicts cert job (Certificate (Line (Header 1)))
+  unaccepted : {cause : Refused} → IsAgreed job → (certificate : Cert) → IsTextOf cert certificate
+      → certificate.form ≡ Lines → IsUncertified conflicts job certificate cause → UpgradeFails conflicts cert job cause
 
 -- `fix`: the recording disagrees; or it agrees, and a start can't be set; or they are set, and a place is found otherwise
 -- under the recorded starts, or else under the set ones.

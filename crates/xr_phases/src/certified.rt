@@ -17,11 +17,10 @@ use crate::objection::objection_of;
 use crate::parts::Parts;
 use std::alloc::Global;
 use xr_base::Memory;
-use xr_cert::{Cert, CertErr, CertFault, CheckErr, check_cert, read_cert};
+use xr_cert::{Cert, CertErr, CertFault, CheckErr, Checked, check_cert, read_cert};
 use xr_design::{Bytes, History, Place};
 use xr_run::{Refusal, read_input};
 use xr_shelf::Shelf;
-use xr_wave::Wave;
 
 /// The certificate that the file of this name says.
 pub fn certificate_of<S: Shelf>(
@@ -48,18 +47,18 @@ fn certificate_in(alloc: Global, text: &[u8]) -> Result<Cert, Refusal<Refused>>
     }
 }
 
-/// The finished wave of a certificate of a job that agrees.
+/// The finished wave of a certificate of a job that agrees, and the conditions that it states.
 pub fn certified_wave<'b>(
     alloc: Global,
     job: &'b Parts,
     history: &'b History,
     cert: Cert,
     conflicts: u32,
-) -> Result<Wave<'b>, Refusal<Refused>>
+) -> Result<Checked<'b>, Refusal<Refused>>
     requires fits { FitsParts job.now }
     requires replay { IsReplay (job_in job.now.netlist job.now.recorded) history.now }
     requires conflicts { IsLimit conflicts }
-    ensures certified { IfOk result (IsCertified conflicts job.now cert) }
+    ensures certified { IfOk result (λ checked. IsCertified conflicts job.now cert checked.wave checked.conditions) }
     ensures refused { IfErr result (IsJudgedBy (CheckComes conflicts job.now cert) itself) }
 {
     let netlist = &job.netlist;
@@ -72,7 +71,7 @@ pub fn certified_wave<'b>(
         history,
         conflicts,
     ) {
-        Ok(wave) => Ok(wave),
+        Ok(checked) => Ok(checked),
         Err(CheckErr::Refused(fault)) => Err(Refusal::Text {
             cause: Refused::Certificate(uncertified_by(alloc, job, fault)?),
         }),

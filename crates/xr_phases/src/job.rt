@@ -1,16 +1,18 @@
 //! The netlist and the recording that the words of a command name.
 
 ghost use Rattle.std.specs.Prelude.{◌≡◌, IfOk};
+ghost use Rattle.xr_design.specs.Handed.{IsReplay};
+ghost use Rattle.xr_job.specs.Compared.{job_in};
 ghost use Rattle.xr_job.specs.Netlist.{FitsNetlist};
 ghost use Rattle.xr_job.specs.Recorded.{FitsRecorded};
 ghost use Rattle.xr_run.specs.Prepared.{Prepared};
 ghost use Rattle.xr_words.specs.Words.{job_values};
-ghost use Rattle.xr_phases.specs.Phases.{itself, job_phases, netlist_phases, recording_phases};
+ghost use Rattle.xr_phases.specs.Phases.{agreed_job, agreed_phases, itself, job_phases, netlist_phases, recording_phases};
 ghost use Rattle.xr_phases.specs.Repair.{FitsParts, rule_of};
 
 use crate::cause::Refused;
-use crate::judged::{netlist_in, recorded_in};
-use crate::parts::Parts;
+use crate::judged::{compared, netlist_in, recorded_in};
+use crate::parts::{Agreed, Parts};
 use crate::pieces::names_of;
 use std::alloc::Global;
 use xr_design::StartRule;
@@ -24,6 +26,24 @@ pub const NETLIST_BYTES: usize = 67_108_864;
 
 /// The most bytes of a recording.
 pub const RECORDING_BYTES: usize = 268_435_456;
+
+/// The job that the words name, whose recording has to agree with its replay, and that replay.
+pub fn agreed_of<S: Shelf>(
+    alloc: Global,
+    shelf: &mut S,
+    words: &JobWords<'_>,
+) -> Result<Agreed, Refusal<Refused>>
+    ensures prepared { Prepared S.told (agreed_phases (job_values words.now)) agreed_job
+        (S.view shelf.old) (S.view shelf.new) result }
+    ensures fits { IfOk result (λ agreed. FitsParts agreed.job) }
+    ensures replay { IfOk result (λ agreed. IsReplay (job_in agreed.job.netlist agreed.job.recorded) agreed.history) }
+{
+    let job = job_of(alloc, shelf, words)?;
+    match compared(alloc, &job.netlist, &job.recorded) {
+        Ok(history) => Ok(Agreed { job, history }),
+        Err(refusal) => Err(refusal),
+    }
+}
 
 /// The job that the words name.
 pub fn job_of<S: Shelf>(

@@ -3,13 +3,15 @@
 //!
 //! A job goes by these files: `job.rt` and `judged.rt` (files to a design and a recording of it, in `parts.rt`),
 //! `walked.rt` (the walk over all places), `sets.rt` (starts that are set), `forced.rt` (the forces of a code),
-//! `certified.rt` (a certificate, and its check), `objection.rt` (a place that is found otherwise), `cause.rt` and
-//! `line.rt` (what texts are refused for, and its line). Start at `job_of`.
+//! `certified.rt` (a certificate, and its check), `forms.rt` (the forms of a certificate, and the conditions that it
+//! goes with), `objection.rt` (a place that is found otherwise), `cause.rt` and `line.rt` (what texts are refused for,
+//! and its line). Start at `job_of`.
 #![tactic(auto)]
 
 mod cause;
 mod certified;
 mod forced;
+mod forms;
 mod job;
 mod judged;
 mod line;
@@ -22,9 +24,10 @@ mod walked;
 pub use cause::{Lack, Objection, Refused, Uncertified};
 pub use certified::{certificate_of, certified_wave};
 pub use forced::{TEXT_BYTES, forces_of};
-pub use job::{NETLIST_BYTES, RECORDING_BYTES, job_of};
+pub use forms::{conditions_for, form_of, without_turns};
+pub use job::{NETLIST_BYTES, RECORDING_BYTES, agreed_of, job_of};
 pub use judged::{compared, netlist_in, recorded_in, short_in};
-pub use parts::Parts;
+pub use parts::{Agreed, Parts};
 pub use pieces::{names_of, pieces_of};
 pub use sets::{replay_of, sets_of, started};
 pub use walked::{replay_wave, wave_of, wave_under};

@@ -1,5 +1,6 @@
 //! A job: a design, and what was recorded of it.
 
+use xr_design::History;
 use xr_job::{Netlist, Recorded};
 
 /// A design with its order, and a recording of it with its binding and its stimulus.
@@ -7,4 +8,11 @@ use xr_job::{Netlist, Recorded};
 pub struct Parts {
     pub netlist: Netlist,
     pub recorded: Recorded,
+}
+
+/// A job whose recording agrees with its replay, and the replay.
+#[derive(Drop)]
+pub struct Agreed {
+    pub job: Parts,
+    pub history: History,
 }

@@ -1,7 +1,7 @@
 //! Texts cut at a byte.
 
 ghost use Rattle.std.specs.Prelude.{◌≡◌, ◌<◌, IfOk, length};
-ghost use Rattle.xr_words.specs.Line.{pieces_of};
+ghost use Rattle.xr_line.specs.Line.{pieces_of};
 
 use std::alloc::{AllocError, Global};
 use std::mem;

@@ -87,6 +87,12 @@ start_stays a b same = rw (same.design, same.order, same.stim, same.history, sam
 pub start_job : (c : Contents) → IsOfJob (start_of c) c
 start_job c = record { design = refl; order = refl; stim = refl; history = refl; limit = refl }
 
+-- A wave that went along lines from nothing still has.
+pub way_along : (from c : Contents) (aids : Aids) (all lines left : ℕ) → IsOnWay from c aids all lines left
+    → GoesAlong (start_of from) from → GoesAlong (start_of c) c
+way_along from c aids all lines left way before =
+    subst (λ start. GoesAlong start c) (sym (start_stays from c way.same)) (along (start_of from) from c before way.goes)
+
 -- A walk of which nothing is written,
 pub walk_begins : (c : Contents) (design : Design) (order : List ℕ) (stim : Stim) (history : HistoryView) (limit : ℕ)
     (aids : Aids) → c ≡ nothing_written design order stim history limit → IsWave c → AreRightOf c aids → IsWalk c aids

@@ -1,15 +1,18 @@
-//! What the next place, a Line place, has under all fillings: by lanes, by tables over few sources, or else by its
-//! cone.
+//! What the next place, a Line place, has under all fillings: by lanes, by an earlier place, by tables over few sources,
+//! or else by its cone.
 
 ghost use Rattle.std.specs.Prelude.{◌<◌, ◌≤◌, IfOk, OnOk, length};
+ghost use Rattle.xr_along.specs.Along.{GoesAlong};
 ghost use Rattle.xr_cone_nodes.specs.Traced.{IsNextCone};
 ghost use Rattle.xr_cone_nodes.specs.Nodes.{sources_of};
 ghost use Rattle.xr_lanes.specs.Lanes.{IsLookedAt};
+ghost use Rattle.xr_lanes.specs.Shown.{HasNextCone};
 ghost use Rattle.xr_repair.specs.Step.{IsShown};
-ghost use Rattle.xr_repair.specs.Walk.{AreRightOf};
+ghost use Rattle.xr_repair.specs.Walk.{AreRightOf, start_of};
 ghost use Rattle.xr_wave.specs.Token.{IsLineNext};
 
 use crate::aids::Aids;
+use crate::earlier::find_by_log;
 use crate::fillings::try_fillings;
 use crate::found::Found;
 use crate::search::search;
@@ -17,15 +20,17 @@ use std::alloc::Global;
 use xr_base::Memory;
 use xr_cone::Cone;
 use xr_enum::{Decided, decide};
+use xr_lanes::Shown;
 use xr_wave::Wave;
 
 /// Up to this many sources, every filling of them is tried.
 const ENUMERATED: usize = 12;
 
-/// What is shown of the next place: by two lanes that differ there, or else by tables or its cone.
+/// What is shown of the next place: by two lanes that differ there, or else by an earlier place, by tables or by its cone.
 #[tactic(auto, using(crate::proofs::Searching::pair_accepted))]
 pub fn find(alloc: Global, wave: &Wave<'_>, aids: &mut Aids) -> Result<Found, Memory>
     requires class { IsLineNext wave.now }
+    requires along { GoesAlong (start_of wave.now) wave.now }
     requires right { AreRightOf wave.now aids.old }
     ensures shown { IfOk result (IsShown wave.now) }
     ensures right { OnOk result (AreRightOf wave.now aids.new) }
@@ -33,6 +38,46 @@ pub fn find(alloc: Global, wave: &Wave<'_>, aids: &mut Aids) -> Result<Found, Me
     aids.cones.lanes.look(alloc, wave)?;
     match aids.cones.lanes.find(alloc, wave)? {
         Some(pair) => Ok(Found::Pair(pair)),
+        None => find_by_equal(alloc, wave, aids),
+    }
+}
+
+/// The same by an earlier place that rests on the same, or else by tables or its cone.
+#[tactic(auto, using(crate::proofs::Searching::pair_accepted))]
+fn find_by_equal(alloc: Global, wave: &Wave<'_>, aids: &mut Aids) -> Result<Found, Memory>
+    requires class { IsLineNext wave.now }
+    requires along { GoesAlong (start_of wave.now) wave.now }
+    requires right { AreRightOf wave.now aids.old }
+    requires looked { IsLookedAt wave.now aids.old.cones.lanes }
+    ensures shown { IfOk result (IsShown wave.now) }
+    ensures right { OnOk result (AreRightOf wave.now aids.new) }
+{
+    match aids.cones.lanes.find_equal(alloc, wave)? {
+        Shown::Pair(pair) => Ok(Found::Pair(pair)),
+        Shown::Settled(settled) => Ok(Found::Settled(settled)),
+        Shown::Earlier(place) => find_by_earlier(alloc, wave, aids, place),
+        Shown::Nothing => find_by_tables(alloc, wave, aids),
+    }
+}
+
+/// The same by the log of an earlier place that asks the same, or else by tables or its cone.
+#[tactic(auto, using(crate::proofs::Searching::pair_accepted))]
+fn find_by_earlier(
+    alloc: Global,
+    wave: &Wave<'_>,
+    aids: &mut Aids,
+    place: usize,
+) -> Result<Found, Memory>
+    requires class { IsLineNext wave.now }
+    requires along { GoesAlong (start_of wave.now) wave.now }
+    requires cone { HasNextCone wave.now place }
+    requires right { AreRightOf wave.now aids.old }
+    requires looked { IsLookedAt wave.now aids.old.cones.lanes }
+    ensures shown { IfOk result (IsShown wave.now) }
+    ensures right { OnOk result (AreRightOf wave.now aids.new) }
+{
+    match find_by_log(alloc, wave, place)? {
+        Some(found) => Ok(found),
         None => find_by_tables(alloc, wave, aids),
     }
 }
@@ -47,8 +92,10 @@ fn find_by_tables(alloc: Global, wave: &Wave<'_>, aids: &mut Aids) -> Result<Fou
     ensures right { OnOk result (AreRightOf wave.now aids.new) }
 {
     match aids.cones.lanes.find_shared(alloc, wave)? {
-        Some(pair) => Ok(Found::Pair(pair)),
-        None => find_by_cone(alloc, wave, aids),
+        Shown::Pair(pair) => Ok(Found::Pair(pair)),
+        Shown::Settled(settled) => Ok(Found::Settled(settled)),
+        Shown::Earlier(_) => find_by_cone(alloc, wave, aids),
+        Shown::Nothing => find_by_cone(alloc, wave, aids),
     }
 }
 

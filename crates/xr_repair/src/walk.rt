@@ -6,7 +6,7 @@ ghost use Rattle.xr_design.specs.Handed.{IsHandedIn};
 ghost use Rattle.xr_design.specs.Job.{job_of};
 ghost use Rattle.xr_repair.specs.Repaired.{IsOfJob, IsOnlyOne};
 ghost use Rattle.xr_repair.specs.Step.{IsFurther, IsNextOf, RefusedStep};
-ghost use Rattle.xr_repair.specs.Walk.{AreRightOf, HasLessLeft, all_of, count_of, left_of};
+ghost use Rattle.xr_repair.specs.Walk.{AreRightOf, HasLessLeft, all_of, count_of, left_of, start_of};
 ghost use Rattle.xr_along.specs.Along.{GoesAlong};
 ghost use Rattle.xr_wave.specs.Advance.{IsAdvanced};
 ghost use Rattle.xr_wave.specs.Contents.{IsFinished, IsLimit, IsWave, nothing_written};
@@ -157,6 +157,7 @@ fn write_lines<'a>(
     lines: usize,
 ) -> Result<Wave<'a>, RepairErr>
     requires some { 0 < lines }
+    requires along { GoesAlong (start_of wave) wave }
     requires right { AreRightOf wave aids.old }
     ensures same { IfOk result (IsOfJob wave.entry) }
     ensures along { IfOk result (GoesAlong wave.entry) }
@@ -202,6 +203,7 @@ fn advance<'a>(wave: Wave<'a>) -> Result<Wave<'a>, RepairErr>
 fn write_next<'a>(alloc: Global, wave: Wave<'a>, aids: &mut Aids) -> Result<Wave<'a>, RepairErr>
     requires sound { IsWave wave }
     requires class { IsLineNext wave }
+    requires along { GoesAlong (start_of wave) wave }
     requires right { AreRightOf wave aids.old }
     ensures ok { IfOk result (IsFurther wave.entry) }
     ensures along { IfOk result (GoesAlong wave.entry) }
@@ -217,6 +219,7 @@ fn write_next<'a>(alloc: Global, wave: Wave<'a>, aids: &mut Aids) -> Result<Wave
 fn decide_next<'a>(alloc: Global, wave: Wave<'a>, aids: &mut Aids) -> Result<Wave<'a>, RepairErr>
     requires sound { IsWave wave }
     requires class { IsLineNext wave }
+    requires along { GoesAlong (start_of wave) wave }
     requires right { AreRightOf wave aids.old }
     ensures ok { IfOk result (IsNextOf wave.entry) }
     ensures along { IfOk result (GoesAlong wave.entry) }

@@ -1,11 +1,10 @@
 -- Tables as they are kept, with more blocks at their end, and with one table more.
-use Rattle.std.proofs.Common.{◌≡◌, ℕ, zero, suc, ◌+◌, ◌<◌, List, [], ◌∷◌, ◌++◌, length, refl, ◌∙◌, arith, length-append, get_or}
+use Rattle.std.proofs.Common.{◌≡◌, ℕ, zero, suc, ◌<◌, List, [], ◌∷◌, ◌++◌, length, refl, ◌∙◌, arith, length-append, get_or}
 use Rattle.std.proofs.lemmas.List.{get_or-map, length-map, map-append}
-use Rattle.std.specs.List.{AllByRecursion}
 use Rattle.xr_graph.proofs.Parts.{part_new, part_stays}
 use Rattle.xr_graph.specs.Kept.{part_of}
 use Rattle.xr_tables.specs.Kept.{AreWithin, IsWithin, seen_table, seen_tables}
-use Rattle.xr_tables.specs.Tables.{HasTable, NodeTable, no_table}
+use Rattle.xr_tables.specs.Tables.{HasTable, no_table}
 use Rattle.xr_tables.specs.declared.kept.Entry.{Entry}
 
 -- What is seen stays.

@@ -1,5 +1,5 @@
 -- Tables that are right of a graph.
-use Rattle.std.proofs.Common.{◌≡◌, ℕ, zero, suc, ◌+◌, ◌*◌, ◌<◌, ◌≤◌, ◌==◌, cond, Bool, false, List, [], ◌∷◌, ◌++◌, length, refl, sym, ap, ◌∙◌, subst, arith, length-append, set, slice_index, slice_index_or, take, ⊎_elim}
+use Rattle.std.proofs.Common.{◌≡◌, ℕ, zero, suc, ◌+◌, ◌*◌, ◌<◌, ◌≤◌, Bool, List, [], ◌∷◌, ◌++◌, length, refl, sym, ap, ◌∙◌, subst, arith, length-append, set, slice_index, slice_index_or, take, ⊎_elim}
 use Rattle.std.proofs.Math.ListN.{get_or-append}
 use Rattle.std.proofs.Math.Seq.{get_or-append_seam}
 use Rattle.std.proofs.lemmas.Bool.{cases_eq}
@@ -10,17 +10,16 @@ use Rattle.xr_cell.specs.declared.value.Value.TheVariants.{X}
 use Rattle.xr_design.specs.declared.place.Place.{Place}
 use Rattle.xr_design.specs.World.{decided}
 use Rattle.xr_model.specs.Mask.{mask_of}
-use Rattle.xr_cone_nodes.proofs.NodeWorlds.{all_at}
 use Rattle.xr_cone_nodes.specs.declared.node.Node.{Node}
 use Rattle.xr_cone_nodes.specs.declared.node.NodeBody.TheVariants.{Rule}
 use Rattle.xr_cone_nodes.specs.Lanes.{HasLanes, in_lane}
-use Rattle.xr_cone_nodes.specs.Nodes.{chosen, is_listed, node_at, number_bits}
+use Rattle.xr_cone_nodes.specs.Nodes.{is_listed, node_at}
 use Rattle.xr_graph.proofs.GraphBits.{graph_stays, graph_table}
-use Rattle.xr_graph.specs.Bits.{graph_bit, own_bit}
+use Rattle.xr_graph.specs.Bits.{graph_bit}
 use Rattle.xr_graph.specs.Kept.{ruled_node}
 use Rattle.xr_tables.specs.Choice.{number_at, value_at}
 use Rattle.xr_tables.specs.Evaluated.{AreFirstBlocks, AreFoundBlocks, IsFoundBlock}
-use Rattle.xr_tables.specs.Tables.{AreAllOf, AreTablesOf, HasBlock, HasTable, IsTableOf, NodeTable, StayLaw, TablesView, filling_by, no_table}
+use Rattle.xr_tables.specs.Tables.{AreAllOf, HasBlock, HasTable, IsTableOf, NodeTable, StayLaw, filling_by, no_table}
 
 -- A table that is one of those that are right is right.
 all_tables : (P : NodeTable → Type 0) (tables : List NodeTable) (i : ℕ) → i < length tables → AllByRecursion P tables

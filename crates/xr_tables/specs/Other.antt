@@ -1,10 +1,12 @@
--- Fillings that give a node another bit than the empty one.
-use Rattle.std.specs.Prelude.{◌≡◌, ℕ, ◌+◌, ◌*◌, ◌<◌, not, Bool, List, [], length, slice_index_or}
+-- How a node's bits under the fillings of a list compare with its bit under the empty one.
+use Rattle.std.specs.Prelude.{◌≡◌, ℕ, ◌+◌, ◌*◌, ◌<◌, ◌≤◌, ◌^◌, not, Bool, List, [], length, slice_index_or}
 use Rattle.xr_design.specs.declared.place.Place.{Place}
 use Rattle.xr_cone_nodes.specs.declared.node.Node.{Node}
 use Rattle.xr_cone_nodes.specs.Lanes.{in_lane}
 use Rattle.xr_graph.specs.Bits.{graph_bit}
 use Rattle.xr_tables.specs.Tables.{filling_by}
+use Rattle.xr_tables.specs.declared.other.Compared.{Compared}
+use Rattle.xr_tables.specs.declared.other.Compared.TheVariants as compared
 use Rattle.xr_tables.specs.declared.other.Other.{Other}
 
 -- The filling of a number gives a node another bit than the empty filling.
@@ -13,6 +15,17 @@ pub record IsOther (graph : List Node) (list : List Place) (node : ℕ) (other :
   pub filling : other.filling ≡ filling_by list number
   pub empty : other.empty ≡ graph_bit graph [] node
   pub differs : graph_bit graph other.filling node ≡ not other.empty
+
+-- The filling of every number gives it a bit: those below 2 to the number of places are all fillings of them.
+abbrev pub IsSame : List Node → List Place → ℕ → Bool → Type 0
+IsSame graph list node bit =
+    (number : ℕ) → number < 2 ^ length list → graph_bit graph (filling_by list number) node ≡ bit
+
+-- What is shown of a node is so.
+abbrev pub IsCompared : List Node → List Place → ℕ → Compared → Type 0
+IsCompared graph list node (compared.Other other) = IsOther graph list node other
+IsCompared graph list node (compared.Same bit) = IsSame graph list node bit
+IsCompared graph list node compared.Nothing = Unit {0}
 
 -- In a lane of a block there is another bit than one that is given, and a number says where.
 pub record IsOtherNumber (blocks : List (List ℕ)) (empty : Bool) (number : ℕ) : Type 0 where
@@ -23,10 +36,28 @@ pub record IsOtherNumber (blocks : List (List ℕ)) (empty : Bool) (number : ℕ
   pub is : number ≡ 256 * block + lane
   pub differs : in_lane (slice_index_or blocks block []) lane ≡ not empty
 
+-- In every lane of a block there is that bit, and so in the first n blocks.
+abbrev pub IsAll : List (List ℕ) → Bool → ℕ → Type 0
+IsAll blocks empty block = (lane : ℕ) → lane < 256 → in_lane (slice_index_or blocks block []) lane ≡ empty
+
+abbrev pub AreAll : List (List ℕ) → Bool → ℕ → Type 0
+AreAll blocks empty n = (block : ℕ) → block < n → IsAll blocks empty block
+
 -- So the filling of the number does, where the blocks are those of a node.
-pub record IsShownBy (list : List Place) (blocks : List (List ℕ)) (other : Other) : Type 0 where
+pub record IsOtherIn (list : List Place) (blocks : List (List ℕ)) (other : Other) : Type 0 where
   pub number : ℕ
   pub is_number : IsOtherNumber blocks other.empty number
   pub filling : other.filling ≡ filling_by list number
   pub some : 0 < length blocks
   pub empty : other.empty ≡ in_lane (slice_index_or blocks 0 []) 0
+
+-- The blocks are those of all fillings, and each has a bit everywhere.
+pub record IsSameIn (list : List Place) (blocks : List (List ℕ)) (bit : Bool) : Type 0 where
+  pub enough : 2 ^ length list ≤ 256 * length blocks
+  pub all : AreAll blocks bit (length blocks)
+
+-- What blocks show.
+abbrev pub IsShownBy : List Place → List (List ℕ) → Compared → Type 0
+IsShownBy list blocks (compared.Other other) = IsOtherIn list blocks other
+IsShownBy list blocks (compared.Same bit) = IsSameIn list blocks bit
+IsShownBy list blocks compared.Nothing = Unit {0}

@@ -3,8 +3,9 @@
 //! for a list.
 //!
 //! A question walks down to nodes that have tables, by a heap, makes what is missing from there up, and looks for a
-//! number whose filling gives the node another bit than the empty one. What isn't used for long makes room. Nothing
-//! promises that such a number is found. Start at specs/Tables.antt, then at `SourceTables`.
+//! number whose filling gives the node another bit than the empty one: there is one, or every filling gives it that bit.
+//! What isn't used for long makes room. Nothing promises that the node gets a table. Start at specs/Tables.antt, then at
+//! `SourceTables`.
 #![tactic(auto)]
 
 mod choice;
@@ -18,5 +19,5 @@ mod tables;
 
 pub use choice::table_lanes;
 pub use laws::tables_stay;
-pub use other::Other;
+pub use other::{Compared, Other};
 pub use tables::SourceTables;

@@ -1,19 +1,16 @@
-//! A filling that gives a node another bit than the empty one: of those that its blocks have, one that lists the
-//! fewest.
+//! How the bits of a node under the fillings of a list compare with its bit under the empty one: a filling that gives it
+//! another bit, one that lists the fewest, or none does.
 
-ghost use Rattle.std.specs.Prelude.{◌<◌, ◌≤◌, IfOk, IfSome, length};
-ghost use Rattle.xr_tables.specs.Other.{IsOtherNumber, IsShownBy};
+ghost use Rattle.std.specs.Prelude.{◌<◌, ◌≤◌, IfOk, MatchOption, length};
+ghost use Rattle.xr_tables.specs.Other.{AreAll, IsAll, IsOtherNumber, IsShownBy};
 
 use crate::fillings::places_by;
 use std::alloc::Global;
 use xr_base::{Items, Memory};
 use xr_cone_nodes::LaneBits;
 use xr_design::{Filling, Place};
-use xr_enum::fewer;
+use xr_enum::{fewer, number_blocks};
 use xr_pair::least_lane;
-
-/// How many blocks there are at most.
-const MOST_BLOCKS: usize = 256;
 
 /// A filling under which a node has another bit than under the empty one, and its bit under that.
 #[derive(Debug)]
@@ -22,20 +19,36 @@ pub struct Other {
     pub empty: bool,
 }
 
-/// What the blocks of a node over a list show. Takes 8 bytes for each place of the filling.
-pub fn other_of(alloc: Global, list: &[Place], blocks: &[LaneBits]) -> Result<Option<Other>, Memory>
+/// What tables show of a node.
+#[derive(Debug)]
+pub enum Compared {
+    /// A filling gives it another bit than the empty one.
+    Other(Other),
+    /// Every filling of places of the list gives it this bit.
+    Same(bool),
+    /// Nothing: it has no table.
+    Nothing,
+}
+
+/// What the blocks of a node over a list show; nothing where they aren't those of all fillings. Takes 8 bytes for each
+/// place of the filling.
+pub fn compare_blocks(
+    alloc: Global,
+    list: &[Place],
+    blocks: &[LaneBits],
+) -> Result<Compared, Memory>
     requires { length list.now ≤ 16 }
-    ensures { IfOk result (λ found. IfSome found (IsShownBy list.now blocks.now)) }
+    ensures { IfOk result (IsShownBy list.now blocks.now) }
 {
-    if blocks.is_empty() {
-        return Ok(None);
+    if blocks.len() != number_blocks(list.len()) {
+        return Ok(Compared::Nothing);
     }
     let empty = blocks[0].in_lane(0);
     match other_number(blocks, empty) {
-        None => Ok(None),
+        None => Ok(Compared::Same(empty)),
         Some(number) => {
             let places = places_by(alloc, list, number)?;
-            Ok(Some(Other {
+            Ok(Compared::Other(Other {
                 filling: Items::from_vec(places),
                 empty,
             }))
@@ -45,11 +58,9 @@ pub fn other_of(alloc: Global, list: &[Place], blocks: &[LaneBits]) -> Result<Op
 
 /// A number at which blocks have another bit than one that is given.
 fn other_number(blocks: &[LaneBits], empty: bool) -> Option<usize>
-    ensures { IfSome result (IsOtherNumber blocks.now empty) }
+    requires { length blocks.now ≤ 256 }
+    ensures { MatchOption result (AreAll blocks.now empty (length blocks.now)) (IsOtherNumber blocks.now empty) }
 {
-    if blocks.len() > MOST_BLOCKS {
-        return None;
-    }
     let mut found = None;
     'numbers: for block in 0..blocks.len() {
         found = fewer(found, other_in(blocks, block, empty));
@@ -61,7 +72,7 @@ fn other_number(blocks: &[LaneBits], empty: bool) -> Option<usize>
 fn other_in(blocks: &[LaneBits], block: usize, empty: bool) -> Option<usize>
     requires within { block < length blocks.now }
     requires few { block < 256 }
-    ensures { IfSome result (IsOtherNumber blocks.now empty) }
+    ensures { MatchOption result (IsAll blocks.now empty block) (IsOtherNumber blocks.now empty) }
 {
     match least_lane(blocks[block].turned(empty)) {
         Some(lane) => Some(256 * block + lane as usize),

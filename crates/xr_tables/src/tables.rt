@@ -1,14 +1,14 @@
 //! The tables over one list of sources.
 
-ghost use Rattle.std.specs.Prelude.{◌≡◌, ◌<◌, ◌≤◌, [], IfOk, IfSome, OnOk, length};
+ghost use Rattle.std.specs.Prelude.{◌≡◌, ◌<◌, ◌≤◌, [], IfOk, OnOk, length};
 ghost use Rattle.std.specs.List.{AllByRecursion};
-ghost use Rattle.xr_tables.specs.Other.{IsOther};
+ghost use Rattle.xr_tables.specs.Other.{IsCompared};
 ghost use Rattle.xr_tables.specs.Tables.{AreTablesOf, AreTablesOfAny, KeepsRight};
 
 use crate::evaluate::node_blocks;
 use crate::kept::KeptTables;
 use crate::missing::missing_nodes;
-use crate::other::{Other, other_of};
+use crate::other::{Compared, compare_blocks};
 use std::alloc::Global;
 use std::marker::Model;
 use std::mem;
@@ -71,18 +71,13 @@ impl SourceTables {
     }
 
     /// A filling of places of the list under which a node has another bit than under the empty one, one that lists as
-    /// few as any, if such a filling is found.
-    pub fn other(
-        &mut self,
-        alloc: Global,
-        graph: &Graph,
-        node: usize,
-    ) -> Result<Option<Other>, Memory>
+    /// few as any; or the bit that it has under every one; or nothing where questions haven't earned its table.
+    pub fn compare(&mut self, alloc: Global, graph: &Graph, node: usize) -> Result<Compared, Memory>
         requires node { node < length graph.now }
         requires right { AreTablesOf graph.now self.old }
         ensures right { OnOk result (AreTablesOf graph.now self.new) }
         ensures list { OnOk result (self.new.list ≡ self.old.list) }
-        ensures other { IfOk result (λ found. IfSome found (IsOther graph.now self.old.list node)) }
+        ensures shown { IfOk result (IsCompared graph.now self.old.list node) }
     {
         self.make_room();
         self.make_missing(alloc, graph, node)?;
@@ -160,13 +155,13 @@ impl SourceTables {
     }
 
     /// What the young table of a node shows.
-    fn found(&self, alloc: Global, graph: &Graph, node: usize) -> Result<Option<Other>, Memory>
+    fn found(&self, alloc: Global, graph: &Graph, node: usize) -> Result<Compared, Memory>
         requires { AreTablesOf graph.now self.now }
-        ensures { IfOk result (λ found. IfSome found (IsOther graph.now self.now.list node)) }
+        ensures { IfOk result (IsCompared graph.now self.now.list node) }
     {
         match self.young.find(node) {
-            Some(blocks) => other_of(alloc, self.list.as_slice(), blocks),
-            None => Ok(None),
+            Some(blocks) => compare_blocks(alloc, self.list.as_slice(), blocks),
+            None => Ok(Compared::Nothing),
         }
     }
 }

@@ -1,16 +1,16 @@
 -- Lines of options, and what they mean.
 use Rattle.std.proofs.Common.{◌≡◌, ◌∙◌, ◌⊎◌, ◌<◌, inl, inr, List, [], ◌∷◌, Option, Some, None, true, map, length, codes, refl, sym, ap, subst}
 use Rattle.std.specs.Prelude.{IfNone, IfSome, unwrap_or}
-use Rattle.xr_words.specs.declared.line.Line.{Line}
-use Rattle.xr_words.specs.declared.option.Opt.{Opt}
-use Rattle.xr_words.specs.declared.option.Kind.{Kind}
-use Rattle.xr_words.specs.declared.option.Kind.TheVariants as kind
-use Rattle.xr_words.specs.Forms.{Module, Plain, Writes, needs, plain, plain_kind}
-use Rattle.xr_words.specs.Line.{IsLine, Item, Text, are_options, given, is_kind}
-use Rattle.xr_words.specs.Read.{files_of, value_of}
-use Rattle.xr_words.proofs.Commands.{line_alike}
-use Rattle.xr_words.proofs.Settling.{many_is}
-use Rattle.xr_words.proofs.Whole.{IsPassed, line_passes}
+use Rattle.xr_line.specs.declared.line.Line.{Line}
+use Rattle.xr_line.specs.declared.option.Opt.{Opt}
+use Rattle.xr_line.specs.declared.option.Kind.{Kind}
+use Rattle.xr_line.specs.declared.option.Kind.TheVariants as kind
+use Rattle.xr_line.specs.Tables.{Module, Plain, Writes, needs, plain, plain_kind}
+use Rattle.xr_line.specs.Line.{IsLine, Item, Text, are_options, given, is_kind}
+use Rattle.xr_line.specs.Read.{files_of, value_of}
+use Rattle.xr_line.proofs.Alike.{line_alike}
+use Rattle.xr_line.proofs.Settling.{many_is}
+use Rattle.xr_line.proofs.Whole.{IsPassed, line_passes}
 use Rattle.xr_trim_cli.specs.Words.{AreOutside, Gives, IsTrimLine, Means, TrimValues, table, trim_values}
 use Rattle.xr_trim_cli.specs.declared.trim_words.TrimWords.{TrimWords}
 

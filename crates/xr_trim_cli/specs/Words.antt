@@ -1,11 +1,11 @@
 -- The set of command lines, `--top T --to F FILE..`, and what each means.
 use Rattle.std.specs.Prelude.{◌≡◌, List, [], ◌∷◌, true, Option, Some, codes, map, string_bytes}
-use Rattle.xr_words.specs.declared.option.Opt.{Opt}
-use Rattle.xr_words.specs.Apart.{AreApart}
-use Rattle.xr_words.specs.Forms.{Plain, Module, Writes, needs, plain}
-use Rattle.xr_words.specs.Line.{IsLine, Item, Text, given}
-use Rattle.xr_words.specs.Read.{HasOnly, Reads}
-use Rattle.xr_words.specs.declared.line.Line.{Line}
+use Rattle.xr_line.specs.declared.option.Opt.{Opt}
+use Rattle.xr_line.specs.Apart.{AreApart}
+use Rattle.xr_line.specs.Tables.{Plain, Module, Writes, needs, plain}
+use Rattle.xr_line.specs.Line.{IsLine, Item, Text, given}
+use Rattle.xr_line.specs.Read.{HasOnly, Reads}
+use Rattle.xr_line.specs.declared.line.Line.{Line}
 use Rattle.xr_trim_cli.specs.declared.trim_words.TrimWords.{TrimWords}
 
 abbrev pub table : List Plain

@@ -11,9 +11,9 @@ use crate::command::Trim;
 use crate::trim_words::TrimWords;
 use crate::words::{options, read_trim_words};
 use std::alloc::{AllocError, Global};
+use xr_line::usage_of_line;
 use xr_run::{refuse_memory, refuse_words, run_command};
 use xr_shelf::{Shelf, Sink};
-use xr_words::usage_of_line;
 
 /// Runs the words on the shelf, prints to the sink, and answers the exit status.
 pub fn run<S: Shelf, O: Sink>(alloc: Global, words: &[String], shelf: &mut S, out: &mut O) -> u8

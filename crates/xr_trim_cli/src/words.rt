@@ -1,15 +1,15 @@
 //! The words of a command line.
 
 ghost use Rattle.std.specs.Prelude.{◌≡◌, ◌<◌, [], ◌∷◌, List, IfNone, IfOk, IfSome, length, map, string_bytes, true};
-ghost use Rattle.xr_words.specs.Forms.{plain};
-ghost use Rattle.xr_words.specs.Line.{Text, are_options};
-ghost use Rattle.xr_words.specs.Read.{value_of};
+ghost use Rattle.xr_line.specs.Tables.{plain};
+ghost use Rattle.xr_line.specs.Line.{Text, are_options};
+ghost use Rattle.xr_line.specs.Read.{value_of};
 ghost use Rattle.xr_trim_cli.specs.Words.{AreOutside, Gives, IsTrimLine, Means, TrimValues, table, trim_values};
 
 use crate::trim_words::TrimWords;
 use std::alloc::Global;
 use xr_base::Memory;
-use xr_words::{Kind, Line, Opt, are_apart, files_in, read_line};
+use xr_line::{Kind, Line, Opt, are_apart, files_in, read_line};
 
 static OPTIONS: [Opt<'static>; 2] = [
     Opt {

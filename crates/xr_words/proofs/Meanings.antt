@@ -2,12 +2,14 @@
 use Rattle.std.proofs.Common.{◌≡◌, ◌∙◌, ℕ, ◌<◌, List, [], ◌∷◌, ◌++◌, length, Option, Some, None, Bool, true, false, codes, refl, sym, ap, subst, arith}
 use Rattle.std.specs.Str.{bytes_eq}
 use Rattle.xr_words.specs.Forms.{IsCommand, IsNamed, IsNamedOnly, has_files, word_of}
-use Rattle.xr_words.specs.Line.{HasFiles, Item, Text, given, words_of_items}
-use Rattle.xr_words.specs.Read.{files_of, value_of}
-use Rattle.xr_words.specs.Words.{AreOutside, BlameValues, CheckValues, ExportValues, FixValues, Gives, GivesBlame, GivesCheck, GivesExport, GivesFix, GivesJob, GivesMake, GivesProve, GivesRepair, GivesReplay, IsCount, IsNumberTo, IsStart, JobValues, MakeValues, Means, MeansOnly, OfBlame, OfFix, OfCheck, OfExport, OfMake, OfProve, OfRepair, OfReplay, ProveValues, RepairValues, ReplayValues, Values, name_of, netlists_of, start_word, AuditValues, GivesAudit, OfAudit}
+use Rattle.xr_line.specs.Line.{HasFiles, IsNumber, Item, Text, given, words_of_items}
+use Rattle.xr_line.specs.Read.{files_of, value_of}
+use Rattle.xr_words.specs.Words.{AreOutside, BlameValues, CheckValues, ExportValues, FixValues, Gives, GivesBlame, GivesCheck, GivesExport, GivesFix, GivesJob, GivesMake, GivesProve, GivesRepair, GivesReplay, GivesUpgrade, IsCount, IsForm, IsNumberTo, IsStart, JobValues, MakeValues, Means, MeansOnly, OfBlame, OfFix, OfCheck, OfExport, OfMake, OfProve, OfRepair, OfReplay, OfUpgrade, ProveValues, RepairValues, ReplayValues, UpgradeValues, Values, form_number, name_of, netlists_of, start_word, AuditValues, GivesAudit, OfAudit}
 use Rattle.xr_words.specs.declared.forms.Name.{Name}
-use Rattle.xr_words.specs.declared.forms.Name.TheVariants.{Blame, Check, Export, Fix, Make, Prove, Repair, Replay, Audit}
-use Rattle.xr_words.specs.declared.line.Line.{Line}
+use Rattle.xr_words.specs.declared.forms.Name.TheVariants.{Blame, Check, Export, Fix, Make, Prove, Repair, Replay, Upgrade, Audit}
+use Rattle.xr_line.specs.declared.line.Line.{Line}
+use Rattle.xr_words.specs.declared.words.Form.{Form}
+use Rattle.xr_words.specs.declared.words.Form.TheVariants.{Lines, Turns}
 use Rattle.xr_words.specs.declared.words.Start.{Start}
 use Rattle.xr_words.specs.declared.words.Start.TheVariants.{Cold, Recorded}
 
@@ -39,6 +41,7 @@ module _ (option other : Text → Option Text) (each : AreAlike option other) wh
     vcd = text_by (codes "vcd") refl v.vcd gives.vcd;
     code = text_by (codes "code") refl v.code gives.code;
     cert = text_by (codes "cert") refl v.cert gives.cert;
+    form = subst (λ (o : Option Text). IsForm o v.form) (each (codes "form") refl) gives.form;
     conflicts = conflicts_by v.conflicts gives.conflicts;
     apart = gives.apart;
   }
@@ -83,6 +86,13 @@ module _ (option other : Text → Option Text) (each : AreAlike option other) wh
     sets = text_by (codes "set") refl v.sets gives.sets;
     conflicts = conflicts_by v.conflicts gives.conflicts;
   }
+  gives_by (OfUpgrade v) gives = record {
+    job = job_by v.job gives.job;
+    cert = text_by (codes "cert") refl v.cert gives.cert;
+    to = text_by (codes "to") refl v.to gives.to;
+    conflicts = conflicts_by v.conflicts gives.conflicts;
+    apart = gives.apart;
+  }
 
 -- ---- one set of values
 
@@ -103,6 +113,19 @@ one_start : (o : Option Text) (a b : Start) → IsStart o a → IsStart o b → 
 one_start None a b first second = first ∙ sym second
 one_start (Some text) a b first second = one_word text a b first second
 
+two_forms : (text : Text) → IsNumber text 1 → IsNumber text 2 → ⊥
+two_forms text first second = let same : ◌≡◌ {A = ℕ} 1 2 = first.value ∙ sym second.value in omega (arith, same)
+
+one_number_form : (text : Text) (a b : Form) → IsNumber text (form_number a) → IsNumber text (form_number b) → a ≡ b
+one_number_form text Lines Lines first second = refl
+one_number_form text Lines Turns first second = absurd (two_forms text first second)
+one_number_form text Turns Lines first second = absurd (two_forms text second first)
+one_number_form text Turns Turns first second = refl
+
+one_form : (o : Option Text) (a b : Form) → IsForm o a → IsForm o b → a ≡ b
+one_form None a b first second = first ∙ sym second
+one_form (Some text) a b first second = one_number_form text a b first second
+
 some_same : (a b : Text) (o : Option Text) → o ≡ Some a → o ≡ Some b → a ≡ b
 some_same a b o first second = let both : Some a ≡ Some b = sym first ∙ second in cc
 
@@ -122,7 +145,8 @@ one_repair option a b first second netlists =
     let code = some_same a.code b.code (option (codes "code")) first.code second.code in
     let cert = some_same a.cert b.cert (option (codes "cert")) first.cert second.cert in
     let conflicts = one_count (option (codes "conflicts")) 1000 100000 a.conflicts b.conflicts first.conflicts second.conflicts in
-    λ i. record { job = job i; vcd = vcd i; code = code i; cert = cert i; conflicts = conflicts i }
+    let form = one_form (option (codes "form")) a.form b.form first.form second.form in
+    λ i. record { job = job i; vcd = vcd i; code = code i; cert = cert i; form = form i; conflicts = conflicts i }
 
 one_replay : (option : Text → Option Text) (a b : ReplayValues) → GivesReplay option a → GivesReplay option b → a.job.netlists ≡ b.job.netlists → a ≡ b
 one_replay option a b first second netlists =
@@ -182,6 +206,14 @@ one_fix option a b first second netlists =
     let conflicts = one_count (option (codes "conflicts")) 1000 100000 a.conflicts b.conflicts first.conflicts second.conflicts in
     λ i. record { job = job i; sets = sets i; conflicts = conflicts i }
 
+one_upgrade : (option : Text → Option Text) (a b : UpgradeValues) → GivesUpgrade option a → GivesUpgrade option b → a.job.netlists ≡ b.job.netlists → a ≡ b
+one_upgrade option a b first second netlists =
+    let job = one_job option a.job b.job first.job second.job netlists in
+    let cert = some_same a.cert b.cert (option (codes "cert")) first.cert second.cert in
+    let to = some_same a.to b.to (option (codes "to")) first.to second.to in
+    let conflicts = one_count (option (codes "conflicts")) 1000 100000 a.conflicts b.conflicts first.conflicts second.conflicts in
+    λ i. record { job = job i; cert = cert i; to = to i; conflicts = conflicts i }
+
 -- ---- values of one command
 
 abbrev pub ValuesOf : Name → Type 0
@@ -194,6 +226,7 @@ ValuesOf Prove = ProveValues
 ValuesOf Audit = AuditValues
 ValuesOf Blame = BlameValues
 ValuesOf Fix = FixValues
+ValuesOf Upgrade = UpgradeValues
 
 abbrev pub of : (name : Name) → ValuesOf name → Values
 of Repair v = OfRepair v
@@ -205,6 +238,7 @@ of Prove v = OfProve v
 of Audit v = OfAudit v
 of Blame v = OfBlame v
 of Fix v = OfFix v
+of Upgrade v = OfUpgrade v
 
 -- Values are those of a command.
 pub record AreOf (name : Name) (v : Values) : Type 0 where
@@ -221,6 +255,7 @@ their_own (OfProve v) = record { own = v; is = refl }
 their_own (OfAudit v) = record { own = v; is = refl }
 their_own (OfBlame v) = record { own = v; is = refl }
 their_own (OfFix v) = record { own = v; is = refl }
+their_own (OfUpgrade v) = record { own = v; is = refl }
 
 pub are_of : (name : Name) (v : Values) → name_of v ≡ name → AreOf name v
 are_of name v is = subst (λ (n : Name). AreOf n v) is (their_own v)
@@ -235,6 +270,7 @@ one_own Prove option a b first second netlists = ap OfProve (one_prove option a 
 one_own Audit option a b first second netlists = ap OfAudit (one_audit option a b first second netlists)
 one_own Blame option a b first second netlists = ap OfBlame (one_blame option a b first second netlists)
 one_own Fix option a b first second netlists = ap OfFix (one_fix option a b first second netlists)
+one_own Upgrade option a b first second netlists = ap OfUpgrade (one_upgrade option a b first second netlists)
 
 pub one_values : (option : Text → Option Text) (a b : Values) → name_of b ≡ name_of a → Gives option a → Gives option b → netlists_of a ≡ netlists_of b → a ≡ b
 one_values option a b name first second netlists =

@@ -5,17 +5,19 @@ use Rattle.std.specs.List.{list_all, list_any}
 use Rattle.std.specs.Str.{bytes_eq}
 use Rattle.clap.proofs.WalkLemmas.{list_any-map}
 use Rattle.xr_words.specs.declared.forms.Name.{Name}
-use Rattle.xr_words.specs.declared.forms.Name.TheVariants.{Blame, Check, Export, Fix, Make, Prove, Repair, Replay, Audit}
-use Rattle.xr_words.specs.declared.option.Kind.{Kind}
-use Rattle.xr_words.specs.declared.option.Kind.TheVariants as kind
-use Rattle.xr_words.specs.declared.option.Opt.{Opt}
-use Rattle.xr_words.specs.Forms.{IsCommand, Plain, PlainKind, Reads, Writes, Prefix, Module, Scope, Number, Word, Either, Sets, has_files, plain, plain_kind, table_of, word_of}
-use Rattle.xr_words.specs.Line.{IsLine, Item, Text, are_apart, are_options, given, is_kind, is_name}
+use Rattle.xr_words.specs.declared.forms.Name.TheVariants.{Blame, Check, Export, Fix, Make, Prove, Repair, Replay, Upgrade, Audit}
+use Rattle.xr_line.specs.declared.option.Kind.{Kind}
+use Rattle.xr_line.specs.declared.option.Kind.TheVariants as kind
+use Rattle.xr_line.specs.declared.option.Opt.{Opt}
+use Rattle.xr_line.specs.Tables.{Plain, PlainKind, Reads, Writes, Prefix, Module, Scope, Number, Word, Either, Sets, plain, plain_kind}
+use Rattle.xr_words.specs.Forms.{IsCommand, has_files, table_of, word_of}
+use Rattle.xr_line.specs.Line.{IsLine, Item, Text, are_apart, are_options, given, is_kind, is_name}
 use Rattle.xr_words.specs.Words.{Means, MeansOnly, Values, name_of, netlists_of}
-use Rattle.xr_words.proofs.Commands.{line_alike, same_name}
+use Rattle.xr_line.proofs.Alike.{line_alike}
+use Rattle.xr_words.proofs.Commands.{same_name}
 use Rattle.xr_words.proofs.Meanings.{AreAlike, gives_by, one_values}
-use Rattle.xr_words.proofs.Settling.{many_is}
-use Rattle.xr_words.proofs.Whole.{IsPassed, line_passes}
+use Rattle.xr_line.proofs.Settling.{many_is}
+use Rattle.xr_line.proofs.Whole.{IsPassed, line_passes}
 
 -- ---- a table is a list of options in order
 
@@ -73,6 +75,7 @@ table_in_order Prove = refl
 table_in_order Audit = refl
 table_in_order Blame = refl
 table_in_order Fix = refl
+table_in_order Upgrade = refl
 
 in_order : (name : Name) (os : List Opt) → map plain os ≡ table_of name → are_options os ≡ true
 in_order name os table =

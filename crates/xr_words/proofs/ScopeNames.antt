@@ -3,13 +3,14 @@ use Rattle.std.proofs.Common.{◌≡◌, ◌∙◌, List, [], ◌∷◌, map, Op
 use Rattle.std.specs.Prelude.{option_map}
 use Rattle.std.specs.List.{AllByRecursion}
 use Rattle.std.specs.Str.{bytes_eq}
-use Rattle.xr_words.specs.Forms.{IsCommand, Plain, PlainKind, Scope, Sets, needs, plain, plain_kind, table_of}
-use Rattle.xr_words.specs.Line.{Fits, IsKnown, IsScopeName, IsSet, Item, Text, given, name_in, named, pieces_of, value_in}
+use Rattle.xr_line.specs.Tables.{Plain, PlainKind, Scope, Sets, needs, plain, plain_kind}
+use Rattle.xr_words.specs.Forms.{IsCommand, table_of}
+use Rattle.xr_line.specs.Line.{Fits, IsKnown, IsScopeName, IsSet, Item, Text, given, name_in, named, pieces_of, value_in}
 use Rattle.xr_words.specs.Words.{FixValues, Means, OfFix, OfRepair, RepairValues}
 use Rattle.xr_words.specs.declared.forms.Name.TheVariants.{Fix, Repair}
-use Rattle.xr_words.specs.declared.option.Opt.{Opt}
-use Rattle.xr_words.proofs.Commands.{FitsPlain, to_plain}
-use Rattle.xr_words.proofs.Rows.{same_text}
+use Rattle.xr_line.specs.declared.option.Opt.{Opt}
+use Rattle.xr_line.proofs.Alike.{FitsPlain, to_plain}
+use Rattle.xr_line.proofs.Rows.{same_text}
 
 -- The option of a name, as the table has it.
 plain_named : List Plain → Text → Option Plain

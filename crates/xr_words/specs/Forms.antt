@@ -1,51 +1,14 @@
 -- The commands, and the options of each, as a table to read.
 use Rattle.std.specs.Str.{bytes_eq}
-use Rattle.std.specs.Prelude.{◌≡◌, ℕ, Bool, true, false, List, [], ◌∷◌, map, codes}
+use Rattle.std.specs.Prelude.{◌≡◌, Bool, true, false, List, [], ◌∷◌, map, codes}
 use Rattle.xr_words.specs.declared.forms.Name.{Name}
-use Rattle.xr_words.specs.declared.forms.Name.TheVariants.{Blame, Check, Export, Fix, Make, Prove, Repair, Replay, Audit}
-use Rattle.xr_words.specs.declared.option.Kind.{Kind}
-use Rattle.xr_words.specs.declared.option.Kind.TheVariants as kind
-use Rattle.xr_words.specs.declared.option.Opt.{Opt}
-use Rattle.xr_words.specs.declared.line.Line.{Line}
-use Rattle.xr_words.specs.Line.{IsLine, IsOutside, Item, Text, given}
-use Rattle.xr_words.specs.Read.{HasOnly, Reads as IsRead, files_of, value_of}
-
--- what the value of an option is, without where its words lie in memory
-pub data PlainKind : Type 0 where
-  Reads : PlainKind
-  Writes : PlainKind
-  Prefix : PlainKind
-  Module : PlainKind
-  Scope : PlainKind
-  Number : ℕ → ℕ → PlainKind
-  Word : List Text → PlainKind
-  Either : Text → Text → PlainKind
-  Sets : PlainKind
-
-abbrev pub plain_kind : Kind → PlainKind
-plain_kind kind.Reads = Reads
-plain_kind kind.Writes = Writes
-plain_kind kind.Prefix = Prefix
-plain_kind kind.Name = Module
-plain_kind kind.Scope = Scope
-plain_kind (kind.Number least most) = Number least most
-plain_kind (kind.Word words) = Word (map (λ w. w.now) words.now)
-plain_kind (kind.Either one other) = Either one.now other.now
-plain_kind kind.Sets = Sets
-
-pub record Plain : Type 0 where
-  pub name : Text
-  pub required : Bool
-  pub values : PlainKind
-
-abbrev pub plain : Opt → Plain
-plain o = record { name = o.name.now; required = o.required; values = plain_kind o.kind }
-
-abbrev pub needs : Text → PlainKind → Plain
-needs name values = record { name = name; required = true; values = values }
-
-abbrev pub takes : Text → PlainKind → Plain
-takes name values = record { name = name; required = false; values = values }
+use Rattle.xr_words.specs.declared.forms.Name.TheVariants.{Audit, Blame, Check, Export, Fix, Make, Prove}
+use Rattle.xr_words.specs.declared.forms.Name.TheVariants.{Repair, Replay, Upgrade}
+use Rattle.xr_line.specs.declared.option.Opt.{Opt}
+use Rattle.xr_line.specs.declared.line.Line.{Line}
+use Rattle.xr_line.specs.Line.{IsLine, IsOutside, Item, Text, given}
+use Rattle.xr_line.specs.Read.{HasOnly, Reads as IsRead, files_of, value_of}
+use Rattle.xr_line.specs.Tables.{Plain, Reads, Writes, Prefix, Module, Scope, Number, Either, Sets, needs, plain, takes}
 
 -- The options that every command with a job has, before its own.
 abbrev pub job : List Plain → List Plain
@@ -64,8 +27,8 @@ start = takes (codes "start") (Either (codes "cold") (codes "recorded"))
 
 abbrev pub table_of : Name → List Plain
 table_of Repair =
-    job (needs (codes "vcd") Writes ∷ needs (codes "code") Writes ∷ needs (codes "cert") Writes ∷ rounds ∷ conflicts
-    ∷ start ∷ [])
+    job (needs (codes "vcd") Writes ∷ needs (codes "code") Writes ∷ needs (codes "cert") Writes
+    ∷ takes (codes "form") (Number 1 2) ∷ rounds ∷ conflicts ∷ start ∷ [])
 table_of Replay = job (needs (codes "code") Reads ∷ needs (codes "vcd") Writes ∷ rounds ∷ start ∷ [])
 table_of Check = job (needs (codes "cert") Reads ∷ rounds ∷ conflicts ∷ start ∷ [])
 table_of Make =
@@ -76,6 +39,8 @@ table_of Prove = needs (codes "cnf") Reads ∷ needs (codes "log") Reads ∷ []
 table_of Audit = job (rounds ∷ conflicts ∷ start ∷ [])
 table_of Blame = job (rounds ∷ conflicts ∷ start ∷ [])
 table_of Fix = job (needs (codes "set") Sets ∷ rounds ∷ conflicts ∷ start ∷ [])
+table_of Upgrade =
+    job (needs (codes "cert") Reads ∷ needs (codes "to") Writes ∷ rounds ∷ conflicts ∷ start ∷ [])
 
 abbrev pub has_files : Name → Bool
 has_files Repair = true
@@ -87,6 +52,7 @@ has_files Prove = false
 has_files Audit = true
 has_files Blame = true
 has_files Fix = true
+has_files Upgrade = true
 
 abbrev pub word_of : Name → Text
 word_of Repair = codes "repair"
@@ -98,6 +64,7 @@ word_of Prove = codes "prove"
 word_of Audit = codes "audit"
 word_of Blame = codes "blame"
 word_of Fix = codes "fix"
+word_of Upgrade = codes "upgrade"
 
 -- The words are a command, and after it a line of its options.
 pub record IsCommand (name : Name) (words : List Text) (items : List Item) (files : List Text) : Type 0 where

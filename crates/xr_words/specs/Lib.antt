@@ -1,7 +1,4 @@
--- Definitions of command lines.
-pub mod Apart
+-- Definitions of the command lines of the program.
 pub mod Forms
-pub mod Line
-pub mod Read
-pub mod Told
+pub mod Free
 pub mod Words

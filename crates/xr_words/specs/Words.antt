@@ -1,5 +1,6 @@
 -- The set of command lines, and what each means.
--- `repair --record R --scope S --top T --vcd V --code C --cert X [--rounds N] [--conflicts N] [--start W] FILE..`
+-- `repair --record R --scope S --top T --vcd V --code C --cert X [--form N] [--rounds N] [--conflicts N] [--start W]
+-- FILE..`
 -- `replay --record R --scope S --top T --code C --vcd V [--rounds N] [--start W] FILE..`
 -- `check --record R --scope S --top T --cert X [--rounds N] [--conflicts N] [--start W] FILE..`
 -- `make --number N --gates N --netlist F --record R`
@@ -8,10 +9,12 @@
 -- `audit --record R --scope S --top T [--rounds N] [--conflicts N] [--start W] FILE..`
 -- `blame --record R --scope S --top T [--rounds N] [--conflicts N] [--start W] FILE..`
 -- `fix --set LIST --record R --scope S --top T [--rounds N] [--conflicts N] [--start W] FILE..`
+-- `upgrade --record R --scope S --top T --cert X --to Y [--rounds N] [--conflicts N] [--start W] FILE..`
 -- with W being `cold` or `recorded`, and LIST being pieces joined by commas, each a name, `=`, and `0` or `1`.
 use Rattle.std.specs.Prelude.{◌≡◌, ℕ, ◌≤◌, List, [], ◌∷◌, Option, Some, None, codes, map, string_bytes}
 use Rattle.xr_words.specs.declared.forms.Name.{Name}
-use Rattle.xr_words.specs.declared.forms.Name.TheVariants.{Blame, Check, Export, Fix, Make, Prove, Repair, Replay, Audit}
+use Rattle.xr_words.specs.declared.forms.Name.TheVariants.{Audit, Blame, Check, Export, Fix, Make, Prove}
+use Rattle.xr_words.specs.declared.forms.Name.TheVariants.{Repair, Replay, Upgrade}
 use Rattle.xr_words.specs.declared.words.AuditWords.{AuditWords}
 use Rattle.xr_words.specs.declared.words.BlameWords.{BlameWords}
 use Rattle.xr_words.specs.declared.words.CheckWords.{CheckWords}
@@ -19,6 +22,8 @@ use Rattle.xr_words.specs.declared.words.Command.{Command}
 use Rattle.xr_words.specs.declared.words.Command.TheVariants as command
 use Rattle.xr_words.specs.declared.words.ExportWords.{ExportWords}
 use Rattle.xr_words.specs.declared.words.FixWords.{FixWords}
+use Rattle.xr_words.specs.declared.words.Form.{Form}
+use Rattle.xr_words.specs.declared.words.Form.TheVariants.{Lines, Turns}
 use Rattle.xr_words.specs.declared.words.JobWords.{JobWords}
 use Rattle.xr_words.specs.declared.words.MakeWords.{MakeWords}
 use Rattle.xr_words.specs.declared.words.ProveWords.{ProveWords}
@@ -26,9 +31,11 @@ use Rattle.xr_words.specs.declared.words.RepairWords.{RepairWords}
 use Rattle.xr_words.specs.declared.words.ReplayWords.{ReplayWords}
 use Rattle.xr_words.specs.declared.words.Start.{Start}
 use Rattle.xr_words.specs.declared.words.Start.TheVariants.{Cold, Recorded}
-use Rattle.xr_words.specs.Apart.{AreApart, AreFree}
+use Rattle.xr_words.specs.declared.words.UpgradeWords.{UpgradeWords}
+use Rattle.xr_line.specs.Apart.{AreApart}
+use Rattle.xr_words.specs.Free.{AreFree}
 use Rattle.xr_words.specs.Forms.{IsCommand}
-use Rattle.xr_words.specs.Line.{IsNumber, Item, Text, given}
+use Rattle.xr_line.specs.Line.{IsNumber, Item, Text, given}
 
 -- ---- values
 
@@ -51,6 +58,15 @@ abbrev pub IsStart : Option Text → Start → Type 0
 IsStart None start = start ≡ Cold
 IsStart (Some text) start = text ≡ start_word start
 
+abbrev pub form_number : Form → ℕ
+form_number Lines = 1
+form_number Turns = 2
+
+-- The form that is named, form 1 where none is.
+abbrev pub IsForm : Option Text → Form → Type 0
+IsForm None form = form ≡ Lines
+IsForm (Some text) form = IsNumber text (form_number form)
+
 -- ---- what words name
 
 pub record JobValues : Type 0 where
@@ -66,6 +82,7 @@ pub record RepairValues : Type 0 where
   pub vcd : Text
   pub code : Text
   pub cert : Text
+  pub form : Form
   pub conflicts : ℕ
 
 pub record ReplayValues : Type 0 where
@@ -106,6 +123,12 @@ pub record FixValues : Type 0 where
   pub sets : Text
   pub conflicts : ℕ
 
+pub record UpgradeValues : Type 0 where
+  pub job : JobValues
+  pub cert : Text
+  pub to : Text
+  pub conflicts : ℕ
+
 pub data Values : Type 0 where
   OfRepair : RepairValues → Values
   OfReplay : ReplayValues → Values
@@ -116,6 +139,7 @@ pub data Values : Type 0 where
   OfAudit : AuditValues → Values
   OfBlame : BlameValues → Values
   OfFix : FixValues → Values
+  OfUpgrade : UpgradeValues → Values
 
 -- The command, and the FILEs after its options.
 abbrev pub name_of : Values → Name
@@ -128,6 +152,7 @@ name_of (OfProve v) = Prove
 name_of (OfAudit v) = Audit
 name_of (OfBlame v) = Blame
 name_of (OfFix v) = Fix
+name_of (OfUpgrade v) = Upgrade
 
 abbrev pub netlists_of : Values → List Text
 netlists_of (OfRepair v) = v.job.netlists
@@ -139,6 +164,7 @@ netlists_of (OfProve v) = []
 netlists_of (OfAudit v) = v.job.netlists
 netlists_of (OfBlame v) = v.job.netlists
 netlists_of (OfFix v) = v.job.netlists
+netlists_of (OfUpgrade v) = v.job.netlists
 
 -- ---- the set
 
@@ -156,6 +182,7 @@ pub record GivesRepair (option : Text → Option Text) (v : RepairValues) : Type
   pub vcd : option (codes "vcd") ≡ Some v.vcd
   pub code : option (codes "code") ≡ Some v.code
   pub cert : option (codes "cert") ≡ Some v.cert
+  pub form : IsForm (option (codes "form")) v.form
   pub conflicts : IsCount (option (codes "conflicts")) 1000 100000 v.conflicts
   pub apart : AreApart (v.vcd ∷ v.code ∷ v.cert ∷ []) (v.job.recording ∷ v.job.netlists)
 
@@ -209,6 +236,14 @@ pub record GivesFix (option : Text → Option Text) (v : FixValues) : Type 0 whe
   pub sets : option (codes "set") ≡ Some v.sets
   pub conflicts : IsCount (option (codes "conflicts")) 1000 100000 v.conflicts
 
+-- These are those of `upgrade`, and the file that is written has another name than each that is read.
+pub record GivesUpgrade (option : Text → Option Text) (v : UpgradeValues) : Type 0 where
+  pub job : GivesJob option v.job
+  pub cert : option (codes "cert") ≡ Some v.cert
+  pub to : option (codes "to") ≡ Some v.to
+  pub conflicts : IsCount (option (codes "conflicts")) 1000 100000 v.conflicts
+  pub apart : AreApart (v.to ∷ []) (v.job.recording ∷ v.cert ∷ v.job.netlists)
+
 abbrev pub Gives : (Text → Option Text) → Values → Type 0
 Gives option (OfRepair v) = GivesRepair option v
 Gives option (OfReplay v) = GivesReplay option v
@@ -219,6 +254,7 @@ Gives option (OfProve v) = GivesProve option v
 Gives option (OfAudit v) = GivesAudit option v
 Gives option (OfBlame v) = GivesBlame option v
 Gives option (OfFix v) = GivesFix option v
+Gives option (OfUpgrade v) = GivesUpgrade option v
 
 -- The words are in the set, and mean this.
 pub record Means (words : List Text) (v : Values) : Type 0 where
@@ -252,6 +288,7 @@ repair_values words = record {
   vcd = words.vcd.now;
   code = words.code.now;
   cert = words.cert.now;
+  form = words.form;
   conflicts = words.conflicts;
 }
 
@@ -284,6 +321,14 @@ blame_values words = record { job = job_values words.job; conflicts = words.conf
 abbrev pub fix_values : FixWords → FixValues
 fix_values words = record { job = job_values words.job; sets = words.sets.now; conflicts = words.conflicts }
 
+abbrev pub upgrade_values : UpgradeWords → UpgradeValues
+upgrade_values words = record {
+  job = job_values words.job;
+  cert = words.cert.now;
+  to = words.to.now;
+  conflicts = words.conflicts;
+}
+
 abbrev pub values_of : Command → Values
 values_of (command.Repair words) = OfRepair (repair_values words)
 values_of (command.Replay words) = OfReplay (replay_values words)
@@ -294,3 +339,4 @@ values_of (command.Prove words) = OfProve (prove_values words)
 values_of (command.Audit words) = OfAudit (audit_values words)
 values_of (command.Blame words) = OfBlame (blame_values words)
 values_of (command.Fix words) = OfFix (fix_values words)
+values_of (command.Upgrade words) = OfUpgrade (upgrade_values words)

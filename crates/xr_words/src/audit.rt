@@ -1,13 +1,13 @@
 //! The words of `audit`.
 
 ghost use Rattle.std.specs.Prelude.{◌≡◌, ◌<◌, IfSome, IfNone, length, map, string_bytes};
-ghost use Rattle.xr_words.specs.Read.{value_of};
+ghost use Rattle.xr_line.specs.Read.{value_of};
 ghost use Rattle.xr_words.specs.Words.{AuditValues, GivesAudit, audit_values};
 
 use crate::job::job_of;
-use crate::line::Line;
 use crate::typed::conflicts_of;
 use crate::words::AuditWords;
+use xr_line::Line;
 
 /// What the options name together with the FILEs, none where one lacks or has no value that it may have.
 pub fn audit_of<'a>(line: &Line<'a>, files: &'a [String]) -> Option<AuditWords<'a>>

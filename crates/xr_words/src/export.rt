@@ -2,14 +2,14 @@
 
 ghost use Rattle.std.specs.Prelude.{◌≡◌, ◌↔◌, ◌∷◌, ◌<◌, IsTrue, IfSome, IfNone, length, map, string_bytes};
 ghost use Rattle.std.specs.List.{All};
-ghost use Rattle.xr_words.specs.Read.{value_of};
-ghost use Rattle.xr_words.specs.Apart.{AreFree, BeginsWith, IsEnding, IsFree};
+ghost use Rattle.xr_line.specs.Read.{value_of};
+ghost use Rattle.xr_words.specs.Free.{AreFree, BeginsWith, IsEnding, IsFree};
 ghost use Rattle.xr_words.specs.Words.{ExportValues, GivesExport, export_values};
 
 use crate::job::job_of;
-use crate::line::Line;
 use crate::typed::conflicts_of;
 use crate::words::{ExportWords, JobWords};
+use xr_line::Line;
 
 /// What the options name together with the FILEs, none where one lacks or has no value that it may have.
 pub fn export_of<'a>(line: &Line<'a>, files: &'a [String]) -> Option<ExportWords<'a>>

@@ -1,10 +1,11 @@
 //! The commands, and the options of each: one static and one row in each table a command.
 
 ghost use Rattle.std.specs.Prelude.{◌≡◌, map, true, IfSome, IfNone};
-ghost use Rattle.xr_words.specs.Line.{are_options};
-ghost use Rattle.xr_words.specs.Forms.{has_files, plain, table_of, word_of};
+ghost use Rattle.xr_line.specs.Line.{are_options};
+ghost use Rattle.xr_line.specs.Tables.{plain};
+ghost use Rattle.xr_words.specs.Forms.{has_files, table_of, word_of};
 
-use crate::option::{Kind, Opt};
+use xr_line::{Kind, Opt};
 
 /// A command.
 #[derive(Clone, Copy, Debug, PartialEq, Eq)]
@@ -18,6 +19,7 @@ pub enum Name {
     Audit,
     Blame,
     Fix,
+    Upgrade,
 }
 
 const RECORD: Opt<'static> = Opt {
@@ -56,7 +58,7 @@ const START: Opt<'static> = Opt {
     kind: Kind::Either("cold", "recorded"),
 };
 
-static REPAIR: [Opt<'static>; 9] = [
+static REPAIR: [Opt<'static>; 10] = [
     RECORD,
     SCOPE,
     TOP,
@@ -74,6 +76,11 @@ static REPAIR: [Opt<'static>; 9] = [
         name: "cert",
         required: true,
         kind: Kind::Writes,
+    },
+    Opt {
+        name: "form",
+        required: false,
+        kind: Kind::Number(1, 2),
     },
     ROUNDS,
     CONFLICTS,
@@ -180,6 +187,25 @@ static FIX: [Opt<'static>; 7] = [
     START,
 ];
 
+static UPGRADE: [Opt<'static>; 8] = [
+    RECORD,
+    SCOPE,
+    TOP,
+    Opt {
+        name: "cert",
+        required: true,
+        kind: Kind::Reads,
+    },
+    Opt {
+        name: "to",
+        required: true,
+        kind: Kind::Writes,
+    },
+    ROUNDS,
+    CONFLICTS,
+    START,
+];
+
 /// The options of a command.
 pub fn options_of<'a>(name: Name) -> &'a [Opt<'a>]
     ensures table { map plain result.now ≡ table_of name }
@@ -195,6 +221,7 @@ pub fn options_of<'a>(name: Name) -> &'a [Opt<'a>]
         Name::Audit => &AUDIT,
         Name::Blame => &BLAME,
         Name::Fix => &FIX,
+        Name::Upgrade => &UPGRADE,
     }
 }
 
@@ -209,7 +236,8 @@ pub fn has_files(name: Name) -> bool
         | Name::Export
         | Name::Audit
         | Name::Blame
-        | Name::Fix => true,
+        | Name::Fix
+        | Name::Upgrade => true,
         Name::Make | Name::Prove => false,
     }
 }
@@ -228,6 +256,7 @@ pub fn word_of<'a>(name: Name) -> &'a str
         Name::Audit => "audit",
         Name::Blame => "blame",
         Name::Fix => "fix",
+        Name::Upgrade => "upgrade",
     }
 }
 
@@ -246,6 +275,7 @@ pub fn name_of(word: &str) -> Option<Name>
         "audit" => Some(Name::Audit),
         "blame" => Some(Name::Blame),
         "fix" => Some(Name::Fix),
+        "upgrade" => Some(Name::Upgrade),
         _ => None,
     }
 }

@@ -1,12 +1,11 @@
 //! The words of `make`.
 
 ghost use Rattle.std.specs.Prelude.{◌≡◌, ◌↔◌, ◌≤◌, ◌≢◌, [], ◌∷◌, ℕ, Some, IsTrue, IfSome, IfNone, codes};
-ghost use Rattle.xr_words.specs.Read.{value_of};
+ghost use Rattle.xr_line.specs.Read.{value_of};
 ghost use Rattle.xr_words.specs.Words.{GivesMake, IsNumberTo, MakeValues, make_values};
 
-use crate::line::Line;
-use crate::values::number_in;
 use crate::words::MakeWords;
+use xr_line::{Line, number_in};
 
 /// The most gates.
 const MOST_GATES: u64 = 100_000;

@@ -4,9 +4,9 @@ ghost use Rattle.std.specs.Prelude.{◌≡◌, option_map, IfOk, IfSome, IfNone,
 ghost use Rattle.xr_words.specs.Forms.{IsLineOf, IsNamed, IsNamedOnly, IsNoLineOf, NamesNothing};
 
 use crate::forms::{Name, has_files, name_of, options_of, word_of};
-use crate::line::{Line, read_line};
 use std::alloc::Global;
 use xr_base::Memory;
+use xr_line::{Line, read_line};
 
 /// A command, and what its words name.
 #[derive(Drop)]

@@ -1,11 +1,11 @@
 //! The words of `prove`.
 
 ghost use Rattle.std.specs.Prelude.{IfSome, IfNone};
-ghost use Rattle.xr_words.specs.Read.{value_of};
+ghost use Rattle.xr_line.specs.Read.{value_of};
 ghost use Rattle.xr_words.specs.Words.{GivesProve, ProveValues, prove_values};
 
-use crate::line::Line;
 use crate::words::ProveWords;
+use xr_line::Line;
 
 /// What the options name, none where one lacks.
 pub fn prove_of<'a>(line: &Line<'a>) -> Option<ProveWords<'a>>

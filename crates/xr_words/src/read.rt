@@ -2,7 +2,8 @@
 
 ghost use Rattle.std.specs.Prelude.{IfOk, IfSome, IfNone, map, string_bytes};
 ghost use Rattle.xr_words.specs.Forms.{IsNamed, IsNamedOnly};
-ghost use Rattle.xr_words.specs.declared.forms.Name.TheVariants.{Blame, Check, Export, Fix, Make, Prove, Repair, Replay, Audit};
+ghost use Rattle.xr_words.specs.declared.forms.Name.TheVariants.{Audit, Blame, Check, Export, Fix, Make, Prove};
+ghost use Rattle.xr_words.specs.declared.forms.Name.TheVariants.{Repair, Replay, Upgrade};
 ghost use Rattle.xr_words.specs.Words.{AreOutside, Means, MeansOnly, values_of};
 
 use crate::audit::audit_of;
@@ -11,16 +12,16 @@ use crate::check::check_of;
 use crate::export::export_of;
 use crate::fix::fix_of;
 use crate::forms::Name;
-use crate::job::files_in;
-use crate::line::Line;
 use crate::make::make_of;
 use crate::named::{Named, read_named};
 use crate::prove::prove_of;
 use crate::repair::repair_of;
 use crate::replay::replay_of;
+use crate::upgrade::upgrade_of;
 use crate::words::Command;
 use std::alloc::Global;
 use xr_base::Memory;
+use xr_line::{Line, files_in};
 
 /// Reads the words, the command first, or answers that they aren't in the set.
 pub fn read_words(alloc: Global, words: &[String]) -> Result<Option<Command<'_>>, Memory>
@@ -52,6 +53,7 @@ fn command_of<'a>(words: &'a [String], named: &Named<'a>) -> Option<Command<'a>>
         Name::Audit => audit_in(words, &named.line),
         Name::Blame => blame_in(words, &named.line),
         Name::Fix => fix_in(words, &named.line),
+        Name::Upgrade => upgrade_in(words, &named.line),
     }
 }
 
@@ -152,4 +154,15 @@ fn fix_in<'a>(words: &'a [String], line: &Line<'a>) -> Option<Command<'a>>
 {
     let words = fix_of(line, files_in(words, line))?;
     Some(Command::Fix(words))
+}
+
+fn upgrade_in<'a>(words: &'a [String], line: &Line<'a>) -> Option<Command<'a>>
+    requires is { IsNamed (map string_bytes words.now) Upgrade line.now }
+    requires only { IsNamedOnly (map string_bytes words.now) Upgrade line.now }
+    ensures set { IfSome result (λ c. Means (map string_bytes words.now) (values_of c)) }
+    ensures only { IfSome result (λ c. MeansOnly (map string_bytes words.now) (values_of c)) }
+    ensures none { IfNone result (AreOutside (map string_bytes words.now)) }
+{
+    let words = upgrade_of(line, files_in(words, line))?;
+    Some(Command::Upgrade(words))
 }

@@ -1,15 +1,14 @@
 //! The words of `repair`.
 
 ghost use Rattle.std.specs.Prelude.{◌≡◌, ◌↔◌, [], ◌∷◌, ◌<◌, IsTrue, IfSome, IfNone, length, map, string_bytes};
-ghost use Rattle.xr_words.specs.Read.{value_of};
-ghost use Rattle.xr_words.specs.Apart.{AreApart};
+ghost use Rattle.xr_line.specs.Read.{value_of};
+ghost use Rattle.xr_line.specs.Apart.{AreApart};
 ghost use Rattle.xr_words.specs.Words.{GivesRepair, RepairValues, repair_values};
 
 use crate::job::job_of;
-use crate::line::Line;
-use crate::outputs::are_apart;
-use crate::typed::conflicts_of;
+use crate::typed::{conflicts_of, form_of};
 use crate::words::{JobWords, RepairWords};
+use xr_line::{Line, are_apart};
 
 /// What the options name together with the FILEs, none where one lacks or has no value that it may have.
 pub fn repair_of<'a>(line: &Line<'a>, files: &'a [String]) -> Option<RepairWords<'a>>
@@ -23,6 +22,7 @@ pub fn repair_of<'a>(line: &Line<'a>, files: &'a [String]) -> Option<RepairWords
     let vcd = line.get("vcd")?;
     let code = line.get("code")?;
     let cert = line.get("cert")?;
+    let form = form_of(line.get("form"))?;
     let conflicts = conflicts_of(line)?;
     if !is_apart(&job, vcd, code, cert) {
         return None;
@@ -32,6 +32,7 @@ pub fn repair_of<'a>(line: &Line<'a>, files: &'a [String]) -> Option<RepairWords
         vcd,
         code,
         cert,
+        form,
         conflicts,
     })
 }

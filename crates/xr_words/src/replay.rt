@@ -1,14 +1,13 @@
 //! The words of `replay`.
 
 ghost use Rattle.std.specs.Prelude.{◌≡◌, ◌↔◌, [], ◌∷◌, ◌<◌, IsTrue, IfSome, IfNone, length, map, string_bytes};
-ghost use Rattle.xr_words.specs.Read.{value_of};
-ghost use Rattle.xr_words.specs.Apart.{AreApart};
+ghost use Rattle.xr_line.specs.Read.{value_of};
+ghost use Rattle.xr_line.specs.Apart.{AreApart};
 ghost use Rattle.xr_words.specs.Words.{GivesReplay, ReplayValues, replay_values};
 
 use crate::job::job_of;
-use crate::line::Line;
-use crate::outputs::are_apart;
 use crate::words::ReplayWords;
+use xr_line::{Line, are_apart};
 
 /// What the options name together with the FILEs, none where one lacks or has no value that it may have.
 pub fn replay_of<'a>(line: &Line<'a>, files: &'a [String]) -> Option<ReplayWords<'a>>

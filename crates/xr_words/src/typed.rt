@@ -1,13 +1,13 @@
 //! Values of options as numbers and choices.
 
 ghost use Rattle.std.specs.Prelude.{◌≡◌, ◌≤◌, ℕ, Some, IfSome, IfNone, codes, option_map};
-ghost use Rattle.xr_words.specs.Read.{value_of};
+ghost use Rattle.xr_line.specs.Read.{value_of};
+ghost use Rattle.xr_words.specs.declared.words.Form.{Form};
 ghost use Rattle.xr_words.specs.declared.words.Start.{Start};
-ghost use Rattle.xr_words.specs.Words.{IsCount, IsStart};
+ghost use Rattle.xr_words.specs.Words.{IsCount, IsForm, IsStart};
 
-use crate::line::Line;
-use crate::values::number_in;
-use crate::words::Start;
+use crate::words::{Form, Start};
+use xr_line::{Line, number_in};
 
 /// The most clauses of a search, and how many there are where none are given.
 const MOST_CONFLICTS: u32 = 100_000;
@@ -68,6 +68,28 @@ fn start_in(text: &str) -> Option<Start>
     match text {
         "cold" => Some(Start::Cold),
         "recorded" => Some(Start::Recorded),
+        _ => None,
+    }
+}
+
+/// The form that an option names, form 1 where it is absent.
+pub fn form_of(text: Option<&str>) -> Option<Form>
+    ensures form { IfSome result (IsForm (option_map (λ s. s.now) text.entry)) }
+    ensures none { IfNone result ((form : Form) → IsForm (option_map (λ s. s.now) text.entry) form → ⊥) }
+{
+    match text {
+        Some(text) => form_in(text),
+        None => Some(Form::Lines),
+    }
+}
+
+fn form_in(text: &str) -> Option<Form>
+    ensures form { IfSome result (IsForm (Some text.now)) }
+    ensures none { IfNone result ((form : Form) → IsForm (Some text.now) form → ⊥) }
+{
+    match number_in(text)? {
+        1 => Some(Form::Lines),
+        2 => Some(Form::Turns),
         _ => None,
     }
 }

@@ -1,12 +1,11 @@
 //! The usage of a command, as `clap` puts it.
 
 use crate::forms::{Name, has_files, name_of, options_of, word_of};
-use crate::option::Opt;
-use crate::told::command_of;
 use std::alloc::{AllocError, Global};
+use xr_line::usage_of_line;
 
 /// Every command.
-const NAMES: [Name; 9] = [
+const NAMES: [Name; 10] = [
     Name::Repair,
     Name::Replay,
     Name::Check,
@@ -16,6 +15,7 @@ const NAMES: [Name; 9] = [
     Name::Audit,
     Name::Blame,
     Name::Fix,
+    Name::Upgrade,
 ];
 
 /// The usage of the command that the words begin with, and of every command where they begin with none: for people to
@@ -30,19 +30,6 @@ pub fn usage_of(alloc: Global, words: &[String]) -> Result<String, AllocError> {
     }
 }
 
-/// The usage of a program without commands: for people to read, a line.
-pub fn usage_of_line<'a>(
-    alloc: Global,
-    program: &'a str,
-    options: &'a [Opt<'a>],
-    files: bool,
-) -> Result<String, AllocError> {
-    let mut command = command_of(alloc, program, options, files)?.bin_name(program)?;
-    let mut text = command.render_usage()?;
-    text.push('\n')?;
-    Ok(text)
-}
-
 fn put_usages(alloc: Global, names: &[Name]) -> Result<String, AllocError> {
     let mut text = String::new(alloc);
     for name in names {
@@ -54,10 +41,6 @@ fn put_usages(alloc: Global, names: &[Name]) -> Result<String, AllocError> {
 fn put_usage(alloc: Global, text: &mut String, name: Name) -> Result<(), AllocError> {
     let mut program = String::from_str(alloc, "xrepair ")?;
     program.push_str(word_of(name))?;
-    let mut command = command_of(alloc, word_of(name), options_of(name), has_files(name))?.bin_name(
-        program.as_str(),
-    )?;
-    let usage = command.render_usage()?;
-    text.push_str(usage.as_str())?;
-    text.push('\n')
+    let usage = usage_of_line(alloc, program.as_str(), options_of(name), has_files(name))?;
+    text.push_str(usage.as_str())
 }

@@ -14,6 +14,8 @@ pub enum Command<'a> {
     Audit(AuditWords<'a>),
     Blame(BlameWords<'a>),
     Fix(FixWords<'a>),
+    /// Adds to a certificate of form 1 the turns of conditions.
+    Upgrade(UpgradeWords<'a>),
 }
 
 /// What registers hold before the first step.
@@ -23,6 +25,15 @@ pub enum Start {
     Cold,
     /// Each starts as it is first recorded.
     Recorded,
+}
+
+/// The form of a certificate.
+#[derive(Clone, Copy, Debug, PartialEq, Eq)]
+pub enum Form {
+    /// Form 1: the lines alone.
+    Lines,
+    /// Form 2: also the turns of conditions. The report has the lines of conditions too.
+    Turns,
 }
 
 /// The words of every command that reads a netlist and a recording of it.
@@ -54,6 +65,8 @@ pub struct RepairWords<'a> {
     pub code: &'a str,
     /// The file of the certificate.
     pub cert: &'a str,
+    /// The form of the certificate.
+    pub form: Form,
     /// The clauses of a search, 1 to 100,000.
     pub conflicts: u32,
     ghost some_clauses: { 1 ≤ conflicts },
@@ -148,6 +161,20 @@ pub struct FixWords<'a> {
     /// The starts to be set: pieces joined by commas, each a name, `=`, and `0` or `1`.
     pub sets: &'a str,
     /// The clauses of a search, 1 to 100,000.
+    pub conflicts: u32,
+    ghost some_clauses: { 1 ≤ conflicts },
+    ghost few_clauses: { conflicts ≤ 100000 },
+}
+
+/// The words of `upgrade`.
+#[derive(Clone, Copy, Debug)]
+pub struct UpgradeWords<'a> {
+    pub job: JobWords<'a>,
+    /// The file of the certificate that is read.
+    pub cert: &'a str,
+    /// The file of the certificate that is written.
+    pub to: &'a str,
+    /// The clauses of a search, and of a log that leaves a place undecided, 1 to 100,000.
     pub conflicts: u32,
     ghost some_clauses: { 1 ≤ conflicts },
     ghost few_clauses: { conflicts ≤ 100000 },

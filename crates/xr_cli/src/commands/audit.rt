@@ -5,7 +5,7 @@ ghost use Rattle.xr_cli.specs.Phases.{audit_phases};
 
 use crate::audited::audited;
 use std::alloc::Global;
-use xr_phases::{Refused, job_of};
+use xr_phases::{Refused, agreed_of};
 use xr_run::{Prepare, Ready, Refusal};
 use xr_shelf::{Shelf, Sink};
 use xr_words::AuditWords;
@@ -27,7 +27,7 @@ impl<'a> Prepare for Audit<'a> {
         shelf: &mut S,
         out: &mut O,
     ) -> Result<Ready<'_>, Refusal<Refused>> {
-        let job = job_of(alloc, shelf, &self.words.job)?;
-        audited(alloc, &self.words, &job, out)
+        let agreed = agreed_of(alloc, shelf, &self.words.job)?;
+        audited(alloc, &self.words, &agreed.job, &agreed.history, out)
     }
 }

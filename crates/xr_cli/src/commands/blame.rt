@@ -5,7 +5,7 @@ ghost use Rattle.xr_cli.specs.Phases.{blame_phases};
 
 use crate::blamed::blamed;
 use std::alloc::Global;
-use xr_phases::{Refused, job_of};
+use xr_phases::{Refused, agreed_of};
 use xr_run::{Prepare, Ready, Refusal};
 use xr_shelf::{Shelf, Sink};
 use xr_words::BlameWords;
@@ -27,7 +27,7 @@ impl<'a> Prepare for Blame<'a> {
         shelf: &mut S,
         out: &mut O,
     ) -> Result<Ready<'_>, Refusal<Refused>> {
-        let job = job_of(alloc, shelf, &self.words.job)?;
-        blamed(alloc, &self.words, &job, out)
+        let agreed = agreed_of(alloc, shelf, &self.words.job)?;
+        blamed(alloc, &self.words, &agreed.job, &agreed.history, out)
     }
 }

@@ -4,13 +4,13 @@ ghost use Rattle.xr_words.specs.Words.{check_values};
 ghost use Rattle.xr_design.specs.Handed.{IsReplay};
 ghost use Rattle.xr_job.specs.Compared.{job_in};
 ghost use Rattle.xr_run.specs.Prepared.{Prepared, answer_of};
-ghost use Rattle.xr_cli.specs.Phases.{certified_phases, check_phases, compared_check};
+ghost use Rattle.xr_cli.specs.Phases.{certified_phases, check_phases};
 ghost use Rattle.xr_phases.specs.Repair.{FitsParts};
 
 use crate::checked::checked;
 use std::alloc::Global;
 use xr_design::History;
-use xr_phases::{Parts, Refused, certificate_of, compared, job_of};
+use xr_phases::{Parts, Refused, agreed_of, certificate_of};
 use xr_run::{Prepare, Ready, Refusal};
 use xr_shelf::{Shelf, Sink};
 use xr_words::CheckWords;
@@ -32,24 +32,9 @@ impl<'a> Prepare for Check<'a> {
         shelf: &mut S,
         _out: &mut O,
     ) -> Result<Ready<'_>, Refusal<Refused>> {
-        let job = job_of(alloc, shelf, &self.words.job)?;
-        check_job(alloc, shelf, &self.words, &job)
+        let agreed = agreed_of(alloc, shelf, &self.words.job)?;
+        check_agreed(alloc, shelf, &self.words, &agreed.job, &agreed.history)
     }
-}
-
-/// The check of a certificate of a job whose recording has to agree.
-fn check_job<'a, S: Shelf>(
-    alloc: Global,
-    shelf: &mut S,
-    words: &CheckWords<'a>,
-    job: &Parts,
-) -> Result<Ready<'a>, Refusal<Refused>>
-    requires { FitsParts job.now }
-    ensures { Prepared S.told (compared_check (check_values words.now) job.now) answer_of
-        (S.view shelf.old) (S.view shelf.new) result }
-{
-    let history = compared(alloc, &job.netlist, &job.recorded)?;
-    check_agreed(alloc, shelf, words, job, &history)
 }
 
 /// The check of a certificate of a job whose recording agrees.

@@ -6,7 +6,7 @@ ghost use Rattle.xr_cli.specs.Phases.{export_phases};
 
 use crate::exported::exported;
 use std::alloc::Global;
-use xr_phases::{Refused, job_of};
+use xr_phases::{Refused, agreed_of};
 use xr_run::{Prepare, Ready, Refusal};
 use xr_shelf::{Shelf, Sink};
 use xr_words::ExportWords;
@@ -28,7 +28,7 @@ impl<'a> Prepare for Export<'a> {
         shelf: &mut S,
         out: &mut O,
     ) -> Result<Ready<'_>, Refusal<Refused>> {
-        let job = job_of(alloc, shelf, &self.words.job)?;
-        exported(alloc, &self.words, &job, out)
+        let agreed = agreed_of(alloc, shelf, &self.words.job)?;
+        exported(alloc, &self.words, &agreed.job, &agreed.history, out)
     }
 }

@@ -5,7 +5,7 @@ ghost use Rattle.xr_cli.specs.Phases.{fix_phases};
 
 use crate::fixed::fixed;
 use std::alloc::Global;
-use xr_phases::{Refused, job_of};
+use xr_phases::{Refused, agreed_of};
 use xr_run::{Prepare, Ready, Refusal};
 use xr_shelf::{Shelf, Sink};
 use xr_words::FixWords;
@@ -27,7 +27,7 @@ impl<'a> Prepare for Fix<'a> {
         shelf: &mut S,
         out: &mut O,
     ) -> Result<Ready<'_>, Refusal<Refused>> {
-        let job = job_of(alloc, shelf, &self.words.job)?;
-        fixed(alloc, &self.words, &job, out)
+        let agreed = agreed_of(alloc, shelf, &self.words.job)?;
+        fixed(alloc, &self.words, &agreed.job, &agreed.history, out)
     }
 }

@@ -1,14 +1,14 @@
 -- The place is written, or found otherwise.
-use Rattle.std.proofs.Common.{◌∷◌}
 use Rattle.xr_wave.specs.Token.{pair_line}
-use Rattle.xr_cert.specs.Walk.{line_objects, no_memory}
+use Rattle.xr_cert.specs.Step.{faults, no_memory}
+use Rattle.xr_cert.specs.Walk.{line_objects}
 use Rattle.xr_cert.proofs.Going.{never}
 use Rattle.xr_cert.proofs.spend.spend_pair.Goals as goal
 
 pub returns-then-contradicts_pair-clause-err : goal.returns-then-contradicts_pair-clause-err
-returns-then-contradicts_pair-clause-err c rest =
+returns-then-contradicts_pair-clause-err c number = faults (λ rest.
     line_objects (pair_line c.args.proof) rest c.object_pair.result c.requires.class c.requires.token
-    (c.contradicts_pair.ensures.0 c.if-contradicts_pair.true) c.object_pair.ensures.reported
+    (c.contradicts_pair.ensures.0 c.if-contradicts_pair.true) c.object_pair.ensures.reported)
 
 pub returns-in-Ok-clause-ok : goal.returns-in-Ok-clause-ok
 returns-in-Ok-clause-ok c = record {
@@ -18,4 +18,4 @@ returns-in-Ok-clause-ok c = record {
 }
 
 pub returns-in-Err-clause-err : goal.returns-in-Err-clause-err
-returns-in-Err-clause-err c rest = no_memory (pair_line c.args.proof ∷ rest)
+returns-in-Err-clause-err c number = no_memory

@@ -1,15 +1,36 @@
--- The recording agrees, and then the walk.
-use Rattle.xr_run.specs.Prepared.{answer_of}
-use Rattle.xr_run.proofs.Then.{judged_then}
+-- The wave over the blank history is found, and its audit beside the replay.
 use Rattle.xr_words.specs.Words.{audit_values}
-use Rattle.xr_phases.specs.Phases.{compare_cause, nothing_in}
-use Rattle.xr_cli.specs.Phases.{walk_audited}
-use Rattle.xr_phases.specs.Repair.{CompareComes}
+use Rattle.xr_phases.proofs.Jobs.{fits_job}
+use Rattle.xr_cli.proofs.Auditing.{audit_found, is_audit}
 use Rattle.xr_cli.proofs.audited.audited.Goals as goal
+
+pub blank-requires-clause-nets : goal.blank-requires-clause-nets
+blank-requires-clause-nets g c =
+    (fits_job c.args.job.now.netlist c.args.job.now.recorded c.requires.fits).few_nets
+
+pub blank-requires-clause-places : goal.blank-requires-clause-places
+blank-requires-clause-places g c =
+    (fits_job c.args.job.now.netlist c.args.job.now.recorded c.requires.fits).few_places
+
+pub blank_wave-requires-clause-blank : goal.blank_wave-requires-clause-blank
+blank_wave-requires-clause-blank g c = c.in_ok-blank.ensures.blank c.args.job.now.netlist.order
+
+pub listed-requires : goal.listed-requires
+listed-requires g c =
+    is_audit c.args.words.now.conflicts c.args.job.now.netlist c.args.job.now.recorded c.in_ok-blank.blank
+    (c.in_ok-blank.ensures.blank c.args.job.now.netlist.order) c.in_ok-wave.wave c.args.history.now
+    c.in_ok-wave.ensures.repaired c.requires.replay
 
 pub returns-clause-prepared : goal.returns-clause-prepared
 returns-clause-prepared g c =
-    let n = c.args.job.now.netlist in
-    let r = c.args.job.now.recorded in
-    judged_then (CompareComes n r) compare_cause (λ (agreed : Unit {0}). walk_audited (audit_values c.args.words.now) n r) nothing_in answer_of
-    c.in_ok-history.history c.walked.result c.in_ok-history.ensures.judged c.walked.ensures.prepared
+    audit_found (audit_values c.args.words.now) c.args.job.now.netlist c.args.job.now.recorded c.in_ok-listed.field-0
+    record {
+      fits = c.requires.fits;
+      replay = c.args.history.now;
+      is_replay = c.requires.replay;
+      blank = c.in_ok-blank.blank;
+      is_blank = c.in_ok-blank.ensures.blank c.args.job.now.netlist.order;
+      wave = c.in_ok-wave.wave;
+      repaired = c.in_ok-wave.ensures.repaired;
+      prints = c.in_ok-listed.ensures;
+    }

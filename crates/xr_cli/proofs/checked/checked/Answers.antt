@@ -1,12 +1,30 @@
 -- The certificate is checked, and its report.
+use Rattle.std.proofs.Common.{◌∙◌, List, ap, subst, sym}
+use Rattle.std.specs.List.{AllByRecursion}
+use Rattle.xr_cond.specs.View.{ConditionView}
+use Rattle.xr_listing.specs.Conditions.{IsSomeCondition}
 use Rattle.xr_words.specs.Words.{check_values}
+use Rattle.xr_phases.specs.Certificate.{check_shows}
 use Rattle.xr_phases.proofs.CheckedPlaces.{certified_of_job}
+use Rattle.xr_cli.specs.Phases.{check_answer}
+use Rattle.xr_cli.proofs.Needing.{are_some}
 use Rattle.xr_cli.proofs.Walk.{check_found}
 use Rattle.xr_cli.proofs.checked.checked.Goals as goal
 
 pub returns : goal.returns
-returns c = check_found (check_values c.args.words.now) c.args.job.now c.args.cert c.in_ok-wave.wave
-    c.in_ok-report_of.field-0 c.in_ok-wave.ensures.certified c.in_ok-report_of.ensures
+returns c =
+    let checked = c.in_ok-checked.checked in
+    check_found (check_values c.args.words.now) c.args.job.now c.args.cert checked.wave checked.conditions
+    c.in_ok-report_of.field-0 c.in_ok-checked.ensures.certified
+    (c.in_ok-report_of.ensures ∙ ap (λ (views : List ConditionView). check_answer c.args.job.now (check_shows checked.wave views)) c.as_slice-conditions.ensures)
 
 pub report_of-requires-clause-wave : goal.report_of-requires-clause-wave
-report_of-requires-clause-wave c = certified_of_job c.args.words.now.conflicts c.args.job.now c.args.cert c.in_ok-wave.wave c.in_ok-wave.ensures.certified
+report_of-requires-clause-wave c =
+    let checked = c.in_ok-checked.checked in
+    certified_of_job c.args.words.now.conflicts c.args.job.now c.args.cert checked.wave checked.conditions c.in_ok-checked.ensures.certified
+
+pub report_of-requires-clause-conditions : goal.report_of-requires-clause-conditions
+report_of-requires-clause-conditions c =
+    let checked = c.in_ok-checked.checked in
+    subst (AllByRecursion (IsSomeCondition checked.wave)) (sym c.as_slice-conditions.ensures)
+    (are_some c.args.cert.form checked.wave checked.conditions c.in_ok-checked.ensures.certified.checked.conditions_are)

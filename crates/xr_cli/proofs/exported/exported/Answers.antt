@@ -1,15 +1,18 @@
--- The recording agrees, and then the walk.
-use Rattle.xr_run.specs.Prepared.{answer_of}
-use Rattle.xr_run.proofs.Then.{judged_then}
+-- The wave is found, and its texts.
 use Rattle.xr_words.specs.Words.{export_values}
-use Rattle.xr_phases.specs.Phases.{compare_cause, nothing_in}
-use Rattle.xr_cli.specs.Phases.{walk_exported}
-use Rattle.xr_phases.specs.Repair.{CompareComes}
+use Rattle.xr_cli.proofs.Walk.{export_found}
 use Rattle.xr_cli.proofs.exported.exported.Goals as goal
 
 pub returns-clause-prepared : goal.returns-clause-prepared
 returns-clause-prepared g c =
-    let n = c.args.job.now.netlist in
-    let r = c.args.job.now.recorded in
-    judged_then (CompareComes n r) compare_cause (λ (agreed : Unit {0}). walk_exported (export_values c.args.words.now) n r) nothing_in answer_of
-    c.in_ok-history.history c.walked.result c.in_ok-history.ensures.judged c.walked.ensures.prepared
+    export_found (export_values c.args.words.now) c.args.job.now.netlist c.args.job.now.recorded
+    record { history = c.args.history.now; wave = c.in_ok-wave.wave; shown = c.in_ok-_shown._shown }
+    c.in_ok-export_texts.field-0
+    record {
+      fits = c.requires.fits;
+      times = c.read_times.ensures;
+      replay = c.requires.replay;
+      repaired = c.in_ok-wave.ensures.repaired;
+      shows = c.in_ok-_shown.ensures;
+    }
+    c.in_ok-export_texts.ensures

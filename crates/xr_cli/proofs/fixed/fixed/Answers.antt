@@ -1,15 +1,21 @@
--- The recording agrees, and then the starts are set.
-use Rattle.xr_run.specs.Prepared.{answer_of}
+-- The starts are set, and then the walks.
+use Rattle.std.proofs.Common.{◌∙◌, List, Ok, subst}
+use Rattle.xr_design.specs.declared.stim.Stim.{Stim}
+use Rattle.xr_fix.specs.Started.{Piece}
+use Rattle.xr_run.specs.Prepared.{Judged, answer_of}
 use Rattle.xr_run.proofs.Then.{judged_then}
 use Rattle.xr_words.specs.Words.{fix_values}
-use Rattle.xr_phases.specs.Phases.{compare_cause, nothing_in}
-use Rattle.xr_cli.specs.Phases.{set_phases}
-use Rattle.xr_phases.specs.Repair.{CompareComes}
+use Rattle.xr_phases.specs.Phases.{itself, start_cause}
+use Rattle.xr_phases.specs.Sets.{StartsCome, sets_of}
+use Rattle.xr_cli.specs.Phases.{walk_fixed}
 use Rattle.xr_cli.proofs.fixed.fixed.Goals as goal
 
 pub returns-clause-prepared : goal.returns-clause-prepared
 returns-clause-prepared g c =
+    let w = fix_values c.args.words.now in
     let n = c.args.job.now.netlist in
     let r = c.args.job.now.recorded in
-    judged_then (CompareComes n r) compare_cause (λ (agreed : Unit {0}). set_phases (fix_values c.args.words.now) n r) nothing_in answer_of
-    c.in_ok-history.history c.restarted.result c.in_ok-history.ensures.judged c.restarted.ensures.prepared
+    let judged = subst (λ (l : List Piece). Judged (StartsCome n r.stim l) start_cause itself (Ok c.in_ok-stim.stim))
+    (c.as_slice.ensures.value ∙ c.in_ok-sets.ensures) c.in_ok-stim.ensures.judged in
+    judged_then (StartsCome n r.stim (sets_of w.sets)) start_cause (λ (stim : Stim). walk_fixed w n r stim) itself answer_of
+    c.in_ok-stim.stim c.walked.result judged c.walked.ensures.prepared

@@ -3,7 +3,7 @@ use Rattle.std.proofs.Common.{rules, ◌≡◌, subst}
 use Rattle.xr_run.specs.Ends.{RanWords}
 use Rattle.xr_words.specs.declared.words.Command.{Command}
 use Rattle.xr_words.specs.declared.words.Command.TheVariants as command
-use Rattle.xr_words.specs.Words.{Means, OfBlame, OfCheck, OfExport, OfFix, OfMake, OfProve, OfRepair, OfReplay, blame_values, check_values, export_values, fix_values, make_values, prove_values, repair_values, replay_values, values_of, OfAudit, audit_values}
+use Rattle.xr_words.specs.Words.{Means, OfBlame, OfCheck, OfExport, OfFix, OfMake, OfProve, OfRepair, OfReplay, OfUpgrade, blame_values, check_values, export_values, fix_values, make_values, prove_values, repair_values, replay_values, upgrade_values, values_of, OfAudit, audit_values}
 use Rattle.xr_cli.proofs.program.run_words.Goals as goal
 
 pub returns-in-Repair : goal.returns-in-Repair
@@ -20,6 +20,11 @@ pub returns-in-Check : goal.returns-in-Check
 returns-in-Check g c = λ line means.
     let is : c.args.command ≡ command.Check c.in-Check.words = search rules in
     RanWords.ends_within (OfCheck (check_values c.in-Check.words)) (subst (λ (x : Command). Means line (values_of x)) is means) (c.run_command-in-Check.ensures line)
+
+pub returns-in-Upgrade : goal.returns-in-Upgrade
+returns-in-Upgrade g c = λ line means.
+    let is : c.args.command ≡ command.Upgrade c.in-Upgrade.words = search rules in
+    RanWords.ends_within (OfUpgrade (upgrade_values c.in-Upgrade.words)) (subst (λ (x : Command). Means line (values_of x)) is means) (c.run_command-in-Upgrade.ensures line)
 
 pub returns-in-Make : goal.returns-in-Make
 returns-in-Make g c = λ line means.

@@ -1,15 +1,11 @@
--- The recording agrees, and then the walk.
-use Rattle.xr_run.specs.Prepared.{answer_of}
-use Rattle.xr_run.proofs.Then.{judged_then}
+-- The wave is found, and its texts.
 use Rattle.xr_words.specs.Words.{repair_values}
-use Rattle.xr_phases.specs.Phases.{compare_cause, nothing_in}
-use Rattle.xr_cli.specs.Phases.{walk_phases}
-use Rattle.xr_phases.specs.Repair.{CompareComes}
+use Rattle.xr_cli.proofs.Walk.{walk_found}
 use Rattle.xr_cli.proofs.repaired.repaired.Goals as goal
 
 pub returns-clause-prepared : goal.returns-clause-prepared
-returns-clause-prepared g c =
-    let n = c.args.job.now.netlist in
-    let r = c.args.job.now.recorded in
-    judged_then (CompareComes n r) compare_cause (λ (agreed : Unit {0}). walk_phases (repair_values c.args.words.now) n r) nothing_in answer_of
-    c.in_ok-history.history c.walked.result c.in_ok-history.ensures.judged c.walked.ensures.prepared
+returns-clause-prepared g c = walk_found (repair_values c.args.words.now) c.args.job.now.netlist c.args.job.now.recorded
+    record { history = c.args.history.now; wave = c.in_ok-wave.wave; shown = c.in_ok-texts_of.ensures.shown }
+    c.in_ok-texts_of.ensures.conditions c.in_ok-texts_of.field-0
+    record { fits = c.requires.fits; times = c.in_ok-texts_of.ensures.times; replay = c.requires.replay; repaired = c.in_ok-wave.ensures.repaired; shows = c.in_ok-texts_of.ensures.shows }
+    c.in_ok-texts_of.ensures.conditions_are c.in_ok-texts_of.ensures.is

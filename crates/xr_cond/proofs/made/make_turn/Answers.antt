@@ -16,12 +16,13 @@ pub drop_place-requires-clause-refutes : goal.drop_place-requires-clause-refutes
 drop_place-requires-clause-refutes c =
     let query : Cnf = c.next_query.result.now in
     let limit : ℕ = c.args.limit in
-    found_refuted c.args.condition query c.in-Refuted.proof c.next_query.ensures.query
-    (subst (IsOutcome query.clauses query.vars limit) c.in-Refuted.is c.in_ok-model.ensures.outcome).0
+    let is = subst (IsOutcome query.clauses query.vars limit) c.in-Refuted.is c.in_ok-model.ensures.outcome in
+    found_refuted c.args.condition query c.in-Refuted.proof c.next_query.ensures.query is.1 is.0
 
 pub tried-requires-clause-fresh : goal.tried-requires-clause-fresh
 tried-requires-clause-fresh c =
     let query : Cnf = c.next_query.result.now in
     let limit : ℕ = c.args.limit in
     let is = subst (IsOutcome query.clauses query.vars limit) c.in-Limit.is c.in_ok-model.ensures.outcome in
-    found_fresh c.args.condition query c.in-Limit.proof c.next_query.ensures.query is.0 (is.1 ∙ c.requires.limit)
+    found_fresh c.args.condition query c.in-Limit.proof c.next_query.ensures.query is.2 is.0
+    (is.1 ∙ c.requires.limit)

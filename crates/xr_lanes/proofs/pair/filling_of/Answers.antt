@@ -3,7 +3,7 @@ use Rattle.std.proofs.Common.{◌<◌, ap, map, filter, subst, sym, ◌∙◌}
 use Rattle.std.specs.List.{AllByRecursion}
 use Rattle.xr_design.specs.Fits.{place_at}
 use Rattle.xr_design.specs.Job.{Job, places_of}
-use Rattle.xr_lanes.specs.Given.{lane_given}
+use Rattle.xr_lane_nodes.specs.Given.{lane_given}
 use Rattle.xr_lanes.proofs.LanePairs.{filling_is, listed_are, sources_low}
 use Rattle.xr_lanes.proofs.pair.filling_of.Goals as goal
 

@@ -40,4 +40,4 @@ returns-in_ok-objection_of-in-Err-Optimistic-clause-refused c =
 
 pub returns-in-Ok-clause-certified : goal.returns-in-Ok-clause-certified
 returns-in-Ok-clause-certified c =
-    certified_by c.args.conflicts c.args.job.now c.args.history.now c.args.cert c.in-Ok.wave c.requires.fits c.requires.replay c.in-Ok.ensures.checked
+    certified_by c.args.conflicts c.args.job.now c.args.history.now c.args.cert c.in-Ok.checked.wave c.in-Ok.checked.conditions c.requires.fits c.requires.replay c.in-Ok.ensures.checked

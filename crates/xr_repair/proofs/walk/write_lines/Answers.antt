@@ -1,7 +1,7 @@
 -- The wave goes on, line by line.
 use Rattle.std.proofs.Common.{◌-◌, ap, ◌∙◌}
 use Rattle.xr_design.specs.Job.{Job, places_of}
-use Rattle.xr_repair.proofs.Pieces.{way_begins, way_further, way_less, way_line}
+use Rattle.xr_repair.proofs.Pieces.{way_along, way_begins, way_further, way_less, way_line}
 use Rattle.xr_repair.proofs.walk.write_lines.Goals as goal
 
 pub lines-init : goal.lines-init
@@ -15,6 +15,11 @@ pub write_next-requires-clause-class : goal.write_next-requires-clause-class
 write_next-requires-clause-class c =
     way_line c.args.wave c.lines.written c.lines.aids c.count_places-all.result c.args.lines c.lines.left
     c.lines.invariant (c.is_open.ensures.more c.lines-test.true).1
+
+pub write_next-requires-clause-along : goal.write_next-requires-clause-along
+write_next-requires-clause-along c =
+    way_along c.args.wave c.lines.written c.lines.aids c.count_places-all.result c.args.lines c.lines.left
+    c.lines.invariant c.requires.along
 
 pub lines-preserved : goal.lines-preserved
 lines-preserved c =

@@ -1,8 +1,8 @@
 -- Words that are no line of the options are outside of the set.
 use Rattle.std.proofs.Common.{map, true, Option, subst}
 use Rattle.std.specs.Prelude.{IfNone, string_bytes}
-use Rattle.xr_words.specs.Line.{IsOutside}
-use Rattle.xr_words.specs.declared.line.Line.{Line}
+use Rattle.xr_line.specs.Line.{IsOutside}
+use Rattle.xr_line.specs.declared.line.Line.{Line}
 use Rattle.xr_trim_cli.proofs.Lines.{outside_of}
 use Rattle.xr_trim_cli.proofs.words.read_trim_words.Goals as goal
 

@@ -2,7 +2,7 @@
 use Rattle.std.proofs.Common.{map, ◌<◌, ◌∙◌, ap, length, List, ℕ, subst, sym}
 use Rattle.std.specs.Prelude.{string_bytes}
 use Rattle.std.proofs.lemmas.List.{length-map}
-use Rattle.xr_words.specs.Line.{Text, words_of_items}
+use Rattle.xr_line.specs.Line.{Text, words_of_items}
 use Rattle.xr_trim_cli.proofs.Lines.{files_some, none_of, set_of}
 use Rattle.xr_trim_cli.proofs.words.words_in.Goals as goal
 

@@ -1,8 +1,8 @@
 -- The recording's name is free, and each FILE's.
 use Rattle.std.proofs.Common.{rules, IsTrue}
 use Rattle.std.specs.Prelude.{string_bytes}
-use Rattle.xr_words.specs.Apart.{IsFree}
-use Rattle.xr_words.proofs.Settling.{map_from, map_to}
+use Rattle.xr_words.specs.Free.{IsFree}
+use Rattle.xr_line.proofs.Settling.{map_from, map_to}
 use Rattle.xr_words.proofs.export.are_free.Goals as goal
 
 pub returns-then-is_free : goal.returns-then-is_free

@@ -2,7 +2,7 @@
 use Rattle.std.proofs.Common.{◌≡◌, ◌∙◌, ◌≢◌, List, ℕ, ◌++◌, Some, None, sym, ap, true≢false}
 use Rattle.std.proofs.lemmas.Bool.Decides.{Decides-eqb}
 use Rattle.std.proofs.lemmas.Slice.Eq.{strip_prefix_is}
-use Rattle.xr_words.proofs.Apart.{begins_from, begins_none, begins_to}
+use Rattle.xr_words.proofs.Free.{begins_from, begins_none, begins_to}
 use Rattle.xr_words.proofs.export.begins_with.Goals as goal
 
 pub returns-in-Some : goal.returns-in-Some

@@ -2,8 +2,8 @@
 use Rattle.std.proofs.Common.{map, subst, Bool}
 use Rattle.std.specs.Prelude.{IfNone, IfSome, string_bytes}
 use Rattle.xr_words.specs.declared.named.Named.{Named}
-use Rattle.xr_words.specs.Line.{IsOutside}
-use Rattle.xr_words.specs.Read.{HasOnly, Reads}
+use Rattle.xr_line.specs.Line.{IsOutside}
+use Rattle.xr_line.specs.Read.{HasOnly, Reads}
 use Rattle.xr_words.proofs.Commands.{named_line, named_none}
 use Rattle.xr_words.proofs.named.read_rest.Goals as goal
 

@@ -8,6 +8,7 @@ use Rattle.xr_cond.proofs.condition.Condition.begin.Goals as goal
 pub returns-clause-begun : goal.returns-clause-begun
 returns-clause-begun c =
     let long : vec_len c.args.listed ≡ length c.args.listed.items = search rules in
-    begun c.args.listed.items c.args.next c.args.limit _ c.in_ok-turns.ensures.items
+    begun c.args.place c.args.listed.items c.args.next c.args.limit _ c.in_ok-turns.ensures.items
     (c.first_count-kept.ensures ∙ ap first_count (c.len.ensures ∙ long))
-    (c.due_count-due.ensures ∙ ap due_count (c.len-2.ensures ∙ long)) refl refl refl
+    (c.due_count-due.ensures ∙ ap due_count (c.len-2.ensures ∙ long)) refl refl refl refl
+    (c.in_ok-boundary.ensures ∙ c.as_slice.ensures.value)

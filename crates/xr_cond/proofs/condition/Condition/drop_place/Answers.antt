@@ -2,11 +2,11 @@
 use Rattle.std.proofs.Common.{◌<◌, ◌-◌, ◌++◌, ◌∷◌, [], refl, sym, ap, ◌∙◌, arith, subst}
 use Rattle.std.specs.List.{All}
 use Rattle.xr_proof.specs.Assignment.{HasNoZero}
-use Rattle.xr_proof.specs.Log.{Refutes}
+use Rattle.xr_proof.specs.Log.{Fit, Refutes}
 use Rattle.xr_cond.specs.View.{ConditionView, FindsNext, IsNextTurn, IsTurned}
-use Rattle.xr_cond.specs.declared.turn.Turn.TheVariants as turn
+use Rattle.xr_model.specs.declared.turn.Turn.TheVariants as turn
 use Rattle.xr_cond.specs.contracts.condition.Condition.{the_view}
-use Rattle.xr_cond.proofs.NextTurns.{dropped_parts, taken_together, turn_dropped, turned}
+use Rattle.xr_cond.proofs.NextTurns.{dropped_parts, taken_together, turn_dropped, turned, turns_left}
 use Rattle.xr_cond.proofs.condition.Condition.drop_place.Goals as goal
 
 pub invariant_of-result : goal.invariant_of-result
@@ -15,7 +15,10 @@ invariant_of-result c = (
       c.self.inside.next c.next_taken-next.result c.self.invariant.0
       (subst (λ (v : ConditionView). 0 < v.due) (sym c.self.view_is) c.requires.due) c.remove.ensures.items
       c.next_taken-next.ensures,
-  (let room = c.self.invariant.1 in let long = c.with_turn-turns.ensures.len in
+  turns_left c.self.inside.boundary.items c.self.inside.turns.items c.with_turn-turns.result.items
+      (turn.Dropped c.into_log.result) c.self.inside.due c.self.invariant.1
+      (subst (λ (v : ConditionView). 0 < v.due) (sym c.self.view_is) c.requires.due) c.with_turn-turns.ensures.turns,
+  (let room = c.self.invariant.2 in let long = c.with_turn-turns.ensures.len in
       let up = c.with_turn-turns.ensures.capacity in
       let some : 0 < c.self.inside.due = subst (λ (v : ConditionView). 0 < v.due) (sym c.self.view_is) c.requires.due in
       omega (arith, room, long, up, some)),
@@ -27,8 +30,11 @@ returns c =
     let some : 0 < old.due = subst (λ (v : ConditionView). 0 < v.due) (sym c.self.view_is) c.requires.due in
     let next : IsNextTurn old (turn.Dropped c.args.proof) =
     turn_dropped old c.args.proof (subst (All HasNoZero) c.into_log.ensures.value c.into_log.ensures.no_zero)
-    (subst (λ v. FindsNext v (λ q. Refutes q.clauses c.args.proof)) (sym c.self.view_is) c.requires.refutes) in
+    (subst (λ v. FindsNext v (λ q. Fit q.vars c.args.proof × Refutes q.clauses c.args.proof))
+    (sym c.self.view_is) c.requires.refutes) in
     let new : ConditionView = record {
+      place = old.place;
+      boundary = old.boundary;
       listed = c.remove.new.self.items;
       kept = old.kept;
       due = old.due - 1;
@@ -40,4 +46,4 @@ returns c =
     (turned old (turn.Dropped c.args.proof) new some next
     (dropped_parts old c.args.proof new some
     (c.with_turn-turns.ensures.turns ∙ ap (λ log. old.turns ++ turn.Dropped log ∷ []) c.into_log.ensures.value)
-    refl refl refl c.remove.ensures.items c.next_taken-next.ensures))
+    refl refl refl refl refl c.remove.ensures.items c.next_taken-next.ensures))

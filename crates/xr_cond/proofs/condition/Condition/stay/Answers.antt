@@ -12,6 +12,8 @@ returns c =
     let next : IsNextTurn old c.args.turn =
     subst (λ v. IsNextTurn v c.args.turn) (sym c.self.view_is) c.requires.turn in
     let new : ConditionView = record {
+      place = old.place;
+      boundary = old.boundary;
       listed = old.listed;
       kept = old.kept + 1;
       due = old.due - 1;
@@ -21,5 +23,5 @@ returns c =
     } in
     subst (λ v. IsTurned v c.args.turn new) c.self.view_is
     (turned old c.args.turn new some next
-    (kept_parts old c.args.turn new c.requires.stays some c.with_turn-turns.ensures.turns refl refl refl refl
+    (kept_parts old c.args.turn new c.requires.stays some c.with_turn-turns.ensures.turns refl refl refl refl refl refl
     c.next_exchanged-next.ensures))

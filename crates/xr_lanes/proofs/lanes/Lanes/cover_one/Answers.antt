@@ -1,7 +1,7 @@
 -- The literal of the place comes in.
 use Rattle.std.proofs.Common.{None, List, subst, sym}
+use Rattle.xr_lane_nodes.specs.Literal.{LiteralView}
 use Rattle.xr_lanes.specs.Lanes.{IsRightOf}
-use Rattle.xr_lanes.specs.Literal.{LiteralView}
 use Rattle.xr_lanes.proofs.CoveredLanes.{covered_next}
 use Rattle.xr_lanes.proofs.lanes.Lanes.cover_one.Goals as goal
 

@@ -1,12 +1,12 @@
 -- The root is at the place of the literal's node.
-use Rattle.std.proofs.Common.{◌≡◌, ◌<◌, ◌≤◌, ◌∙◌, ℕ, List, ap, refl, subst, sym}
+use Rattle.std.proofs.Common.{◌≡◌, ◌<◌, ◌∙◌, ℕ, List, ap, refl, subst, sym}
 use Rattle.xr_design.specs.Fits.{place_at}
 use Rattle.xr_design.specs.Job.{Job, places_of}
 use Rattle.xr_wave.specs.Contents.{job}
-use Rattle.xr_lanes.specs.Literal.{literal_in}
-use Rattle.xr_lanes.specs.Nodes.{NodeView, node_at}
+use Rattle.xr_lane_nodes.specs.Literal.{literal_in}
+use Rattle.xr_lane_nodes.specs.Nodes.{NodeView, node_at}
 use Rattle.xr_lanes.specs.Roots.{place_of}
-use Rattle.xr_lanes.proofs.RootedPlaces.{covered_there, node_there, place_there, root_there}
+use Rattle.xr_lanes.proofs.RootedPlaces.{place_there, root_there}
 use Rattle.xr_lanes.proofs.lanes.Lanes.covered_root.Goals as goal
 
 pub place_of-root-requires-clause-within : goal.place_of-root-requires-clause-within

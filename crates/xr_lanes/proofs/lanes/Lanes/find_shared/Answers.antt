@@ -5,8 +5,8 @@ use Rattle.xr_lanes.specs.Lanes.{IsLookedAt, IsRightOf, LanesView}
 use Rattle.xr_lanes.proofs.SharedLanes.{next_in, shared_right}
 use Rattle.xr_lanes.proofs.lanes.Lanes.find_shared.Goals as goal
 
-pub pair-requires-clause-node : goal.pair-requires-clause-node
-pair-requires-clause-node c =
+pub show-requires-clause-node : goal.show-requires-clause-node
+show-requires-clause-node c =
     next_in c.args.wave.now (record {
       nodes = c.self.inside.nodes;
       first = c.self.inside.first;
@@ -27,5 +27,5 @@ returns-in-Some-sources-clause-right c =
       graph = c.self.inside.graph;
       shared = c.self.inside.shared;
     } in
-    on_ok_weaker c.pair.result (λ is. shared_right c.args.wave.now lanes c.pair.new.self
-    (subst (IsRightOf c.args.wave.now) (sym c.self.view_is) c.requires.right) is) c.pair.ensures.right
+    on_ok_weaker c.show.result (λ is. shared_right c.args.wave.now lanes c.show.new.self
+    (subst (IsRightOf c.args.wave.now) (sym c.self.view_is) c.requires.right) is) c.show.ensures.right

@@ -2,8 +2,8 @@
 use Rattle.std.proofs.Common.{◌≡◌, ◌+◌, ◌-◌, ◌*◌, ◌≤◌, List, length, drop, ap, arith, rules, subst, sym, ◌∙◌}
 use Rattle.xr_design.specs.Job.{Job}
 use Rattle.xr_wave.specs.Contents.{job}
+use Rattle.xr_lane_nodes.specs.Literal.{LiteralView}
 use Rattle.xr_lanes.specs.Lanes.{IsRightOf}
-use Rattle.xr_lanes.specs.Literal.{LiteralView}
 use Rattle.xr_lanes.proofs.CoveredLanes.{forgets_right}
 use Rattle.xr_lanes.proofs.lanes.Lanes.forget_old.Goals as goal
 

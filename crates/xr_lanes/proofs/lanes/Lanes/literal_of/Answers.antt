@@ -1,6 +1,6 @@
 -- A certain place has the literal of its bit.
 use Rattle.std.proofs.Common.{true, false, sym, ◌∙◌}
-use Rattle.xr_lanes.proofs.LiteralBits.{constant_literal}
+use Rattle.xr_lane_nodes.proofs.LiteralBits.{constant_literal}
 use Rattle.xr_lanes.proofs.lanes.Lanes.literal_of.Goals as goal
 
 pub returns-in-Zero-clause-literal : goal.returns-in-Zero-clause-literal

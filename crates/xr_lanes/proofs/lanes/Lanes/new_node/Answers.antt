@@ -8,10 +8,10 @@ use Rattle.xr_design.specs.declared.place.Place.{Place}
 use Rattle.xr_graph.specs.NodeRoots.{AreNodeRoots}
 use Rattle.xr_graph.specs.declared.node_root.NodeRoot.{NodeRoot}
 use Rattle.xr_wave.specs.Contents.{job}
+use Rattle.xr_lane_nodes.specs.Made.{with_made}
+use Rattle.xr_lane_nodes.specs.Nodes.{NodeView}
 use Rattle.xr_lanes.specs.Graphs.{GrowsBy}
 use Rattle.xr_lanes.specs.Lanes.{IsRightOf, LanesView, count_of}
-use Rattle.xr_lanes.specs.Made.{with_made}
-use Rattle.xr_lanes.specs.Nodes.{NodeView}
 use Rattle.xr_lanes.proofs.CoveredLanes.{covered_before, nodes_before}
 use Rattle.xr_lanes.proofs.GraphNodes.{roots_in_graph}
 use Rattle.xr_lanes.proofs.GrownLanes.{right_made}

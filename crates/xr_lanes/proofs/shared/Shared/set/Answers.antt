@@ -6,8 +6,8 @@ use Rattle.xr_design.specs.Job.{Job}
 use Rattle.xr_lanes.proofs.SharedTables.{shared_listed}
 use Rattle.xr_lanes.proofs.shared.Shared.set.Goals as goal
 
-pub returns : goal.returns
-returns c graph =
+pub returns-clause-right : goal.returns-clause-right
+returns-clause-right c graph =
     shared_listed c.args.wave.now graph c.args.numbers.items c.set_list.new.self c.requires.numbers
     (c.set_list.ensures.list ∙ c.in_ok-list.ensures
     ∙ ap (λ (ns : List ℕ). map (place_at (job_in c.circuit-circuit.result)) ns) c.as_slice.ensures.value

@@ -1,5 +1,5 @@
 -- The union can be listed, and what is listed anew has no tables.
-use Rattle.std.proofs.Common.{List, ℕ, ap, subst, sym, ◌∙◌}
+use Rattle.std.proofs.Common.{ap, subst, sym, ◌∙◌}
 use Rattle.std.proofs.lemmas.Result.{on_ok_weaker}
 use Rattle.xr_lanes.specs.Shared.{AreListable, SharedView}
 use Rattle.xr_lanes.proofs.SharedTables.{union_listable}
@@ -11,9 +11,9 @@ set-requires-clause-numbers c =
     (subst (AreListable c.args.wave.now) (sym (c.as_slice.ensures.value ∙ ap (λ (v : SharedView). v.numbers) c.self.view_is))
     c.requires.list.numbers) c.requires.sources c.in_ok-all.ensures
 
-pub returns-then-len-le-MOST : goal.returns-then-len-le-MOST
-returns-then-len-le-MOST c = on_ok_weaker c.set.result (λ right graph was. right graph) c.set.ensures
+pub returns-then-len-le-MOST-clause-keeps : goal.returns-then-len-le-MOST-clause-keeps
+returns-then-len-le-MOST-clause-keeps c = on_ok_weaker c.set.result (λ right graph was. right graph) c.set.ensures.right
 
-pub returns-in_ok-own : goal.returns-in_ok-own
-returns-in_ok-own c =
-    on_ok_weaker c.set-else-len-le-MOST.result (λ right graph was. right graph) c.set-else-len-le-MOST.ensures
+pub returns-in_ok-own-clause-keeps : goal.returns-in_ok-own-clause-keeps
+returns-in_ok-own-clause-keeps c =
+    on_ok_weaker c.set-else-len-le-MOST.result (λ right graph was. right graph) c.set-else-len-le-MOST.ensures.right

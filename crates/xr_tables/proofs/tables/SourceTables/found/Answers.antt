@@ -1,9 +1,9 @@
 -- The table is that of the node.
-use Rattle.std.proofs.Common.{◌≡◌, List, IfOk, IfSome, ap, subst, sym, ◌∙◌}
+use Rattle.std.proofs.Common.{◌≡◌, List, IfOk, ap, subst, sym, ◌∙◌}
 use Rattle.xr_design.specs.declared.place.Place.{Place}
 use Rattle.xr_tables.specs.Other.{IsShownBy}
 use Rattle.xr_tables.specs.Tables.{AreAllOf, TablesView}
-use Rattle.xr_tables.proofs.OtherNumbers.{found_other}
+use Rattle.xr_tables.proofs.OtherNumbers.{found_compared}
 use Rattle.xr_tables.proofs.RightTables.{table_right}
 use Rattle.xr_tables.proofs.tables.SourceTables.found.Goals as goal
 
@@ -14,8 +14,8 @@ returns-in-Some c =
     let right : AreAllOf c.args.graph.now c.args.self.now.list c.self.inside.young =
     subst (AreAllOf c.args.graph.now c.args.self.now.list) (sym (ap (λ (v : TablesView). v.young) c.self.view_is))
     c.requires.young in
-    found_other c.args.graph.now c.args.self.now.list c.args.node c.in-Some.blocks.now c.other_of.result
+    found_compared c.args.graph.now c.args.self.now.list c.args.node c.in-Some.blocks.now c.compare_blocks.result
     (table_right c.args.graph.now c.args.self.now.list c.self.inside.young c.args.node c.in-Some.blocks.now right
     c.in-Some.ensures)
-    (subst (λ (l : List Place). IfOk c.other_of.result (λ found. IfSome found (IsShownBy l c.in-Some.blocks.now))) list
-    c.other_of.ensures)
+    (subst (λ (l : List Place). IfOk c.compare_blocks.result (IsShownBy l c.in-Some.blocks.now)) list
+    c.compare_blocks.ensures)

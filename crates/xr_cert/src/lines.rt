@@ -1,0 +1,174 @@
+//! One line of a Line place, taken where no turn is due.
+
+ghost use Rattle.std.specs.Prelude.{◌≡◌, ◌↔◌, IfErr, IfNone, IfOk, IfSome, IsTrue, OnOk, None as ANone, true};
+ghost use Rattle.xr_cone.specs.Cones.{AreRightOf};
+ghost use Rattle.xr_cone_nodes.specs.Traced.{IsNextCone};
+ghost use Rattle.xr_wave.specs.Advance.{IsAdvanced, IsObjected, IsPlain};
+ghost use Rattle.xr_wave.specs.Contents.{IsWave, next_seen};
+ghost use Rattle.xr_wave.specs.Token.{IsLineNext};
+ghost use Rattle.xr_along.specs.Accepted.{NamesNext};
+ghost use Rattle.xr_turns.specs.Conditions as turns;
+ghost use Rattle.xr_cert_text.specs.declared.cert.Entry.TheVariants.{Line as ALine};
+ghost use Rattle.xr_cert_text.specs.declared.cert.Form.TheVariants.{Turns};
+ghost use Rattle.xr_cert.specs.Standing.{ComesFrom, EndsFrom, IsWaiting, StaysRight, StopsAt, Takes};
+ghost use Rattle.xr_cert.specs.Step.{IsSpent, IsTold, Stops};
+
+use crate::bodies::spend_body;
+use crate::due::{Due, due_of};
+use crate::refusal::{CertFault, CheckErr};
+use crate::told::{do_tell, spend_told};
+use crate::turned::begin_turns;
+use crate::walk::missing;
+use crate::walked::Walked;
+use std::alloc::Global;
+use xr_base::Memory;
+use xr_cert_text::Form;
+use xr_cond::Condition;
+use xr_cone::{Cone, Cones};
+use xr_design::count_places;
+use xr_model::{Body, Line};
+use xr_wave::Wave;
+
+/// Takes a line where the walk waits for one.
+pub fn take_line<'a>(
+    alloc: Global,
+    form: Form,
+    wave: Wave<'a>,
+    conditions: Vec<Condition>,
+    cones: &mut Cones,
+    line: Line,
+    number: usize,
+) -> Result<Walked<'a>, CheckErr>
+    requires stops { IsPlain (next_seen wave) → ⊥ }
+    requires right { AreRightOf wave cones.old }
+    ensures ok { IfOk result (Takes form wave.entry conditions.items ANone (ALine line)) }
+    ensures waits { IfOk result IsWaiting }
+    ensures right { IfOk result (λ next. AreRightOf next.wave cones.new) }
+    ensures err { IfErr result (StopsAt form number wave.entry conditions.items ANone (ALine line)) }
+{
+    if wave.count() >= count_places(&wave.circuit()) {
+        return Err(CheckErr::Refused(CertFault::Stray { line: number }));
+    }
+    match due_of(&wave, &line) {
+        Due::Here => take_next(alloc, form, wave, conditions, cones, line, number),
+        Due::Later => Err(missing(&wave)),
+        Due::Astray => Err(CheckErr::Refused(CertFault::Stray { line: number })),
+    }
+}
+
+/// Writes the next place by its line. Then its turns are due, where it has some, or else the places after it are
+/// written, up to the next Line place.
+fn take_next<'a>(
+    alloc: Global,
+    form: Form,
+    wave: Wave<'a>,
+    conditions: Vec<Condition>,
+    cones: &mut Cones,
+    line: Line,
+    number: usize,
+) -> Result<Walked<'a>, CheckErr>
+    requires wave { IsWave wave }
+    requires class { IsLineNext wave }
+    requires names { NamesNext wave line }
+    requires right { AreRightOf wave cones.old }
+    ensures ok { IfOk result (Takes form wave.entry conditions.items ANone (ALine line)) }
+    ensures waits { IfOk result IsWaiting }
+    ensures right { IfOk result (λ next. AreRightOf next.wave cones.new) }
+    ensures err { IfErr result (StopsAt form number wave.entry conditions.items ANone (ALine line)) }
+{
+    let turned = has_turns(form, &line.body);
+    let place = line.place;
+    match spend_line(alloc, wave, cones, line, number) {
+        Ok(spent) => {
+            let _circuit = spent.circuit();
+            if turned {
+                begin_turns(alloc, spent, conditions, cones, place)
+            } else {
+                walk_on(spent, conditions)
+            }
+        }
+        Err(refusal) => Err(refusal),
+    }
+}
+
+/// Whether turns belong to a line: in form 2, where it gives a bit.
+fn has_turns(form: Form, body: &Body) -> bool
+    ensures { IsTrue result ↔ ((form ≡ Turns) × (turns.gives_bit body.now ≡ true)) }
+{
+    match form {
+        Form::Lines => false,
+        Form::Turns => gives_bit(body),
+    }
+}
+
+/// Whether a line with this body gives a bit.
+pub fn gives_bit(body: &Body) -> bool
+    ensures { result ≡ turns.gives_bit body.now }
+{
+    match body {
+        Body::Enumerated(_) | Body::Refuted(..) => true,
+        Body::Pair(..) | Body::Undecided(_) => false,
+    }
+}
+
+/// Writes the places up to the next Line place, whose classes say what they are.
+pub fn walk_on<'a>(wave: Wave<'a>, conditions: Vec<Condition>) -> Result<Walked<'a>, CheckErr>
+    ensures ok { IfOk result (ComesFrom wave.entry conditions.items) }
+    ensures waits { IfOk result IsWaiting }
+    ensures right { IfOk result (λ next. StaysRight wave.entry next.wave) }
+    ensures err { IfErr result (EndsFrom wave.entry conditions.items) }
+{
+    let _circuit = wave.circuit();
+    match wave.advance_to_line() {
+        Ok(wave) => Ok(Walked {
+            wave,
+            conditions,
+            under_way: None,
+        }),
+        Err(objection) => Err(CheckErr::Optimistic(objection)),
+    }
+}
+
+/// Writes the next place by its line: by lanes, where they tell that its fillings are a pair, or else by its cone.
+pub fn spend_line<'a>(
+    alloc: Global,
+    wave: Wave<'a>,
+    cones: &mut Cones,
+    line: Line,
+    number: usize,
+) -> Result<Wave<'a>, CheckErr>
+    requires wave { IsWave wave }
+    requires class { IsLineNext wave }
+    requires names { NamesNext wave line }
+    requires right { AreRightOf wave cones.old }
+    ensures ok { IfOk result (IsSpent wave.entry line) }
+    ensures right { IfOk result (λ next. AreRightOf next cones.new) }
+    ensures err { IfErr result (Stops wave.entry number line) }
+{
+    match cone_for(alloc, &wave, cones, &line.body) {
+        Ok(Some(cone)) => spend_body(alloc, wave, &cone, line.body, number),
+        Ok(None) => spend_told(wave, line.body),
+        Err(_) => Err(CheckErr::Memory),
+    }
+}
+
+/// The cone of the next place, a Line place, unless lanes tell that a body holds there.
+fn cone_for(
+    alloc: Global,
+    wave: &Wave<'_>,
+    cones: &mut Cones,
+    body: &Body,
+) -> Result<Option<Cone>, Memory>
+    requires class { IsLineNext wave.now }
+    requires right { AreRightOf wave.now cones.old }
+    ensures right { OnOk result (AreRightOf wave.now cones.new) }
+    ensures cone { IfOk result (λ found. IfSome found (λ cone. IsNextCone wave.now cone.nodes)) }
+    ensures told { IfOk result (λ found. IfNone found (IsTold wave.now body.now)) }
+{
+    cones.lanes.look(alloc, wave)?;
+    if do_tell(alloc, wave, &cones.lanes, body)? {
+        return Ok(None);
+    }
+    let cone = cones.cone(alloc, wave)?;
+    Ok(Some(cone))
+}

@@ -1,0 +1,139 @@
+-- A certificate that is checked, and its upgrade: what is promised of them.
+use Rattle.std.proofs.Common.{◌≡◌, ◌∙◌, ℕ, List, ◌++◌, refl, sym, ap, subst}
+use Rattle.xr_along.specs.Along.{GoesAlong}
+use Rattle.xr_cert.proofs.Faultless.{begun_same}
+use Rattle.xr_cert.proofs.Fitted.{checked_accepted, own_accepted}
+use Rattle.xr_cert.proofs.OwnEntries.{own_lines}
+use Rattle.xr_cert.proofs.OwnText.{own_text_stands}
+use Rattle.xr_cert.specs.Entries.{AreConditionsFor, entries_of, lines_in}
+use Rattle.xr_cert.specs.Step.{cert_in}
+use Rattle.xr_cert_text.specs.Text.{cert_text}
+use Rattle.xr_cert_text.specs.Wrong.{IsTextOf}
+use Rattle.xr_cert_text.specs.declared.cert.Cert.{Cert}
+use Rattle.xr_cert_text.specs.declared.cert.Form.TheVariants.{Lines, Turns}
+use Rattle.xr_cond.specs.View.{ConditionView}
+use Rattle.xr_forces.specs.ForcesOf.{forces_of}
+use Rattle.xr_forces.proofs.Showing.{forces_exist}
+use Rattle.xr_job.specs.Compared.{job_in}
+use Rattle.xr_job.specs.declared.netlist.Netlist.{Netlist as ANetlist}
+use Rattle.xr_job.specs.declared.recorded.Recorded.{Recorded}
+use Rattle.xr_listing.specs.Conditions.{conditions_text}
+use Rattle.xr_model.specs.declared.line.Line.{Line as ALine}
+use Rattle.xr_report.specs.Report.{report_text}
+use Rattle.xr_wave.specs.Contents.{Contents, IsFinished, IsWave}
+use Rattle.xr_words.specs.Words.{CheckValues, UpgradeValues}
+use Rattle.xr_phases.specs.Certificate.{IsCertified}
+use Rattle.xr_phases.specs.Phases.{parts}
+use Rattle.xr_phases.specs.Repair.{beginning}
+use Rattle.xr_phases.specs.Texts.{IsAgreed, IsJob}
+use Rattle.xr_phases.proofs.Jobs.{fits_job}
+use Rattle.xr_cli.specs.Checks.{Checks}
+use Rattle.xr_cli.specs.Headline.{value_in, wave_of}
+use Rattle.xr_cli.specs.Phases.{forces_in, whole_report}
+use Rattle.xr_cli.specs.Upgrades.{Upgrades}
+use Rattle.xr_cli.proofs.Needing.{each_needs}
+
+module _ (conflicts : ℕ) (n : ANetlist) (r : Recorded) (cert : Cert) (wave : Contents) (conditions : List ConditionView)
+    (certified : IsCertified conflicts (parts n r) cert wave conditions) where
+  abbrev TheStart : Contents
+  TheStart = beginning conflicts n r wave.history
+
+  abbrev TheWave : Contents
+  TheWave = wave_of n r wave.history conflicts wave.written (lines_in cert.entries)
+
+  wave_same : wave ≡ TheWave
+  wave_same =
+      ap (λ (c : Contents). record c { written = wave.written; lines = wave.lines }) (begun_same certified.checked.goes)
+      ∙ ap (λ (ls : List ALine). wave_of n r wave.history conflicts wave.written ls) certified.checked.lines
+
+  sound : IsWave TheWave
+  sound = subst IsWave wave_same certified.checked.wave
+
+  whole : IsFinished TheWave
+  whole = subst IsFinished wave_same certified.checked.finished
+
+  goes : GoesAlong TheStart TheWave
+  goes = subst (GoesAlong TheStart) wave_same certified.checked.goes
+
+  conditions_there : AreConditionsFor cert.form TheWave conditions
+  conditions_there = subst (λ (c : Contents). AreConditionsFor cert.form c conditions) wave_same certified.checked.conditions_are
+
+-- What a check promises.
+pub checks : (w : CheckValues) (n : ANetlist) (r : Recorded) (cert : Cert) (wave : Contents) (conditions : List ConditionView)
+    → IsCertified w.conflicts (parts n r) cert wave conditions → (netlist recording text : List ℕ) → IsJob w.job netlist recording n r
+    → IsAgreed (parts n r) → IsTextOf text cert
+    → Checks w netlist recording text (report_text wave r.binding (forces_in wave) ++ conditions_text wave conditions)
+checks w n r cert wave conditions certified netlist recording text job faultless stands =
+    let there = conditions_there w.conflicts n r cert wave conditions certified in
+    record {
+      n = n;
+      r = r;
+      job = job;
+      replay = wave.history;
+      agrees = record { replay = certified.replay; faultless = faultless };
+      certificate = cert;
+      stands = stands;
+      waveform = wave.written;
+      whole = whole w.conflicts n r cert wave conditions certified;
+      accepted = checked_accepted (beginning w.conflicts n r wave.history) cert wave conditions refl refl certified.checked;
+      holds = (sound w.conflicts n r cert wave conditions certified).holds;
+      conditions = conditions;
+      conditions_are = there;
+      stated = certified.checked.stated ∙ ap (λ (ls : List ALine). entries_of ls conditions) certified.checked.lines;
+      events = forces_of (job_in n r) (value_in wave.written);
+      are = forces_exist (job_in n r) (value_in wave.written) (fits_job n r certified.fits);
+      report_is = ap (λ (c : Contents). report_text c r.binding (forces_in c) ++ conditions_text c conditions)
+          (wave_same w.conflicts n r cert wave conditions certified);
+      needs = each_needs cert.form (TheWave w.conflicts n r cert wave conditions certified) conditions there;
+    }
+
+-- And an upgrade, whichever turns were found.
+upgrades_there : (w : UpgradeValues) (n : ANetlist) (r : Recorded) (cert : Cert) (wave : Contents) (conditions : List ConditionView)
+    (certified : IsCertified w.conflicts (parts n r) cert wave conditions) (found : List ConditionView)
+    → AreConditionsFor Turns (TheWave w.conflicts n r cert wave conditions certified) found → (netlist recording text : List ℕ)
+    → IsJob w.job netlist recording n r → IsAgreed (parts n r) → IsTextOf text cert → cert.form ≡ Lines
+    → Upgrades w netlist recording text (cert_text (cert_in Turns (TheWave w.conflicts n r cert wave conditions certified) found))
+    (whole_report (TheWave w.conflicts n r cert wave conditions certified) r.binding found)
+upgrades_there w n r cert wave conditions certified found are netlist recording text job faultless stands form =
+    let start = beginning w.conflicts n r wave.history in
+    let there = TheWave w.conflicts n r cert wave conditions certified in
+    let along = goes w.conflicts n r cert wave conditions certified in
+    let is_wave = sound w.conflicts n r cert wave conditions certified in
+    let finished = whole w.conflicts n r cert wave conditions certified in
+    record {
+      n = n;
+      r = r;
+      job = job;
+      replay = wave.history;
+      agrees = record { replay = certified.replay; faultless = faultless };
+      certificate = cert;
+      stands = stands;
+      form_is = form;
+      waveform = wave.written;
+      whole = finished;
+      accepted = checked_accepted start cert wave conditions refl refl certified.checked;
+      holds = is_wave.holds;
+      conditions = found;
+      conditions_are = are;
+      upgraded = cert_in Turns there found;
+      upgrade = record {
+        is = refl;
+        stands = own_text_stands Turns start there found refl along is_wave are;
+        accepted = own_accepted Turns start there found refl refl along is_wave finished are;
+        lines_are = own_lines (lines_in cert.entries) found;
+      };
+      events = forces_of (job_in n r) (value_in wave.written);
+      are = forces_exist (job_in n r) (value_in wave.written) (fits_job n r certified.fits);
+      report_is = refl;
+      needs = each_needs Turns there found are;
+    }
+
+pub upgrades : (w : UpgradeValues) (n : ANetlist) (r : Recorded) (cert : Cert) (wave : Contents) (conditions : List ConditionView)
+    → IsCertified w.conflicts (parts n r) cert wave conditions → (found : List ConditionView) → AreConditionsFor Turns wave found
+    → (netlist recording text : List ℕ) → IsJob w.job netlist recording n r → IsAgreed (parts n r) → IsTextOf text cert → cert.form ≡ Lines
+    → Upgrades w netlist recording text (cert_text (cert_in Turns wave found)) (whole_report wave r.binding found)
+upgrades w n r cert wave conditions certified found are netlist recording text job faultless stands form =
+    let same = wave_same w.conflicts n r cert wave conditions certified in
+    subst (λ (c : Contents). Upgrades w netlist recording text (cert_text (cert_in Turns c found)) (whole_report c r.binding found)) (sym same)
+    (upgrades_there w n r cert wave conditions certified found (subst (λ (c : Contents). AreConditionsFor Turns c found) same are)
+    netlist recording text job faultless stands form)

@@ -1,0 +1,45 @@
+-- What conditions of a wave say of their places.
+use Rattle.std.proofs.Common.{List, [], ◌∷◌, sym, subst}
+use Rattle.std.specs.List.{AllByRecursion}
+use Rattle.xr_cert.specs.Entries.{AreConditionsFor}
+use Rattle.xr_cert_text.specs.declared.cert.Form.{Form}
+use Rattle.xr_cert_text.specs.declared.cert.Form.TheVariants.{Lines, Turns}
+use Rattle.xr_cond.specs.View.{ConditionView, IsConditionOf, current_list, settled_bit}
+use Rattle.xr_cond.proofs.NextTurns.{condition_holds}
+use Rattle.xr_design.specs.Job.{number_of}
+use Rattle.xr_design.specs.declared.place.Place.{Place}
+use Rattle.xr_listing.specs.Conditions.{IsSomeCondition}
+use Rattle.xr_turns.specs.Conditions.{AreConditionsOf, settled_places}
+use Rattle.xr_wave.specs.Contents.{Contents, job}
+use Rattle.xr_cli.specs.Needs.{EachNeeds, Needs}
+
+-- Each is that of some place.
+some_of : (c : Contents) (places : List Place) (views : List ConditionView) → AreConditionsOf c places views → AllByRecursion (IsSomeCondition c) views
+some_of c [] [] are = tt
+some_of c [] (view ∷ views) are = absurd are
+some_of c (place ∷ places) [] are = absurd are
+some_of c (place ∷ places) (view ∷ views) are = ((number_of (job c) place, are.0.is), some_of c places views are.1)
+
+pub are_some : (form : Form) (c : Contents) (views : List ConditionView) → AreConditionsFor form c views → AllByRecursion (IsSomeCondition c) views
+are_some Lines c views are = subst (AllByRecursion (IsSomeCondition c)) (sym are) tt
+are_some Turns c views are = some_of c (settled_places c.lines) views are
+
+-- And its place needs what is listed.
+needed : (c : Contents) (root : _) (view : ConditionView) → IsConditionOf c root view → Needs (job c) c.written view
+needed c root view is = record {
+  number = root;
+  within = is.has.within;
+  place_is = is.place;
+  bit = settled_bit c root;
+  has = is.has.has;
+  listed = current_list c root view.turns;
+  listed_is = is.listed;
+  is = condition_holds c root view is;
+}
+
+each_of : (c : Contents) (views : List ConditionView) → AllByRecursion (IsSomeCondition c) views → EachNeeds (job c) c.written views
+each_of c [] are = tt
+each_of c (view ∷ views) are = (needed c are.0.0 view are.0.1, each_of c views are.1)
+
+pub each_needs : (form : Form) (c : Contents) (views : List ConditionView) → AreConditionsFor form c views → EachNeeds (job c) c.written views
+each_needs form c views are = each_of c views (are_some form c views are)

@@ -1,0 +1,13 @@
+-- The certificate has no turns, and then it is upgraded.
+use Rattle.xr_run.specs.Prepared.{answer_of}
+use Rattle.xr_run.proofs.Then.{judged_then}
+use Rattle.xr_words.specs.Words.{upgrade_values}
+use Rattle.xr_phases.specs.Certificate.{FormComes}
+use Rattle.xr_phases.specs.Phases.{nothing_in, uncertified_cause}
+use Rattle.xr_cli.specs.Phases.{checked_upgrade}
+use Rattle.xr_cli.proofs.upgraded.upgraded.Goals as goal
+
+pub returns : goal.returns
+returns c =
+    judged_then (FormComes c.args.cert) uncertified_cause (λ (plain : Unit {0}). checked_upgrade (upgrade_values c.args.words.now) c.args.job.now c.args.cert)
+    nothing_in answer_of c.in_ok-without_turns.field-0 c.with_turns.result c.in_ok-without_turns.ensures c.with_turns.ensures

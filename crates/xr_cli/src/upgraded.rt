@@ -1,0 +1,83 @@
+//! The upgrade of a certificate of form 1 to form 2.
+
+ghost use Rattle.std.specs.Prelude.{◌≡◌, IfOk};
+ghost use Rattle.std.specs.List.{AllByRecursion};
+ghost use Rattle.xr_cert_text.specs.declared.cert.Form.TheVariants.{Turns};
+ghost use Rattle.xr_design.specs.Handed.{IsReplay};
+ghost use Rattle.xr_job.specs.Compared.{job_in};
+ghost use Rattle.xr_listing.specs.Conditions.{IsSomeCondition};
+ghost use Rattle.xr_run.specs.Prepared.{PreparedAlone, answer_of};
+ghost use Rattle.xr_words.specs.Words.{upgrade_values};
+ghost use Rattle.xr_phases.specs.Repair.{FitsParts, IsWaveOf};
+ghost use Rattle.xr_cli.specs.Phases.{checked_upgrade, formed_upgrade, upgrade_answer};
+
+use crate::report::report_with;
+use std::alloc::Global;
+use xr_base::Memory;
+use xr_cert::{Cert, Form, write_cert};
+use xr_cond::Condition;
+use xr_design::History;
+use xr_forces::forces_of;
+use xr_phases::{Parts, Refused, certified_wave, conditions_for, without_turns};
+use xr_run::{Output, Ready, Refusal, Report};
+use xr_wave::Wave;
+use xr_words::UpgradeWords;
+
+/// What the words ask of a certificate of a job that agrees.
+pub fn upgraded<'a>(
+    alloc: Global,
+    words: &UpgradeWords<'a>,
+    job: &Parts,
+    history: &History,
+    cert: Cert,
+) -> Result<Ready<'a>, Refusal<Refused>>
+    requires fits { FitsParts job.now }
+    requires replay { IsReplay (job_in job.now.netlist job.now.recorded) history.now }
+    ensures { PreparedAlone (formed_upgrade (upgrade_values words.now) job.now cert) answer_of result }
+{
+    without_turns(&cert)?;
+    with_turns(alloc, words, job, history, cert)
+}
+
+/// The same of a certificate that has no turns yet.
+fn with_turns<'a>(
+    alloc: Global,
+    words: &UpgradeWords<'a>,
+    job: &Parts,
+    history: &History,
+    cert: Cert,
+) -> Result<Ready<'a>, Refusal<Refused>>
+    requires fits { FitsParts job.now }
+    requires replay { IsReplay (job_in job.now.netlist job.now.recorded) history.now }
+    ensures { PreparedAlone (checked_upgrade (upgrade_values words.now) job.now cert) answer_of result }
+{
+    let checked = certified_wave(alloc, job, history, cert, words.conflicts)?;
+    let wave = checked.wave;
+    let conditions = conditions_for(alloc, Form::Turns, &wave)?;
+    Ok(texts_of(alloc, words, job, &wave, conditions.as_slice())?)
+}
+
+/// The certificate of a finished wave of a job and of conditions, and its report.
+fn texts_of<'a>(
+    alloc: Global,
+    words: &UpgradeWords<'a>,
+    job: &Parts,
+    wave: &Wave<'_>,
+    conditions: &[Condition],
+) -> Result<Ready<'a>, Memory>
+    requires fits { FitsParts job.now }
+    requires wave { IsWaveOf job.now.netlist job.now.recorded wave.now }
+    requires conditions { AllByRecursion (IsSomeCondition wave.now) conditions.now }
+    ensures { IfOk result (λ ready. answer_of ready
+        ≡ upgrade_answer (upgrade_values words.now) job.now wave.now conditions.now) }
+{
+    let cert = write_cert(alloc, wave, Form::Turns, conditions)?;
+    let forces = forces_of(alloc, wave)?;
+    let report = report_with(alloc, wave, &job.recorded.binding, &forces, conditions)?;
+    let mut outputs = Vec::new(alloc);
+    outputs.push(Output::new(alloc, words.to, cert)?)?;
+    Ok(Ready {
+        outputs,
+        report: Report::new(alloc, report)?,
+    })
+}

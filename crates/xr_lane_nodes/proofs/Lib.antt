@@ -1,0 +1,10 @@
+-- Lemmas on nodes and literals.
+pub mod ArgumentRoots
+pub mod LiteralBits
+pub mod LiteralSources
+pub mod NearPlaces
+pub mod NodeLists
+pub mod SpanLists
+pub mod TableLanes
+pub mod Unions
+pub mod WorkedLanes

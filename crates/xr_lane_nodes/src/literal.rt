@@ -1,0 +1,131 @@
+//! Literals: a node, as it is or inverted, as in and-inverter graphs. Each place that is covered has one.
+
+ghost use Rattle.std.specs.Prelude.{◌≡◌, ◌<◌, ◌≤◌, ◌+◌, ◌^◌, None, Some, IfOk, MatchOption, drop, length};
+ghost use Rattle.xr_model.specs.Class.{flipped};
+ghost use Rattle.xr_cone_nodes.specs.Lanes.{HasLanes};
+ghost use Rattle.xr_lane_nodes.specs.Covered.{IsCovered, covered_bit, covered_literal, covered_sources};
+ghost use Rattle.xr_lane_nodes.specs.Literal.{constant, literal_of, turned};
+
+use crate::nodes::Nodes;
+use std::alloc::Global;
+use std::marker::Model;
+use xr_base::Memory;
+use xr_cone_nodes::LaneBits;
+
+/// A node by number, as it is or inverted, in 4 bytes: twice the number, and 1 more where it is inverted.
+#[derive(Clone, Copy, Debug)]
+pub struct Literal {
+    code: u32,
+}
+
+impl Model for Literal {
+    ghost use Rattle.xr_lane_nodes.specs.Literal.{LiteralView, packed, unpacked};
+    ghost use Rattle.xr_rests.proofs.NumberBits.{half_back};
+
+    ghost Value = { LiteralView };
+
+    ghost view = { λ literal. unpacked literal.code };
+
+    ghost inverse = { λ literal. record { code = packed literal } };
+
+    ghost inverse_ok = { λ literal h i. record { code = half_back literal.code i } };
+}
+
+impl Literal {
+    /// The literal of a node. Takes no memory.
+    pub fn new(node: usize, inverted: bool) -> Literal
+        requires { node < 2 ^ 31 }
+        ensures { result ≡ literal_of node inverted }
+    {
+        let last = if inverted { 1 } else { 0 };
+        Literal {
+            code: 2 * node as u32 + last,
+        }
+    }
+
+    /// Its node. Takes no memory.
+    pub fn node(self) -> usize
+        ensures node { result ≡ self.node }
+        ensures few { result < 2 ^ 31 }
+    {
+        self.code as usize / 2
+    }
+
+    /// Whether it is inverted. Takes no memory.
+    pub fn is_inverted(self) -> bool
+        ensures { result ≡ self.inverted }
+    {
+        self.code % 2 == 1
+    }
+
+    /// The literal, or its complement. Takes no memory.
+    pub fn turned(self, inverted: bool) -> Literal
+        ensures { result ≡ turned inverted self }
+    {
+        Literal::new(self.node(), flipped(inverted, self.is_inverted()))
+    }
+}
+
+fn flipped(inverted: bool, bit: bool) -> bool
+    ensures { result ≡ flipped inverted bit }
+{
+    if inverted { !bit } else { bit }
+}
+
+/// Literals without the first ones. Takes 4 bytes for each of the others.
+pub fn without_first(
+    alloc: Global,
+    literals: &[Literal],
+    count: usize,
+) -> Result<Vec<Literal>, Memory>
+    requires { count ≤ length literals.now }
+    ensures { IfOk result (λ rest. rest.items ≡ drop count literals.now) }
+{
+    let rest = literals[count..].to_vec(alloc)?;
+    Ok(rest)
+}
+
+/// The literal of a bit. Takes no memory.
+pub fn constant(bit: bool) -> Literal
+    ensures { result ≡ constant bit }
+{
+    Literal::new(0, bit)
+}
+
+/// Places that have literals: the last ones, from a first one on, over some nodes.
+#[derive(Clone, Copy, Debug)]
+pub struct Covered<'t> {
+    pub nodes: &'t Nodes,
+    pub first: usize,
+    pub literals: &'t [Literal],
+}
+
+/// The literal of a place. Takes no memory.
+pub fn literal_at(covered: Covered<'_>, place: usize) -> Literal
+    requires { IsCovered covered place }
+    ensures { result ≡ covered_literal covered.entry place }
+{
+    covered.literals[place - covered.first]
+}
+
+/// The bits of a place in the lanes.
+pub fn lanes_at(covered: Covered<'_>, place: usize) -> LaneBits
+    requires { IsCovered covered place }
+    ensures { HasLanes result (λ lane. covered_bit covered.entry lane place) }
+{
+    let literal = literal_at(covered, place);
+    covered
+        .nodes
+        .lane_bits(literal.node())
+        .turned(literal.is_inverted())
+}
+
+/// The sources of a place, where they are kept.
+pub fn sources_at<'t>(covered: Covered<'t>, place: usize) -> Option<&'t [u32]>
+    requires { IsCovered covered place }
+    ensures { let kept = covered_sources covered.entry place in
+        MatchOption result (kept ≡ None) (λ list. kept ≡ Some list.now) }
+{
+    let literal = literal_at(covered, place);
+    covered.nodes.sources(literal.node())
+}

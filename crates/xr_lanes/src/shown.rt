@@ -1,0 +1,97 @@
+//! What is shown of the next place without its cone.
+
+ghost use Rattle.std.specs.Prelude.{◌<◌, IfOk, IfSome, length};
+ghost use Rattle.xr_lane_nodes.specs.Made.{AreSourcesIn};
+ghost use Rattle.xr_lanes.specs.Shown.{GivesNext, HasNextBits, HasNextCone, IsShownNext};
+ghost use Rattle.xr_wave.specs.Contents.{next_number};
+ghost use Rattle.xr_wave.specs.Token.{HasNext};
+
+use crate::lanes::certain_value;
+use std::alloc::Global;
+use xr_base::Memory;
+use xr_cell::Value;
+use xr_wave::{How, Pair, Settled, Wave};
+
+/// Up to this many sources, all fillings of them are an enumeration.
+const ENUMERATED: usize = 12;
+
+/// What is shown of the next place. It must be spent.
+#[must_use]
+#[derive(Debug)]
+pub enum Shown {
+    /// Two fillings give it 0 and 1.
+    Pair(Pair),
+    /// Every filling of its sources, at most 12 of them, gives it one bit.
+    Settled(Settled),
+    /// Neither, but the cone of a written place, by its number, has the same bodies as its own.
+    Earlier(usize),
+    /// Nothing.
+    Nothing,
+}
+
+/// Every filling gives the next place a bit, which is an enumeration where it has few sources.
+pub fn settled_if_few(wave: &Wave<'_>, sources: &[u32], bit: bool) -> Shown
+    requires next { HasNext wave.now }
+    requires sources { AreSourcesIn wave.now (next_number wave.now) sources.now }
+    requires every { GivesNext wave.now bit }
+    ensures { IsShownNext wave.now result }
+{
+    if sources.len() > ENUMERATED {
+        return Shown::Nothing;
+    }
+    Shown::Settled(Settled::from_law(wave, How::Enumerated(bit)))
+}
+
+/// What a written place shows of the next one, which has the bit of that place in every world and a cone of the same
+/// bodies: its two fillings, or its bit, where the sources are kept and few, or else that place.
+pub fn shown_as(
+    alloc: Global,
+    wave: &Wave<'_>,
+    place: usize,
+    sources: Option<&[u32]>,
+) -> Result<Shown, Memory>
+    requires next { HasNext wave.now }
+    requires written { place < length wave.now.written }
+    requires bits { HasNextBits wave.now place }
+    requires cone { HasNextCone wave.now place }
+    requires sources { IfSome sources (λ list. AreSourcesIn wave.now (next_number wave.now) list.now) }
+    ensures { IfOk result (IsShownNext wave.now) }
+{
+    let _circuit = wave.circuit();
+    match certain_value(wave, place) {
+        Value::Zero => Ok(settled_as(wave, place, sources, false)),
+        Value::One => Ok(settled_as(wave, place, sources, true)),
+        Value::X => pair_as(alloc, wave, place),
+        Value::Z => pair_as(alloc, wave, place),
+    }
+}
+
+/// The bit of the written place, if it is certain.
+fn settled_as(wave: &Wave<'_>, place: usize, sources: Option<&[u32]>, bit: bool) -> Shown
+    requires next { HasNext wave.now }
+    requires cone { HasNextCone wave.now place }
+    requires sources { IfSome sources (λ list. AreSourcesIn wave.now (next_number wave.now) list.now) }
+    requires every { GivesNext wave.now bit }
+    ensures { IsShownNext wave.now result }
+{
+    match sources {
+        Some(list) if list.len() <= ENUMERATED => settled_if_few(wave, list, bit),
+        Some(_) => Shown::Earlier(place),
+        None => Shown::Earlier(place),
+    }
+}
+
+/// The fillings that the written place has, if it is unknown.
+fn pair_as(alloc: Global, wave: &Wave<'_>, place: usize) -> Result<Shown, Memory>
+    requires next { HasNext wave.now }
+    requires written { place < length wave.now.written }
+    requires bits { HasNextBits wave.now place }
+    requires cone { HasNextCone wave.now place }
+    ensures { IfOk result (IsShownNext wave.now) }
+{
+    let circuit = wave.circuit();
+    match wave.pair_of(alloc, circuit.place_of(place))? {
+        Some((zero, one)) => Ok(Shown::Pair(Pair::from_law(wave, zero, one))),
+        None => Ok(Shown::Earlier(place)),
+    }
+}

@@ -1,0 +1,14 @@
+pub mod Once
+pub mod Rows
+pub mod Rules
+pub mod Steps
+pub mod Through
+pub mod Passing
+pub mod Whole
+pub mod Views
+pub mod Numbers
+pub mod Pieces
+pub mod Files
+pub mod Settling
+pub mod Apart
+pub mod Alike

@@ -1,0 +1,21 @@
+-- The laws of turns that are stated.
+use Rattle.std.specs.Prelude.{◌≡◌, ℕ, ◌+◌, List, length}
+use Rattle.xr_design.specs.declared.place.Place.{Place}
+use Rattle.xr_cond.specs.View.{ConditionView, IsConditionOf}
+use Rattle.xr_cone.specs.Known.{IsGrown}
+use Rattle.xr_wave.specs.Contents.{Contents, IsWave, job}
+use Rattle.xr_turns.specs.Conditions.{AreConditionsOf}
+use Rattle.xr_turns.specs.TurnLines.{AreTurnLinesIn, turn_lines, turn_places}
+
+-- A condition keeps the first turns of its place, and as many are due as its place has beyond these.
+pub record StatesTurns (c : Contents) (root : ℕ) (view : ConditionView) : Type 0 where
+  pub are : AreTurnLinesIn c root (turn_lines view)
+  pub count : length (turn_lines view) + view.due ≡ length (turn_places (job c) c.written root)
+
+abbrev pub StatedLaw : Type 0
+StatedLaw = (c : Contents) (root : ℕ) (view : ConditionView) → IsConditionOf c root view → StatesTurns c root view
+
+-- Conditions of places of a wave stay theirs, whatever is written next.
+abbrev pub StayLaw : Type 0
+StayLaw = (c d : Contents) (places : List Place) (views : List ConditionView) → IsGrown c d
+    → d.limit ≡ c.limit → IsWave d → AreConditionsOf c places views → AreConditionsOf d places views
