@@ -3,7 +3,7 @@ use Rattle.std.proofs.Common.{◌≡◌, ◌∙◌, ℕ, ◌≤◌, List, [], �
 use Rattle.xr_shelf.specs.Shelf.{Files, View}
 use Rattle.xr_shelf.specs.Sink.{SinkView}
 use Rattle.xr_run.specs.Ends.{Comes, LineMade, LinePrinted, RanWords}
-use Rattle.xr_run.specs.Lines.{line}
+use Rattle.xr_base.specs.Text.{line}
 use Rattle.xr_phases.specs.Cause.{status_of, text_of}
 use Rattle.xr_run.specs.Phases.{Answer, ComesTo, IsRead, PassesAll, text_held}
 use Rattle.xr_run.specs.Rows.{Start}

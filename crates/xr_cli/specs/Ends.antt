@@ -3,7 +3,7 @@ use Rattle.std.specs.Prelude.{◌≡◌, ◌⊎◌, ℕ, [], ◌∷◌, IsTrue}
 use Rattle.xr_shelf.specs.Shelf.{Files, View}
 use Rattle.xr_shelf.specs.Sink.{SinkView}
 use Rattle.xr_run.specs.Ends.{LinePrinted, NoFault}
-use Rattle.xr_run.specs.Lines.{line}
+use Rattle.xr_base.specs.Text.{line}
 use Rattle.xr_run.specs.Phases.{text_held}
 use Rattle.xr_run.specs.Rows.{DoneRow, Start, TextRow}
 use Rattle.xr_words.specs.Words.{OfFix, OfUpgrade}

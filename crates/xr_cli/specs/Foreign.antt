@@ -1,7 +1,7 @@
 -- What is written of a wave for other solvers, and what is said of a proof that comes from one.
 use Rattle.std.specs.Prelude.{ℕ, List, [], ◌++◌, Result, Ok, Err, codes, decimal}
 use Rattle.xr_export.specs.Export.{Exports}
-use Rattle.xr_run.specs.Lines.{line}
+use Rattle.xr_base.specs.Text.{line}
 use Rattle.xr_run.specs.Phases.{Answer}
 use Rattle.xr_wave.specs.Contents.{Contents}
 use Rattle.xr_words.specs.Words.{ExportValues, RepairValues}

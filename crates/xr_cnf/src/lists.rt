@@ -5,6 +5,7 @@ ghost use Rattle.std.specs.List.{All};
 ghost use Rattle.xr_proof.specs.Assignment.{HasNoZero};
 ghost use Rattle.xr_cnf.specs.Growth.{AreOnce};
 
+use crate::clause::Literals;
 use std::alloc::Global;
 use std::marker::Model;
 use xr_base::Memory;
@@ -13,7 +14,7 @@ use xr_proof::Clause;
 /// Lists of literals.
 #[derive(Debug, Drop)]
 pub struct Lists {
-    lists: Vec<Vec<i32>>,
+    lists: Vec<Literals>,
 }
 
 impl Model for Lists {
@@ -35,7 +36,7 @@ impl Lists {
     }
 
     /// Appends a list.
-    pub fn push(&mut self, list: Vec<i32>) -> Result<(), Memory>
+    pub fn push(&mut self, list: Literals) -> Result<(), Memory>
         ensures { OnOk result (self.new ≡ self.old ++ list.items ∷ []) }
     {
         self.lists.push(list)?;
@@ -54,7 +55,7 @@ impl Lists {
 }
 
 /// The lists in the order of their literals, each once.
-fn once(mut lists: Vec<Vec<i32>>) -> Result<Vec<Vec<i32>>, Memory>
+fn once(mut lists: Vec<Literals>) -> Result<Vec<Literals>, Memory>
     ensures { IfOk result (λ found. AreOnce (map (λ v. v.items) lists.items) (map (λ v. v.items) found.items)) }
 {
     lists.sort()?;
@@ -62,13 +63,14 @@ fn once(mut lists: Vec<Vec<i32>>) -> Result<Vec<Vec<i32>>, Memory>
     Ok(lists)
 }
 
-fn clauses_of(alloc: Global, lists: Vec<Vec<i32>>) -> Result<Vec<Clause>, Memory>
+fn clauses_of(alloc: Global, lists: Vec<Literals>) -> Result<Vec<Clause>, Memory>
     requires { All HasNoZero (map (λ v. v.items) lists.items) }
     ensures { IfOk result (λ clauses. clauses.items ≡ map (λ v. v.items) lists.items) }
 {
     let mut clauses = Vec::with_capacity(alloc, lists.len())?;
     'lists: for list in lists {
-        clauses.push(Clause::from_vec(list))?;
+        let literals = list.into_vec()?;
+        clauses.push(Clause::from_vec(literals))?;
     }
     Ok(clauses)
 }

@@ -11,13 +11,14 @@ ghost use Rattle.xr_cnf.specs.Query.{IsQueryOfNodes};
 use crate::lists::Lists;
 use crate::literals::{literals_of, turned, variables_of};
 use crate::tables::{Table, add_table};
+use smallvec::SmallVec;
 use std::alloc::Global;
 use xr_base::{Items, Memory};
 use xr_cone_nodes::{Cone, Node, NodeBody};
 use xr_proof::{Clause, Cnf};
 
 /// The query of a cone: the clauses of all minimal choices of its tables, and the denial of its base, each once. Takes
-/// four bytes a node, and for each clause about 50 and four a literal, in steps that double.
+/// four bytes a node, and for each clause about 65 and four a literal, in steps that double.
 pub fn clauses(alloc: Global, cone: &Cone) -> Result<Cnf, Memory>
     ensures query { IfOk result (λ cnf. IsQueryOfNodes cone.now.nodes cnf) }
     ensures few { IfOk result (λ cnf. cnf.vars ≤ 2 ^ 27) }
@@ -111,7 +112,7 @@ fn add_denial(alloc: Global, lists: &mut Lists, literals: &[i32], base: bool) ->
     requires fit { All (IsLiteral (2 ^ 27)) literals.now }
     ensures { OnOk result (lists.new ≡ lists.old ++ denial_of literals.now base ∷ []) }
 {
-    let mut list = Vec::with_capacity(alloc, 1)?;
+    let mut list = SmallVec::new(alloc);
     list.push(turned(literals[literals.len() - 1], !base))?;
     lists.push(list)
 }

@@ -6,9 +6,10 @@ ghost use Rattle.xr_cone_choices.specs.Choices.{IsAmong};
 ghost use Rattle.xr_cnf.specs.Clauses.{IsTableClause, node_says};
 ghost use Rattle.xr_cnf.specs.Growth.{IsBitClause, IsChoiceClause, IsGrown, IsTableOf, clause_literals, denied_at};
 
-use crate::clause::merged;
+use crate::clause::{Literals, merged};
 use crate::lists::Lists;
 use crate::literals::turned;
+use smallvec::SmallVec;
 use std::alloc::Global;
 use xr_base::Memory;
 use xr_cell::Value;
@@ -65,7 +66,7 @@ fn add_choice(
         lists.old lists.new) }
 {
     let wanted = literals_of(alloc, table, bit, choice)?;
-    match merged(alloc, &wanted)? {
+    match merged(alloc, wanted.as_slice())? {
         Some(list) => lists.push(list),
         None => Ok(()),
     }
@@ -77,7 +78,7 @@ fn literals_of(
     table: &Table<'_>,
     bit: bool,
     choice: Choice,
-) -> Result<Vec<i32>, Memory>
+) -> Result<Literals, Memory>
     requires { IsTableOf table.now.literals.now table.now.arguments.now table.now.values.now table.now.position }
     ensures { IfOk result (λ wanted.
         wanted.items
@@ -85,7 +86,7 @@ fn literals_of(
         (length table.now.arguments.now) choice bit) }
 {
     let count = table.arguments.len();
-    let mut wanted = Vec::with_capacity(alloc, count + 1)?;
+    let mut wanted = SmallVec::with_capacity(alloc, count + 1)?;
     'arguments: for argument in 0..count {
         add_denied(&mut wanted, table, choice, argument)?;
     }
@@ -95,7 +96,7 @@ fn literals_of(
 
 /// Adds the literal that denies the bit of an argument, if that is chosen.
 fn add_denied(
-    wanted: &mut Vec<i32>,
+    wanted: &mut Literals,
     table: &Table<'_>,
     choice: Choice,
     argument: usize,

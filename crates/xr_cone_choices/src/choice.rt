@@ -2,12 +2,17 @@
 
 ghost use Rattle.std.specs.Prelude.{◌≡◌, ◌<◌};
 
+use smallvec::SmallVec;
+
 /// Bits for some arguments: bit k of `care` says whether argument k is chosen, bit k of `bits` is its bit.
-#[derive(Clone, Copy, Debug, PartialEq, Eq)]
+#[derive(Clone, Copy, Debug, Default, PartialEq, Eq)]
 pub struct Choice {
     pub care: u16,
     pub bits: u16,
 }
+
+/// Choices in order, up to eight of them in the place itself.
+pub(crate) type Choices = SmallVec<Choice, 8>;
 
 impl Choice {
     ghost use Rattle.xr_cone_choices.specs.Choices.{IsAmong, bits_in, chosen_in};

@@ -5,9 +5,10 @@ ghost use Rattle.std.specs.List.{Contains};
 ghost use Rattle.xr_cell.specs.Value.{bit_value};
 ghost use Rattle.xr_cone_choices.specs.Choices.{AreChoices, AreMinimalChoices, HasTable, IsTable, nothing_chosen};
 
-use crate::choice::Choice;
+use crate::choice::{Choice, Choices};
 use crate::halves::{both_of, split_last};
 use crate::joined::add_alone;
+use smallvec::SmallVec;
 use std::alloc::Global;
 use xr_base::Memory;
 use xr_cell::Value;
@@ -19,7 +20,9 @@ pub fn minimal_choices(alloc: Global, values: &[Value], bit: bool) -> Result<Vec
     requires { HasTable values.now }
     ensures { IfOk result (λ choices. AreMinimalChoices values.now bit choices.items) }
 {
-    choices_of(alloc, values, count_of(values), bit)
+    let choices = choices_of(alloc, values, count_of(values), bit)?;
+    let list = choices.into_vec()?;
+    Ok(list)
 }
 
 /// How many arguments a table has.
@@ -36,17 +39,12 @@ fn count_of(values: &[Value]) -> usize
 }
 
 /// The choices that force the bit in both halves, and behind them those of each half alone.
-fn choices_of(
-    alloc: Global,
-    values: &[Value],
-    count: usize,
-    bit: bool,
-) -> Result<Vec<Choice>, Memory>
+fn choices_of(alloc: Global, values: &[Value], count: usize, bit: bool) -> Result<Choices, Memory>
     requires { IsTable count values.now }
     ensures { IfOk result (λ choices. AreChoices values.now count bit choices.items) }
 {
     if !has_bit(values, bit) {
-        return Ok(Vec::new(alloc));
+        return Ok(SmallVec::new(alloc));
     }
     if count == 0 {
         return of_nothing(alloc);
@@ -56,17 +54,17 @@ fn choices_of(
     let both = both_of(alloc, low, high, bit)?;
     let mut choices = choices_of(alloc, &both, last, bit)?;
     let zeros = choices_of(alloc, low, last, bit)?;
-    add_alone(&mut choices, &zeros, high, last, bit, false)?;
+    add_alone(&mut choices, zeros.as_slice(), high, last, bit, false)?;
     let ones = choices_of(alloc, high, last, bit)?;
-    add_alone(&mut choices, &ones, low, last, bit, true)?;
+    add_alone(&mut choices, ones.as_slice(), low, last, bit, true)?;
     Ok(choices)
 }
 
 /// The one choice of no arguments.
-fn of_nothing(alloc: Global) -> Result<Vec<Choice>, Memory>
+fn of_nothing(alloc: Global) -> Result<Choices, Memory>
     ensures { IfOk result (λ choices. choices.items ≡ nothing_chosen ∷ []) }
 {
-    let mut choices = Vec::new(alloc);
+    let mut choices = SmallVec::new(alloc);
     choices.push(Choice { care: 0, bits: 0 })?;
     Ok(choices)
 }

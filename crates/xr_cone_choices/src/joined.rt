@@ -5,14 +5,14 @@ ghost use Rattle.std.specs.List.{All};
 ghost use Rattle.xr_cone_choices.specs.Choices.{IsAmong};
 ghost use Rattle.xr_cone_choices.specs.Halves.{AreAdded};
 
-use crate::choice::Choice;
+use crate::choice::{Choice, Choices};
 use crate::halves::forces;
 use xr_base::Memory;
 use xr_cell::Value;
 
 /// Adds those choices of a half that don't force the bit in the other half, each with a bit for the last argument.
 pub fn add_alone(
-    choices: &mut Vec<Choice>,
+    choices: &mut Choices,
     found: &[Choice],
     other: &[Value],
     count: usize,

@@ -1,5 +1,4 @@
 -- Definitions of the nodes of cones.
-pub mod Kept
 pub mod Lanes
 pub mod Listed
 pub mod Nodes

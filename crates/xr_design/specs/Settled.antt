@@ -7,9 +7,12 @@ use Rattle.xr_design.specs.Replay.{shown_at, kept_at}
 use Rattle.xr_design.specs.declared.design.Driver.{Driver}
 use Rattle.xr_design.specs.declared.design.Driver.TheVariants.{Input, Undriven, Constant, Copy, Cell, Register}
 
--- the last step of a moment
+-- the last step of a moment, of so many rounds each
+abbrev pub last_round : ℕ → ℕ → ℕ
+last_round rounds moment = moment * rounds + rounds - 1
+
 abbrev pub last_step : Job → ℕ → ℕ
-last_step j moment = moment * j.rounds + j.rounds - 1
+last_step j moment = last_round j.rounds moment
 
 -- A driver is settled at a step where the update after it gives what is kept there. Only a register is ever updated.
 abbrev pub IsSettledAt : Job → ℕ → ℕ → Driver → Type 0

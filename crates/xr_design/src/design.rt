@@ -8,13 +8,14 @@ use xr_base::{Items, Memory};
 use xr_cell::{Gate, Udp, Value, gate_value};
 
 /// What stands at an input of a cell.
-#[derive(Clone, Copy, Debug, PartialEq, Eq)]
+#[derive(Clone, Copy, Debug, Default, PartialEq, Eq)]
 pub enum Pin {
     /// The net of that number.
     Net(u32),
     /// A constant bit.
     Bit(bool),
     /// Nothing that ever has a value: it reads x.
+    #[default]
     Dead,
 }
 

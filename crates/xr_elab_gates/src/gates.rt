@@ -88,7 +88,7 @@ fn connect_gate<'t>(
 {
     let outputs = output_nets(alloc, scope, nets, outputs)?;
     let pins = input_pins(alloc, scope, nets, inputs)?;
-    set_each(alloc, nets, &outputs, gate, &pins)?;
+    set_each(alloc, nets, &outputs, gate, pins.as_slice())?;
     Ok(())
 }
 

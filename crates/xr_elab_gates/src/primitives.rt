@@ -7,7 +7,8 @@ ghost use Rattle.xr_elab_nets.specs.Outcome.{Gives};
 ghost use Rattle.xr_elab_names.specs.Here.{here_of};
 ghost use Rattle.xr_elab_gates.specs.Primitives as spec;
 
-use crate::terminals::{input_pin, output_net};
+use crate::terminals::{PinList, input_pin, output_net};
+use smallvec::SmallVec;
 use std::alloc::Global;
 use xr_base::Items;
 use xr_cell::Udp;
@@ -48,7 +49,7 @@ pub fn add_udp<'t>(
         return Err(ElabErr::PortMismatch { at });
     }
     let (net, pins) = connect_terminals(alloc, scope, nets, at, connections)?;
-    nets.set(net, udp_driver(clocks, number, udp, at, pins)?);
+    nets.set(net, udp_driver(clocks, number, udp, at, pins.into_vec()?)?);
     Ok(())
 }
 
@@ -67,7 +68,7 @@ fn connect_terminals<'t>(
     nets: &mut Nets,
     at: usize,
     connections: &'t [Connection],
-) -> Result<(u32, Vec<Pin>), ElabErr>
+) -> Result<(u32, PinList), ElabErr>
     ensures terminals { let here = here_of scope.old nets.old in
         Gives (spec.connected_terminals at connections.now here) result
         (λ t. ((t.0, t.1.items), here_of scope.new nets.new)) }
@@ -88,12 +89,12 @@ fn connect_pins<'t>(
     nets: &mut Nets,
     at: usize,
     inputs: &'t [Connection],
-) -> Result<Vec<Pin>, ElabErr>
+) -> Result<PinList, ElabErr>
     ensures pins { let here = here_of scope.old nets.old in
         Gives (spec.connected_pins at [] inputs.now here) result (λ pins. (pins.items, here_of scope.new nets.new)) }
     ensures count { IfOk result (λ pins. length pins.items ≡ length inputs.now) }
 {
-    let mut pins = Vec::new(alloc);
+    let mut pins = SmallVec::new(alloc);
     'inputs: for input in inputs {
         pins.push(input_pin(alloc, scope, nets, terminal_of(input, at)?)?)?;
     }

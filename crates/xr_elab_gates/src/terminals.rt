@@ -5,12 +5,16 @@ ghost use Rattle.xr_elab_nets.specs.Outcome.{Gives};
 ghost use Rattle.xr_elab_names.specs.Here.{here_of};
 ghost use Rattle.xr_elab_gates.specs.Terminals as spec;
 
+use smallvec::SmallVec;
 use std::alloc::Global;
 use xr_design::{Driver, Pin};
 use xr_elab_bits::{Lane, Role, bits_of};
 use xr_elab_names::Scope;
 use xr_elab_nets::{ElabErr, Nets};
 use xr_netlist_grammar::Expr;
+
+/// Pins while they are collected, up to three in the place itself.
+pub type PinList = SmallVec<Pin, 3>;
 
 /// The nets that output terminals are, which are taken from now on.
 pub fn output_nets<'t>(
@@ -63,11 +67,11 @@ pub fn input_pins<'t>(
     scope: &mut Scope<'t>,
     nets: &mut Nets,
     inputs: &'t [Expr],
-) -> Result<Vec<Pin>, ElabErr>
+) -> Result<PinList, ElabErr>
     ensures { let here = here_of scope.old nets.old in
         Gives (spec.input_pins [] inputs.now here) result (λ pins. (pins.items, here_of scope.new nets.new)) }
 {
-    let mut pins = Vec::new(alloc);
+    let mut pins = SmallVec::new(alloc);
     'inputs: for input in inputs {
         pins.push(input_pin(alloc, scope, nets, input)?)?;
     }

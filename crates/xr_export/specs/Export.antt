@@ -10,7 +10,7 @@ use Rattle.xr_model.specs.declared.line.Body.{Body}
 use Rattle.xr_model.specs.declared.line.Body.TheVariants.{Enumerated, Refuted, Pair, Undecided}
 use Rattle.xr_model.specs.declared.line.Line.{Line as ALine}
 use Rattle.xr_proof.specs.declared.clause.Cnf.{Cnf}
-use Rattle.xr_run.specs.Lines.{line}
+use Rattle.xr_base.specs.Text.{line}
 use Rattle.xr_run.specs.Outputs.{File}
 use Rattle.xr_run.specs.Phases.{Answer}
 use Rattle.xr_wave.specs.Contents.{Contents, job}

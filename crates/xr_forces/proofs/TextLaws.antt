@@ -17,7 +17,7 @@ use Rattle.xr_design.proofs.Rules.{position_in}
 use Rattle.xr_match.specs.Binding.{FitsBinding}
 use Rattle.xr_match.specs.declared.binding.Binding.{Binding}
 use Rattle.xr_out.specs.Laws.{ShowTheSame}
-use Rattle.xr_out.specs.Moments.{last_step}
+use Rattle.xr_design.specs.Settled.{last_round}
 use Rattle.xr_out.specs.Text.{vcd_text}
 use Rattle.xr_out.proofs.OneText.{text_same}
 use Rattle.xr_replay.proofs.Places.{place_at_net}
@@ -37,7 +37,7 @@ last_same design order stim first second fits same moment net less low =
     j = job_of design order stim
 
     step : ℕ
-    step = last_step stim.rounds moment
+    step = last_round stim.rounds moment
 
     within : step < j.moments * j.rounds
     within =

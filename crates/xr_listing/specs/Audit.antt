@@ -12,7 +12,7 @@ use Rattle.xr_design.specs.History.{HistoryView}
 use Rattle.xr_design.specs.Job.{places_of}
 use Rattle.xr_design.specs.declared.place.Place.{Place}
 use Rattle.xr_report.specs.Counts.{counts_of}
-use Rattle.xr_report.specs.Lines.{line}
+use Rattle.xr_base.specs.Text.{line}
 use Rattle.xr_wave.specs.Contents.{Contents, job}
 use Rattle.xr_listing.specs.Places.{listed_text, timed_text}
 

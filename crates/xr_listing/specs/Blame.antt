@@ -7,7 +7,7 @@ use Rattle.xr_blame.specs.declared.bits.Blamed.{Blamed}
 use Rattle.xr_design.specs.Filling.{IsPlace}
 use Rattle.xr_match.specs.declared.binding.Bound.{Bound}
 use Rattle.xr_report.specs.Counts.{counts_of}
-use Rattle.xr_report.specs.Lines.{line}
+use Rattle.xr_base.specs.Text.{line}
 use Rattle.xr_wave.specs.Contents.{Contents, job}
 use Rattle.xr_listing.specs.Places.{bit_text, listed_text, place_text}
 

@@ -6,7 +6,7 @@ use Rattle.xr_cond.specs.View.{ConditionView, IsConditionOf}
 use Rattle.xr_design.specs.Job.{number_of}
 use Rattle.xr_design.specs.Waveform.{certain}
 use Rattle.xr_design.specs.declared.place.Place.{Place}
-use Rattle.xr_report.specs.Lines.{line}
+use Rattle.xr_base.specs.Text.{line}
 use Rattle.xr_wave.specs.Contents.{Contents, job}
 use Rattle.xr_listing.specs.Places.{timed_text}
 

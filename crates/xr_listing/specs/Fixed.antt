@@ -7,7 +7,7 @@ use Rattle.xr_fix.specs.Gained.{gained_items, lost_items}
 use Rattle.xr_fix.specs.declared.items.Item.{Item}
 use Rattle.xr_match.specs.declared.binding.Binding.{Binding}
 use Rattle.xr_report.specs.Counts.{counts_of}
-use Rattle.xr_report.specs.Lines.{line}
+use Rattle.xr_base.specs.Text.{line}
 use Rattle.xr_wave.specs.Contents.{Contents, job}
 use Rattle.xr_listing.specs.Places.{bit_text}
 

@@ -19,7 +19,7 @@ use Rattle.xr_design.proofs.Rules.{position_in}
 use Rattle.xr_match.specs.StimOf.{IsRow}
 use Rattle.xr_match.specs.declared.binding.Binding.{Binding}
 use Rattle.xr_out.specs.Laws.{ShowTheSame}
-use Rattle.xr_out.specs.Moments.{last_step}
+use Rattle.xr_design.specs.Settled.{last_round}
 use Rattle.xr_out.specs.Text.{vcd_text}
 use Rattle.xr_out.proofs.OneText.{text_same}
 use Rattle.xr_replay.proofs.Places.{held_at_net}
@@ -76,7 +76,7 @@ show_same : (design : Design) (order : List ℕ) (stim : Stim) (h i : HistoryVie
     → IsReplay (job_of design order stim) h → IsReplay (job_of design order stim) i → ShowTheSame design stim h i
 show_same design order stim h i fits first second = λ moment net moment_within net_within.
     let j = job_of design order stim in
-    let step = last_step stim.rounds moment in
+    let step = last_round stim.rounds moment in
     let some = fits.some_round in
     let more : (moment + 1) * stim.rounds ≤ length stim.times * stim.rounds = mul-le-mul_right stim.rounds (omega arith) in
     let step_within : step < length stim.times * stim.rounds = omega (arith, some, more) in

@@ -1,6 +1,6 @@
 -- The text of a made netlist, drawn from a number.
 use Rattle.std.specs.Prelude.{ℕ, zero, suc, ◌++◌, List, [], ◌∷◌, codes, decimal, slice_index_or}
-use Rattle.xr_out.specs.Lines.{line}
+use Rattle.xr_base.specs.Text.{line}
 use Rattle.xr_make.specs.Draw.{after_draw, after_draws, draw}
 use Rattle.xr_make.specs.Pool.{drawn_member, gate_name, output_name, pool_of}
 

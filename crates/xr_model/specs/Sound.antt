@@ -7,7 +7,7 @@ use Rattle.xr_design.specs.declared.waveform.Written.{Written}
 use Rattle.xr_design.specs.declared.waveform.Mark.{Mark}
 use Rattle.xr_design.specs.declared.waveform.Mark.TheVariants.{Certain, Unknown, Undecided}
 use Rattle.xr_design.specs.Job.{Job, places_of}
-use Rattle.xr_design.specs.Waveform.{written_at, certain, Settles, Shows}
+use Rattle.xr_design.specs.Waveform.{written_at, certain, MarkHolds, Shows}
 use Rattle.xr_model.specs.Class.{class_of}
 use Rattle.xr_model.specs.Root.{root_of}
 use Rattle.xr_model.specs.Stated.{stated, body_at}
@@ -37,16 +37,11 @@ pub record HasLicence (j : Job) (limit : ℕ) (waveform : List Written) (lines :
   pub line : body_at j lines (root_of j (certain waveform) place).place ≡ Some (Budget log)
   pub holds : IsLicence j limit waveform (root_of j (certain waveform) place).place log
 
--- A certain place is 0 or 1 and every filling gives it; an unknown place has its two stated fillings; an undecided
--- one has its licence.
+-- A place is sound where its two stated fillings give both bits if it is unknown, and it has its licence if it is undecided.
 abbrev pub SoundBy : Job → ℕ → List Written → List ALine → ℕ → Mark → Value → Type 0
-SoundBy j limit waveform lines place Certain Zero = Settles j waveform place false
-SoundBy j limit waveform lines place Certain One = Settles j waveform place true
-SoundBy j limit waveform lines place Certain X = ⊥
-SoundBy j limit waveform lines place Certain Z = ⊥
-SoundBy j limit waveform lines place Unknown value =
-    GivesBoth j waveform place (stated j (certain waveform) lines place)
-SoundBy j limit waveform lines place Undecided value = HasLicence j limit waveform lines place
+SoundBy j limit waveform lines place mark value =
+    MarkHolds j waveform place (GivesBoth j waveform place (stated j (certain waveform) lines place))
+    (HasLicence j limit waveform lines place) mark value
 
 -- A waveform with its lines is sound for what a history shows: each place follows its class, is exact or has its
 -- licence, and shows what the history knows.

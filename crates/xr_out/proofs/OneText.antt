@@ -8,7 +8,8 @@ use Rattle.xr_match.specs.Binding.{FitsBinding, FitsBound}
 use Rattle.xr_match.specs.declared.binding.Binding.{Binding}
 use Rattle.xr_match.specs.declared.binding.Bound.{Bound}
 use Rattle.xr_out.specs.Laws.{ShowTheSame}
-use Rattle.xr_out.specs.Moments.{are_same, change_line, changed_lines, last_step, letter_at, letters, lines_from, moment_lines, value_line, value_lines}
+use Rattle.xr_design.specs.Settled.{last_round}
+use Rattle.xr_out.specs.Moments.{are_same, change_line, changed_lines, letter_at, letters, lines_from, moment_lines, value_line, value_lines}
 use Rattle.xr_out.specs.Text.{vcd_text}
 
 -- Two histories have the same letters at a step for the nets below a number.
@@ -51,12 +52,12 @@ module _ (first second : HistoryView) (design : Design) where
 
   -- They have the same letters at the last round of each of so many moments.
   abbrev SameMoments : ℕ → ℕ → Type 0
-  SameMoments rounds moments = (moment : ℕ) → moment < moments → SameLetters first second (length design.nets) (last_step rounds moment)
+  SameMoments rounds moments = (moment : ℕ) → moment < moments → SameLetters first second (length design.nets) (last_round rounds moment)
 
   moment_same : (rounds moments : ℕ) (bound : List Bound) → SameMoments rounds moments → All (FitsBound design) bound → (moment time : ℕ) → moment < moments → moment_lines first rounds bound moment time ≡ moment_lines second rounds bound moment time
-  moment_same rounds moments bound same fit zero time less = rw (values_same (last_step rounds 0) 0 bound (same 0 less) fit) refl
+  moment_same rounds moments bound same fit zero time less = rw (values_same (last_round rounds 0) 0 bound (same 0 less) fit) refl
   moment_same rounds moments bound same fit (suc moment) time less =
-      rw (changes_same (last_step rounds (suc moment)) (last_step rounds moment) 0 bound (same (suc moment) less) (same moment (omega (arith, less))) fit) refl
+      rw (changes_same (last_round rounds (suc moment)) (last_round rounds moment) 0 bound (same (suc moment) less) (same moment (omega (arith, less))) fit) refl
 
   lines_same : (rounds moments : ℕ) (bound : List Bound) → SameMoments rounds moments → All (FitsBound design) bound → (moment : ℕ) (times : List ℕ) → moment + length times ≤ moments → lines_from first rounds bound moment times ≡ lines_from second rounds bound moment times
   lines_same rounds moments bound same fit moment [] few = refl

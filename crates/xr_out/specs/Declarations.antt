@@ -6,7 +6,7 @@ use Rattle.xr_design.specs.declared.design.Design.{Design}
 use Rattle.xr_design.specs.declared.name.NamePart.{NamePart}
 use Rattle.xr_match.specs.declared.binding.Bound.{Bound}
 use Rattle.xr_out.specs.Code.{code_of}
-use Rattle.xr_out.specs.Lines.{line}
+use Rattle.xr_base.specs.Text.{line}
 
 -- The names of scopes, from the top.
 abbrev pub Path : Type 0

@@ -6,12 +6,12 @@ use Rattle.xr_design.specs.declared.design.Design.{Design}
 use Rattle.xr_design.specs.declared.stim.Stim.{Stim}
 use Rattle.xr_match.specs.Binding.{FitsBinding}
 use Rattle.xr_match.specs.declared.binding.Binding.{Binding}
-use Rattle.xr_out.specs.Moments.{last_step}
+use Rattle.xr_design.specs.Settled.{last_round}
 use Rattle.xr_out.specs.Text.{vcd_text}
 
 -- what a history shows of a net at the last round of a moment
 abbrev pub shown_last : Stim → HistoryView → ℕ → ℕ → Value
-shown_last stim history moment net = (held_in history record { step = last_step stim.rounds moment; net = net }).shown
+shown_last stim history moment net = (held_in history record { step = last_round stim.rounds moment; net = net }).shown
 
 -- Two histories show the same of each net of a design at the last round of each moment of a stimulus.
 abbrev pub ShowTheSame : Design → Stim → HistoryView → HistoryView → Type 0

@@ -3,7 +3,6 @@ pub mod Code
 pub mod Declarations
 pub mod Flat
 pub mod Laws
-pub mod Lines
 pub mod Moments
 pub mod Steps
 pub mod Text

@@ -3,9 +3,10 @@ use Rattle.std.specs.Prelude.{ℕ, zero, suc, ◌+◌, ◌-◌, ◌*◌, ◌==�
 use Rattle.std.specs.List.{list_all}
 use Rattle.xr_cell.specs.Value.{letter_of}
 use Rattle.xr_design.specs.History.{HistoryView, held_in}
+use Rattle.xr_design.specs.Settled.{last_round}
 use Rattle.xr_match.specs.declared.binding.Bound.{Bound}
 use Rattle.xr_out.specs.Code.{code_of}
-use Rattle.xr_out.specs.Lines.{line}
+use Rattle.xr_base.specs.Text.{line}
 
 -- the letter of the value that a net shows at a step
 abbrev pub letter_at : HistoryView → ℕ → ℕ → ℕ
@@ -38,10 +39,6 @@ changed_lines history step before number [] = []
 changed_lines history step before number (b ∷ bs) =
     change_line history step before number b.bits ++ changed_lines history step before (number + 1) bs
 
--- The last round of a moment, as a step.
-abbrev pub last_step : ℕ → ℕ → ℕ
-last_step rounds moment = moment * rounds + (rounds - 1)
-
 abbrev pub time_line : ℕ → List ℕ
 time_line time = line (codes "#" ++ decimal time)
 
@@ -52,9 +49,9 @@ dump_lines history step bound = line (codes "$dumpvars") ++ value_lines history 
 -- A moment: at the first one every variable, at a later one each that differs from the moment before.
 abbrev pub moment_lines : HistoryView → ℕ → List Bound → ℕ → ℕ → List ℕ
 moment_lines history rounds bound zero time =
-    time_line time ++ dump_lines history (last_step rounds 0) bound
+    time_line time ++ dump_lines history (last_round rounds 0) bound
 moment_lines history rounds bound (suc moment) time =
-    time_line time ++ changed_lines history (last_step rounds (suc moment)) (last_step rounds moment) 0 bound
+    time_line time ++ changed_lines history (last_round rounds (suc moment)) (last_round rounds moment) 0 bound
 
 -- the moments from one on
 abbrev pub lines_from : HistoryView → ℕ → List Bound → ℕ → List ℕ → List ℕ

@@ -2,7 +2,7 @@
 use Rattle.std.specs.Prelude.{ℕ, ◌<◌, ◌^◌, List, length, All}
 use Rattle.xr_design.specs.History.{HistoryView, HasPlace}
 use Rattle.xr_match.specs.declared.binding.Bound.{Bound}
-use Rattle.xr_out.specs.Moments.{last_step}
+use Rattle.xr_design.specs.Settled.{last_round}
 
 -- Each net has a place at the step.
 pub record HasStep (history : HistoryView) (step : ℕ) : Type 0 where
@@ -20,4 +20,4 @@ HasBits history b = HasNets history b.bits
 -- The last step of each moment is there.
 pub record HasMoments (history : HistoryView) (moments rounds : ℕ) : Type 0 where
   pub few : moments < 2 ^ 28
-  pub steps : (moment : ℕ) → moment < moments → HasStep history (last_step rounds moment)
+  pub steps : (moment : ℕ) → moment < moments → HasStep history (last_round rounds moment)

@@ -5,7 +5,7 @@ use Rattle.xr_design.specs.declared.design.Design.{Design}
 use Rattle.xr_design.specs.declared.stim.Stim.{Stim}
 use Rattle.xr_match.specs.declared.binding.Binding.{Binding}
 use Rattle.xr_out.specs.Declarations.{declaration_lines}
-use Rattle.xr_out.specs.Lines.{line}
+use Rattle.xr_base.specs.Text.{line}
 use Rattle.xr_out.specs.Moments.{lines_from}
 
 abbrev pub timescale_line : Option (List ℕ) → List ℕ

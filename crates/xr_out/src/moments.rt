@@ -1,6 +1,7 @@
 //! The moments of the text.
 
 ghost use Rattle.std.specs.Prelude.{◌≡◌, ◌≤◌, ◌<◌, ◌+◌, ◌*◌, ◌^◌, ◌++◌, ℕ, All, List, OnOk, drop, length, map};
+ghost use Rattle.xr_design.specs.Settled as settled;
 ghost use Rattle.xr_match.specs.declared.binding.Bound.{Bound as bound_variable};
 ghost use Rattle.xr_out.specs.Flat.{bits_of};
 ghost use Rattle.xr_out.specs.Moments as spec;
@@ -24,7 +25,7 @@ pub fn put_moment(
 ) -> Result<(), Memory>
     requires rounds { 0 < rounds }
     requires table { table.now ≡ bits_of bound.now }
-    requires steps { (earlier : ℕ) → earlier ≤ moment → HasStep history.now (spec.last_step rounds earlier) }
+    requires steps { (earlier : ℕ) → earlier ≤ moment → HasStep history.now (settled.last_round rounds earlier) }
     requires bits { All (HasBits history.now) bound.now }
     ensures { let lines = spec.moment_lines history.now rounds bound.now moment time in
         OnOk result (text.new.items ≡ text.old.items ++ lines) }
@@ -32,12 +33,21 @@ pub fn put_moment(
     put(text, b"#")?;
     put_number(text, time)?;
     put(text, b"\n")?;
-    let step = moment * rounds + (rounds - 1);
+    let step = last_round(rounds, moment);
     if moment == 0 {
         put_dump(text, bound, history, step)
     } else {
         put_changed(text, bound, table, history, step, step - rounds)
     }
+}
+
+/// The last step of a moment.
+fn last_round(rounds: u32, moment: u32) -> u32
+    requires rounds { 0 < rounds }
+    requires small { settled.last_round rounds moment < 2 ^ 32 }
+    ensures { result ≡ settled.last_round rounds moment }
+{
+    moment * rounds + (rounds - 1)
 }
 
 fn put_dump(text: &mut Vec<u8>, bound: &[Bound], history: &History, step: u32) -> Result<(), Memory>

@@ -1,7 +1,7 @@
 //! Lines of sections put at the end of a text.
 
 ghost use Rattle.std.specs.Prelude.{◌≡◌, ◌++◌, OnOk, codes};
-ghost use Rattle.xr_out.specs.Lines.{line};
+ghost use Rattle.xr_base.specs.Text.{line};
 
 use xr_base::{Memory, put};
 

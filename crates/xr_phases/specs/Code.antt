@@ -9,7 +9,7 @@ use Rattle.xr_code.specs.Code.{Code, code}
 use Rattle.xr_code.specs.Says.{FirstFault, Says}
 use Rattle.xr_code.specs.declared.fault.CodeFault.{CodeFault}
 use Rattle.xr_job.specs.Compared.{job_in}
-use Rattle.xr_run.specs.Lines.{line}
+use Rattle.xr_base.specs.Text.{line}
 use Rattle.xr_phases.specs.declared.parts.Parts.{Parts}
 
 -- The most bytes of a code or a certificate.

@@ -1,7 +1,7 @@
 //! The line of a refusal.
 
 ghost use Rattle.std.specs.Prelude.{◌≡◌, ◌++◌, IfOk, OnOk};
-ghost use Rattle.xr_run.specs.Lines.{line};
+ghost use Rattle.xr_base.specs.Text.{line};
 ghost use Rattle.xr_phases.specs.Cause.{certificate_line, lack_line, objection_text, text_of};
 
 use crate::cause::{Lack, Objection, Refused, Uncertified};

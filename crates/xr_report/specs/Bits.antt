@@ -13,7 +13,7 @@ use Rattle.xr_design.specs.declared.waveform.Mark.TheVariants.{Certain, Unknown,
 use Rattle.xr_match.specs.BoundBits.{bound_bits}
 use Rattle.xr_match.specs.declared.binding.Binding.{Binding}
 use Rattle.xr_match.specs.declared.bound_bits.BoundBit.{BoundBit}
-use Rattle.xr_report.specs.Lines.{line}
+use Rattle.xr_base.specs.Text.{line}
 use Rattle.xr_wave.specs.Contents.{Contents, job, written_of}
 
 -- What became of a bit: its value where that is certain.

@@ -2,7 +2,7 @@
 use Rattle.std.specs.Prelude.{ℕ, List, ◌++◌, codes, decimal, length}
 use Rattle.xr_design.specs.Job.{places_of}
 use Rattle.xr_report.specs.Counts.{counts_of}
-use Rattle.xr_report.specs.Lines.{line}
+use Rattle.xr_base.specs.Text.{line}
 use Rattle.xr_report.specs.declared.counts.Counts.{Counts}
 use Rattle.xr_wave.specs.Contents.{Contents, job}
 

@@ -3,5 +3,4 @@ pub mod Bits
 pub mod Counts
 pub mod Finished
 pub mod Head
-pub mod Lines
 pub mod Report

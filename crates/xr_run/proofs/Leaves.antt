@@ -6,7 +6,8 @@ use Rattle.xr_shelf.specs.Shelf.{View, Rose}
 use Rattle.xr_shelf.specs.Sink.{SinkView}
 use Rattle.xr_shelf.specs.Calls.{Gained}
 use Rattle.xr_run.specs.Ends.{Commands, Gains, IsLineOf, LeavesFiles, LineMade, LinePrinted, MemoryPrinted, Ran, RanWords}
-use Rattle.xr_run.specs.Lines.{line, memory_line, read_line, report_name, usage_line, write_line}
+use Rattle.xr_base.specs.Text.{line}
+use Rattle.xr_run.specs.Lines.{memory_line, read_line, report_name, usage_line, write_line}
 use Rattle.xr_run.specs.Phases.{Answer, ComesTo}
 use Rattle.xr_run.specs.Rows.{Start, NothingDone, OutputFails, PartDone, ReportFails, Stands, WriteRow}
 

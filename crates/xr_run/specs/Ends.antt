@@ -4,7 +4,8 @@ use Rattle.std.specs.Prelude.{string_bytes}
 use Rattle.xr_shelf.specs.Shelf.{View, Rose}
 use Rattle.xr_shelf.specs.Calls.{Gained, GainedLess}
 use Rattle.xr_shelf.specs.Sink.{SinkView}
-use Rattle.xr_run.specs.Lines.{line, memory_line, read_line, report_name, usage_line, write_line}
+use Rattle.xr_base.specs.Text.{line}
+use Rattle.xr_run.specs.Lines.{memory_line, read_line, report_name, usage_line, write_line}
 use Rattle.xr_run.specs.Outputs.{Delivery, File, WrittenTo}
 use Rattle.xr_run.specs.Phases.{Answer, Phases, IsFirm, NeverRefused, PassesAll, ReadsNext}
 use Rattle.xr_run.specs.Rows.{Start, Stands, DoneRow, ReadRow, TextRow, WriteRow, MemoryRow}

@@ -1,7 +1,7 @@
 //! How a refusal of texts is reported.
 
 ghost use Rattle.std.specs.Prelude.{◌≡◌, ℕ, List, IfOk};
-ghost use Rattle.xr_run.specs.Lines.{line};
+ghost use Rattle.xr_base.specs.Text.{line};
 
 use std::alloc::Global;
 use xr_base::Memory;

@@ -2,7 +2,8 @@
 
 ghost use Rattle.std.specs.Prelude.{◌≡◌, List, ℕ, IfOk};
 ghost use Rattle.xr_run.specs.Ends.{Delivers, LineMade, LinePrinted, MemoryPrinted, Ran, Refuses, reporting_of};
-ghost use Rattle.xr_run.specs.Lines.{line, read_line, usage_line};
+ghost use Rattle.xr_base.specs.Text.{line};
+ghost use Rattle.xr_run.specs.Lines.{read_line, usage_line};
 ghost use Rattle.xr_run.specs.Phases.{Answer, Phases};
 ghost use Rattle.xr_run.specs.Prepared.{Prepared, answer_of};
 ghost use Rattle.xr_run.specs.Rows.{start_with};

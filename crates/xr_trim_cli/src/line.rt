@@ -1,7 +1,7 @@
 //! The line of a refusal.
 
 ghost use Rattle.std.specs.Prelude.{◌≡◌, ◌++◌, IfOk, OnOk};
-ghost use Rattle.xr_run.specs.Lines.{line};
+ghost use Rattle.xr_base.specs.Text.{line};
 ghost use Rattle.xr_trim_cli.specs.Cause.{fault_text, placed_text, text_of};
 
 use crate::cause::Refused;

@@ -9,10 +9,10 @@ use Rattle.xr_model.specs.Yields.{Yields}
 use Rattle.xr_model.specs.declared.line.Line.{Line as ALine}
 use Rattle.xr_model.proofs.Uniqueness.{sound_exact, unique_certain, yields_one}
 use Rattle.xr_wave.specs.Contents.{Contents, job, shown_in}
-use Rattle.xr_wave.specs.Laws.{AreAlike, OneByLines, OneForHistories, OneWave}
+use Rattle.xr_wave.specs.Laws.{AreOfOneJob, OneByLines, OneMarked, OneWave}
 
 -- The second wave is sound over the job of the first.
-sound_over : (c d : Contents) → AreAlike c d
+sound_over : (c d : Contents) → AreOfOneJob c d
     → Sound (job c) d.limit (shown_of (job c) d.history) d.written d.lines
 sound_over c d alike =
     subst (λ (j : Job). Sound j d.limit (shown_of j d.history) d.written d.lines) (sym alike.jobs)
@@ -28,7 +28,7 @@ one_wave c d alike decided same =
     (sound_exact (job c) c.limit (shown_in c) c.written c.lines decided.first first)
     (sound_exact (job c) d.limit (shown_in c) d.written d.lines decided.second second) first.shows second.shows
 
-pub one_for_histories : OneForHistories
+pub one_for_histories : OneMarked
 one_for_histories c d alike decided place less =
     let same = unique_certain (job c) c.limit d.limit alike.first.fits.fits_job (shown_in c)
     (shown_of (job c) d.history) c.written d.written c.lines d.lines alike.long alike.first.holds.sound.within

@@ -5,7 +5,7 @@ use Rattle.xr_model.specs.Sound.{IsDecided}
 use Rattle.xr_wave.specs.Contents.{Contents, IsWave, job}
 
 -- Two waves of one job that have as many places written.
-pub record AreAlike (c d : Contents) : Type 0 where
+pub record AreOfOneJob (c d : Contents) : Type 0 where
   pub first : IsWave c
   pub second : IsWave d
   pub jobs : job c ≡ job d
@@ -18,14 +18,14 @@ pub record AreDecided (c d : Contents) : Type 0 where
 
 -- They have the same values and marks where one history was handed in to both, whatever their lines and limits are.
 abbrev pub OneWave : Type 0
-OneWave = (c d : Contents) → AreAlike c d → AreDecided c d → c.history ≡ d.history → c.written ≡ d.written
+OneWave = (c d : Contents) → AreOfOneJob c d → AreDecided c d → c.history ≡ d.history → c.written ≡ d.written
 
 -- Whatever the histories are, they have the same mark and the same certain value at each place.
-abbrev pub OneForHistories : Type 0
-OneForHistories = (c d : Contents) → AreAlike c d → AreDecided c d
+abbrev pub OneMarked : Type 0
+OneMarked = (c d : Contents) → AreOfOneJob c d → AreDecided c d
     → (place : ℕ) → place < length c.written → IsSameAt c.written d.written place
 
 -- Two waves with the same lines are the same, undecided places or not.
 abbrev pub OneByLines : Type 0
-OneByLines = (c d : Contents) → AreAlike c d → c.history ≡ d.history → c.limit ≡ d.limit → c.lines ≡ d.lines
+OneByLines = (c d : Contents) → AreOfOneJob c d → c.history ≡ d.history → c.limit ≡ d.limit → c.lines ≡ d.lines
     → c.written ≡ d.written

@@ -6,6 +6,6 @@ ghost use Rattle.xr_wave.specs.Laws as spec;
 /// change what it marks and finds. And lines say all: there is one wave of a list of lines.
 pub fn waves_are_one()
     ensures one { spec.OneWave }
-    ensures histories { spec.OneForHistories }
+    ensures histories { spec.OneMarked }
     ensures lines { spec.OneByLines }
 {}

@@ -1,7 +1,8 @@
 -- The next list has no 0.
-use Rattle.std.proofs.Common.{length, rules}
+use Rattle.std.proofs.Common.{length, rules, subst, sym}
 use Rattle.std.proofs.lemmas.Iterator.Adapters.{YieldsList-from_vec}
 use Rattle.std.proofs.lemmas.Iterator.Consumers.{YieldsList-turn}
+use Rattle.xr_proof.specs.Assignment.{HasNoZero}
 use Rattle.xr_cnf.proofs.OnceLists.{no_zero_at}
 use Rattle.xr_cnf.proofs.lists.clauses_of.Goals as goal
 
@@ -10,4 +11,4 @@ from_vec-requires c =
     let t = YieldsList-turn (YieldsList-from_vec {s = c.into_iter-list-iterator.result} c.args.lists.items
     (search rules) (search rules)) c.lists.yielded c.lists.list-iterator
     c.lists.yielded_by c.next.result c.next.new.self c.in-Some.list c.in-Some.is c.next.ensures.steps in
-    no_zero_at (λ v. v.items) c.args.lists.items (length c.lists.yielded) c.in-Some.list c.requires t.0 t.1
+    subst HasNoZero (sym c.in_ok-literals.ensures.ok) (no_zero_at (λ v. v.items) c.args.lists.items (length c.lists.yielded) c.in-Some.list c.requires t.0 t.1)

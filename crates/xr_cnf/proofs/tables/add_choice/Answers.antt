@@ -13,10 +13,10 @@ returns-in-Some c =
     let arguments : List ℕ = c.args.table.now.arguments.now in
     let count : ℕ = length arguments in
     let says : ℕ → Bool → ℤ = node_says c.args.table.now.literals.now arguments c.args.table.now.position in
-    let found = subst (λ o. MatchOption o (AreOpposed c.deref.result.now) (λ v. IsMerged c.deref.result.now v.items))
+    let found = subst (λ o. MatchOption o (AreOpposed c.as_slice.result.now) (λ v. IsMerged c.as_slice.result.now v.items))
     c.in-Some.is c.in_ok-list.ensures in
     let merged = subst (λ wanted. IsMerged wanted c.in-Some.list.items)
-    (c.deref.ensures.value ∙ c.in_ok-wanted.ensures) found in
+    (c.as_slice.ensures ∙ c.in_ok-wanted.ensures) found in
     on_ok_weaker c.push.result (λ pushed. subst (IsGrown (IsChoiceClause c.args.table.now.literals.now arguments
     c.args.table.now.position c.args.bit c.args.choice) c.args.lists.now) (sym pushed)
     (choice_grown says count c.args.choice c.args.bit (chosen_below count c.args.choice c.requires.among)
@@ -27,9 +27,9 @@ returns c =
     let arguments : List ℕ = c.args.table.now.arguments.now in
     let count : ℕ = length arguments in
     let says : ℕ → Bool → ℤ = node_says c.args.table.now.literals.now arguments c.args.table.now.position in
-    let found = subst (λ o. MatchOption o (AreOpposed c.deref.result.now) (λ v. IsMerged c.deref.result.now v.items))
+    let found = subst (λ o. MatchOption o (AreOpposed c.as_slice.result.now) (λ v. IsMerged c.as_slice.result.now v.items))
     c.in-None.is c.in_ok-list.ensures in
-    let opposed = subst AreOpposed (c.deref.ensures.value ∙ c.in_ok-wanted.ensures) found in
+    let opposed = subst AreOpposed (c.as_slice.ensures ∙ c.in_ok-wanted.ensures) found in
     grown_same (IsChoiceClause c.args.table.now.literals.now arguments c.args.table.now.position c.args.bit
     c.args.choice) c.args.lists.now
     (opposed_clause says count c.args.choice c.args.bit (chosen_below count c.args.choice c.requires.among) opposed)

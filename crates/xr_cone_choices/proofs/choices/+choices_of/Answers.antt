@@ -33,6 +33,6 @@ returns t c =
     (subst (λ both. AreChoices both last bit c.in_ok-choices.choices.items) c.deref.ensures.value
     c.in_ok-choices.ensures) c.in_ok-zeros.ensures
     (subst (λ zeros. AreAdded high last bit false c.in_ok-choices.choices.items zeros c.add_alone.new.choices.items)
-    c.deref-2.ensures.value c.in_ok-add_alone.ensures) c.in_ok-ones.ensures
+    c.as_slice.ensures c.in_ok-add_alone.ensures) c.in_ok-ones.ensures
     (subst (λ ones. AreAdded low last bit true c.add_alone.new.choices.items ones c.add_alone-2.new.choices.items)
-    c.deref-3.ensures.value c.in_ok-add_alone-2.ensures)
+    c.as_slice-2.ensures c.in_ok-add_alone-2.ensures)

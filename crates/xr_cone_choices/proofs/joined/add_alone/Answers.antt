@@ -19,7 +19,7 @@ found-preserved c =
           (take i found)
           c.found.choices.items one c.found.invariant
           (λ forces. (let e : false ≡ true = sym w.if-not-forces.true ∙ c.forces.ensures.1 forces in cc)) in
-          let pushed = ap (λ v. v.items) w.choices-is ∙ w.in_ok-push.ensures.items
+          let pushed = ap (λ v. v.items) w.choices-is ∙ w.in_ok-push.ensures.ok
           ∙ ap (λ x. c.found.choices.items ++ x ∷ []) w.with_argument.ensures in
           subst (λ xs. AreAdded c.args.other.now c.args.count c.args.bit c.args.last c.args.choices.now.items xs
           c.if-not-forces.choices.items) (sym seam)

@@ -1,4 +1,4 @@
--- Lines of a recording's text.
+-- Texts as lists of bytes.
 use Rattle.std.specs.Prelude.{ℕ, List, [], ◌∷◌, ◌++◌}
 
 -- a text and its newline
