@@ -61,6 +61,13 @@ impl LedgerIndex {
         })
     }
 
+    /// How many steps there are. Takes no memory.
+    pub fn steps(&self) -> usize
+        ensures { result ≡ length self.now.steps }
+    {
+        self.starts.as_slice().len().saturating_sub(1)
+    }
+
     /// What a position has at a step. Takes no memory.
     pub fn at(&self, position: usize, step: usize) -> u8
         requires step { step < length self.now.steps }

@@ -83,6 +83,13 @@ impl Ledger {
         Ok(())
     }
 
+    /// The number of the step under way. Takes no memory.
+    pub fn step(&self) -> usize
+        ensures { result ≡ length self.now.before }
+    {
+        self.starts.as_slice().len() - 1
+    }
+
     /// What the position has at the step under way. Takes no memory.
     pub fn now(&self, position: usize) -> u8
         requires { position < self.now.width }
@@ -109,7 +116,8 @@ impl Ledger {
         self.two[position]
     }
 
-    /// What it has at any step so far. One that lies more than two steps back is looked for in the log. Takes no memory.
+    /// What it has at any step so far. One that lies more than two steps back is looked for in the log, from its end.
+    /// Takes no memory.
     pub fn at(&self, position: usize, step: usize) -> u8
         requires position { position < self.now.width }
         requires step { step ≤ length self.now.before }
