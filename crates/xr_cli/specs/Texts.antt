@@ -1,13 +1,14 @@
 -- When the texts of a command are in order, and what those of a made job are refused for.
 use Rattle.std.specs.Prelude.{◌≡◌, ℕ, ◌<◌, ◌≤◌, List, length}
+use Rattle.xr_cert.specs.Checked.{IsAccepted}
 use Rattle.xr_cert_text.specs.Wrong.{IsTextOf}
 use Rattle.xr_cert_text.specs.declared.cert.Cert.{Cert}
 use Rattle.xr_cert_text.specs.declared.cert.Form.TheVariants.{Lines}
-use Rattle.xr_cond.specs.View.{ConditionView}
 use Rattle.xr_code.specs.Says.{Says}
 use Rattle.xr_design.specs.Handed.{IsReplay}
 use Rattle.xr_design.specs.History.{HistoryView}
 use Rattle.xr_design.specs.declared.force.Event.{Event}
+use Rattle.xr_design.specs.declared.waveform.Written.{Written}
 use Rattle.xr_replay.specs.Fault.{IsFaultless}
 use Rattle.xr_wave.specs.declared.advance.Optimistic.{Optimistic as Found}
 use Rattle.xr_repair.specs.Repaired.{IsObjection}
@@ -16,10 +17,8 @@ use Rattle.xr_job.specs.declared.compare_refusal.CompareRefusal.{CompareRefusal}
 use Rattle.xr_job.specs.declared.netlist.Netlist.{Netlist as ANetlist}
 use Rattle.xr_job.specs.declared.netlist_refusal.NetlistRefusal.{NetlistRefusal}
 use Rattle.xr_job.specs.declared.recorded.Recorded.{Recorded}
-use Rattle.xr_wave.specs.Contents.{Contents}
 use Rattle.xr_words.specs.Words.{FixValues}
 use Rattle.xr_words.specs.Words.{CheckValues, MakeValues, RepairValues, ReplayValues, AuditValues, UpgradeValues}
-use Rattle.xr_phases.specs.Certificate.{IsCertified}
 use Rattle.xr_phases.specs.Code.{code_in, text_limit}
 use Rattle.xr_cli.specs.Made.{IsRecordingOf, made_conflicts, made_job, made_netlist}
 use Rattle.xr_design.specs.declared.stim.Stim.{Stim}
@@ -28,7 +27,7 @@ use Rattle.xr_phases.specs.Sets.{sets_of}
 use Rattle.xr_phases.specs.declared.cause.Objection.{Objection}
 use Rattle.xr_phases.specs.Phases.{parts, scope_of}
 use Rattle.xr_phases.specs.Texts.{AreRefused, HasNetlist, IsJob, IsOneCause, IsRefusedNetlist, RepairFails}
-use Rattle.xr_phases.specs.Repair.{IsObjectionIn, beginning, netlist_limit}
+use Rattle.xr_phases.specs.Repair.{Agrees, IsObjectionIn, beginning, netlist_limit}
 use Rattle.xr_phases.specs.declared.cause.Refused.{Refused}
 use Rattle.xr_phases.specs.declared.cause.Refused.TheVariants.{Compare, LongNetlist, Netlist}
 use Rattle.xr_phases.specs.declared.parts.Parts.{Parts}
@@ -62,32 +61,32 @@ pub record IsReplayable (w : ReplayValues) (netlist recording code : List ℕ) :
   pub events : List Event
   pub says : Says (code_in (parts n r) code (scope_of w.job)) events
 
--- The texts stand for a job that agrees, and the certificate's text for one that is checked over its replay.
+-- The texts stand for a job that agrees, and the certificate's text for one that is accepted over its replay.
 pub record IsCheckable (w : CheckValues) (netlist recording cert : List ℕ) : Type 0 where
   pub n : ANetlist
   pub r : Recorded
   pub job : IsJob w.job netlist recording n r
-  pub faultless : IsFaultless (job_in n r) r.recording r.binding
+  pub replay : HistoryView
+  pub agrees : Agrees n r replay
   pub fits : length cert ≤ text_limit
   pub certificate : Cert
   pub stands : IsTextOf cert certificate
-  pub wave : Contents
-  pub conditions : List ConditionView
-  pub certified : IsCertified w.conflicts (parts n r) certificate wave conditions
+  pub waveform : List Written
+  pub accepted : IsAccepted (beginning w.conflicts n r replay) certificate waveform
 
 -- So they do, with one of form 1.
 pub record IsUpgradable (w : UpgradeValues) (netlist recording cert : List ℕ) : Type 0 where
   pub n : ANetlist
   pub r : Recorded
   pub job : IsJob w.job netlist recording n r
-  pub faultless : IsFaultless (job_in n r) r.recording r.binding
+  pub replay : HistoryView
+  pub agrees : Agrees n r replay
   pub fits : length cert ≤ text_limit
   pub certificate : Cert
   pub stands : IsTextOf cert certificate
   pub form_is : certificate.form ≡ Lines
-  pub wave : Contents
-  pub conditions : List ConditionView
-  pub certified : IsCertified w.conflicts (parts n r) certificate wave conditions
+  pub waveform : List Written
+  pub accepted : IsAccepted (beginning w.conflicts n r replay) certificate waveform
 
 -- The texts stand for a job that agrees, its starts can be set, and no place is found otherwise under the recorded starts,
 -- nor under the set ones.

@@ -16,4 +16,5 @@ pub mod OneStart
 pub mod OneStimulus
 pub mod SetTexts
 pub mod Statuses
+pub mod Unrefused
 pub mod Walks
