@@ -37,7 +37,7 @@ use Rattle.xr_phases.specs.Sets.{sets_of}
 use Rattle.xr_cli.proofs.Fixing.{fix_fails}
 use Rattle.xr_cli.proofs.Lawfully.{each_exact, lawful}
 use Rattle.xr_cli.proofs.Making.{made_is_one}
-use Rattle.xr_phases.proofs.ObjectingOnce.{one_cause}
+use Rattle.xr_phases.proofs.ObjectingOnce.{one_cause, one_fix_cause}
 use Rattle.xr_phases.proofs.JobTexts.{netlist_there, refused_by, job_passes}
 use Rattle.xr_phases.proofs.Unrefused.{check_unrefused, upgrade_unrefused}
 
@@ -268,7 +268,8 @@ the_one s (OfBlame w) cause refused =
     one_cause w.job (netlist_held s.shelf.files w.job) (recording_held s.shelf.files w.job) w.conflicts cause
     (λ o is. job_of w.job (netlist_held s.shelf.files w.job) (recording_held s.shelf.files w.job) w.conflicts o
     (subst (AreRefused w.job (netlist_held s.shelf.files w.job) (recording_held s.shelf.files w.job) (RepairFails w.conflicts)) is refused))
-the_one s (OfFix w) cause refused = tt
+the_one s (OfFix w) cause refused =
+    one_fix_cause w.conflicts (sets_of w.sets) w.job (netlist_held s.shelf.files w.job) (recording_held s.shelf.files w.job) cause refused
 
 -- ---- texts in order
 

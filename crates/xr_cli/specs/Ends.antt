@@ -12,7 +12,7 @@ use Rattle.xr_words.specs.Words.{OfAudit}
 use Rattle.xr_cli.specs.Answers.{Says}
 use Rattle.xr_phases.specs.Sets.{sets_of}
 use Rattle.xr_phases.specs.Texts.{FixFails, netlist_held, recording_held, AreRefused, CheckFails, CodeFails, IsOneCause}
-use Rattle.xr_phases.specs.Texts.{RepairFails, UpgradeFails}
+use Rattle.xr_phases.specs.Texts.{IfOptimistic, IsOneOfWalks, RepairFails, UpgradeFails}
 use Rattle.xr_phases.specs.Cause.{status_of, text_of}
 use Rattle.xr_cli.specs.Commands.{commands}
 use Rattle.xr_cli.specs.Foreign.{repair_for}
@@ -58,7 +58,7 @@ TextsRefused files (OfFix w) cause =
     (FixFails w.conflicts (sets_of w.sets)) cause
 
 -- Without an undecided line before it, a place that `repair`, `make`, `export` or `blame` finds otherwise is the one of
--- the texts.
+-- the texts; and one that `fix` finds otherwise is that of the recorded starts, or else that of the set ones.
 abbrev pub IsTheOne : Files → Values → Refused → Type 0
 IsTheOne files (OfRepair w) cause = IsOneCause w.job (netlist_held files w.job) (recording_held files w.job) cause
 IsTheOne files (OfReplay w) cause = Unit {0}
@@ -69,7 +69,8 @@ IsTheOne files (OfExport w) cause = IsOneCause w.job (netlist_held files w.job) 
 IsTheOne files (OfProve w) cause = Unit {0}
 IsTheOne files (OfAudit w) cause = Unit {0}
 IsTheOne files (OfBlame w) cause = IsOneCause w.job (netlist_held files w.job) (recording_held files w.job) cause
-IsTheOne files (OfFix w) cause = Unit {0}
+IsTheOne files (OfFix w) cause = IfOptimistic
+    (IsOneOfWalks w.conflicts (sets_of w.sets) w.job (netlist_held files w.job) (recording_held files w.job)) cause
 
 -- 5 to 17: the texts are refused for a cause of that status, and its line is printed.
 pub record RefusesTexts (s : Start) (shelf : View) (sink : SinkView) (status : ℕ) : Type 0 where
