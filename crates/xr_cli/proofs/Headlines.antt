@@ -5,6 +5,7 @@ use Rattle.xr_cell.specs.Value.{IsKnown, bit_value, is_unknown}
 use Rattle.xr_cell.specs.declared.value.Value.{Value}
 use Rattle.xr_cell.specs.declared.value.Value.TheVariants.{Zero, One, X, Z}
 use Rattle.xr_design.specs.Fits.{Fits, place_at}
+use Rattle.xr_design.specs.Force.{forced_by}
 use Rattle.xr_design.specs.Handed.{IsReplay, shown_of}
 use Rattle.xr_design.specs.History.{HistoryView}
 use Rattle.xr_design.specs.Job.{Job, places_of}
@@ -31,7 +32,7 @@ use Rattle.xr_out.specs.Text.{vcd_text}
 use Rattle.std.specs.List.{AllByRecursion}
 use Rattle.xr_along.specs.Along.{GoesAlong}
 use Rattle.xr_cert.specs.Checked.{IsAccepted}
-use Rattle.xr_cert.specs.Entries.{AreConditionsFor, entries_of, lines_in}
+use Rattle.xr_cert.specs.Entries.{AreConditionsFor}
 use Rattle.xr_cert.specs.Step.{cert_in}
 use Rattle.xr_cert.proofs.Fitted.{own_accepted}
 use Rattle.xr_cert.proofs.OwnText.{own_text_stands}
@@ -57,6 +58,7 @@ use Rattle.xr_phases.specs.Repair.{FitsJob, Found, IsFound, beginning}
 use Rattle.xr_phases.specs.Texts.{IsJob}
 use Rattle.xr_cli.proofs.Needing.{each_needs}
 use Rattle.xr_cli.proofs.OwnForces.{own_forces_said}
+use Rattle.xr_phases.proofs.ReplaysExist.{replays_exist}
 use Rattle.xr_phases.proofs.Jobs.{circuit_fits, fits_job, last_place, number_back, place_there, replay_shown}
 
 -- ---- what is known of a place by its mark
@@ -257,6 +259,7 @@ module _ (w : RepairValues) (netlist recording : List ℕ) (is : Made w netlist 
     are = are_forces;
     text_is = refl;
     says = own_forces_said is.n is.r (scope_of w.job) (value_in written) is.is.fits is.is.times named;
+    there = replays_exist j fits (forced_by j events);
     shown = λ history forced. forces_show j (value_in written) events history are_forces forced;
     replayed = λ history forced.
         text_shown is.n.design is.n.order is.r.stim is.r.binding (value_in written) events history V parts_fit is.is.fits.recorded.binding
@@ -275,9 +278,8 @@ module _ (w : RepairValues) (netlist recording : List ℕ) (is : Made w netlist 
     certifies_so = record {
       stands = own_text_stands (form_of w.form) (beginning w.conflicts is.n is.r is.found.history) TheWave conditions refl along_there wave are;
       accepted = accepted_so;
-      one = λ other accepted.
-          yields_one j w.conflicts fits shown_at_place other written (lines_in (entries_of lines conditions)) (accepted.long ∙ sym finished)
-          (let long = accepted.long in omega (arith, long)) accepted.yields accepted_so.yields;
+      one = λ other long yields. yields_one j w.conflicts fits shown_at_place other written lines (long ∙ sym finished)
+          (omega (arith, long)) yields wave.holds.yields;
     }
 
     headline_there : AllByRecursion IsScopeName (scope_of w.job) → Headline w netlist recording (vcd_text is.n.design is.r.binding is.r.stim is.found.shown)

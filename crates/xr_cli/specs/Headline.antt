@@ -12,6 +12,7 @@ use Rattle.xr_model.specs.Sound.{HasLicence, IsDecided, Sound}
 use Rattle.xr_model.specs.Growth.{Holds}
 use Rattle.xr_model.specs.Line.{GivesBoth}
 use Rattle.xr_model.specs.Stated.{stated}
+use Rattle.xr_model.specs.Yields.{Yields}
 use Rattle.xr_model.specs.declared.line.Line.{Line as ALine}
 use Rattle.xr_vcd.specs.Recording.{value_at}
 use Rattle.xr_design.specs.Handed.{shown_of}
@@ -75,14 +76,15 @@ wave_of n r replay conflicts waveform lines = record {
 abbrev pub value_in : List Written → ℕ → Value
 value_in waveform place = (written_at waveform place).value
 
--- C is code of the job's nets: the text of the forces of what the waveform has. It says these, and in each replay under
--- them every place shows what the waveform has there; the text of that replay is V.
+-- C is code of the job's nets: the text of the forces of what the waveform has. It says these; there is a replay under
+-- them, and in each every place shows what the waveform has there; the text of that replay is V.
 pub record IsForceCode (w : RepairValues) (n : ANetlist) (r : Recorded) (waveform : List Written)
     (vcd code : List ℕ) : Type 0 where
   pub events : List Event
   pub are : AreForcesOf (job_in n r) (value_in waveform) events
   pub text_is : code ≡ code_text n.design r.stim (scope_of w.job) events
   pub says : Says (code_in (parts n r) code (scope_of w.job)) events
+  pub there : (history : HistoryView) × IsForced (parts n r) events history
   pub shown : (history : HistoryView) → IsForced (parts n r) events history
       → ShowsWaveform (job_in n r) waveform history
   pub replayed : (history : HistoryView) → IsForced (parts n r) events history
@@ -96,9 +98,9 @@ pub record Certifies (w : RepairValues) (n : ANetlist) (r : Recorded) (replay : 
       (cert_in (form_of w.form) (wave_of n r replay w.conflicts waveform lines) conditions)
   pub accepted : IsAccepted (beginning w.conflicts n r replay)
       (cert_in (form_of w.form) (wave_of n r replay w.conflicts waveform lines) conditions) waveform
-  -- No other waveform is yielded by these lines.
-  pub one : (other : List Written) → IsAccepted (beginning w.conflicts n r replay)
-      (cert_in (form_of w.form) (wave_of n r replay w.conflicts waveform lines) conditions) other → other ≡ waveform
+  -- The lines yield no other waveform of all places.
+  pub one : (other : List Written) → length other ≡ places_of (job_in n r)
+      → Yields (job_in n r) w.conflicts (shown_of (job_in n r) replay) other lines → other ≡ waveform
 
 -- The texts stand for a job whose recording agrees with its replay; there are a waveform of all its places and lines,
 -- so that:
