@@ -1,5 +1,5 @@
 -- What a run comes to, in the words of the program.
-use Rattle.std.proofs.Common.{◌≡◌, ◌∙◌, ℕ, ◌≤◌, List, [], ◌∷◌, length, IsTrue, Bool, Err, inl, inr, refl, sym, ap, subst, arith}
+use Rattle.std.proofs.Common.{◌≡◌, ◌∙◌, ℕ, ◌≤◌, List, [], ◌∷◌, length, IsTrue, Bool, true, Err, inl, inr, refl, sym, ap, subst, arith}
 use Rattle.xr_shelf.specs.Shelf.{Files, View}
 use Rattle.xr_shelf.specs.Sink.{SinkView}
 use Rattle.xr_run.specs.Ends.{Comes, LineMade, LinePrinted, RanWords}
@@ -17,6 +17,7 @@ use Rattle.xr_code.specs.Says.{FirstFault}
 use Rattle.xr_phases.specs.Texts.{FixFails, netlist_held, recording_held, AreRefused, CheckFails, CodeFails, HasJob, HasNetlist, IsObjected, RepairFails, UpgradeFails}
 use Rattle.xr_phases.specs.Certificate.{IsWrong}
 use Rattle.xr_phases.specs.Code.{code_in, text_limit}
+use Rattle.xr_cli.specs.Answers.{ReportsInputs}
 use Rattle.xr_cli.specs.Commands.{commands}
 use Rattle.xr_cli.specs.Ends.{AreInOrder, Done, IsComplete, IsTheOne, RefusesTexts, TextsRefused}
 use Rattle.xr_cli.specs.Foreign.{repair_for}
@@ -203,7 +204,7 @@ module _ (told : Bool) (files : Files) (t : IsTrue told) where
       refused_by told files t w.job (compared_upgrade w) (UpgradeFails w.conflicts (text_held files (w.cert ∷ []))) cause
       (λ n r. upgrade_fails told files t (parts n r) w cause) comes
 
-texts_refused : (s : Start) (words : Values) (cause : Refused) → IsTrue s.shelf_told → ComesTo s.shelf_told s.shelf.files (phases_of words) (Err cause)
+texts_refused : (s : Start) (words : Values) (cause : Refused) → ReportsInputs s.shelf_told words → ComesTo s.shelf_told s.shelf.files (phases_of words) (Err cause)
     → TextsRefused s.shelf.files words cause
 texts_refused s (OfRepair w) cause t comes =
     refused_by s.shelf_told s.shelf.files t w.job (λ (job : Parts). repaired_phases w job.netlist job.recorded) (RepairFails w.conflicts) cause
@@ -279,28 +280,29 @@ not_objected w netlist recording is o objects = is.none objects.history objects.
 made_not_objected : (w : MakeValues) (is : IsMakeable w) (o : Objection) → IsObjectionIn made_conflicts is.n is.r.stim o → ⊥
 made_not_objected w is o objects = is.none objects.history objects.objects.otherwise objects.replay objects.objects.objects
 
-module _ (told : Bool) (files : Files) (t : IsTrue told) where
+module _ (told : Bool) (files : Files) where
   -- Phases that the texts pass all.
-  passed : (words : Values) → PassesAll files (phases_of words) → NeverRefused told files (phases_of words)
-  passed words all = never_refused told files (phases_of words) t (each_exact words) all
+  passed : (words : Values) → IsTrue told → PassesAll files (phases_of words) → NeverRefused told files (phases_of words)
+  passed words t all = never_refused told files (phases_of words) t (each_exact words) all
 
-  never : (words : Values) → AreInOrder files words → NeverRefused told files (phases_of words)
-  never (OfRepair w) is =
+  never : (words : Values) → ReportsInputs told words → AreInOrder files words → NeverRefused told files (phases_of words)
+  never (OfRepair w) t is =
       let objected = not_objected w (netlist_held files w.job) (recording_held files w.job) is in
-      passed (OfRepair w) (job_passes files w.job (λ (job : Parts). repaired_phases w job.netlist job.recorded) is.n is.r is.job
+      passed (OfRepair w) t (job_passes files w.job (λ (job : Parts). repaired_phases w job.netlist job.recorded) is.n is.r is.job
       (tt, is.faultless, (objected, λ found there. ((λ none never. never), λ conditions are. tt))))
-  never (OfReplay w) is =
-      passed (OfReplay w) (job_passes files w.job (coded_phases w) is.n is.r is.job
+  never (OfReplay w) t is =
+      passed (OfReplay w) t (job_passes files w.job (coded_phases w) is.n is.r is.job
       (is.fits, (is.events, is.says, ((λ none never. never), λ history there. tt))))
-  never (OfCheck w) is = λ cause comes.
+  never (OfCheck w) t is = λ cause comes.
       check_unrefused w.job (netlist_held files w.job) (recording_held files w.job) is.n is.r is.job w.conflicts
       (text_held files (w.cert ∷ [])) is.replay is.agrees is.fits is.certificate is.stands is.waveform is.accepted cause
       (check_refused told files t w cause comes)
-  never (OfUpgrade w) is = λ cause comes.
+  never (OfUpgrade w) t is = λ cause comes.
       upgrade_unrefused w.job (netlist_held files w.job) (recording_held files w.job) is.n is.r is.job w.conflicts
       (text_held files (w.cert ∷ [])) is.replay is.agrees is.fits is.certificate is.stands is.waveform is.accepted is.form_is cause
       (upgrade_refused told files t w cause comes)
-  never (OfMake w) is = passed (OfMake w) (
+  -- Its phases read no file, so what the shelf reports is nothing to them.
+  never (OfMake w) t is = never_refused true files (make_phases w) refl (each_exact (OfMake w)) (
     tt,
     is.job.netlist_is.fits,
     (
@@ -309,20 +311,20 @@ module _ (told : Bool) (files : Files) (t : IsTrue told) where
       (is.recording, is.made, (tt, is.job.fits, (is.r, is.job.is, (tt, is.faultless, (made_not_objected w is, λ found there. tt))))),
     ),
   )
-  never (OfExport w) is =
+  never (OfExport w) t is =
       let objected = not_objected (repair_for w) (netlist_held files w.job) (recording_held files w.job) is in
-      passed (OfExport w) (job_passes files w.job (λ (job : Parts). exported_phases w job.netlist job.recorded) is.n is.r is.job
+      passed (OfExport w) t (job_passes files w.job (λ (job : Parts). exported_phases w job.netlist job.recorded) is.n is.r is.job
       (tt, is.faultless, (objected, λ found there. ((λ none never. never), λ answer written. tt))))
-  never (OfProve w) is = passed (OfProve w) (is.short.cnf_fits, (is.short.log_fits, (is.count, is.proof, tt)))
-  never (OfAudit w) is =
-      passed (OfAudit w) (job_passes files w.job (λ (job : Parts). audited_phases w job.netlist job.recorded) is.n is.r is.job
+  never (OfProve w) t is = passed (OfProve w) t (is.short.cnf_fits, (is.short.log_fits, (is.count, is.proof, tt)))
+  never (OfAudit w) t is =
+      passed (OfAudit w) t (job_passes files w.job (λ (job : Parts). audited_phases w job.netlist job.recorded) is.n is.r is.job
       (tt, is.faultless, ((λ none never. never), λ answer lists. tt)))
-  never (OfBlame w) is =
+  never (OfBlame w) t is =
       let objected = not_objected (repair_to_blame w) (netlist_held files w.job) (recording_held files w.job) is in
-      passed (OfBlame w) (job_passes files w.job (λ (job : Parts). blamed_phases w job.netlist job.recorded) is.n is.r is.job
+      passed (OfBlame w) t (job_passes files w.job (λ (job : Parts). blamed_phases w job.netlist job.recorded) is.n is.r is.job
       (tt, is.faultless, (objected, λ found there. ((λ none never. never), λ answer lists. tt))))
-  never (OfFix w) is =
-      passed (OfFix w) (job_passes files w.job (λ (job : Parts). fixed_phases w job.netlist job.recorded) is.n is.r is.job
+  never (OfFix w) t is =
+      passed (OfFix w) t (job_passes files w.job (λ (job : Parts). fixed_phases w job.netlist job.recorded) is.n is.r is.job
       (tt, is.faultless, (is.stim, is.started, (is.none, λ before walked. (is.none_set, λ after again. tt)))))
 
 -- ---- a run
@@ -363,4 +365,4 @@ module _ (s : Start) (shelf : View) (sink : SinkView) (status : ℕ) where
         }
 
     pub is_complete : IsComplete s shelf sink status
-    is_complete = λ t words means order none. all.unrefused words means (never s.shelf_told s.shelf.files t words order) none
+    is_complete = λ words t means order none. all.unrefused words means (never s.shelf_told s.shelf.files words t order) none

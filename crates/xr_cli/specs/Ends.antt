@@ -1,5 +1,5 @@
 -- What a run of the program comes to, by its status.
-use Rattle.std.specs.Prelude.{◌≡◌, ◌⊎◌, ℕ, [], ◌∷◌, IsTrue}
+use Rattle.std.specs.Prelude.{◌≡◌, ◌⊎◌, ℕ, [], ◌∷◌}
 use Rattle.xr_shelf.specs.Shelf.{Files, View}
 use Rattle.xr_shelf.specs.Sink.{SinkView}
 use Rattle.xr_run.specs.Ends.{LinePrinted, NoFault}
@@ -9,7 +9,7 @@ use Rattle.xr_run.specs.Rows.{DoneRow, Start, TextRow}
 use Rattle.xr_words.specs.Words.{OfFix, OfUpgrade}
 use Rattle.xr_words.specs.Words.{Means, OfBlame, OfCheck, OfExport, OfMake, OfProve, OfRepair, OfReplay, Values}
 use Rattle.xr_words.specs.Words.{OfAudit}
-use Rattle.xr_cli.specs.Answers.{Says}
+use Rattle.xr_cli.specs.Answers.{ReportsInputs, Says}
 use Rattle.xr_phases.specs.Sets.{sets_of}
 use Rattle.xr_phases.specs.Texts.{FixFails, netlist_held, recording_held, AreRefused, CheckFails, CodeFails, IsOneCause}
 use Rattle.xr_phases.specs.Texts.{IfOptimistic, IsOneOfWalks, RepairFails, UpgradeFails}
@@ -24,13 +24,13 @@ use Rattle.xr_cli.specs.Texts.{IsFixable, IsCheckable, IsMadeRefused, IsMakeable
 use Rattle.xr_cli.specs.Texts.{AuditFails, IsAuditable, IsUpgradable}
 use Rattle.xr_phases.specs.declared.cause.Refused.{Refused}
 
--- 0: the words mean this, and its answer is written and printed. Where the shelf tells, the answer says what is
--- promised.
+-- 0: the words mean this, and its answer is written and printed. Where the shelf reports what it reads, the answer says
+-- what is promised.
 pub record Done (s : Start) (shelf : View) (sink : SinkView) : Type 0 where
   pub words : Values
   pub means : Means s.line words
   pub row : DoneRow (phases_of words) s shelf sink
-  pub says : IsTrue s.shelf_told → Says s.shelf.files words row.answer
+  pub says : ReportsInputs s.shelf_told words → Says s.shelf.files words row.answer
 
 -- What the texts of a command are refused for.
 abbrev pub TextsRefused : Files → Values → Refused → Type 0
@@ -72,14 +72,14 @@ IsTheOne files (OfBlame w) cause = IsOneCause w.job (netlist_held files w.job) (
 IsTheOne files (OfFix w) cause = IfOptimistic
     (IsOneOfWalks w.conflicts (sets_of w.sets) w.job (netlist_held files w.job) (recording_held files w.job)) cause
 
--- 5 to 17: the texts are refused for a cause of that status, and its line is printed.
+-- 5 to 17 (no cause has 18 or 19): the texts are refused for a cause of that status, and its line is printed.
 pub record RefusesTexts (s : Start) (shelf : View) (sink : SinkView) (status : ℕ) : Type 0 where
   pub words : Values
   pub means : Means s.line words
   pub cause : Refused
   pub status_is : status ≡ status_of cause
-  pub refused : IsTrue s.shelf_told → TextsRefused s.shelf.files words cause
-  pub one : IsTrue s.shelf_told → IsTheOne s.shelf.files words cause
+  pub refused : ReportsInputs s.shelf_told words → TextsRefused s.shelf.files words cause
+  pub one : ReportsInputs s.shelf_told words → IsTheOne s.shelf.files words cause
   pub row : TextRow (phases_of words) s shelf cause
   pub printed : LinePrinted s.sink_told (line (text_of cause)) (status_of cause) s.sink sink status
 
@@ -102,5 +102,5 @@ AreInOrder files (OfFix w) = IsFixable w (netlist_held files w.job) (recording_h
 
 -- Then the command does what it says, want of memory and faults aside.
 abbrev pub IsComplete : Start → View → SinkView → ℕ → Type 0
-IsComplete s shelf sink status = IsTrue s.shelf_told → (words : Values) → Means s.line words
+IsComplete s shelf sink status = (words : Values) → ReportsInputs s.shelf_told words → Means s.line words
     → AreInOrder s.shelf.files words → NoFault commands s words shelf sink → (status ≡ 0) ⊎ (status ≡ 20)

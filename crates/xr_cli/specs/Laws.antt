@@ -1,19 +1,20 @@
 -- What the functions of src/laws.rt ensure: an answer says what is promised, and a repair's own certificate is in order
 -- for a check of its job.
-use Rattle.std.specs.Prelude.{◌≡◌, ℕ, ◌≤◌, Bool, IsTrue, List, Ok, length}
+use Rattle.std.specs.Prelude.{◌≡◌, ℕ, ◌≤◌, Bool, List, Ok, length}
 use Rattle.xr_phases.specs.Code.{text_limit}
 use Rattle.xr_run.specs.Phases.{Answer, ComesTo}
 use Rattle.xr_shelf.specs.Shelf.{Files}
 use Rattle.xr_words.specs.Words.{CheckValues, Means, RepairValues, Values}
-use Rattle.xr_cli.specs.Answers.{Says}
+use Rattle.xr_cli.specs.Answers.{ReportsInputs, Says}
 use Rattle.xr_cli.specs.Headline.{Headline}
 use Rattle.xr_cli.specs.Phases.{phases_of}
 use Rattle.xr_cli.specs.Texts.{IsCheckable}
 
--- What a command of the set finds, of files that the shelf reports, says what is promised.
+-- What a command of the set finds, of files that the shelf reports if it reads any, says what is promised.
 abbrev pub AnswersSay : Type 0
-AnswersSay = (told : Bool) (files : Files) (line : List (List ℕ)) (words : Values) (answer : Answer) → IsTrue told
-    → Means line words → ComesTo told files (phases_of words) (Ok answer) → Says files words answer
+AnswersSay = (told : Bool) (files : Files) (line : List (List ℕ)) (words : Values) (answer : Answer)
+    → ReportsInputs told words → Means line words → ComesTo told files (phases_of words) (Ok answer)
+    → Says files words answer
 
 -- A check of what a repair wrote: of the same job, with logs of as many clauses.
 pub record IsCheckOf (w : RepairValues) (check : CheckValues) : Type 0 where

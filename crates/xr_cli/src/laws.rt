@@ -2,7 +2,7 @@
 
 ghost use Rattle.xr_cli.specs.Laws as spec;
 
-/// Where the shelf tells what its files hold, what a command of the set finds says what is promised.
+/// Where the shelf reports the files that it reads, what a command of the set finds says what is promised.
 pub fn answers_say_what_is_promised()
     ensures { spec.AnswersSay }
 {}
