@@ -19,7 +19,7 @@ use Rattle.xr_phases.specs.Certificate.{IsWrong}
 use Rattle.xr_phases.specs.Code.{code_in, text_limit}
 use Rattle.xr_cli.specs.Answers.{ReportsInputs}
 use Rattle.xr_cli.specs.Commands.{commands}
-use Rattle.xr_cli.specs.Ends.{AreInOrder, Done, IsComplete, IsTheOne, RefusesTexts, TextsRefused}
+use Rattle.xr_cli.specs.Ends.{AreInOrder, Done, EndsInOrder, IsTheOne, RefusesTexts, AreRefusedFor}
 use Rattle.xr_cli.specs.Foreign.{repair_for}
 use Rattle.xr_cli.specs.Made.{made_conflicts, made_job, made_netlist}
 use Rattle.xr_cli.specs.Listed.{repair_to_blame}
@@ -205,7 +205,7 @@ module _ (told : Bool) (files : Files) (t : IsTrue told) where
       (λ n r. upgrade_fails told files t (parts n r) w cause) comes
 
 texts_refused : (s : Start) (words : Values) (cause : Refused) → ReportsInputs s.shelf_told words → ComesTo s.shelf_told s.shelf.files (phases_of words) (Err cause)
-    → TextsRefused s.shelf.files words cause
+    → AreRefusedFor s.shelf.files words cause
 texts_refused s (OfRepair w) cause t comes =
     refused_by s.shelf_told s.shelf.files t w.job (λ (job : Parts). repaired_phases w job.netlist job.recorded) (RepairFails w.conflicts) cause
     (λ n r. repair_fails s.shelf_told s.shelf.files t (parts n r) w cause) comes
@@ -250,7 +250,7 @@ the_one_made w cause refused = λ recording is.
     one_cause made_job (made_netlist w) recording made_conflicts cause
     (λ o same. job_of made_job (made_netlist w) recording made_conflicts o (made_objected w o (subst (IsMadeRefused w) same refused) recording is))
 
-the_one : (s : Start) (words : Values) (cause : Refused) → TextsRefused s.shelf.files words cause → IsTheOne s.shelf.files words cause
+the_one : (s : Start) (words : Values) (cause : Refused) → AreRefusedFor s.shelf.files words cause → IsTheOne s.shelf.files words cause
 the_one s (OfRepair w) cause refused =
     one_cause w.job (netlist_held s.shelf.files w.job) (recording_held s.shelf.files w.job) w.conflicts cause
     (λ o is. job_of w.job (netlist_held s.shelf.files w.job) (recording_held s.shelf.files w.job) w.conflicts o
@@ -364,5 +364,5 @@ module _ (s : Start) (shelf : View) (sink : SinkView) (status : ℕ) where
           printed = line_printed s.sink_told (line (text_of is.cause)) (status_of is.cause) s.sink sink status high is.line;
         }
 
-    pub is_complete : IsComplete s shelf sink status
+    pub is_complete : EndsInOrder s shelf sink status
     is_complete = λ words t means order none. all.unrefused words means (never s.shelf_told s.shelf.files words t order) none

@@ -95,14 +95,14 @@ ReportsInputs told (OfAudit w) = IsTrue told
 ReportsInputs told (OfBlame w) = IsTrue told
 ReportsInputs told (OfFix w) = IsTrue told
 
-abbrev pub Says : Files → Values → Answer → Type 0
-Says files (OfRepair w) answer = SaysRepair files w answer
-Says files (OfReplay w) answer = SaysReplay files w answer
-Says files (OfCheck w) answer = SaysCheck files w answer
-Says files (OfUpgrade w) answer = SaysUpgrade files w answer
-Says files (OfMake w) answer = SaysMake w answer
-Says files (OfExport w) answer = SaysExport files w answer
-Says files (OfProve w) answer = SaysProve files w answer
-Says files (OfAudit w) answer = SaysAudit files w answer
-Says files (OfBlame w) answer = SaysBlame files w answer
-Says files (OfFix w) answer = SaysFix files w answer
+abbrev pub AnswerSays : Files → Values → Answer → Type 0
+AnswerSays files (OfRepair w) answer = SaysRepair files w answer
+AnswerSays files (OfReplay w) answer = SaysReplay files w answer
+AnswerSays files (OfCheck w) answer = SaysCheck files w answer
+AnswerSays files (OfUpgrade w) answer = SaysUpgrade files w answer
+AnswerSays files (OfMake w) answer = SaysMake w answer
+AnswerSays files (OfExport w) answer = SaysExport files w answer
+AnswerSays files (OfProve w) answer = SaysProve files w answer
+AnswerSays files (OfAudit w) answer = SaysAudit files w answer
+AnswerSays files (OfBlame w) answer = SaysBlame files w answer
+AnswerSays files (OfFix w) answer = SaysFix files w answer

@@ -5,7 +5,7 @@ use Rattle.xr_phases.specs.Code.{text_limit}
 use Rattle.xr_run.specs.Phases.{Answer, ComesTo}
 use Rattle.xr_shelf.specs.Shelf.{Files}
 use Rattle.xr_words.specs.Words.{CheckValues, Means, RepairValues, Values}
-use Rattle.xr_cli.specs.Answers.{ReportsInputs, Says}
+use Rattle.xr_cli.specs.Answers.{ReportsInputs, AnswerSays}
 use Rattle.xr_cli.specs.Headline.{Headline}
 use Rattle.xr_cli.specs.Phases.{phases_of}
 use Rattle.xr_cli.specs.Texts.{IsCheckable}
@@ -14,7 +14,7 @@ use Rattle.xr_cli.specs.Texts.{IsCheckable}
 abbrev pub AnswersSay : Type 0
 AnswersSay = (told : Bool) (files : Files) (line : List (List ℕ)) (words : Values) (answer : Answer)
     → ReportsInputs told words → Means line words → ComesTo told files (phases_of words) (Ok answer)
-    → Says files words answer
+    → AnswerSays files words answer
 
 -- A check of what a repair wrote: of the same job, with logs of as many clauses.
 pub record IsCheckOf (w : RepairValues) (check : CheckValues) : Type 0 where

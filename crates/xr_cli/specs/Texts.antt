@@ -12,7 +12,7 @@ use Rattle.xr_design.specs.declared.waveform.Written.{Written}
 use Rattle.xr_replay.specs.Fault.{IsFaultless}
 use Rattle.xr_wave.specs.declared.advance.Optimistic.{Optimistic as Found}
 use Rattle.xr_repair.specs.Repaired.{IsObjection}
-use Rattle.xr_job.specs.Compared.{IsRefusedReplay, job_in}
+use Rattle.xr_job.specs.Compared.{IsRefusedReplay, job_for}
 use Rattle.xr_job.specs.declared.compare_refusal.CompareRefusal.{CompareRefusal}
 use Rattle.xr_job.specs.declared.netlist.Netlist.{Netlist as ANetlist}
 use Rattle.xr_job.specs.declared.netlist_refusal.NetlistRefusal.{NetlistRefusal}
@@ -27,7 +27,7 @@ use Rattle.xr_phases.specs.Sets.{sets_of}
 use Rattle.xr_phases.specs.declared.cause.Objection.{Objection}
 use Rattle.xr_phases.specs.Phases.{parts, scope_of}
 use Rattle.xr_phases.specs.Texts.{AreRefused, HasNetlist, IsJob, IsOneCause, IsRefusedNetlist, RepairFails}
-use Rattle.xr_phases.specs.Repair.{Agrees, IsObjectionIn, beginning, netlist_limit}
+use Rattle.xr_phases.specs.Repair.{AgreesThroughout, IsObjectionIn, beginning, netlist_limit}
 use Rattle.xr_phases.specs.declared.cause.Refused.{Refused}
 use Rattle.xr_phases.specs.declared.cause.Refused.TheVariants.{Compare, LongNetlist, Netlist}
 use Rattle.xr_phases.specs.declared.parts.Parts.{Parts}
@@ -37,8 +37,8 @@ pub record IsRepairable (w : RepairValues) (netlist recording : List ℕ) : Type
   pub n : ANetlist
   pub r : Recorded
   pub job : IsJob w.job netlist recording n r
-  pub faultless : IsFaultless (job_in n r) r.recording r.binding
-  pub none : (history : HistoryView) (found : Found) → IsReplay (job_in n r) history
+  pub faultless : IsFaultless (job_for n r) r.recording r.binding
+  pub none : (history : HistoryView) (found : Found) → IsReplay (job_for n r) history
       → IsObjection (beginning w.conflicts n r history) found → ⊥
 
 -- The texts stand for a job that agrees.
@@ -46,7 +46,7 @@ pub record IsAuditable (w : AuditValues) (netlist recording : List ℕ) : Type 0
   pub n : ANetlist
   pub r : Recorded
   pub job : IsJob w.job netlist recording n r
-  pub faultless : IsFaultless (job_in n r) r.recording r.binding
+  pub faultless : IsFaultless (job_for n r) r.recording r.binding
 
 -- `audit`: the recording disagrees. No place is found otherwise than a blank history knows it.
 pub data AuditFails (job : Parts) : Refused → Type 0 where
@@ -67,7 +67,7 @@ pub record IsCheckable (w : CheckValues) (netlist recording cert : List ℕ) : T
   pub r : Recorded
   pub job : IsJob w.job netlist recording n r
   pub replay : HistoryView
-  pub agrees : Agrees n r replay
+  pub agrees : AgreesThroughout n r replay
   pub fits : length cert ≤ text_limit
   pub certificate : Cert
   pub stands : IsTextOf cert certificate
@@ -80,7 +80,7 @@ pub record IsUpgradable (w : UpgradeValues) (netlist recording cert : List ℕ) 
   pub r : Recorded
   pub job : IsJob w.job netlist recording n r
   pub replay : HistoryView
-  pub agrees : Agrees n r replay
+  pub agrees : AgreesThroughout n r replay
   pub fits : length cert ≤ text_limit
   pub certificate : Cert
   pub stands : IsTextOf cert certificate
@@ -94,7 +94,7 @@ pub record IsFixable (w : FixValues) (netlist recording : List ℕ) : Type 0 whe
   pub n : ANetlist
   pub r : Recorded
   pub job : IsJob w.job netlist recording n r
-  pub faultless : IsFaultless (job_in n r) r.recording r.binding
+  pub faultless : IsFaultless (job_for n r) r.recording r.binding
   pub stim : Stim
   pub started : IsStarted n.design r.stim (sets_of w.sets) stim
   pub none : (objection : Objection) → IsObjectionIn w.conflicts n r.stim objection → ⊥
@@ -108,8 +108,8 @@ pub record IsMakeable (w : MakeValues) : Type 0 where
   pub recording : List ℕ
   pub made : IsRecordingOf w n recording
   pub job : IsJob made_job (made_netlist w) recording n r
-  pub faultless : IsFaultless (job_in n r) r.recording r.binding
-  pub none : (history : HistoryView) (found : Found) → IsReplay (job_in n r) history
+  pub faultless : IsFaultless (job_for n r) r.recording r.binding
+  pub none : (history : HistoryView) (found : Found) → IsReplay (job_for n r) history
       → IsObjection (beginning made_conflicts n r history) found → ⊥
 
 -- ---- a made job

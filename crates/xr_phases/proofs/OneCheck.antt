@@ -23,7 +23,7 @@ use Rattle.xr_design.specs.Fits.{Fits}
 use Rattle.xr_design.specs.Handed.{IsReplay}
 use Rattle.xr_design.specs.History.{HistoryView}
 use Rattle.xr_design.specs.declared.waveform.Written.{Written}
-use Rattle.xr_job.specs.Compared.{job_in}
+use Rattle.xr_job.specs.Compared.{job_for}
 use Rattle.xr_listing.specs.Conditions.{conditions_text}
 use Rattle.xr_model.proofs.Uniqueness.{yields_one}
 use Rattle.xr_wave.specs.Contents.{Contents, job, shown_in}
@@ -192,7 +192,7 @@ shows_same a b wave listing = λ t. record { wave = wave t; listing = listing t 
 pub one_check : (conflicts : ℕ) (job : Parts) (cert : Cert) → IsOne (CheckComes conflicts job cert)
 one_check conflicts job cert (Ok a) (Ok b) first second =
     let fits = fits_job job.netlist job.recorded first.certified.fits in
-    let same = one_history (job_in job.netlist job.recorded) fits (λ place. None) a.wave.history b.wave.history first.certified.replay second.certified.replay in
+    let same = one_history (job_for job.netlist job.recorded) fits (λ place. None) a.wave.history b.wave.history first.certified.replay second.certified.replay in
     let start = beginning conflicts job.netlist job.recorded a.wave.history in
     let again : IsChecked start cert b.wave second.conditions =
     subst (λ (h : HistoryView). IsChecked (beginning conflicts job.netlist job.recorded h) cert b.wave second.conditions) (sym same) second.certified.checked in
@@ -202,29 +202,29 @@ one_check conflicts job cert (Ok a) (Ok b) first second =
     ap Ok (shows_same a b waves (first.listing_is ∙ texts ∙ ap (λ (c : Contents). conditions_text c second.conditions) waves ∙ sym second.listing_is))
 one_check conflicts job cert (Ok a) (Err f) first second =
     let fits = fits_job job.netlist job.recorded first.certified.fits in
-    let same = one_history (job_in job.netlist job.recorded) fits (λ place. None) a.wave.history second.history first.certified.replay second.replay in
+    let same = one_history (job_for job.netlist job.recorded) fits (λ place. None) a.wave.history second.history first.certified.replay second.replay in
     let start = beginning conflicts job.netlist job.recorded a.wave.history in
     absurd (unrefused start cert refl refl fits a.wave first.conditions second.refusal first.certified.checked
     (subst (λ (h : HistoryView). IsRefusalOf (beginning conflicts job.netlist job.recorded h) cert second.refusal) (sym same) second.refused)
     (no_cause_of job start cert refl second.refusal f second.is))
 one_check conflicts job cert (Err e) (Ok b) first second =
     let fits = fits_job job.netlist job.recorded first.fits in
-    let same = one_history (job_in job.netlist job.recorded) fits (λ place. None) b.wave.history first.history second.certified.replay first.replay in
+    let same = one_history (job_for job.netlist job.recorded) fits (λ place. None) b.wave.history first.history second.certified.replay first.replay in
     let start = beginning conflicts job.netlist job.recorded b.wave.history in
     absurd (unrefused start cert refl refl fits b.wave second.conditions first.refusal second.certified.checked
     (subst (λ (h : HistoryView). IsRefusalOf (beginning conflicts job.netlist job.recorded h) cert first.refusal) (sym same) first.refused)
     (no_cause_of job start cert refl first.refusal e first.is))
 one_check conflicts job cert (Err e) (Err f) first second =
-    let same = one_history (job_in job.netlist job.recorded) (fits_job job.netlist job.recorded first.fits) (λ place. None) first.history second.history first.replay second.replay in
+    let same = one_history (job_for job.netlist job.recorded) (fits_job job.netlist job.recorded first.fits) (λ place. None) first.history second.history first.replay second.replay in
     ap Err (causes_one job (beginning conflicts job.netlist job.recorded first.history) cert refl first.refusal second.refusal e f first.refused
     (subst (λ (h : HistoryView). IsRefusalOf (beginning conflicts job.netlist job.recorded h) cert second.refusal) (sym same) second.refused) first.is second.is)
 
 -- One that is accepted over the job's replay isn't refused.
 pub accepted_certified : (conflicts : ℕ) (job : Parts) (cert : Cert) (history : HistoryView) (waveform : List Written) (cause : Refused)
-    → IsReplay (job_in job.netlist job.recorded) history → IsAccepted (beginning conflicts job.netlist job.recorded history) cert waveform
+    → IsReplay (job_for job.netlist job.recorded) history → IsAccepted (beginning conflicts job.netlist job.recorded history) cert waveform
     → IsUncertified conflicts job cert cause → ⊥
 accepted_certified conflicts job cert history waveform cause replay accepted refused =
-    let same = one_history (job_in job.netlist job.recorded) (fits_job job.netlist job.recorded refused.fits) (λ place. None) history refused.history replay refused.replay in
+    let same = one_history (job_for job.netlist job.recorded) (fits_job job.netlist job.recorded refused.fits) (λ place. None) history refused.history replay refused.replay in
     let start = beginning conflicts job.netlist job.recorded refused.history in
     accepted_unrefused start cert waveform refused.refusal refl
     (subst (λ (h : HistoryView). IsAccepted (beginning conflicts job.netlist job.recorded h) cert waveform) same accepted) refused.refused

@@ -19,7 +19,7 @@ use Rattle.xr_words.specs.Words.{JobValues}
 use Rattle.xr_phases.specs.Certificate.{IsUncertified, IsWrong}
 use Rattle.xr_phases.specs.Code.{text_limit}
 use Rattle.xr_phases.specs.Phases.{parts, scope_of}
-use Rattle.xr_phases.specs.Repair.{Agrees, beginning, rule_of}
+use Rattle.xr_phases.specs.Repair.{AgreesThroughout, beginning, rule_of}
 use Rattle.xr_phases.specs.Texts.{AreRefused, CheckFails, HasNetlist, IsJob, UpgradeFails}
 use Rattle.xr_phases.specs.declared.cause.Refused.{Refused}
 use Rattle.xr_phases.specs.declared.cause.Uncertified.{Uncertified}
@@ -58,7 +58,7 @@ module _ (w : JobValues) (netlist recording : List ℕ) (n : ANetlist) (r : Reco
 
   -- ---- a certificate that is accepted
 
-  module _ (conflicts : ℕ) (text : List ℕ) (history : HistoryView) (agrees : Agrees n r history)
+  module _ (conflicts : ℕ) (text : List ℕ) (history : HistoryView) (agrees : AgreesThroughout n r history)
       (fits : length text ≤ text_limit) (cert : Cert) (stands : IsTextOf text cert) (waveform : List Written)
       (accepted : IsAccepted (beginning conflicts n r history) cert waveform) where
     not_compared : (e : CompareRefusal) → IsRefusedReplay n r e → ⊥

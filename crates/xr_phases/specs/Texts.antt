@@ -10,7 +10,7 @@ use Rattle.xr_replay.specs.Fault.{IsFaultless}
 use Rattle.xr_design.specs.declared.stim.Stim.{Stim}
 use Rattle.xr_fix.specs.Started.{IsFirstFault, IsStarted, Piece}
 use Rattle.xr_fix.specs.declared.refusal.StartFault.{StartFault}
-use Rattle.xr_job.specs.Compared.{IsRefusedReplay, job_in}
+use Rattle.xr_job.specs.Compared.{IsRefusedReplay, job_for}
 use Rattle.xr_job.specs.Netlist.{NetlistComes}
 use Rattle.xr_job.specs.Recorded.{RecordingComes}
 use Rattle.xr_job.specs.declared.compare_refusal.CompareRefusal.{CompareRefusal}
@@ -80,11 +80,11 @@ pub record HasJob (w : JobValues) (netlist recording : List ℕ) (Holds : ANetli
 
 -- The recording of a job agrees with its replay.
 abbrev pub IsAgreed : Parts → Type 0
-IsAgreed job = IsFaultless (job_in job.netlist job.recorded) job.recorded.recording job.recorded.binding
+IsAgreed job = IsFaultless (job_for job.netlist job.recorded) job.recorded.recording job.recorded.binding
 
 -- The recording agrees with the replay, and a place is found otherwise.
 pub record IsObjected (conflicts : ℕ) (objection : Objection) (n : ANetlist) (r : Recorded) : Type 0 where
-  pub faultless : IsFaultless (job_in n r) r.recording r.binding
+  pub faultless : IsFaultless (job_for n r) r.recording r.binding
   pub objects : IsObjectionIn conflicts n r.stim objection
 
 -- The starts are set, and a place is found otherwise under them.
@@ -160,17 +160,18 @@ pub data FixFails (conflicts : ℕ) (pieces : List Piece) (job : Parts) : Refuse
 
 -- ---- a place that is found otherwise
 
--- Without an undecided body among the lines before it, it is the one of these texts that is found so, whatever the limit
--- of the search.
-abbrev pub IsOneFound : JobValues → List ℕ → List ℕ → (ℕ → Objection → ANetlist → Recorded → Type 0) → Objection → Type 0
+-- Without an undecided body among the lines before it, it is the one of these texts that is found so, whatever the
+-- limit of the search.
+abbrev pub IsOneFound : JobValues → List ℕ → List ℕ → (ℕ → Objection → ANetlist → Recorded → Type 0) → Objection
+    → Type 0
 IsOneFound w netlist recording Finds objection = objection.undecided ≡ 0 → (conflicts : ℕ) (other : Objection)
     → HasJob w netlist recording (Finds conflicts other) → other.undecided ≡ 0 → other ≡ objection
 
 abbrev pub IsOneObjection : JobValues → List ℕ → List ℕ → Objection → Type 0
 IsOneObjection w netlist recording objection = IsOneFound w netlist recording IsObjected objection
 
--- `fix`: it is found under the recorded starts, and is the one there; or else it is found under the set ones, and is the
--- one there.
+-- `fix`: it is found under the recorded starts, and is the one there; or else it is found under the set ones, and is
+-- the one there.
 pub data IsOneOfWalks (conflicts : ℕ) (pieces : List Piece) (w : JobValues) (netlist recording : List ℕ)
     (objection : Objection) : Type 0 where
   of_recorded : HasJob w netlist recording (IsObjected conflicts objection)
