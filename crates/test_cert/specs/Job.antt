@@ -1,6 +1,6 @@
 -- When a job fits.
 use Rattle.xr_design.specs.Handed.{IsReplay}
-use Rattle.xr_job.specs.Compared.{job_in}
+use Rattle.xr_job.specs.Compared.{job_for}
 use Rattle.xr_job.specs.Netlist.{FitsNetlist}
 use Rattle.xr_job.specs.Recorded.{FitsRecorded}
 use Rattle.xr_wave.specs.Contents.{IsLimit}
@@ -10,5 +10,5 @@ use Rattle.test_cert.specs.declared.job.Job.{Job}
 pub record FitsJob (job : Job) : Type 0 where
   pub netlist : FitsNetlist job.netlist.now
   pub recorded : FitsRecorded job.netlist.now.design job.recorded.now
-  pub replay : IsReplay (job_in job.netlist.now job.recorded.now) job.history.now
+  pub replay : IsReplay (job_for job.netlist.now job.recorded.now) job.history.now
   pub limited : IsLimit job.limit

@@ -119,7 +119,7 @@ impl Drawn {
             1 => put(&mut self.mixed, b" \r\n\n"),
             2 => put(&mut self.mixed, b"\t"),
             3 => put(&mut self.mixed, b"\ncomment 1 0\n"),
-            4 => put(&mut self.mixed, b"\x0b\x0c  "),
+            4 => put(&mut self.mixed, b"\r\x0c  "),
             _ => put(&mut self.mixed, b" "),
         }
     }

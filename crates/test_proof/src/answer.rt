@@ -10,6 +10,8 @@ pub(crate) enum Answer {
     Line(usize),
     Model,
     Limit,
+    /// A log that refutes, of so many clauses and literals.
+    Log { clauses: usize, literals: usize },
     Tally(Tally),
     /// So many answers of a family hold.
     Held(u64),
@@ -64,6 +66,9 @@ impl fmt::Display for Answer {
             Answer::Line(line) => write!(f, "line {line}"),
             Answer::Model => write!(f, "model"),
             Answer::Limit => write!(f, "limit"),
+            Answer::Log { clauses, literals } => {
+                write!(f, "clauses {clauses} literals {literals}")
+            }
             Answer::Tally(tally) => write!(f, "{tally}"),
             Answer::Held(count) => write!(f, "{count}"),
             Answer::NoModel => write!(f, "no model"),

@@ -4,7 +4,7 @@ use crate::answer::Answer;
 use crate::dimacs::{formula_of, numbers_of};
 use crate::families::Family;
 use crate::logs::{ROOMS, fresh, refuting};
-use crate::searches::solved;
+use crate::searches::{log_of, solved};
 use std::alloc::{AllocError, Global};
 use std::rt::Files;
 use std::{fs, io, str};
@@ -37,9 +37,9 @@ pub(crate) fn run_case<R: Files + AllocGlobal>(
             let (limit, rest) = first_word(rest);
             check_fresh(rt, &mut compare, rest, number_of(limit))?;
         }
-        "solve" => {
+        "solve" | "log" => {
             let (limit, rest) = first_word(rest);
-            search(rt, &mut compare, rest, number_of(limit))?;
+            search(rt, &mut compare, verb, rest, number_of(limit))?;
         }
         _ => compare.answer(family(rt.alloc(), verb, rest))?,
     }
@@ -145,15 +145,17 @@ fn check_fresh<R: Files + AllocGlobal>(
     Ok(())
 }
 
-/// `solve LIMIT FORMULA`.
+/// `solve LIMIT FORMULA`, and `log LIMIT FORMULA` for the log alone.
 fn search<R: Files + AllocGlobal>(
     rt: &R,
     compare: &mut Compare<'_>,
+    verb: &str,
     formula: &str,
     limit: u32,
 ) -> io::Result<()> {
     let text = text_of(rt, formula)?;
     match formula_of(rt.alloc(), text.as_str())? {
+        Some(formula) if verb == "log" => compare.answer(log_of(rt.alloc(), &formula, limit))?,
         Some(formula) => compare.answer(solved(rt.alloc(), &formula, limit))?,
         None => compare.answer(Ok(Answer::Unread))?,
     }

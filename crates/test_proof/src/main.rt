@@ -8,6 +8,7 @@
 //! flip 6 pigeons_4_3.cnf | pigeons_4_3.log -> line 3
 //! fresh 1 1 2 3 0 1 2 -3 0 | 1 2 0 -> fresh
 //! solve 1000 pigeons_4_3.cnf -> refuted
+//! log 1 1 0 -1 0 -> clauses 1 literals 0
 //! every 5 2 1000 -> 412 models, 875 refuted, 0 at the limit
 //! ```
 #![tactic(auto)]

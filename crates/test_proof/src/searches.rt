@@ -44,6 +44,28 @@ pub(crate) fn solved(alloc: Global, formula: &Cnf, limit: u32) -> Result<Answer,
     }
 }
 
+/// How long the log is that refutes a formula within the limit.
+pub(crate) fn log_of(alloc: Global, formula: &Cnf, limit: u32) -> Result<Answer, Memory> {
+    if limit == 0 {
+        return Ok(Answer::Unread);
+    }
+    match solve(alloc, formula, limit)? {
+        Outcome::Model(_) => Ok(Answer::Model),
+        Outcome::Refuted(token) => {
+            let log = token.into_log();
+            let clauses = log.as_slice();
+            Ok(Answer::Log {
+                clauses: clauses.len(),
+                literals: literals_in(clauses),
+            })
+        }
+        Outcome::Limit(token) => {
+            let _log = token.into_log();
+            Ok(Answer::Limit)
+        }
+    }
+}
+
 /// A checker with room for a formula and a log.
 fn roomy(alloc: Global, cnf: &Cnf, log: &[Clause]) -> Result<Checker, Memory>
     ensures { IfOk result (λ checker. checker ≡ cnf.now.vars) }

@@ -2,7 +2,7 @@
 
 ghost use Rattle.std.specs.Prelude.{IfOk, IfSome};
 ghost use Rattle.xr_design.specs.Handed.{IsReplay};
-ghost use Rattle.xr_job.specs.Compared.{job_in};
+ghost use Rattle.xr_job.specs.Compared.{job_for};
 ghost use Rattle.xr_job.specs.Netlist.{FitsNetlist};
 ghost use Rattle.xr_job.specs.Recorded.{FitsRecorded};
 ghost use Rattle.xr_wave.specs.Contents.{IsLimit};
@@ -122,7 +122,7 @@ fn wave_of<'a>(
 ) -> Result<Wave<'a>, RepairErr>
     requires netlist { FitsNetlist netlist.now }
     requires recorded { FitsRecorded netlist.now.design recorded.now }
-    requires replay { IsReplay (job_in netlist.now recorded.now) history.now }
+    requires replay { IsReplay (job_for netlist.now recorded.now) history.now }
 {
     repair(
         alloc,

@@ -4,7 +4,7 @@ ghost use Rattle.std.specs.Prelude.{◌≡◌, ◌<◌, IfOk};
 ghost use Rattle.xr_design.specs.Circuit.{CircuitFits, job_in};
 ghost use Rattle.xr_design.specs.Filling.{IsPlace};
 ghost use Rattle.xr_design.specs.Handed.{HasPlaces};
-ghost use Rattle.xr_job.specs.Compared.{job_in as job_of_texts};
+ghost use Rattle.xr_job.specs.Compared.{job_for as job_of_texts};
 ghost use Rattle.xr_job.specs.Netlist.{FitsNetlist};
 ghost use Rattle.xr_job.specs.Recorded.{FitsRecorded};
 

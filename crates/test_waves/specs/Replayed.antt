@@ -1,7 +1,7 @@
 -- A job with its replay.
 use Rattle.xr_design.specs.Handed.{IsReplay}
 use Rattle.xr_design.specs.History.{HistoryView}
-use Rattle.xr_job.specs.Compared.{job_in}
+use Rattle.xr_job.specs.Compared.{job_for}
 use Rattle.xr_job.specs.Netlist.{FitsNetlist}
 use Rattle.xr_job.specs.Recorded.{FitsRecorded}
 use Rattle.xr_job.specs.declared.netlist.Netlist.{Netlist}
@@ -11,4 +11,4 @@ use Rattle.xr_job.specs.declared.recorded.Recorded.{Recorded}
 pub record IsReplayed (netlist : Netlist) (recorded : Recorded) (history : HistoryView) : Type 0 where
   pub netlist_fits : FitsNetlist netlist
   pub recorded_fits : FitsRecorded netlist.design recorded
-  pub replayed : IsReplay (job_in netlist recorded) history
+  pub replayed : IsReplay (job_for netlist recorded) history

@@ -35,6 +35,7 @@ use Rattle.xr_along.specs.Along.{BodyFitsAt, GoesAlong, by_class, by_line}
 use Rattle.xr_along.specs.Along as walk
 use Rattle.xr_cert.specs.Checked.{IsAccepted, IsChecked, IsRefusalOf, line as at_line, number}
 use Rattle.xr_cert.specs.Entries.{AreTurned, EachHasTurns, lines_in, turns_in_front}
+use Rattle.xr_cert.specs.Laws.{IsReason}
 use Rattle.xr_cert.specs.Walk.{IsCertFault, IsFirstCertFault, IsUpTo, astray, beyond, class_objects, later, line, line_objects, no_line, no_memory, refused, turn, turn_astray, with_turns}
 use Rattle.xr_cert.specs.declared.check.Checked.{Checked}
 use Rattle.xr_cert.specs.declared.refusal.CheckErr.{CheckErr}
@@ -274,6 +275,12 @@ refused_memory : (start : Contents) (cert : ACert) (v : List Written) (e : Check
     → IsRefusalOf start cert e → e ≡ Memory
 refused_memory start cert v e empty accepted (number other) = absurd (other accepted.numbers)
 refused_memory start cert v e empty accepted (at_line numbers fault) = first_memory start cert v e empty accepted fault
+
+pub accepted_unrefused : (start : Contents) (cert : ACert) (v : List Written) (e : CheckErr) → start.lines ≡ []
+    → IsAccepted start cert v
+    → IsRefusalOf start cert e → IsReason e → ⊥
+accepted_unrefused start cert v e empty accepted refusal reason =
+    reason (refused_memory start cert v e empty accepted refusal)
 
 checked_waveform : (start : Contents) (cert : ACert) (v : List Written) (checked : Checked) → IsAccepted start cert v
     → IsChecked start cert checked.wave checked.conditions → checked.wave.written ≡ v

@@ -7,6 +7,7 @@ pub mod Fitted
 pub mod Going
 pub mod NamedPlaces
 pub mod OneFault
+pub mod OneText
 pub mod OwnEntries
 pub mod OwnLines
 pub mod OwnText

@@ -22,6 +22,7 @@ use Rattle.xr_cone_nodes.specs.declared.node.Node.{Node}
 use Rattle.xr_cone_nodes.specs.Nodes.{nothing, root_bit, sources_of}
 use Rattle.xr_cone_nodes.specs.Traced.{sources_in}
 use Rattle.xr_cone_nodes.specs.Traced.{IsNextCone}
+use Rattle.xr_cnf.specs.Answers.{IsFreshNext, RefutesNext}
 use Rattle.xr_cnf.specs.Query.{IsQueryOfNodes}
 use Rattle.xr_pair.specs.Pairs.{next_bit}
 use Rattle.xr_wave.specs.Contents.{Contents, IsWave, job, next_number, shown_in}
@@ -128,31 +129,16 @@ log_refuses c nodes cnf bit log cone query not accepts =
     (same_clauses (job c) (certain c.written) (next_number c) holds.query cnf holds.is_query (query c (next_number c) cone))
     holds.refutes)
 
--- A log that refutes the query shows that the place has the bit.
-pub refuted_holds : (c : Contents) (nodes : List Node) (cnf : Cnf) (bit : Bool) (log : List (List ℤ)) → IsNextCone c nodes
-    → IsQueryOfNodes nodes cnf → root_bit nothing nodes ≡ bit → All HasNoZero log → Refutes cnf.clauses log
-    → HoldsNext c (Refuted bit log)
-refuted_holds c nodes cnf bit log cone query is literals refutes = record {
-  denied = sym (base_law c (next_number c) nodes cone) ∙ is;
-  query = cnf;
-  is_query = query c (next_number c) cone;
-  literals = literals;
-  refutes = refutes;
-}
+-- A log that refutes the query refutes that of the next place, and one that is fresh for it is fresh there.
+pub refutes_next : (c : Contents) (nodes : List Node) (cnf : Cnf) (log : List (List ℤ)) → IsNextCone c nodes
+    → IsQueryOfNodes nodes cnf → Refutes cnf.clauses log → RefutesNext c log
+refutes_next c nodes cnf log cone query refutes =
+    record { query = cnf; is_query = query c (next_number c) cone; refutes = refutes }
 
--- A fresh log of as many clauses as the limit, at a place with more than 12 sources, is its licence.
-pub licence_holds : (c : Contents) (nodes : List Node) (cnf : Cnf) (log : List (List ℤ)) → IsNextCone c nodes
-    → IsQueryOfNodes nodes cnf → 12 < length (sources_of nodes) → AreFresh cnf.clauses log → length log ≡ c.limit
-    → HoldsNext c (Undecided log)
-licence_holds c nodes cnf log cone query many fresh long =
-    let same = sources_long c nodes cone in
-    record {
-      many = omega (arith, many, same);
-      query = cnf;
-      is_query = query c (next_number c) cone;
-      fresh = fresh;
-      long = long;
-    }
+pub fresh_next : (c : Contents) (nodes : List Node) (cnf : Cnf) (log : List (List ℤ)) → IsNextCone c nodes
+    → IsQueryOfNodes nodes cnf → AreFresh cnf.clauses log → IsFreshNext c log
+fresh_next c nodes cnf log cone query fresh =
+    record { query = cnf; is_query = query c (next_number c) cone; fresh = fresh }
 
 -- Fillings that give 1, or 0 twice, are no pair.
 pub one_refuses : (c : Contents) (zero one : List Place) → next_bit c zero ≡ true → AcceptsLine c (next_line c (Pair zero one)) → ⊥

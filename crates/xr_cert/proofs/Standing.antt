@@ -20,7 +20,7 @@ use Rattle.xr_along.specs.Along as walk
 use Rattle.xr_cone.specs.Known.{IsGrown}
 use Rattle.xr_cond.specs.View.{ConditionView, IsConditionOf}
 use Rattle.xr_cond.proofs.StayingConditions.{conditions_stay}
-use Rattle.xr_turns.specs.Conditions.{AreConditionsOf, IsConditionAt, IsSettledAt, gives_bit, settled_places}
+use Rattle.xr_turns.specs.Conditions.{AreConditionsOf, IsConditionAt, IsCertainLine, gives_bit, settled_places}
 use Rattle.xr_turns.specs.Laws.{StatesTurns}
 use Rattle.xr_turns.specs.TurnLines.{IsNoTurn, IsTaken, stated, turn_lines, turn_places}
 use Rattle.xr_turns.proofs.SettledLines.{settled_at}
@@ -189,11 +189,11 @@ closed_between start done c views view none is =
 
 -- The place of a line that gives a bit is settled.
 pub settled_line : (c : Contents) (l : ALine) → IsWave (with_line c l) → gives_bit l.body ≡ true
-    → IsSettledAt (with_line c l) l.place
+    → IsCertainLine (with_line c l) l.place
 settled_line c l wave gives =
     let long = length-append c.lines (l ∷ []) in
     let here : slice_index_or (c.lines ++ l ∷ []) (length c.lines) l ≡ l = get_or-append_seam c.lines l [] l in
-    subst (λ (x : ALine). IsSettledAt (with_line c l) x.place) here
+    subst (λ (x : ALine). IsCertainLine (with_line c l) x.place) here
     (settled_at (with_line c l) (length c.lines) l wave (omega (arith, long)) (ap (λ (x : ALine). gives_bit x.body) here
     ∙ gives))
 

@@ -10,7 +10,7 @@ use Rattle.xr_wave.specs.Contents.{Contents, IsWave, job, next_number, next_seen
 use Rattle.xr_wave.specs.Token.{IsLineNext}
 use Rattle.xr_along.specs.Accepted.{IsLater, NamesNext}
 use Rattle.xr_cond.specs.View.{ConditionView}
-use Rattle.xr_turns.specs.Conditions.{IsSettledAt, gives_bit}
+use Rattle.xr_turns.specs.Conditions.{IsCertainLine, gives_bit}
 use Rattle.xr_cert_text.specs.declared.cert.Entry.{Entry}
 use Rattle.xr_cert_text.specs.declared.cert.Entry.TheVariants.{Line, Turn}
 use Rattle.xr_cert_text.specs.declared.cert.Form.{Form}
@@ -55,9 +55,9 @@ astray_stops c line number next neither = faults (λ rest. astray line rest next
 -- A line that is spent has turns, or none.
 pub settled_spent : (c after : Contents) (line : ALine) → IsWave after → gives_bit line.body ≡ true
     → IsSpent c line after
-    → IsSettledAt after line.place
+    → IsCertainLine after line.place
 settled_spent c after line wave gives spent =
-    subst (λ (d : Contents). IsSettledAt d line.place) (sym spent.is)
+    subst (λ (d : Contents). IsCertainLine d line.place) (sym spent.is)
     (settled_line c line (subst IsWave spent.is wave) gives)
 
 pub unturned : (form : Form) (gives tested : Bool) → ((form ≡ Turns) × (gives ≡ true) → tested ≡ true) → tested ≡ false

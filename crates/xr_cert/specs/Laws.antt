@@ -1,6 +1,8 @@
--- What the functions of src/laws.rt ensure: lines have one first fault, and a wave's own certificate is accepted.
-use Rattle.std.specs.Prelude.{◌≡◌, List, []}
+-- What the functions of src/laws.rt ensure: lines have one first fault, an accepted certificate has none, a text stands
+-- for one certificate, and a wave's own is accepted.
+use Rattle.std.specs.Prelude.{◌≡◌, ℕ, List, []}
 use Rattle.xr_design.specs.declared.place.Place.{Place}
+use Rattle.xr_design.specs.declared.waveform.Written.{Written}
 use Rattle.xr_design.specs.Filling.{IsPlace}
 use Rattle.xr_wave.specs.Contents.{Contents, IsFinished, IsWave, job}
 use Rattle.xr_wave.specs.declared.advance.Optimistic.{Optimistic}
@@ -50,6 +52,15 @@ abbrev pub CheckedHasNone : Type 0
 CheckedHasNone = (start : Contents) (cert : ACert) (c : Contents) (conditions : List ConditionView) (e : CheckErr)
     → start.lines ≡ [] → IsChecked start cert c conditions → IsFirstCertFault cert.form start cert.entries e
     → IsReason e → ⊥
+
+-- A certificate that is accepted isn't refused: not for its numbers, and for no fault of its lines.
+abbrev pub AcceptedHasNone : Type 0
+AcceptedHasNone = (start : Contents) (cert : ACert) (waveform : List Written) (e : CheckErr) → start.lines ≡ []
+    → IsAccepted start cert waveform → IsRefusalOf start cert e → IsReason e → ⊥
+
+-- A text stands for at most one certificate.
+abbrev pub TextsStandForOne : Type 0
+TextsStandForOne = (text : List ℕ) (one other : ACert) → IsTextOf text one → IsTextOf text other → one ≡ other
 
 -- The certificate of a form of a finished wave that went along lines from nothing is accepted, and yields the wave.
 abbrev pub OwnAccepted : Type 0

@@ -9,6 +9,16 @@ pub fn faults_are_one()
     ensures none { spec.CheckedHasNone }
 {}
 
+/// A certificate that is accepted is refused for nothing: its check gives its waveform, or there is no memory.
+pub fn accepted_is_not_refused()
+    ensures { spec.AcceptedHasNone }
+{}
+
+/// A text stands for at most one certificate.
+pub fn texts_stand_for_one()
+    ensures { spec.TextsStandForOne }
+{}
+
 /// The certificate of a finished wave that went along lines, as a repair's does, is accepted, and yields the wave.
 pub fn own_certificate_is_accepted()
     ensures { spec.OwnAccepted }

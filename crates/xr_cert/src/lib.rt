@@ -24,7 +24,8 @@ mod written;
 
 pub use check::{Checked, check_cert};
 pub use laws::{
-    faults_are_one, own_certificate_is_accepted, own_text_reads_back, refusals_name_places,
+    accepted_is_not_refused, faults_are_one, own_certificate_is_accepted, own_text_reads_back,
+    refusals_name_places, texts_stand_for_one,
 };
 pub use refusal::{CertErr, CertFault, CheckErr};
 pub use text::{read_cert, write_cert};

@@ -11,11 +11,11 @@ ghost use Rattle.xr_cert.specs.Step.{IsTokenOf, Refuses};
 
 use std::alloc::Global;
 use xr_base::Memory;
-use xr_cnf::clauses;
+use xr_cnf::{clauses, conclude, give_up};
 use xr_cone::Cone;
 use xr_proof::{Cnf, Log};
 use xr_turns::logs::{checker_for, fits};
-use xr_wave::{Budget, How, Settled, Wave};
+use xr_wave::{Budget, Settled, Wave};
 
 /// A place isn't undecided with up to this many sources.
 const ENUMERATED: usize = 12;
@@ -38,7 +38,7 @@ pub fn refuted_token(
     }
     let query = clauses(alloc, cone)?;
     if fits(&log, query.vars) {
-        refuting_token(alloc, wave, cone, bit, &query, log)
+        refuting_token(alloc, wave, cone, &query, log)
     } else {
         Ok(None)
     }
@@ -50,30 +50,26 @@ fn are_same(a: bool, b: bool) -> bool
     a == b
 }
 
-/// The same where the query denies the bit, and the log names its variables alone.
+/// The same of the bit that the query denies, where the log names its variables alone.
 fn refuting_token(
     alloc: Global,
     wave: &Wave<'_>,
     cone: &Cone,
-    bit: bool,
     query: &Cnf,
     log: Log,
 ) -> Result<Option<Settled>, Memory>
     requires cone { IsNextCone wave.now cone.now.nodes }
-    requires base { root_bit nothing cone.now.nodes ≡ bit }
     requires query { IsQueryOfNodes cone.now.nodes query.now }
     requires few { query.now.vars ≤ 2 ^ 27 }
     requires fit { Fit query.now.vars log }
-    ensures token { IfOk result
-        (λ found. IfSome found (λ t. IsTokenOf wave.now (body.Refuted bit log) (settled_line t))) }
-    ensures none { IfOk result (λ found. IfNone found (Refuses wave.now (body.Refuted bit log))) }
+    ensures token { IfOk result (λ found. IfSome found
+        (λ t. IsTokenOf wave.now (body.Refuted (root_bit nothing cone.now.nodes) log) (settled_line t))) }
+    ensures none { IfOk result (λ found. IfNone found
+        (Refuses wave.now (body.Refuted (root_bit nothing cone.now.nodes) log))) }
 {
     let mut checker = checker_for(alloc, query, &log)?;
     match checker.check(query, log) {
-        Ok(proof) => {
-            let how = How::Refuted(bit, proof.into_log());
-            Ok(Some(Settled::from_law(wave, how)))
-        }
+        Ok(proof) => Ok(Some(conclude(wave, cone, proof))),
         Err(_) => Ok(None),
     }
 }
@@ -118,7 +114,7 @@ fn fresh_token(
 {
     let mut checker = checker_for(alloc, query, &log)?;
     match checker.check_fresh(query, log, wave.limit()) {
-        Ok(proof) => Ok(Some(Budget::from_law(wave, proof.into_log()))),
+        Ok(proof) => Ok(Some(give_up(wave, cone, proof))),
         Err(_) => Ok(None),
     }
 }

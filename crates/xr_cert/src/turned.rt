@@ -2,7 +2,7 @@
 
 ghost use Rattle.std.specs.Prelude.{◌≡◌, ◌<◌, [], IfErr, IfOk, Some as ASome};
 ghost use Rattle.xr_cone.specs.Cones.{AreRightOf};
-ghost use Rattle.xr_turns.specs.Conditions.{IsSettledAt};
+ghost use Rattle.xr_turns.specs.Conditions.{IsCertainLine};
 ghost use Rattle.xr_cert_text.specs.declared.cert.Form.{Form as AForm};
 ghost use Rattle.xr_cert.specs.Standing.{ComesAmid, ComesBehind, EndsAmid, EndsBehind, IsWaiting, StaysRight, StopsAt, Takes};
 
@@ -51,7 +51,7 @@ pub fn begin_turns<'a>(
     cones: &mut Cones,
     place: Place,
 ) -> Result<Walked<'a>, CheckErr>
-    requires settled { IsSettledAt wave place }
+    requires settled { IsCertainLine wave place }
     requires right { AreRightOf wave cones.old }
     ensures ok { IfOk result (ComesBehind wave.entry conditions.items place) }
     ensures waits { IfOk result IsWaiting }

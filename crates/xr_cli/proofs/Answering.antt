@@ -17,7 +17,7 @@ use Rattle.xr_wave.specs.Contents.{Contents}
 use Rattle.xr_line.specs.Line.{IsScopeName}
 use Rattle.xr_words.specs.Words.{BlameValues, CheckValues, ExportValues, Means, OfBlame, OfCheck, OfExport, OfFix, OfMake, OfProve, OfRepair, OfReplay, OfUpgrade, ProveValues, RepairValues, ReplayValues, UpgradeValues, Values, AuditValues, OfAudit}
 use Rattle.xr_words.proofs.ScopeNames.{scope_named, sets_named}
-use Rattle.xr_cli.specs.Answers.{Says, SaysBlame, SaysCheck, SaysExport, SaysProve, SaysRepair, SaysReplay, SaysAudit, SaysUpgrade}
+use Rattle.xr_cli.specs.Answers.{ReportsInputs, AnswerSays, SaysBlame, SaysCheck, SaysExport, SaysProve, SaysRepair, SaysReplay, SaysAudit, SaysUpgrade}
 use Rattle.xr_phases.specs.Texts.{netlist_held, recording_held}
 use Rattle.xr_cli.specs.Blames.{Blames}
 use Rattle.xr_phases.specs.Certificate.{form_of}
@@ -223,8 +223,8 @@ module _ (told : Bool) (files : Files) (t : IsTrue told) where
           (blames w (netlist_held files w.job) (recording_held files w.job) listed made lists)
 
 -- What a command of the set finds says what is promised.
-pub answers_say : (told : Bool) (files : Files) (line : List (List ℕ)) (words : Values) (answer : Answer) → IsTrue told → Means line words
-    → ComesTo told files (phases_of words) (Ok answer) → Says files words answer
+pub answers_say : (told : Bool) (files : Files) (line : List (List ℕ)) (words : Values) (answer : Answer) → ReportsInputs told words → Means line words
+    → ComesTo told files (phases_of words) (Ok answer) → AnswerSays files words answer
 answers_say told files line (OfRepair w) answer t means comes =
     repair_says told files t w answer (scope_named line w means)
     (job_found told files t w.job (λ (job : Parts). repaired_phases w job.netlist job.recorded) answer comes)

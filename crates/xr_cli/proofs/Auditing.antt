@@ -9,7 +9,7 @@ use Rattle.xr_design.specs.History.{HistoryView}
 use Rattle.xr_design.specs.Replay.{Held}
 use Rattle.xr_design.specs.declared.waveform.Mark.{Mark}
 use Rattle.xr_design.specs.declared.waveform.Mark.TheVariants.{Certain, Unknown, Undecided}
-use Rattle.xr_job.specs.Compared.{job_in}
+use Rattle.xr_job.specs.Compared.{job_for}
 use Rattle.xr_job.specs.declared.netlist.Netlist.{Netlist as ANetlist}
 use Rattle.xr_job.specs.declared.recorded.Recorded.{Recorded}
 use Rattle.xr_model.specs.Sound.{IsOptimistic}
@@ -39,7 +39,7 @@ unknown_stands Certain value shown is objects = subst IsKnown is objects.0
 unknown_stands Unknown value shown is objects = subst IsKnown is objects
 unknown_stands Undecided value shown is objects = objects
 
-module _ (conflicts : ℕ) (n : ANetlist) (r : Recorded) (blank : HistoryView) (is : IsBlank (job_in n r) blank) where
+module _ (conflicts : ℕ) (n : ANetlist) (r : Recorded) (blank : HistoryView) (is : IsBlank (job_for n r) blank) where
   none_objects : (o : Objection) → IsObjectionBy conflicts n r.stim blank o → ⊥
   none_objects o by =
       let start = nothing_written n.design n.order r.stim blank conflicts in
@@ -69,7 +69,7 @@ module _ (conflicts : ℕ) (n : ANetlist) (r : Recorded) (blank : HistoryView) (
       rw (← a, ← b, ← d, ← e, ← f) refl
 
   pub is_audit : (wave : Contents) (replay : HistoryView) → IsRepairedBy conflicts n r.stim blank wave
-      → IsReplay (job_in n r) replay → IsAudit wave replay
+      → IsReplay (job_for n r) replay → IsAudit wave replay
   is_audit wave replay repaired is_replay =
       let same = wave_same wave repaired in
       record {

@@ -14,7 +14,7 @@ use Rattle.xr_cert_text.specs.declared.cert.Form.TheVariants.{Lines, Turns}
 use Rattle.xr_cond.specs.View.{ConditionView}
 use Rattle.xr_forces.specs.ForcesOf.{forces_of}
 use Rattle.xr_forces.proofs.Showing.{forces_exist}
-use Rattle.xr_job.specs.Compared.{job_in}
+use Rattle.xr_job.specs.Compared.{job_for}
 use Rattle.xr_job.specs.declared.netlist.Netlist.{Netlist as ANetlist}
 use Rattle.xr_job.specs.declared.recorded.Recorded.{Recorded}
 use Rattle.xr_listing.specs.Conditions.{conditions_text}
@@ -80,8 +80,8 @@ checks w n r cert wave conditions certified netlist recording text job faultless
       conditions = conditions;
       conditions_are = there;
       stated = certified.checked.stated ∙ ap (λ (ls : List ALine). entries_of ls conditions) certified.checked.lines;
-      events = forces_of (job_in n r) (value_in wave.written);
-      are = forces_exist (job_in n r) (value_in wave.written) (fits_job n r certified.fits);
+      events = forces_of (job_for n r) (value_in wave.written);
+      are = forces_exist (job_for n r) (value_in wave.written) (fits_job n r certified.fits);
       report_is = ap (λ (c : Contents). report_text c r.binding (forces_in c) ++ conditions_text c conditions)
           (wave_same w.conflicts n r cert wave conditions certified);
       needs = each_needs cert.form (TheWave w.conflicts n r cert wave conditions certified) conditions there;
@@ -122,8 +122,8 @@ upgrades_there w n r cert wave conditions certified found are netlist recording 
         accepted = own_accepted Turns start there found refl refl along is_wave finished are;
         lines_are = own_lines (lines_in cert.entries) found;
       };
-      events = forces_of (job_in n r) (value_in wave.written);
-      are = forces_exist (job_in n r) (value_in wave.written) (fits_job n r certified.fits);
+      events = forces_of (job_for n r) (value_in wave.written);
+      are = forces_exist (job_for n r) (value_in wave.written) (fits_job n r certified.fits);
       report_is = refl;
       needs = each_needs Turns there found are;
     }

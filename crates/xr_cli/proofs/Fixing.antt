@@ -85,6 +85,6 @@ fix_fails told files job w cause (inr (agreed, faultless, inr (stim, started, in
     (FixFails.objected stim started record { faultless = faultless; objects = objects })
 fix_fails told files job w cause (inr (agreed, faultless, inr (stim, started, inr (before, walked, inl (o, objects, is))))) =
     subst (FixFails w.conflicts (sets_of w.sets) job) (sym (err_same {B = Answer} cause (Optimistic o) is))
-    (FixFails.objected_set record { agreed = faultless; stim = stim; started = started; before = before; walked = walked; objects = objects })
+    (FixFails.objected_set record { agreed = faultless; before = before; walked = walked; found = record { stim = stim; started = started; objects = objects } })
 fix_fails told files job w cause (inr (agreed, faultless, inr (stim, started, inr (before, walked, inr (after, again, same))))) =
     absurd (ok_err (fix_answer w job.recorded before.wave after.wave) cause (sym same))

@@ -5,6 +5,7 @@ use Rattle.xr_cell.specs.Value.{IsKnown, bit_value, is_unknown}
 use Rattle.xr_cell.specs.declared.value.Value.{Value}
 use Rattle.xr_cell.specs.declared.value.Value.TheVariants.{Zero, One, X, Z}
 use Rattle.xr_design.specs.Fits.{Fits, place_at}
+use Rattle.xr_design.specs.Force.{forced_by}
 use Rattle.xr_design.specs.Handed.{IsReplay, shown_of}
 use Rattle.xr_design.specs.History.{HistoryView}
 use Rattle.xr_design.specs.Job.{Job, places_of}
@@ -31,7 +32,7 @@ use Rattle.xr_out.specs.Text.{vcd_text}
 use Rattle.std.specs.List.{AllByRecursion}
 use Rattle.xr_along.specs.Along.{GoesAlong}
 use Rattle.xr_cert.specs.Checked.{IsAccepted}
-use Rattle.xr_cert.specs.Entries.{AreConditionsFor, entries_of, lines_in}
+use Rattle.xr_cert.specs.Entries.{AreConditionsFor}
 use Rattle.xr_cert.specs.Step.{cert_in}
 use Rattle.xr_cert.proofs.Fitted.{own_accepted}
 use Rattle.xr_cert.proofs.OwnText.{own_text_stands}
@@ -44,7 +45,7 @@ use Rattle.xr_forces.specs.ForcesOf.{AreForcesOf, forces_of}
 use Rattle.xr_forces.specs.Waves.{values_of}
 use Rattle.xr_forces.proofs.Showing.{forces_exist, forces_show}
 use Rattle.xr_forces.proofs.TextLaws.{text_shown}
-use Rattle.xr_job.specs.Compared.{job_in}
+use Rattle.xr_job.specs.Compared.{job_for}
 use Rattle.xr_job.specs.declared.netlist.Netlist.{Netlist as ANetlist}
 use Rattle.xr_job.specs.declared.recorded.Recorded.{Recorded}
 use Rattle.xr_line.specs.Line.{IsScopeName}
@@ -57,6 +58,7 @@ use Rattle.xr_phases.specs.Repair.{FitsJob, Found, IsFound, beginning}
 use Rattle.xr_phases.specs.Texts.{IsJob}
 use Rattle.xr_cli.proofs.Needing.{each_needs}
 use Rattle.xr_cli.proofs.OwnForces.{own_forces_said}
+use Rattle.xr_phases.proofs.ReplaysExist.{replays_exist}
 use Rattle.xr_phases.proofs.Jobs.{circuit_fits, fits_job, last_place, number_back, place_there, replay_shown}
 
 -- ---- what is known of a place by its mark
@@ -118,10 +120,10 @@ module _ (n : ANetlist) (r : Recorded) (history : HistoryView) (conflicts : ℕ)
   Whole = wave_with n.design n.order r.stim history conflicts written lines
 
   -- The history that it shows has what it has.
-  shown_there : (shown : HistoryView) → Fits (job_in n r) → IsFinished Whole → ShowsWave Whole shown
-      → ShowsWaveform (job_in n r) written shown
+  shown_there : (shown : HistoryView) → Fits (job_for n r) → IsFinished Whole → ShowsWave Whole shown
+      → ShowsWaveform (job_for n r) written shown
   shown_there shown fits finished shows place within =
-      let j = job_in n r in
+      let j = job_for n r in
       let back = number_back j fits place within in
       let there = shows.held (place_at j place)
       record { within = place_there j fits place within; written = rw back (omega (arith, finished, within)) } in
@@ -130,19 +132,19 @@ module _ (n : ANetlist) (r : Recorded) (history : HistoryView) (conflicts : ℕ)
 -- ---- the bits
 
 module _ (n : ANetlist) (r : Recorded) (fits : FitsJob n r) (moment : ℕ) (b : Bound) (bit : ℕ) (is : IsBit n r moment b bit) where
-  bit_within : place_of_bit n r moment b bit < places_of (job_in n r)
+  bit_within : place_of_bit n r moment b bit < places_of (job_for n r)
   bit_within =
       let has = is.variable in
       let bound : FitsBound n.design b = subst (FitsBound n.design) has.2 (fits.recorded.binding.each has.0 b has.1) in
-      last_place (job_in n r) (fits_job n r fits) moment (slice_index b.bits bit) is.moment_is (bound.nets bit 0 is.within)
+      last_place (job_for n r) (fits_job n r fits) moment (slice_index b.bits bit) is.moment_is (bound.nets bit 0 is.within)
 
   -- The recording has there what the replay shows.
-  bit_agrees : IsFaultless (job_in n r) r.recording r.binding
-      → value_at r.recording b.variable bit moment ≡ shown_at (job_in n r) (place_of_bit n r moment b bit)
+  bit_agrees : IsFaultless (job_for n r) r.recording r.binding
+      → value_at r.recording b.variable bit moment ≡ shown_at (job_for n r) (place_of_bit n r moment b bit)
   bit_agrees faultless =
       let has = is.variable in
       let all = (faultless moment is.moment_is).agrees has.0 b has.1 in
-      subst (λ (x : Bound). (k : ℕ) → k < length x.bits → BitAgrees (job_in n r) r.recording moment x k) has.2 all bit is.within
+      subst (λ (x : Bound). (k : ℕ) → k < length x.bits → BitAgrees (job_for n r) r.recording moment x k) has.2 all bit is.within
 
 -- ---- the headline
 
@@ -151,7 +153,7 @@ pub record Made (w : RepairValues) (netlist recording : List ℕ) : Type 0 where
   pub n : ANetlist
   pub r : Recorded
   pub job : IsJob w.job netlist recording n r
-  pub faultless : IsFaultless (job_in n r) r.recording r.binding
+  pub faultless : IsFaultless (job_for n r) r.recording r.binding
   pub found : Found
   pub is : IsFound w.conflicts n r found
 
@@ -165,28 +167,28 @@ module _ (w : RepairValues) (netlist recording : List ℕ) (is : Made w netlist 
       wave_is is.found.wave is.n.design is.n.order is.r.stim is.found.history w.conflicts
       of_job.design of_job.order of_job.stim of_job.history of_job.limit
 
-  fits : Fits (job_in is.n is.r)
+  fits : Fits (job_for is.n is.r)
   fits = fits_job is.n is.r is.is.fits
 
   pub wave : IsWave TheWave
   wave = subst IsWave same is.is.repaired.sound
 
-  pub finished : length is.found.wave.written ≡ places_of (job_in is.n is.r)
+  pub finished : length is.found.wave.written ≡ places_of (job_for is.n is.r)
   finished = subst IsFinished same is.is.repaired.finished
 
-  sound : Sound (job_in is.n is.r) w.conflicts (shown_of (job_in is.n is.r) is.found.history) is.found.wave.written is.found.wave.lines
+  sound : Sound (job_for is.n is.r) w.conflicts (shown_of (job_for is.n is.r) is.found.history) is.found.wave.written is.found.wave.lines
   sound = wave.holds.sound
 
-  replay : IsReplay (job_in is.n is.r) is.found.history
+  replay : IsReplay (job_for is.n is.r) is.found.history
   replay = is.is.replay
 
-  exact_at : (place : ℕ) → place < places_of (job_in is.n is.r)
-      → SoundBy (job_in is.n is.r) w.conflicts is.found.wave.written is.found.wave.lines place
+  exact_at : (place : ℕ) → place < places_of (job_for is.n is.r)
+      → SoundBy (job_for is.n is.r) w.conflicts is.found.wave.written is.found.wave.lines place
       (written_at is.found.wave.written place).mark (written_at is.found.wave.written place).value
   exact_at place within = sound.exact place (omega (arith, finished, within))
 
   within_at : (moment : ℕ) (b : Bound) (bit : ℕ) → IsBit is.n is.r moment b bit
-      → place_of_bit is.n is.r moment b bit < places_of (job_in is.n is.r)
+      → place_of_bit is.n is.r moment b bit < places_of (job_for is.n is.r)
   within_at moment b bit there = bit_within is.n is.r is.is.fits moment b bit there
 
   stands : (moment : ℕ) (b : Bound) (bit : ℕ) → IsBit is.n is.r moment b bit
@@ -196,12 +198,12 @@ module _ (w : RepairValues) (netlist recording : List ℕ) (is : Made w netlist 
       let place = place_of_bit is.n is.r moment b bit in
       let within = within_at moment b bit there in
       let agrees = bit_agrees is.n is.r is.is.fits moment b bit there is.faultless in
-      let shown : value_at is.r.recording b.variable bit moment ≡ shown_of (job_in is.n is.r) is.found.history place =
-      agrees ∙ sym (replay_shown (job_in is.n is.r) is.found.history place replay within) in
+      let shown : value_at is.r.recording b.variable bit moment ≡ shown_of (job_for is.n is.r) is.found.history place =
+      agrees ∙ sym (replay_shown (job_for is.n is.r) is.found.history place replay within) in
       sound.shows.known place (omega (arith, finished, within)) (subst IsKnown shown known) ∙ sym shown
 
   abbrev pub j : Job
-  j = job_in is.n is.r
+  j = job_for is.n is.r
 
   abbrev pub written : List Written
   written = is.found.wave.written
@@ -257,6 +259,7 @@ module _ (w : RepairValues) (netlist recording : List ℕ) (is : Made w netlist 
     are = are_forces;
     text_is = refl;
     says = own_forces_said is.n is.r (scope_of w.job) (value_in written) is.is.fits is.is.times named;
+    there = replays_exist j fits (forced_by j events);
     shown = λ history forced. forces_show j (value_in written) events history are_forces forced;
     replayed = λ history forced.
         text_shown is.n.design is.n.order is.r.stim is.r.binding (value_in written) events history V parts_fit is.is.fits.recorded.binding
@@ -275,9 +278,8 @@ module _ (w : RepairValues) (netlist recording : List ℕ) (is : Made w netlist 
     certifies_so = record {
       stands = own_text_stands (form_of w.form) (beginning w.conflicts is.n is.r is.found.history) TheWave conditions refl along_there wave are;
       accepted = accepted_so;
-      one = λ other accepted.
-          yields_one j w.conflicts fits shown_at_place other written (lines_in (entries_of lines conditions)) (accepted.long ∙ sym finished)
-          (let long = accepted.long in omega (arith, long)) accepted.yields accepted_so.yields;
+      one = λ other long yields. yields_one j w.conflicts fits shown_at_place other written lines (long ∙ sym finished)
+          (omega (arith, long)) yields wave.holds.yields;
     }
 
     headline_there : AllByRecursion IsScopeName (scope_of w.job) → Headline w netlist recording (vcd_text is.n.design is.r.binding is.r.stim is.found.shown)

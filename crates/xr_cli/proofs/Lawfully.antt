@@ -44,7 +44,7 @@ made_exact w = (
   ),
 )
 
-each_exact : (w : Values) → AreExact (phases_of w)
+pub each_exact : (w : Values) → AreExact (phases_of w)
 each_exact (OfRepair w) = job_exact w.job (λ (job : Parts). repaired_phases w job.netlist job.recorded)
     (λ n r orders. (one_compared n r orders, λ agreed faultless found is conditions are. tt))
 each_exact (OfReplay w) = job_exact w.job (coded_phases w)

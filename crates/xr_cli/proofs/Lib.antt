@@ -7,6 +7,7 @@ mod Headlines
 mod Lawfully
 mod Making
 mod Needing
+mod OwnChecks
 mod OwnForces
 mod Restarts
 mod Runs

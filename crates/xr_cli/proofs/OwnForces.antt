@@ -9,7 +9,7 @@ use Rattle.xr_code.proofs.OwnCode.{own_says}
 use Rattle.xr_code.proofs.Scopes.{name_writable, scope_writable}
 use Rattle.xr_forces.specs.ForcesOf.{forces_of}
 use Rattle.xr_forces.proofs.Showing.{forces_exist}
-use Rattle.xr_job.specs.Compared.{job_in}
+use Rattle.xr_job.specs.Compared.{job_for}
 use Rattle.xr_job.specs.declared.netlist.Netlist.{Netlist as ANetlist}
 use Rattle.xr_job.specs.declared.recorded.Recorded.{Recorded}
 use Rattle.xr_line.specs.Line.{IsScopeName}
@@ -19,8 +19,8 @@ use Rattle.xr_phases.specs.Repair.{FitsJob}
 use Rattle.xr_phases.proofs.Jobs.{circuit_fits, fits_job}
 
 pub own_forces_said : (n : ANetlist) (r : Recorded) (scope : List (List ℕ)) (values : ℕ → Value) → FitsJob n r → HasSmallTimes r.stim → AllByRecursion IsScopeName scope
-    → Says (code_in (parts n r) (code_text n.design r.stim scope (forces_of (job_in n r) values)) scope) (forces_of (job_in n r) values)
+    → Says (code_in (parts n r) (code_text n.design r.stim scope (forces_of (job_for n r) values)) scope) (forces_of (job_for n r) values)
 own_forces_said n r scope values fits times named =
-    own_says n.design n.order r.stim scope (forces_of (job_in n r) values) (circuit_fits n r fits) fits.netlist.design
+    own_says n.design n.order r.stim scope (forces_of (job_for n r) values) (circuit_fits n r fits) fits.netlist.design
     (scope_writable IsScopeName scope (λ name is. name_writable name is.some is.graphic) named) times
-    (forces_exist (job_in n r) values (fits_job n r fits)).least
+    (forces_exist (job_for n r) values (fits_job n r fits)).least

@@ -1,28 +1,29 @@
 -- What a run comes to, in the words of the program.
-use Rattle.std.proofs.Common.{◌≡◌, ◌∙◌, ℕ, ◌≤◌, List, [], ◌∷◌, length, IsTrue, Bool, Err, inl, inr, refl, sym, ap, subst, arith}
+use Rattle.std.proofs.Common.{◌≡◌, ◌∙◌, ℕ, ◌≤◌, List, [], ◌∷◌, length, IsTrue, Bool, true, Err, inl, inr, refl, sym, ap, subst, arith}
 use Rattle.xr_shelf.specs.Shelf.{Files, View}
 use Rattle.xr_shelf.specs.Sink.{SinkView}
 use Rattle.xr_run.specs.Ends.{Comes, LineMade, LinePrinted, RanWords}
 use Rattle.xr_base.specs.Text.{line}
 use Rattle.xr_phases.specs.Cause.{status_of, text_of}
-use Rattle.xr_run.specs.Phases.{Answer, ComesTo, IsRead, PassesAll, text_held}
+use Rattle.xr_run.specs.Phases.{Answer, ComesTo, IsRead, NeverRefused, PassesAll, text_held}
 use Rattle.xr_run.specs.Rows.{Start}
 use Rattle.xr_run.proofs.Comes.{comes}
-use Rattle.xr_run.proofs.Exact.{err_same, ok_err}
+use Rattle.xr_run.proofs.Exact.{err_same, never_refused, ok_err}
 use Rattle.xr_job.specs.declared.netlist.Netlist.{Netlist as ANetlist}
 use Rattle.xr_job.specs.declared.recorded.Recorded.{Recorded}
 use Rattle.xr_words.specs.Words.{BlameValues, CheckValues, ExportValues, JobValues, MakeValues, OfBlame, OfCheck, OfExport, OfFix, OfMake, OfProve, OfRepair, OfReplay, OfUpgrade, ProveValues, RepairValues, ReplayValues, UpgradeValues, Values, AuditValues, OfAudit}
 use Rattle.xr_cert_text.specs.Wrong.{IsTextOf}
 use Rattle.xr_code.specs.Says.{FirstFault}
 use Rattle.xr_phases.specs.Texts.{FixFails, netlist_held, recording_held, AreRefused, CheckFails, CodeFails, HasJob, HasNetlist, IsObjected, RepairFails, UpgradeFails}
-use Rattle.xr_phases.specs.Certificate.{IsWrong, check_shows}
+use Rattle.xr_phases.specs.Certificate.{IsWrong}
 use Rattle.xr_phases.specs.Code.{code_in, text_limit}
+use Rattle.xr_cli.specs.Answers.{ReportsInputs}
 use Rattle.xr_cli.specs.Commands.{commands}
-use Rattle.xr_cli.specs.Ends.{AreInOrder, Done, IsComplete, IsTheOne, RefusesTexts, TextsRefused}
+use Rattle.xr_cli.specs.Ends.{AreInOrder, Done, EndsInOrder, IsTheOne, RefusesTexts, AreRefusedFor}
 use Rattle.xr_cli.specs.Foreign.{repair_for}
 use Rattle.xr_cli.specs.Made.{made_conflicts, made_job, made_netlist}
 use Rattle.xr_cli.specs.Listed.{repair_to_blame}
-use Rattle.xr_cli.specs.Phases.{blamed_phases, check_answer, coded_phases, compared_check, compared_upgrade, exported_phases, fixed_phases, prove_answer, prove_phases, phases_of, repair_answer, repaired_phases, replay_answer, make_answer, make_phases, recorded_made, repaired_made, audited_phases, upgrade_answer}
+use Rattle.xr_cli.specs.Phases.{blamed_phases, check_answer, check_phases, coded_phases, compared_check, compared_upgrade, exported_phases, fixed_phases, prove_answer, prove_phases, phases_of, repair_answer, repaired_phases, replay_answer, make_answer, make_phases, recorded_made, repaired_made, audited_phases, upgrade_answer, upgrade_phases}
 use Rattle.xr_phases.specs.Phases.{parts, scope_of}
 use Rattle.xr_cli.specs.Proves.{IsUnproved}
 use Rattle.xr_phases.specs.Repair.{IsObjectionIn, recording_limit}
@@ -35,10 +36,11 @@ use Rattle.xr_phases.specs.declared.parts.Parts.{Parts}
 use Rattle.xr_cli.proofs.Answering.{answers_say}
 use Rattle.xr_phases.specs.Sets.{sets_of}
 use Rattle.xr_cli.proofs.Fixing.{fix_fails}
-use Rattle.xr_cli.proofs.Lawfully.{lawful}
+use Rattle.xr_cli.proofs.Lawfully.{each_exact, lawful}
 use Rattle.xr_cli.proofs.Making.{made_is_one}
-use Rattle.xr_phases.proofs.ObjectingOnce.{one_cause}
+use Rattle.xr_phases.proofs.ObjectingOnce.{one_cause, one_fix_cause}
 use Rattle.xr_phases.proofs.JobTexts.{netlist_there, refused_by, job_passes}
+use Rattle.xr_phases.proofs.Unrefused.{check_unrefused, upgrade_unrefused}
 
 -- ---- of each command
 
@@ -189,8 +191,21 @@ module _ (told : Bool) (files : Files) (w : MakeValues) (cause : Refused) where
       let there = netlist_there made_job (made_netlist w) n fits has in
       IsMadeRefused.recording_fails text record { n = n; netlist_is = there; made = made } (made_recording_fails n there text within more)
 
-texts_refused : (s : Start) (words : Values) (cause : Refused) → IsTrue s.shelf_told → ComesTo s.shelf_told s.shelf.files (phases_of words) (Err cause)
-    → TextsRefused s.shelf.files words cause
+module _ (told : Bool) (files : Files) (t : IsTrue told) where
+  check_refused : (w : CheckValues) (cause : Refused) → ComesTo told files (check_phases w) (Err cause)
+      → AreRefused w.job (netlist_held files w.job) (recording_held files w.job) (CheckFails w.conflicts (text_held files (w.cert ∷ []))) cause
+  check_refused w cause comes =
+      refused_by told files t w.job (compared_check w) (CheckFails w.conflicts (text_held files (w.cert ∷ []))) cause
+      (λ n r. check_fails told files t (parts n r) w cause) comes
+
+  upgrade_refused : (w : UpgradeValues) (cause : Refused) → ComesTo told files (upgrade_phases w) (Err cause)
+      → AreRefused w.job (netlist_held files w.job) (recording_held files w.job) (UpgradeFails w.conflicts (text_held files (w.cert ∷ []))) cause
+  upgrade_refused w cause comes =
+      refused_by told files t w.job (compared_upgrade w) (UpgradeFails w.conflicts (text_held files (w.cert ∷ []))) cause
+      (λ n r. upgrade_fails told files t (parts n r) w cause) comes
+
+texts_refused : (s : Start) (words : Values) (cause : Refused) → ReportsInputs s.shelf_told words → ComesTo s.shelf_told s.shelf.files (phases_of words) (Err cause)
+    → AreRefusedFor s.shelf.files words cause
 texts_refused s (OfRepair w) cause t comes =
     refused_by s.shelf_told s.shelf.files t w.job (λ (job : Parts). repaired_phases w job.netlist job.recorded) (RepairFails w.conflicts) cause
     (λ n r. repair_fails s.shelf_told s.shelf.files t (parts n r) w cause) comes
@@ -198,12 +213,8 @@ texts_refused s (OfReplay w) cause t comes =
     refused_by s.shelf_told s.shelf.files t w.job (coded_phases w)
     (CodeFails (text_held s.shelf.files (w.code ∷ [])) (scope_of w.job)) cause
     (λ n r. code_fails s.shelf_told s.shelf.files t (parts n r) w cause) comes
-texts_refused s (OfCheck w) cause t comes =
-    refused_by s.shelf_told s.shelf.files t w.job (compared_check w) (CheckFails w.conflicts (text_held s.shelf.files (w.cert ∷ []))) cause
-    (λ n r. check_fails s.shelf_told s.shelf.files t (parts n r) w cause) comes
-texts_refused s (OfUpgrade w) cause t comes =
-    refused_by s.shelf_told s.shelf.files t w.job (compared_upgrade w) (UpgradeFails w.conflicts (text_held s.shelf.files (w.cert ∷ []))) cause
-    (λ n r. upgrade_fails s.shelf_told s.shelf.files t (parts n r) w cause) comes
+texts_refused s (OfCheck w) cause t comes = check_refused s.shelf_told s.shelf.files t w cause comes
+texts_refused s (OfUpgrade w) cause t comes = upgrade_refused s.shelf_told s.shelf.files t w cause comes
 texts_refused s (OfMake w) cause t comes = make_refused s.shelf_told s.shelf.files w cause comes
 texts_refused s (OfExport w) cause t comes =
     refused_by s.shelf_told s.shelf.files t w.job (λ (job : Parts). exported_phases w job.netlist job.recorded) (RepairFails w.conflicts) cause
@@ -239,7 +250,7 @@ the_one_made w cause refused = λ recording is.
     one_cause made_job (made_netlist w) recording made_conflicts cause
     (λ o same. job_of made_job (made_netlist w) recording made_conflicts o (made_objected w o (subst (IsMadeRefused w) same refused) recording is))
 
-the_one : (s : Start) (words : Values) (cause : Refused) → TextsRefused s.shelf.files words cause → IsTheOne s.shelf.files words cause
+the_one : (s : Start) (words : Values) (cause : Refused) → AreRefusedFor s.shelf.files words cause → IsTheOne s.shelf.files words cause
 the_one s (OfRepair w) cause refused =
     one_cause w.job (netlist_held s.shelf.files w.job) (recording_held s.shelf.files w.job) w.conflicts cause
     (λ o is. job_of w.job (netlist_held s.shelf.files w.job) (recording_held s.shelf.files w.job) w.conflicts o
@@ -258,7 +269,8 @@ the_one s (OfBlame w) cause refused =
     one_cause w.job (netlist_held s.shelf.files w.job) (recording_held s.shelf.files w.job) w.conflicts cause
     (λ o is. job_of w.job (netlist_held s.shelf.files w.job) (recording_held s.shelf.files w.job) w.conflicts o
     (subst (AreRefused w.job (netlist_held s.shelf.files w.job) (recording_held s.shelf.files w.job) (RepairFails w.conflicts)) is refused))
-the_one s (OfFix w) cause refused = tt
+the_one s (OfFix w) cause refused =
+    one_fix_cause w.conflicts (sets_of w.sets) w.job (netlist_held s.shelf.files w.job) (recording_held s.shelf.files w.job) cause refused
 
 -- ---- texts in order
 
@@ -268,64 +280,52 @@ not_objected w netlist recording is o objects = is.none objects.history objects.
 made_not_objected : (w : MakeValues) (is : IsMakeable w) (o : Objection) → IsObjectionIn made_conflicts is.n is.r.stim o → ⊥
 made_not_objected w is o objects = is.none objects.history objects.objects.otherwise objects.replay objects.objects.objects
 
-passes_all : (files : Files) (words : Values) → AreInOrder files words → PassesAll files (phases_of words)
-passes_all files (OfRepair w) is =
-    let objected = not_objected w (netlist_held files w.job) (recording_held files w.job) is in
-    job_passes files w.job (λ (job : Parts). repaired_phases w job.netlist job.recorded) is.n is.r is.job (tt, is.faultless, (objected, λ found there. ((λ none never. never), λ conditions are. tt)))
-passes_all files (OfReplay w) is =
-    job_passes files w.job (coded_phases w) is.n is.r is.job
-    (is.fits, (is.events, is.says, ((λ none never. never), λ history there. tt)))
-passes_all files (OfCheck w) is =
-    job_passes files w.job (compared_check w) is.n is.r is.job (
-      tt,
-      is.faultless,
-      (is.fits, (is.certificate, is.stands, (check_shows is.wave is.conditions, record { conditions = is.conditions; certified = is.certified; listing_is = refl }, tt))),
-    )
-passes_all files (OfUpgrade w) is =
-    job_passes files w.job (compared_upgrade w) is.n is.r is.job (
-      tt,
-      is.faultless,
-      (
-        is.fits,
-        (
-          is.certificate,
-          is.stands,
-          (
-            tt,
-            is.form_is,
-            (
-              check_shows is.wave is.conditions,
-              record { conditions = is.conditions; certified = is.certified; listing_is = refl },
-              ((λ none never. never), λ conditions are. tt),
-            ),
-          ),
-        ),
-      ),
-    )
-passes_all files (OfMake w) is = (
-  tt,
-  is.job.netlist_is.fits,
-  (
-    is.n,
-    is.job.netlist_is.is,
-    (is.recording, is.made, (tt, is.job.fits, (is.r, is.job.is, (tt, is.faultless, (made_not_objected w is, λ found there. tt))))),
-  ),
-)
-passes_all files (OfExport w) is =
-    let objected = not_objected (repair_for w) (netlist_held files w.job) (recording_held files w.job) is in
-    job_passes files w.job (λ (job : Parts). exported_phases w job.netlist job.recorded) is.n is.r is.job
-    (tt, is.faultless, (objected, λ found there. ((λ none never. never), λ answer written. tt)))
-passes_all files (OfProve w) is = (is.short.cnf_fits, (is.short.log_fits, (is.count, is.proof, tt)))
-passes_all files (OfAudit w) is =
-    job_passes files w.job (λ (job : Parts). audited_phases w job.netlist job.recorded) is.n is.r is.job
-    (tt, is.faultless, ((λ none never. never), λ answer lists. tt))
-passes_all files (OfBlame w) is =
-    let objected = not_objected (repair_to_blame w) (netlist_held files w.job) (recording_held files w.job) is in
-    job_passes files w.job (λ (job : Parts). blamed_phases w job.netlist job.recorded) is.n is.r is.job
-    (tt, is.faultless, (objected, λ found there. ((λ none never. never), λ answer lists. tt)))
-passes_all files (OfFix w) is =
-    job_passes files w.job (λ (job : Parts). fixed_phases w job.netlist job.recorded) is.n is.r is.job
-    (tt, is.faultless, (is.stim, is.started, (is.none, λ before walked. (is.none_set, λ after again. tt))))
+module _ (told : Bool) (files : Files) where
+  -- Phases that the texts pass all.
+  passed : (words : Values) → IsTrue told → PassesAll files (phases_of words) → NeverRefused told files (phases_of words)
+  passed words t all = never_refused told files (phases_of words) t (each_exact words) all
+
+  never : (words : Values) → ReportsInputs told words → AreInOrder files words → NeverRefused told files (phases_of words)
+  never (OfRepair w) t is =
+      let objected = not_objected w (netlist_held files w.job) (recording_held files w.job) is in
+      passed (OfRepair w) t (job_passes files w.job (λ (job : Parts). repaired_phases w job.netlist job.recorded) is.n is.r is.job
+      (tt, is.faultless, (objected, λ found there. ((λ none never. never), λ conditions are. tt))))
+  never (OfReplay w) t is =
+      passed (OfReplay w) t (job_passes files w.job (coded_phases w) is.n is.r is.job
+      (is.fits, (is.events, is.says, ((λ none never. never), λ history there. tt))))
+  never (OfCheck w) t is = λ cause comes.
+      check_unrefused w.job (netlist_held files w.job) (recording_held files w.job) is.n is.r is.job w.conflicts
+      (text_held files (w.cert ∷ [])) is.replay is.agrees is.fits is.certificate is.stands is.waveform is.accepted cause
+      (check_refused told files t w cause comes)
+  never (OfUpgrade w) t is = λ cause comes.
+      upgrade_unrefused w.job (netlist_held files w.job) (recording_held files w.job) is.n is.r is.job w.conflicts
+      (text_held files (w.cert ∷ [])) is.replay is.agrees is.fits is.certificate is.stands is.waveform is.accepted is.form_is cause
+      (upgrade_refused told files t w cause comes)
+  -- Its phases read no file, so what the shelf reports is nothing to them.
+  never (OfMake w) t is = never_refused true files (make_phases w) refl (each_exact (OfMake w)) (
+    tt,
+    is.job.netlist_is.fits,
+    (
+      is.n,
+      is.job.netlist_is.is,
+      (is.recording, is.made, (tt, is.job.fits, (is.r, is.job.is, (tt, is.faultless, (made_not_objected w is, λ found there. tt))))),
+    ),
+  )
+  never (OfExport w) t is =
+      let objected = not_objected (repair_for w) (netlist_held files w.job) (recording_held files w.job) is in
+      passed (OfExport w) t (job_passes files w.job (λ (job : Parts). exported_phases w job.netlist job.recorded) is.n is.r is.job
+      (tt, is.faultless, (objected, λ found there. ((λ none never. never), λ answer written. tt))))
+  never (OfProve w) t is = passed (OfProve w) t (is.short.cnf_fits, (is.short.log_fits, (is.count, is.proof, tt)))
+  never (OfAudit w) t is =
+      passed (OfAudit w) t (job_passes files w.job (λ (job : Parts). audited_phases w job.netlist job.recorded) is.n is.r is.job
+      (tt, is.faultless, ((λ none never. never), λ answer lists. tt)))
+  never (OfBlame w) t is =
+      let objected = not_objected (repair_to_blame w) (netlist_held files w.job) (recording_held files w.job) is in
+      passed (OfBlame w) t (job_passes files w.job (λ (job : Parts). blamed_phases w job.netlist job.recorded) is.n is.r is.job
+      (tt, is.faultless, (objected, λ found there. ((λ none never. never), λ answer lists. tt))))
+  never (OfFix w) t is =
+      passed (OfFix w) t (job_passes files w.job (λ (job : Parts). fixed_phases w job.netlist job.recorded) is.n is.r is.job
+      (tt, is.faultless, (is.stim, is.started, (is.none, λ before walked. (is.none_set, λ after again. tt)))))
 
 -- ---- a run
 
@@ -364,5 +364,5 @@ module _ (s : Start) (shelf : View) (sink : SinkView) (status : ℕ) where
           printed = line_printed s.sink_told (line (text_of is.cause)) (status_of is.cause) s.sink sink status high is.line;
         }
 
-    pub is_complete : IsComplete s shelf sink status
-    is_complete = λ t words means order none. all.complete t words means (passes_all s.shelf.files words order) none
+    pub is_complete : EndsInOrder s shelf sink status
+    is_complete = λ words t means order none. all.unrefused words means (never s.shelf_told s.shelf.files words t order) none

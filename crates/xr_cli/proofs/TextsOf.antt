@@ -7,7 +7,7 @@ use Rattle.xr_design.specs.Job.{Job}
 use Rattle.xr_design.specs.declared.force.Event.{Event}
 use Rattle.xr_forces.specs.ForcesOf.{AreForcesOf}
 use Rattle.xr_forces.specs.Waves.{values_of}
-use Rattle.xr_job.specs.Compared.{job_in}
+use Rattle.xr_job.specs.Compared.{job_for}
 use Rattle.xr_job.specs.declared.netlist.Netlist.{Netlist as ANetlist}
 use Rattle.xr_job.specs.declared.recorded.Recorded.{Recorded}
 use Rattle.xr_base.specs.declared.memory.Memory.{Memory}
@@ -40,14 +40,14 @@ use Rattle.xr_forces.proofs.Forced.{are_events}
 use Rattle.xr_design.specs.Handed.{HasPlaces}
 
 -- A wave of a job has the job's circuit.
-pub job_same : (n : ANetlist) (r : Recorded) (wave : Contents) → IsWaveOf n r wave → job wave ≡ job_in n r
+pub job_same : (n : ANetlist) (r : Recorded) (wave : Contents) → IsWaveOf n r wave → job wave ≡ job_for n r
 job_same n r wave is = rw (is.design, is.order, is.stim) refl
 
 pub wave_forces_written : (n : ANetlist) (r : Recorded) (wave : Contents) (forces : List Event) → FitsJob n r → IsWaveOf n r wave
     → AreForcesOf (job wave) (values_of wave) forces → HasEvents n.design r.stim forces
 wave_forces_written n r wave forces fits is are =
     let there = subst (λ (j : Job). AreForcesOf j (values_of wave) forces) (job_same n r wave is) are in
-    can_be_written n.design n.order r.stim forces (subst (AreEvents (job_in n r)) (sym there.least) (are_events (job_in n r) (fits_job n r fits) (forced_by (job_in n r) forces)))
+    can_be_written n.design n.order r.stim forces (subst (AreEvents (job_for n r)) (sym there.least) (are_events (job_for n r) (fits_job n r fits) (forced_by (job_for n r) forces)))
 
 -- The answer has the texts of the wave.
 pub wave_texts : (w : RepairValues) (n : ANetlist) (r : Recorded) (wave : Contents) (shown : HistoryView) (forces : List Event) (scope : List (List ℕ)) (vcd code cert report : List ℕ)
@@ -102,7 +102,7 @@ made_texts w netlist recording head wave forces made same is (Ok ready) answered
     answered ∙ (λ t. make_with w (made t) recording ((is ∙ ap (head_text wave) same) t))
 
 -- A history with the job's places has each step.
-pub has_steps : (n : ANetlist) (r : Recorded) (history : HistoryView) → FitsJob n r → HasPlaces (job_in n r) history → HasSteps n.design r.stim history
+pub has_steps : (n : ANetlist) (r : Recorded) (history : HistoryView) → FitsJob n r → HasPlaces (job_for n r) history → HasSteps n.design r.stim history
 has_steps n r history fits places =
     let all = places.all in
     let few = fits.recorded.stim.places in

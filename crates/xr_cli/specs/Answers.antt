@@ -1,5 +1,5 @@
 -- What the answer of each command says.
-use Rattle.std.specs.Prelude.{◌≡◌, ℕ, List, [], ◌∷◌}
+use Rattle.std.specs.Prelude.{◌≡◌, ℕ, Bool, IsTrue, List, [], ◌∷◌}
 use Rattle.xr_shelf.specs.Shelf.{Files}
 use Rattle.xr_run.specs.Phases.{Answer, text_held}
 use Rattle.xr_words.specs.Words.{FixValues, OfFix}
@@ -82,14 +82,27 @@ SaysBlame files w answer = Blames w (netlist_held files w.job) (recording_held f
 abbrev pub SaysFix : Files → FixValues → Answer → Type 0
 SaysFix files w answer = Fixes w (netlist_held files w.job) (recording_held files w.job) answer
 
-abbrev pub Says : Files → Values → Answer → Type 0
-Says files (OfRepair w) answer = SaysRepair files w answer
-Says files (OfReplay w) answer = SaysReplay files w answer
-Says files (OfCheck w) answer = SaysCheck files w answer
-Says files (OfUpgrade w) answer = SaysUpgrade files w answer
-Says files (OfMake w) answer = SaysMake w answer
-Says files (OfExport w) answer = SaysExport files w answer
-Says files (OfProve w) answer = SaysProve files w answer
-Says files (OfAudit w) answer = SaysAudit files w answer
-Says files (OfBlame w) answer = SaysBlame files w answer
-Says files (OfFix w) answer = SaysFix files w answer
+-- The shelf reports what the files hold that a command reads: it reports all; or the command reads none, as `make`.
+abbrev pub ReportsInputs : Bool → Values → Type 0
+ReportsInputs told (OfRepair w) = IsTrue told
+ReportsInputs told (OfReplay w) = IsTrue told
+ReportsInputs told (OfCheck w) = IsTrue told
+ReportsInputs told (OfUpgrade w) = IsTrue told
+ReportsInputs told (OfMake w) = Unit {0}
+ReportsInputs told (OfExport w) = IsTrue told
+ReportsInputs told (OfProve w) = IsTrue told
+ReportsInputs told (OfAudit w) = IsTrue told
+ReportsInputs told (OfBlame w) = IsTrue told
+ReportsInputs told (OfFix w) = IsTrue told
+
+abbrev pub AnswerSays : Files → Values → Answer → Type 0
+AnswerSays files (OfRepair w) answer = SaysRepair files w answer
+AnswerSays files (OfReplay w) answer = SaysReplay files w answer
+AnswerSays files (OfCheck w) answer = SaysCheck files w answer
+AnswerSays files (OfUpgrade w) answer = SaysUpgrade files w answer
+AnswerSays files (OfMake w) answer = SaysMake w answer
+AnswerSays files (OfExport w) answer = SaysExport files w answer
+AnswerSays files (OfProve w) answer = SaysProve files w answer
+AnswerSays files (OfAudit w) answer = SaysAudit files w answer
+AnswerSays files (OfBlame w) answer = SaysBlame files w answer
+AnswerSays files (OfFix w) answer = SaysFix files w answer

@@ -2,7 +2,7 @@
 use Rattle.std.specs.Prelude.{◌≡◌, ℕ, [], Result, Ok, Err}
 use Rattle.xr_design.specs.Handed.{IsBlank, IsReplay}
 use Rattle.xr_design.specs.History.{HistoryView}
-use Rattle.xr_job.specs.Compared.{job_in}
+use Rattle.xr_job.specs.Compared.{job_for}
 use Rattle.xr_job.specs.declared.netlist.Netlist.{Netlist as ANetlist}
 use Rattle.xr_job.specs.declared.recorded.Recorded.{Recorded}
 use Rattle.xr_listing.specs.Audit.{TellsAudit}
@@ -19,9 +19,9 @@ pub record PrintsAudit (wave : Contents) (replay : HistoryView) (answer : Answer
 pub record ListsAudit (conflicts : ℕ) (n : ANetlist) (r : Recorded) (answer : Answer) : Type 0 where
   pub fits : FitsJob n r
   pub replay : HistoryView
-  pub is_replay : IsReplay (job_in n r) replay
+  pub is_replay : IsReplay (job_for n r) replay
   pub blank : HistoryView
-  pub is_blank : IsBlank (job_in n r) blank
+  pub is_blank : IsBlank (job_for n r) blank
   pub wave : Contents
   pub repaired : IsRepairedBy conflicts n r.stim blank wave
   pub prints : PrintsAudit wave replay answer

@@ -11,7 +11,7 @@ use Rattle.xr_design.specs.Job.{places_of}
 use Rattle.xr_design.specs.declared.force.Event.{Event}
 use Rattle.xr_design.specs.declared.waveform.Written.{Written}
 use Rattle.xr_forces.specs.ForcesOf.{AreForcesOf}
-use Rattle.xr_job.specs.Compared.{job_in}
+use Rattle.xr_job.specs.Compared.{job_for}
 use Rattle.xr_job.specs.declared.netlist.Netlist.{Netlist as ANetlist}
 use Rattle.xr_job.specs.declared.recorded.Recorded.{Recorded}
 use Rattle.xr_listing.specs.Conditions.{conditions_text}
@@ -20,7 +20,7 @@ use Rattle.xr_report.specs.Report.{report_text}
 use Rattle.xr_words.specs.Words.{CheckValues}
 use Rattle.xr_cli.specs.Headline.{value_in, wave_of}
 use Rattle.xr_cli.specs.Needs.{EachNeeds}
-use Rattle.xr_phases.specs.Repair.{Agrees, beginning}
+use Rattle.xr_phases.specs.Repair.{AgreesThroughout, beginning}
 use Rattle.xr_phases.specs.Texts.{IsJob}
 
 -- The texts stand for a job whose recording agrees with its replay.
@@ -29,15 +29,15 @@ pub record Checks (w : CheckValues) (netlist recording cert report : List ℕ) :
   pub r : Recorded
   pub job : IsJob w.job netlist recording n r
   pub replay : HistoryView
-  pub agrees : Agrees n r replay
+  pub agrees : AgreesThroughout n r replay
   -- The text stands for a certificate that is accepted, whoever wrote it: its lines yield this waveform of all places,
   -- which is sound.
   pub certificate : Cert
   pub stands : IsTextOf cert certificate
   pub waveform : List Written
-  pub whole : length waveform ≡ places_of (job_in n r)
+  pub whole : length waveform ≡ places_of (job_for n r)
   pub accepted : IsAccepted (beginning w.conflicts n r replay) certificate waveform
-  pub holds : Holds (job_in n r) w.conflicts (shown_of (job_in n r) replay) waveform (lines_in certificate.entries)
+  pub holds : Holds (job_for n r) w.conflicts (shown_of (job_for n r) replay) waveform (lines_in certificate.entries)
   -- In form 2 there is a condition for each certain Line place, whose turns stand in the text; in form 1 there is none.
   pub conditions : List ConditionView
   pub conditions_are : AreConditionsFor certificate.form
@@ -45,9 +45,9 @@ pub record Checks (w : CheckValues) (netlist recording cert report : List ℕ) :
   pub stated : certificate.entries ≡ entries_of (lines_in certificate.entries) conditions
   -- What is printed is the report of that waveform, and the lines of the conditions.
   pub events : List Event
-  pub are : AreForcesOf (job_in n r) (value_in waveform) events
+  pub are : AreForcesOf (job_for n r) (value_in waveform) events
   pub report_is : report
       ≡ report_text (wave_of n r replay w.conflicts waveform (lines_in certificate.entries)) r.binding events
       ++ conditions_text (wave_of n r replay w.conflicts waveform (lines_in certificate.entries)) conditions
   -- Each of these places needs the places that its line lists.
-  pub needs : EachNeeds (job_in n r) waveform conditions
+  pub needs : EachNeeds (job_for n r) waveform conditions

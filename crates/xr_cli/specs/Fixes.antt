@@ -15,7 +15,7 @@ use Rattle.xr_run.specs.Phases.{Answer}
 use Rattle.xr_wave.specs.Contents.{Contents}
 use Rattle.xr_line.specs.Line.{pieces_of}
 use Rattle.xr_words.specs.Words.{FixValues}
-use Rattle.xr_phases.specs.Repair.{Agrees}
+use Rattle.xr_phases.specs.Repair.{AgreesThroughout}
 use Rattle.xr_phases.specs.Sets.{piece_text, sets_of}
 use Rattle.xr_phases.specs.Texts.{IsJob}
 
@@ -51,7 +51,7 @@ pub record Fixes (w : FixValues) (netlist recording : List ℕ) (answer : Answer
   pub r : Recorded
   pub job : IsJob w.job netlist recording n r
   pub before : HasWave w.conflicts n r.stim
-  pub agrees : Agrees n r before.history
+  pub agrees : AgreesThroughout n r before.history
   -- The list is names and bits, each `NAME=B`, joined by commas. Each is the written name of a register whose start is
   -- unknown, no name comes twice, and under the second stimulus these start with their bits, and all else is equal.
   pub list_is : pieces_of 44 w.sets ≡ map piece_text (sets_of w.sets)

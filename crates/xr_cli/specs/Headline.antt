@@ -12,11 +12,12 @@ use Rattle.xr_model.specs.Sound.{HasLicence, IsDecided, Sound}
 use Rattle.xr_model.specs.Growth.{Holds}
 use Rattle.xr_model.specs.Line.{GivesBoth}
 use Rattle.xr_model.specs.Stated.{stated}
+use Rattle.xr_model.specs.Yields.{Yields}
 use Rattle.xr_model.specs.declared.line.Line.{Line as ALine}
 use Rattle.xr_vcd.specs.Recording.{value_at}
 use Rattle.xr_design.specs.Handed.{shown_of}
 use Rattle.xr_design.specs.History.{HistoryView}
-use Rattle.xr_job.specs.Compared.{job_in}
+use Rattle.xr_job.specs.Compared.{job_for}
 use Rattle.xr_job.specs.declared.netlist.Netlist.{Netlist as ANetlist}
 use Rattle.xr_job.specs.declared.recorded.Recorded.{Recorded}
 use Rattle.xr_out.specs.Text.{vcd_text}
@@ -37,17 +38,17 @@ use Rattle.xr_cli.specs.Needs.{EachNeeds}
 use Rattle.xr_phases.specs.Certificate.{form_of}
 use Rattle.xr_phases.specs.Code.{IsForced, code_in}
 use Rattle.xr_phases.specs.Phases.{parts, scope_of}
-use Rattle.xr_phases.specs.Repair.{Agrees, FitsJob, beginning}
+use Rattle.xr_phases.specs.Repair.{AgreesThroughout, FitsJob, beginning}
 use Rattle.xr_phases.specs.Texts.{IsJob}
 
 -- A bit of a bound variable in a moment, and the place that shows it: its net at the moment's last step.
 pub record IsBit (n : ANetlist) (r : Recorded) (moment : ℕ) (b : Bound) (bit : ℕ) : Type 0 where
-  pub moment_is : moment < (job_in n r).moments
+  pub moment_is : moment < (job_for n r).moments
   pub variable : Contains r.binding.bound b
   pub within : bit < length b.bits
 
 abbrev pub place_of_bit : ANetlist → Recorded → ℕ → Bound → ℕ → ℕ
-place_of_bit n r moment b bit = at (job_in n r) (last_step (job_in n r) moment) (slice_index b.bits bit)
+place_of_bit n r moment b bit = at (job_for n r) (last_step (job_for n r) moment) (slice_index b.bits bit)
 
 -- For every bit of every bound variable in every moment.
 abbrev pub ForBits : ANetlist → Recorded → (ℕ → Value → Type 0) → Type 0
@@ -75,16 +76,17 @@ wave_of n r replay conflicts waveform lines = record {
 abbrev pub value_in : List Written → ℕ → Value
 value_in waveform place = (written_at waveform place).value
 
--- C is code of the job's nets: the text of the forces of what the waveform has. It says these, and in each replay under
--- them every place shows what the waveform has there; the text of that replay is V.
+-- C is code of the job's nets: the text of the forces of what the waveform has. It says these; there is a replay under
+-- them, and in each every place shows what the waveform has there; the text of that replay is V.
 pub record IsForceCode (w : RepairValues) (n : ANetlist) (r : Recorded) (waveform : List Written)
     (vcd code : List ℕ) : Type 0 where
   pub events : List Event
-  pub are : AreForcesOf (job_in n r) (value_in waveform) events
+  pub are : AreForcesOf (job_for n r) (value_in waveform) events
   pub text_is : code ≡ code_text n.design r.stim (scope_of w.job) events
   pub says : Says (code_in (parts n r) code (scope_of w.job)) events
+  pub there : (history : HistoryView) × IsForced (parts n r) events history
   pub shown : (history : HistoryView) → IsForced (parts n r) events history
-      → ShowsWaveform (job_in n r) waveform history
+      → ShowsWaveform (job_for n r) waveform history
   pub replayed : (history : HistoryView) → IsForced (parts n r) events history
       → vcd_text n.design r.binding r.stim history ≡ vcd
 
@@ -96,9 +98,9 @@ pub record Certifies (w : RepairValues) (n : ANetlist) (r : Recorded) (replay : 
       (cert_in (form_of w.form) (wave_of n r replay w.conflicts waveform lines) conditions)
   pub accepted : IsAccepted (beginning w.conflicts n r replay)
       (cert_in (form_of w.form) (wave_of n r replay w.conflicts waveform lines) conditions) waveform
-  -- No other waveform is yielded by these lines.
-  pub one : (other : List Written) → IsAccepted (beginning w.conflicts n r replay)
-      (cert_in (form_of w.form) (wave_of n r replay w.conflicts waveform lines) conditions) other → other ≡ waveform
+  -- The lines yield no other waveform of all places.
+  pub one : (other : List Written) → length other ≡ places_of (job_for n r)
+      → Yields (job_for n r) w.conflicts (shown_of (job_for n r) replay) other lines → other ≡ waveform
 
 -- The texts stand for a job whose recording agrees with its replay; there are a waveform of all its places and lines,
 -- so that:
@@ -108,15 +110,15 @@ pub record Headline (w : RepairValues) (netlist recording : List ℕ) (vcd code 
   pub job : IsJob w.job netlist recording n r
   pub fits : FitsJob n r
   pub replay : HistoryView
-  pub agrees : Agrees n r replay
+  pub agrees : AgreesThroughout n r replay
   pub waveform : List Written
   pub lines : List ALine
-  pub whole : length waveform ≡ places_of (job_in n r)
+  pub whole : length waveform ≡ places_of (job_for n r)
   -- The waveform is sound for the replay, and the lines yield it.
-  pub holds : Holds (job_in n r) w.conflicts (shown_of (job_in n r) replay) waveform lines
+  pub holds : Holds (job_for n r) w.conflicts (shown_of (job_for n r) replay) waveform lines
   -- V is the text of what the waveform shows.
   pub shown : HistoryView
-  pub shows : ShowsWaveform (job_in n r) waveform shown
+  pub shows : ShowsWaveform (job_for n r) waveform shown
   pub vcd_is : vcd ≡ vcd_text n.design r.binding r.stim shown
   -- Replaying the netlist with the code C writes V.
   pub forces : IsForceCode w n r waveform vcd code
@@ -130,22 +132,22 @@ pub record Headline (w : RepairValues) (netlist recording : List ℕ) (vcd code 
   pub report_is : report ≡ report_text (wave_of n r replay w.conflicts waveform lines) r.binding forces.events
       ++ conditions_text (wave_of n r replay w.conflicts waveform lines) conditions
   -- Each of these places needs the places that its line lists.
-  pub needs : EachNeeds (job_in n r) waveform conditions
+  pub needs : EachNeeds (job_for n r) waveform conditions
   -- Each bit that V shows known, its search ended, has that value in the two-valued circuit under every filling.
-  pub known : ForBits n r (λ place recorded. (bit : Bool) → shown_of (job_in n r) shown place ≡ bit_value bit
-      → (written_at waveform place).mark ≢ Undecided → Settles (job_in n r) waveform place bit)
+  pub known : ForBits n r (λ place recorded. (bit : Bool) → shown_of (job_for n r) shown place ≡ bit_value bit
+      → (written_at waveform place).mark ≢ Undecided → Settles (job_for n r) waveform place bit)
   -- Each bit that V shows unknown, its search ended, has two fillings that are listed, in a line or by a class: the
   -- first gives 0, the second 1.
-  pub unknown : ForBits n r (λ place recorded. is_unknown (shown_of (job_in n r) shown place) ≡ true
+  pub unknown : ForBits n r (λ place recorded. is_unknown (shown_of (job_for n r) shown place) ≡ true
       → (written_at waveform place).mark ≢ Undecided
-      → GivesBoth (job_in n r) waveform place (stated (job_in n r) (certain waveform) lines place))
+      → GivesBoth (job_for n r) waveform place (stated (job_for n r) (certain waveform) lines place))
   -- Each other bit is marked undecided, with its licence: more than 12 sources, and a log of as many clauses as the
   -- words say.
   pub undecided : ForBits n r (λ place recorded. (written_at waveform place).mark ≡ Undecided
-      → HasLicence (job_in n r) w.conflicts waveform lines place)
+      → HasLicence (job_for n r) w.conflicts waveform lines place)
   -- The bits that the recording knows stand.
-  pub stand : ForBits n r (λ place recorded. IsKnown recorded → shown_of (job_in n r) shown place ≡ recorded)
+  pub stand : ForBits n r (λ place recorded. IsKnown recorded → shown_of (job_for n r) shown place ≡ recorded)
   -- Where no place is undecided, no other waveform without undecided places is sound, whatever its lines and its limit.
   pub only : IsDecided waveform → (limit : ℕ) (other : List Written) (more : List ALine)
-      → length other ≡ places_of (job_in n r) → Sound (job_in n r) limit (shown_of (job_in n r) replay) other more
+      → length other ≡ places_of (job_for n r) → Sound (job_for n r) limit (shown_of (job_for n r) replay) other more
       → IsDecided other → other ≡ waveform

@@ -20,3 +20,4 @@ pub mod Fixes
 pub mod Answers
 pub mod Commands
 pub mod Ends
+pub mod Laws

@@ -2,7 +2,7 @@
 use Rattle.std.specs.Prelude.{◌≡◌, length}
 use Rattle.xr_design.specs.Handed.{IsReplay}
 use Rattle.xr_design.specs.Stim.{FitsStim}
-use Rattle.xr_job.specs.Compared.{job_in}
+use Rattle.xr_job.specs.Compared.{job_for}
 use Rattle.xr_laws.specs.Starts.{DifferInStarts}
 use Rattle.xr_phases.specs.Repair.{FitsParts}
 use Rattle.xr_phases.specs.Sets.{sets_of}
@@ -12,7 +12,7 @@ use Rattle.xr_cli.specs.declared.restarted.Restarted.{Restarted}
 -- so many registers are set as the words have pieces.
 pub record IsRestarted (set : Restarted) : Type 0 where
   pub fits : FitsParts set.job.now
-  pub replay : IsReplay (job_in set.job.now.netlist set.job.now.recorded) set.history.now
+  pub replay : IsReplay (job_for set.job.now.netlist set.job.now.recorded) set.history.now
   pub fits_stim : FitsStim set.job.now.netlist.design set.stim.now
   pub others : DifferInStarts set.job.now.recorded.stim set.stim.now
   pub counted : set.registers ≡ length (sets_of set.words.sets.now)

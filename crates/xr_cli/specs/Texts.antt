@@ -1,25 +1,24 @@
 -- When the texts of a command are in order, and what those of a made job are refused for.
 use Rattle.std.specs.Prelude.{◌≡◌, ℕ, ◌<◌, ◌≤◌, List, length}
+use Rattle.xr_cert.specs.Checked.{IsAccepted}
 use Rattle.xr_cert_text.specs.Wrong.{IsTextOf}
 use Rattle.xr_cert_text.specs.declared.cert.Cert.{Cert}
 use Rattle.xr_cert_text.specs.declared.cert.Form.TheVariants.{Lines}
-use Rattle.xr_cond.specs.View.{ConditionView}
 use Rattle.xr_code.specs.Says.{Says}
 use Rattle.xr_design.specs.Handed.{IsReplay}
 use Rattle.xr_design.specs.History.{HistoryView}
 use Rattle.xr_design.specs.declared.force.Event.{Event}
+use Rattle.xr_design.specs.declared.waveform.Written.{Written}
 use Rattle.xr_replay.specs.Fault.{IsFaultless}
 use Rattle.xr_wave.specs.declared.advance.Optimistic.{Optimistic as Found}
 use Rattle.xr_repair.specs.Repaired.{IsObjection}
-use Rattle.xr_job.specs.Compared.{IsRefusedReplay, job_in}
+use Rattle.xr_job.specs.Compared.{IsRefusedReplay, job_for}
 use Rattle.xr_job.specs.declared.compare_refusal.CompareRefusal.{CompareRefusal}
 use Rattle.xr_job.specs.declared.netlist.Netlist.{Netlist as ANetlist}
 use Rattle.xr_job.specs.declared.netlist_refusal.NetlistRefusal.{NetlistRefusal}
 use Rattle.xr_job.specs.declared.recorded.Recorded.{Recorded}
-use Rattle.xr_wave.specs.Contents.{Contents}
 use Rattle.xr_words.specs.Words.{FixValues}
 use Rattle.xr_words.specs.Words.{CheckValues, MakeValues, RepairValues, ReplayValues, AuditValues, UpgradeValues}
-use Rattle.xr_phases.specs.Certificate.{IsCertified}
 use Rattle.xr_phases.specs.Code.{code_in, text_limit}
 use Rattle.xr_cli.specs.Made.{IsRecordingOf, made_conflicts, made_job, made_netlist}
 use Rattle.xr_design.specs.declared.stim.Stim.{Stim}
@@ -28,7 +27,7 @@ use Rattle.xr_phases.specs.Sets.{sets_of}
 use Rattle.xr_phases.specs.declared.cause.Objection.{Objection}
 use Rattle.xr_phases.specs.Phases.{parts, scope_of}
 use Rattle.xr_phases.specs.Texts.{AreRefused, HasNetlist, IsJob, IsOneCause, IsRefusedNetlist, RepairFails}
-use Rattle.xr_phases.specs.Repair.{IsObjectionIn, beginning, netlist_limit}
+use Rattle.xr_phases.specs.Repair.{AgreesThroughout, IsObjectionIn, beginning, netlist_limit}
 use Rattle.xr_phases.specs.declared.cause.Refused.{Refused}
 use Rattle.xr_phases.specs.declared.cause.Refused.TheVariants.{Compare, LongNetlist, Netlist}
 use Rattle.xr_phases.specs.declared.parts.Parts.{Parts}
@@ -38,8 +37,8 @@ pub record IsRepairable (w : RepairValues) (netlist recording : List ℕ) : Type
   pub n : ANetlist
   pub r : Recorded
   pub job : IsJob w.job netlist recording n r
-  pub faultless : IsFaultless (job_in n r) r.recording r.binding
-  pub none : (history : HistoryView) (found : Found) → IsReplay (job_in n r) history
+  pub faultless : IsFaultless (job_for n r) r.recording r.binding
+  pub none : (history : HistoryView) (found : Found) → IsReplay (job_for n r) history
       → IsObjection (beginning w.conflicts n r history) found → ⊥
 
 -- The texts stand for a job that agrees.
@@ -47,7 +46,7 @@ pub record IsAuditable (w : AuditValues) (netlist recording : List ℕ) : Type 0
   pub n : ANetlist
   pub r : Recorded
   pub job : IsJob w.job netlist recording n r
-  pub faultless : IsFaultless (job_in n r) r.recording r.binding
+  pub faultless : IsFaultless (job_for n r) r.recording r.binding
 
 -- `audit`: the recording disagrees. No place is found otherwise than a blank history knows it.
 pub data AuditFails (job : Parts) : Refused → Type 0 where
@@ -62,32 +61,32 @@ pub record IsReplayable (w : ReplayValues) (netlist recording code : List ℕ) :
   pub events : List Event
   pub says : Says (code_in (parts n r) code (scope_of w.job)) events
 
--- The texts stand for a job that agrees, and the certificate's text for one that is checked over its replay.
+-- The texts stand for a job that agrees, and the certificate's text for one that is accepted over its replay.
 pub record IsCheckable (w : CheckValues) (netlist recording cert : List ℕ) : Type 0 where
   pub n : ANetlist
   pub r : Recorded
   pub job : IsJob w.job netlist recording n r
-  pub faultless : IsFaultless (job_in n r) r.recording r.binding
+  pub replay : HistoryView
+  pub agrees : AgreesThroughout n r replay
   pub fits : length cert ≤ text_limit
   pub certificate : Cert
   pub stands : IsTextOf cert certificate
-  pub wave : Contents
-  pub conditions : List ConditionView
-  pub certified : IsCertified w.conflicts (parts n r) certificate wave conditions
+  pub waveform : List Written
+  pub accepted : IsAccepted (beginning w.conflicts n r replay) certificate waveform
 
 -- So they do, with one of form 1.
 pub record IsUpgradable (w : UpgradeValues) (netlist recording cert : List ℕ) : Type 0 where
   pub n : ANetlist
   pub r : Recorded
   pub job : IsJob w.job netlist recording n r
-  pub faultless : IsFaultless (job_in n r) r.recording r.binding
+  pub replay : HistoryView
+  pub agrees : AgreesThroughout n r replay
   pub fits : length cert ≤ text_limit
   pub certificate : Cert
   pub stands : IsTextOf cert certificate
   pub form_is : certificate.form ≡ Lines
-  pub wave : Contents
-  pub conditions : List ConditionView
-  pub certified : IsCertified w.conflicts (parts n r) certificate wave conditions
+  pub waveform : List Written
+  pub accepted : IsAccepted (beginning w.conflicts n r replay) certificate waveform
 
 -- The texts stand for a job that agrees, its starts can be set, and no place is found otherwise under the recorded starts,
 -- nor under the set ones.
@@ -95,7 +94,7 @@ pub record IsFixable (w : FixValues) (netlist recording : List ℕ) : Type 0 whe
   pub n : ANetlist
   pub r : Recorded
   pub job : IsJob w.job netlist recording n r
-  pub faultless : IsFaultless (job_in n r) r.recording r.binding
+  pub faultless : IsFaultless (job_for n r) r.recording r.binding
   pub stim : Stim
   pub started : IsStarted n.design r.stim (sets_of w.sets) stim
   pub none : (objection : Objection) → IsObjectionIn w.conflicts n r.stim objection → ⊥
@@ -109,8 +108,8 @@ pub record IsMakeable (w : MakeValues) : Type 0 where
   pub recording : List ℕ
   pub made : IsRecordingOf w n recording
   pub job : IsJob made_job (made_netlist w) recording n r
-  pub faultless : IsFaultless (job_in n r) r.recording r.binding
-  pub none : (history : HistoryView) (found : Found) → IsReplay (job_in n r) history
+  pub faultless : IsFaultless (job_for n r) r.recording r.binding
+  pub none : (history : HistoryView) (found : Found) → IsReplay (job_for n r) history
       → IsObjection (beginning made_conflicts n r history) found → ⊥
 
 -- ---- a made job

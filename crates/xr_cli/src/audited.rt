@@ -3,7 +3,7 @@
 ghost use Rattle.std.specs.Prelude.{◌≡◌, IfErr, IfOk};
 ghost use Rattle.xr_audit.specs.Listed.{IsAudit};
 ghost use Rattle.xr_design.specs.Handed.{IsBlank, IsReplay};
-ghost use Rattle.xr_job.specs.Compared.{job_in};
+ghost use Rattle.xr_job.specs.Compared.{job_for};
 ghost use Rattle.xr_run.specs.Prepared.{IsJudgedBy, PreparedAlone, answer_of};
 ghost use Rattle.xr_wave.specs.Contents.{IsLimit};
 ghost use Rattle.xr_words.specs.Words.{audit_values};
@@ -32,7 +32,7 @@ pub fn audited<'a, O: Sink>(
     out: &mut O,
 ) -> Result<Ready<'a>, Refusal<Refused>>
     requires fits { FitsParts job.now }
-    requires replay { IsReplay (job_in job.now.netlist job.now.recorded) history.now }
+    requires replay { IsReplay (job_for job.now.netlist job.now.recorded) history.now }
     ensures prepared { PreparedAlone (walk_audited (audit_values words.now) job.now.netlist job.now.recorded)
         answer_of result }
     ensures out { O.view out.new ≡ O.view out.old }
@@ -52,7 +52,7 @@ fn blank_wave<'b, O: Sink>(
     out: &mut O,
 ) -> Result<Wave<'b>, Refusal<Refused>>
     requires fits { FitsParts job.now }
-    requires blank { IsBlank (job_in job.now.netlist job.now.recorded) blank.now }
+    requires blank { IsBlank (job_for job.now.netlist job.now.recorded) blank.now }
     requires conflicts { IsLimit conflicts }
     ensures repaired { IfOk result (IsRepairedBy conflicts job.now.netlist job.now.recorded.stim blank.now) }
     ensures refused { IfErr result (IsJudgedBy (AuditComes conflicts job.now.netlist job.now.recorded) no_cause) }

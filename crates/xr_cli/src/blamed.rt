@@ -2,7 +2,7 @@
 
 ghost use Rattle.std.specs.Prelude.{◌≡◌, IfOk};
 ghost use Rattle.xr_design.specs.Handed.{IsReplay};
-ghost use Rattle.xr_job.specs.Compared.{job_in};
+ghost use Rattle.xr_job.specs.Compared.{job_for};
 ghost use Rattle.xr_run.specs.Prepared.{PreparedAlone, answer_of};
 ghost use Rattle.xr_words.specs.Words.{blame_values};
 ghost use Rattle.xr_cli.specs.Listed.{ListsBlame};
@@ -30,7 +30,7 @@ pub fn blamed<'a, O: Sink>(
     out: &mut O,
 ) -> Result<Ready<'a>, Refusal<Refused>>
     requires fits { FitsParts job.now }
-    requires replay { IsReplay (job_in job.now.netlist job.now.recorded) history.now }
+    requires replay { IsReplay (job_for job.now.netlist job.now.recorded) history.now }
     ensures prepared { PreparedAlone (walk_blamed (blame_values words.now) job.now.netlist job.now.recorded)
         answer_of result }
     ensures out { O.view out.new ≡ O.view out.old }

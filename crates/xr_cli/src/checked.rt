@@ -3,7 +3,7 @@
 ghost use Rattle.std.specs.Prelude.{◌≡◌, [], IfOk};
 ghost use Rattle.std.specs.List.{AllByRecursion};
 ghost use Rattle.xr_design.specs.Handed.{IsReplay};
-ghost use Rattle.xr_job.specs.Compared.{job_in};
+ghost use Rattle.xr_job.specs.Compared.{job_for};
 ghost use Rattle.xr_listing.specs.Conditions.{IsSomeCondition};
 ghost use Rattle.xr_run.specs.Prepared.{PreparedAlone, answer_of};
 ghost use Rattle.xr_words.specs.Words.{check_values};
@@ -32,7 +32,7 @@ pub fn checked<'a>(
     cert: Cert,
 ) -> Result<Ready<'a>, Refusal<Refused>>
     requires fits { FitsParts job.now }
-    requires replay { IsReplay (job_in job.now.netlist job.now.recorded) history.now }
+    requires replay { IsReplay (job_for job.now.netlist job.now.recorded) history.now }
     ensures { PreparedAlone (checked_phases (check_values words.now) job.now cert) answer_of result }
 {
     let checked = certified_wave(alloc, job, history, cert, words.conflicts)?;

@@ -29,5 +29,5 @@ mod restarted;
 mod texts;
 mod upgraded;
 
-pub use laws::answers_say_what_is_promised;
+pub use laws::{answers_say_what_is_promised, own_certificate_is_checkable};
 pub use program::run;

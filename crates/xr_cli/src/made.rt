@@ -2,7 +2,7 @@
 
 ghost use Rattle.std.specs.Prelude.{◌≡◌, ◌≤◌, ◌^◌, IfOk, length};
 ghost use Rattle.xr_design.specs.Handed.{IsReplay};
-ghost use Rattle.xr_job.specs.Compared.{job_in};
+ghost use Rattle.xr_job.specs.Compared.{job_for};
 ghost use Rattle.xr_job.specs.Netlist.{FitsNetlist};
 ghost use Rattle.xr_job.specs.Recorded.{FitsRecorded, RecordingComes};
 ghost use Rattle.xr_run.specs.Prepared.{Judged, PreparedAlone, answer_of};
@@ -167,7 +167,7 @@ fn walked<'a, O: Sink>(
     out: &mut O,
 ) -> Result<Ready<'a>, Refusal<Refused>>
     requires fits { FitsParts job.now }
-    requires replay { IsReplay (job_in job.now.netlist job.now.recorded) history.now }
+    requires replay { IsReplay (job_for job.now.netlist job.now.recorded) history.now }
     ensures prepared { PreparedAlone (walk_made (make_values texts.entry.words) texts.entry.recording.items
         job.now.netlist job.now.recorded) answer_of result }
     ensures out { O.view out.new ≡ O.view out.old }

@@ -5,7 +5,7 @@ ghost use Rattle.xr_run.specs.Ends.{Comes, RanWords};
 ghost use Rattle.xr_run.specs.Rows.{start_of, start_with};
 ghost use Rattle.xr_words.specs.Words.{Means, values_of};
 ghost use Rattle.xr_cli.specs.Commands.{commands};
-ghost use Rattle.xr_cli.specs.Ends.{Done, IsComplete, RefusesTexts};
+ghost use Rattle.xr_cli.specs.Ends.{Done, EndsInOrder, RefusesTexts};
 
 use crate::commands::audit::Audit;
 use crate::commands::blame::Blame;
@@ -31,7 +31,7 @@ pub fn run<S: Shelf, O: Sink>(alloc: Global, words: &[String], shelf: &mut S, ou
     ensures refused { 5 ≤ result → result ≤ 19
         → RefusesTexts (start_of words.now S.told O.told (S.view shelf.old) (O.view out.old))
         (S.view shelf.new) (O.view out.new) result }
-    ensures complete { IsComplete (start_of words.now S.told O.told (S.view shelf.old) (O.view out.old))
+    ensures complete { EndsInOrder (start_of words.now S.told O.told (S.view shelf.old) (O.view out.old))
         (S.view shelf.new) (O.view out.new) result }
 {
     ended(alloc, words, shelf, out)

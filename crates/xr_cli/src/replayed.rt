@@ -3,7 +3,7 @@
 ghost use Rattle.std.specs.Prelude.{◌≡◌, IfOk};
 ghost use Rattle.xr_design.specs.Force.{AreEvents};
 ghost use Rattle.xr_design.specs.Handed.{HasPlaces};
-ghost use Rattle.xr_job.specs.Compared.{job_in};
+ghost use Rattle.xr_job.specs.Compared.{job_for};
 ghost use Rattle.xr_run.specs.Prepared.{PreparedAlone, answer_of};
 ghost use Rattle.xr_words.specs.Words.{replay_values};
 ghost use Rattle.xr_phases.specs.Code.{moments_line};
@@ -27,7 +27,7 @@ pub fn replayed<'a>(
     forces: &Forces,
 ) -> Result<Ready<'a>, Refusal<Refused>>
     requires fits { FitsParts job.now }
-    requires forces { AreEvents (job_in job.now.netlist job.now.recorded) forces.now }
+    requires forces { AreEvents (job_for job.now.netlist job.now.recorded) forces.now }
     ensures { PreparedAlone (forced_phases (replay_values words.now) job.now forces.now) answer_of result }
 {
     let netlist = &job.netlist;
@@ -49,7 +49,7 @@ fn texts_of<'a>(
     history: &History,
 ) -> Result<Ready<'a>, Memory>
     requires fits { FitsParts job.now }
-    requires places { HasPlaces (job_in job.now.netlist job.now.recorded) history.now }
+    requires places { HasPlaces (job_for job.now.netlist job.now.recorded) history.now }
     ensures { IfOk result (λ ready. answer_of ready ≡ replay_answer (replay_values words.now) job.now history.now) }
 {
     let recorded = &job.recorded;

@@ -4,7 +4,7 @@ ghost use Rattle.std.specs.Prelude.{◌≡◌, IfOk};
 ghost use Rattle.std.specs.List.{AllByRecursion};
 ghost use Rattle.xr_cert_text.specs.declared.cert.Form.TheVariants.{Turns};
 ghost use Rattle.xr_design.specs.Handed.{IsReplay};
-ghost use Rattle.xr_job.specs.Compared.{job_in};
+ghost use Rattle.xr_job.specs.Compared.{job_for};
 ghost use Rattle.xr_listing.specs.Conditions.{IsSomeCondition};
 ghost use Rattle.xr_run.specs.Prepared.{PreparedAlone, answer_of};
 ghost use Rattle.xr_words.specs.Words.{upgrade_values};
@@ -32,7 +32,7 @@ pub fn upgraded<'a>(
     cert: Cert,
 ) -> Result<Ready<'a>, Refusal<Refused>>
     requires fits { FitsParts job.now }
-    requires replay { IsReplay (job_in job.now.netlist job.now.recorded) history.now }
+    requires replay { IsReplay (job_for job.now.netlist job.now.recorded) history.now }
     ensures { PreparedAlone (formed_upgrade (upgrade_values words.now) job.now cert) answer_of result }
 {
     without_turns(&cert)?;
@@ -48,7 +48,7 @@ fn with_turns<'a>(
     cert: Cert,
 ) -> Result<Ready<'a>, Refusal<Refused>>
     requires fits { FitsParts job.now }
-    requires replay { IsReplay (job_in job.now.netlist job.now.recorded) history.now }
+    requires replay { IsReplay (job_for job.now.netlist job.now.recorded) history.now }
     ensures { PreparedAlone (checked_upgrade (upgrade_values words.now) job.now cert) answer_of result }
 {
     let checked = certified_wave(alloc, job, history, cert, words.conflicts)?;

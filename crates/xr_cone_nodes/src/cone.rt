@@ -117,11 +117,12 @@ fn births_of(alloc: Global, nodes: &[Node]) -> Result<Vec<bool>, Memory>
 fn sources_in(alloc: Global, nodes: &[Node]) -> Result<Vec<Place>, Memory>
     ensures { IfOk result (λ sources. sources.items ≡ sources_of nodes.now) }
 {
-    let sources = nodes
-        .iter()
-        .filter(|node| node.is_source())
-        .map(|node| node.place)
-        .collect(alloc)?;
+    let mut sources = Vec::new(alloc);
+    'nodes: for node in nodes {
+        if node.is_source() {
+            sources.push(node.place)?;
+        }
+    }
     Ok(sources)
 }
 

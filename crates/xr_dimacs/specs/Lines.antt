@@ -1,13 +1,13 @@
 -- The lines of a text, the words of a line, and the words of lines with their numbers.
-use Rattle.std.specs.Prelude.{ℕ, ◌+◌, ◌==◌, Bool, true, false, ◌&&◌, ◌||◌, nat_le, List, [], ◌∷◌, ◌++◌, filter, if◌then◌else◌}
+use Rattle.std.specs.Prelude.{ℕ, ◌+◌, ◌==◌, Bool, true, false, ◌||◌, List, [], ◌∷◌, ◌++◌, filter, if◌then◌else◌}
 use Rattle.xr_dimacs.specs.declared.gap.Gap.{Gap}
 use Rattle.xr_dimacs.specs.declared.gap.Gap.TheVariants.{Newline, White, Blank}
 use Rattle.xr_dimacs.specs.declared.kind.Kind.{Kind}
 use Rattle.xr_dimacs.specs.declared.kind.Kind.TheVariants.{OfCnf, OfLog}
 
--- White space is the bytes 9 to 13 and the space.
+-- White space is space, tab, newline, carriage return and form feed.
 abbrev pub is_white : ℕ → Bool
-is_white b = (nat_le 9 b && nat_le b 13) || (b == 32)
+is_white b = (b == 32) || (b == 9) || (b == 10) || (b == 13) || (b == 12)
 
 -- What stands between two parts: a newline, white space, or spaces and tabs.
 abbrev pub is_gap : Gap → ℕ → Bool

@@ -7,7 +7,7 @@ ghost use Rattle.xr_dimacs.specs.Lines.{is_gap, is_white};
 #[derive(Clone, Copy, Debug, PartialEq, Eq)]
 pub enum Gap {
     Newline,
-    /// White space: the bytes 9 to 13, and the space.
+    /// White space: space, tab, newline, carriage return, form feed.
     White,
     /// Spaces and tabs.
     Blank,
@@ -29,5 +29,5 @@ impl Gap {
 pub fn is_white(byte: u8) -> bool
     ensures { result ≡ is_white byte }
 {
-    (9 <= byte && byte <= 13) || byte == b' '
+    byte == b' ' || byte == b'\t' || byte == b'\n' || byte == b'\r' || byte == 12
 }

@@ -7,7 +7,7 @@ use std::fs;
 use std::fs::File;
 use std::io::{Read, Write};
 use std::rt::Files;
-use xr_shelf::{FaultCount, GivenCount, IoErr, Shelf};
+use xr_shelf::{FaultCount, IoErr, Shelf};
 
 /// The file in hand, with its name.
 #[derive(Drop)]
@@ -17,7 +17,7 @@ pub enum InHand {
     New { name: String, file: File },
 }
 
-/// Real files. It keeps one count of faults of each kind, and one of the bytes read, for every name, and tells no content.
+/// Real files. It keeps one count of faults of each kind for every name, and tells no content.
 #[derive(Drop)]
 pub struct FileShelf<'a, R: Files<File = File>> {
     files: &'a R,
@@ -25,7 +25,6 @@ pub struct FileShelf<'a, R: Files<File = File>> {
     hand: InHand,
     read_faults: FaultCount,
     write_faults: FaultCount,
-    given: GivenCount,
 }
 
 impl<'a, R: Files<File = File>> FileShelf<'a, R> {
@@ -34,7 +33,6 @@ impl<'a, R: Files<File = File>> FileShelf<'a, R> {
         ensures hand { result.hand ≡ InHand.None }
         ensures reads { result.read_faults ≡ 0 }
         ensures writes { result.write_faults ≡ 0 }
-        ensures given { result.given ≡ 0 }
     {
         FileShelf {
             files,
@@ -42,7 +40,6 @@ impl<'a, R: Files<File = File>> FileShelf<'a, R> {
             hand: InHand::None,
             read_faults: FaultCount::new(),
             write_faults: FaultCount::new(),
-            given: GivenCount::new(),
         }
     }
 }
@@ -56,7 +53,6 @@ impl<'a, R: Files<File = File>> Shelf for FileShelf<'a, R> {
     ghost view = { λ s. record {
       reads = λ _. s.read_faults;
       writes = λ _. s.write_faults;
-      given = λ _. s.given;
       hand = hand_of s.hand;
       files = λ _. None;
       unread = [];
@@ -82,10 +78,7 @@ impl<'a, R: Files<File = File>> Shelf for FileShelf<'a, R> {
             return Ok(0);
         };
         match file.read(buffer) {
-            Ok(count) => {
-                self.given.add(count);
-                Ok(count)
-            }
+            Ok(count) => Ok(count),
             Err(_) => {
                 self.read_faults.rise();
                 Err(IoErr::Failed)

@@ -20,7 +20,7 @@ use Rattle.xr_replay.specs.Fault.{IsFaultless, IsFirstFault, TellsFirst, bound_a
 use Rattle.xr_replay.specs.declared.differ.Differ.{Differ}
 use Rattle.xr_replay.specs.declared.differ.Differ.TheVariants as differ
 use Rattle.xr_job.specs.Netlist.{FitsNetlist}
-use Rattle.xr_job.specs.Compared.{IsReplayAnswer, IsThere, bound_in, job_in, refusal_for}
+use Rattle.xr_job.specs.Compared.{IsReplayAnswer, IsThere, bound_in, job_for, refusal_for}
 use Rattle.xr_job.specs.declared.compare_refusal.CompareErr.{CompareErr}
 use Rattle.xr_job.specs.declared.compare_refusal.CompareErr.TheVariants.{Refused}
 use Rattle.xr_job.specs.declared.compare_refusal.CompareRefusal.{CompareRefusal}
@@ -80,7 +80,7 @@ module _ (netlist : Netlist) (recorded : Recorded) (own : FitsRecorded netlist.d
   moment_in moment within = let times = own.times in rw times within
 
   -- What the first fault numbers is there.
-  pub is_there : (d : Differ) → IsFirstFault (job_in netlist recorded) recorded.recording recorded.binding d → IsThere netlist recorded d
+  pub is_there : (d : Differ) → IsFirstFault (job_for netlist recorded) recorded.recording recorded.binding d → IsThere netlist recorded d
   is_there (differ.Unsettled net moment kept next) first = let fault = first.fault in (fault.within, moment_in moment first.within)
   is_there (differ.Disagrees variable bit moment was replayed) first =
       let fault = (first.fault).1 in
@@ -116,8 +116,8 @@ unforced j events history none is = subst (λ (l : List Event). IsReplayUnder j 
 
 -- Where the recording is compared: a fault is reported as it is.
 pub answer_refused : (netlist : Netlist) (recorded : Recorded) (d : Differ) (refusal : CompareRefusal) (result : Result (Unit {0}) Differ) → result ≡ Err d
-    → (IsFaultless (job_in netlist recorded) recorded.recording recorded.binding → IsOk result)
-    → TellsFirst (job_in netlist recorded) recorded.recording recorded.binding result → refusal ≡ refusal_for netlist recorded d
+    → (IsFaultless (job_for netlist recorded) recorded.recording recorded.binding → IsOk result)
+    → TellsFirst (job_for netlist recorded) recorded.recording recorded.binding result → refusal ≡ refusal_for netlist recorded d
     → (answer : Result HistoryView CompareErr) → answer ≡ Err (Refused refusal) → IsReplayAnswer netlist recorded answer
 answer_refused netlist recorded d refusal result is faultless first named answer ends = record {
   replayed = λ none. absurd (not_ok result d is (faultless none));
@@ -135,7 +135,7 @@ answer_refused netlist recorded d refusal result is faultless first named answer
 
 -- A recording that agrees isn't refused.
 pub answer_agrees : (netlist : Netlist) (recorded : Recorded) (result : Result (Unit {0}) Differ) (u : Unit {0}) → result ≡ Ok u
-    → TellsFirst (job_in netlist recorded) recorded.recording recorded.binding result
+    → TellsFirst (job_for netlist recorded) recorded.recording recorded.binding result
     → (history : HistoryView) (answer : Result HistoryView CompareErr) → answer ≡ Ok history → IsReplayAnswer netlist recorded answer
 answer_agrees netlist recorded result u is first history answer ends = record {
   replayed = λ none. inl (ok_by answer history ends);

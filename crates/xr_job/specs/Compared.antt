@@ -16,8 +16,8 @@ use Rattle.xr_job.specs.declared.compare_refusal.CompareErr.TheVariants.{Refused
 use Rattle.xr_job.specs.declared.compare_refusal.CompareRefusal.{CompareRefusal}
 use Rattle.xr_job.specs.declared.compare_refusal.CompareRefusal.TheVariants.{Disagrees, Unsettled}
 
-abbrev pub job_in : Netlist → Recorded → Job
-job_in netlist recorded = job_of netlist.design netlist.order recorded.stim
+abbrev pub job_for : Netlist → Recorded → Job
+job_for netlist recorded = job_of netlist.design netlist.order recorded.stim
 
 -- the bound variable with a number
 abbrev pub bound_in : List Bound → ℕ → Bound
@@ -38,14 +38,14 @@ refusal_for netlist recorded (differ.Disagrees variable bit moment was replayed)
 -- The first fault of the recording, compared with the replay.
 pub record IsRefusedReplay (netlist : Netlist) (recorded : Recorded) (refusal : CompareRefusal) : Type 0 where
   pub differ : Differ
-  pub first : IsFirstFault (job_in netlist recorded) recorded.recording recorded.binding differ
+  pub first : IsFirstFault (job_for netlist recorded) recorded.recording recorded.binding differ
   pub reported : refusal ≡ refusal_for netlist recorded differ
 
 -- What the job comes to.
 abbrev pub ReplayComes : Netlist → Recorded → Result HistoryView CompareRefusal → Type 0
 ReplayComes netlist recorded (Ok history) =
-    IsReplay (job_in netlist recorded) history
-    × IsFaultless (job_in netlist recorded) recorded.recording recorded.binding
+    IsReplay (job_for netlist recorded) history
+    × IsFaultless (job_for netlist recorded) recorded.recording recorded.binding
 ReplayComes netlist recorded (Err refusal) = IsRefusedReplay netlist recorded refusal
 
 -- An error that is a refusal is of this kind.
@@ -57,7 +57,7 @@ IfCompareRefused P Memory = Unit {0}
 -- out.
 pub record IsReplayAnswer (netlist : Netlist) (recorded : Recorded)
     (result : Result HistoryView CompareErr) : Type 0 where
-  pub replayed : IsFaultless (job_in netlist recorded) recorded.recording recorded.binding
+  pub replayed : IsFaultless (job_for netlist recorded) recorded.recording recorded.binding
       → IsOk result ⊎ (result ≡ Err Memory)
   pub refused : (refusal : CompareRefusal) → IsRefusedReplay netlist recorded refusal
       → (result ≡ Err (Refused refusal)) ⊎ (result ≡ Err Memory)

@@ -27,9 +27,9 @@ pub fn replay_and_compare(
 ) -> Result<History, CompareErr>
     requires netlist { FitsNetlist netlist.now }
     requires recorded { FitsRecorded netlist.now.design recorded.now }
-    ensures replay { IfOk result (IsReplay (spec.job_in netlist.now recorded.now)) }
+    ensures replay { IfOk result (IsReplay (spec.job_for netlist.now recorded.now)) }
     ensures agrees { IfOk result (λ _.
-        IsFaultless (spec.job_in netlist.now recorded.now) recorded.now.recording recorded.now.binding) }
+        IsFaultless (spec.job_for netlist.now recorded.now) recorded.now.recording recorded.now.binding) }
     ensures refused { IfErr result (spec.IfCompareRefused (spec.IsRefusedReplay netlist.now recorded.now)) }
     ensures exact { spec.IsReplayAnswer netlist.now recorded.now result }
 {
@@ -53,12 +53,12 @@ pub fn replay_and_compare(
 fn compared(netlist: &Netlist, recorded: &Recorded, history: &History) -> Result<(), Differ>
     requires netlist { FitsNetlist netlist.now }
     requires recorded { FitsRecorded netlist.now.design recorded.now }
-    requires history { IsReplay (spec.job_in netlist.now recorded.now) history.now }
+    requires history { IsReplay (spec.job_for netlist.now recorded.now) history.now }
     ensures agrees { IsOk result
-        ↔ IsFaultless (spec.job_in netlist.now recorded.now) recorded.now.recording recorded.now.binding }
+        ↔ IsFaultless (spec.job_for netlist.now recorded.now) recorded.now.recording recorded.now.binding }
     ensures differs { IfErr result
-        (IsFirstFault (spec.job_in netlist.now recorded.now) recorded.now.recording recorded.now.binding) }
-    ensures exact { TellsFirst (spec.job_in netlist.now recorded.now)
+        (IsFirstFault (spec.job_for netlist.now recorded.now) recorded.now.recording recorded.now.binding) }
+    ensures exact { TellsFirst (spec.job_for netlist.now recorded.now)
         recorded.now.recording recorded.now.binding result }
 {
     compare(

@@ -1,18 +1,22 @@
 -- Steps and places within a history.
-use Rattle.std.proofs.Common.{◌≡◌, ℕ, zero, suc, ◌+◌, ◌-◌, ◌*◌, ◌<◌, ◌≤◌, List, length, refl, sym, ◌∙◌, arith, All, subst}
+use Rattle.std.proofs.Common.{◌≡◌, ℕ, zero, suc, ◌+◌, ◌-◌, ◌*◌, ◌<◌, ◌≤◌, ◌^◌, List, length, refl, sym, ◌∙◌, arith, All, subst}
+use Rattle.std.proofs.Math.Nat.{mul_comm, mul-le-mul_left}
+use Rattle.std.proofs.lemmas.Nat.{mul-add-lt}
 use Rattle.xr_design.specs.History.{HistoryView}
 use Rattle.xr_design.specs.declared.design.Design.{Design}
+use Rattle.xr_design.specs.declared.stim.Stim.{Stim}
 use Rattle.xr_match.specs.Binding.{FitsBound}
 use Rattle.xr_match.specs.declared.binding.Bound.{Bound}
 use Rattle.xr_design.specs.Settled.{last_round}
-use Rattle.xr_out.specs.Steps.{HasStep, HasBits}
+use Rattle.xr_out.specs.Steps.{HasBits, HasMoments, HasStep}
+use Rattle.xr_out.specs.Text.{HasSteps}
 
 -- the bits of a binding that fits are nets of the history
 pub has_bits : (design : Design) (bound : List Bound) (history : HistoryView) → All (FitsBound design) bound → history.nets ≡ length design.nets → All (HasBits history) bound
 has_bits design bound history h nets = λ k d lt. let b = h k d lt in record { some = b.some; all = λ i x l. rw nets (b.nets i x l) }
 
 -- the last step of the moment before
-step_before_suc : (k rounds : ℕ) → 0 < rounds → last_round rounds k ≡ suc k * rounds + (rounds - 1) - rounds
+step_before_suc : (k rounds : ℕ) → 0 < rounds → last_round rounds k ≡ last_round rounds (suc k) - rounds
 step_before_suc k rounds some = omega arith
 
 pub step_before : (moment rounds step : ℕ) → ¬ (moment ≡ 0) → 0 < rounds → step ≡ last_round rounds moment → last_round rounds (moment - 1) ≡ step - rounds
@@ -24,3 +28,33 @@ step_before (suc k) rounds step some more is =
 pub has_step_before : (history : HistoryView) (moment rounds step before : ℕ) → ((earlier : ℕ) → earlier ≤ moment → HasStep history (last_round rounds earlier)) → ¬ (moment ≡ 0) → 0 < rounds → step ≡ last_round rounds moment → before ≡ step - rounds → HasStep history before
 has_step_before history moment rounds step before h some more is b =
     subst (HasStep history) (step_before moment rounds step some more is ∙ sym b) (h (moment - 1) (omega arith))
+
+-- The last round of a moment is one of the steps of all moments.
+last_within : (moments rounds moment : ℕ) → 0 < rounds → moment < moments → last_round rounds moment < moments * rounds
+last_within moments rounds moment some less =
+    let below = mul-add-lt moment rounds (rounds - 1) moments less (omega (arith, some)) in
+    omega (arith, below, some, mul_comm rounds moments)
+
+-- So few moments of so few rounds each have steps below 2^32.
+steps_small : (moments rounds : ℕ) → moments < 2 ^ 28 → rounds ≤ 16 → moments * rounds < 2 ^ 32
+steps_small moments rounds few short =
+    let wide = mul-le-mul_left moments short in
+    omega (arith, wide, few)
+
+-- A history of all steps of a stimulus has the last step of each moment.
+pub has_moments : (design : Design) (stim : Stim) (history : HistoryView) → HasSteps design stim history → HasMoments history (length stim.times) stim.rounds
+has_moments design stim history has =
+    let moments = length stim.times in
+    let steps = moments * stim.rounds in
+    record {
+      few = stim.few_moments;
+      steps = λ moment less.
+          let last = last_within moments stim.rounds moment stim.some_round less in
+          record {
+            small = omega (arith, last, steps_small moments stim.rounds stim.few_moments stim.few_rounds);
+            places = λ net within.
+                let low : net < length design.nets = subst (λ n. net < n) has.nets within in
+                let below = mul-add-lt (last_round stim.rounds moment) (length design.nets) net steps last low in
+                record { net = within; step = rw (has.nets, has.places) below };
+          };
+    }

@@ -11,7 +11,7 @@ use Rattle.xr_cond.specs.View.{ConditionView}
 use Rattle.xr_design.specs.Filling.{IsPlace}
 use Rattle.xr_design.specs.Handed.{IsReplay}
 use Rattle.xr_design.specs.History.{HistoryView}
-use Rattle.xr_job.specs.Compared.{job_in}
+use Rattle.xr_job.specs.Compared.{job_for}
 use Rattle.xr_wave.specs.Contents.{Contents}
 use Rattle.xr_wave.specs.declared.advance.Optimistic.{Optimistic as FoundOtherwise}
 use Rattle.xr_phases.specs.Certificate.{IsCertified, IsMissingAt, IsUncertified, uncertified_by}
@@ -23,7 +23,7 @@ use Rattle.xr_phases.specs.declared.parts.Parts.{Parts}
 
 module _ (conflicts : ℕ) (job : Parts) (history : HistoryView) (cert : Cert) where
   -- A place that lacks its line is one of the job's.
-  pub missing_at : (fault : CertFault) → IsRefusalOf (beginning conflicts job.netlist job.recorded history) cert (IsRefused fault) → IsMissingAt (job_in job.netlist job.recorded) fault
+  pub missing_at : (fault : CertFault) → IsRefusalOf (beginning conflicts job.netlist job.recorded history) cert (IsRefused fault) → IsMissingAt (job_for job.netlist job.recorded) fault
   missing_at (Missing place) refused = missing_is_place (beginning conflicts job.netlist job.recorded history) cert place refused
   missing_at (Syntax line) refused = tt
   missing_at (Header line) refused = tt
@@ -34,16 +34,16 @@ module _ (conflicts : ℕ) (job : Parts) (history : HistoryView) (cert : Cert) w
   missing_at (BadTurn line) refused = tt
 
   -- So is one that is found otherwise.
-  pub objected_at : (found : FoundOtherwise) → IsRefusalOf (beginning conflicts job.netlist job.recorded history) cert (Objects found) → IsPlace (job_in job.netlist job.recorded) found.place
+  pub objected_at : (found : FoundOtherwise) → IsRefusalOf (beginning conflicts job.netlist job.recorded history) cert (Objects found) → IsPlace (job_for job.netlist job.recorded) found.place
   objected_at found refused = objection_is_place (beginning conflicts job.netlist job.recorded history) cert found refused
 
-  pub refused_for : (fault : CertFault) (cause : Uncertified) → FitsParts job → IsReplay (job_in job.netlist job.recorded) history
+  pub refused_for : (fault : CertFault) (cause : Uncertified) → FitsParts job → IsReplay (job_for job.netlist job.recorded) history
       → IsRefusalOf (beginning conflicts job.netlist job.recorded history) cert (IsRefused fault) → cause ≡ uncertified_by job fault
       → IsUncertified conflicts job cert (Certificate cause)
   refused_for fault cause fits replay refused is =
       record { fits = fits; history = history; replay = replay; refusal = IsRefused fault; refused = refused; is = ap (λ (u : Uncertified). Certificate u) is }
 
-  pub objected_for : (found : FoundOtherwise) (objection : Objection) → FitsParts job → IsReplay (job_in job.netlist job.recorded) history
+  pub objected_for : (found : FoundOtherwise) (objection : Objection) → FitsParts job → IsReplay (job_for job.netlist job.recorded) history
       → IsRefusalOf (beginning conflicts job.netlist job.recorded history) cert (Objects found) → objection ≡ objection_of job.netlist job.recorded.stim found
       → IsUncertified conflicts job cert (Optimistic objection)
   objected_for found objection fits replay refused is =
@@ -51,13 +51,13 @@ module _ (conflicts : ℕ) (job : Parts) (history : HistoryView) (cert : Cert) w
 
 -- A wave that is checked over a replay is certified, with its conditions.
 pub certified_by : (conflicts : ℕ) (job : Parts) (history : HistoryView) (cert : Cert) (wave : Contents) (conditions : List ConditionView) → FitsParts job
-    → IsReplay (job_in job.netlist job.recorded) history → IsChecked (beginning conflicts job.netlist job.recorded history) cert wave conditions
+    → IsReplay (job_for job.netlist job.recorded) history → IsChecked (beginning conflicts job.netlist job.recorded history) cert wave conditions
     → IsCertified conflicts job cert wave conditions
 certified_by conflicts job history cert wave conditions fits replay checked =
     let same : wave.history ≡ history = ap (λ (c : Contents). c.history) (begun_same checked.goes) in
     record {
       fits = fits;
-      replay = subst (IsReplay (job_in job.netlist job.recorded)) (sym same) replay;
+      replay = subst (IsReplay (job_for job.netlist job.recorded)) (sym same) replay;
       checked = subst (λ (h : HistoryView). IsChecked (beginning conflicts job.netlist job.recorded h) cert wave conditions) (sym same) checked;
     }
 

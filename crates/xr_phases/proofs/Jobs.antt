@@ -15,14 +15,14 @@ use Rattle.xr_design.proofs.Numbers.{is_place_at, number_of_place_at}
 use Rattle.xr_design.proofs.OrderLemmas.{position_within}
 use Rattle.xr_design.proofs.OrdersFit.{job_fits}
 use Rattle.xr_design.proofs.Replays.{replay_prefix}
-use Rattle.xr_job.specs.Compared.{job_in}
+use Rattle.xr_job.specs.Compared.{job_for}
 use Rattle.xr_job.specs.declared.netlist.Netlist.{Netlist as ANetlist}
 use Rattle.xr_job.specs.declared.recorded.Recorded.{Recorded}
 use Rattle.xr_phases.specs.Repair.{FitsJob}
 
 -- ---- a job that fits
 
-pub fits_job : (n : ANetlist) (r : Recorded) → FitsJob n r → Fits (job_in n r)
+pub fits_job : (n : ANetlist) (r : Recorded) → FitsJob n r → Fits (job_for n r)
 fits_job n r fits =
     job_fits n.design n.order r.stim fits.netlist.design fits.netlist.order fits.recorded.stim fits.recorded.some_round fits.recorded.few_rounds
 

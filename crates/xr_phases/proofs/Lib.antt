@@ -14,6 +14,8 @@ pub mod OneHistory
 pub mod OneJob
 pub mod OneStart
 pub mod OneStimulus
+pub mod ReplaysExist
 pub mod SetTexts
 pub mod Statuses
+pub mod Unrefused
 pub mod Walks

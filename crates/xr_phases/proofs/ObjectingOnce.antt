@@ -24,6 +24,8 @@ use Rattle.xr_laws.specs.Objection.{AllDecide, Decides, Objects}
 use Rattle.xr_laws.proofs.Objections.{one_objection}
 use Rattle.xr_wave.specs.Contents.{Contents, nothing_written}
 use Rattle.xr_wave.specs.declared.advance.Optimistic.{Optimistic as FoundOtherwise}
+use Rattle.xr_fix.specs.Started.{IsStarted, Piece}
+use Rattle.xr_fix.specs.declared.refusal.StartFault.{StartFault}
 use Rattle.xr_repair.specs.Repaired.{IsObjection}
 use Rattle.xr_objection.specs.Objections.{AreTheSame}
 use Rattle.xr_objection.proofs.Objecting.{fits_start, objections_object, place_reported, replayed_reported}
@@ -32,13 +34,14 @@ use Rattle.xr_job.specs.declared.netlist.Netlist.{Netlist as ANetlist}
 use Rattle.xr_job.specs.declared.netlist_refusal.NetlistRefusal.{NetlistRefusal}
 use Rattle.xr_job.proofs.OneNetlist.{one_outcome}
 use Rattle.xr_words.specs.Words.{JobValues}
-use Rattle.xr_phases.specs.Phases.{scope_of}
+use Rattle.xr_phases.specs.Phases.{parts, scope_of}
 use Rattle.xr_phases.specs.Repair.{IsObjectionIn, is_undecided_body, is_undecided_line, rule_of}
-use Rattle.xr_phases.specs.Texts.{HasJob, IsJob, IsObjected, IsOneCause}
+use Rattle.xr_phases.specs.Texts.{AreRefused, FixFails, HasJob, IfOptimistic, IsFoundUnderSet, IsJob, IsObjected, IsObjectedSet, IsOneCause, IsOneObjection, IsOneOfWalks}
 use Rattle.xr_phases.specs.declared.cause.Objection.{Objection}
 use Rattle.xr_phases.specs.declared.cause.Refused.{Refused}
 use Rattle.xr_phases.specs.declared.cause.Refused.TheVariants.{Certificate, Code, Compare, LongCertificate, LongCnf, LongCode, LongLog, LongNetlist, LongRecording, Netlist, Optimistic, Proof, Recording, Start}
 use Rattle.xr_phases.proofs.Jobs.{replay_shown}
+use Rattle.xr_phases.proofs.OneStart.{one_started}
 use Rattle.xr_phases.proofs.OneStimulus.{one_stim}
 
 -- ---- lines without an undecided body
@@ -146,75 +149,120 @@ same_line : (n : ANetlist) (stim : Stim) (one other : FoundOtherwise) → AreThe
     → objection_for n stim one ≡ objection_for n stim other
 same_line n stim one other same counts = rw (same.place, same.replayed, same.found, counts) refl
 
+stims_same : (a b : Stim) → ◌≡◌ {A = Result Stim StartFault} (Ok a) (Ok b) → a ≡ b
+stims_same a b same = cc
+
 netlists_same : (a b : ANetlist) → ◌≡◌ {A = Result ANetlist NetlistRefusal} (Ok a) (Ok b) → a ≡ b
 netlists_same a b same = cc
 
-module _ (w : JobValues) (netlist recording : List ℕ) (c d : ℕ) (a b : Objection)
-    (first : HasJob w netlist recording (IsObjected c a)) (second : HasJob w netlist recording (IsObjected d b))
-    (none_a : a.undecided ≡ 0) (none_b : b.undecided ≡ 0) where
-  nets : first.n ≡ second.n
-  nets = netlists_same first.n second.n
-      (one_outcome netlist w.top (Ok first.n) (Ok second.n) first.job.netlist_is.is second.job.netlist_is.is)
-
-  job : IsJob w netlist recording first.n second.r
-  job = subst (λ (n : ANetlist). IsJob w netlist recording n second.r) (sym nets) second.job
-
-  abbrev objects : IsObjectionIn d first.n second.r.stim b
-  objects = subst (λ (n : ANetlist). IsObjectionIn d n second.r.stim b) (sym nets) second.holds.objects
-
-  stims : first.r.stim ≡ second.r.stim
-  stims = one_stim recording first.n.design (scope_of w) w.rounds (rule_of w.start) first.r second.r first.job.is job.is
-
+-- Two objections of one design under one stimulus are the same.
+module _ (n : ANetlist) (stim : Stim) (c d : ℕ) (a b : Objection) (first : IsObjectionIn c n stim a)
+    (second : IsObjectionIn d n stim b) (none_a : a.undecided ≡ 0) (none_b : b.undecided ≡ 0) where
   abbrev one : FoundOtherwise
-  one = first.holds.objects.objects.otherwise
+  one = first.objects.otherwise
 
   abbrev other : FoundOtherwise
-  other = objects.objects.otherwise
-
-  one_is : a ≡ objection_for first.n first.r.stim one
-  one_is = first.holds.objects.objects.is
-
-  other_is : b ≡ objection_for first.n first.r.stim other
-  other_is = objects.objects.is ∙ ap (λ (s : Stim). objection_for first.n s other) (sym stims)
+  other = second.objects.otherwise
 
   undecided_a : count_by is_undecided_line one.lines.items ≡ 0
-  undecided_a = sym (ap (λ (o : Objection). o.undecided) one_is) ∙ none_a
+  undecided_a = sym (ap (λ (o : Objection). o.undecided) first.objects.is) ∙ none_a
 
   undecided_b : count_by is_undecided_line other.lines.items ≡ 0
-  undecided_b = sym (ap (λ (o : Objection). o.undecided) other_is) ∙ none_b
-
-  replay : IsReplay (job_of first.n.design first.n.order first.r.stim) objects.history
-  replay = subst (λ (s : Stim). IsReplay (job_of first.n.design first.n.order s) objects.history) (sym stims) objects.replay
-
-  objection : IsObjection (nothing_written first.n.design first.n.order first.r.stim objects.history d) other
-  objection = subst (λ (s : Stim). IsObjection (nothing_written first.n.design first.n.order s objects.history d) other)
-      (sym stims) objects.objects.objects
+  undecided_b = sym (ap (λ (o : Objection). o.undecided) second.objects.is) ∙ none_b
 
   same : AreTheSame one other
-  same = found_same first.n.design first.n.order first.r.stim first.holds.objects.history objects.history c d one other
-      first.holds.objects.replay replay first.holds.objects.objects.objects objection (none_decide one.lines.items undecided_a)
+  same = found_same n.design n.order stim first.history second.history c d one other first.replay second.replay
+      first.objects.objects second.objects.objects (none_decide one.lines.items undecided_a)
       (none_decide other.lines.items undecided_b)
 
-  pub once : b ≡ a
-  once = other_is ∙ sym (same_line first.n first.r.stim one other same (undecided_a ∙ sym undecided_b)) ∙ sym one_is
+  once_in : b ≡ a
+  once_in = second.objects.is ∙ sym (same_line n stim one other same (undecided_a ∙ sym undecided_b))
+      ∙ sym first.objects.is
+
+-- ---- two jobs of the same texts
+
+module _ (w : JobValues) (netlist recording : List ℕ) (n m : ANetlist) (r s : Recorded)
+    (first : IsJob w netlist recording n r) (second : IsJob w netlist recording m s) where
+  nets : n ≡ m
+  nets = netlists_same n m (one_outcome netlist w.top (Ok n) (Ok m) first.netlist_is.is second.netlist_is.is)
+
+  stims : r.stim ≡ s.stim
+  stims = one_stim recording n.design (scope_of w) w.rounds (rule_of w.start) r s first.is
+      (subst (λ (x : ANetlist). IsJob w netlist recording x s) (sym nets) second).is
+
+  -- What holds of the second design and stimulus holds of the first.
+  back : (Holds : ANetlist → Stim → Type 0) → Holds m s.stim → Holds n r.stim
+  back Holds there = subst (Holds n) (sym stims) (subst (λ (x : ANetlist). Holds x s.stim) (sym nets) there)
+
+module _ (w : JobValues) (netlist recording : List ℕ) (c d : ℕ) (a b : Objection) (none_a : a.undecided ≡ 0)
+    (none_b : b.undecided ≡ 0) where
+  once : HasJob w netlist recording (IsObjected c a) → HasJob w netlist recording (IsObjected d b) → b ≡ a
+  once first second =
+      once_in first.n first.r.stim c d a b first.holds.objects
+      (back w netlist recording first.n second.n first.r second.r first.job second.job
+      (λ (n : ANetlist) (stim : Stim). IsObjectionIn d n stim b) second.holds.objects) none_a none_b
+
+  once_set : (pieces : List Piece) → HasJob w netlist recording (λ n r. IsObjectedSet c pieces a (parts n r))
+      → HasJob w netlist recording (IsFoundUnderSet pieces d b) → b ≡ a
+  once_set pieces first second =
+      let set_a = first.holds.found in
+      let set_b = second.holds in
+      let started : IsStarted first.n.design first.r.stim pieces set_b.stim =
+      back w netlist recording first.n second.n first.r second.r first.job second.job
+      (λ (n : ANetlist) (stim : Stim). IsStarted n.design stim pieces set_b.stim) set_b.started in
+      let sets = stims_same set_a.stim set_b.stim
+      (one_started first.n first.r.stim pieces (Ok set_a.stim) (Ok set_b.stim) set_a.started started) in
+      let objects : IsObjectionIn d first.n set_b.stim b =
+      back w netlist recording first.n second.n first.r second.r first.job second.job
+      (λ (n : ANetlist) (stim : Stim). IsObjectionIn d n set_b.stim b) set_b.objects in
+      once_in first.n set_a.stim c d a b set_a.objects
+      (subst (λ (stim : Stim). IsObjectionIn d first.n stim b) (sym sets) objects) none_a none_b
 
 -- ---- what texts are refused for
+
+if_optimistic : (Holds : Objection → Type 0) (cause : Refused) → ((o : Objection) → cause ≡ Optimistic o → Holds o)
+    → IfOptimistic Holds cause
+if_optimistic Holds LongNetlist has = tt
+if_optimistic Holds (Netlist e) has = tt
+if_optimistic Holds LongRecording has = tt
+if_optimistic Holds (Recording e) has = tt
+if_optimistic Holds (Compare e) has = tt
+if_optimistic Holds LongCode has = tt
+if_optimistic Holds (Code fault) has = tt
+if_optimistic Holds LongCertificate has = tt
+if_optimistic Holds (Certificate cause) has = tt
+if_optimistic Holds LongCnf has = tt
+if_optimistic Holds LongLog has = tt
+if_optimistic Holds (Proof fault) has = tt
+if_optimistic Holds (Start fault) has = tt
+if_optimistic Holds (Optimistic o) has = has o refl
 
 pub one_cause : (w : JobValues) (netlist recording : List ℕ) (conflicts : ℕ) (cause : Refused)
     → ((o : Objection) → cause ≡ Optimistic o → HasJob w netlist recording (IsObjected conflicts o))
     → IsOneCause w netlist recording cause
-one_cause w netlist recording conflicts LongNetlist has = tt
-one_cause w netlist recording conflicts (Netlist e) has = tt
-one_cause w netlist recording conflicts LongRecording has = tt
-one_cause w netlist recording conflicts (Recording e) has = tt
-one_cause w netlist recording conflicts (Compare e) has = tt
-one_cause w netlist recording conflicts LongCode has = tt
-one_cause w netlist recording conflicts (Code fault) has = tt
-one_cause w netlist recording conflicts LongCertificate has = tt
-one_cause w netlist recording conflicts (Certificate cause) has = tt
-one_cause w netlist recording conflicts LongCnf has = tt
-one_cause w netlist recording conflicts LongLog has = tt
-one_cause w netlist recording conflicts (Proof fault) has = tt
-one_cause w netlist recording conflicts (Start fault) has = tt
-one_cause w netlist recording conflicts (Optimistic o) has = λ none limit other is none_other.
-    once w netlist recording conflicts limit o other (has o refl) is none none_other
+one_cause w netlist recording conflicts cause has = if_optimistic (IsOneObjection w netlist recording) cause
+    (λ o is none limit other again none_other. once w netlist recording conflicts limit o other none none_other (has o is) again)
+
+-- What `fix` finds otherwise.
+module _ (conflicts : ℕ) (pieces : List Piece) (w : JobValues) (netlist recording : List ℕ) where
+  by_walk : (o : Objection) (n : ANetlist) (r : Recorded) → IsJob w netlist recording n r
+      → FixFails conflicts pieces (parts n r) (Optimistic o) → IsOneOfWalks conflicts pieces w netlist recording o
+  by_walk o n r job (FixFails.objected stim started is) =
+      let has : HasJob w netlist recording (IsObjected conflicts o) = record { n = n; r = r; job = job; holds = is } in
+      IsOneOfWalks.of_recorded has
+      (λ none limit other again none_other. once w netlist recording conflicts limit o other none none_other has again)
+  by_walk o n r job (FixFails.objected_set is) =
+      let has : HasJob w netlist recording (λ n r. IsObjectedSet conflicts pieces o (parts n r)) =
+      record { n = n; r = r; job = job; holds = is } in
+      IsOneOfWalks.of_set has
+      (λ none limit other again none_other.
+      once_set w netlist recording conflicts limit o other none none_other pieces has again)
+
+  of_walks : (o : Objection) → AreRefused w netlist recording (FixFails conflicts pieces) (Optimistic o)
+      → IsOneOfWalks conflicts pieces w netlist recording o
+  of_walks o (AreRefused.job_fails has) = by_walk o has.n has.r has.job has.holds
+
+  pub one_fix_cause : (cause : Refused) → AreRefused w netlist recording (FixFails conflicts pieces) cause
+      → IfOptimistic (IsOneOfWalks conflicts pieces w netlist recording) cause
+  one_fix_cause cause refused = if_optimistic (IsOneOfWalks conflicts pieces w netlist recording) cause
+      (λ o is. of_walks o (subst (AreRefused w netlist recording (FixFails conflicts pieces)) is refused))

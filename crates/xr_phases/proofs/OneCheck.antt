@@ -8,10 +8,10 @@ use Rattle.xr_cert.specs.declared.refusal.CheckErr.{CheckErr}
 use Rattle.xr_cert.specs.declared.refusal.CheckErr.TheVariants.{Memory, Optimistic as Objects, Refused as IsRefused}
 use Rattle.xr_cert.specs.Entries.{lines_in as line_places}
 use Rattle.xr_cert.specs.Laws.{IsReason, IsSameFault, IsSameObjection}
-use Rattle.xr_cert.proofs.Faultless.{begun_same}
+use Rattle.xr_cert.proofs.Faultless.{accepted_unrefused, begun_same}
 use Rattle.xr_cert.proofs.Fitted.{checked_accepted}
 use Rattle.xr_cert.proofs.OneFault.{no_fault, one_fault}
-use Rattle.xr_cert_read.proofs.RunLaws.{run_only}
+use Rattle.xr_cert.proofs.OneText.{one_text}
 use Rattle.xr_cert_read.proofs.PlainLaws.{cert_lines_back}
 use Rattle.xr_cert_text.specs.declared.cert.Cert.{Cert}
 use Rattle.xr_cert_text.specs.declared.cert.Form.TheVariants.{Lines, Turns}
@@ -20,14 +20,15 @@ use Rattle.xr_cert_text.specs.Text.{cert_lines}
 use Rattle.xr_cert_text.specs.Wrong.{AreViable, IsFirstWrong, IsTextOf, IsWrongAfter}
 use Rattle.xr_cond.specs.View.{ConditionView}
 use Rattle.xr_design.specs.Fits.{Fits}
+use Rattle.xr_design.specs.Handed.{IsReplay}
 use Rattle.xr_design.specs.History.{HistoryView}
 use Rattle.xr_design.specs.declared.waveform.Written.{Written}
-use Rattle.xr_job.specs.Compared.{job_in}
+use Rattle.xr_job.specs.Compared.{job_for}
 use Rattle.xr_listing.specs.Conditions.{conditions_text}
 use Rattle.xr_model.proofs.Uniqueness.{yields_one}
 use Rattle.xr_wave.specs.Contents.{Contents, job, shown_in}
 use Rattle.xr_run.specs.Phases.{IsOne}
-use Rattle.xr_phases.specs.Certificate.{CertificateComes, CheckComes, CheckShows, FormComes, IsCauseOf, uncertified_by}
+use Rattle.xr_phases.specs.Certificate.{CertificateComes, CheckComes, CheckShows, FormComes, IsCauseOf, IsUncertified, uncertified_by}
 use Rattle.xr_phases.specs.Repair.{beginning, objection_of}
 use Rattle.xr_phases.specs.declared.cause.Refused.{Refused}
 use Rattle.xr_phases.specs.declared.cause.Refused.TheVariants.{Certificate, Optimistic}
@@ -101,7 +102,7 @@ nothing_after : {X : Type 0} (more : List X) (p : X) (r : List X) → [] ≡ mor
 nothing_after [] p r same = absurd cc
 nothing_after (m ∷ more) p r same = absurd cc
 
-stands_unwrong : (text : List ℕ) (cert : Cert) (line : ℕ) → IsTextOf text cert → IsFirstWrong text line → ⊥
+pub stands_unwrong : (text : List ℕ) (cert : Cert) (line : ℕ) → IsTextOf text cert → IsFirstWrong text line → ⊥
 stands_unwrong text cert line stands first =
     go (splits first.front (cert_lines cert) first.piece [] first.rest [] (sym first.split ∙ (ap lines_in stands.written ∙ cert_lines_back cert stands.fits)))
   where
@@ -120,9 +121,6 @@ stands_unwrong text cert line stands first =
         append_nothing [] = refl
         append_nothing (x ∷ xs) = ap (λ (l : List _). x ∷ l) (append_nothing xs)
     go (earlier more is rest) = nothing_after more first.piece first.rest rest
-
-pub one_text : (text : List ℕ) (a b : Cert) → IsTextOf text a → IsTextOf text b → a ≡ b
-one_text text a b first second = let both : ◌≡◌ {A = Result Cert ℕ} (Ok a) (Ok b) = sym (run_only text a first) ∙ run_only text b second in cc
 
 pub one_certificate : (text : List ℕ) → IsOne (CertificateComes text)
 one_certificate text (Ok a) (Ok b) first second = ap Ok (one_text text a b first second)
@@ -194,7 +192,7 @@ shows_same a b wave listing = λ t. record { wave = wave t; listing = listing t 
 pub one_check : (conflicts : ℕ) (job : Parts) (cert : Cert) → IsOne (CheckComes conflicts job cert)
 one_check conflicts job cert (Ok a) (Ok b) first second =
     let fits = fits_job job.netlist job.recorded first.certified.fits in
-    let same = one_history (job_in job.netlist job.recorded) fits (λ place. None) a.wave.history b.wave.history first.certified.replay second.certified.replay in
+    let same = one_history (job_for job.netlist job.recorded) fits (λ place. None) a.wave.history b.wave.history first.certified.replay second.certified.replay in
     let start = beginning conflicts job.netlist job.recorded a.wave.history in
     let again : IsChecked start cert b.wave second.conditions =
     subst (λ (h : HistoryView). IsChecked (beginning conflicts job.netlist job.recorded h) cert b.wave second.conditions) (sym same) second.certified.checked in
@@ -204,26 +202,37 @@ one_check conflicts job cert (Ok a) (Ok b) first second =
     ap Ok (shows_same a b waves (first.listing_is ∙ texts ∙ ap (λ (c : Contents). conditions_text c second.conditions) waves ∙ sym second.listing_is))
 one_check conflicts job cert (Ok a) (Err f) first second =
     let fits = fits_job job.netlist job.recorded first.certified.fits in
-    let same = one_history (job_in job.netlist job.recorded) fits (λ place. None) a.wave.history second.history first.certified.replay second.replay in
+    let same = one_history (job_for job.netlist job.recorded) fits (λ place. None) a.wave.history second.history first.certified.replay second.replay in
     let start = beginning conflicts job.netlist job.recorded a.wave.history in
     absurd (unrefused start cert refl refl fits a.wave first.conditions second.refusal first.certified.checked
     (subst (λ (h : HistoryView). IsRefusalOf (beginning conflicts job.netlist job.recorded h) cert second.refusal) (sym same) second.refused)
     (no_cause_of job start cert refl second.refusal f second.is))
 one_check conflicts job cert (Err e) (Ok b) first second =
     let fits = fits_job job.netlist job.recorded first.fits in
-    let same = one_history (job_in job.netlist job.recorded) fits (λ place. None) b.wave.history first.history second.certified.replay first.replay in
+    let same = one_history (job_for job.netlist job.recorded) fits (λ place. None) b.wave.history first.history second.certified.replay first.replay in
     let start = beginning conflicts job.netlist job.recorded b.wave.history in
     absurd (unrefused start cert refl refl fits b.wave second.conditions first.refusal second.certified.checked
     (subst (λ (h : HistoryView). IsRefusalOf (beginning conflicts job.netlist job.recorded h) cert first.refusal) (sym same) first.refused)
     (no_cause_of job start cert refl first.refusal e first.is))
 one_check conflicts job cert (Err e) (Err f) first second =
-    let same = one_history (job_in job.netlist job.recorded) (fits_job job.netlist job.recorded first.fits) (λ place. None) first.history second.history first.replay second.replay in
+    let same = one_history (job_for job.netlist job.recorded) (fits_job job.netlist job.recorded first.fits) (λ place. None) first.history second.history first.replay second.replay in
     ap Err (causes_one job (beginning conflicts job.netlist job.recorded first.history) cert refl first.refusal second.refusal e f first.refused
     (subst (λ (h : HistoryView). IsRefusalOf (beginning conflicts job.netlist job.recorded h) cert second.refusal) (sym same) second.refused) first.is second.is)
 
+-- One that is accepted over the job's replay isn't refused.
+pub accepted_certified : (conflicts : ℕ) (job : Parts) (cert : Cert) (history : HistoryView) (waveform : List Written) (cause : Refused)
+    → IsReplay (job_for job.netlist job.recorded) history → IsAccepted (beginning conflicts job.netlist job.recorded history) cert waveform
+    → IsUncertified conflicts job cert cause → ⊥
+accepted_certified conflicts job cert history waveform cause replay accepted refused =
+    let same = one_history (job_for job.netlist job.recorded) (fits_job job.netlist job.recorded refused.fits) (λ place. None) history refused.history replay refused.replay in
+    let start = beginning conflicts job.netlist job.recorded refused.history in
+    accepted_unrefused start cert waveform refused.refusal refl
+    (subst (λ (h : HistoryView). IsAccepted (beginning conflicts job.netlist job.recorded h) cert waveform) same accepted) refused.refused
+    (no_cause_of job start cert refl refused.refusal cause refused.is)
+
 -- ---- its form
 
-no_form : Lines ≡ Turns → ⊥
+pub no_form : Lines ≡ Turns → ⊥
 no_form same = absurd cc
 
 pub one_form : (cert : Cert) → IsOne (FormComes cert)

@@ -8,7 +8,7 @@ use Rattle.xr_design.proofs.OrdersFit.{order_lists}
 use Rattle.xr_replay.specs.declared.differ.Differ.{Differ}
 use Rattle.xr_run.specs.Phases.{Answer, AreExact, IsOne, Phases, ◌>>=◌}
 use Rattle.xr_words.specs.Words.{JobValues}
-use Rattle.xr_job.specs.Compared.{job_in, refusal_for}
+use Rattle.xr_job.specs.Compared.{job_for, refusal_for}
 use Rattle.xr_job.specs.Recorded.{RecordingComes}
 use Rattle.xr_job.specs.declared.netlist.Netlist.{Netlist as ANetlist}
 use Rattle.xr_job.specs.declared.recorded.Recorded.{Recorded}
@@ -32,19 +32,19 @@ one_recorded text design scope rounds start (Ok a) (Err f) first second = absurd
 one_recorded text design scope rounds start (Err e) (Ok b) first second = absurd (one_recording text design scope rounds start (Err e) (Ok b) first second)
 one_recorded text design scope rounds start (Err e) (Err f) first second = ap Err (one_recording text design scope rounds start (Err e) (Err f) first second)
 
-pub orders_of : (n : ANetlist) (r : Recorded) → IsOrder (driver_in n.design) (length n.design.nets) n.order → OrdersAll (job_in n r)
+pub orders_of : (n : ANetlist) (r : Recorded) → IsOrder (driver_in n.design) (length n.design.nets) n.order → OrdersAll (job_for n r)
 orders_of n r ordered = record { ordering = order_lists (driver_in n.design) (length n.design.nets) n.order ordered; all = ordered.all }
 
-pub one_compared : (n : ANetlist) (r : Recorded) → OrdersAll (job_in n r) → IsOne (CompareComes n r)
+pub one_compared : (n : ANetlist) (r : Recorded) → OrdersAll (job_for n r) → IsOne (CompareComes n r)
 one_compared n r orders (Ok a) (Ok b) first second = refl
-one_compared n r orders (Ok a) (Err f) first second = absurd (no_first (job_in n r) orders r.recording r.binding second.differ first second.first)
-one_compared n r orders (Err e) (Ok b) first second = absurd (no_first (job_in n r) orders r.recording r.binding first.differ second first.first)
+one_compared n r orders (Ok a) (Err f) first second = absurd (no_first (job_for n r) orders r.recording r.binding second.differ first second.first)
+one_compared n r orders (Err e) (Ok b) first second = absurd (no_first (job_for n r) orders r.recording r.binding first.differ second first.first)
 one_compared n r orders (Err e) (Err f) first second =
-    let same = one_fault (job_in n r) orders r.recording r.binding first.differ second.differ first.first second.first in
+    let same = one_fault (job_for n r) orders r.recording r.binding first.differ second.differ first.first second.first in
     ap Err (first.reported ∙ ap (λ (d : Differ). refusal_for n r d) same ∙ sym second.reported)
 
 -- The phases of a job, and those after them.
-pub job_exact : (w : JobValues) (next : Parts → Phases Answer Refused) → ((n : ANetlist) (r : Recorded) → OrdersAll (job_in n r) → AreExact (next (parts n r)))
+pub job_exact : (w : JobValues) (next : Parts → Phases Answer Refused) → ((n : ANetlist) (r : Recorded) → OrdersAll (job_for n r) → AreExact (next (parts n r)))
     → AreExact (job_phases w >>= next)
 job_exact w next after = λ text. (
   one_outcome text w.top,

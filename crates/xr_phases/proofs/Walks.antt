@@ -4,7 +4,7 @@ use Rattle.xr_design.specs.Handed.{IsReplay}
 use Rattle.xr_design.specs.History.{HistoryView}
 use Rattle.xr_design.specs.Job.{job_of}
 use Rattle.xr_design.specs.declared.stim.Stim.{Stim}
-use Rattle.xr_job.specs.Compared.{job_in}
+use Rattle.xr_job.specs.Compared.{job_for}
 use Rattle.xr_job.specs.declared.netlist.Netlist.{Netlist as ANetlist}
 use Rattle.xr_job.specs.declared.recorded.Recorded.{Recorded}
 use Rattle.xr_run.specs.Prepared.{IsJudgedBy}
@@ -14,7 +14,7 @@ use Rattle.xr_phases.specs.Phases.{walk_cause}
 use Rattle.xr_phases.specs.Repair.{ReplayWalkComes, WalkComes, WaveComes}
 use Rattle.xr_phases.specs.declared.cause.Refused.{Refused}
 
-module _ (conflicts : ℕ) (n : ANetlist) (r : Recorded) (history : HistoryView) (replay : IsReplay (job_in n r) history) {X : Type 0} where
+module _ (conflicts : ℕ) (n : ANetlist) (r : Recorded) (history : HistoryView) (replay : IsReplay (job_for n r) history) {X : Type 0} where
   pub walk_refused : (result : Result X (Refusal Refused)) → IfErr result (IsJudgedBy (WaveComes conflicts n r.stim history) walk_cause)
       → IfErr result (IsJudgedBy (WalkComes conflicts n r) walk_cause)
   walk_refused (Ok x) refused = refused

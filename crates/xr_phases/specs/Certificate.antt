@@ -16,7 +16,7 @@ use Rattle.xr_cert_text.specs.Wrong.{IsFirstWrong, IsTextOf}
 use Rattle.xr_cert_text.specs.declared.cert.Cert.{Cert}
 use Rattle.xr_cert_text.specs.declared.cert.Form.{Form}
 use Rattle.xr_cert_text.specs.declared.cert.Form.TheVariants.{Lines, Turns}
-use Rattle.xr_job.specs.Compared.{job_in}
+use Rattle.xr_job.specs.Compared.{job_for}
 use Rattle.xr_job.specs.Names.{net_name}
 use Rattle.xr_listing.specs.Conditions.{conditions_text}
 use Rattle.xr_wave.specs.Contents.{Contents}
@@ -84,7 +84,7 @@ IsCauseOf job Memory cause = ⊥
 pub record IsCertified (conflicts : ℕ) (job : Parts) (cert : Cert) (wave : Contents)
     (conditions : List ConditionView) : Type 0 where
   pub fits : FitsParts job
-  pub replay : IsReplay (job_in job.netlist job.recorded) wave.history
+  pub replay : IsReplay (job_for job.netlist job.recorded) wave.history
   pub checked : IsChecked (beginning conflicts job.netlist job.recorded wave.history) cert wave conditions
 
 -- What a check shows: a wave, and the lines of its conditions.
@@ -105,7 +105,7 @@ pub record IsCheckShown (conflicts : ℕ) (job : Parts) (cert : Cert) (shows : C
 pub record IsUncertified (conflicts : ℕ) (job : Parts) (cert : Cert) (cause : Refused) : Type 0 where
   pub fits : FitsParts job
   pub history : HistoryView
-  pub replay : IsReplay (job_in job.netlist job.recorded) history
+  pub replay : IsReplay (job_for job.netlist job.recorded) history
   pub refusal : CheckErr
   pub refused : IsRefusalOf (beginning conflicts job.netlist job.recorded history) cert refusal
   pub is : IsCauseOf job refusal cause

@@ -8,7 +8,7 @@ use Rattle.xr_design.specs.declared.stim.Stim.{Stim}
 use Rattle.xr_code.specs.Code.{Code, code}
 use Rattle.xr_code.specs.Says.{FirstFault, Says}
 use Rattle.xr_code.specs.declared.fault.CodeFault.{CodeFault}
-use Rattle.xr_job.specs.Compared.{job_in}
+use Rattle.xr_job.specs.Compared.{job_for}
 use Rattle.xr_base.specs.Text.{line}
 use Rattle.xr_phases.specs.declared.parts.Parts.{Parts}
 
@@ -28,7 +28,7 @@ CodeComes c (Err fault) = FirstFault c fault
 -- A history is the replay of the job under forces.
 abbrev pub IsForced : Parts → List Event → HistoryView → Type 0
 IsForced job forces history =
-    IsReplayUnder (job_in job.netlist job.recorded) (forced_by (job_in job.netlist job.recorded) forces) history
+    IsReplayUnder (job_for job.netlist job.recorded) (forced_by (job_for job.netlist job.recorded) forces) history
 
 -- The replay is found; it comes to nothing else.
 abbrev pub ForcedComes : Parts → List Event → Result HistoryView ⊥ → Type 0

@@ -18,7 +18,7 @@ use Rattle.xr_wave.specs.declared.advance.Optimistic.{Optimistic as FoundOtherwi
 use Rattle.xr_along.specs.Along.{GoesAlong}
 use Rattle.xr_code.specs.Laws.{HasSmallTimes}
 use Rattle.xr_repair.specs.Repaired.{IsObjection, IsOfJob}
-use Rattle.xr_job.specs.Compared.{IsRefusedReplay, job_in}
+use Rattle.xr_job.specs.Compared.{IsRefusedReplay, job_for}
 use Rattle.xr_job.specs.Names.{net_name}
 use Rattle.xr_job.specs.Netlist.{FitsNetlist}
 use Rattle.xr_job.specs.Recorded.{FitsRecorded}
@@ -56,9 +56,9 @@ abbrev pub FitsParts : Parts → Type 0
 FitsParts job = FitsJob job.netlist job.recorded
 
 -- A history is the replay of the job, each moment is settled, and the recording agrees in it.
-pub record Agrees (n : ANetlist) (r : Recorded) (history : HistoryView) : Type 0 where
-  pub replay : IsReplay (job_in n r) history
-  pub faultless : IsFaultless (job_in n r) r.recording r.binding
+pub record AgreesThroughout (n : ANetlist) (r : Recorded) (history : HistoryView) : Type 0 where
+  pub replay : IsReplay (job_for n r) history
+  pub faultless : IsFaultless (job_for n r) r.recording r.binding
 
 -- The wave of the job with nothing written, for logs of so many clauses.
 abbrev pub beginning : ℕ → ANetlist → Recorded → HistoryView → Contents
@@ -109,7 +109,7 @@ pub record Found : Type 0 where
 pub record IsFound (conflicts : ℕ) (n : ANetlist) (r : Recorded) (found : Found) : Type 0 where
   pub fits : FitsJob n r
   pub times : HasSmallTimes r.stim
-  pub replay : IsReplay (job_in n r) found.history
+  pub replay : IsReplay (job_for n r) found.history
   pub repaired : IsRepairedBy conflicts n r.stim found.history found.wave
   pub shows : ShowsWave found.wave found.shown
 
@@ -148,7 +148,7 @@ ReplayWalkComes conflicts n stim (Err objection) = IsObjectionIn conflicts n sti
 
 -- The recording agrees with the replay in every moment, each settled; or the first fault.
 abbrev pub CompareComes : ANetlist → Recorded → Result (Unit {0}) CompareRefusal → Type 0
-CompareComes n r (Ok agreed) = IsFaultless (job_in n r) r.recording r.binding
+CompareComes n r (Ok agreed) = IsFaultless (job_for n r) r.recording r.binding
 CompareComes n r (Err e) = IsRefusedReplay n r e
 
 -- The search comes to a wave, or to an objection.

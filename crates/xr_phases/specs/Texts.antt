@@ -10,7 +10,7 @@ use Rattle.xr_replay.specs.Fault.{IsFaultless}
 use Rattle.xr_design.specs.declared.stim.Stim.{Stim}
 use Rattle.xr_fix.specs.Started.{IsFirstFault, IsStarted, Piece}
 use Rattle.xr_fix.specs.declared.refusal.StartFault.{StartFault}
-use Rattle.xr_job.specs.Compared.{IsRefusedReplay, job_in}
+use Rattle.xr_job.specs.Compared.{IsRefusedReplay, job_for}
 use Rattle.xr_job.specs.Netlist.{NetlistComes}
 use Rattle.xr_job.specs.Recorded.{RecordingComes}
 use Rattle.xr_job.specs.declared.compare_refusal.CompareRefusal.{CompareRefusal}
@@ -80,21 +80,27 @@ pub record HasJob (w : JobValues) (netlist recording : List ℕ) (Holds : ANetli
 
 -- The recording of a job agrees with its replay.
 abbrev pub IsAgreed : Parts → Type 0
-IsAgreed job = IsFaultless (job_in job.netlist job.recorded) job.recorded.recording job.recorded.binding
+IsAgreed job = IsFaultless (job_for job.netlist job.recorded) job.recorded.recording job.recorded.binding
 
 -- The recording agrees with the replay, and a place is found otherwise.
 pub record IsObjected (conflicts : ℕ) (objection : Objection) (n : ANetlist) (r : Recorded) : Type 0 where
-  pub faultless : IsFaultless (job_in n r) r.recording r.binding
+  pub faultless : IsFaultless (job_for n r) r.recording r.binding
   pub objects : IsObjectionIn conflicts n r.stim objection
 
--- It agrees, no place is found otherwise in the walk under the recorded starts, and one is under the set ones.
+-- The starts are set, and a place is found otherwise under them.
+pub record IsFoundUnderSet (pieces : List Piece) (conflicts : ℕ) (objection : Objection) (n : ANetlist)
+    (r : Recorded) : Type 0 where
+  pub stim : Stim
+  pub started : IsStarted n.design r.stim pieces stim
+  pub objects : IsObjectionIn conflicts n stim objection
+
+-- The recording agrees, a walk under the recorded starts finished, and a place is found otherwise under the set ones.
 pub record IsObjectedSet (conflicts : ℕ) (pieces : List Piece) (objection : Objection) (job : Parts) : Type 0 where
   pub agreed : IsAgreed job
-  pub stim : Stim
-  pub started : IsStarted job.netlist.design job.recorded.stim pieces stim
+  -- The walk that finished: no place was found otherwise in it.
   pub before : Walked
   pub walked : IsWalked conflicts job.netlist job.recorded.stim before
-  pub objects : IsObjectionIn conflicts job.netlist stim objection
+  pub found : IsFoundUnderSet pieces conflicts objection job.netlist job.recorded
 
 -- What texts are refused for, by its cause: those of the netlist and of the recording come first, in this order; then
 -- what is refused of the job that they stand for.
@@ -154,11 +160,30 @@ pub data FixFails (conflicts : ℕ) (pieces : List Piece) (job : Parts) : Refuse
 
 -- ---- a place that is found otherwise
 
--- Without an undecided body among the lines before it, it is the one of these texts, whatever the limit of the search.
+-- Without an undecided body among the lines before it, it is the one of these texts that is found so, whatever the
+-- limit of the search.
+abbrev pub IsOneFound : JobValues → List ℕ → List ℕ → (ℕ → Objection → ANetlist → Recorded → Type 0) → Objection
+    → Type 0
+IsOneFound w netlist recording Finds objection = objection.undecided ≡ 0 → (conflicts : ℕ) (other : Objection)
+    → HasJob w netlist recording (Finds conflicts other) → other.undecided ≡ 0 → other ≡ objection
+
 abbrev pub IsOneObjection : JobValues → List ℕ → List ℕ → Objection → Type 0
-IsOneObjection w netlist recording objection = objection.undecided ≡ 0 → (conflicts : ℕ) (other : Objection)
-    → HasJob w netlist recording (IsObjected conflicts other) → other.undecided ≡ 0 → other ≡ objection
+IsOneObjection w netlist recording objection = IsOneFound w netlist recording IsObjected objection
+
+-- `fix`: it is found under the recorded starts, and is the one there; or else it is found under the set ones, and is
+-- the one there.
+pub data IsOneOfWalks (conflicts : ℕ) (pieces : List Piece) (w : JobValues) (netlist recording : List ℕ)
+    (objection : Objection) : Type 0 where
+  of_recorded : HasJob w netlist recording (IsObjected conflicts objection)
+      → IsOneObjection w netlist recording objection → IsOneOfWalks conflicts pieces w netlist recording objection
+  of_set : HasJob w netlist recording (λ n r. IsObjectedSet conflicts pieces objection (parts n r))
+      → IsOneFound w netlist recording (IsFoundUnderSet pieces) objection
+      → IsOneOfWalks conflicts pieces w netlist recording objection
+
+-- What holds of a place that is found otherwise, where that is the cause.
+abbrev pub IfOptimistic : (Objection → Type 0) → Refused → Type 0
+IfOptimistic Holds (Optimistic objection) = Holds objection
+IfOptimistic Holds _ = Unit {0}
 
 abbrev pub IsOneCause : JobValues → List ℕ → List ℕ → Refused → Type 0
-IsOneCause w netlist recording (Optimistic objection) = IsOneObjection w netlist recording objection
-IsOneCause w netlist recording _ = Unit {0}
+IsOneCause w netlist recording cause = IfOptimistic (IsOneObjection w netlist recording) cause

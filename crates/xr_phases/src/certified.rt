@@ -3,7 +3,7 @@
 ghost use Rattle.std.specs.Prelude.{◌≡◌, IfErr, IfOk};
 ghost use Rattle.xr_design.specs.Filling.{IsPlace};
 ghost use Rattle.xr_design.specs.Handed.{IsReplay};
-ghost use Rattle.xr_job.specs.Compared.{job_in};
+ghost use Rattle.xr_job.specs.Compared.{job_for};
 ghost use Rattle.xr_run.specs.Prepared.{IsJudgedBy, Judged, Prepared};
 ghost use Rattle.xr_wave.specs.Contents.{IsLimit};
 ghost use Rattle.xr_phases.specs.Certificate.{CertificateComes, CheckComes, IsCertified, IsMissingAt, lack_of};
@@ -56,7 +56,7 @@ pub fn certified_wave<'b>(
     conflicts: u32,
 ) -> Result<Checked<'b>, Refusal<Refused>>
     requires fits { FitsParts job.now }
-    requires replay { IsReplay (job_in job.now.netlist job.now.recorded) history.now }
+    requires replay { IsReplay (job_for job.now.netlist job.now.recorded) history.now }
     requires conflicts { IsLimit conflicts }
     ensures certified { IfOk result (λ checked. IsCertified conflicts job.now cert checked.wave checked.conditions) }
     ensures refused { IfErr result (IsJudgedBy (CheckComes conflicts job.now cert) itself) }
@@ -85,7 +85,7 @@ pub fn certified_wave<'b>(
 /// Why a certificate is refused, with the names of a place that lacks its line.
 fn uncertified_by(alloc: Global, job: &Parts, fault: CertFault) -> Result<Uncertified, Memory>
     requires fits { FitsParts job.now }
-    requires place { IsMissingAt (job_in job.now.netlist job.now.recorded) fault }
+    requires place { IsMissingAt (job_for job.now.netlist job.now.recorded) fault }
     ensures { IfOk result (λ cause. cause ≡ uncertified_by job.now fault) }
 {
     match fault {
@@ -96,7 +96,7 @@ fn uncertified_by(alloc: Global, job: &Parts, fault: CertFault) -> Result<Uncert
 
 fn lack_of(alloc: Global, job: &Parts, place: Place) -> Result<Lack, Memory>
     requires fits { FitsParts job.now }
-    requires place { IsPlace (job_in job.now.netlist job.now.recorded) place }
+    requires place { IsPlace (job_for job.now.netlist job.now.recorded) place }
     ensures { IfOk result (λ lack. lack ≡ lack_of job.now place) }
 {
     let stim = &job.recorded.stim;

@@ -2,7 +2,7 @@
 
 ghost use Rattle.std.specs.Prelude.{◌≡◌, IfOk};
 ghost use Rattle.xr_design.specs.Force.{AreEvents};
-ghost use Rattle.xr_job.specs.Compared.{job_in};
+ghost use Rattle.xr_job.specs.Compared.{job_for};
 ghost use Rattle.xr_run.specs.Prepared.{Judged, Prepared};
 ghost use Rattle.xr_words.specs.Words.{replay_values};
 ghost use Rattle.xr_phases.specs.Code.{CodeComes, code_in};
@@ -32,7 +32,7 @@ pub fn forces_of<S: Shelf>(
     requires { FitsParts job.now }
     ensures prepared { Prepared S.told (code_phases (replay_values words.now) job.now) itself
         (S.view shelf.old) (S.view shelf.new) result }
-    ensures events { IfOk result (AreEvents (job_in job.now.netlist job.now.recorded)) }
+    ensures events { IfOk result (AreEvents (job_for job.now.netlist job.now.recorded)) }
 {
     let scope = names_of(alloc, words.job.scope)?;
     let text = read_input(alloc, shelf, words.code, TEXT_BYTES, Refused::LongCode)?;
@@ -48,7 +48,7 @@ fn forces_in(
 ) -> Result<Forces, Refusal<Refused>>
     requires { FitsParts job.now }
     ensures judged { Judged (CodeComes (code_in job.now text.now scope.now)) code_cause itself result }
-    ensures events { IfOk result (AreEvents (job_in job.now.netlist job.now.recorded)) }
+    ensures events { IfOk result (AreEvents (job_for job.now.netlist job.now.recorded)) }
 {
     let netlist = &job.netlist;
     match read_code(

@@ -2,7 +2,7 @@
 
 ghost use Rattle.std.specs.Prelude.{◌≡◌, IfOk};
 ghost use Rattle.xr_design.specs.Handed.{IsReplay};
-ghost use Rattle.xr_job.specs.Compared.{job_in};
+ghost use Rattle.xr_job.specs.Compared.{job_for};
 ghost use Rattle.xr_job.specs.Netlist.{FitsNetlist};
 ghost use Rattle.xr_job.specs.Recorded.{FitsRecorded};
 ghost use Rattle.xr_run.specs.Prepared.{Prepared};
@@ -36,7 +36,7 @@ pub fn agreed_of<S: Shelf>(
     ensures prepared { Prepared S.told (agreed_phases (job_values words.now)) agreed_job
         (S.view shelf.old) (S.view shelf.new) result }
     ensures fits { IfOk result (λ agreed. FitsParts agreed.job) }
-    ensures replay { IfOk result (λ agreed. IsReplay (job_in agreed.job.netlist agreed.job.recorded) agreed.history) }
+    ensures replay { IfOk result (λ agreed. IsReplay (job_for agreed.job.netlist agreed.job.recorded) agreed.history) }
 {
     let job = job_of(alloc, shelf, words)?;
     match compared(alloc, &job.netlist, &job.recorded) {

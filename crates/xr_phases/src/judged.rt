@@ -2,7 +2,7 @@
 
 ghost use Rattle.std.specs.Prelude.{◌≡◌, ◌<◌, ◌≤◌, ◌^◌, length, IfOk};
 ghost use Rattle.xr_design.specs.Handed.{IsReplay};
-ghost use Rattle.xr_job.specs.Compared.{job_in};
+ghost use Rattle.xr_job.specs.Compared.{job_for};
 ghost use Rattle.xr_job.specs.Netlist.{FitsNetlist, NetlistComes};
 ghost use Rattle.xr_job.specs.Recorded.{FitsRecorded, RecordingComes};
 ghost use Rattle.xr_run.specs.Prepared.{Judged};
@@ -78,7 +78,7 @@ pub fn compared(
     requires netlist { FitsNetlist netlist.now }
     requires recorded { FitsRecorded netlist.now.design recorded.now }
     ensures judged { Judged (CompareComes netlist.now recorded.now) compare_cause nothing_in result }
-    ensures replay { IfOk result (IsReplay (job_in netlist.now recorded.now)) }
+    ensures replay { IfOk result (IsReplay (job_for netlist.now recorded.now)) }
 {
     match replay_and_compare(alloc, netlist, recorded) {
         Ok(history) => Ok(history),

@@ -4,7 +4,7 @@ ghost use Rattle.std.specs.Prelude.{◌≡◌, IfErr, IfOk};
 ghost use Rattle.xr_design.specs.Circuit.{PartsFit};
 ghost use Rattle.xr_design.specs.Handed.{IsHandedIn, IsReplay};
 ghost use Rattle.xr_design.specs.Job.{job_of};
-ghost use Rattle.xr_job.specs.Compared.{job_in};
+ghost use Rattle.xr_job.specs.Compared.{job_for};
 ghost use Rattle.xr_repair.specs.Step.{RefusedStep};
 ghost use Rattle.xr_repair.specs.Walk.{left_of};
 ghost use Rattle.xr_wave.specs.Contents.{IsLimit};
@@ -35,7 +35,7 @@ pub fn wave_of<'b, O: Sink>(
     out: &mut O,
 ) -> Result<Wave<'b>, Refusal<Refused>>
     requires fits { FitsJob netlist.now recorded.now }
-    requires replay { IsReplay (job_in netlist.now recorded.now) history.now }
+    requires replay { IsReplay (job_for netlist.now recorded.now) history.now }
     requires conflicts { IsLimit conflicts }
     ensures repaired { IfOk result (IsRepairedBy conflicts netlist.now recorded.now.stim history.now) }
     ensures refused { IfErr result (IsJudgedBy (WalkComes conflicts netlist.now recorded.now) walk_cause) }

@@ -11,7 +11,7 @@ use Rattle.xr_dimacs.specs.declared.refusal.DimacsErr.TheVariants.{Refused as Te
 use Rattle.xr_dimacs.proofs.FaultLaws.{formula_refused, log_refused}
 use Rattle.xr_dimacs.proofs.TextLaws.{formula_again, log_again}
 use Rattle.xr_proof.specs.Log.{DoesFollow, IsBadLine, IsFirstBad, Refutes}
-use Rattle.xr_prove.specs.Proof.{AreTexts, IsChecked, IsExact, IsProof, IsProofFault, IsUnchecked, ProofComes, err_of_text, fault_in}
+use Rattle.xr_prove.specs.Proof.{AreTexts, IsChecked, IsProofAnswer, IsProof, IsProofFault, IsUnchecked, ProofComes, err_of_text, fault_in}
 use Rattle.xr_prove.specs.declared.fault.ProofFault.{ProofFault}
 use Rattle.xr_prove.specs.declared.fault.ProofFault.TheVariants.{Text, Log}
 use Rattle.xr_prove.specs.declared.refusal.ProofErr.{ProofErr}
@@ -144,7 +144,7 @@ module _ (cnf log : List ℕ) where
 
 -- What is found, or the fault, is what the texts come to.
 pub exact : (cnf log : List ℕ) (result : Result ℕ ProofErr) → IfOk result (IsProof cnf log)
-    → IfErr result (λ e. IfSome (fault_in e) (IsProofFault cnf log)) → IsExact cnf log result
+    → IfErr result (λ e. IfSome (fault_in e) (IsProofFault cnf log)) → IsProofAnswer cnf log result
 exact cnf log (Ok count) found fault wanted comes = one_proof cnf log wanted (Ok count) comes found
 exact cnf log (Err (Refused e)) found fault wanted comes = one_proof cnf log wanted (Err e) comes fault
 exact cnf log (Err Memory) found fault wanted comes = tt

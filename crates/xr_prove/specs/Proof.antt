@@ -71,8 +71,8 @@ Answers (Err (Refused fault)) wanted = wanted ≡ Err fault
 Answers (Err Memory) wanted = Unit {0}
 
 -- Whatever the texts come to is answered.
-abbrev pub IsExact : List ℕ → List ℕ → Result ℕ ProofErr → Type 0
-IsExact cnf log result = (wanted : Result ℕ ProofFault) → ProofComes cnf log wanted → Answers result wanted
+abbrev pub IsProofAnswer : List ℕ → List ℕ → Result ℕ ProofErr → Type 0
+IsProofAnswer cnf log result = (wanted : Result ℕ ProofFault) → ProofComes cnf log wanted → Answers result wanted
 
 -- ---- its status and its line
 

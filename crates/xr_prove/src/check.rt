@@ -2,7 +2,7 @@
 
 ghost use Rattle.std.specs.Prelude.{◌≡◌, ◌≤◌, length, IfErr, IfOk, IfSome};
 ghost use Rattle.xr_proof.specs.Log.{Fit};
-ghost use Rattle.xr_prove.specs.Proof.{IsChecked, IsExact, IsProof, IsProofFault, IsUnchecked, fault_in};
+ghost use Rattle.xr_prove.specs.Proof.{IsChecked, IsProofAnswer, IsProof, IsProofFault, IsUnchecked, fault_in};
 
 use crate::fault::ProofFault;
 use crate::refusal::ProofErr;
@@ -17,7 +17,7 @@ pub fn check_proof(alloc: Global, cnf: &[u8], log: &[u8]) -> Result<usize, Proof
     ensures found { IfOk result (IsProof cnf.now log.now) }
     ensures fault { IfErr result (λ e. IfSome (fault_in e) (IsProofFault cnf.now log.now)) }
     // Nothing else is answered, unless memory runs out.
-    ensures exact { IsExact cnf.now log.now result }
+    ensures exact { IsProofAnswer cnf.now log.now result }
 {
     read_and_check(alloc, cnf, log)
 }

@@ -3,7 +3,7 @@ use Rattle.std.proofs.Common.{◌≡◌, ◌≢◌, ◌∙◌, ℕ, ◌≤◌, L
 use Rattle.std.specs.Prelude.{◌⊎◌}
 use Rattle.xr_shelf.specs.Shelf.{View, Rose}
 use Rattle.xr_shelf.specs.Sink.{SinkView}
-use Rattle.xr_run.specs.Ends.{Commands, Comes, IsComplete, IsOutside, IsUnrefused, LineMade, NoFault, Ran, RanWords, TextsExact, TextsRefused, Unread, Unwritten, Usage, Within}
+use Rattle.xr_run.specs.Ends.{Commands, Comes, IsAnswered, IsOutside, IsUnrefused, LineMade, NoFault, Ran, RanWords, TextsExact, TextsRefused, Unread, Unwritten, Usage, Within}
 use Rattle.xr_run.specs.Phases.{Answer, AreExact, ComesTo, IsFirm, NeverRefused}
 use Rattle.xr_run.specs.Rows.{Start, Stands, DoneRow, OutputFails, ReportFails}
 use Rattle.xr_run.proofs.Exact.{err_same, exact, never_refused, ok_err}
@@ -153,7 +153,7 @@ module _ (k : Commands) (s : Start) (law : Lawful k s) (shelf : View) (sink : Si
       sure_row w (subst (λ (x : k.Words). NeverRefused s.shelf_told s.shelf.files (k.phases_of x)) same sure)
       (subst (λ (x : k.Words). NoFault k s x shelf sink) same none) ran
 
-  complete : RanWords k s shelf sink status → IsComplete k s shelf sink status
+  complete : RanWords k s shelf sink status → IsAnswered k s shelf sink status
   complete ran = λ told w means passes none.
       unrefused ran w means (never_refused s.shelf_told s.shelf.files (k.phases_of w) told (law.exact w means) passes) none
 

@@ -3,14 +3,14 @@ use Rattle.std.proofs.Common.{◌≡◌, ℕ, ◌≤◌, List, inl, inr, arith}
 use Rattle.std.specs.Prelude.{◌⊎◌}
 use Rattle.xr_shelf.specs.Shelf.{View, Rose}
 use Rattle.xr_shelf.specs.Sink.{SinkView}
-use Rattle.xr_run.specs.Ends.{Commands, IsFaultless, Unread, Unwritten}
+use Rattle.xr_run.specs.Ends.{Commands, HasNoFaults, Unread, Unwritten}
 use Rattle.xr_run.specs.Phases.{Answer}
 use Rattle.xr_run.specs.Rows.{Start, OutputFails, ReportFails}
 
 none_rose : (before now : ℕ) → now ≡ 0 → Rose before now → ⊥
 none_rose before now none rose = let up = rose.up in omega (arith, up, none)
 
-module _ (k : Commands) (s : Start) (w : k.Words) (shelf : View) (sink : SinkView) (status : ℕ) (none : IsFaultless shelf sink) where
+module _ (k : Commands) (s : Start) (w : k.Words) (shelf : View) (sink : SinkView) (status : ℕ) (none : HasNoFaults shelf sink) where
   pub never_unread : Unread k s w shelf sink status → ⊥
   never_unread there =
       let row = there.row in none_rose _ _ (none.reads there.name) row.cause

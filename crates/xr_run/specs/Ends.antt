@@ -88,7 +88,7 @@ pub data Ran {C : Type 0} (p : Phases Answer C) (t : Reporting C) (s : Start) (s
       → Ran p t s shelf sink status
 
 -- No fault was ever counted.
-pub record IsFaultless (shelf : View) (sink : SinkView) : Type 0 where
+pub record HasNoFaults (shelf : View) (sink : SinkView) : Type 0 where
   pub reads : (name : List ℕ) → shelf.reads name ≡ 0
   pub writes : (name : List ℕ) → shelf.writes name ≡ 0
   pub printed : sink.faults ≡ 0
@@ -164,8 +164,8 @@ module _ (k : Commands) (s : Start) where
     pub printed : Rose s.sink.faults sink.faults → ⊥
 
   -- Texts that pass each phase, and that no search refuses, are answered, want of memory and faults aside.
-  abbrev pub IsComplete : View → SinkView → ℕ → Type 0
-  IsComplete shelf sink status = IsTrue s.shelf_told → (w : k.Words) → k.Means s.line w
+  abbrev pub IsAnswered : View → SinkView → ℕ → Type 0
+  IsAnswered shelf sink status = IsTrue s.shelf_told → (w : k.Words) → k.Means s.line w
       → PassesAll s.shelf.files (k.phases_of w) → NoFault w shelf sink → (status ≡ 0) ⊎ (status ≡ 20)
 
   -- So are those that come to no refusal.
@@ -226,6 +226,6 @@ module _ (k : Commands) (s : Start) where
     pub usage_exact : IsOutside → (status ≡ 2) ⊎ (status ≡ 20)
     pub texts_exact : TextsExact status
     -- Where no fault was ever counted, it is neither 3 nor 4.
-    pub faultless : IsFaultless shelf sink → (status ≢ 3) × (status ≢ 4)
-    pub complete : IsComplete shelf sink status
+    pub faultless : HasNoFaults shelf sink → (status ≢ 3) × (status ≢ 4)
+    pub complete : IsAnswered shelf sink status
     pub unrefused : IsUnrefused shelf sink status

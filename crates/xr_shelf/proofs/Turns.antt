@@ -1,6 +1,6 @@
 -- What the loops over a shelf and a sink keep.
 use Rattle.std.proofs.Common.{◌≡◌, ℕ, ◌≤◌, List, ◌++◌, length, take, Some, IsTrue, Bool}
-use Rattle.xr_shelf.specs.Shelf.{View, Later, SameCounts, Opened, Created, held, OthersKept, RoseBy}
+use Rattle.xr_shelf.specs.Shelf.{View, Later, SameCounts, Opened, Created, held, OthersKept}
 use Rattle.xr_shelf.specs.Sink.{SinkView}
 
 pub record ReadTurn (told : Bool) (name so_far : List ℕ) (limit : ℕ) (old new : View) : Type 0 where
@@ -10,7 +10,6 @@ pub record ReadTurn (told : Bool) (name so_far : List ℕ) (limit : ℕ) (old ne
   pub hand : new.hand ≡ Opened name
   pub text : IsTrue told → held old name ≡ so_far ++ new.unread
   pub fits : length so_far ≤ limit
-  pub given : RoseBy (length so_far) (old.given name) (new.given name)
 
 pub record WriteTurn (told : Bool) (name bytes : List ℕ) (done : ℕ) (old new : View) : Type 0 where
   pub later : Later old new

@@ -1,7 +1,7 @@
 -- What it means to read a whole file, to write a whole file and to print a whole text.
-use Rattle.std.specs.Prelude.{◌≡◌, ◌⊎◌, ℕ, ◌+◌, ◌<◌, ◌≤◌, List, ◌++◌, length, Some, Result, IsErrOf, OnOk, OnErr, IfOk, IsTrue, Bool, Vec}
+use Rattle.std.specs.Prelude.{◌≡◌, ◌⊎◌, ℕ, ◌<◌, ◌≤◌, List, ◌++◌, length, Some, Result, IsErrOf, OnOk, OnErr, IfOk, IsTrue, Bool, Vec}
 use Rattle.std.specs.declared.alloc.Global.{Global}
-use Rattle.xr_shelf.specs.Shelf.{View, Files, Nothing, Later, SameCounts, Rose, OthersKept, Prefix, held, RoseBy}
+use Rattle.xr_shelf.specs.Shelf.{View, Files, Nothing, Later, SameCounts, Rose, OthersKept, Prefix, held}
 use Rattle.xr_shelf.specs.Sink.{SinkView}
 use Rattle.xr_shelf.specs.declared.fault.ReadErr.{ReadErr}
 use Rattle.xr_shelf.specs.declared.fault.ReadErr.TheVariants.{Fault as ReadFault, TooLong}
@@ -9,8 +9,7 @@ use Rattle.xr_shelf.specs.declared.fault.WriteErr.{WriteErr}
 use Rattle.xr_shelf.specs.declared.fault.WriteErr.TheVariants.{Fault as WriteFault}
 
 -- A whole file read: its text, or a fault with a risen count of that very name. Where any count of faults rose in the
--- call, the answer is Fault; so TooLong comes before any fault, and more bytes than the limit came. Before a fault there
--- came at most as many as the limit.
+-- call, the answer is Fault; so TooLong comes before any fault.
 pub record ReadAll (told : Bool) (name : List ℕ) (limit : ℕ) (old new : View) (result : Result (Vec ℕ Global) ReadErr) : Type 0 where
   pub later : Later old new
   pub files : new.files ≡ old.files
@@ -20,9 +19,6 @@ pub record ReadAll (told : Bool) (name : List ℕ) (limit : ℕ) (old new : View
   pub long : IsErrOf result TooLong → IsTrue told → limit < length (held old name)
   pub fault : IsErrOf result ReadFault → Rose (old.reads name) (new.reads name)
   pub kept : (IsErrOf result ReadFault → ⊥) → SameCounts old new
-  pub gave : IfOk result (λ v. RoseBy (length v.items) (old.given name) (new.given name))
-  pub over : IsErrOf result TooLong → (n : ℕ) × (limit < n) × RoseBy n (old.given name) (new.given name)
-  pub before : IsErrOf result ReadFault → (n : ℕ) × (n ≤ limit) × RoseBy n (old.given name) (new.given name)
 
 -- The name holds what it held, or a prefix of the bytes.
 abbrev pub HoldsPart : List ℕ → List ℕ → Files → Files → Type 0

@@ -9,7 +9,7 @@ use Rattle.xr_shelf.specs.declared.fault.IoErr.{IoErr}
 use Rattle.xr_shelf.specs.declared.fault.IoErr.TheVariants.{Failed, Memory}
 
 -- A shelf in memory: the most bytes it moves in a call, its files, the file in hand with what isn't read of it,
--- its calls, its counts of faults, which are those of every name, and how many bytes its reads gave of all names.
+-- its calls, and its counts of faults, which are those of every name.
 pub record MemShelfView : Type 0 where
   pub piece : ℕ
   pub files : List File
@@ -18,11 +18,10 @@ pub record MemShelfView : Type 0 where
   pub plan : PlanView
   pub read_faults : ℕ
   pub write_faults : ℕ
-  pub given : ℕ
 
 -- What is seen of its parts.
-abbrev pub seen_of : ℕ → List File → InHand → PlanView → ℕ → ℕ → ℕ → MemShelfView
-seen_of piece files hand plan read_faults write_faults given = record {
+abbrev pub seen_of : ℕ → List File → InHand → PlanView → ℕ → ℕ → MemShelfView
+seen_of piece files hand plan read_faults write_faults = record {
   piece = piece;
   files = files;
   hand = hand_of hand;
@@ -30,24 +29,23 @@ seen_of piece files hand plan read_faults write_faults given = record {
   plan = plan;
   read_faults = read_faults;
   write_faults = write_faults;
-  given = given;
 }
 
 -- No file, none in hand, no call, no fault.
 abbrev pub empty_shelf : ℕ → MemShelfView
-empty_shelf piece = record { piece = piece; files = []; hand = Nothing; unread = []; plan = no_calls; read_faults = 0; write_faults = 0; given = 0 }
+empty_shelf piece = record { piece = piece; files = []; hand = Nothing; unread = []; plan = no_calls; read_faults = 0; write_faults = 0 }
 
 -- The same shelf with another plan.
 abbrev pub with_plan : MemShelfView → PlanView → MemShelfView
-with_plan shelf plan = record { piece = shelf.piece; files = shelf.files; hand = shelf.hand; unread = shelf.unread; plan = plan; read_faults = shelf.read_faults; write_faults = shelf.write_faults; given = shelf.given }
+with_plan shelf plan = record { piece = shelf.piece; files = shelf.files; hand = shelf.hand; unread = shelf.unread; plan = plan; read_faults = shelf.read_faults; write_faults = shelf.write_faults }
 
 -- The same shelf with other files.
 abbrev pub with_files : MemShelfView → List File → MemShelfView
-with_files shelf files = record { piece = shelf.piece; files = files; hand = shelf.hand; unread = shelf.unread; plan = shelf.plan; read_faults = shelf.read_faults; write_faults = shelf.write_faults; given = shelf.given }
+with_files shelf files = record { piece = shelf.piece; files = files; hand = shelf.hand; unread = shelf.unread; plan = shelf.plan; read_faults = shelf.read_faults; write_faults = shelf.write_faults }
 
 -- What is seen of it as a shelf.
 abbrev pub shelf_of : MemShelfView → View
-shelf_of shelf = record { reads = λ _. shelf.read_faults; writes = λ _. shelf.write_faults; given = λ _. shelf.given; hand = shelf.hand; files = files_of shelf.files; unread = shelf.unread }
+shelf_of shelf = record { reads = λ _. shelf.read_faults; writes = λ _. shelf.write_faults; hand = shelf.hand; files = files_of shelf.files; unread = shelf.unread }
 
 abbrev pub is_opened : Hand → Bool
 is_opened Nothing = false

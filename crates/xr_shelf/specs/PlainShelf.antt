@@ -1,5 +1,5 @@
 -- What is seen of a shelf in memory without faults, and what each of its calls does to that.
-use Rattle.std.specs.Prelude.{◌≡◌, ℕ, List, [], ◌++◌, length, take, drop, min, Result, IsErrOf, IfOk, OnErr, Bool, IsTrue}
+use Rattle.std.specs.Prelude.{◌≡◌, ℕ, List, [], ◌++◌, length, take, drop, min, Result, IsErrOf, IfOk, OnErr}
 use Rattle.xr_shelf.specs.Shelf.{View, Hand, Nothing}
 use Rattle.xr_shelf.specs.NamedFiles.{File, files_of, SetsFile}
 use Rattle.xr_shelf.specs.InHand.{hand_of, unread_of}
@@ -7,28 +7,25 @@ use Rattle.xr_shelf.specs.declared.in_hand.InHand.{InHand}
 use Rattle.xr_shelf.specs.declared.fault.IoErr.{IoErr}
 use Rattle.xr_shelf.specs.declared.fault.IoErr.TheVariants.{Failed}
 
--- A shelf in memory without faults: its files, the file in hand with what isn't read of it, and how many bytes its reads
--- gave of all names.
+-- A shelf in memory without faults: its files, and the file in hand with what isn't read of it.
 pub record PlainShelfView : Type 0 where
   pub files : List File
   pub hand : Hand
   pub unread : List ℕ
-  pub given : ℕ
 
 -- What is seen of its parts.
-abbrev pub plainly_seen : List File → InHand → ℕ → PlainShelfView
-plainly_seen files hand given = record { files = files; hand = hand_of hand; unread = unread_of hand; given = given }
+abbrev pub plainly_seen : List File → InHand → PlainShelfView
+plainly_seen files hand = record { files = files; hand = hand_of hand; unread = unread_of hand }
 
 -- No file, and none in hand.
 abbrev pub empty_plain_shelf : PlainShelfView
-empty_plain_shelf = record { files = []; hand = Nothing; unread = []; given = 0 }
+empty_plain_shelf = record { files = []; hand = Nothing; unread = [] }
 
 -- What is seen of it as a shelf: no fault is ever counted.
 abbrev pub plain_shelf_of : PlainShelfView → View
 plain_shelf_of shelf = record {
   reads = λ _. 0;
   writes = λ _. 0;
-  given = λ _. shelf.given;
   hand = shelf.hand;
   files = files_of shelf.files;
   unread = shelf.unread;
@@ -39,7 +36,6 @@ pub record PutsPlainFile (name bytes : List ℕ) (old new : PlainShelfView) : Ty
   pub files : SetsFile name bytes (files_of old.files) (files_of new.files)
   pub hand : new.hand ≡ old.hand
   pub unread : new.unread ≡ old.unread
-  pub given : new.given ≡ old.given
 
 -- A call never answers Failed.
 abbrev pub NeverFails : {T : Type 0} → Result T IoErr → Type 0

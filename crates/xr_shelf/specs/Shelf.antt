@@ -8,11 +8,6 @@ pub record Rose (before now : ℕ) : Type 0 where
   pub up : min (before + 1) (2 ^ 64 - 1) ≤ now
   pub end : before ≤ 2 ^ 64 - 1
 
--- A count of 64 bits rose by so many, or to the end of its type.
-pub record RoseBy (more before now : ℕ) : Type 0 where
-  pub least : min (before + more) (2 ^ 64 - 1) ≤ now
-  pub most : now ≤ before + more
-
 -- The file in hand: none, an opened one or a created one, by its name.
 pub data Hand : Type 0 where
   Nothing : Hand
@@ -23,12 +18,11 @@ pub data Hand : Type 0 where
 abbrev pub Files : Type 0
 Files = List ℕ → Option (List ℕ)
 
--- What is seen of a shelf: a count of faults of reading and one of writing for each name, how many bytes `read` ever
--- gave of it, the file in hand, the map, and the bytes of the opened file that aren't read yet.
+-- What is seen of a shelf: a count of faults of reading and one of writing for each name, the file in hand, the map, and
+-- the bytes of the opened file that aren't read yet.
 pub record View : Type 0 where
   pub reads : List ℕ → ℕ
   pub writes : List ℕ → ℕ
-  pub given : List ℕ → ℕ
   pub hand : Hand
   pub files : Files
   pub unread : List ℕ
@@ -50,10 +44,6 @@ pub record Later (old new : View) : Type 0 where
 pub record SameCounts (old new : View) : Type 0 where
   pub reads : (name : List ℕ) → new.reads name ≡ old.reads name
   pub writes : (name : List ℕ) → new.writes name ≡ old.writes name
-
--- `read` gave nothing more of any name.
-abbrev pub SameGiven : View → View → Type 0
-SameGiven old new = (name : List ℕ) → new.given name ≡ old.given name
 
 -- Only a call that answers Failed raises a count of faults.
 abbrev pub KeptUnless : IoErr → Type 0 → Type 0
@@ -81,11 +71,10 @@ pub record OpenStep (told : Bool) (name : List ℕ) (old new : View) (result : R
   pub ok : OnOk result (new.hand ≡ Opened name)
   pub unread : OnOk result (IsTrue told → new.unread ≡ held old name)
   pub err : OnErr result (new.hand ≡ Nothing)
-  pub given : SameGiven old new
   pub fault : IsErrOf result Failed → Rose (old.reads name) (new.reads name)
 
 -- `read`: the next unread bytes stand at the front of the buffer; it gives none only at the end of the file,
--- and with no opened file in hand. A failed one leaves the unread bytes. What it gives counts for the opened name.
+-- and with no opened file in hand. A failed one leaves the unread bytes.
 pub record ReadStep (told : Bool) (old new : View) (buffer : List ℕ) (result : Result ℕ IoErr) : Type 0 where
   pub later : Later old new
   pub counts : KeepsCounts old new result
@@ -96,9 +85,6 @@ pub record ReadStep (told : Bool) (old new : View) (buffer : List ℕ) (result :
   pub end : (name : List ℕ) → old.hand ≡ Opened name → IfOk result (λ n. n ≡ 0 → 0 < length buffer → IsTrue told → old.unread ≡ [])
   pub idle : ((name : List ℕ) → old.hand ≡ Opened name → ⊥) → IfOk result (λ n. n ≡ 0)
   pub err : OnErr result (IsTrue told → new.unread ≡ old.unread)
-  pub gives : (name : List ℕ) → old.hand ≡ Opened name → IfOk result (λ n. RoseBy n (old.given name) (new.given name))
-  pub given : OnErr result (SameGiven old new)
-  pub idly : ((name : List ℕ) → old.hand ≡ Opened name → ⊥) → SameGiven old new
   pub fault : IsErrOf result Failed → (name : List ℕ) × (old.hand ≡ Opened name) × Rose (old.reads name) (new.reads name)
 
 -- `create_file`: the name is empty and in hand, or none is in hand and the name may have been emptied.
@@ -110,7 +96,6 @@ pub record CreateStep (told : Bool) (name : List ℕ) (old new : View) (result :
   pub empty : OnOk result (IsTrue told → new.files name ≡ Some [])
   pub err : OnErr result (new.hand ≡ Nothing)
   pub kept : OnErr result (IsTrue told → (new.files name ≡ old.files name) ⊎ (new.files name ≡ Some []))
-  pub given : SameGiven old new
   pub fault : IsErrOf result Failed → Rose (old.writes name) (new.writes name)
 
 -- `write`: the file in hand gains the first of the bytes, at least one where there are any.
@@ -123,7 +108,6 @@ pub record WriteStep (told : Bool) (name : List ℕ) (old new : View) (bytes : L
   pub some : IfOk result (λ n. 0 < length bytes → 0 < n)
   pub wrote : IfOk result (λ n. IsTrue told → new.files name ≡ Some (held old name ++ take n bytes))
   pub err : OnErr result (IsTrue told → new.files name ≡ old.files name)
-  pub given : SameGiven old new
   pub fault : IsErrOf result Failed → Rose (old.writes name) (new.writes name)
 
 -- `write` with a created file in hand.
@@ -136,5 +120,4 @@ pub record CloseStep (old new : View) (result : Result Unit IoErr) : Type 0 wher
   pub counts : KeepsCounts old new result
   pub files : new.files ≡ old.files
   pub hand : new.hand ≡ Nothing
-  pub given : SameGiven old new
   pub fault : IsErrOf result Failed → ((name : List ℕ) × (old.hand ≡ Opened name) × Rose (old.reads name) (new.reads name)) ⊎ ((name : List ℕ) × (old.hand ≡ Created name) × Rose (old.writes name) (new.writes name))

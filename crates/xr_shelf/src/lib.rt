@@ -5,7 +5,6 @@
 
 mod fault;
 mod fault_count;
-mod given_count;
 mod in_hand;
 mod mem_shelf;
 mod mem_sink;
@@ -19,7 +18,6 @@ mod sink;
 
 pub use fault::{IoErr, ReadErr, WriteErr};
 pub use fault_count::FaultCount;
-pub use given_count::GivenCount;
 pub use mem_shelf::MemShelf;
 pub use mem_sink::MemSink;
 pub use plain_shelf::PlainShelf;

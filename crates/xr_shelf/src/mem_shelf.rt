@@ -8,7 +8,6 @@ ghost use Rattle.xr_shelf.specs.MemShelf.{empty_shelf, with_plan, shelf_of, Puts
 
 use crate::fault::IoErr;
 use crate::fault_count::FaultCount;
-use crate::given_count::GivenCount;
 use crate::in_hand::{InHand, opened_file};
 use crate::named_files::NamedFiles;
 use crate::plan::Plan;
@@ -28,7 +27,6 @@ pub struct MemShelf {
     plan: Plan,
     read_faults: FaultCount,
     write_faults: FaultCount,
-    given: GivenCount,
 }
 
 impl Model for MemShelf {
@@ -37,7 +35,7 @@ impl Model for MemShelf {
 
     ghost Value = { MemShelfView };
 
-    ghost view = { λ s. seen_of s.piece s.files s.hand s.plan s.read_faults s.write_faults s.given };
+    ghost view = { λ s. seen_of s.piece s.files s.hand s.plan s.read_faults s.write_faults };
 
     ghost invariant = { λ s. 1 ≤ s.piece };
 }
@@ -56,7 +54,6 @@ impl MemShelf {
             plan: Plan::new(alloc),
             read_faults: FaultCount::new(),
             write_faults: FaultCount::new(),
-            given: GivenCount::new(),
         }
     }
 
@@ -136,9 +133,7 @@ impl Shelf for MemShelf {
                     self.read_faults.rise();
                     return Err(IoErr::Failed);
                 }
-                let count = reader.read(self.piece, buffer);
-                self.given.add(count);
-                Ok(count)
+                Ok(reader.read(self.piece, buffer))
             }
             _ => Ok(0),
         }

@@ -6,7 +6,6 @@ ghost use Rattle.xr_shelf.specs.NamedFiles.{files_of};
 ghost use Rattle.xr_shelf.specs.PlainShelf.{empty_plain_shelf, plain_shelf_of, NeverFails, PlainRead, PutsPlainFile};
 
 use crate::fault::IoErr;
-use crate::given_count::GivenCount;
 use crate::in_hand::{InHand, opened_file};
 use crate::named_files::NamedFiles;
 use crate::shelf::Shelf;
@@ -21,7 +20,6 @@ pub struct PlainShelf {
     alloc: Global,
     files: NamedFiles,
     hand: InHand,
-    given: GivenCount,
 }
 
 impl Model for PlainShelf {
@@ -29,7 +27,7 @@ impl Model for PlainShelf {
 
     ghost Value = { PlainShelfView };
 
-    ghost view = { λ s. plainly_seen s.files s.hand s.given };
+    ghost view = { λ s. plainly_seen s.files s.hand };
 }
 
 impl PlainShelf {
@@ -41,7 +39,6 @@ impl PlainShelf {
             alloc,
             files: NamedFiles::new(alloc),
             hand: InHand::Nothing,
-            given: GivenCount::new(),
         }
     }
 
@@ -84,11 +81,7 @@ impl Shelf for PlainShelf {
         ensures exact { PlainRead self.old self.new buffer.old buffer.new result }
     {
         match &mut self.hand {
-            InHand::Opened(_, reader) => {
-                let count = reader.read(buffer.len(), buffer);
-                self.given.add(count);
-                Ok(count)
-            }
+            InHand::Opened(_, reader) => Ok(reader.read(buffer.len(), buffer)),
             _ => Ok(0),
         }
     }

@@ -17,7 +17,7 @@ use Rattle.xr_cond.specs.View.{ConditionView, IsConditionOf, StayLaw as OneStays
 use Rattle.xr_wave.specs.Contents.{Contents, IsWave, class_in, job}
 use Rattle.xr_turns.specs.Laws.{StayLaw}
 use Rattle.xr_turns.proofs.SettledLines.{settled_at}
-use Rattle.xr_turns.specs.Conditions.{AreConditionsOf, IsFinishedAt, IsSettledAt, gives_bit, settled_places}
+use Rattle.xr_turns.specs.Conditions.{AreConditionsOf, IsFinishedAt, IsCertainLine, gives_bit, settled_places}
 
 -- A value that is known is that of its bit.
 known_bit : (value : Value) → is_unknown value ≡ false → value ≡ bit_value (decided value false)
@@ -27,7 +27,7 @@ known_bit X is = cc
 known_bit Z is = cc
 
 -- A certain Line place has a value.
-pub settled_has : (c : Contents) (place : Place) → IsSettledAt c place → number_of (job c) place < places_of (job c)
+pub settled_has : (c : Contents) (place : Place) → IsCertainLine c place → number_of (job c) place < places_of (job c)
     → is_carried (class_in c (number_of (job c) place)) ≡ false
     → HasCertainBit (job c) c.written (number_of (job c) place) (settled_bit c (number_of (job c) place))
 settled_has c place settled within free = record {
@@ -101,11 +101,11 @@ conditions_stay stays c d (place ∷ places) (view ∷ views) grown limit wave a
 
 -- The same of the lines of a wave.
 pub settled_here : (c : Contents) (lines : List ALine) (i : ℕ) (d line : ALine) → IsWave c → lines ≡ c.lines
-    → i < length lines → line ≡ get_or lines i d → gives_bit line.body ≡ true → IsSettledAt c line.place
+    → i < length lines → line ≡ get_or lines i d → gives_bit line.body ≡ true → IsCertainLine c line.place
 settled_here c lines i d line wave same less is gives =
     let there : line ≡ get_or c.lines i d = is ∙ ap (λ ls. get_or ls i d) same in
     let long = ap length same in
-    subst (λ (l : ALine). IsSettledAt c l.place) (sym there)
+    subst (λ (l : ALine). IsCertainLine c l.place) (sym there)
     (settled_at c i d wave (omega (arith, less, long))
     (subst (λ (l : ALine). gives_bit l.body ≡ true) there gives))
 

@@ -23,7 +23,7 @@ use Rattle.xr_model.specs.declared.line.Line.{Line as ALine}
 use Rattle.xr_model.proofs.LinesByPlace.{eqb_same, numbers_back}
 use Rattle.xr_model.proofs.PlacesWhere.{among_all, in_picked, picked_below, picked_rises}
 use Rattle.xr_wave.specs.Contents.{Contents, IsWave, job, shown_in}
-use Rattle.xr_turns.specs.Conditions.{IsSettledAt, gives_bit}
+use Rattle.xr_turns.specs.Conditions.{IsCertainLine, gives_bit}
 
 -- A place of a wave is that of a line.
 record IsLineAt (c : Contents) (number : ℕ) : Type 0 where
@@ -101,7 +101,7 @@ certain_known waveform place written is known =
     ap (λ (w : Written). is_unknown (certain_by w.mark w.value)) is ∙ known
 
 pub settled_at : (c : Contents) (i : ℕ) (d : ALine) → IsWave c → i < length c.lines
-    → gives_bit (slice_index_or c.lines i d).body ≡ true → IsSettledAt c (slice_index_or c.lines i d).place
+    → gives_bit (slice_index_or c.lines i d).body ≡ true → IsCertainLine c (slice_index_or c.lines i d).place
 settled_at c i d wave less gives = record {
   is_place = place_there j c.lines i d less places.places;
   written = at.written;

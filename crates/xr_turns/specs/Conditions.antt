@@ -24,7 +24,7 @@ abbrev pub settled_places : List ALine → List Place
 settled_places lines = map (λ (line : ALine). line.place) (filter (λ (line : ALine). gives_bit line.body) lines)
 
 -- A Line place of a wave is written and certain.
-pub record IsSettledAt (c : Contents) (place : Place) : Type 0 where
+pub record IsCertainLine (c : Contents) (place : Place) : Type 0 where
   pub is_place : IsPlace (job c) place
   pub written : number_of (job c) place < length c.written
   pub line : class_in c (number_of (job c) place) ≡ class.Line

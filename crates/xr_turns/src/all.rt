@@ -2,7 +2,7 @@
 
 ghost use Rattle.std.specs.Prelude.{◌≡◌, IfOk, OnOk};
 ghost use Rattle.xr_cone.specs.Known.{IsRightOf};
-ghost use Rattle.xr_turns.specs.Conditions.{AreConditionsIn, IsFinishedAt, IsSettledAt, gives_bit};
+ghost use Rattle.xr_turns.specs.Conditions.{AreConditionsIn, IsFinishedAt, IsCertainLine, gives_bit};
 
 use crate::begin::begin_at;
 use std::alloc::Global;
@@ -50,7 +50,7 @@ fn finished_at(
     tracer: &mut Tracer,
     place: Place,
 ) -> Result<Condition, Memory>
-    requires settled { IsSettledAt wave.now place }
+    requires settled { IsCertainLine wave.now place }
     requires right { IsRightOf wave.now tracer.old }
     ensures condition { IfOk result (IsFinishedAt wave.now place) }
     ensures right { OnOk result (IsRightOf wave.now tracer.new) }

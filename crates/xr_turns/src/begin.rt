@@ -2,7 +2,7 @@
 
 ghost use Rattle.std.specs.Prelude.{◌≡◌, [], IfOk, OnOk};
 ghost use Rattle.xr_cone.specs.Known.{IsRightOf};
-ghost use Rattle.xr_turns.specs.Conditions.{IsConditionAt, IsSettledAt};
+ghost use Rattle.xr_turns.specs.Conditions.{IsConditionAt, IsCertainLine};
 
 use std::alloc::Global;
 use xr_base::Memory;
@@ -19,7 +19,7 @@ pub fn begin_at(
     tracer: &mut Tracer,
     place: Place,
 ) -> Result<Condition, Memory>
-    requires settled { IsSettledAt wave.now place }
+    requires settled { IsCertainLine wave.now place }
     requires right { IsRightOf wave.now tracer.old }
     ensures condition { IfOk result (IsConditionAt wave.now place) }
     ensures none { IfOk result (λ condition. condition.turns ≡ []) }

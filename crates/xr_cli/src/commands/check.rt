@@ -2,7 +2,7 @@
 
 ghost use Rattle.xr_words.specs.Words.{check_values};
 ghost use Rattle.xr_design.specs.Handed.{IsReplay};
-ghost use Rattle.xr_job.specs.Compared.{job_in};
+ghost use Rattle.xr_job.specs.Compared.{job_for};
 ghost use Rattle.xr_run.specs.Prepared.{Prepared, answer_of};
 ghost use Rattle.xr_cli.specs.Phases.{certified_phases, check_phases};
 ghost use Rattle.xr_phases.specs.Repair.{FitsParts};
@@ -46,7 +46,7 @@ fn check_agreed<'a, S: Shelf>(
     history: &History,
 ) -> Result<Ready<'a>, Refusal<Refused>>
     requires fits { FitsParts job.now }
-    requires replay { IsReplay (job_in job.now.netlist job.now.recorded) history.now }
+    requires replay { IsReplay (job_for job.now.netlist job.now.recorded) history.now }
     ensures { Prepared S.told (certified_phases (check_values words.now) job.now) answer_of
         (S.view shelf.old) (S.view shelf.new) result }
 {

@@ -1,6 +1,6 @@
 -- The turns of `read_all`, and its ways out.
 use Rattle.std.proofs.Common.{rules, ◌≡◌, ◌<◌, ◌≤◌, ◌-◌, ◌++◌, Err, sym, ◌∙◌, subst, List, ℕ, Ok, length, take, arith}
-use Rattle.xr_shelf.proofs.ReadSteps.{read_starts, read_fails, read_long, read_memory, close_fails, read_done, read_grows, given_at_end}
+use Rattle.xr_shelf.proofs.ReadSteps.{read_starts, read_fails, read_long, read_memory, close_fails, read_done, read_grows}
 use Rattle.xr_shelf.proofs.Failed.{later_trans, same_trans}
 use Rattle.xr_shelf.specs.Shelf.{ReadStep}
 use Rattle.xr_shelf.proofs.Turns.{ReadTurn}
@@ -43,8 +43,7 @@ returns-in_err-close_file g c =
     let is : c.from_residual-in_err-close_file.result ≡ Err (read_err c.in_err-close_file.field-0.0) = search rules in
     let turn = c.turns.invariant.0 in
     let step = c.in_ok-count.ensures in
-    let none : c.in_ok-count.count ≡ 0 = search rules in
-    rw is (close_fails _ _ c.turns.text.items _ _ _ _ _ (later_trans _ _ _ turn.later step.later) (same_trans _ _ _ turn.kept step.counts) (step.files ∙ turn.files) (step.hand ∙ turn.hand) turn.fits (given_at_end _ _ _ _ none turn.given (step.gives _ turn.hand)) c.in_err-close_file.ensures)
+    rw is (close_fails _ _ c.turns.text.items _ _ _ _ _ (later_trans _ _ _ turn.later step.later) (same_trans _ _ _ turn.kept step.counts) (step.files ∙ turn.files) (step.hand ∙ turn.hand) c.in_err-close_file.ensures)
 
 pub returns : goal.returns
 returns g c =

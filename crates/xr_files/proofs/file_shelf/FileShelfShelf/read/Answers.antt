@@ -17,8 +17,5 @@ returns-in-Ok g c =
       end = search rules;
       idle = λ none. absurd (none _ in_hand);
       err = search rules;
-      gives = search rules;
-      given = search rules;
-      idly = λ none. absurd (none _ in_hand);
       fault = search rules;
     }

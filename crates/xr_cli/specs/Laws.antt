@@ -1,0 +1,29 @@
+-- What the functions of src/laws.rt ensure: an answer says what is promised, and a repair's own certificate is in order
+-- for a check of its job.
+use Rattle.std.specs.Prelude.{◌≡◌, ℕ, ◌≤◌, Bool, List, Ok, length}
+use Rattle.xr_phases.specs.Code.{text_limit}
+use Rattle.xr_run.specs.Phases.{Answer, ComesTo}
+use Rattle.xr_shelf.specs.Shelf.{Files}
+use Rattle.xr_words.specs.Words.{CheckValues, Means, RepairValues, Values}
+use Rattle.xr_cli.specs.Answers.{ReportsInputs, AnswerSays}
+use Rattle.xr_cli.specs.Headline.{Headline}
+use Rattle.xr_cli.specs.Phases.{phases_of}
+use Rattle.xr_cli.specs.Texts.{IsCheckable}
+
+-- What a command of the set finds, of files that the shelf reports if it reads any, says what is promised.
+abbrev pub AnswersSay : Type 0
+AnswersSay = (told : Bool) (files : Files) (line : List (List ℕ)) (words : Values) (answer : Answer)
+    → ReportsInputs told words → Means line words → ComesTo told files (phases_of words) (Ok answer)
+    → AnswerSays files words answer
+
+-- A check of what a repair wrote: of the same job, with logs of as many clauses.
+pub record IsCheckOf (w : RepairValues) (check : CheckValues) : Type 0 where
+  pub job : check.job ≡ w.job
+  pub conflicts : check.conflicts ≡ w.conflicts
+
+-- Its certificate, where it isn't too long, is in order for such a check: which so ends with status 0, faults of files
+-- and want of memory aside.
+abbrev pub OwnIsCheckable : Type 0
+OwnIsCheckable = (w : RepairValues) (check : CheckValues) (netlist recording vcd code cert report : List ℕ)
+    → Headline w netlist recording vcd code cert report → IsCheckOf w check → length cert ≤ text_limit
+    → IsCheckable check netlist recording cert

@@ -1,0 +1,98 @@
+-- Texts that stand for a job that agrees, with a certificate that is accepted, are refused for nothing.
+use Rattle.std.proofs.Common.{◌≡◌, ◌∙◌, ◌≤◌, ℕ, List, length, Result, Ok, Err, sym, ap, subst, arith}
+use Rattle.xr_cert.specs.Checked.{IsAccepted}
+use Rattle.xr_cert.proofs.OneText.{one_text}
+use Rattle.xr_cert_text.specs.Wrong.{IsTextOf}
+use Rattle.xr_cert_text.specs.declared.cert.Cert.{Cert}
+use Rattle.xr_cert_text.specs.declared.cert.Form.TheVariants.{Lines}
+use Rattle.xr_design.specs.History.{HistoryView}
+use Rattle.xr_design.specs.declared.waveform.Written.{Written}
+use Rattle.xr_job.specs.Compared.{IsRefusedReplay}
+use Rattle.xr_job.specs.Recorded.{RecordingComes}
+use Rattle.xr_job.specs.declared.compare_refusal.CompareRefusal.{CompareRefusal}
+use Rattle.xr_job.specs.declared.netlist.Netlist.{Netlist as ANetlist}
+use Rattle.xr_job.specs.declared.recorded.Recorded.{Recorded}
+use Rattle.xr_job.specs.declared.recording_refusal.RecordingRefusal.{RecordingRefusal}
+use Rattle.xr_job.proofs.OneNetlist.{one_outcome}
+use Rattle.xr_run.proofs.Exact.{ok_err, ok_same}
+use Rattle.xr_words.specs.Words.{JobValues}
+use Rattle.xr_phases.specs.Certificate.{IsUncertified, IsWrong}
+use Rattle.xr_phases.specs.Code.{text_limit}
+use Rattle.xr_phases.specs.Phases.{parts, scope_of}
+use Rattle.xr_phases.specs.Repair.{AgreesThroughout, beginning, rule_of}
+use Rattle.xr_phases.specs.Texts.{AreRefused, CheckFails, HasNetlist, IsJob, UpgradeFails}
+use Rattle.xr_phases.specs.declared.cause.Refused.{Refused}
+use Rattle.xr_phases.specs.declared.cause.Uncertified.{Uncertified}
+use Rattle.xr_phases.specs.declared.parts.Parts.{Parts}
+use Rattle.xr_phases.proofs.OneCheck.{accepted_certified, no_form, stands_unwrong}
+use Rattle.xr_phases.proofs.OneJob.{one_compared, one_recorded, orders_of}
+
+module _ (w : JobValues) (netlist recording : List ℕ) (n : ANetlist) (r : Recorded) (is : IsJob w netlist recording n r) where
+  -- ---- the texts stand for no other job, and are refused for nothing but what is refused of it
+
+  one_netlist : (m : ANetlist) → HasNetlist w netlist m → m ≡ n
+  one_netlist m has = ok_same m n (one_outcome netlist w.top (Ok m) (Ok n) has.is is.netlist_is.is)
+
+  comes_there : (m : ANetlist) → HasNetlist w netlist m → (result : Result Recorded RecordingRefusal)
+      → RecordingComes recording m.design (scope_of w) w.rounds (rule_of w.start) result → result ≡ Ok r
+  comes_there m has result comes =
+      one_recorded recording n.design (scope_of w) w.rounds (rule_of w.start) result (Ok r)
+      (subst (λ (x : ANetlist). RecordingComes recording x.design (scope_of w) w.rounds (rule_of w.start) result)
+      (one_netlist m has) comes) is.is
+
+  job_unrefused : (After : Parts → Refused → Type 0) (cause : Refused) → (After (parts n r) cause → ⊥)
+      → AreRefused w netlist recording After cause → ⊥
+  job_unrefused After cause never (AreRefused.long_netlist long) =
+      let fits = is.netlist_is.fits in absurd (omega (arith, long, fits))
+  job_unrefused After cause never (AreRefused.netlist_fails {e} refused) =
+      ok_err n e (one_outcome netlist w.top (Ok n) (Err e) is.netlist_is.is refused.is)
+  job_unrefused After cause never (AreRefused.long_recording too) =
+      let long = too.long in let fits = is.fits in absurd (omega (arith, long, fits))
+  job_unrefused After cause never (AreRefused.recording_fails {e} refused) =
+      ok_err r e (sym (comes_there refused.n refused.netlist_is (Err e) refused.is))
+  job_unrefused After cause never (AreRefused.job_fails has) =
+      let nets = one_netlist has.n has.job.netlist_is in
+      let recorded = ok_same has.r r (comes_there has.n has.job.netlist_is (Ok has.r) has.job.is) in
+      never (subst (λ (x : Recorded). After (parts n x) cause) recorded
+      (subst (λ (x : ANetlist). After (parts x has.r) cause) nets has.holds))
+
+  -- ---- a certificate that is accepted
+
+  module _ (conflicts : ℕ) (text : List ℕ) (history : HistoryView) (agrees : AgreesThroughout n r history)
+      (fits : length text ≤ text_limit) (cert : Cert) (stands : IsTextOf text cert) (waveform : List Written)
+      (accepted : IsAccepted (beginning conflicts n r history) cert waveform) where
+    not_compared : (e : CompareRefusal) → IsRefusedReplay n r e → ⊥
+    not_compared e refused =
+        ok_err tt e (one_compared n r (orders_of n r is.netlist_is.is.ordered) (Ok tt) (Err e) agrees.faultless refused)
+
+    not_wrong : (cause : Uncertified) → IsWrong text cause → ⊥
+    not_wrong cause wrong = stands_unwrong text cert wrong.at stands wrong.first
+
+    not_refused : (other : Cert) (cause : Refused) → IsTextOf text other
+        → IsUncertified conflicts (parts n r) other cause → ⊥
+    not_refused other cause again refused =
+        accepted_certified conflicts (parts n r) cert history waveform cause agrees.replay accepted
+        (subst (λ (c : Cert). IsUncertified conflicts (parts n r) c cause) (one_text text other cert again stands) refused)
+
+    check_passes : (cause : Refused) → CheckFails conflicts text (parts n r) cause → ⊥
+    check_passes cause (CheckFails.disagrees {e} refused) = not_compared e refused
+    check_passes cause (CheckFails.too_long agreed long) = absurd (omega (arith, long, fits))
+    check_passes cause (CheckFails.wrong {other} agreed wrong) = not_wrong other wrong
+    check_passes cause (CheckFails.unaccepted agreed other again refused) = not_refused other cause again refused
+
+    pub check_unrefused : (cause : Refused) → AreRefused w netlist recording (CheckFails conflicts text) cause → ⊥
+    check_unrefused cause refused = job_unrefused (CheckFails conflicts text) cause (check_passes cause) refused
+
+    upgrade_passes : cert.form ≡ Lines → (cause : Refused) → UpgradeFails conflicts text (parts n r) cause → ⊥
+    upgrade_passes form cause (UpgradeFails.disagrees {e} refused) = not_compared e refused
+    upgrade_passes form cause (UpgradeFails.too_long agreed long) = absurd (omega (arith, long, fits))
+    upgrade_passes form cause (UpgradeFails.wrong {other} agreed wrong) = not_wrong other wrong
+    upgrade_passes form cause (UpgradeFails.turned agreed other again turned) =
+        no_form (sym form ∙ ap (λ (c : Cert). c.form) (one_text text cert other stands again) ∙ turned)
+    upgrade_passes form cause (UpgradeFails.unaccepted agreed other again plain refused) =
+        not_refused other cause again refused
+
+    pub upgrade_unrefused : cert.form ≡ Lines → (cause : Refused)
+        → AreRefused w netlist recording (UpgradeFails conflicts text) cause → ⊥
+    upgrade_unrefused form cause refused =
+        job_unrefused (UpgradeFails conflicts text) cause (upgrade_passes form cause) refused
