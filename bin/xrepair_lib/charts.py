@@ -15,6 +15,11 @@ def count(number):
     return f"{number:,}"
 
 
+def average(number):
+    """A number that may be an average."""
+    return f"{number:,.1f}".replace(".0", "")
+
+
 def many(number, word):
     """A number of things, with their word."""
     return f"{count(number)} {word}{'' if number == 1 else 's'}"
@@ -64,22 +69,22 @@ def large_chart(bits):
     edges = [left + (right - left) * (time - starts[0]) / (starts[-1] - starts[0]) for time in starts]
     scale = (bottom - 10) / most
     levels = [bottom - value * scale for value in recorded]
-    yield f'<svg viewBox="0 0 {width} {height}" role="img" aria-label="x bits over time: at most {count(most)} recorded">'
-    for value in sorted({0, most // 2, most}):
+    yield f'<svg viewBox="0 0 {width} {height}" role="img" aria-label="x bits over time: at most {average(most)} recorded">'
+    for value in round_numbers(0, int(most), 3) or [0]:
         at = bottom - value * scale
         yield f'<path class="grid" d="M{left},{at:.1f}H{right}"/><text x="{left - 6}" y="{at + 4:.1f}" text-anchor="end">{count(value)}</text>'
     yield from areas(heights, edges, scale, bottom)
     yield f'<path class="recorded" d="M{left},{short(levels[0])}{steps(edges, levels)}"/>'
-    for time in round_times(moments.times[0], moments.times[-1]):
+    for time in round_numbers(moments.times[0], moments.times[-1], 8):
         at = left + (right - left) * (time - starts[0]) / (starts[-1] - starts[0])
         yield f'<path class="grid" d="M{at:.1f},{bottom}v4"/><text x="{at:.0f}" y="{height - 6}" text-anchor="middle">{time}</text>'
     yield "</svg>"
 
 
-def round_times(first, last):
-    """Some times from the first to the last that are round numbers."""
+def round_numbers(first, last, most):
+    """Round numbers from the first to the last, about as many of them."""
     step = 1
-    while (last - first) / step > 8:
+    while (last - first) / step > most:
         step = step * 5 // 2 if str(step)[0] == "2" else step * 2
     return range(-(-first // step) * step, last + 1, step)
 

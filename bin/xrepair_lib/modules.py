@@ -7,6 +7,7 @@ NAME = rb"(?:\\[!-~]+|[A-Za-z_][\w$]*)"
 # An escaped name stands for itself; comments, texts, attributes and directives are dropped.
 DROPPED = re.compile(rb'(\\[!-~]+)|//[^\n]*|/\*.*?\*/|"[^"\n]*"|\(\*(?!\s*\)).*?\*\)|`(?:timescale|line|include|define)[^\n]*|`\w+', re.S)
 MODULE = re.compile(rb"\b(?:macro)?module\s+(" + NAME + rb")(.*?)\bendmodule\b", re.S)
+HEAD = re.compile(rb"\b(?:macro)?module\s+(" + NAME + rb")")
 PRIMITIVE = re.compile(rb"\bprimitive\s+(" + NAME + rb")")
 FIRST = re.compile(rb"(?:;|\bendspecify\b)\s*(" + NAME + rb")")
 CALLED = re.compile(rb"(?<![.\w$\\])(" + NAME + rb")\s*\(")

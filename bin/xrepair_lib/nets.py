@@ -1,5 +1,6 @@
 """What a report says of nets over time: the runs of moments in which each was repaired, undecided or unknown, and their sums by scope."""
 import heapq
+import itertools
 
 from xrepair_lib.texts import Refused, bits_of, path_of, text_of
 
@@ -44,14 +45,9 @@ class Moments:
         """The time at which the moment ends."""
         return self.times[moment + 1] if moment + 1 < len(self.times) else self.after
 
-    def column(self, time):
-        return min((time - self.times[0]) * self.count // (self.after - self.times[0]), self.count - 1)
-
-    def columns(self, first, last):
-        """The columns, first and last, of a run of moments."""
-        if self.is_exact:
-            return first, last
-        return self.column(self.times[first]), self.column(self.end_of(last) - 1)
+    def place(self, time):
+        """Where a time is among the slices, in slices."""
+        return (time - self.times[0]) * self.count / (self.after - self.times[0])
 
     def starts(self):
         """The time at which each column begins, and the one at which the last ends."""
@@ -62,33 +58,37 @@ class Moments:
 
 
 class Bits:
-    """How many bits have each kind in each column, from the runs of nets."""
+    """How many bits have each kind in each column, from the runs of nets: in a slice of time as an average over it."""
 
     def __init__(self, moments):
         self.moments = moments
-        self.changes = [[0] * (moments.count + 1) for _ in KINDS]
+        self.changes = [[0] * (moments.count + 2) for _ in KINDS]  # from each column on
+        self.parts = [[0.0] * (moments.count + 1) for _ in KINDS]  # in one column alone
 
     def add(self, net):
-        before = [-1, -1, -1]
         for first, last, result in net.runs:
             kind = KIND[result]
-            first, last = self.moments.columns(first, last)
-            first = max(first, before[kind] + 1)
-            if first <= last:
+            if self.moments.is_exact:
                 self.changes[kind][first] += 1
                 self.changes[kind][last + 1] -= 1
-                before[kind] = last
+            else:
+                self.add_slices(kind, self.moments.place(self.moments.times[first]), self.moments.place(self.moments.end_of(last)))
+
+    def add_slices(self, kind, first, last):
+        """A bit has the kind from one place among the slices to another."""
+        changes, parts = self.changes[kind], self.parts[kind]
+        if int(first) == int(last):
+            parts[int(first)] += last - first
+        else:
+            parts[int(first)] += 1 - first % 1
+            parts[int(last)] += last % 1
+            changes[int(first) + 1] += 1
+            changes[int(last)] -= 1
 
     def heights(self):
         """Of each kind, how many bits have it in each column."""
-        found = []
-        for changes in self.changes:
-            height, heights = 0, []
-            for change in changes[:-1]:
-                height += change
-                heights.append(height)
-            found.append(heights)
-        return found
+        sums = (itertools.accumulate(changes[: self.moments.count]) for changes in self.changes)
+        return [[whole + part for whole, part in zip(*pair)] for pair in zip(sums, self.parts)]
 
 
 class Scope:

@@ -2,14 +2,17 @@
 import dataclasses
 import os
 import re
+import shlex
 
 from xrepair_lib.job import HERE, program, script, shown
-from xrepair_lib.modules import shorn
+from xrepair_lib.modules import HEAD, found_fits, shorn
 from xrepair_lib.texts import declarations, due, plain, scopes_of, upto_end, words_of
 
 MOMENTS = 200_000  # as many moments are looked at for changes that no input made
 CHEAP = 60  # seconds: what took longer isn't tried again with other words
 PLACES = 1 << 27  # the most places of a run
+BLOCKS = 5  # the most blocks that are listed
+RACED = 8  # the most lines of what the script raced says
 PHASES = {5: 1, 6: 1, 7: 2, 11: 2, 8: 3, 9: 3, 10: 4, 0: 5}  # how far a run came that ended with this status
 DIFFERS = re.compile(r"refused: (disagrees|unsettled|optimistic) #(\d+) (?:round \d+ )?(.+) (?:recorded|kept|replayed) (\S) (?:replayed|next|found) (\S)")
 UNDECIDED = re.compile(r" undecided (\d+)$")
@@ -148,7 +151,7 @@ def advice(run, job, answer):
     return lines + ([f"see {handbook(section)}"] if section else [])
 
 
-def netlist_refused(run, _, answer):
+def netlist_refused(run, job, answer):
     if "no module" in answer.line:
         yield f"the modules that no other instantiates are {names(it.name for it in run.netlist.tops())}: name one by --top, or add the file that has the missing one"
     elif "directive" in answer.line:
@@ -156,7 +159,32 @@ def netlist_refused(run, _, answer):
     elif "two modules" in answer.line:
         yield "leave one of the two definitions out"
     else:
-        yield "the top needs this definition: give a structural model of the cell in its place, or repair a block without it by --top and --scope"
+        yield "the top needs this: give a structural model of it in its place"
+        yield from blocks(run, job, answer)
+
+
+def blocks(run, job, answer):
+    """The blocks, with their scopes, that don't need the module in which the netlist is refused."""
+    at = re.search(r"netlist at (\d+)", answer.line)
+    text = b"\n".join(map(read, job.files))[: int(at[1])] if at else b""
+    heads = [plain(name) for name in HEAD.findall(text) if plain(name) in run.netlist.modules]
+    if heads:
+        free = [it for it in run.netlist.modules.values() if any(it.ports()) and heads[-1] not in run.netlist.needed(it.name)]
+        fits = sorted(found_fits(run.recording, free, None), key=lambda it: -it.count)
+        if fits:
+            yield f"or repair a block that doesn't need {heads[-1].decode('utf-8', 'replace')}, by these words, a guess by names:"
+            yield from (f"  {fit_words(it)}" for it in fits[:BLOCKS] if it.count * 10 >= fits[0].count)
+
+
+def fit_words(fit):
+    """The words that choose a scope and a top, and how many variables are there."""
+    scope, top = (name.decode("utf-8", "replace") for name in (b".".join(fit.scope), fit.module.name))
+    return f"--scope {shlex.quote(scope)} --top {shlex.quote(top)}  ({fit.count} variables)"
+
+
+def read(name):
+    with open(name, "rb") as file:
+        return file.read()
 
 
 def loop(*_):
@@ -176,22 +204,28 @@ def recording_refused(_, job, answer):
 
 def disagrees(run, job, answer):
     found = DIFFERS.match(answer.line)
-    yield f"at {found[2]} the simulator showed {found[4]} on {found[3]}, and the netlist gives {found[5]}. The usual causes, the likeliest first:"
+    yield f"at {found[2]} the simulator showed {found[4]} on {found[3].strip()}, and the netlist gives {found[5]}"
+    said = raced(run, job, found[2])
+    if said and said[0].startswith("raced"):
+        yield from ("it is a race, by the script raced (raced.txt):", *said)
+        return
+    yield "the usual causes, the likeliest first:"
     if run.has_delays:
         yield f"- delays: {run.has_delays}"
     yield "- another netlist than the one that was simulated, or other inputs: was it this version?"
-    yield "- data that changed with the clock's edge: let inputs change at the other edge, or after it"
     if not run.has_delays:
         yield "- delays in the simulation, a force or a deposit, or behaviour in a cell that the netlist hasn't"
-    yield from raced(run, job)
+    yield "- no race, by the script raced (raced.txt)" if said else "- data that changed with the clock's edge: let inputs change at the other edge, or after it"
 
 
-def raced(run, job):
-    """What the script raced says, where there is one."""
+def raced(run, job, time):
+    """The lines that the script raced prints of a disagreement, where there is one and it ends well."""
     path = script("raced", run.me)
-    if path:
-        answer = run.call("raced", [path, "--scope", job.scope, "--top", job.top, job.record, *job.files], "raced.txt")
-        yield f"raced ended with status {answer.status}: {answer.line} (raced.txt)" if answer.line else f"raced ended with status {answer.status}"
+    if not path:
+        return []
+    options = ["--rounds", job.option("rounds", "4")]
+    answer = run.call("raced", [path, "--scope", job.scope, "--top", job.top, *options, time, job.record, *job.files], "raced.txt")
+    return read(run.folder.path("raced.txt")).decode("utf-8", "replace").split("\n")[:RACED] if answer.status == 0 else []
 
 
 def unsettled(*_):
