@@ -44,7 +44,8 @@ def area(edges, tops, lows):
         first, number = number, number + len(upper)
         if is_any:
             between = edges[first : number + 1]
-            parts.append(f"M{short(between[0])},{short(upper[0])}{steps(between, upper)}V{short(lower[-1])}{steps(between[::-1], lower[::-1])}Z")
+            there, back = steps(between, upper), steps(between[::-1], lower[::-1])
+            parts.append(f"M{short(between[0])},{short(upper[0])}{there}V{short(lower[-1])}{back}Z")
     return "".join(parts)
 
 
@@ -54,7 +55,8 @@ def areas(heights, edges, scale, bottom):
     for kind, row in zip(KINDS, heights):
         top = [sum(pair) for pair in zip(base, row)]
         if any(row):
-            yield f'<path class="{kind}" d="{area(edges, *([bottom - value * scale for value in values] for values in (top, base)))}"/>'
+            levels = ([bottom - value * scale for value in values] for values in (top, base))
+            yield f'<path class="{kind}" d="{area(edges, *levels)}"/>'
         base = top
 
 
@@ -72,7 +74,8 @@ def large_chart(bits):
     yield f'<svg viewBox="0 0 {width} {height}" role="img" aria-label="x bits over time: at most {average(most)} recorded">'
     for value in round_numbers(0, int(most), 3) or [0]:
         at = bottom - value * scale
-        yield f'<path class="grid" d="M{left},{at:.1f}H{right}"/><text x="{left - 6}" y="{at + 4:.1f}" text-anchor="end">{count(value)}</text>'
+        yield f'<path class="grid" d="M{left},{at:.1f}H{right}"/>'
+        yield f'<text x="{left - 6}" y="{at + 4:.1f}" text-anchor="end">{count(value)}</text>'
     yield from areas(heights, edges, scale, bottom)
     yield f'<path class="recorded" d="M{left},{short(levels[0])}{steps(edges, levels)}"/>'
     for time in round_numbers(moments.times[0], moments.times[-1], 8):

@@ -94,7 +94,7 @@ class Answer:
 
 
 def program(name):
-    """The command xrepair or xrtrim: that of XREPAIR or XRTRIM in the environment, or the one beside the scripts; None where there is none."""
+    """The command xrepair or xrtrim, where there is one: that of XREPAIR or XRTRIM in the environment, or the one beside the scripts."""
     path = os.environ.get(name.upper()) or os.path.join(HERE, name)
     return path if os.path.exists(path) else None
 

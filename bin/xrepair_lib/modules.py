@@ -5,7 +5,9 @@ import re
 
 NAME = rb"(?:\\[!-~]+|[A-Za-z_][\w$]*)"
 # An escaped name stands for itself; comments, texts, attributes and directives are dropped.
-DROPPED = re.compile(rb'(\\[!-~]+)|//[^\n]*|/\*.*?\*/|"[^"\n]*"|\(\*(?!\s*\)).*?\*\)|`(?:timescale|line|include|define)[^\n]*|`\w+', re.S)
+DROPPED = re.compile(
+    rb'(\\[!-~]+)|//[^\n]*|/\*.*?\*/|"[^"\n]*"|\(\*(?!\s*\)).*?\*\)|`(?:timescale|line|include|define)[^\n]*|`\w+', re.S
+)
 MODULE = re.compile(rb"\b(?:macro)?module\s+(" + NAME + rb")(.*?)\bendmodule\b", re.S)
 HEAD = re.compile(rb"\b(?:macro)?module\s+(" + NAME + rb")")
 PRIMITIVE = re.compile(rb"\bprimitive\s+(" + NAME + rb")")
@@ -103,7 +105,7 @@ class Recording:
                 self.below[path[:-1]].add(path[-1])
 
     def fits(self, path, module):
-        """Whether the scope has all inputs of the module, or without any all outputs, and no scope below it that isn't its instance."""
+        """Whether the scope has all inputs of the module, or without any all outputs, and below it only scopes that are its instances."""
         inputs, outputs = module.ports()
         wanted = inputs or outputs
         has_ports = wanted <= self.names[path] if wanted else bool(self.below[path])
@@ -119,7 +121,7 @@ class Recording:
 
 
 def found_fits(recording, modules, scope):
-    """The scopes, or the one that is given, with the modules that fit them: none below another, and where any has all outputs such alone."""
+    """The scopes, or the one that is given, with modules that fit: none below another, and where any has all outputs such alone."""
     fits, taken = [], set()
     for path in sorted(recording.paths(scope), key=len):
         if not any(path[:depth] in taken for depth in range(len(path))):

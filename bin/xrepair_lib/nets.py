@@ -1,4 +1,4 @@
-"""What a report says of nets over time: the runs of moments in which each was repaired, undecided or unknown, and their sums by scope."""
+"""What a report says of nets over time: the runs of moments in which each was repaired, undecided or unknown; sums by scope."""
 import heapq
 import itertools
 
@@ -10,7 +10,7 @@ COLUMNS = 800  # the most columns of a chart
 
 
 class Net:
-    """A net, or a bit of one: its written name, its scope and own name, its moments of each kind, and its runs of moments of one result."""
+    """A net, or a bit of one: its written name, scope and own name, its moments of each kind, and its runs of moments of one result."""
 
     __slots__ = ("written", "scope", "own", "counts", "runs")
 
@@ -31,7 +31,7 @@ class Net:
 
 
 class Moments:
-    """The times of a recording, and the columns in which a chart shows them: one a moment, or slices of time where these are many."""
+    """The times of a recording, and the columns in which a chart shows them: one a moment, or slices of time where they are many."""
 
     def __init__(self, times, columns=COLUMNS):
         self.times = times or [0]

@@ -14,7 +14,9 @@ PLACES = 1 << 27  # the most places of a run
 BLOCKS = 5  # the most blocks that are listed
 RACED = 8  # the most lines of what the script raced says
 PHASES = {5: 1, 6: 1, 7: 2, 11: 2, 8: 3, 9: 3, 10: 4, 0: 5}  # how far a run came that ended with this status
-DIFFERS = re.compile(r"refused: (disagrees|unsettled|optimistic) #(\d+) (?:round \d+ )?(.+) (?:recorded|kept|replayed) (\S) (?:replayed|next|found) (\S)")
+DIFFERS = re.compile(
+    r"refused: (disagrees|unsettled|optimistic) #(\d+) (?:round \d+ )?(.+) (?:recorded|kept|replayed) (\S) (?:replayed|next|found) (\S)"
+)
 UNDECIDED = re.compile(r" undecided (\d+)$")
 
 
@@ -47,7 +49,7 @@ def settle(run, job, answer):
     moments, alone = moves_alone(run, job)
     if not alone:
         return None, ""
-    run.has_delays = f"nets change in {alone} of {moments} moments in which no input of the top does, as in a simulation with delays"
+    run.has_delays = f"nets change in {alone} of {moments} moments in which no input of the top does, as in one with delays"
     if not script("settle", run.me):
         return None, f"{run.has_delays}; the script settle, which folds these, isn't there"
     to = run.folder.path("settled.vcd")
@@ -63,7 +65,7 @@ def start(run, job, answer):
     found = DIFFERS.match(answer.line)
     if answer.status != 8 or job.option("start", None) or not found or (found[4] in "01", found[5]) != (True, "x"):
         return None, ""
-    return job.given("start", "recorded"), "registers start as they are recorded first (--start recorded), as in a recording that begins late"
+    return job.given("start", "recorded"), "registers start as they are recorded first (--start recorded), since it begins late"
 
 
 def rounds(number):
@@ -82,7 +84,9 @@ def conflicts(number):
 
     def more(_, job, answer):
         found = UNDECIDED.search(answer.line)
-        if answer.status != 10 or not found or found[1] == "0" or answer.seconds > CHEAP or int(job.option("conflicts", 1000)) >= number:
+        if answer.status != 10 or not found or found[1] == "0" or answer.seconds > CHEAP:
+            return None, ""
+        if int(job.option("conflicts", 1000)) >= number:
             return None, ""
         return job.given("conflicts", str(number)), f"a search may learn {number} clauses (--conflicts {number})"
 
@@ -153,7 +157,8 @@ def advice(run, job, answer):
 
 def netlist_refused(run, job, answer):
     if "no module" in answer.line:
-        yield f"the modules that no other instantiates are {names(it.name for it in run.netlist.tops())}: name one by --top, or add the file that has the missing one"
+        yield f"the modules that no other instantiates are {names(it.name for it in run.netlist.tops())}:"
+        yield "name one by --top, or add the file that has the missing one"
     elif "directive" in answer.line:
         yield "run a preprocessor first, as `iverilog -E -o flat.v FILE..`"
     elif "two modules" in answer.line:
@@ -215,7 +220,10 @@ def disagrees(run, job, answer):
     yield "- another netlist than the one that was simulated, or other inputs: was it this version?"
     if not run.has_delays:
         yield "- delays in the simulation, a force or a deposit, or behaviour in a cell that the netlist hasn't"
-    yield "- no race, by the script raced (raced.txt)" if said else "- data that changed with the clock's edge: let inputs change at the other edge, or after it"
+    if said:
+        yield "- no race, by the script raced (raced.txt)"
+    else:
+        yield "- data that changed with the clock's edge: let inputs change at the other edge, or after it"
 
 
 def raced(run, job, time):
@@ -239,13 +247,14 @@ def optimistic(run, job, _):
     if answer.status or not counted:
         yield f"audit ended with status {answer.status}: {answer.line}"
         return
-    yield f"the simulator knows {counted[1]} places that not every filling gives (audit.txt); they begin at these rows of primitives:"
+    yield f"the simulator knows {counted[1]} places that not every filling gives (audit.txt). They begin at these rows of primitives:"
     with open(run.folder.path("audit.txt"), "rb") as file:
         rows = [line.decode("utf-8", "replace").split() for line in file if line.startswith(b"primitive ")]
     for _, number, _, row, _, count in sorted(rows, key=lambda it: -int(it[5]))[:5]:
         name = run.primitive(job, int(number))
         yield f"- {name or 'primitive ' + number}, row {row}: {count} places"
-    yield "a register that other registers reset does this: keep the clock x until the reset has gone through, or give its primitive an `initial`"
+    yield "a register that other registers reset does this: keep the clock x until the reset has gone through,"
+    yield "or give its primitive an `initial`"
 
 
 def too_large(run, job, answer):
@@ -254,7 +263,7 @@ def too_large(run, job, answer):
         with open(job.record, "rb") as file:
             moments = sum(1 for word in words_of(file) if word[:1] == b"#" and word[1:].isdigit())
         each = max(moments * PLACES // int(places[1]) * 9 // 10, 2)
-        yield f"cut the recording in time, about {each} moments a window: {shown(script('cut', run.me))} --moments {each} {job.record}"
+        yield f"cut the recording in time: {shown(script('cut', run.me))} --moments {each} {job.record}"
         yield "and repair each window, all but the first with --start recorded"
     elif "recording" in answer.line:
         yield "cut the recording in time, by xrepair-cut"

@@ -73,7 +73,7 @@ def plain(name):
 
 
 class Variable:
-    """A variable of a recording: the names of its scopes, its own, what stands behind that of its range, its width, code and kind."""
+    """A variable of a recording: the names of its scopes, its own, its range as it stands there, its width, code and kind."""
 
     __slots__ = ("scopes", "name", "range", "width", "code", "kind")
 
@@ -173,7 +173,7 @@ def conditions_of(lines):
 
 
 def certain_lines(lines):
-    """The lines of a certificate by which a place is certain, in place order: number of the line, e or r, the value, clauses of its log."""
+    """The lines of a certificate by which a place is certain, in order: the line's number, e or r, the value, clauses of the log."""
     for number, line in enumerate(lines, 1):
         if found := CERTAIN.match(line):
             yield number, found[1].decode(), found[2], len(re.findall(rb"(?<=\s)0(?=\s|$)", found[3] or b""))
