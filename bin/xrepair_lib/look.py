@@ -18,7 +18,7 @@ details details,details>div{margin-left:1.1rem}summary{cursor:pointer;padding:.1
 SCRIPT = """
 const box=document.getElementById("find"),out=document.getElementById("found");let rows;
 document.getElementById("finder").hidden=false;
-box.oninput=()=>{if(!rows){let name="";rows=[];for(const line of document.getElementById("nets").textContent.trim().split("\\n")){
+box.oninput=()=>{if(!rows){let name="";rows=[];for(const line of document.getElementById("nets").textContent.split("\\n").filter(Boolean)){
 const part=line.split(" ");name=name.slice(0,part[0])+part[1];rows.push([decodeURIComponent(name),...part.slice(2)])}}
 const found=box.value?rows.filter(row=>row[0].includes(box.value)):[],body=out.tBodies[0];body.replaceChildren();out.hidden=!found.length;
 document.getElementById("count").textContent=box.value?found.length+" nets"+(found.length>100?", the first 100 of them":""):"";
