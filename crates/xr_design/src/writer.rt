@@ -94,7 +94,7 @@ impl HistoryWriter {
     }
 
     /// The history as it is written so far, to look up any place. Takes eight bytes for each net, and four for each
-    /// place that was written.
+    /// place that was written; with 2^32 of them or more it answers `Memory`.
     pub fn finish(self, alloc: Global) -> Result<History, Memory>
         ensures { IfOk result (λ history. history ≡ self.history) }
     {

@@ -154,7 +154,8 @@ impl Ledger {
         changes_between(self.changes.as_slice(), self.starts.as_slice(), step)
     }
 
-    /// The finished ledger, to look up any place. Takes eight bytes for each position and four for each change.
+    /// The finished ledger, to look up any place. Takes eight bytes for each position and four for each change; with 2^32
+    /// changes or more it answers `Memory`.
     pub fn index(self, alloc: Global) -> Result<LedgerIndex, Memory>
         ensures { IfOk result (λ index. index ≡ finished_ledger self) }
     {
