@@ -19,27 +19,11 @@ use Rattle.xr_code.specs.declared.fault.CodeFault.{CodeFault}
 use Rattle.xr_code.specs.declared.fault.CodeFault.TheVariants.{RoundPast, Syntax}
 use Rattle.xr_code.specs.declared.state.State.{State}
 use Rattle.xr_code.specs.declared.state.State.TheVariants.{Module, Title, Semicolon, Initial, Begin, Body, Wait, WaitEnd, NameNext, AfterName, Index, IndexEnd, PathEnd, Bit, StatementEnd, Tail, Done}
+use Rattle.xr_code.proofs.Awaited.{Fit, ThenMark, ThenWord, stage_of}
 use Rattle.xr_code.proofs.Indexes.{index_small}
 use Rattle.xr_code.proofs.Scoped.{own_below}
 
 -- ---- what may still come, from each state
-
--- the stage that was come to
-abbrev stage_of : Progress → Stage
-stage_of p = stage (clock_of p.time p.round) p.events
-
--- the word, and then what K says; the same for a mark
-data ThenWord (c : Code) (word : List ℕ) (K : List Token → Type 0) : List Token → Type 0 where
-  then : {t : Token} {ts : List Token} → IsWord c word t → K ts → ThenWord c word K (t ∷ ts)
-
-data ThenMark (c : Code) (mark : List ℕ) (K : List Token → Type 0) : List Token → Type 0 where
-  then : {t : Token} {ts : List Token} → IsMark c mark t → K ts → ThenMark c mark K (t ∷ ts)
-
--- The moment is that of the time, the round one of its rounds, and the design fits.
-record Fit (p : Progress) : Type 0 where
-  moment : p.moment ≡ moment_by p.code.stim p.time
-  round : p.round < p.code.stim.rounds
-  design : FitsDesign p.code.design
 
 module _ (stop : ℕ) (all : List Event) where
   -- Nothing more: the text ends, and the events are all.
@@ -153,19 +137,15 @@ module _ (stop : ℕ) (all : List Event) where
   -- ---- tests
 
   -- a test, and what it leads to
-  on_from : (G : Type 0) (b : Bool) (to : State) (p : Progress) (other : Result Next CodeFault) (ts : List Token) → (b ≡ true → From to p ts → G) → (FromNext other ts → G) → FromNext (on b (next to p) other) ts → G
-  on_from G true to p other ts one rest h = one refl h
-  on_from G false to p other ts one rest h = rest h
-
   case_from : (G : Type 0) (b : Bool) (this other : Result Next CodeFault) (ts : List Token) → (b ≡ true → FromNext this ts → G) → (FromNext other ts → G) → FromNext (on b this other) ts → G
   case_from G true this other ts one rest h = one refl h
   case_from G false this other ts one rest h = rest h
 
   word_from : (c : Code) (word : List ℕ) (K : List Token → Type 0) (t : Token) (ts : List Token) (to : State) (p : Progress) → (From to p ts → K ts) → FromNext (on (is_word c.text t word) (next to p) (refused t)) ts → ThenWord c word K (t ∷ ts)
-  word_from c word K t ts to p leads h = on_from (ThenWord c word K (t ∷ ts)) (is_word c.text t word) to p (refused t) ts (λ is from. ThenWord.then is (leads from)) absurd h
+  word_from c word K t ts to p leads h = case_from (ThenWord c word K (t ∷ ts)) (is_word c.text t word) (next to p) (refused t) ts (λ is from. ThenWord.then is (leads from)) absurd h
 
   mark_from : (c : Code) (mark : List ℕ) (K : List Token → Type 0) (t : Token) (ts : List Token) (to : State) (p : Progress) → (From to p ts → K ts) → FromNext (on (is_mark c.text t mark) (next to p) (refused t)) ts → ThenMark c mark K (t ∷ ts)
-  mark_from c mark K t ts to p leads h = on_from (ThenMark c mark K (t ∷ ts)) (is_mark c.text t mark) to p (refused t) ts (λ is from. ThenMark.then is (leads from)) absurd h
+  mark_from c mark K t ts to p leads h = case_from (ThenMark c mark K (t ∷ ts)) (is_mark c.text t mark) (next to p) (refused t) ts (λ is from. ThenMark.then is (leads from)) absurd h
 
   -- ---- statements
 
@@ -215,10 +195,10 @@ module _ (stop : ℕ) (all : List Event) where
       let end = on (is_word c.text t (codes "end")) (next Tail p) (refused t) in
       let freed = on (is_word c.text t (codes "release")) (statement_by p false t.start p.moment) end in
       let held = on (is_word c.text t (codes "force")) (statement_by p true t.start p.moment) freed in
-      on_from G (is_mark c.text t (codes "#")) (Wait t.start) p held ts (λ is from. wait_back c s t ts is (from fit))
+      case_from G (is_mark c.text t (codes "#")) (next (Wait t.start) p) held ts (λ is from. wait_back c s t ts is (from fit))
       (case_from G (is_word c.text t (codes "force")) (statement_by p true t.start p.moment) freed ts (λ is from. force_back c s t ts is (statement_from p true t.start p.moment ts fit from))
       (case_from G (is_word c.text t (codes "release")) (statement_by p false t.start p.moment) end ts (λ is from. release_back c s t ts is (statement_from p false t.start p.moment ts fit from))
-      (on_from G (is_word c.text t (codes "end")) Tail p (refused t) ts (λ is from. record { to = s; rest = t ∷ ts; parsed = Statements.none; ended = ThenWord.then is (from fit) }) absurd))) h
+      (case_from G (is_word c.text t (codes "end")) (next Tail p) (refused t) ts (λ is from. record { to = s; rest = t ∷ ts; parsed = Statements.none; ended = ThenWord.then is (from fit) }) absurd))) h
 
   time_from : (p : Progress) (at d : ℕ) (moment : Option ℕ) (t : Token) (ts : List Token) → Fit p → number_of p.code.text t ≡ Some d → 0 < d → moment_by p.code.stim (p.time + d) ≡ moment → FromNext (time_on p at (p.time + d) moment) ts → FWait p.code (stage_of p) (t ∷ ts)
   time_from p at d None t ts fit number some is h = absurd h
@@ -308,8 +288,8 @@ module _ (stop : ℕ) (all : List Event) where
       let s = stage_of p in
       let G = FAfter p.forces c s p.texts (t ∷ ts) in
       let bracket = on (is_mark c.text t (codes "[")) (next Index p) (target p t) in
-      on_from G (is_mark c.text t (codes ".")) NameNext p bracket ts (λ is from. inl (ThenMark.then is (from fit none)))
-      (on_from G (is_mark c.text t (codes "[")) Index p (target p t) ts (λ is from. inr (index_back p.forces c s p.texts t ts is (from fit)))
+      case_from G (is_mark c.text t (codes ".")) (next NameNext p) bracket ts (λ is from. inl (ThenMark.then is (from fit none)))
+      (case_from G (is_mark c.text t (codes "[")) (next Index p) (target p t) ts (λ is from. inr (index_back p.forces c s p.texts t ts is (from fit)))
       (λ from. inr record { index = None; rest = t ∷ ts; may = MayIndex.none; target = subst (λ (i : Option ℕ). FTarget p.forces c s p.texts i (t ∷ ts)) none (target_back p t ts fit from) })) h
 
   -- The net has the index that stands in the text, below 2^31.

@@ -1,5 +1,6 @@
 -- Lemmas of xr_code.
 pub mod Accepts
+pub mod Awaited
 pub mod Canonical
 pub mod Decimals
 pub mod Events
