@@ -18,8 +18,8 @@ pub data Hand : Type 0 where
 abbrev pub Files : Type 0
 Files = List ℕ → Option (List ℕ)
 
--- What is seen of a shelf: a count of faults of reading and one of writing for each name, the file in hand, the map, the
--- bytes of the opened file that aren't read yet, and the texts that it was made over, which no call changes.
+-- What is seen of a shelf: a count of faults of reading and one of writing for each name, the file in hand, the map,
+-- the bytes of the opened file that aren't read yet, and the texts that it was made over, which no call changes.
 pub record View : Type 0 where
   pub reads : List ℕ → ℕ
   pub writes : List ℕ → ℕ
