@@ -1,5 +1,5 @@
 -- What the reads of a file note, turn by turn, and what that makes of the texts.
-use Rattle.std.proofs.Common.{◌≡◌, ◌∙◌, ap, sym, ℕ, List, [], ◌++◌, take, refl, Some, None, Bool, true, false, bytes_eq, Option, subst, arith}
+use Rattle.std.proofs.Common.{◌≡◌, ◌∙◌, ap, sym, ℕ, zero, suc, List, [], ◌∷◌, ◌++◌, take, refl, Some, None, Bool, true, false, bytes_eq, Option, subst, arith}
 use Rattle.std.specs.Prelude.{◌<◌, length, Contains, is_some}
 use Rattle.std.proofs.lemmas.List.{append-nil}
 use Rattle.std.proofs.lemmas.Slice.Eq.{bytes_eq-Decides}
@@ -117,6 +117,13 @@ given_set limit name text texts new gave gave_new ended ended_new are others oth
     at false apart =
         let not : other ≡ name → ⊥ = λ one. false≢true (sym apart ∙ (bytes_eq-Decides other name).1 one) in
         given_still limit name other bytes gave gave_new ended ended_new not (are other bytes (sym (sets.others other not) ∙ is)) others others_ended
+
+pub contains_itself : (name : List ℕ) → Contains (name ∷ []) name
+contains_itself name = (0, omega arith, refl)
+
+pub contains_only : (name other : List ℕ) → Contains (name ∷ []) other → name ≡ other
+contains_only name other (zero, less, is) = is
+contains_only name other (suc k, less, is) = absurd (omega (arith, less))
 
 -- A text is set at one of the names.
 pub among_set : (names : List (List ℕ)) (name text : List ℕ) (texts new : Files) → Contains names name → SetsFile name text texts new → AreAmong names texts → AreAmong names new

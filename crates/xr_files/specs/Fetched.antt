@@ -25,6 +25,11 @@ AreAmong names texts = (name : List ℕ) → is_some (texts name) ≡ true → C
 abbrev pub HasAmong : List (List ℕ) → Fetched → Type 0
 HasAmong names f = AreAmong names (files_of f.texts)
 
+-- Texts came in of no other names than these.
+abbrev pub AddsAmong : List (List ℕ) → Fetched → Fetched → Type 0
+AddsAmong names old new = (all : List (List ℕ)) → ((name : List ℕ) → Contains names name → Contains all name)
+    → HasAmong all old → HasAmong all new
+
 -- Nothing was noted of other names.
 pub record OthersTraced (name : List ℕ) (old new : List Traced) : Type 0 where
   pub kept : (other : List ℕ) → (other ≡ name → ⊥) → traced new other ≡ traced old other

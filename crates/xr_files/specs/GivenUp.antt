@@ -7,8 +7,8 @@ use Rattle.xr_files.specs.Stage.{hand_of, taken_in}
 use Rattle.xr_files.specs.declared.stage.Stage.{Stage}
 use Rattle.xr_files.specs.declared.stage.Stage.TheVariants.{Resting}
 
--- No file is in hand, and what was written is what it was. Where a file that was made couldn't be put under its name, the
--- count of faults of writing rose.
+-- No file is in hand, and what was written is what it was. Where a file that was made couldn't be put under its name,
+-- the count of faults of writing rose.
 pub record GivesUp (before after : Stage) (old new : ℕ) (result : Result Unit IoErr) : Type 0 where
   pub hand : hand_of after ≡ Nothing
   pub taken : taken_in after ≡ taken_in before

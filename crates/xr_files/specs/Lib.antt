@@ -5,4 +5,5 @@ pub mod GivenUp
 pub mod Sink
 pub mod Fetched
 pub mod Seen
+pub mod Shipped
 pub mod Progress

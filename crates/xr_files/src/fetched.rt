@@ -1,9 +1,9 @@
 //! The texts of files, as their reads gave them.
 
-ghost use Rattle.std.specs.Prelude.{◌≡◌, [], List, ℕ, Contains, None, IfOk, IfSome, is_some, option_copied};
+ghost use Rattle.std.specs.Prelude.{◌≡◌, [], ◌∷◌, None, IfOk, IfSome, is_some, map, option_copied, string_bytes};
 ghost use Rattle.xr_shelf.specs.NamedFiles.{files_of};
 ghost use Rattle.xr_shelf.specs.Shelf.{bytes_of};
-ghost use Rattle.xr_files.specs.Fetched.{HasAmong, IsFetched, IsGiven, OthersTraced};
+ghost use Rattle.xr_files.specs.Fetched.{AddsAmong, IsFetched, IsGiven, OthersTraced};
 
 use crate::noted::read_noted;
 use crate::text_map::TextMap;
@@ -70,8 +70,7 @@ impl Fetched {
         requires { IsFetched self.old }
         ensures fetched { IsFetched self.new }
         ensures limit { self.new.limit ≡ self.old.limit }
-        ensures among { (names : List (List ℕ)) → Contains names name.now → HasAmong names self.old
-            → HasAmong names self.new }
+        ensures among { AddsAmong (name.now ∷ []) self.old self.new }
     {
         match self.texts.get(name) {
             Some(_) => Ok(()),
@@ -79,13 +78,29 @@ impl Fetched {
         }
     }
 
+    /// Reads each of the files that has no text yet.
+    pub fn fetch_all<R: Files<File = File>>(
+        &mut self,
+        files: &R,
+        names: &[String],
+    ) -> Result<(), Memory>
+        requires { IsFetched self.old }
+        ensures fetched { IsFetched self.new }
+        ensures limit { self.new.limit ≡ self.old.limit }
+        ensures among { AddsAmong (map string_bytes names.now) self.old self.new }
+    {
+        'names: for name in names {
+            self.fetch(files, name.as_str())?;
+        }
+        Ok(())
+    }
+
     fn fetch_new<R: Files<File = File>>(&mut self, files: &R, name: &str) -> Result<(), Memory>
         requires given { IsFetched self.old }
         requires absent { files_of self.old.texts name.now ≡ None }
         ensures fetched { IsFetched self.new }
         ensures limit { self.new.limit ≡ self.old.limit }
-        ensures among { (names : List (List ℕ)) → Contains names name.now → HasAmong names self.old
-            → HasAmong names self.new }
+        ensures among { AddsAmong (name.now ∷ []) self.old self.new }
     {
         let gave = &mut self.gave;
         let ended = &mut self.ended;

@@ -21,7 +21,7 @@ use xr_shelf::{FaultCount, IoErr, Shelf};
 /// its writes took. Once a file was made none is read, and no file that has a text is made.
 ///
 /// The bytes of a file lie in `NAME.part`, which is made new, until the file is closed; then it is renamed to `NAME`.
-/// After a failed write it is removed instead. A device or a pipe is written itself.
+/// After a failed write it is removed instead. A device, a pipe or a link is written itself.
 #[derive(Drop)]
 pub struct FileShelf<'a, R: Files<File = File>> {
     files: &'a R,
@@ -86,7 +86,8 @@ impl<'a, R: Files<File = File>> FileShelf<'a, R> {
         requires new { AreNew (Stage.Writing created) (files_of self.old.fetched.now.texts) }
         ensures fetched { self.new.fetched ≡ self.old.fetched }
         ensures reads { self.new.read_faults ≡ self.old.read_faults }
-        ensures step { GivesUp (Stage.Writing created) self.new.stage self.old.write_faults self.new.write_faults result }
+        ensures step { GivesUp (Stage.Writing created) self.new.stage self.old.write_faults self.new.write_faults
+            result }
     {
         let Created {
             name,
@@ -209,5 +210,35 @@ impl<'a, R: Files<File = File>> Shelf for FileShelf<'a, R> {
 
     fn close_file(&mut self) -> Result<(), IoErr> {
         self.give_up()
+    }
+}
+
+#[cfg(test)]
+mod tests {
+    use super::*;
+    use std::test::Fail;
+    use std::{env, fs, process};
+    use xr_shelf::{ReadErr, read_all, write_all};
+
+    #[test]
+    fn writes_and_reads_files(rt: HostRuntime) -> Result<(), Fail> {
+        let folder = env::temp_dir(&rt)?;
+        let id = process::id(rt.process());
+        let name = format!(in rt.alloc(); "{}/xr_files-{id}.vcd", folder.as_path().display())?;
+        let mut none = Fetched::new(rt.alloc(), 100);
+        assert!(rt; none.fetch(&rt, name.as_str()).is_ok());
+        let mut shelf = FileShelf::new(&rt, rt.alloc(), &none);
+        let gone = read_all(rt.alloc(), &mut shelf, name.as_str(), 100);
+        assert!(rt; matches!(gone, Err(ReadErr::Fault)));
+        assert_eq!(rt; shelf.read_faults.count(), 1);
+        assert!(rt; write_all(&mut shelf, name.as_str(), b"#0\n").is_ok());
+        let mut fetched = Fetched::new(rt.alloc(), 100);
+        assert!(rt; fetched.fetch(&rt, name.as_str()).is_ok());
+        let mut again = FileShelf::new(&rt, rt.alloc(), &fetched);
+        let read = read_all(rt.alloc(), &mut again, name.as_str(), 100);
+        assert!(rt; matches!(&read, Ok(text) if text.as_slice() == b"#0\n".as_slice()));
+        assert!(rt; write_all(&mut again, name.as_str(), b"#1\n").is_err());
+        fs::remove_file(&rt, name.as_str())?;
+        Ok(())
     }
 }

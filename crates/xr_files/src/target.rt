@@ -23,7 +23,8 @@ impl Target {
     }
 }
 
-/// The name and `.part`, where nothing or a regular file stands under the name. A device or a pipe is written itself.
+/// The name and `.part`, where nothing or a regular file stands under the name. A device, a pipe or a link is written
+/// itself.
 pub fn target_of<R: Files<File = File>>(
     files: &R,
     alloc: Global,
@@ -36,7 +37,7 @@ pub fn target_of<R: Files<File = File>>(
 }
 
 fn has_part<R: Files<File = File>>(files: &R, name: &str) -> bool {
-    match fs::metadata(files, name) {
+    match fs::symlink_metadata(files, name) {
         Ok(there) => there.is_file(),
         Err(error) => error.kind() == ErrorKind::NotFound,
     }

@@ -2,7 +2,7 @@
 use Rattle.std.proofs.Common.{sym, subst, List}
 use Rattle.xr_shelf.specs.NamedFiles.{File, files_of}
 use Rattle.xr_files.specs.Fetched.{AreGiven, IsGiven}
-use Rattle.xr_files.proofs.Fetching.{among_set, given_others, given_set}
+use Rattle.xr_files.proofs.Fetching.{among_set, contains_itself, given_others, given_set}
 use Rattle.xr_files.proofs.fetched.Fetched.fetch_new.Goals as goal
 
 pub returns-in_err-text-clause-fetched : goal.returns-in_err-text-clause-fetched
@@ -22,4 +22,4 @@ returns-in_ok-set-in-Some-clause-fetched g c =
     given_set _ _ _ _ _ _ _ _ _ c.requires.given c.read_file.ensures.others c.read_file.ensures.others_ended given c.in_ok-set-in-Some.ensures.ok
 
 pub returns-in_ok-set-in-Some-clause-among : goal.returns-in_ok-set-in-Some-clause-among
-returns-in_ok-set-in-Some-clause-among g c = λ names there among. among_set names _ _ _ _ there c.in_ok-set-in-Some.ensures.ok among
+returns-in_ok-set-in-Some-clause-among g c = λ all within among. among_set all _ _ _ _ (within c.args.name.now (contains_itself c.args.name.now)) c.in_ok-set-in-Some.ensures.ok among
