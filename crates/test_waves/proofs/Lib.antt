@@ -1,3 +1,4 @@
--- Lemmas on small orders and on places.
+-- Lemmas on small orders, on places and on cones.
+mod CertainCones
 mod SwappedOrder
 mod WavePlaces

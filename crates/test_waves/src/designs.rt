@@ -5,4 +5,5 @@ mod names;
 mod nets;
 mod order;
 mod texts;
+mod values;
 mod wiring;

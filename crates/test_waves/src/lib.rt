@@ -3,6 +3,8 @@
 #![tactic(auto)]
 
 #[cfg(test)]
+mod conditions;
+#[cfg(test)]
 mod cones;
 #[cfg(test)]
 mod designs;
@@ -10,5 +12,7 @@ mod designs;
 mod job;
 #[cfg(test)]
 mod lanes;
+#[cfg(test)]
+mod largest;
 #[cfg(test)]
 mod waves;
