@@ -17,7 +17,7 @@ const NETS: &[u8] = b"module m(a); input [1023:0] a; endmodule";
 const ROUNDS: u32 = 16;
 
 /// They are x at so many moments.
-fn recording_of(alloc: Global, moments: u64) -> Result<Recording, Fail> {
+fn text_of(alloc: Global, moments: u64) -> Result<Vec<u8>, Fail> {
     let mut text = Vec::new(alloc);
     put(
         &mut text,
@@ -28,6 +28,14 @@ fn recording_of(alloc: Global, moments: u64) -> Result<Recording, Fail> {
         put_number(&mut text, time)?;
     }
     put(&mut text, b" bx !")?;
+    Ok(text)
+}
+
+fn recording_of(alloc: Global, moments: u64) -> Result<Recording, Fail> {
+    let text = text_of(alloc, moments)?;
+    if text.len() > 1 << 28 {
+        return Err(Fail::new("the text is longer than 2^28 bytes"));
+    }
     Ok(read_vcd(alloc, text.as_slice())?)
 }
 
