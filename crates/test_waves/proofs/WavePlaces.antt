@@ -1,5 +1,5 @@
 -- Places of a wave by their numbers.
-use Rattle.std.proofs.Common.{◌≡◌, ℕ, ◌<◌, length, sym, subst, arith}
+use Rattle.std.proofs.Common.{◌≡◌, ℕ, ◌<◌, length, arith}
 use Rattle.xr_design.specs.declared.circuit.Spot.{Spot}
 use Rattle.xr_design.specs.Circuit.{IsSpot}
 use Rattle.xr_design.specs.Fits.{place_at}
