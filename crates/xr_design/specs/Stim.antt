@@ -1,5 +1,6 @@
 -- When a stimulus fits a design.
 use Rattle.std.specs.Prelude.{◌≡◌, ◌<◌, ◌≤◌, ◌*◌, ◌^◌, ℕ, [], length, slice_index_or}
+use Rattle.std.specs.List.{AllByRecursion}
 use Rattle.std.specs.List.Sorted.{IsStrictlyIncreasing}
 use Rattle.xr_cell.specs.declared.value.Value.TheVariants.{X, Z}
 use Rattle.xr_design.specs.declared.design.Design.{Design}
