@@ -1,4 +1,4 @@
-"""Compares a recording with another one of the same test, bit by bit, at each time of the first.
+"""Compares a recording with another one of the same test, at each time of the first, in the bits that both have.
 
     python3 compare.py timer.folded.vcd ../timer/r.vcd
 """
@@ -14,8 +14,9 @@ from against_icarus import at, read
 def main(folded, other):
     folded, other = read(folded), read(other)
     times = sorted({time for changes in folded.values() for time in changes})
-    differ = [(name, time) for name in folded for time in times if at(folded[name], time) != at(other[name], time)]
-    print(f"{len(folded) * len(times)} bits at {len(times)} times, {len(differ)} differ")
+    both = folded.keys() & other.keys()
+    differ = sum(at(folded[name], time) != at(other[name], time) for name in both for time in times)
+    print(f"{len(both) * len(times)} bits at {len(times)} times, {differ} differ")
     return not differ
 
 

@@ -92,14 +92,14 @@ GROWING = {"hold": (hold, (200, 400, 800, 1600)), "counter": (counter, (50, 100,
            "chain": (chain, (2000, 4000, 8000)), "mix": (mix, (1000, 2000, 4000))}
 
 
-def cipher():
+def cipher(name="top", reset=False):
     """Sixteen rounds of eight boxes of six bits and a permutation, with registers after each fourth round."""
     draw = random.Random(7)
-    text = "module top(input ck, input [63:0] d, input [63:0] k, output [63:0] y);\n"
+    text = f"module {name}(input ck, {'input rn, ' if reset else ''}input [63:0] d, input [63:0] k, output [63:0] y);\n"
     for box in range(8):
         rows = " ".join(f"6'd{n}: s{box} = 4'd{draw.randrange(16)};" for n in range(64))
         text += f"  function [3:0] s{box}; input [5:0] a; case (a) {rows} endcase endfunction\n"
-    text += "  reg [31:0] l0, r0; reg [63:0] kk;\n  always @(posedge ck) begin {l0, r0} <= d; kk <= k; end\n"
+    text += "  reg [31:0] l0, r0; reg [63:0] kk;\n  " + clocked_registers({"{l0, r0}": "d", "kk": "k"}, reset)
     for n in range(16):
         key = ", ".join(f"kk[{draw.randrange(64)}]" for _ in range(48))
         wide = ", ".join(f"r{n}[{(4 * b + j) % 32}]" for b in range(8) for j in range(-1, 5))
@@ -109,10 +109,18 @@ def cipher():
         text += f"  wire [47:0] e{n} = {{{wide}}} ^ {{{key}}};\n  wire [31:0] f{n} = {{{boxes}}};\n"
         text += f"  wire [31:0] p{n} = {{{', '.join(f'f{n}[{x}]' for x in places)}}};\n"
         if n % 4 == 3 and n < 15:
-            text += f"  reg [31:0] l{n + 1}, r{n + 1}; always @(posedge ck) begin l{n + 1} <= r{n}; r{n + 1} <= l{n} ^ p{n}; end\n"
+            text += f"  reg [31:0] l{n + 1}, r{n + 1}; " + clocked_registers({f"l{n + 1}": f"r{n}", f"r{n + 1}": f"l{n} ^ p{n}"}, reset)
         else:
             text += f"  wire [31:0] l{n + 1} = r{n}, r{n + 1} = l{n} ^ p{n};\n"
     return text + "  assign y = {r16, l16};\nendmodule\n"
+
+
+def clocked_registers(values, reset):
+    taken = " ".join(f"{name} <= {value};" for name, value in values.items())
+    if not reset:
+        return f"always @(posedge ck) begin {taken} end\n"
+    cleared = " ".join(f"{name} <= 0;" for name in values)
+    return f"always @(posedge ck or negedge rn) if (!rn) begin {cleared} end else begin {taken} end\n"
 
 
 CYCLE = "#5 ck = 1; #5 ck = 0;"
@@ -177,4 +185,5 @@ def main():
             record(job, [one.strip() for one in inputs.split(", ")], test, 4)
 
 
-main()
+if __name__ == "__main__":
+    main()

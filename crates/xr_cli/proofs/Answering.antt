@@ -5,7 +5,7 @@ use Rattle.xr_cert_text.specs.Wrong.{IsTextOf}
 use Rattle.xr_cert.specs.Step.{cert_in}
 use Rattle.xr_cert_text.specs.declared.cert.Form.TheVariants.{Turns}
 use Rattle.xr_cert_text.specs.Text.{cert_text}
-use Rattle.xr_code.specs.Says.{Says as CodeSays}
+use Rattle.xr_code.specs.Says.{CodeSays}
 use Rattle.xr_code.specs.Written.{code_text}
 use Rattle.xr_out.specs.Text.{vcd_text}
 use Rattle.xr_export.specs.Export.{Exports}

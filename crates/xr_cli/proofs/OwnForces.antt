@@ -3,7 +3,7 @@ use Rattle.std.proofs.Common.{ℕ, List}
 use Rattle.std.specs.List.{AllByRecursion}
 use Rattle.xr_cell.specs.declared.value.Value.{Value}
 use Rattle.xr_code.specs.Laws.{HasSmallTimes}
-use Rattle.xr_code.specs.Says.{Says}
+use Rattle.xr_code.specs.Says.{CodeSays}
 use Rattle.xr_code.specs.Written.{code_text}
 use Rattle.xr_code.proofs.OwnCode.{own_says}
 use Rattle.xr_code.proofs.Scopes.{name_writable, scope_writable}
@@ -19,7 +19,7 @@ use Rattle.xr_phases.specs.Repair.{FitsJob}
 use Rattle.xr_phases.proofs.Jobs.{circuit_fits, fits_job}
 
 pub own_forces_said : (n : ANetlist) (r : Recorded) (scope : List (List ℕ)) (values : ℕ → Value) → FitsJob n r → HasSmallTimes r.stim → AllByRecursion IsScopeName scope
-    → Says (code_in (parts n r) (code_text n.design r.stim scope (forces_of (job_for n r) values)) scope) (forces_of (job_for n r) values)
+    → CodeSays (code_in (parts n r) (code_text n.design r.stim scope (forces_of (job_for n r) values)) scope) (forces_of (job_for n r) values)
 own_forces_said n r scope values fits times named =
     own_says n.design n.order r.stim scope (forces_of (job_for n r) values) (circuit_fits n r fits) fits.netlist.design
     (scope_writable IsScopeName scope (λ name is. name_writable name is.some is.graphic) named) times

@@ -29,7 +29,7 @@ use Rattle.xr_cert.specs.Checked.{IsAccepted}
 use Rattle.xr_cert.specs.Entries.{AreConditionsFor}
 use Rattle.xr_cert.specs.Step.{cert_in}
 use Rattle.xr_cert_text.specs.Wrong.{IsTextOf}
-use Rattle.xr_code.specs.Says.{Says}
+use Rattle.xr_code.specs.Says.{CodeSays}
 use Rattle.xr_code.specs.Written.{code_text}
 use Rattle.xr_forces.specs.ForcesOf.{AreForcesOf}
 use Rattle.xr_design.specs.declared.force.Event.{Event}
@@ -83,7 +83,7 @@ pub record IsForceCode (w : RepairValues) (n : ANetlist) (r : Recorded) (wavefor
   pub events : List Event
   pub are : AreForcesOf (job_for n r) (value_in waveform) events
   pub text_is : code ≡ code_text n.design r.stim (scope_of w.job) events
-  pub says : Says (code_in (parts n r) code (scope_of w.job)) events
+  pub says : CodeSays (code_in (parts n r) code (scope_of w.job)) events
   pub there : (history : HistoryView) × IsForced (parts n r) events history
   pub shown : (history : HistoryView) → IsForced (parts n r) events history
       → ShowsWaveform (job_for n r) waveform history

@@ -1,6 +1,6 @@
 -- What a replay under code promises, a field a sentence.
 use Rattle.std.specs.Prelude.{◌≡◌, ℕ, List}
-use Rattle.xr_code.specs.Says.{Says}
+use Rattle.xr_code.specs.Says.{CodeSays}
 use Rattle.xr_design.specs.History.{HistoryView}
 use Rattle.xr_design.specs.declared.force.Event.{Event}
 use Rattle.xr_job.specs.declared.netlist.Netlist.{Netlist as ANetlist}
@@ -18,7 +18,7 @@ pub record Replays (w : ReplayValues) (netlist recording code vcd printed : List
   pub job : IsJob w.job netlist recording n r
   -- The code says these forces, and a history is the replay under them.
   pub events : List Event
-  pub says : Says (code_in (parts n r) code (scope_of w.job)) events
+  pub says : CodeSays (code_in (parts n r) code (scope_of w.job)) events
   pub history : HistoryView
   pub forced : IsForced (parts n r) events history
   -- V is the text of what that replay shows, and the number of moments is printed.

@@ -4,7 +4,7 @@ use Rattle.xr_cert.specs.Checked.{IsAccepted}
 use Rattle.xr_cert_text.specs.Wrong.{IsTextOf}
 use Rattle.xr_cert_text.specs.declared.cert.Cert.{Cert}
 use Rattle.xr_cert_text.specs.declared.cert.Form.TheVariants.{Lines}
-use Rattle.xr_code.specs.Says.{Says}
+use Rattle.xr_code.specs.Says.{CodeSays}
 use Rattle.xr_design.specs.Handed.{IsReplay}
 use Rattle.xr_design.specs.History.{HistoryView}
 use Rattle.xr_design.specs.declared.force.Event.{Event}
@@ -59,7 +59,7 @@ pub record IsReplayable (w : ReplayValues) (netlist recording code : List ℕ) :
   pub job : IsJob w.job netlist recording n r
   pub fits : length code ≤ text_limit
   pub events : List Event
-  pub says : Says (code_in (parts n r) code (scope_of w.job)) events
+  pub says : CodeSays (code_in (parts n r) code (scope_of w.job)) events
 
 -- The texts stand for a job that agrees, and the certificate's text for one that is accepted over its replay.
 pub record IsCheckable (w : CheckValues) (netlist recording cert : List ℕ) : Type 0 where

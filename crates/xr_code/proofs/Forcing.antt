@@ -1,5 +1,5 @@
 -- A statement as it is written is read as its event.
-use Rattle.std.proofs.Common.{◌≡◌, ℕ, ◌+◌, ◌*◌, ◌<◌, Bool, true, false, Option, None, Some, List, [], ◌∷◌, ◌++◌, codes, length, refl, sym, ap, ◌∙◌, subst, arith, bytes_eq, append_assoc, inl, inr, ◌⊎◌, if◌then◌else◌}
+use Rattle.std.proofs.Common.{◌≡◌, ℕ, ◌+◌, ◌*◌, ◌<◌, Bool, true, false, Option, None, Some, List, [], ◌∷◌, ◌++◌, codes, length, refl, sym, ap, ◌∙◌, subst, arith, bytes_eq, append_assoc, inl, inr, ◌⊎◌}
 use Rattle.xr_cell.specs.declared.value.Value.{Value}
 use Rattle.xr_cell.specs.declared.value.Value.TheVariants.{Zero, One, X, Z}
 use Rattle.xr_cell.specs.Value.{letter_of}
@@ -8,7 +8,7 @@ use Rattle.xr_design.specs.declared.force.Event.{Event}
 use Rattle.xr_match.specs.Naming.{Texts, index_of, texts_of}
 use Rattle.xr_text.specs.Left.{token}
 use Rattle.xr_text.specs.declared.token.Kind.TheVariants.{Number, Mark}
-use Rattle.xr_code.specs.Lookup.{below, net_below}
+use Rattle.xr_code.specs.Lookup.{net_below}
 use Rattle.xr_code.specs.Machine.{Progress, bit_by, net_named, next, on, refused, release_by, step, target_by, with_event}
 use Rattle.xr_code.specs.Names.{are_writable, code_name}
 use Rattle.xr_code.specs.Statements.{forced_now}
@@ -19,13 +19,9 @@ use Rattle.xr_code.specs.declared.state.State.TheVariants.{Body, Bit, StatementE
 use Rattle.xr_code.proofs.Leading.{Leads, token_leads, white}
 use Rattle.xr_code.proofs.Lookups.{own_net}
 use Rattle.xr_code.proofs.Paths.{IsWhole, indexed, path_leads}
+use Rattle.xr_code.proofs.Scoped.{below_own}
 use Rattle.xr_code.proofs.Spelling.{mark_token, number_token}
-use Rattle.xr_code.proofs.Stepping.{after_mark, begun_by, bytes_same, force_begins, release_begins}
-
--- Behind a scope's names stand the others.
-below_own : (scope texts : Texts) → below scope (scope ++ texts) ≡ Some texts
-below_own [] texts = refl
-below_own (name ∷ scope) texts = ap (λ b. if b then below scope (scope ++ texts) else None) (bytes_same name) ∙ below_own scope texts
+use Rattle.xr_code.proofs.Stepping.{after_mark, begun_by, force_begins, release_begins}
 
 -- A net is named by the scope's names and its own.
 own_named : (p : Progress) (at net : ℕ) → FitsDesign p.code.design → net < length p.code.design.nets → net_named (indexed p at (p.code.scope ++ texts_of p.code.design net) (index_of p.code.design net)) ≡ Some net

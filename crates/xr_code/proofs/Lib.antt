@@ -1,8 +1,13 @@
 -- Lemmas of xr_code.
+pub mod Accepts
+pub mod Awaited
 pub mod Canonical
 pub mod Decimals
 pub mod Events
+pub mod Follows
 pub mod Forcing
+pub mod GrammarRead
+pub mod Indexes
 pub mod Leading
 pub mod Lookups
 pub mod Moments
@@ -11,11 +16,14 @@ pub mod OwnCode
 pub mod Paths
 pub mod Places
 pub mod Runs
+pub mod Scoped
 pub mod Scopes
 pub mod Spelling
 pub mod Staying
 pub mod Stepping
 pub mod Steps
+pub mod Stops
+pub mod Tests
 pub mod TooLarge
 pub mod Waiting
 pub mod Waits

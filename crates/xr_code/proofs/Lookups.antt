@@ -70,7 +70,7 @@ both false b h = absurd cc
 not_first : (a b : Bool) → a ≡ false → (a && b) ≡ false
 not_first a b h = ap (λ (x : Bool). x && b) h
 
-same_index_is : (own index : Option ℕ) → same_index own index ≡ true → own ≡ index
+pub same_index_is : (own index : Option ℕ) → same_index own index ≡ true → own ≡ index
 same_index_is None None h = refl
 same_index_is None (Some index) h = absurd cc
 same_index_is (Some own) None h = absurd cc

@@ -4,7 +4,7 @@ use Rattle.std.specs.List.Sorted.{IsStrictlyIncreasing}
 use Rattle.std.proofs.lemmas.Bool.{cases_lt}
 use Rattle.std.proofs.lemmas.Bool.Decides.{nat_tests}
 use Rattle.xr_design.specs.declared.stim.Stim.{Stim}
-use Rattle.xr_code.specs.Machine.{moment_at}
+use Rattle.xr_code.specs.Clock.{moment_at}
 use Rattle.xr_code.proofs.Places.{position_is, position_none}
 
 pub rises : (xs : List ℕ) → IsStrictlyIncreasing xs → (i k : ℕ) → i < k → k < length xs → get_or xs i 0 < get_or xs k 0

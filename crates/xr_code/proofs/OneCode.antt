@@ -8,8 +8,9 @@ use Rattle.xr_text.specs.declared.token.Token.{Token}
 use Rattle.xr_text.proofs.Told.{left_follows}
 use Rattle.xr_code.specs.Code.{Code, job}
 use Rattle.xr_code.specs.Machine.{Next, run, step, then_run}
-use Rattle.xr_code.specs.Says.{FirstFault, Says, beginning, reach, reach_on, statements_of, stop_of, stops}
+use Rattle.xr_code.specs.Says.{CodeSays, FirstFault, beginning, reach, reach_on, statements_of, stop_of, stops}
 use Rattle.xr_code.specs.declared.fault.CodeFault.{CodeFault}
+use Rattle.xr_code.proofs.GrammarRead.{machine_says}
 
 -- The tokens of a text are one list.
 tokens_one : {at : ℕ} {bs : List ℕ} {left other : Left} → Tokens at bs left → Tokens at bs other → left ≡ other
@@ -48,8 +49,10 @@ not_both : (r : Result (List Event) CodeFault) (a : List Event) (f : CodeFault) 
 not_both r a f is other = cc
 
 -- A text says one list of forces.
-pub says_one : (c : Code) (F G : List Event) → Says c F → Says c G → F ≡ G
-says_one c F G first second =
+pub says_one : (c : Code) (F G : List Event) → CodeSays c F → CodeSays c G → F ≡ G
+says_one c F G says other =
+    let first = machine_says c F says in
+    let second = machine_says c G other in
     let left : first.left ≡ second.left = tokens_one first.tokens second.tokens in
     let same = same_ok (statements_of c second.left) first.statements second.statements (sym (ap (statements_of c) left) ∙ first.read) second.read in
     first.are ∙ (ap (changes_by (job c)) same ∙ sym second.are)
@@ -61,7 +64,8 @@ faults_one c f g first second =
     same_fault (statements_of c second.left) f g (sym (ap (statements_of c) left) ∙ fault_run c f first) (fault_run c g second)
 
 -- A text that says forces has no fault.
-pub says_no_fault : (c : Code) (F : List Event) (f : CodeFault) → Says c F → FirstFault c f → ⊥
-says_no_fault c F f says fault =
+pub says_no_fault : (c : Code) (F : List Event) (f : CodeFault) → CodeSays c F → FirstFault c f → ⊥
+says_no_fault c F f said fault =
+    let says = machine_says c F said in
     let left : says.left ≡ fault.left = tokens_one says.tokens fault.tokens in
     not_both (statements_of c fault.left) says.statements f (sym (ap (statements_of c) left) ∙ says.read) (fault_run c f fault)

@@ -14,12 +14,12 @@ use Rattle.xr_forces.specs.Changes.{changes_by}
 use Rattle.xr_forces.proofs.Forced.{are_events}
 use Rattle.xr_replay.specs.Forced.{AreOrdered, event_at}
 use Rattle.xr_replay.proofs.Forces.{in_order}
-use Rattle.xr_code.specs.Clock.{clock_at, start}
+use Rattle.xr_code.specs.Clock.{clock_at, start, moment_at}
 use Rattle.xr_code.specs.Code.{Code, code, job}
 use Rattle.xr_code.specs.Laws.{HasSmallTimes, OwnCodeIsRead, OwnIsRead}
-use Rattle.xr_code.specs.Machine.{Progress, begun, moment_at}
+use Rattle.xr_code.specs.Machine.{Progress, begun}
 use Rattle.xr_code.specs.Names.{are_writable, code_name}
-use Rattle.xr_code.specs.Says.{IsRead, Says}
+use Rattle.xr_code.specs.Says.{CodeSays, IsRead}
 use Rattle.xr_code.specs.Steps.{HasEvents}
 use Rattle.xr_code.specs.Written.{code_text, event_line, event_lines, wait_lines}
 use Rattle.xr_code.specs.declared.clock.Clock.{Clock}
@@ -27,6 +27,7 @@ use Rattle.xr_code.specs.declared.refusal.CodeErr.{CodeErr}
 use Rattle.xr_code.specs.declared.state.State.TheVariants.{Module, Title, Semicolon, Initial, Begin, Body, Tail, Done}
 use Rattle.xr_code.proofs.Canonical.{AllReleaseForced, changes_release_forced}
 use Rattle.xr_code.proofs.Forcing.{event_leads, told}
+use Rattle.xr_code.proofs.GrammarRead.{code_says}
 use Rattle.xr_code.proofs.Leading.{Leads, ends, white}
 use Rattle.xr_code.proofs.Stepping.{after_mark, after_word, body_ends, moved}
 use Rattle.xr_code.proofs.Waiting.{IsBefore, before_step, moment_there, waits_lead}
@@ -140,12 +141,12 @@ own_says design order stim scope forces parts fits writable small own =
     let ordered : AreOrdered j.width forces = in_order j parts.fits_job forces are in
     let c = code (code_text design stim scope forces) design order stim scope in
     let from = text_leads c forces record { writable = writable; fits = fits; up = parts.fits_stim.times; small = small } (can_be_written design order stim forces are) (never_fall 0 forces (λ i within. omega arith) ordered.steps) released 0 refl in
-    record { left = from.left; tokens = from.tokens; statements = forces; read = from.run; are = own }
+    code_says c forces fits record { left = from.left; tokens = from.tokens; statements = forces; read = from.run; are = own }
 
 -- So a text that is what is written of forces says them.
-pub own_text_says : (c : Code) (forces : List Event) → PartsFit c.design c.order c.stim → FitsDesign c.design → are_writable c.scope ≡ true → HasSmallTimes c.stim → forces ≡ changes_by (job c) forces → c.text ≡ code_text c.design c.stim c.scope forces → Says c forces
+pub own_text_says : (c : Code) (forces : List Event) → PartsFit c.design c.order c.stim → FitsDesign c.design → are_writable c.scope ≡ true → HasSmallTimes c.stim → forces ≡ changes_by (job c) forces → c.text ≡ code_text c.design c.stim c.scope forces → CodeSays c forces
 own_text_says c forces parts fits writable small own is =
-    subst (λ (text : List ℕ). Says (code text c.design c.order c.stim c.scope) forces) (sym is) (own_says c.design c.order c.stim c.scope forces parts fits writable small own)
+    subst (λ (text : List ℕ). CodeSays (code text c.design c.order c.stim c.scope) forces) (sym is) (own_says c.design c.order c.stim c.scope forces parts fits writable small own)
 
 -- What a text says is read, so its own forces are.
 pub own_is_read : (c : Code) (result : Result (List Event) CodeErr) → PartsFit c.design c.order c.stim → FitsDesign c.design → HasSmallTimes c.stim → IsRead c result → OwnIsRead c result

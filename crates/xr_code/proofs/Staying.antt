@@ -17,7 +17,8 @@ use Rattle.xr_text.specs.declared.token.Token.{Token}
 use Rattle.xr_code.specs.Code.{Code}
 use Rattle.xr_code.specs.Going.{AreStatements, HasMoment, HasNet, IsMoment, IsThere, IsUpTo}
 use Rattle.xr_code.specs.Lookup.{below, net_below}
-use Rattle.xr_code.specs.Machine.{Next, Progress, begun, bit_by, body, capped, index_by, moment_at, moment_by, name_by, net_named, next, on, refused, release_by, round_on, statement_by, step, target, target_by, time_on, wait_by, with_event, with_name}
+use Rattle.xr_code.specs.Clock.{moment_at, moment_by}
+use Rattle.xr_code.specs.Machine.{Next, Progress, begun, bit_by, body, capped, index_by, name_by, net_named, next, on, refused, release_by, round_on, statement_by, step, target, target_by, time_on, wait_by, with_event, with_name}
 use Rattle.xr_code.specs.Statements.{forced_now}
 use Rattle.xr_code.specs.Words.{is_mark, is_word, name_of, number_of, value_of}
 use Rattle.xr_code.specs.declared.fault.CodeFault.{CodeFault}

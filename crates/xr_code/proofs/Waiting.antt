@@ -6,8 +6,8 @@ use Rattle.std.proofs.lemmas.Nat.{div-add-mod'}
 use Rattle.std.proofs.Math.Nat.{mod-lt, mul-le-mul_right}
 use Rattle.xr_design.specs.declared.force.Event.{Event}
 use Rattle.xr_design.specs.declared.stim.Stim.{Stim}
-use Rattle.xr_code.specs.Clock.{clock_at}
-use Rattle.xr_code.specs.Machine.{Progress, moment_at, moment_by, next, round_on, time_on, waited}
+use Rattle.xr_code.specs.Clock.{clock_at, moment_at, moment_by}
+use Rattle.xr_code.specs.Machine.{Progress, next, round_on, time_on, waited}
 use Rattle.xr_code.specs.Written.{round_lines, wait_line, wait_lines}
 use Rattle.xr_code.specs.declared.clock.Clock.{Clock}
 use Rattle.xr_code.specs.declared.fault.CodeFault.TheVariants.{RoundPast}

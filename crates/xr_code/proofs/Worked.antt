@@ -11,6 +11,7 @@ use Rattle.xr_design.specs.declared.stim.StartRule.TheVariants.{Cold}
 use Rattle.xr_design.specs.declared.stim.Stim.{Stim}
 use Rattle.xr_text.specs.Scan.{left, wire}
 use Rattle.xr_code.specs.Code.{Code, code}
+use Rattle.xr_code.specs.Grammar.{IsCode, MayIndex, Names, Path, Statement, Statements}
 use Rattle.xr_code.specs.Says.{statements_of}
 use Rattle.xr_code.specs.Written.{code_text}
 use Rattle.xr_code.specs.declared.fault.CodeFault.TheVariants.{Syntax, NoMoment, ReleaseUnforced, RoundPast}
@@ -89,3 +90,14 @@ no_moment = refl
 round_past : (let text = around (codes "#0; #0; #0; #0;") in statements_of (read text) (left 0 text)) ≡ Err (RoundPast 47)
 unfolding left wire
 round_past = refl
+
+-- The second text by the grammar: two waits and a force.
+by_grammar : IsCode (read two_text) (left 0 two_text).tokens (event 5 1 (Some Zero) ∷ [])
+unfolding left wire
+by_grammar =
+    IsCode.code refl refl refl refl refl
+    (Statements.more (Statement.wait refl refl refl (lit< tt) refl)
+    (Statements.more (Statement.round refl refl refl refl (lit< tt))
+    (Statements.more (Statement.force refl (Path.path (codes "y" ∷ []) (Names.more refl refl (Names.more refl refl (Names.one refl))) MayIndex.none refl) refl refl refl refl)
+    Statements.none)))
+    refl refl

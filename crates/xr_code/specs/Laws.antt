@@ -1,4 +1,4 @@
--- Laws of code: what is written of forces is read as these.
+-- Laws of code: what the grammar says is what the machine reads, and what is written of forces is read as these.
 use Rattle.std.specs.Prelude.{◌≡◌, ℕ, ◌<◌, ◌^◌, true, Result, List, MatchResult}
 use Rattle.std.specs.List.{AllByRecursion}
 use Rattle.xr_design.specs.Circuit.{PartsFit}
@@ -11,10 +11,15 @@ use Rattle.xr_forces.specs.Changes.{changes_by}
 use Rattle.xr_match.specs.Naming.{Texts}
 use Rattle.xr_code.specs.Code.{Code, code, job}
 use Rattle.xr_code.specs.Names.{are_writable}
-use Rattle.xr_code.specs.Says.{Says}
+use Rattle.xr_code.specs.Says.{CodeSays, MachineSays}
 use Rattle.xr_code.specs.Written.{code_text}
 use Rattle.xr_code.specs.declared.refusal.CodeErr.{CodeErr}
 use Rattle.xr_code.specs.declared.refusal.CodeErr.TheVariants.{Memory}
+
+-- A text says forces exactly where the machine reads it to its end and comes to them.
+abbrev pub GrammarIsRead : Type 0
+GrammarIsRead = (c : Code) (forces : List Event) → FitsDesign c.design
+    → (CodeSays c forces → MachineSays c forces) × (MachineSays c forces → CodeSays c forces)
 
 -- The times of a stimulus are numbers of 64 bits, as the type of its times has them.
 abbrev pub HasSmallTimes : Stim → Type 0
@@ -25,7 +30,7 @@ abbrev pub OwnCodeIsRead : Type 0
 OwnCodeIsRead = (design : Design) (order : List ℕ) (stim : Stim) (scope : Texts) (forces : List Event)
     → PartsFit design order stim → FitsDesign design → are_writable scope ≡ true → HasSmallTimes stim
     → forces ≡ changes_by (job_of design order stim) forces
-    → Says (code (code_text design stim scope forces) design order stim scope) forces
+    → CodeSays (code (code_text design stim scope forces) design order stim scope) forces
 
 -- Where a text is that one, the forces are read, or refused only when out of memory.
 abbrev pub OwnIsRead : Code → Result (List Event) CodeErr → Type 0

@@ -4,6 +4,7 @@ pub mod Code
 pub mod Fault
 pub mod Found
 pub mod Going
+pub mod Grammar
 pub mod Laws
 pub mod Lookup
 pub mod Machine

@@ -1,18 +1,12 @@
--- The grammar of code (IEEE 1364-2005, clause 9.3.2), defined by a machine that reads token by token: a text is of the
--- grammar where the machine reads it to its end, and no other relation defines it. A state says what may stand next, a
--- step what comes of it.
---
--- code      = "module" "xrepair_code" ";" "initial" "begin" { statement } "end" "endmodule"
--- statement = "#" digits ";" | "force" path "=" value ";" | "release" path ";"
--- path      = name { "." name } [ "[" digits "]" ]
--- value     = "1'b0" | "1'b1" | "1'bx" | "1'bz"
+-- Reading code token by token: a state says what may stand next, a step what comes of it. What the machine reads to the
+-- end is what the grammar of specs/Grammar.antt says (law `GrammarIsRead`); of a text that it doesn't say, the machine has
+-- the first fault.
 use Rattle.std.specs.Prelude.{ℕ, ◌+◌, ◌*◌, ◌^◌, ◌==◌, Bool, true, false, Option, None, Some, Result, Ok, Err, List, [], ◌∷◌, ◌++◌, codes, length, nat_lt, if◌then◌else◌}
-use Rattle.std.specs.List.{position}
 use Rattle.xr_cell.specs.declared.value.Value.{Value}
 use Rattle.xr_design.specs.declared.force.Event.{Event}
-use Rattle.xr_design.specs.declared.stim.Stim.{Stim}
 use Rattle.xr_match.specs.Naming.{Texts}
 use Rattle.xr_text.specs.declared.token.Token.{Token}
+use Rattle.xr_code.specs.Clock.{moment_at, moment_by}
 use Rattle.xr_code.specs.Code.{Code}
 use Rattle.xr_code.specs.Lookup.{below, net_below}
 use Rattle.xr_code.specs.Statements.{forced_now}
@@ -50,22 +44,15 @@ abbrev pub on : Bool → Result Next CodeFault → Result Next CodeFault → Res
 on true there otherwise = there
 on false there otherwise = otherwise
 
--- the moment at a time
-abbrev pub moment_at : Stim → ℕ → Option ℕ
-moment_at stim time = position (λ at. at == time) stim.times
-
 -- `#0;` moves to the next round of the moment.
 abbrev pub round_on : Progress → ℕ → Option ℕ → Result Next CodeFault
 round_on p at None = Err (NoMoment at)
 round_on p at (Some moment) = if p.round + 1 == p.code.stim.rounds then Err (RoundPast at) else next WaitEnd (record p { round = p.round + 1 })
 
--- `#d;` moves d time units on, to round 0. A time of 2^64 or more is no moment.
+-- `#d;` moves d time units on, to round 0.
 abbrev pub time_on : Progress → ℕ → ℕ → Option ℕ → Result Next CodeFault
 time_on p at time None = Err (NoMoment at)
 time_on p at time (Some moment) = next WaitEnd (record p { time = time; moment = Some moment; round = 0 })
-
-abbrev pub moment_by : Stim → ℕ → Option ℕ
-moment_by stim time = if nat_lt time (2 ^ 64) then moment_at stim time else None
 
 abbrev pub waited : Progress → ℕ → ℕ → Result Next CodeFault
 waited p at d = if d == 0 then round_on p at p.moment else time_on p at (p.time + d) (moment_by p.code.stim (p.time + d))

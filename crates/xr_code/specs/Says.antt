@@ -7,32 +7,44 @@ use Rattle.xr_text.specs.Tokens.{Tokens}
 use Rattle.xr_text.specs.declared.token.LexErr.{LexErr}
 use Rattle.xr_text.specs.declared.token.Token.{Token}
 use Rattle.xr_code.specs.Code.{Code, job}
+use Rattle.xr_code.specs.Grammar.{IsCode}
 use Rattle.xr_code.specs.Machine.{Next, begun, finish, run, step}
 use Rattle.xr_code.specs.declared.fault.CodeFault.{CodeFault}
 use Rattle.xr_code.specs.declared.refusal.CodeErr.{CodeErr}
 use Rattle.xr_code.specs.declared.refusal.CodeErr.TheVariants.{Memory}
 use Rattle.xr_code.specs.declared.state.State.TheVariants.{Module}
 
+-- The text says these forces: its tokens have no fault and are code, and the forces are the changes that its statements
+-- make.
+pub record CodeSays (code : Code) (forces : List Event) : Type 0 where
+  pub left : Left
+  pub tokens : Tokens 0 code.text left
+  pub whole : left.fault ≡ None
+  pub statements : List Event
+  pub parsed : IsCode code left.tokens statements
+  pub are : forces ≡ changes_by (job code) statements
+
+-- A text that says forces is read, or refused only when out of memory.
+abbrev pub IsRead : Code → Result (List Event) CodeErr → Type 0
+IsRead code result = (forces : List Event) → CodeSays code forces
+    → MatchResult result (λ found. found ≡ forces) (λ e. e ≡ Memory)
+
 -- Where the tokens of a text end: at its first fault, or its end.
 abbrev pub stop_of : List ℕ → Option LexErr → ℕ
 stop_of text None = length text
 stop_of text (Some fault) = place_of fault
 
--- what the tokens of a text come to
+-- what the machine comes to by the tokens of a text
 abbrev pub statements_of : Code → Left → Result (List Event) CodeFault
 statements_of code left = run Module (begun code) left.tokens (stop_of code.text left.fault)
 
--- The text says these forces: the changes that its statements make.
-pub record Says (code : Code) (forces : List Event) : Type 0 where
+-- The machine reads the tokens of the text to its end, and these forces are the changes that its statements make.
+pub record MachineSays (code : Code) (forces : List Event) : Type 0 where
   pub left : Left
   pub tokens : Tokens 0 code.text left
   pub statements : List Event
   pub read : statements_of code left ≡ Ok statements
   pub are : forces ≡ changes_by (job code) statements
-
--- A text that says forces is read, or refused only when out of memory.
-abbrev pub IsRead : Code → Result (List Event) CodeErr → Type 0
-IsRead code result = (forces : List Event) → Says code forces → MatchResult result (λ found. found ≡ forces) (λ e. e ≡ Memory)
 
 abbrev pub reach_on : Result Next CodeFault → (Next → Result Next CodeFault) → Result Next CodeFault
 reach_on (Ok n) go = go n

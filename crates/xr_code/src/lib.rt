@@ -1,8 +1,9 @@
 //! The text of code that forces nets (IEEE 1364-2005, clause 9.3.2), written by `write_code` and read by `read_code`.
-//! Start at specs/Written.antt, then at specs/Says.antt.
+//! Start at specs/Written.antt, then at specs/Grammar.antt and Says.antt.
 //!
 //! A text is read in two halves: `tokens` runs the machine of specs/Machine.antt, one function a state in `machine`, and
-//! has the events of the statements; xr_forces makes of these the changes, place by place.
+//! has the events of the statements; xr_forces makes of these the changes, place by place. That the machine reads just
+//! what the grammar says is a law (`grammar_is_read`).
 #![tactic(auto)]
 
 mod bytes;
@@ -25,7 +26,7 @@ mod words;
 mod write;
 
 pub use fault::CodeFault;
-pub use laws::own_code_is_read;
+pub use laws::{grammar_is_read, own_code_is_read};
 pub use line::put_code_line;
 pub use read::read_code;
 pub use refusal::CodeErr;

@@ -7,7 +7,8 @@ ghost use Rattle.xr_design.specs.Design.{FitsDesign};
 ghost use Rattle.xr_match.specs.Keys as keys;
 ghost use Rattle.xr_match.specs.Naming.{index_of};
 ghost use Rattle.xr_code.specs.Lookup as spec;
-ghost use Rattle.xr_code.specs.Machine.{moment_at, net_named};
+ghost use Rattle.xr_code.specs.Clock.{moment_at};
+ghost use Rattle.xr_code.specs.Machine.{net_named};
 ghost use Rattle.xr_code.specs.Found as found;
 
 use crate::bytes::are_same;

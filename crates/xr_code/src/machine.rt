@@ -1,6 +1,7 @@
 //! Reading code token by token: what comes of a token in a state.
 
 ghost use Rattle.std.specs.Prelude.{◌≡◌, ◌+◌, ◌*◌, ◌<◌, ◌^◌, IfErr, OnOk, length};
+ghost use Rattle.xr_code.specs.Clock as clock;
 ghost use Rattle.xr_code.specs.Going.{Goes, HasNet, IsThere, Steps};
 ghost use Rattle.xr_code.specs.Machine as spec;
 ghost use Rattle.xr_code.specs.Statements.{forced_now};
@@ -156,7 +157,7 @@ fn next_time(progress: &mut Progress<'_>, at: usize, units: u64) -> Result<State
     requires there { IsThere progress.old }
     requires some { 0 < units }
     ensures { Steps (spec.time_on progress.old at (progress.old.time + units)
-        (spec.moment_by progress.old.code.stim (progress.old.time + units))) result progress.new }
+        (clock.moment_by progress.old.code.stim (progress.old.time + units))) result progress.new }
 {
     let Some(time) = progress.time.checked_add(units) else {
         return Err(CodeErr::Refused(CodeFault::NoMoment { at }));
@@ -174,7 +175,7 @@ fn next_time(progress: &mut Progress<'_>, at: usize, units: u64) -> Result<State
 fn later_moment(progress: &Progress<'_>, time: u64) -> Option<usize>
     requires there { IsThere progress.now }
     requires later { progress.now.time < time }
-    ensures { result ≡ spec.moment_at progress.now.code.stim time }
+    ensures { result ≡ clock.moment_at progress.now.code.stim time }
 {
     match progress.moment {
         Some(moment) => moment_from(progress.code.stim, moment + 1, time),

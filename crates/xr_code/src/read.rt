@@ -8,7 +8,7 @@ ghost use Rattle.xr_design.specs.Job.{job_of};
 ghost use Rattle.xr_code.specs.Code.{code};
 ghost use Rattle.xr_code.specs.Fault.{fault_in};
 ghost use Rattle.xr_code.specs.Laws.{OwnIsRead};
-ghost use Rattle.xr_code.specs.Says.{FirstFault, IsRead, Says};
+ghost use Rattle.xr_code.specs.Says.{CodeSays, FirstFault, IsRead};
 
 use crate::code::Code;
 use crate::refusal::CodeErr;
@@ -35,7 +35,7 @@ pub fn read_code(
     requires names { FitsDesign design.now }
 
     // What is read is what the text says, and events of the job, which can be replayed.
-    ensures found { IfOk result (Says (code bytes.now design.now order.now stim.now scope.now)) }
+    ensures found { IfOk result (CodeSays (code bytes.now design.now order.now stim.now scope.now)) }
     ensures events { IfOk result (AreEvents (job_of design.now order.now stim.now)) }
 
     // What a text says is read, unless memory runs out, and as one list.

@@ -1,2 +1,9 @@
-pub mod Hand
+-- Definitions of xr_files.
+pub mod Stage
+pub mod Put
+pub mod GivenUp
+pub mod Sink
+pub mod Fetched
+pub mod Seen
+pub mod Shipped
 pub mod Progress

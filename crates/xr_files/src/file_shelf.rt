@@ -1,114 +1,207 @@
 //! Real files as a shelf.
 
-ghost use Rattle.std.specs.Prelude.{◌≡◌};
+ghost use Rattle.std.specs.Prelude.{◌≡◌, is_some, IsTrue};
+ghost use Rattle.xr_shelf.specs.NamedFiles.{files_of};
+ghost use Rattle.xr_files.specs.Put.{AreNew, ArePut};
+ghost use Rattle.xr_files.specs.GivenUp.{GivesUp};
+ghost use Rattle.xr_files.specs.Stage.{put_in, taken_in};
+ghost use Rattle.std.proofs.Props.{props};
 
+use crate::fetched::Fetched;
+use crate::noted::{create_noted, put_noted};
+use crate::stage::{Created, Opened, Stage, Traces};
+use crate::target::target_of;
 use std::alloc::Global;
-use std::fs;
 use std::fs::File;
-use std::io::{Read, Write};
+use std::mem;
 use std::rt::Files;
 use xr_shelf::{FaultCount, IoErr, Shelf};
 
-/// The file in hand, with its name.
-#[derive(Drop)]
-pub enum InHand {
-    None,
-    Open { name: String, file: File },
-    New { name: String, file: File },
-}
-
-/// Real files. It keeps one count of faults of each kind for every name, and tells no content.
+/// Real files, which report their bytes: of a file that is read the text that was fetched, of one that is written what
+/// its writes took. Once a file was made none is read, and no file that has a text is made.
+///
+/// The bytes of a file lie in `NAME.part`, which is made new, until the file is closed; then it is renamed to `NAME`.
+/// After a failed write it is removed instead. A device, a pipe or a link is written itself.
 #[derive(Drop)]
 pub struct FileShelf<'a, R: Files<File = File>> {
     files: &'a R,
     alloc: Global,
-    hand: InHand,
+    fetched: &'a Fetched,
+    stage: Stage,
     read_faults: FaultCount,
     write_faults: FaultCount,
+    pub ghost put: { write_faults ≡ 0 → ArePut stage } by { Prim.hlevel props },
+    pub ghost apart: { AreNew stage (files_of fetched.now.texts) },
 }
 
 impl<'a, R: Files<File = File>> FileShelf<'a, R> {
-    /// The files that `files` reaches, none in hand, and no fault counted.
-    pub fn new(files: &'a R, alloc: Global) -> FileShelf<'a, R>
-        ensures hand { result.hand ≡ InHand.None }
+    /// The texts that were fetched, no file in hand, none made, and no fault counted.
+    pub fn new(files: &'a R, alloc: Global, fetched: &'a Fetched) -> FileShelf<'a, R>
+        ensures stage { result.stage ≡ Stage.Resting }
+        ensures fetched { result.fetched.now ≡ fetched.now }
         ensures reads { result.read_faults ≡ 0 }
         ensures writes { result.write_faults ≡ 0 }
     {
         FileShelf {
             files,
             alloc,
-            hand: InHand::None,
+            fetched,
+            stage: Stage::Resting,
             read_faults: FaultCount::new(),
             write_faults: FaultCount::new(),
         }
     }
-}
 
-impl<'a, R: Files<File = File>> Shelf for FileShelf<'a, R> {
-    ghost use Rattle.std.specs.Prelude.{false, None, []};
-    ghost use Rattle.xr_files.specs.Hand.{hand_of};
+    /// Whether a text of this name can be read: no file was made yet.
+    fn has_text(&self, name: &str) -> bool
+        ensures stage { IsTrue result → self.now.stage ≡ Stage.Resting }
+        ensures there { IsTrue result → IsTrue (is_some (files_of self.now.fetched.now.texts name.now)) }
+    {
+        match &self.stage {
+            Stage::Resting => self.fetched.has(name),
+            _ => false,
+        }
+    }
 
-    ghost told = { false };
+    /// Gives up the file in hand. One that was made is put under its name, or removed where a write failed.
+    fn give_up(&mut self) -> Result<(), IoErr>
+        ensures fetched { self.new.fetched ≡ self.old.fetched }
+        ensures reads { self.new.read_faults ≡ self.old.read_faults }
+        ensures step { GivesUp self.old.stage self.new.stage self.old.write_faults self.new.write_faults result }
+    {
+        match mem::replace(&mut self.stage, Stage::Resting) {
+            Stage::Resting => Ok(()),
+            Stage::Reading(_) => Ok(()),
+            Stage::Wrote(traces) => {
+                self.stage = Stage::Wrote(traces);
+                Ok(())
+            }
+            Stage::Writing(created) => self.finish(created),
+        }
+    }
 
-    ghost view = { λ s. record {
-      reads = λ _. s.read_faults;
-      writes = λ _. s.write_faults;
-      hand = hand_of s.hand;
-      files = λ _. None;
-      unread = [];
-    } };
-
-    fn open_file(&mut self, name: &str) -> Result<(), IoErr> {
-        self.hand = InHand::None;
-        let copy = String::from_str(self.alloc, name)?;
-        match fs::open(self.files, name) {
-            Ok(file) => {
-                self.hand = InHand::Open { name: copy, file };
+    /// Puts a file that was made under its name, or removes it where a write failed.
+    fn finish(&mut self, created: Created) -> Result<(), IoErr>
+        requires put { self.old.write_faults ≡ 0 → ArePut (Stage.Writing created) }
+        requires new { AreNew (Stage.Writing created) (files_of self.old.fetched.now.texts) }
+        ensures fetched { self.new.fetched ≡ self.old.fetched }
+        ensures reads { self.new.read_faults ≡ self.old.read_faults }
+        ensures step { GivesUp (Stage.Writing created) self.new.stage self.old.write_faults self.new.write_faults
+            result }
+    {
+        let Created {
+            name,
+            file: _,
+            target,
+            took,
+            mut put,
+        } = created;
+        if self.write_faults.count() > 0 {
+            target.discard(self.files);
+            self.stage = Stage::Wrote(Traces { took, put });
+            return Ok(());
+        }
+        match put_noted(self.files, name.as_str(), &target, &mut put) {
+            Ok(()) => {
+                self.stage = Stage::Wrote(Traces { took, put });
                 Ok(())
             }
             Err(_) => {
-                self.read_faults.rise();
+                target.discard(self.files);
+                self.write_faults.rise();
+                self.stage = Stage::Wrote(Traces { took, put });
                 Err(IoErr::Failed)
             }
         }
     }
+}
+
+/// What was written so far, and put.
+#[tactic(auto)]
+fn traces_of(stage: Stage) -> Traces
+    ensures took { result.took.entries ≡ taken_in stage }
+    ensures put { result.put.entries ≡ put_in stage }
+{
+    match stage {
+        Stage::Resting => Traces::new(),
+        Stage::Reading(_) => Traces::new(),
+        Stage::Wrote(traces) => traces,
+        Stage::Writing(created) => Traces {
+            took: created.took,
+            put: created.put,
+        },
+    }
+}
+
+impl<'a, R: Files<File = File>> Shelf for FileShelf<'a, R> {
+    ghost use Rattle.std.specs.Prelude.{true};
+    ghost use Rattle.xr_files.specs.Seen.{shelf_seen};
+
+    ghost told = { true };
+
+    ghost view = { λ s. shelf_seen s.stage s.fetched.now.texts s.read_faults s.write_faults };
+
+    fn open_file(&mut self, name: &str) -> Result<(), IoErr> {
+        let _ = self.give_up();
+        if !self.has_text(name) {
+            self.read_faults.rise();
+            return Err(IoErr::Failed);
+        }
+        let name = String::from_str(self.alloc, name)?;
+        self.stage = Stage::Reading(Opened { name, done: 0 });
+        Ok(())
+    }
 
     fn read(&mut self, buffer: &mut [u8]) -> Result<usize, IoErr> {
-        let InHand::Open { file, .. } = &mut self.hand else {
-            return Ok(0);
-        };
-        match file.read(buffer) {
-            Ok(count) => Ok(count),
-            Err(_) => {
-                self.read_faults.rise();
-                Err(IoErr::Failed)
+        match mem::replace(&mut self.stage, Stage::Resting) {
+            Stage::Reading(mut opened) => {
+                let text = self.fetched.bytes(opened.name.as_str());
+                let count = opened.give(text, buffer);
+                self.stage = Stage::Reading(opened);
+                Ok(count)
+            }
+            other => {
+                self.stage = other;
+                Ok(0)
             }
         }
     }
 
     fn create_file(&mut self, name: &str) -> Result<(), IoErr> {
-        self.hand = InHand::None;
+        self.give_up()?;
+        if self.fetched.has(name) {
+            self.write_faults.rise();
+            return Err(IoErr::Failed);
+        }
         let copy = String::from_str(self.alloc, name)?;
-        match fs::create(self.files, name) {
+        let target = target_of(self.files, self.alloc, name)?;
+        let Traces { mut took, mut put } = traces_of(mem::replace(&mut self.stage, Stage::Resting));
+        match create_noted(self.files, name, &target, &mut took, &mut put) {
             Ok(file) => {
-                self.hand = InHand::New { name: copy, file };
+                self.stage = Stage::Writing(Created {
+                    name: copy,
+                    file,
+                    target,
+                    took,
+                    put,
+                });
                 Ok(())
             }
             Err(_) => {
+                self.stage = Stage::Wrote(Traces { took, put });
                 self.write_faults.rise();
                 Err(IoErr::Failed)
             }
         }
     }
 
-    /// A write that takes none of some bytes is a fault.
     fn write(&mut self, bytes: &[u8]) -> Result<usize, IoErr> {
-        let InHand::New { file, .. } = &mut self.hand else {
+        let Stage::Writing(created) = &mut self.stage else {
             unreachable!()
         };
-        match file.write(bytes) {
-            Ok(count) if count > 0 || bytes.is_empty() => Ok(count),
-            _ => {
+        match created.write(bytes) {
+            Ok(count) => Ok(count),
+            Err(_) => {
                 self.write_faults.rise();
                 Err(IoErr::Failed)
             }
@@ -116,8 +209,7 @@ impl<'a, R: Files<File = File>> Shelf for FileShelf<'a, R> {
     }
 
     fn close_file(&mut self) -> Result<(), IoErr> {
-        self.hand = InHand::None;
-        Ok(())
+        self.give_up()
     }
 }
 
@@ -125,7 +217,7 @@ impl<'a, R: Files<File = File>> Shelf for FileShelf<'a, R> {
 mod tests {
     use super::*;
     use std::test::Fail;
-    use std::{env, process};
+    use std::{env, fs, process};
     use xr_shelf::{ReadErr, read_all, write_all};
 
     #[test]
@@ -133,13 +225,19 @@ mod tests {
         let folder = env::temp_dir(&rt)?;
         let id = process::id(rt.process());
         let name = format!(in rt.alloc(); "{}/xr_files-{id}.vcd", folder.as_path().display())?;
-        let mut shelf = FileShelf::new(&rt, rt.alloc());
+        let mut none = Fetched::new(rt.alloc(), 100);
+        assert!(rt; none.fetch(&rt, name.as_str()).is_ok());
+        let mut shelf = FileShelf::new(&rt, rt.alloc(), &none);
         let gone = read_all(rt.alloc(), &mut shelf, name.as_str(), 100);
         assert!(rt; matches!(gone, Err(ReadErr::Fault)));
         assert_eq!(rt; shelf.read_faults.count(), 1);
         assert!(rt; write_all(&mut shelf, name.as_str(), b"#0\n").is_ok());
-        let read = read_all(rt.alloc(), &mut shelf, name.as_str(), 100);
+        let mut fetched = Fetched::new(rt.alloc(), 100);
+        assert!(rt; fetched.fetch(&rt, name.as_str()).is_ok());
+        let mut again = FileShelf::new(&rt, rt.alloc(), &fetched);
+        let read = read_all(rt.alloc(), &mut again, name.as_str(), 100);
         assert!(rt; matches!(&read, Ok(text) if text.as_slice() == b"#0\n".as_slice()));
+        assert!(rt; write_all(&mut again, name.as_str(), b"#1\n").is_err());
         fs::remove_file(&rt, name.as_str())?;
         Ok(())
     }

@@ -1,28 +1,33 @@
-//! Standard output as a sink, with how far a long run has come on standard error.
+//! A writer as a sink, with how far a long run has come on standard error.
 
-ghost use Rattle.std.specs.Prelude.{◌≡◌};
+ghost use Rattle.std.specs.Prelude.{◌≡◌, []};
 
+use crate::noted::write_noted;
 use crate::progress::Progress;
 use std::io::{Eprint, Write};
 use std::time::Clock;
 use xr_shelf::{FaultCount, IoErr, Sink};
+use xr_trace::Record;
 
-/// A writer as a sink. It counts its faults, and tells no content.
+/// A writer as a sink. It counts its faults, and reports the bytes that its writer took.
 #[derive(Drop)]
 pub struct OutSink<'a, W: Write + Drop, R: Clock + Eprint> {
     writer: W,
     faults: FaultCount,
+    took: Record,
     progress: Progress<'a, R>,
 }
 
 impl<'a, W: Write + Drop, R: Clock + Eprint> OutSink<'a, W, R> {
-    /// A sink that prints by this writer, and no fault counted.
+    /// A sink that prints by this writer: nothing taken, and no fault counted.
     pub fn new(writer: W, progress: Progress<'a, R>) -> OutSink<'a, W, R>
-        ensures { result.faults ≡ 0 }
+        ensures faults { result.faults ≡ 0 }
+        ensures took { result.took.entries ≡ [] }
     {
         OutSink {
             writer,
             faults: FaultCount::new(),
+            took: Record::new(),
             progress,
         }
     }
@@ -34,17 +39,17 @@ impl<'a, W: Write + Drop, R: Clock + Eprint> OutSink<'a, W, R> {
 }
 
 impl<'a, W: Write + Drop, R: Clock + Eprint> Sink for OutSink<'a, W, R> {
-    ghost use Rattle.std.specs.Prelude.{false, []};
+    ghost use Rattle.std.specs.Prelude.{true};
+    ghost use Rattle.xr_files.specs.Sink.{sink_seen};
 
-    ghost told = { false };
+    ghost told = { true };
 
-    ghost view = { λ s. record { faults = s.faults; bytes = [] } };
+    ghost view = { λ s. sink_seen s.faults s.took };
 
-    /// A write that takes none of some bytes is a fault.
     fn write(&mut self, bytes: &[u8]) -> Result<usize, IoErr> {
-        match self.writer.write(bytes) {
-            Ok(count) if count > 0 || bytes.is_empty() => Ok(count),
-            _ => {
+        match write_noted(&mut self.writer, bytes, &[], &mut self.took) {
+            Ok(count) => Ok(count),
+            Err(_) => {
                 self.faults.rise();
                 Err(IoErr::Failed)
             }

@@ -6,7 +6,7 @@ use Rattle.xr_design.specs.History.{HistoryView}
 use Rattle.xr_design.specs.declared.force.Event.{Event}
 use Rattle.xr_design.specs.declared.stim.Stim.{Stim}
 use Rattle.xr_code.specs.Code.{Code, code}
-use Rattle.xr_code.specs.Says.{FirstFault, Says}
+use Rattle.xr_code.specs.Says.{CodeSays, FirstFault}
 use Rattle.xr_code.specs.declared.fault.CodeFault.{CodeFault}
 use Rattle.xr_job.specs.Compared.{job_for}
 use Rattle.xr_base.specs.Text.{line}
@@ -22,7 +22,7 @@ code_in job text scope = code text job.netlist.design job.netlist.order job.reco
 
 -- It says forces, or has a first fault.
 abbrev pub CodeComes : Code → Result (List Event) CodeFault → Type 0
-CodeComes c (Ok forces) = Says c forces
+CodeComes c (Ok forces) = CodeSays c forces
 CodeComes c (Err fault) = FirstFault c fault
 
 -- A history is the replay of the job under forces.

@@ -10,3 +10,4 @@ pub mod Causes
 mod Leaves
 mod Faultless
 pub mod Comes
+pub mod Reading

@@ -31,7 +31,8 @@ module _ {C : Type 0} (p : Phases Answer C) (t : Reporting C) (s : Start) (new :
   refused_row NoMemory files is reported = Ran.ends_without_memory s.sink record { state = inl record { files = files; unprinted = refl }; counts = is; faults = refl } reported
 
 module _ {C : Type 0} (p : Phases Answer C) (t : Reporting C) (s : Start) (answer : Answer) (mid new : View) (before sink : SinkView) (status : ℕ)
-    (stands : Stands p s answer) (later : Later s.shelf mid) (files : mid.files ≡ s.shelf.files) (kept : SameCounts s.shelf mid) (closed : LeavesClosed p s.shelf mid (Ok answer)) where
+    (stands : Stands p s answer) (later : Later s.shelf mid) (files : mid.files ≡ s.shelf.files) (kept : SameCounts s.shelf mid) (closed : LeavesClosed p s.shelf mid (Ok answer))
+    (after : Later mid new) where
   -- the file in hand after the outputs
   closed_after : LeavesClosed p s.shelf mid (Ok answer) → IsClosed mid new → LeavesClosed p s.shelf new (Ok answer)
   closed_after first (inl none) = inl none
@@ -52,6 +53,7 @@ module _ {C : Type 0} (p : Phases Answer C) (t : Reporting C) (s : Start) (answe
         counts = same_twice s.shelf mid new kept all.counts;
         faults = ap (λ (x : SinkView). x.faults) reported.1 ∙ all.faults;
         closed = closed_after closed all.closed;
+        begun = after.begun ∙ later.begun;
       }
 
   stops : (e : Undelivered) (k : ℕ) → StopsAt s.shelf_told answer.files k mid new e → before ≡ s.sink → ReportedAs s.sink_told (Err e) before sink status → Ran p t s new sink status
@@ -107,4 +109,4 @@ pub delivered_row : {C : Type 0} (p : Phases Answer C) (t : Reporting C) (s : St
     → Stands p s answer → Later s.shelf mid → mid.files ≡ s.shelf.files → SameCounts s.shelf mid → LeavesClosed p s.shelf mid (Ok answer)
     → Delivers s.shelf_told s.sink_told answer mid new s.sink sink status → Ran p t s new sink status
 delivered_row p t s answer mid new sink status stands later files kept closed d =
-    by_ends p t s answer mid new d.before sink status stands later files kept closed d.result d.delivery.ends d.reported
+    by_ends p t s answer mid new d.before sink status stands later files kept closed d.delivery.later d.result d.delivery.ends d.reported

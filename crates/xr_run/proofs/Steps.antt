@@ -14,6 +14,7 @@ pub later_twice : (a b c : View) → Later a b → Later b c → Later a c
 later_twice a b c first second = record {
   reads = λ name. (let x = first.reads name in let y = second.reads name in omega (arith, x, y));
   writes = λ name. (let x = first.writes name in let y = second.writes name in omega (arith, x, y));
+  begun = second.begun ∙ first.begun;
 }
 
 -- no count rose in two steps
@@ -24,7 +25,7 @@ pub same_here : (a : View) → SameCounts a a
 same_here a = record { reads = λ name. refl; writes = λ name. refl }
 
 pub later_here : (a : View) → Later a a
-later_here a = record { reads = λ name. omega arith; writes = λ name. omega arith }
+later_here a = record { reads = λ name. omega arith; writes = λ name. omega arith; begun = refl }
 
 -- a count that rose after one that didn't fall rose
 pub rose_after : (old mid new : ℕ) → old ≤ mid → Rose mid new → Rose old new

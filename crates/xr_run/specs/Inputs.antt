@@ -37,6 +37,7 @@ module _ {C : Type 0} (told : Bool) where
     pub later : Later old new
     pub files : new.files ≡ old.files
     pub text : IfOk result (λ part. IsTrue told → IsKept limit part (held old name))
+    pub there : IfOk result (λ part. IsSome part → IsTrue told → IsSome (old.files name))
     pub fits : IfOk result (λ part. IfSome part (λ v. length v.items ≤ limit))
     pub kept : OnOk result (SameCounts old new)
     pub closed : IfOk result (λ part. IsSome part → new.hand ≡ Nothing)

@@ -1,6 +1,7 @@
 -- The phases of a command in their one order, each given what those before it found; and what texts come to by them.
 use Rattle.std.specs.Prelude.{◌≡◌, ◌⊎◌, ℕ, ◌<◌, ◌≤◌, List, [], ◌∷◌, ◌++◌, length, map, Contains, Result, Ok, Err, Bool}
-use Rattle.std.specs.Prelude.{IsTrue}
+use Rattle.std.specs.Prelude.{IsSome, IsTrue}
+use Rattle.std.specs.List.{AllByRecursion}
 use Rattle.xr_shelf.specs.Shelf.{Files, Nothing, View, bytes_of}
 use Rattle.xr_run.specs.Outputs.{File}
 
@@ -57,8 +58,13 @@ joined texts = joined_after [] [] texts
 abbrev pub text_held : Files → List (List ℕ) → List ℕ
 text_held files names = joined (map (λ (name : List ℕ). bytes_of (files name)) names)
 
--- This text was read of them: where the shelf reported, it is what they hold.
+-- The files of these names are there.
+abbrev pub AreThere : Files → List (List ℕ) → Type 0
+AreThere files names = AllByRecursion (λ (name : List ℕ). IsSome (files name)) names
+
+-- This text was read of them: where the shelf reported, they are there, and it is what they hold.
 pub record IsRead (told : Bool) (files : Files) (names : List (List ℕ)) (limit : ℕ) (text : List ℕ) : Type 0 where
+  pub there : IsTrue told → AreThere files names
   pub is : IsTrue told → text ≡ text_held files names
   pub fits : length text ≤ limit
 

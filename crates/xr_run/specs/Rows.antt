@@ -33,7 +33,8 @@ start_of words shelf_told sink_told shelf sink = start_with (map string_bytes wo
 abbrev pub Stands : {C : Type 0} → Phases Answer C → Start → Answer → Type 0
 Stands p s answer = ComesTo s.shelf_told s.shelf.files p (Ok answer)
 
--- All is written and printed, no other file changed, and no count rose.
+-- All is written and printed, no other file changed, no count rose, and the shelf is over the texts that it was made
+-- over.
 pub record DoneRow {C : Type 0} (p : Phases Answer C) (s : Start) (shelf : View) (sink : SinkView) : Type 0 where
   pub answer : Answer
   pub stands : Stands p s answer
@@ -42,6 +43,7 @@ pub record DoneRow {C : Type 0} (p : Phases Answer C) (s : Start) (shelf : View)
   pub counts : SameCounts s.shelf shelf
   pub faults : sink.faults ≡ s.sink.faults
   pub closed : LeavesClosed p s.shelf shelf (Ok answer)
+  pub begun : shelf.begun ≡ s.shelf.begun
 
 -- The reading count of an input file that was to be read rose. No file changed.
 pub record ReadRow {C : Type 0} (p : Phases Answer C) (s : Start) (shelf : View) (name : List ℕ) : Type 0 where

@@ -87,6 +87,7 @@ fn join(
     limit: usize,
 ) -> Result<Option<Vec<u8>>, AllocError>
     ensures fits { IfOk result (λ whole. IfSome whole (λ v. length v.items ≤ limit)) }
+    ensures first { IfOk result (λ whole. IsSome whole → IsSome text) }
     ensures both { IfOk result (λ whole. IfSome whole (λ v. IsSome part)) }
     ensures joined { IfOk result (Joins limit position text part) }
 {

@@ -41,7 +41,7 @@ pub rose_behind : (old mid new : ℕ) → old ≤ mid → Rose mid new → Rose 
 rose_behind old mid new later rose = record { up = omega (arith, later, rose.up); end = omega (arith, later, rose.end) }
 
 pub later_trans : (a b c : View) → Later a b → Later b c → Later a c
-later_trans a b c ab bc = record { reads = λ n. omega (arith, ab.reads n, bc.reads n); writes = λ n. omega (arith, ab.writes n, bc.writes n) }
+later_trans a b c ab bc = record { reads = λ n. omega (arith, ab.reads n, bc.reads n); writes = λ n. omega (arith, ab.writes n, bc.writes n); begun = bc.begun ∙ ab.begun }
 
 -- The count at the opened name rose.
 pub rose_here : (name : List ℕ) (mid new : View) → mid.hand ≡ Opened name → (n : List ℕ) × (mid.hand ≡ Opened n) × Rose (mid.reads n) (new.reads n) → Rose (mid.reads name) (new.reads name)

@@ -18,6 +18,7 @@ read_starts told name limit old new step = record {
   kept = step.counts;
   files = step.files;
   hand = step.ok;
+  there = step.there;
   text = λ t. sym (step.unread t);
   fits = omega arith;
 }
@@ -28,6 +29,7 @@ read_grows told name so_far buffer limit count old mid new turn step fits = reco
   kept = same_trans old mid new turn.kept step.counts;
   files = step.files ∙ turn.files;
   hand = step.hand ∙ turn.hand;
+  there = turn.there;
   text = λ t. read_more (held old name) so_far mid.unread (take count buffer) new.unread (turn.text t) (step.bytes name turn.hand t);
   fits = omega (arith, turn.fits, fits, step.bound, length-append so_far (take count buffer), length-take count buffer);
 }
@@ -38,6 +40,7 @@ read_fails told name so_far buffer limit old mid new e turn step = record {
   files = step.files ∙ turn.files;
   text = tt;
   fits = tt;
+  there = tt;
   closed = tt;
   long = λ h. absurd (let is : read_err e ≡ TooLong = cc in not_long e is);
   fault = λ h. let is : read_err e ≡ ReadFault = cc in
@@ -52,6 +55,7 @@ read_long told name so_far buffer limit count old mid new turn step over = recor
   files = step.files ∙ turn.files;
   text = tt;
   fits = tt;
+  there = tt;
   closed = tt;
   long = λ _ t.
       let all = read_more (held old name) so_far mid.unread (take count buffer) new.unread (turn.text t) (step.bytes name turn.hand t) in
@@ -66,6 +70,7 @@ read_memory told name so_far limit old new later same files = record {
   files = files;
   text = tt;
   fits = tt;
+  there = tt;
   closed = tt;
   long = λ h. absurd (cc);
   fault = λ h. absurd (cc);
@@ -78,6 +83,7 @@ close_fails told name so_far limit old mid new e later same files hand step = re
   files = step.files ∙ files;
   text = tt;
   fits = tt;
+  there = tt;
   closed = tt;
   long = λ h. absurd (let is : read_err e ≡ TooLong = cc in not_long e is);
   fault = λ h. let is : read_err e ≡ ReadFault = cc in
@@ -96,6 +102,7 @@ read_done told name buffer limit old mid last new v turn step room close = recor
   files = close.files ∙ step.files ∙ turn.files;
   text = λ t. sym (turn.text t ∙ ap (λ (l : List ℕ). v.items ++ l) (step.end name turn.hand refl room t) ∙ append-nil v.items);
   fits = turn.fits;
+  there = turn.there;
   closed = close.hand;
   long = λ h. absurd (cc);
   fault = λ h. absurd (cc);

@@ -1,5 +1,6 @@
 -- What the loops over a shelf and a sink keep.
 use Rattle.std.proofs.Common.{◌≡◌, ℕ, ◌≤◌, List, ◌++◌, length, take, Some, IsTrue, Bool}
+use Rattle.std.specs.Prelude.{IsSome}
 use Rattle.xr_shelf.specs.Shelf.{View, Later, SameCounts, Opened, Created, held, OthersKept}
 use Rattle.xr_shelf.specs.Sink.{SinkView}
 
@@ -8,6 +9,7 @@ pub record ReadTurn (told : Bool) (name so_far : List ℕ) (limit : ℕ) (old ne
   pub kept : SameCounts old new
   pub files : new.files ≡ old.files
   pub hand : new.hand ≡ Opened name
+  pub there : IsTrue told → IsSome (old.files name)
   pub text : IsTrue told → held old name ≡ so_far ++ new.unread
   pub fits : length so_far ≤ limit
 

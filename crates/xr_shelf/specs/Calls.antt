@@ -1,5 +1,5 @@
 -- What it means to read a whole file, to write a whole file and to print a whole text.
-use Rattle.std.specs.Prelude.{◌≡◌, ◌⊎◌, ℕ, ◌<◌, ◌≤◌, List, ◌++◌, length, Some, Result, IsErrOf, OnOk, OnErr, IfOk, IsTrue, Bool, Vec}
+use Rattle.std.specs.Prelude.{◌≡◌, ◌⊎◌, ℕ, ◌<◌, ◌≤◌, List, ◌++◌, length, Some, Result, IsErrOf, OnOk, OnErr, IfOk, IsTrue, IsSome, Bool, Vec}
 use Rattle.std.specs.declared.alloc.Global.{Global}
 use Rattle.xr_shelf.specs.Shelf.{View, Files, Nothing, Later, SameCounts, Rose, OthersKept, Prefix, held}
 use Rattle.xr_shelf.specs.Sink.{SinkView}
@@ -8,13 +8,14 @@ use Rattle.xr_shelf.specs.declared.fault.ReadErr.TheVariants.{Fault as ReadFault
 use Rattle.xr_shelf.specs.declared.fault.WriteErr.{WriteErr}
 use Rattle.xr_shelf.specs.declared.fault.WriteErr.TheVariants.{Fault as WriteFault}
 
--- A whole file read: its text, or a fault with a risen count of that very name. Where any count of faults rose in the
+-- A whole file read, which was there: its text, or a fault with a risen count of that very name. Where any count of faults rose in the
 -- call, the answer is Fault; so TooLong comes before any fault.
 pub record ReadAll (told : Bool) (name : List ℕ) (limit : ℕ) (old new : View) (result : Result (Vec ℕ Global) ReadErr) : Type 0 where
   pub later : Later old new
   pub files : new.files ≡ old.files
   pub text : IfOk result (λ v. IsTrue told → v.items ≡ held old name)
   pub fits : IfOk result (λ v. length v.items ≤ limit)
+  pub there : OnOk result (IsTrue told → IsSome (old.files name))
   pub closed : OnOk result (new.hand ≡ Nothing)
   pub long : IsErrOf result TooLong → IsTrue told → limit < length (held old name)
   pub fault : IsErrOf result ReadFault → Rose (old.reads name) (new.reads name)

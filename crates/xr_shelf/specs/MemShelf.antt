@@ -43,9 +43,9 @@ with_plan shelf plan = record { piece = shelf.piece; files = shelf.files; hand =
 abbrev pub with_files : MemShelfView → List File → MemShelfView
 with_files shelf files = record { piece = shelf.piece; files = files; hand = shelf.hand; unread = shelf.unread; plan = shelf.plan; read_faults = shelf.read_faults; write_faults = shelf.write_faults }
 
--- What is seen of it as a shelf.
+-- What is seen of it as a shelf, which is made over no text.
 abbrev pub shelf_of : MemShelfView → View
-shelf_of shelf = record { reads = λ _. shelf.read_faults; writes = λ _. shelf.write_faults; hand = shelf.hand; files = files_of shelf.files; unread = shelf.unread }
+shelf_of shelf = record { reads = λ _. shelf.read_faults; writes = λ _. shelf.write_faults; hand = shelf.hand; files = files_of shelf.files; unread = shelf.unread; begun = λ _. None }
 
 abbrev pub is_opened : Hand → Bool
 is_opened Nothing = false

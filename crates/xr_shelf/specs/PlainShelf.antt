@@ -1,6 +1,6 @@
 -- What is seen of a shelf in memory without faults, and what each of its calls does to that.
-use Rattle.std.specs.Prelude.{◌≡◌, ℕ, List, [], ◌++◌, length, take, drop, min, Result, IsErrOf, IfOk, OnErr}
-use Rattle.xr_shelf.specs.Shelf.{View, Hand, Nothing}
+use Rattle.std.specs.Prelude.{◌≡◌, ℕ, List, [], ◌++◌, length, take, drop, min, Some, None, Result, IsErrOf, IfOk, OnErr}
+use Rattle.xr_shelf.specs.Shelf.{View, Files, Hand, Nothing, bytes_of}
 use Rattle.xr_shelf.specs.NamedFiles.{File, files_of, SetsFile}
 use Rattle.xr_shelf.specs.InHand.{hand_of, unread_of}
 use Rattle.xr_shelf.specs.declared.in_hand.InHand.{InHand}
@@ -21,14 +21,19 @@ plainly_seen files hand = record { files = files; hand = hand_of hand; unread = 
 abbrev pub empty_plain_shelf : PlainShelfView
 empty_plain_shelf = record { files = []; hand = Nothing; unread = [] }
 
--- What is seen of it as a shelf: no fault is ever counted.
+-- What each name holds: nothing, where there is no such file.
+abbrev pub files_plainly : List File → Files
+files_plainly files name = Some (bytes_of (files_of files name))
+
+-- What is seen of it as a shelf, which is made over no text: no fault is ever counted.
 abbrev pub plain_shelf_of : PlainShelfView → View
 plain_shelf_of shelf = record {
   reads = λ _. 0;
   writes = λ _. 0;
   hand = shelf.hand;
-  files = files_of shelf.files;
+  files = files_plainly shelf.files;
   unread = shelf.unread;
+  begun = λ _. None;
 }
 
 -- `put`: the file is set, and all else is as it was.

@@ -1,5 +1,5 @@
 -- What is seen of a shelf of named files, and what each of its calls does to that.
-use Rattle.std.specs.Prelude.{◌≡◌, ◌⊎◌, ℕ, ◌+◌, ◌^◌, ◌-◌, ◌<◌, ◌≤◌, min, List, [], ◌++◌, length, take, Option, Some, None, Result, Ok, Err, IsErrOf, OnErr, OnOk, IfOk, IsTrue, Bool}
+use Rattle.std.specs.Prelude.{◌≡◌, ◌⊎◌, ℕ, ◌+◌, ◌^◌, ◌-◌, ◌<◌, ◌≤◌, min, List, [], ◌++◌, length, take, Option, Some, None, Result, Ok, Err, IsErrOf, OnErr, OnOk, IfOk, IsTrue, IsSome, Bool}
 use Rattle.xr_shelf.specs.declared.fault.IoErr.{IoErr}
 use Rattle.xr_shelf.specs.declared.fault.IoErr.TheVariants.{Failed, Memory}
 
@@ -18,14 +18,15 @@ pub data Hand : Type 0 where
 abbrev pub Files : Type 0
 Files = List ℕ → Option (List ℕ)
 
--- What is seen of a shelf: a count of faults of reading and one of writing for each name, the file in hand, the map, and
--- the bytes of the opened file that aren't read yet.
+-- What is seen of a shelf: a count of faults of reading and one of writing for each name, the file in hand, the map,
+-- the bytes of the opened file that aren't read yet, and the texts that it was made over, which no call changes.
 pub record View : Type 0 where
   pub reads : List ℕ → ℕ
   pub writes : List ℕ → ℕ
   pub hand : Hand
   pub files : Files
   pub unread : List ℕ
+  pub begun : Files
 
 abbrev pub bytes_of : Option (List ℕ) → List ℕ
 bytes_of None = []
@@ -35,10 +36,11 @@ bytes_of (Some bytes) = bytes
 abbrev pub held : View → List ℕ → List ℕ
 held v name = bytes_of (v.files name)
 
--- No count of faults fell.
+-- No count of faults fell, and the texts that the shelf was made over are what they were.
 pub record Later (old new : View) : Type 0 where
   pub reads : (name : List ℕ) → old.reads name ≤ new.reads name
   pub writes : (name : List ℕ) → old.writes name ≤ new.writes name
+  pub begun : new.begun ≡ old.begun
 
 -- Every count of faults is as it was.
 pub record SameCounts (old new : View) : Type 0 where
@@ -63,12 +65,13 @@ pub record Prefix (part whole : List ℕ) : Type 0 where
   pub rest : List ℕ
   pub is : part ++ rest ≡ whole
 
--- `open_file`: the named file is in hand and all its bytes are unread, or none is in hand.
+-- `open_file`: the named file was there, is in hand, and all its bytes are unread; or none is in hand.
 pub record OpenStep (told : Bool) (name : List ℕ) (old new : View) (result : Result Unit IoErr) : Type 0 where
   pub later : Later old new
   pub counts : KeepsCounts old new result
   pub files : new.files ≡ old.files
   pub ok : OnOk result (new.hand ≡ Opened name)
+  pub there : OnOk result (IsTrue told → IsSome (old.files name))
   pub unread : OnOk result (IsTrue told → new.unread ≡ held old name)
   pub err : OnErr result (new.hand ≡ Nothing)
   pub fault : IsErrOf result Failed → Rose (old.reads name) (new.reads name)

@@ -11,7 +11,7 @@ use Rattle.xr_line.specs.Read.{files_of, value_of}
 use Rattle.xr_line.proofs.Alike.{line_alike}
 use Rattle.xr_line.proofs.Settling.{many_is}
 use Rattle.xr_line.proofs.Whole.{IsPassed, line_passes}
-use Rattle.xr_trim_cli.specs.Words.{AreOutside, Gives, IsTrimLine, Means, TrimValues, table, trim_values}
+use Rattle.xr_trim_cli.specs.Words.{AreOutside, Gives, IsTrimLine, Means, MeansOnly, TrimValues, table, trim_values}
 use Rattle.xr_trim_cli.specs.declared.trim_words.TrimWords.{TrimWords}
 
 gives_alike : (f g : Text → Option Text) (v : TrimValues) → f (codes "top") ≡ g (codes "top") → f (codes "to") ≡ g (codes "to") → Gives f v → Gives g v
@@ -112,3 +112,7 @@ one_meaning words v other a b =
     let to = some_same other.to v.to (sym b.gives.to ∙ sym (q.first (codes "to") refl) ∙ p.first (codes "to") refl ∙ a.gives.to) in
     let files : other.files ≡ v.files = sym (many_is other.files) ∙ ap (λ (o : Option (List Text)). unwrap_or o []) (sym q.all ∙ p.all) ∙ many_is v.files in
     λ i. record { top = top i; to = to i; files = files i }
+
+pub only_of : (words : List Text) (r : Option TrimWords) → IfSome r (λ w. Means words (trim_values w)) → IfSome r (λ w. MeansOnly words (trim_values w))
+only_of words None means = tt
+only_of words (Some w) means = λ other again. one_meaning words (trim_values w) other means again

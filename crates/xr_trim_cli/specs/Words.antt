@@ -37,6 +37,10 @@ pub record Means (words : List Text) (v : TrimValues) : Type 0 where
 abbrev pub AreOutside : List Text → Type 0
 AreOutside words = (v : TrimValues) → Means words v → ⊥
 
+-- They mean nothing else.
+abbrev pub MeansOnly : List Text → TrimValues → Type 0
+MeansOnly words v = (other : TrimValues) → Means words other → other ≡ v
+
 -- What was read is a line of these options, and the words name nothing else.
 pub record IsTrimLine (words : List Text) (line : Line) : Type 0 where
   pub options : List Opt

@@ -14,3 +14,5 @@ mod trim_words;
 mod words;
 
 pub use program::{run, usage};
+pub use trim_words::TrimWords;
+pub use words::read_trim_words;

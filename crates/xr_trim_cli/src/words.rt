@@ -4,7 +4,7 @@ ghost use Rattle.std.specs.Prelude.{◌≡◌, ◌<◌, [], ◌∷◌, List, IfN
 ghost use Rattle.xr_line.specs.Tables.{plain};
 ghost use Rattle.xr_line.specs.Line.{Text, are_options};
 ghost use Rattle.xr_line.specs.Read.{value_of};
-ghost use Rattle.xr_trim_cli.specs.Words.{AreOutside, Gives, IsTrimLine, Means, TrimValues, table, trim_values};
+ghost use Rattle.xr_trim_cli.specs.Words.{AreOutside, Gives, IsTrimLine, Means, MeansOnly, TrimValues, table, trim_values};
 
 use crate::trim_words::TrimWords;
 use std::alloc::Global;
@@ -35,6 +35,7 @@ pub fn options<'a>() -> &'a [Opt<'a>]
 /// Reads the words, or answers that they aren't in the set.
 pub fn read_trim_words(alloc: Global, words: &[String]) -> Result<Option<TrimWords<'_>>, Memory>
     ensures set { IfOk result (λ o. IfSome o (λ w. Means (map string_bytes words.now) (trim_values w))) }
+    ensures only { IfOk result (λ o. IfSome o (λ w. MeansOnly (map string_bytes words.now) (trim_values w))) }
     ensures none { IfOk result (λ o. IfNone o (AreOutside (map string_bytes words.now))) }
 {
     match read_line(alloc, "xrtrim", options(), true, words)? {
@@ -47,6 +48,7 @@ pub fn read_trim_words(alloc: Global, words: &[String]) -> Result<Option<TrimWor
 fn words_in<'a>(words: &'a [String], line: &Line<'a>) -> Option<TrimWords<'a>>
     requires { IsTrimLine (map string_bytes words.now) line.now }
     ensures set { IfSome result (λ w. Means (map string_bytes words.now) (trim_values w)) }
+    ensures only { IfSome result (λ w. MeansOnly (map string_bytes words.now) (trim_values w)) }
     ensures none { IfNone result (AreOutside (map string_bytes words.now)) }
 {
     words_of(line, files_in(words, line))

@@ -1,5 +1,5 @@
--- What stands behind the declarations of a recording: times and changes (IEEE 1364-2005, clause 18.2). A rule relates the
--- words before it, the words behind it and what it says.
+-- What stands behind the declarations of a recording: times and changes (IEEE 1364-2005, clause 18). A rule relates
+-- the words before it, the words behind it and what it says.
 use Rattle.std.specs.Prelude.{◌≡◌, ℕ, true, false, Some, List, [], ◌∷◌, ◌++◌}
 use Rattle.xr_vcd.specs.Bytes.{front_of, rest_of, time_of}
 use Rattle.xr_vcd.specs.Scopes.{IsOfKind, UntilEnd}
@@ -23,25 +23,27 @@ pub data ChangeOf (vs : List CodedVariable) : List Word → List Word → List B
   vector : {word code : Word} {words : List Word} → IsOfKind word kind.Vector
       → ChangeOf vs (word ∷ code ∷ words) words (takes code.text (rest_of word.text) ∷ [])
   -- "r" with a number, and the code
-  real : {word code : Word} {words : List Word} → IsOfKind word kind.Real → ChangeOf vs (word ∷ code ∷ words) words []
+  real : {word code : Word} {words : List Word} → IsOfKind word kind.Real
+      → ChangeOf vs (word ∷ code ∷ words) words []
 
 -- { change } "$end"
 pub data DumpOf (vs : List CodedVariable) : List Word → List Word → List BodyItem → Type 0 where
   end : {word : Word} {words : List Word} → IsOfKind word kind.End → DumpOf vs (word ∷ words) words []
-  more : {words mid rest : List Word} {these those : List BodyItem} → ChangeOf vs words mid these → DumpOf vs mid rest those
-      → DumpOf vs words rest (these ++ those)
+  more : {words mid rest : List Word} {these those : List BodyItem} → ChangeOf vs words mid these
+      → DumpOf vs mid rest those → DumpOf vs words rest (these ++ those)
 
 -- { time | change | note | dump }, up to the end of the text
 pub data BodyItems (vs : List CodedVariable) : List Word → List BodyItem → Type 0 where
   none : BodyItems vs [] []
   -- "#" with digits
   time : {word : Word} {words : List Word} {items : List BodyItem} {time : ℕ} → IsOfKind word kind.Time
-      → time_of (rest_of word.text) ≡ Some time → BodyItems vs words items → BodyItems vs (word ∷ words) (at time ∷ items)
-  change : {words rest : List Word} {these those : List BodyItem} → ChangeOf vs words rest these → BodyItems vs rest those
-      → BodyItems vs words (these ++ those)
+      → time_of (rest_of word.text) ≡ Some time → BodyItems vs words items
+      → BodyItems vs (word ∷ words) (at time ∷ items)
+  change : {words rest : List Word} {these those : List BodyItem} → ChangeOf vs words rest these
+      → BodyItems vs rest those → BodyItems vs words (these ++ those)
   -- "$comment", words, and the first "$end"
-  note : {word : Word} {words rest : List Word} {items : List BodyItem} → IsOfKind word kind.Comment → UntilEnd words rest
-      → BodyItems vs rest items → BodyItems vs (word ∷ words) items
+  note : {word : Word} {words rest : List Word} {items : List BodyItem} → IsOfKind word kind.Comment
+      → UntilEnd words rest → BodyItems vs rest items → BodyItems vs (word ∷ words) items
   -- "$dumpvars" or "$dumpall", changes, and "$end"
-  dump : {word : Word} {words rest : List Word} {these those : List BodyItem} → IsOfKind word kind.Dump → DumpOf vs words rest these
-      → BodyItems vs rest those → BodyItems vs (word ∷ words) (these ++ those)
+  dump : {word : Word} {words rest : List Word} {these those : List BodyItem} → IsOfKind word kind.Dump
+      → DumpOf vs words rest these → BodyItems vs rest those → BodyItems vs (word ∷ words) (these ++ those)

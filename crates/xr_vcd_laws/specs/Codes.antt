@@ -1,4 +1,4 @@
--- The codes of the variables that a text declares (IEEE 1364-2005, clause 18.2.3).
+-- The codes of the variables that a text declares (IEEE 1364-2005, clause 18).
 use Rattle.std.specs.Prelude.{◌≡◌, ℕ, Bool, true, false, ◌||◌, List, [], ◌∷◌, bytes_eq}
 use Rattle.xr_vcd.specs.Bytes.{is_skipped, number_from}
 use Rattle.xr_vcd.specs.Kinds.{kind_of}
@@ -23,20 +23,24 @@ has_code (v ∷ vs) code = bytes_eq code v.code || has_code vs code
 -- kind, in the order of the text; and the words behind.
 pub data DeclaresCodes : List Word → List CodedVariable → List Word → Type 0 where
   -- "$scope" kind name "$end"
-  scope : {word own name end : Word} {words rest : List Word} {vs : List CodedVariable} → IsOfKind word kind.Scope → IsEnd end
+  scope : {word own name end : Word} {words rest : List Word} {vs : List CodedVariable}
+      → IsOfKind word kind.Scope → IsEnd end
       → DeclaresCodes words vs rest → DeclaresCodes (word ∷ own ∷ name ∷ end ∷ words) vs rest
   -- "$upscope" "$end"
-  upscope : {word end : Word} {words rest : List Word} {vs : List CodedVariable} → IsOfKind word kind.Upscope → IsEnd end
+  upscope : {word end : Word} {words rest : List Word} {vs : List CodedVariable}
+      → IsOfKind word kind.Upscope → IsEnd end
       → DeclaresCodes words vs rest → DeclaresCodes (word ∷ end ∷ words) vs rest
   -- "$var" kind width code reference [ range ] "$end"
-  listed : {word own width code reference : Word} {words mid rest : List Word} {vs : List CodedVariable} → IsOfKind word kind.Var
-      → is_skipped own.text ≡ false → RangeEnd words mid → DeclaresCodes mid vs rest
-      → DeclaresCodes (word ∷ own ∷ width ∷ code ∷ reference ∷ words) (coded code.text (number_from 0 width.text) ∷ vs) rest
-  skipped : {word own width code reference : Word} {words mid rest : List Word} {vs : List CodedVariable} → IsOfKind word kind.Var
-      → is_skipped own.text ≡ true → RangeEnd words mid → DeclaresCodes mid vs rest
+  listed : {word own width code reference : Word} {words mid rest : List Word} {vs : List CodedVariable}
+      → IsOfKind word kind.Var → is_skipped own.text ≡ false → RangeEnd words mid → DeclaresCodes mid vs rest
+      → DeclaresCodes (word ∷ own ∷ width ∷ code ∷ reference ∷ words)
+      (coded code.text (number_from 0 width.text) ∷ vs) rest
+  skipped : {word own width code reference : Word} {words mid rest : List Word} {vs : List CodedVariable}
+      → IsOfKind word kind.Var → is_skipped own.text ≡ true → RangeEnd words mid → DeclaresCodes mid vs rest
       → DeclaresCodes (word ∷ own ∷ width ∷ code ∷ reference ∷ words) vs rest
   -- "$timescale", "$date", "$version" or "$comment", words, and the first "$end"
-  aside : {word : Word} {words mid rest : List Word} {vs : List CodedVariable} → is_aside (kind_of word.text) ≡ true → UntilEnd words mid
+  aside : {word : Word} {words mid rest : List Word} {vs : List CodedVariable}
+      → is_aside (kind_of word.text) ≡ true → UntilEnd words mid
       → DeclaresCodes mid vs rest → DeclaresCodes (word ∷ words) vs rest
   -- "$enddefinitions" "$end"
   definitions : {word end : Word} {words : List Word} → IsOfKind word kind.Definitions → IsEnd end

@@ -1,5 +1,5 @@
--- The moments of a recording, and the value of a bit in each, by what its text says (IEEE 1364-2005, clause 18.2). A moment
--- is told by its time.
+-- The moments of a recording, and the value of a bit in each, by what its text says (IEEE 1364-2005, clause 18). A
+-- moment is told by its time.
 use Rattle.std.specs.Prelude.{◌≡◌, ℕ, ◌<◌, ◌↔◌, List, [], ◌∷◌, bytes_eq, length, slice_index, slice_index_or, if◌then◌else◌}
 use Rattle.std.specs.List.{Contains}
 use Rattle.std.specs.List.Sorted.{IsStrictlyIncreasing}
@@ -17,8 +17,8 @@ times_in [] = []
 times_in (at time ∷ items) = time ∷ times_in items
 times_in (takes code digits ∷ items) = times_in items
 
--- The times of moments as the text says them. Changes before the first time belong to time 0, and with no time at all there
--- is one moment, at 0.
+-- The times of moments as the text says them. Changes before the first time belong to time 0, and with no time at all
+-- there is one moment, at 0.
 abbrev pub times_said : List BodyItem → List ℕ
 times_said [] = 0 ∷ []
 times_said (at time ∷ items) = time ∷ times_in items
@@ -44,8 +44,8 @@ changes_by_time code items = changes_from 0 code items
 abbrev pub coded_at : List CodedVariable → ℕ → CodedVariable
 coded_at vs variable = slice_index_or vs variable (coded [] 0)
 
--- What the text says of times and values, and this recording has. A bit has in a moment the value that the last change of
--- its variable's code at the moment's time or before it gives it, extended on the left, and x before any change.
+-- What the text says of times and values, and this recording has. A bit has in a moment the value that the last change
+-- of its variable's code at the moment's time or before it gives it, extended on the left, and x before any change.
 pub record IsSaid (text : List ℕ) (r : Recording) : Type 0 where
   pub listed : List CodedVariable
   pub behind : List Word
@@ -55,6 +55,7 @@ pub record IsSaid (text : List ℕ) (r : Recording) : Type 0 where
   pub moments : AreMoments (times_said items) r.times
   pub variables : length r.variables ≡ length listed
   pub widths : (variable : ℕ) → variable < length listed → width_at r variable ≡ (coded_at listed variable).width
-  pub values : (variable bit moment : ℕ) → variable < length listed → bit < width_at r variable → moment < length r.times
-      → IsLastValue (changes_by_time (coded_at listed variable).code items) (width_at r variable) bit (slice_index r.times moment)
-      (value_at r variable bit moment)
+  pub values : (variable bit moment : ℕ)
+      → variable < length listed → bit < width_at r variable → moment < length r.times
+      → IsLastValue (changes_by_time (coded_at listed variable).code items) (width_at r variable) bit
+      (slice_index r.times moment) (value_at r variable bit moment)

@@ -1,33 +1,39 @@
-//! The program `xrtrim`: real files and standard output for `xr_trim_cli::run`.
+//! The program `xrtrim`: real files and standard output for `ship`, which has its theorem.
 #![tactic(auto)]
 
+mod ship;
+
+use ship::{fetch, ship};
 use std::io;
 use std::io::Eprint;
 use std::process::ExitCode;
-use xr_files::{FileShelf, OutSink, Progress, refuse, words_of};
-use xr_shelf::Sink;
-use xr_trim_cli::{run, usage};
+use xr_files::{OutSink, Progress, refuse, words_of};
+use xr_run::refuse_memory;
+use xr_trim_cli::usage;
 
 /// The exit status of words that aren't in the set.
 const USAGE: u8 = 2;
 
 fn main(rt: HostRuntime) -> ExitCode {
     let mut out = OutSink::new(io::writer(&rt), Progress::new(&rt, false));
-    let status = run_words(&rt, &mut out);
+    let status = match words_of(&rt) {
+        Ok(words) => run_words(&rt, words.as_slice(), &mut out),
+        Err(fault) => refuse(&mut out, fault),
+    };
+    show_usage(&rt, status);
     ExitCode::from(status)
 }
 
-/// Runs the words of the command line on real files, and answers the exit status.
-fn run_words<O: Sink>(rt: &HostRuntime, out: &mut O) -> u8 {
-    let status = match words_of(rt) {
-        Ok(words) => {
-            let mut shelf = FileShelf::new(rt, rt.alloc());
-            run(rt.alloc(), words.as_slice(), &mut shelf, out)
-        }
-        Err(fault) => refuse(out, fault),
-    };
-    show_usage(rt, status);
-    status
+/// Reads the files that the words name, and runs the words on what was read.
+fn run_words<W: io::Write + Drop>(
+    rt: &HostRuntime,
+    words: &[String],
+    out: &mut OutSink<'_, W, HostRuntime>,
+) -> u8 {
+    match fetch(rt, rt.alloc(), words) {
+        Ok(fetched) => ship(rt, rt.alloc(), words, &fetched, out).0,
+        Err(_) => refuse_memory(out),
+    }
 }
 
 /// Where the words aren't in the set, shows their usage on standard error, as far as that can be.

@@ -303,3 +303,52 @@ fn look_by_hand(rt: HostRuntime) -> Result<(), Fail> {
     }
     Ok(())
 }
+
+/// Compares the row that gives the state after one pin went from an old letter to its letter in `letters`.
+fn check_row(
+    rt: &impl Abort,
+    table: &Udp,
+    letters: [u8; 2],
+    pin: usize,
+    old: u8,
+    want: Option<usize>,
+) {
+    let pins = letters.map(value_of_letter);
+    assert!(rt; table.sequential() && table.inputs() == 2 && pin < 2);
+    let found = table.row_of_change(&pins, pin, value_of_letter(old), Value::Zero);
+    assert_eq!(rt; found, want, "{letters:?} {pin}");
+}
+
+#[test]
+fn rows_of_changes(rt: HostRuntime) -> Result<(), Fail> {
+    let flip_flop = dff(rt.alloc())?;
+    let Ok(table) = Udp::build(rt.alloc(), true, 2, &flip_flop, Value::X) else {
+        panic!(&rt; "refused");
+    };
+    // the data and the clock, the pin that changed, and its letter before
+    let rows = [
+        (*b"01", 1, b'0', Some(1)),
+        (*b"11", 1, b'0', Some(2)),
+        (*b"x0", 1, b'1', Some(3)),
+        (*b"10", 0, b'x', Some(4)),
+        // an edge from 0 to x is no `r`
+        (*b"0x", 1, b'0', None),
+        // and no row has an unknown data at a rising edge
+        (*b"x1", 1, b'0', None),
+    ];
+    for (letters, pin, old, want) in rows {
+        check_row(&rt, &table, letters, pin, old, want);
+    }
+    Ok(())
+}
+
+// A level row decides before an edge row that matches too.
+#[test]
+fn level_rows_before_edge_rows(rt: HostRuntime) -> Result<(), Fail> {
+    let rows = rows_of(rt.alloc(), &[(b"r?", b'0'), (b"1?", b'1')], Some(b'?'))?;
+    let Ok(table) = Udp::build(rt.alloc(), true, 2, &rows, Value::X) else {
+        panic!(&rt; "refused");
+    };
+    check_row(&rt, &table, *b"10", 0, b'0', Some(2));
+    Ok(())
+}

@@ -1,12 +1,12 @@
 -- One file more is joined; what is left when all are read.
 use Rattle.std.proofs.Common.{rules, ◌≡◌, ◌<◌, ℕ, List, Err, length, map, take, get_or, refl, sym, ◌∙◌, subst, arith, min}
-use Rattle.std.specs.Prelude.{Contains, string_bytes}
+use Rattle.std.specs.Prelude.{Contains, IsSome, IsTrue, string_bytes}
 use Rattle.std.proofs.lemmas.List.{length-map, length-take, get_or-map}
 use Rattle.std.proofs.lemmas.List.Elements.{Contains-get_or}
-use Rattle.xr_shelf.specs.Shelf.{held}
+use Rattle.xr_shelf.specs.Shelf.{Files, held}
 use Rattle.xr_run.specs.Inputs.{IsKept}
 use Rattle.xr_run.specs.Phases.{joined}
-use Rattle.xr_run.proofs.Joins.{joined_more, closed_next, held_same, held_more, as_many}
+use Rattle.xr_run.proofs.Joins.{joined_more, closed_next, held_same, held_more, as_many, there_next}
 use Rattle.xr_run.proofs.Steps.{later_twice, same_twice, unread_after}
 use Rattle.xr_run.proofs.input.read_inputs.Goals as goal
 
@@ -34,6 +34,8 @@ files-preserved g c =
       c.in_ok-text.ensures.fits,
       same_twice old mid new inv.4 c.in_ok-part.ensures.kept,
       closed_next c.in_ok-text.text c.in_ok-part.part new.hand _ c.in_ok-text.ensures.both c.in_ok-part.ensures.closed,
+      there_next g.S.Shelf.told old.files string_bytes names i item c.files.text c.in_ok-text.text c.in_ok-part.part within c.in_ok-text.ensures.first c.in_ok-text.ensures.both inv.6
+          (subst (λ (n : List ℕ). IsSome c.in_ok-part.part → IsTrue g.S.Shelf.told → IsSome (old.files n)) name (subst (λ (f : Files). IsSome c.in_ok-part.part → IsTrue g.S.Shelf.told → IsSome (f c.deref.result.now)) inv.1 c.in_ok-part.ensures.there)),
     )
 
 pub returns-in_err-part : goal.returns-in_err-part

@@ -3,7 +3,7 @@ use Rattle.std.proofs.Common.{map, ◌<◌, ◌∙◌, ap, length, List, ℕ, su
 use Rattle.std.specs.Prelude.{string_bytes}
 use Rattle.std.proofs.lemmas.List.{length-map}
 use Rattle.xr_line.specs.Line.{Text, words_of_items}
-use Rattle.xr_trim_cli.proofs.Lines.{files_some, none_of, set_of}
+use Rattle.xr_trim_cli.proofs.Lines.{files_some, none_of, only_of, set_of}
 use Rattle.xr_trim_cli.proofs.words.words_in.Goals as goal
 
 pub files_in-requires : goal.files_in-requires
@@ -17,6 +17,11 @@ words_of-requires c =
 pub returns-clause-set : goal.returns-clause-set
 returns-clause-set c =
     set_of (map string_bytes c.args.words.now) (map string_bytes c.files_in.result.now) c.args.line.now c.requires c.files_in.ensures c.words_of.result c.words_of.ensures.files c.words_of.ensures.gives
+
+pub returns-clause-only : goal.returns-clause-only
+returns-clause-only c =
+    only_of (map string_bytes c.args.words.now) c.words_of.result
+    (set_of (map string_bytes c.args.words.now) (map string_bytes c.files_in.result.now) c.args.line.now c.requires c.files_in.ensures c.words_of.result c.words_of.ensures.files c.words_of.ensures.gives)
 
 pub returns-clause-none : goal.returns-clause-none
 returns-clause-none c =

@@ -1,21 +1,11 @@
--- Where a file is open, it is the file in hand.
-use Rattle.std.proofs.Common.{rules, ◌≡◌, ap, string_bytes}
-use Rattle.xr_shelf.specs.Shelf.{Opened}
-use Rattle.xr_files.specs.Hand.{hand_of}
+-- Where a file is open, its next bytes are given.
+use Rattle.std.proofs.Common.{◌≡◌, refl}
+use Rattle.xr_files.specs.declared.stage.Stage.TheVariants.{Reading}
+use Rattle.xr_files.proofs.ReadStep.{read_step}
 use Rattle.xr_files.proofs.file_shelf.FileShelfShelf.read.Goals as goal
 
-pub returns-in-Ok : goal.returns-in-Ok
-returns-in-Ok g c =
-    let in_hand : hand_of c.args.self.now.hand ≡ Opened (string_bytes c.in-Open.name) = ap hand_of c.in-Open.is in
-    record {
-      later = search rules;
-      counts = search rules;
-      files = search rules;
-      hand = search rules;
-      bound = search rules;
-      bytes = search rules;
-      end = search rules;
-      idle = λ none. absurd (none _ in_hand);
-      err = search rules;
-      fault = search rules;
-    }
+pub returns-in-Reading : goal.returns-in-Reading
+returns-in-Reading g c =
+    let was : c.args.self.now.stage ≡ Reading c.in-Reading.opened = cc in
+    read_step _ _ c.in-Reading.opened c.give-count.new.self _ _ _ _ c.as_str.result.now c.bytes-text.result.now _ was refl c.give-count.ensures.name
+    c.as_str.ensures.value c.bytes-text.ensures c.give-count.ensures.bound c.give-count.ensures.bytes c.give-count.ensures.end

@@ -1,0 +1,1 @@
+"""What the scripts of this folder share: readers of xrepair's texts, names of netlists, jobs and charts."""

@@ -1,0 +1,44 @@
+//! Where the bytes of a file lie while it is written.
+
+use std::alloc::Global;
+use std::fs;
+use std::fs::File;
+use std::io::ErrorKind;
+use std::rt::Files;
+use xr_base::Memory;
+
+/// A file beside the name, whose bytes are put under the name once all are there; or what stands under the name itself.
+#[derive(Drop)]
+pub enum Target {
+    Part(String),
+    Itself,
+}
+
+impl Target {
+    /// Removes the part, as far as that can be.
+    pub fn discard<R: Files<File = File>>(&self, files: &R) {
+        if let Target::Part(part) = self {
+            let _ = fs::remove_file(files, part.as_str());
+        }
+    }
+}
+
+/// The name and `.part`, where nothing or a regular file stands under the name. A device, a pipe or a link is written
+/// itself.
+pub fn target_of<R: Files<File = File>>(
+    files: &R,
+    alloc: Global,
+    name: &str,
+) -> Result<Target, Memory> {
+    if has_part(files, name) {
+        return Ok(Target::Part(format!(in alloc; "{name}.part")?));
+    }
+    Ok(Target::Itself)
+}
+
+fn has_part<R: Files<File = File>>(files: &R, name: &str) -> bool {
+    match fs::symlink_metadata(files, name) {
+        Ok(there) => there.is_file(),
+        Err(error) => error.kind() == ErrorKind::NotFound,
+    }
+}
