@@ -224,6 +224,8 @@ def disagrees(run, job, answer):
         yield "- no race, by the script raced (raced.txt)"
     else:
         yield "- data that changed with the clock's edge: let inputs change at the other edge, or after it"
+        if script("raced", run.me):
+            yield "  the script raced couldn't tell; with the whole instance recorded it mostly can"
 
 
 def raced(run, job, time):
@@ -233,7 +235,8 @@ def raced(run, job, time):
         return []
     options = ["--rounds", job.option("rounds", "4")]
     answer = run.call("raced", [path, "--scope", job.scope, "--top", job.top, *options, time, job.record, *job.files], "raced.txt")
-    return read(run.folder.path("raced.txt")).decode("utf-8", "replace").split("\n")[:RACED] if answer.status == 0 else []
+    said = read(run.folder.path("raced.txt")).decode("utf-8", "replace")
+    return list(filter(None, said.split("\n")))[:RACED] if answer.status == 0 else []
 
 
 def unsettled(*_):

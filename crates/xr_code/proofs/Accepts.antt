@@ -45,7 +45,7 @@ module _ (stop : ℕ) (all : List Event) where
   abbrev FEnded : Code → Stage → List Token → Type 0
   FEnded c s ts = ThenMark c (codes ";") (FBody c s) ts
 
-  -- the number of a wait, and what comes behind it
+  -- the number of a wait, and what comes after it
   data FWait (c : Code) (s : Stage) : List Token → Type 0 where
     later : {t : Token} {ts : List Token} {d moment : ℕ} → number_of c.text t ≡ Some d → 0 < d → moment_by c.stim (s.clock.time + d) ≡ Some moment → FEnded c (stage (clock_of (s.clock.time + d) 0) s.events) ts → FWait c s (t ∷ ts)
     round : {t : Token} {ts : List Token} {moment : ℕ} → number_of c.text t ≡ Some 0 → moment_by c.stim s.clock.time ≡ Some moment → s.clock.round + 1 < c.stim.rounds → FEnded c (stage (clock_of s.clock.time (s.clock.round + 1)) s.events) ts → FWait c s (t ∷ ts)
@@ -60,12 +60,12 @@ module _ (stop : ℕ) (all : List Event) where
     forced : forced_now s.events net ≡ Some was
     ended : FEnded c (with_event c moment net None s) ts
 
-  -- what comes behind the net of a statement that forces, and of one that releases
+  -- what comes after the net of a statement that forces, and of one that releases
   abbrev FEffect : Bool → Code → Stage → ℕ → ℕ → List Token → Type 0
   FEffect true c s moment net ts = ThenMark c (codes "=") (FValue c s moment net) ts
   FEffect false c s moment net ts = FRelease c s moment net ts
 
-  -- behind a path with these names and this index
+  -- after a path with these names and this index
   record FTarget (forces : Bool) (c : Code) (s : Stage) (texts : Texts) (index : Option ℕ) (ts : List Token) : Type 0 where
     own : Texts
     net : ℕ
@@ -75,21 +75,21 @@ module _ (stop : ℕ) (all : List Event) where
     at_moment : moment_by c.stim s.clock.time ≡ Some moment
     effect : FEffect forces c s moment net ts
 
-  -- behind names, an index or none
+  -- after names, an index or none
   record FIndexed (forces : Bool) (c : Code) (s : Stage) (texts : Texts) (ts : List Token) : Type 0 where
     index : Option ℕ
     rest : List Token
     may : MayIndex c ts rest index
     target : FTarget forces c s texts index rest
 
-  -- names behind others
+  -- names after others
   record FNames (forces : Bool) (c : Code) (s : Stage) (texts : Texts) (ts : List Token) : Type 0 where
     names : Texts
     rest : List Token
     parsed : Names c ts rest names
     indexed : FIndexed forces c s (texts ++ names) rest
 
-  -- behind a name, one more or none
+  -- after a name, one more or none
   abbrev FAfter : Bool → Code → Stage → Texts → List Token → Type 0
   FAfter forces c s texts ts = ThenMark c (codes ".") (FNames forces c s texts) ts ⊎ FIndexed forces c s texts ts
 
@@ -149,7 +149,7 @@ module _ (stop : ℕ) (all : List Event) where
 
   -- ---- statements
 
-  -- A statement, and those behind it.
+  -- A statement, and those after it.
   statement_back : {ts mid : List Token} {c : Code} {s to : Stage} → Statement c ts mid s to → FBody c to mid → FBody c s ts
   statement_back one others = record { to = others.to; rest = others.rest; parsed = Statements.more one others.parsed; ended = others.ended }
 

@@ -47,7 +47,7 @@ body_end p t is =
     ∙ (ap (λ b. on b (statement_by p false t.start p.moment) (on_end p t)) (other_word p.code.text (codes "end") (codes "release") t is refl)
     ∙ ap (λ b. on b (next Tail p) (refused t)) is))
 
--- ---- what stands behind a name
+-- ---- what stands after a name
 
 after_dot : (p : Progress) (t : Token) → is_mark p.code.text t (codes ".") ≡ true → after_name p t ≡ next NameNext p
 after_dot p t is = ap (λ b. on b (next NameNext p) (on (is_mark p.code.text t (codes "[")) (next Index p) (target p t))) is

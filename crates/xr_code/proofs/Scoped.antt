@@ -1,4 +1,4 @@
--- The names behind those of a scope.
+-- The names after those of a scope.
 use Rattle.std.proofs.Common.{◌≡◌, ℕ, Bool, true, false, None, Some, List, [], ◌∷◌, ◌++◌, refl, sym, ap, ◌∙◌, bytes_eq, if◌then◌else◌}
 use Rattle.std.proofs.lemmas.Slice.Eq.{bytes_eq-Decides}
 use Rattle.xr_match.specs.Naming.{Texts}
@@ -10,7 +10,7 @@ pub below_own : (scope texts : Texts) → below scope (scope ++ texts) ≡ Some 
 below_own [] texts = refl
 below_own (name ∷ scope) texts = ap (λ b. if b then below scope (scope ++ texts) else None) (bytes_same name) ∙ below_own scope texts
 
--- Where others stand behind them, the names are the scope's with those.
+-- Where others stand after them, the names are the scope's with those.
 pub own_below : (scope names texts : Texts) → below scope names ≡ Some texts → names ≡ scope ++ texts
 own_below [] names texts is = cc
 own_below (name ∷ scope) [] texts is = absurd cc

@@ -1,4 +1,4 @@
--- The grammar of code (IEEE 1364-2005, clause 9.3.2). A rule relates the tokens before it, the tokens behind it and
+-- The grammar of code (IEEE 1364-2005, clause 9.3.2). A rule relates the tokens before it, the tokens after it and
 -- what it stands for.
 --
 -- code      = "module" "xrepair_code" ";" "initial" "begin" { statement } "end" "endmodule"
@@ -37,7 +37,7 @@ pub data MayIndex (c : Code) : List Token → List Token → Option ℕ → Type
       → number_of c.text t ≡ Some index → index < 2 ^ 31 → IsMark c (codes "]") last
       → MayIndex c (first ∷ t ∷ last ∷ ts) ts (Some index)
 
--- The net of a path: behind the scope's names stand its own, and its index.
+-- The net of a path: after the scope's names stand its own, and its index.
 pub data Path (c : Code) : List Token → List Token → ℕ → Type 0 where
   path : {ts mid rest : List Token} (texts : Texts) {index : Option ℕ} {net : ℕ} → Names c ts mid (c.scope ++ texts)
       → MayIndex c mid rest index → net_of c.design texts index ≡ Some net → Path c ts rest net

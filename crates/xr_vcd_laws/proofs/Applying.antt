@@ -14,7 +14,7 @@ pub data Applies : Body → List BodyItem → Body → Type 0 where
   change : {b to : Body} {code digits : List ℕ} {number : ℕ} {items : List BodyItem} → IsFoundAt b.declared.codes code number → Applies (changed b number digits) items to
       → Applies b (takes code digits ∷ items) to
 
--- items behind others
+-- items after others
 pub applies_more : {b mid to : Body} {these those : List BodyItem} → Applies b these mid → Applies mid those to → Applies b (these ++ those) to
 applies_more Applies.none rest = rest
 applies_more (Applies.first empty these) rest = Applies.first empty (applies_more these rest)

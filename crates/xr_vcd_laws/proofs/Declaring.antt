@@ -142,7 +142,7 @@ varied h vs var ts stop r tied e =
 
 -- ---- all declarations
 
--- The declarations up to their end, and what stands behind is read from there.
+-- The declarations up to their end, and what stands after is read from there.
 pub record Goes (h : Declarations) (vs : List CodedVariable) (ts : List Word) (stop : ℕ) (r : Recording) : Type 0 where
   pub more : List CodedVariable
   pub rest : List Word

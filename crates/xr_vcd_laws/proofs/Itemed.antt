@@ -1,4 +1,4 @@
--- What stands behind the declarations, where the machine of xr_vcd reads it to the end.
+-- What stands after the declarations, where the machine of xr_vcd reads it to the end.
 use Rattle.std.proofs.Common.{◌≡◌, ℕ, ◌<◌, ◌==◌, Bool, true, false, cond, List, [], ◌∷◌, ◌++◌, length, nat_le, nat_lt, Option, Some, None, Ok, Err, refl, sym, ◌∙◌, subst, arith}
 use Rattle.std.proofs.lemmas.Bool.{eqb-true}
 use Rattle.std.proofs.lemmas.Bool.Decides.{nat_tests}
@@ -76,7 +76,7 @@ module _ (h : Declarations) (vs : List CodedVariable) (facts : AllFacts h.codes 
 
   -- ---- changes
 
-  -- A change, in a dump or not, and what comes behind it.
+  -- A change, in a dump or not, and what comes after it.
   changed_in : {b mid : Body} {ts rest : List Word} {these : List BodyItem} (dump : Bool) → ChangeOf vs ts rest these → Applies b these mid → FIn dump mid rest → FIn dump b ts
   changed_in true change applied f = record { these = _; rest = f.rest; dumped = DumpOf.more change f.dumped; mid = f.mid; applied = applies_more applied f.applied; after = f.after }
   changed_in false change applied f = record { items = _; read = BodyItems.change change f.read; to = f.to; applies = applies_more applied f.applies; is = f.is }
@@ -236,6 +236,6 @@ module _ (h : Declarations) (vs : List CodedVariable) (facts : AllFacts h.codes 
       by others (Ok next) e = others next e
       by others (Err x) e = absurd cc
 
--- What stands behind declarations are items.
+-- What stands after declarations are items.
 pub has_items : (h : Declarations) (vs : List CodedVariable) (b : Body) (ts : List Word) (stop : ℕ) (r : Recording) → AllFacts h.codes vs → b.declared ≡ h → run (body b false) ts stop ≡ Ok r → HasItems vs r b ts
 has_items h vs b ts stop r facts of e = itemed h vs facts stop r (body b false) ts e of

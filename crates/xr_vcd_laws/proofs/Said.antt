@@ -29,7 +29,7 @@ use Rattle.xr_vcd_laws.proofs.Values.{value_at_time}
 
 -- ---- moments
 
--- The first time, and those behind it.
+-- The first time, and those after it.
 begun : (to : Body) (first : ℕ) (items : List BodyItem) (b : Body) → b.times ≡ first ∷ [] → HasTimes b to items → AreMoments (first ∷ times_in items) (times_or to.times)
 begun to first items b is t = subst (λ (l : List ℕ). AreMoments (first ∷ times_in items) l) (sym (times_or_some to.times t.some)) record {
   ascending = t.ascending;

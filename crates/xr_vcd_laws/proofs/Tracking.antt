@@ -83,7 +83,7 @@ stamp_next : (times : List ℕ) → slice_index (times_or times) (length times -
 stamp_next [] = refl
 stamp_next (t ∷ ts) = refl
 
--- Whatever is said behind these changes.
+-- Whatever is said after these changes.
 abbrev IsStamped : Body → ℕ → List Change → List Change → Type 0
 IsStamped b n all rest = all ≡ map (stamp (times_or b.times)) (track_of b.tracks n) ++ rest
 

@@ -1,5 +1,5 @@
--- What stands behind the declarations of a recording: times and changes (IEEE 1364-2005, clause 18). A rule relates
--- the words before it, the words behind it and what it says.
+-- What stands after the declarations of a recording: times and changes (IEEE 1364-2005, clause 18). A rule relates
+-- the words before it, the words after it and what it says.
 use Rattle.std.specs.Prelude.{◌≡◌, ℕ, true, false, Some, List, [], ◌∷◌, ◌++◌}
 use Rattle.xr_vcd.specs.Bytes.{front_of, rest_of, time_of}
 use Rattle.xr_vcd.specs.Scopes.{IsOfKind, UntilEnd}

@@ -20,7 +20,7 @@ has_code [] code = false
 has_code (v ∷ vs) code = bytes_eq code v.code || has_code vs code
 
 -- The words of declarations up to `$enddefinitions $end`; the variables among them but those that are skipped by their
--- kind, in the order of the text; and the words behind.
+-- kind, in the order of the text; and the words after.
 pub data DeclaresCodes : List Word → List CodedVariable → List Word → Type 0 where
   -- "$scope" kind name "$end"
   scope : {word own name end : Word} {words rest : List Word} {vs : List CodedVariable}

@@ -29,7 +29,7 @@ pub record AreMoments (said times : List ℕ) : Type 0 where
   pub ascending : IsStrictlyIncreasing times
   pub each : (time : ℕ) → Contains times time ↔ Contains said time
 
--- The changes of a code, each at the last time before it, behind others at this time.
+-- The changes of a code, each at the last time before it, or at this time where none stands before it.
 abbrev pub changes_from : ℕ → List ℕ → List BodyItem → List Change
 changes_from now code [] = []
 changes_from now code (at time ∷ items) = changes_from time code items

@@ -1,0 +1,5 @@
+-- Lemmas of xr_ship.
+pub mod Adding
+mod Exported
+mod Fetching
+pub mod Laws

@@ -1,0 +1,11 @@
+-- The files of the words were fetched.
+use Rattle.std.proofs.Common.{◌∙◌, map, string_bytes}
+use Rattle.xr_words.specs.Words.{values_of}
+use Rattle.xr_ship.proofs.Fetching.{fetched_for}
+use Rattle.xr_ship.proofs.program.fetch.Goals as goal
+
+pub returns-in_ok-fetch_inputs-in-Some : goal.returns-in_ok-fetch_inputs-in-Some
+returns-in_ok-fetch_inputs-in-Some g c =
+    let only = rw c.in-Some.is at c.in_ok-command.ensures.only in
+    fetched_for (map string_bytes c.args.words.now) (values_of c.in-Some.command) c.new-fetched.result c.fetch_inputs.new.fetched only c.new-fetched.ensures.texts c.fetch_inputs.ensures.fetched
+    (c.fetch_inputs.ensures.limit ∙ (c.new-fetched.ensures.limit ∙ c.most_bytes.ensures)) c.fetch_inputs.ensures.among

@@ -1,0 +1,2 @@
+-- Definitions of xr_ship.
+pub mod Reads
