@@ -32,6 +32,7 @@ use Rattle.xr_objection.proofs.Objecting.{fits_start, objections_object, place_r
 use Rattle.xr_job.specs.Names.{net_name}
 use Rattle.xr_job.specs.declared.netlist.Netlist.{Netlist as ANetlist}
 use Rattle.xr_job.specs.declared.netlist_refusal.NetlistRefusal.{NetlistRefusal}
+use Rattle.xr_job.specs.declared.recorded.Recorded.{Recorded}
 use Rattle.xr_job.proofs.OneNetlist.{one_outcome}
 use Rattle.xr_words.specs.Words.{JobValues}
 use Rattle.xr_phases.specs.Phases.{parts, scope_of}

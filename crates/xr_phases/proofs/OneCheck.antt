@@ -1,5 +1,5 @@
 -- A certificate's text stands for one certificate or has one first wrong line, and a check comes to one thing.
-use Rattle.std.proofs.Common.{◌≡◌, ◌∙◌, ℕ, ◌+◌, List, [], ◌∷◌, ◌++◌, length, Result, Ok, Err, None, refl, sym, ap, subst, arith}
+use Rattle.std.proofs.Common.{◌≡◌, ◌∙◌, ℕ, ◌+◌, List, [], ◌∷◌, ◌++◌, length, Ok, Err, None, refl, sym, ap, subst, arith}
 use Rattle.std.proofs.lemmas.List.{append_assoc}
 use Rattle.xr_cert.specs.Checked.{IsAccepted, IsChecked, IsRefusalOf}
 use Rattle.xr_cert.specs.declared.refusal.CertFault.{CertFault}

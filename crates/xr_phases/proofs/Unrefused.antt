@@ -65,8 +65,8 @@ module _ (w : JobValues) (netlist recording : List ℕ) (n : ANetlist) (r : Reco
     not_compared e refused =
         ok_err tt e (one_compared n r (orders_of n r is.netlist_is.is.ordered) (Ok tt) (Err e) agrees.faultless refused)
 
-    not_wrong : (cause : Uncertified) → IsWrong text cause → ⊥
-    not_wrong cause wrong = stands_unwrong text cert wrong.at stands wrong.first
+    not_wrong : {cause : Uncertified} → IsWrong text cause → ⊥
+    not_wrong {cause} wrong = stands_unwrong text cert wrong.at stands wrong.first
 
     not_refused : (other : Cert) (cause : Refused) → IsTextOf text other
         → IsUncertified conflicts (parts n r) other cause → ⊥
@@ -77,7 +77,7 @@ module _ (w : JobValues) (netlist recording : List ℕ) (n : ANetlist) (r : Reco
     check_passes : (cause : Refused) → CheckFails conflicts text (parts n r) cause → ⊥
     check_passes cause (CheckFails.disagrees {e} refused) = not_compared e refused
     check_passes cause (CheckFails.too_long agreed long) = absurd (omega (arith, long, fits))
-    check_passes cause (CheckFails.wrong {other} agreed wrong) = not_wrong other wrong
+    check_passes cause (CheckFails.wrong agreed wrong) = not_wrong wrong
     check_passes cause (CheckFails.unaccepted agreed other again refused) = not_refused other cause again refused
 
     pub check_unrefused : (cause : Refused) → AreRefused w netlist recording (CheckFails conflicts text) cause → ⊥
@@ -86,7 +86,7 @@ module _ (w : JobValues) (netlist recording : List ℕ) (n : ANetlist) (r : Reco
     upgrade_passes : cert.form ≡ Lines → (cause : Refused) → UpgradeFails conflicts text (parts n r) cause → ⊥
     upgrade_passes form cause (UpgradeFails.disagrees {e} refused) = not_compared e refused
     upgrade_passes form cause (UpgradeFails.too_long agreed long) = absurd (omega (arith, long, fits))
-    upgrade_passes form cause (UpgradeFails.wrong {other} agreed wrong) = not_wrong other wrong
+    upgrade_passes form cause (UpgradeFails.wrong agreed wrong) = not_wrong wrong
     upgrade_passes form cause (UpgradeFails.turned agreed other again turned) =
         no_form (sym form ∙ ap (λ (c : Cert). c.form) (one_text text cert other stands again) ∙ turned)
     upgrade_passes form cause (UpgradeFails.unaccepted agreed other again plain refused) =
