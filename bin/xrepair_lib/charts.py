@@ -1,4 +1,4 @@
-"""Draws how many bits are x over time, as SVG without anything beside it, and writes numbers as the page has them."""
+"""Draws how many bits are x over time, as SVG without anything beside it, and writes numbers and tables as a page has them."""
 import html
 import itertools
 
@@ -23,6 +23,30 @@ def average(number):
 def many(number, word):
     """A number of things, with their word."""
     return f"{count(number)} {word}{'' if number == 1 else 's'}"
+
+
+def numbers(pairs):
+    """Numbers with what they count."""
+    yield "<dl>"
+    yield from (f"<div><dt>{escaped(word)}</dt><dd>{escaped(value)}</dd></div>" for word, value in pairs)
+    yield "</dl>"
+
+
+def table(heads, rows, rest=""):
+    """A table, and what is said of rows left out. A head that begins with # is that of numbers, one that begins with = of names."""
+    kinds = [{"#": ' class="n"', "=": ' class="name"'}.get(head[0], "") for head in heads]
+    shown = (f"<th{kind}>{escaped(head.lstrip('#='))}</th>" for kind, head in zip(kinds, heads))
+    yield f"<table><thead><tr>{''.join(shown)}</tr></thead><tbody>"
+    for row in rows:
+        yield "<tr>" + "".join(f"<td{kind}>{escaped(cell)}</td>" for kind, cell in zip(kinds, row)) + "</tr>"
+    yield "</tbody></table>"
+    if rest:
+        yield f'<p class="dim">{escaped(rest)}</p>'
+
+
+def left_out(all_of, shown, word, more=""):
+    """What is said of rows that aren't shown."""
+    return f"And {many(all_of - shown, word)} more{more}." if all_of > shown else ""
 
 
 def short(number):

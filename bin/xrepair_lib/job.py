@@ -1,5 +1,6 @@
 """A job of xrepair as the scripts run it: its words, the folder of what is written, the programs and scripts that are called."""
 import dataclasses
+import gzip
 import os
 import shutil
 import subprocess
@@ -59,6 +60,39 @@ class Folder:
                 raise Refused(f"{path} is there, and xrepair-quick didn't write it")
             self.note([name])
         return path
+
+
+def read(name):
+    with open(name, "rb") as file:
+        return file.read()
+
+
+def unpacked(name, folder, say):
+    """The recording as a VCD file: itself, or unpacked into the folder, which is said."""
+    with open(name, "rb") as file:
+        first = file.read(9)
+    if first[:2] == b"\x1f\x8b":
+        say(f"unpacks {name}")
+        with gzip.open(name) as source, open(folder.path("recording.vcd"), "wb") as to:
+            shutil.copyfileobj(source, to, 1 << 20)
+    elif name.endswith(".fst") or first == b"\0" + (329).to_bytes(8, "big"):
+        if not shutil.which("fst2vcd"):
+            raise Refused(f"{name} is an FST file, and fst2vcd, which comes with GTKWave, isn't there to unpack it")
+        say(f"unpacks {name} by fst2vcd")
+        if subprocess.run(["fst2vcd", "-f", name, "-o", folder.path("recording.vcd")], stdout=subprocess.DEVNULL).returncode:
+            raise Refused(f"fst2vcd couldn't unpack {name}")
+        close_dump(folder.path("recording.vcd"))
+    else:
+        return name
+    return folder.path("recording.vcd")
+
+
+def close_dump(name):
+    """Ends the dump of a recording of one moment, which fst2vcd leaves open."""
+    text = read(name)
+    if text.rfind(b"$dumpvars") > text.rfind(b"$end"):
+        with open(name, "ab") as file:
+            file.write(b"$end\n")
 
 
 @dataclasses.dataclass(frozen=True)

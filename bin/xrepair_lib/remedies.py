@@ -4,7 +4,7 @@ import os
 import re
 import shlex
 
-from xrepair_lib.job import HERE, program, script, shown
+from xrepair_lib.job import HERE, program, read, script, shown
 from xrepair_lib.modules import HEAD, found_fits, shorn
 from xrepair_lib.texts import declarations, due, plain, scopes_of, upto_end, words_of
 
@@ -185,11 +185,6 @@ def fit_words(fit):
     """The words that choose a scope and a top, and how many variables are there."""
     scope, top = (name.decode("utf-8", "replace") for name in (b".".join(fit.scope), fit.module.name))
     return f"--scope {shlex.quote(scope)} --top {shlex.quote(top)}  ({fit.count} variables)"
-
-
-def read(name):
-    with open(name, "rb") as file:
-        return file.read()
 
 
 def loop(*_):

@@ -31,7 +31,7 @@ SOURCES = """the sources of the package nextpnr are needed. Let a file of /etc/a
 then run apt-get update; or put the core itself, picorv32.v, beside the jobs as picorv32_rtl.v"""
 CELLS = os.path.join(HERE, "cells.v")
 # How the registers of a design are mapped, and where its cells are; later definitions go before. Registers of the library have a
-# notifier, a net without a driver, which is unknown anew in each moment; those of cells.v have none.
+# notifier, a pin that is always x; those of cells.v have none.
 LIBRARIES = {"picorv32": (f"dfflibmap -liberty {LIBRARY}.lib", [LIBRARY + ".v"]),
              "idle": ("dfflegalize -cell $_DFF_P_ x -cell $_DFF_PN0_ x", [LIBRARY + ".v", CELLS])}
 
@@ -86,14 +86,14 @@ def seconds(words):
 
 
 def declared(file):
-    """How many variables below tb.dut have each code of a recording, and their width."""
+    """How many nets below tb.dut have each code of a recording, and their width. A `reg`, as a notifier is, is no net."""
     found, scopes = {}, []
     for words in map(str.split, file):
         if words[0] == "$scope":
             scopes.append(words[2])
         elif words[0] == "$upscope":
             scopes.pop()
-        elif words[0] == "$var" and scopes[:2] == ["tb", "dut"]:
+        elif words[:2] == ["$var", "wire"] and scopes[:2] == ["tb", "dut"]:
             found[words[3]] = found.get(words[3], (0, 0))[0] + 1, int(words[2])
         elif words[0] == "$enddefinitions":
             return found
