@@ -133,7 +133,7 @@ def changed_codes(words, below):
 # ---- what is said
 
 
-SECTIONS = {5: "Libraries", 7: "Making the recording", 8: "Races", 9: "Making the recording", 10: "Resets", 11: "Many recordings"}
+SECTIONS = {5: "Libraries", 7: "Making the recording", 8: "Races", 9: "Making the recording", 10: "Resets", 11: "Long recordings"}
 
 
 def handbook(section):
