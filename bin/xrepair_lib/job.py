@@ -28,11 +28,11 @@ class Folder:
         self.note([])
 
     def clear(self):
-        """Takes away what was written before."""
+        """Takes away what was written before, also what a run that was killed left unfinished."""
         if os.path.isfile(self.marker):
             with open(self.marker, encoding="utf-8") as file:
                 names = [name for name in file.read().split("\n") if name and os.path.basename(name) == name]
-            for name in names:
+            for name in (*names, *(f"{name}.part" for name in names)):
                 if os.path.lexists(os.path.join(self.name, name)):
                     os.remove(os.path.join(self.name, name))
 
