@@ -1,5 +1,5 @@
 -- Texts that come in of one name, and then of others.
-use Rattle.std.proofs.Common.{◌≡◌, ℕ, zero, suc, List, [], ◌∷◌, arith}
+use Rattle.std.proofs.Common.{ℕ, zero, suc, List, [], ◌∷◌, arith}
 use Rattle.std.specs.Prelude.{Contains}
 use Rattle.xr_files.specs.Fetched.{AddsAmong}
 use Rattle.xr_files.specs.declared.fetched.Fetched.{Fetched}

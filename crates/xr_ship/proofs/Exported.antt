@@ -1,11 +1,10 @@
--- The files of an export have names of their own.
-use Rattle.std.proofs.Common.{◌≡◌, ℕ, zero, suc, ◌+◌, ◌<◌, List, [], ◌∷◌, ◌++◌, length, Option, Some, None, refl, sym, subst, inl, inr, ℤ, codes, decimal, arith}
+-- Files that have other names than those that are read; and that those of an export have such.
+use Rattle.std.proofs.Common.{ℕ, zero, suc, ◌+◌, List, [], ◌∷◌, ◌++◌, Option, Some, None, refl, sym, subst, inl, inr, ℤ, codes, decimal, arith}
 use Rattle.std.specs.Prelude.{Contains}
 use Rattle.std.specs.List.{All, AllByRecursion}
 use Rattle.xr_export.specs.Export.{AreFiles, AreFilesOf, Exports, cert_name, file, line_name, log_files, log_of}
 use Rattle.xr_cert_text.specs.Text.{cert_text}
 use Rattle.xr_cert.specs.Step.{cert_of}
-use Rattle.xr_dimacs.specs.Text.{cnf_text}
 use Rattle.xr_files.proofs.Others.{IsOther, all_cons, none_written}
 use Rattle.xr_files.specs.Shipped.{WritesOthers}
 use Rattle.xr_line.specs.Line.{Text}
@@ -14,6 +13,10 @@ use Rattle.xr_run.specs.Outputs.{File}
 use Rattle.xr_run.specs.Phases.{Answer}
 use Rattle.xr_wave.specs.Contents.{Contents}
 use Rattle.xr_words.specs.Free.{AreFree, BeginsWith}
+
+pub all_others : (inputs : List Text) (files : List File) → AllByRecursion (IsOther inputs) files → All (IsOther inputs) files
+all_others inputs [] others = none_written inputs
+all_others inputs (one ∷ files) others = all_cons (IsOther inputs) one files others.0 (all_others inputs files others.1)
 
 -- A name that begins with the prefix isn't among names that are free of it.
 not_free : (prefix : Text) (inputs : List Text) (name : Text) → AreFree prefix inputs → BeginsWith prefix name → Contains inputs name → ⊥
@@ -35,10 +38,6 @@ module _ (prefix : Text) (inputs : List Text) (free : AreFree prefix inputs) whe
   appended [] rest here after = after
   appended (one ∷ own) rest here after = (here.0, appended own rest here.1 after)
 
-  all_of : (files : List File) → Others files → All (IsOther inputs) files
-  all_of [] others = none_written inputs
-  all_of (one ∷ files) others = all_cons (IsOther inputs) one files others.0 (all_of files others.1)
-
   logs : (number : ℕ) (log : Option (List (List ℤ))) → Others (log_files prefix number log)
   logs number None = tt
   logs number (Some log) = (not_free prefix inputs (line_name prefix number (codes ".log")) free (line_begins prefix number (codes ".log")), tt)
@@ -55,5 +54,5 @@ module _ (prefix : Text) (inputs : List Text) (free : AreFree prefix inputs) whe
   pub exports_others : (c : Contents) (answer : Answer) → Exports prefix c answer → WritesOthers inputs answer
   exports_others c answer exports =
       subst (λ (files : List File). All (IsOther inputs) files) (sym exports.files_is)
-      (all_of (file (cert_name prefix) (cert_text (cert_of c)) ∷ exports.files)
+      (all_others inputs (file (cert_name prefix) (cert_text (cert_of c)) ∷ exports.files)
       (not_free prefix inputs (cert_name prefix) free (cert_begins prefix), line_files c 1 c.lines exports.files exports.are))

@@ -1,6 +1,5 @@
 -- What was fetched for words that mean one thing.
 use Rattle.std.proofs.Common.{◌≡◌, ◌∙◌, ap, sym, subst, ℕ, List, []}
-use Rattle.std.specs.Prelude.{Contains}
 use Rattle.xr_cli.specs.Commands.{commands}
 use Rattle.xr_cli.specs.Phases.{phases_of}
 use Rattle.xr_files.proofs.Others.{none_among}
@@ -9,8 +8,8 @@ use Rattle.xr_files.specs.Shipped.{IsFetchedFor}
 use Rattle.xr_files.specs.declared.fetched.Fetched.{Fetched}
 use Rattle.xr_line.specs.Line.{Text}
 use Rattle.xr_run.specs.Reading.{ReadsSurely}
-use Rattle.xr_words.specs.Words.{Means, MeansOnly, Values}
-use Rattle.xr_ship.proofs.Laws.{as_listed}
+use Rattle.xr_words.specs.Words.{AreOutside, MeansOnly, Values}
+use Rattle.xr_ship.proofs.Listing.{as_listed}
 use Rattle.xr_ship.specs.Reads.{most_of, read_by}
 
 pub fetched_for : (line : List Text) (v : Values) (empty fetched : Fetched) → MeansOnly line v → empty.texts ≡ [] → IsFetched fetched
@@ -21,4 +20,12 @@ fetched_for line v empty fetched only none is limit adds = record {
   sure = λ w means name named.
       let most : most_of w ≡ fetched.limit = ap (λ (x : Values). most_of x) (only w means) ∙ sym limit in
       subst (λ (n : ℕ). ReadsSurely name n (phases_of w)) most ((as_listed w).each name named);
+}
+
+-- The words mean nothing.
+pub fetched_none : (line : List Text) (fetched : Fetched) → AreOutside line → IsFetched fetched → IsFetchedFor commands read_by line fetched
+fetched_none line fetched outside is = record {
+  is = is;
+  among = λ w means. absurd (outside w means);
+  sure = λ w means. absurd (outside w means);
 }

@@ -2,4 +2,4 @@
 pub mod Adding
 mod Exported
 mod Fetching
-pub mod Laws
+pub mod Listing

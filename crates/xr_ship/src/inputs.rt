@@ -61,7 +61,7 @@ pub fn fetch_inputs<R: Files<File = File>>(
 }
 
 /// The recording and the netlists.
-#[tactic(auto, using(crate::proofs::Adding::adds_first, crate::proofs::Adding::adds_then))]
+#[tactic(auto, using(crate::proofs::Adding::adds_first))]
 fn fetch_job<R: Files<File = File>>(
     files: &R,
     job: &JobWords<'_>,
@@ -77,7 +77,7 @@ fn fetch_job<R: Files<File = File>>(
 }
 
 /// A code or a certificate, and a job.
-#[tactic(auto, using(crate::proofs::Adding::adds_first, crate::proofs::Adding::adds_then))]
+#[tactic(auto, using(crate::proofs::Adding::adds_first))]
 fn fetch_beside<R: Files<File = File>>(
     files: &R,
     name: &str,
@@ -94,7 +94,7 @@ fn fetch_beside<R: Files<File = File>>(
 }
 
 /// A formula and a log.
-#[tactic(auto, using(crate::proofs::Adding::adds_first, crate::proofs::Adding::adds_then))]
+#[tactic(auto, using(crate::proofs::Adding::adds_first))]
 fn fetch_both<R: Files<File = File>>(
     files: &R,
     cnf: &str,

@@ -2,7 +2,7 @@
 
 ghost use Rattle.std.specs.Prelude.{◌≡◌, ◌≤◌, IfOk, map, string_bytes};
 ghost use Rattle.xr_cli.specs.Commands.{commands};
-ghost use Rattle.xr_cli.specs.Ends.{Done, IsComplete, RefusesTexts};
+ghost use Rattle.xr_cli.specs.Ends.{Done, EndsInOrder, RefusesTexts};
 ghost use Rattle.xr_files.specs.Seen.{shelf_seen};
 ghost use Rattle.xr_files.specs.Shipped.{IsFetchedFor, Shipped, start_over};
 ghost use Rattle.xr_files.specs.Sink.{sink_seen};
@@ -64,7 +64,7 @@ pub fn ship<'a, R: Files<File = File>, W: Write + Drop, P: Clock + Eprint>(
         (sink_seen out.new.faults out.new.took) result.0 }
     ensures complete { let sink = sink_seen out.old.faults out.old.took in
         let start = start_over (map string_bytes words.now) fetched.now sink in let left = result.1 in
-        IsComplete start (shelf_seen left.stage left.fetched.now.texts left.read_faults left.write_faults)
+        EndsInOrder start (shelf_seen left.stage left.fetched.now.texts left.read_faults left.write_faults)
         (sink_seen out.new.faults out.new.took) result.0 }
     ensures shipped { let sink = sink_seen out.old.faults out.old.took in let left = result.1 in result.0 ≡ 0
         → Shipped commands read_by (map string_bytes words.now) fetched.now sink left.stage left.fetched.now.texts

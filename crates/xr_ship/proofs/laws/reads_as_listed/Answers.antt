@@ -1,5 +1,5 @@
 -- By the law.
-use Rattle.xr_ship.proofs.Laws.{as_listed}
+use Rattle.xr_ship.proofs.Listing.{as_listed}
 use Rattle.xr_ship.proofs.laws.reads_as_listed.Goals as goal
 
 pub returns : goal.returns

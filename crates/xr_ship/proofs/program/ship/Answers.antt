@@ -1,4 +1,4 @@
--- What status 0 says of the calls that were noted.
+-- A job in order ends so; and what status 0 says of the calls that were noted.
 use Rattle.std.proofs.Common.{map, string_bytes, subst}
 use Rattle.xr_files.proofs.Shipped.{shipped, started}
 use Rattle.xr_files.specs.Seen.{shelf_seen}
@@ -6,9 +6,18 @@ use Rattle.xr_files.specs.Sink.{sink_seen}
 use Rattle.xr_run.specs.Ends.{Comes}
 use Rattle.xr_run.specs.Rows.{Start}
 use Rattle.xr_cli.specs.Commands.{commands}
-use Rattle.xr_ship.proofs.Laws.{kept}
+use Rattle.xr_cli.specs.Ends.{EndsInOrder}
+use Rattle.xr_ship.proofs.Listing.{kept}
 use Rattle.xr_ship.specs.Reads.{read_by}
 use Rattle.xr_ship.proofs.program.ship.Goals as goal
+
+pub returns-clause-complete : goal.returns-clause-complete
+returns-clause-complete g c =
+    let left = c.run-status.new.shelf in
+    let new = c.new-shelf.ensures in
+    let begun = started (map string_bytes c.args.words.now) c.args.fetched.now (sink_seen c.args.out.now.faults c.args.out.now.took) _ c.new-shelf.result.fetched.now _ _ new.stage new.fetched new.reads new.writes in
+    subst (λ (s : Start). EndsInOrder s (shelf_seen left.stage left.fetched.now.texts left.read_faults left.write_faults) (sink_seen c.run-status.new.out.faults c.run-status.new.out.took) c.run-status.result)
+    begun c.run-status.ensures.complete
 
 pub returns-clause-shipped : goal.returns-clause-shipped
 returns-clause-shipped g c = λ zero.

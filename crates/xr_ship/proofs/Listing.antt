@@ -1,10 +1,10 @@
 -- The files that each command reads, and those that it writes.
-use Rattle.std.proofs.Common.{◌≡◌, ℕ, zero, suc, ◌≤◌, ◌<◌, List, [], ◌∷◌, length, refl, sym, subst, inl, inr, arith}
-use Rattle.std.specs.Prelude.{◌≢◌, Contains}
+use Rattle.std.proofs.Common.{◌≡◌, ℕ, zero, suc, ◌≤◌, List, [], ◌∷◌, refl, sym, subst, inl, inr, arith}
+use Rattle.std.specs.Prelude.{Contains}
 use Rattle.std.specs.List.{All, AllByRecursion}
 use Rattle.xr_cli.specs.Commands.{commands}
-use Rattle.xr_cli.specs.Phases.{audited_phases, blamed_phases, coded_phases, compared_check, compared_upgrade, exported_phases, fixed_phases, phases_of, repaired_phases}
-use Rattle.xr_files.proofs.Others.{IsOther, none_written, one_more}
+use Rattle.xr_cli.specs.Phases.{audited_phases, blamed_phases, coded_phases, compared_check, compared_upgrade, exported_phases, fixed_phases, make_answer, phases_of, repair_answer, repaired_phases}
+use Rattle.xr_files.proofs.Others.{IsOther, none_written, not_among, one_more}
 use Rattle.xr_files.specs.Shipped.{AreKept, WritesOthers}
 use Rattle.xr_line.specs.Line.{Text}
 use Rattle.xr_phases.specs.Code.{text_limit}
@@ -16,7 +16,7 @@ use Rattle.xr_run.specs.Outputs.{File}
 use Rattle.xr_run.specs.Phases.{Answer, Phases, ◌>>=◌}
 use Rattle.xr_run.specs.Reading.{FindsOnly, ReadsAmong, ReadsSurely}
 use Rattle.xr_words.specs.Words.{JobValues, Means, OfAudit, OfBlame, OfCheck, OfExport, OfFix, OfMake, OfProve, OfRepair, OfReplay, OfUpgrade, Values}
-use Rattle.xr_ship.proofs.Exported.{exports_others}
+use Rattle.xr_ship.proofs.Exported.{all_others, exports_others}
 use Rattle.xr_ship.specs.Reads.{ReadsAsListed, job_reads, most_of, read_by}
 
 -- ---- no other file is read
@@ -98,8 +98,10 @@ no_files inputs answer none = subst (λ (files : List File). All (IsOther inputs
 
 kept_of : (line : List Text) (w : Values) → Means line w → FindsOnly (WritesOthers (read_by w)) (phases_of w)
 kept_of line (OfRepair w) means = job_finds (WritesOthers (job_reads w.job)) w.job (λ (job : Parts). repaired_phases w job.netlist job.recorded) (λ job agreed _ found _ conditions _.
+    let inputs = job_reads w.job in
     let apart = means.gives.apart in
-    one_more (job_reads w.job) _ _ apart.1 (one_more (job_reads w.job) _ _ apart.2.1 (one_more (job_reads w.job) _ _ apart.2.2.1 (none_written (job_reads w.job)))))
+    all_others inputs (repair_answer w job.netlist job.recorded found conditions).files
+    (not_among inputs w.vcd apart.1, (not_among inputs w.code apart.2.1, (not_among inputs w.cert apart.2.2.1, tt))))
 kept_of line (OfReplay w) means = job_finds (WritesOthers (w.code ∷ job_reads w.job)) w.job (coded_phases w) (λ job text forces _ history _.
     let apart = means.gives.apart.1 in
     one_more (w.code ∷ job_reads w.job) _ [] (apart.1.0, (apart.0, apart.1.1)) (none_written (w.code ∷ job_reads w.job)))
@@ -107,7 +109,8 @@ kept_of line (OfCheck w) means = job_finds (WritesOthers (w.cert ∷ job_reads w
 kept_of line (OfUpgrade w) means = job_finds (WritesOthers (w.cert ∷ job_reads w.job)) w.job (compared_upgrade w) (λ job agreed _ text cert _ plain _ shows _ conditions _.
     let apart = means.gives.apart.1 in
     one_more (w.cert ∷ job_reads w.job) _ [] (apart.1.0, (apart.0, apart.1.1)) (none_written (w.cert ∷ job_reads w.job)))
-kept_of line (OfMake w) means = λ short _ n _ text _ short_too _ r _ agreed _ found _. one_more [] _ _ tt (one_more [] _ [] tt (none_written []))
+kept_of line (OfMake w) means = λ short _ n _ text _ short_too _ r _ agreed _ found _.
+    all_others [] (make_answer w text found.wave).files (not_among [] w.netlist tt, (not_among [] w.recording tt, tt))
 kept_of line (OfExport w) means = job_finds (WritesOthers (job_reads w.job)) w.job (λ (job : Parts). exported_phases w job.netlist job.recorded) (λ job agreed _ found _ answer exports. exports_others w.prefix (job_reads w.job) means.gives.free found.wave answer exports)
 kept_of line (OfProve w) means = λ cnf log count _. none_written (w.cnf ∷ w.log ∷ [])
 kept_of line (OfAudit w) means = job_finds (WritesOthers (job_reads w.job)) w.job (λ (job : Parts). audited_phases w job.netlist job.recorded) (λ job agreed _ answer lists. no_files (job_reads w.job) answer lists.prints.files_are)
