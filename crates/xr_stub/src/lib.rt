@@ -1,0 +1,26 @@
+//! Stubs: of a text, the definitions of some modules, each with nothing but its name, its ports, and their directions
+//! and ranges, so that a behavioural model can stand in a netlist. Start at `stub`, and at specs/Stubs.antt, which says
+//! what a text comes to.
+//!
+//! A text goes by these files: `module.rt` (what it defines), `state.rt` and `word.rt` (which tokens of a definition
+//! declare, put down in `part.rt` with their roles, `role.rt`), `known.rt` with `heading.rt`, `sum.rt` and `listed.rt`
+//! (what they declare), `text.rt` and `stubs.rt` (what is written).
+#![tactic(auto)]
+
+mod fault;
+mod heading;
+mod known;
+mod laws;
+mod listed;
+mod module;
+mod part;
+mod role;
+mod state;
+mod stubs;
+mod sum;
+mod text;
+mod word;
+
+pub use fault::{StubErr, StubFault};
+pub use laws::texts_have_stubs_one_way;
+pub use stubs::stub;
