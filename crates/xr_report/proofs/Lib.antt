@@ -1,4 +1,3 @@
 -- Lemmas of the report.
 mod Counting
 mod Reach
-mod Steps
