@@ -2,7 +2,6 @@
 mod Auditing
 mod Certified
 mod Answering
-mod Conditioned
 mod Fixing
 mod Headlines
 mod Lawfully

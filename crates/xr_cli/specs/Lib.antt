@@ -5,7 +5,6 @@ pub mod Listed
 pub mod Restarts
 pub mod Phases
 pub mod Texts
-pub mod Conditions
 pub mod Needs
 pub mod Headline
 pub mod Replays
