@@ -1,5 +1,4 @@
 -- Definitions of xr_files.
-pub mod Target
 pub mod Stage
 pub mod Put
 pub mod GivenUp

@@ -1,8 +1,5 @@
 //! Where the bytes of a file lie while it is written.
 
-ghost use Rattle.std.specs.Prelude.{IfOk};
-ghost use Rattle.xr_files.specs.Target.{IsTargetOf};
-
 use std::alloc::Global;
 use std::fs;
 use std::fs::File;
@@ -10,7 +7,7 @@ use std::io::ErrorKind;
 use std::rt::Files;
 use xr_base::Memory;
 
-/// A file beside the name, which is put under the name once all files are written; or what stands under the name itself.
+/// A file beside the name, whose bytes are put under the name once all are there; or what stands under the name itself.
 #[derive(Drop)]
 pub enum Target {
     Part(String),
@@ -32,9 +29,7 @@ pub fn target_of<R: Files<File = File>>(
     files: &R,
     alloc: Global,
     name: &str,
-) -> Result<Target, Memory>
-    ensures { IfOk result (IsTargetOf name.now) }
-{
+) -> Result<Target, Memory> {
     if has_part(files, name) {
         return Ok(Target::Part(format!(in alloc; "{name}.part")?));
     }

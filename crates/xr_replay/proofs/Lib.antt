@@ -1,5 +1,4 @@
 -- Lemmas of xr_replay.
-pub mod Bindings
 pub mod Compares
 pub mod Faults
 pub mod Forces
@@ -11,5 +10,4 @@ pub mod Repeats
 pub mod Replays
 pub mod Seeing
 pub mod Sweeps
-pub mod Watching
 pub mod Writing

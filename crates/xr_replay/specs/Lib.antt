@@ -10,4 +10,3 @@ pub mod Seen
 pub mod Sides
 pub mod Still
 pub mod Sweep
-pub mod Watched

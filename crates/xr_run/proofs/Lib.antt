@@ -1,7 +1,6 @@
 -- Lemmas on runs.
 mod Joins
 mod Files
-mod Deliveries
 pub mod Apart
 pub mod Exact
 mod Steps

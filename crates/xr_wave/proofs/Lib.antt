@@ -6,6 +6,5 @@ mod NextClass
 mod OneWave
 mod RootPlaces
 mod ShownPlaces
-mod StepsRead
 mod WaveGrowth
 mod Ways

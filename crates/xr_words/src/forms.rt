@@ -46,12 +46,6 @@ const ROUNDS: Opt<'static> = Opt {
     kind: Kind::Number(1, 16),
 };
 
-const PLACES: Opt<'static> = Opt {
-    name: "places",
-    required: false,
-    kind: Kind::Number(1, 1_099_511_627_776),
-};
-
 const CONFLICTS: Opt<'static> = Opt {
     name: "conflicts",
     required: false,
@@ -93,7 +87,7 @@ static REPAIR: [Opt<'static>; 10] = [
     START,
 ];
 
-static REPLAY: [Opt<'static>; 8] = [
+static REPLAY: [Opt<'static>; 7] = [
     RECORD,
     SCOPE,
     TOP,
@@ -108,7 +102,6 @@ static REPLAY: [Opt<'static>; 8] = [
         kind: Kind::Writes,
     },
     ROUNDS,
-    PLACES,
     START,
 ];
 
