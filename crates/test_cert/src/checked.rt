@@ -137,11 +137,11 @@ fn put_accepted_text(
     if again.as_slice() != text {
         return put(out, b"another text\n");
     }
-    put_accepted(out, &checked.wave)
+    put_accepted(job.alloc, out, &checked.wave)
 }
 
-fn put_accepted(out: &mut Vec<u8>, wave: &Wave<'_>) -> Result<(), Memory> {
-    let counts = counts_of(wave);
+fn put_accepted(alloc: Global, out: &mut Vec<u8>, wave: &Wave<'_>) -> Result<(), Memory> {
+    let counts = counts_of(alloc, wave)?;
     put_count(out, b"accepted known ", counts.known)?;
     put_count(out, b" repaired ", counts.repaired)?;
     put_count(out, b" unknown ", counts.unknown)?;

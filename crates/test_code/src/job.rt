@@ -15,7 +15,7 @@ use std::alloc::Global;
 use test_cases::{Part, Report};
 use xr_base::Memory;
 use xr_design::{Bytes, StartRule};
-use xr_job::{Netlist, Recorded, read_netlist, read_recording};
+use xr_job::{Netlist, PLACES, Recorded, read_netlist, read_recording};
 
 /// Compares what a part says with what comes.
 pub fn compare_job(
@@ -62,6 +62,7 @@ fn recorded_of(
         text.as_slice(),
         &scope,
         rounds,
+        PLACES,
         StartRule::Cold,
     )
     .ok())

@@ -61,14 +61,14 @@ fn put_answer(alloc: Global, out: &mut String, wave: &Wave<'_>, line: &str) -> R
     let (word, rest) = first_word(line);
     match verb_of(word) {
         Verb::Lines => put_number(out, "lines ", wave.lines().len() as u64, ""),
-        Verb::Counts => put_counts(out, wave),
+        Verb::Counts => put_counts(alloc, out, wave),
         Verb::All => put_agreement(alloc, out, wave),
         verb => put_named(alloc, out, wave, word, verb, rest),
     }
 }
 
-fn put_counts(out: &mut String, wave: &Wave<'_>) -> Result<(), Memory> {
-    let counts = counts_of(wave);
+fn put_counts(alloc: Global, out: &mut String, wave: &Wave<'_>) -> Result<(), Memory> {
+    let counts = counts_of(alloc, wave)?;
     put_number(out, "counts known ", u64::from(counts.known), "")?;
     put_number(out, " repaired ", u64::from(counts.repaired), "")?;
     put_number(out, " unknown ", u64::from(counts.unknown), "")?;

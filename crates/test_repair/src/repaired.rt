@@ -14,7 +14,7 @@ use std::alloc::Global;
 use test_cases::{Lines, Part, Report};
 use xr_base::Memory;
 use xr_design::{Bytes, History};
-use xr_job::{Netlist, Recorded, read_netlist, read_recording, replay_and_compare};
+use xr_job::{Netlist, PLACES, Recorded, read_netlist, read_recording, replay_and_compare};
 use xr_repair::{RepairErr, repair};
 use xr_wave::Wave;
 
@@ -110,7 +110,7 @@ pub fn recorded_of(
     }
     let scope = [Bytes::from_vec(Vec::from_slice(alloc, b"dut")?)];
     let rounds = texts.rounds.clamp(1, 16);
-    Ok(read_recording(alloc, netlist, text, &scope, rounds, texts.start).ok())
+    Ok(read_recording(alloc, netlist, text, &scope, rounds, PLACES, texts.start).ok())
 }
 
 fn wave_of<'a>(

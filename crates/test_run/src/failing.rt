@@ -3,7 +3,7 @@
 use crate::compared::{compare_found, compare_run};
 use crate::given::{Case, OUTPUTS, text_of};
 use crate::setting::{Run, Setting};
-use crate::tabled::{compare_rows, put_row};
+use crate::tabled::{compare_rows, is_same, put_row};
 use std::alloc::{AllocError, Global};
 use test_cases::Report;
 
@@ -12,8 +12,9 @@ const MOST_CALLS: u64 = 1000;
 
 /// Runs a case without a fault, and then with the first call failing, the second, and so on, until none fails.
 ///
-/// A run that fails says which name. Where that was read, no file was written; else the files before it are whole, it holds
-/// a beginning of its text or is absent, and those after it aren't there. A case may have a table of all runs too.
+/// A run that fails says which name. Where that was read, or couldn't be written, every file is as it was; where it
+/// couldn't be put, the files before it are whole, and it and those after it are as they were. A case may have a table of
+/// all runs too.
 pub fn run_failing(
     alloc: Global,
     report: &mut Report,
@@ -95,18 +96,17 @@ fn compare_unwritten(
     run: &Run,
     name: &str,
 ) -> Result<(), AllocError> {
+    let changed = has_changed(run);
     let mut failed = false;
     for output in OUTPUTS {
-        let got = run.after.get(output);
-        let ended = whole.after.get(output);
-        if output == name {
-            failed = true;
-            compare_front(report, case, name, ended, got)?;
-        } else if failed {
-            compare_found(report, case.title(), output, run.before.get(output), got)?;
+        failed = failed || output == name;
+        let from = if changed && !failed {
+            &whole.after
         } else {
-            compare_found(report, case.title(), output, ended, got)?;
-        }
+            &run.before
+        };
+        let got = run.after.get(output);
+        compare_found(report, case.title(), output, from.get(output), got)?;
     }
     if failed {
         return Ok(());
@@ -114,18 +114,11 @@ fn compare_unwritten(
     report.compare(case.title(), b"a file that is written", name.as_bytes())
 }
 
-/// The file is absent, or has a beginning of its text.
-fn compare_front(
-    report: &mut Report,
-    case: Case<'_>,
-    name: &str,
-    whole: Option<&[u8]>,
-    got: Option<&[u8]>,
-) -> Result<(), AllocError> {
-    let text = whole.unwrap_or(b"");
-    let front = got.unwrap_or(b"");
-    if text.starts_with(front) {
-        return Ok(());
+/// Some file that a case may write isn't as it was.
+fn has_changed(run: &Run) -> bool {
+    let mut changed = false;
+    for output in OUTPUTS {
+        changed = changed || !is_same(run.before.get(output), run.after.get(output));
     }
-    compare_found(report, case.title(), name, Some(text), Some(front))
+    changed
 }

@@ -41,7 +41,8 @@ fn is_whole(whole: &Run, run: &Run, name: &str) -> bool {
     !is_same(whole.before.get(name), ended) && is_same(run.after.get(name), ended)
 }
 
-fn is_same(one: Option<&[u8]>, other: Option<&[u8]>) -> bool {
+/// Both are absent, or have the same bytes.
+pub fn is_same(one: Option<&[u8]>, other: Option<&[u8]>) -> bool {
     match (one, other) {
         (Some(one), Some(other)) => *one == *other,
         (None, None) => true,

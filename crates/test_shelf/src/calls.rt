@@ -44,7 +44,7 @@ impl Outside {
         match verb {
             "pieces" => Ok(Answer::Done),
             "put" | "long" | "fail" => self.set_up(verb, rest),
-            "get" | "faults" | "printed" | "sink" => self.look(verb, rest),
+            "get" | "written" | "faults" | "printed" | "sink" => self.look(verb, rest),
             "read_all" | "write_all" | "print_all" => self.whole(verb, rest),
             "deliver" => deliver_two(self.alloc, &mut self.shelf, &mut self.sink, rest),
             _ => self.step(verb, rest),
@@ -86,10 +86,11 @@ impl Outside {
         Ok(Answer::Done)
     }
 
-    /// What a file holds, what was printed, and the counts of faults.
+    /// What a file holds, what was written of it, what was printed, and the counts of faults.
     fn look(&self, verb: &str, rest: &str) -> Result<Answer, AllocError> {
         match verb {
-            "get" => self.held(rest),
+            "get" => self.shown(self.shelf.get(rest)),
+            "written" => self.shown(self.shelf.written(rest)),
             "printed" => quoted(self.alloc, self.sink.bytes()),
             "sink" => self.words(format!(in self.alloc; "{}", self.sink.faults())?),
             _ => self.words(format!(in self.alloc;
@@ -104,8 +105,8 @@ impl Outside {
         Ok(Answer::Words(words.into_bytes()))
     }
 
-    fn held(&self, name: &str) -> Result<Answer, AllocError> {
-        match self.shelf.get(name) {
+    fn shown(&self, held: Option<&[u8]>) -> Result<Answer, AllocError> {
+        match held {
             Some(bytes) => quoted(self.alloc, bytes),
             None => self.words(String::from_str(self.alloc, "none")?),
         }
@@ -134,9 +135,16 @@ impl Outside {
             "open" => Ok(done(self.shelf.open_file(rest))),
             "create" => Ok(done(self.shelf.create_file(rest))),
             "close" => Ok(done(self.shelf.close_file())),
+            "put_file" => Ok(done(self.shelf.put_file(rest))),
+            "discard" => Ok(self.discard()),
             "read" => self.read(number_of(rest)),
             _ => self.words(String::from_str(self.alloc, "no such call")?),
         }
+    }
+
+    fn discard(&mut self) -> Answer {
+        self.shelf.discard();
+        Answer::Done
     }
 
     /// Reads into a given number of zero bytes: what the call answered, and the bytes, each 0 shown as a point.

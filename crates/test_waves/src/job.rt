@@ -12,7 +12,7 @@ use xr_base::Items;
 use xr_cell::Value;
 use xr_design::{Bytes, Forces, History, StartRule};
 use xr_job::{
-    CompareRefusal, Netlist, Recorded, put_compare_line, read_netlist, read_recording,
+    CompareRefusal, Netlist, PLACES, Recorded, put_compare_line, read_netlist, read_recording,
     replay_and_compare,
 };
 use xr_repair::repair;
@@ -110,7 +110,15 @@ fn recorded_in(alloc: Global, netlist: &Netlist, recording: &[u8]) -> Result<Rec
     ensures { IfOk result (FitsRecorded netlist.now.design) }
 {
     let scope = [Bytes::from_vec(b"t".to_vec(alloc)?)];
-    let recorded = read_recording(alloc, netlist, recording, &scope, 1, StartRule::Cold)?;
+    let recorded = read_recording(
+        alloc,
+        netlist,
+        recording,
+        &scope,
+        1,
+        PLACES,
+        StartRule::Cold,
+    )?;
     Ok(recorded)
 }
 

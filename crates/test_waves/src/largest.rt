@@ -7,7 +7,7 @@ use std::process::Abort;
 use std::test::Fail;
 use xr_base::{put, put_number};
 use xr_design::{Bytes, Design};
-use xr_job::read_netlist;
+use xr_job::{PLACES, read_netlist};
 use xr_match::{BindErr, Binding, bind};
 use xr_vcd::{Recording, read_vcd};
 
@@ -44,7 +44,7 @@ fn bound(alloc: Global, design: &Design, moments: u64) -> Result<Result<Binding,
 {
     let recording = recording_of(alloc, moments)?;
     let scope = [Bytes::from_vec(b"t".to_vec(alloc)?)];
-    Ok(bind(alloc, design, &recording, &scope, ROUNDS))
+    Ok(bind(alloc, design, &recording, &scope, ROUNDS, PLACES))
 }
 
 fn check_bound(rt: &impl Abort, alloc: Global, design: &Design) -> Result<(), Fail>

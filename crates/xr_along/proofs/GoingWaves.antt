@@ -35,6 +35,7 @@ goes_wave (more {c = c} goes plain agrees) wave =
     subst (λ lines. IsWave (record c { written = c.written ++ plain_written c ∷ []; lines = lines })) (append-nil c.lines)
     (record {
       fits = is.fits;
+      few = is.few;
       handed = is.handed;
       limited = is.limited;
       holds = grown (job c) c.limit is.fits.fits_job (shown_in c) c.written c.lines (plain_written c) [] is.holds

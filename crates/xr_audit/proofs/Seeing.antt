@@ -28,7 +28,7 @@ nets_shown circuit fits history places step less pins nets =
     (λ k low. record { fits = fits; places = places; within = omega (arith, low, all) }) (omega arith) nets
 
 -- A step has room for all nets.
-pub room_at : (j : Job) → Fits j → (step : ℕ) → step < j.moments * j.rounds → step * j.width + j.width ≤ 2 ^ 27
+pub room_at : (j : Job) → Fits j → (step : ℕ) → step < j.moments * j.rounds → step * j.width + j.width ≤ 2 ^ 40
 room_at j fits step less =
     let room = step_small j.width step (j.moments * j.rounds) less in
     let few = fits.few_places in

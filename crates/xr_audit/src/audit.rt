@@ -12,10 +12,11 @@ ghost use Rattle.xr_audit.specs.Listed.{IsAudit};
 
 use crate::found::{Found, add_listed};
 use crate::groups::{Group, groups_of};
-use crate::suspects::is_open;
+use crate::suspects::{is_listed_as, is_open};
 use std::alloc::Global;
 use xr_base::Memory;
-use xr_design::History;
+use xr_design::{History, HistoryRow};
+use xr_report::bring;
 use xr_wave::Wave;
 
 /// What an audit tells.
@@ -30,7 +31,7 @@ pub struct Audit {
 }
 
 /// The audit of a finished wave of the blank history beside the replay. Takes the fillings of the unknown places that
-/// are listed, and time linear in the pins of all places.
+/// are listed and a byte for each net, and time linear in the pins of all places.
 pub fn audit_of(alloc: Global, wave: &Wave<'_>, replayed: &History) -> Result<Audit, Memory>
     requires { IsAudit wave.now replayed.now }
 
@@ -71,8 +72,13 @@ fn list_places(alloc: Global, wave: &Wave<'_>, replayed: &History) -> Result<Vec
 {
     let circuit = wave.circuit();
     let mut listed = Vec::new(alloc);
+    let mut row = HistoryRow::first(alloc, replayed)?;
     'places: for number in 0..wave.count() {
-        add_listed(alloc, &mut listed, wave, replayed, circuit.place_of(number))?;
+        let place = circuit.place_of(number);
+        bring(alloc, &mut row, place.step)?;
+        if is_listed_as(wave, replayed, place, row.shown(place.net)) {
+            add_listed(alloc, &mut listed, wave, replayed, place)?;
+        }
     }
     Ok(listed)
 }

@@ -9,7 +9,7 @@ use Rattle.xr_design.proofs.Numbers.{is_place_at}
 use Rattle.xr_design.specs.declared.place.Place.{Place}
 use Rattle.xr_design.specs.Filling.{IsPlace}
 use Rattle.xr_design.specs.Fits.{Fits, place_at}
-use Rattle.xr_design.specs.Job.{Job}
+use Rattle.xr_design.specs.Job.{Job, places_of}
 use Rattle.xr_design.specs.Waveform.{certain}
 use Rattle.xr_model.specs.Class.{class_of}
 use Rattle.xr_model.specs.Places.{places_where}
@@ -28,21 +28,21 @@ use Rattle.xr_along.specs.Along as walk
 use Rattle.xr_cert_text.specs.Fits.{FitsBody, FitsLine, FitsLiteral, FitsLog, FitsPlace}
 
 -- Places of the job,
-pub place_fits : (j : Job) → Fits j → (place : Place) → IsPlace j place → FitsPlace place
-place_fits j fits place is =
+pub place_fits : (j : Job) → Fits j → places_of j ≤ 2 ^ 27 → (place : Place) → IsPlace j place → FitsPlace place
+place_fits j fits most place is =
     let step = is.step in
     let net = is.net in
     let nets = fits.few_nets in
     let wide : j.moments * j.rounds ≤ (j.moments * j.rounds) * j.width = le-mul_of_pos_right (j.moments * j.rounds)
     (omega (arith, net)) in
-    let few : (j.moments * j.rounds) * j.width ≤ 2 ^ 27 = rw (mul_comm (j.moments * j.rounds) j.width) fits.few_places
-    in
+    let few : (j.moments * j.rounds) * j.width ≤ 2 ^ 27 = rw (mul_comm (j.moments * j.rounds) j.width) most in
     record { step = omega (arith, step, wide, few); net = omega (arith, net, nets) }
 
-filling_fits : (j : Job) → Fits j → (places : List Place) → AllByRecursion (IsPlace j) places
+filling_fits : (j : Job) → Fits j → places_of j ≤ 2 ^ 27 → (places : List Place) → AllByRecursion (IsPlace j) places
     → AllByRecursion FitsPlace places
-filling_fits j fits [] all = tt
-filling_fits j fits (place ∷ places) all = (place_fits j fits place all.0, filling_fits j fits places all.1)
+filling_fits j fits most [] all = tt
+filling_fits j fits most (place ∷ places) all =
+    (place_fits j fits most place all.0, filling_fits j fits most places all.1)
 
 -- and logs that name variables of a query.
 clause_fits : (count : ℕ) (clause : List ℤ) → count < 2 ^ 31 → HasNoZero clause → All (λ l. nat_abs l ≤ count) clause
@@ -69,33 +69,34 @@ pub log_fits : (count : ℕ) (log : List (List ℤ)) → count < 2 ^ 31 → 0 < 
 log_fits count log few some names = record { some = some; literals = clauses_fit count log few names.no_zero names.fit }
 
 -- A body that is accepted at the next place has words.
-body_fits : (c : Contents) → Fits (job c) → IsLimit c.limit → (body : Body) → HoldsNext c body → BodyFits c body
-    → FitsBody body
-body_fits c fits limited (Enumerated bit) holds names = tt
-body_fits c fits limited (Refuted bit log) holds names =
+body_fits : (c : Contents) → Fits (job c) → places_of (job c) ≤ 2 ^ 27 → IsLimit c.limit → (body : Body)
+    → HoldsNext c body → BodyFits c body → FitsBody body
+body_fits c fits most limited (Enumerated bit) holds names = tt
+body_fits c fits most limited (Refuted bit log) holds names =
     let few = holds.query.few in
     let vars = holds.is_query.vars in
     let ends = holds.refutes.ends.1 in
     log_fits (variables_next c) log (omega (arith, few, vars)) (omega (arith, ends)) names
-body_fits c fits limited (Pair first second) holds names = (
-  filling_fits (job c) fits first holds.zero_filling.places,
-  filling_fits (job c) fits second holds.one_filling.places,
+body_fits c fits most limited (Pair first second) holds names = (
+  filling_fits (job c) fits most first holds.zero_filling.places,
+  filling_fits (job c) fits most second holds.one_filling.places,
 )
-body_fits c fits limited (Undecided log) holds names =
+body_fits c fits most limited (Undecided log) holds names =
     let few = holds.query.few in
     let vars = holds.is_query.vars in
     let long = holds.long in
     let some = limited.some in
     log_fits (variables_next c) log (omega (arith, few, vars)) (omega (arith, long, some)) names
 
-line_fits : (c : Contents) → Fits (job c) → IsLimit c.limit → (line : ALine) → AcceptsLine c line → FitsLine line
-line_fits c fits limited line accepts =
+line_fits : (c : Contents) → Fits (job c) → places_of (job c) ≤ 2 ^ 27 → IsLimit c.limit → (line : ALine)
+    → AcceptsLine c line → FitsLine line
+line_fits c fits most limited line accepts =
     let next = accepts.line_holds.within in
     record {
       place = subst FitsPlace (sym accepts.line_holds.place_is)
-          (place_fits (job c) fits (place_at (job c) (next_number c))
+          (place_fits (job c) fits most (place_at (job c) (next_number c))
           (is_place_at (job c) (next_number c) fits.ordering fits.all next));
-      body = body_fits c fits limited line.body accepts.line_holds.holds accepts.fits;
+      body = body_fits c fits most limited line.body accepts.line_holds.holds accepts.fits;
     }
 
 pub along_limit : {a b : Contents} → GoesAlong a b → b.limit ≡ a.limit
@@ -108,13 +109,15 @@ fits_more : (lines : List ALine) (line : ALine) → AllByRecursion FitsLine line
 fits_more [] line all last = (last, tt)
 fits_more (l ∷ lines) line all last = (all.0, fits_more lines line all.1 last)
 
-pub lines_fit : (start c : Contents) → GoesAlong start c → Fits (job start) → IsLimit start.limit → start.lines ≡ []
-    → AllByRecursion FitsLine c.lines
-lines_fit start c walk.stays fits limited none = subst (AllByRecursion FitsLine) (sym none) tt
-lines_fit start c (by_class {c = d} goes plain agrees) fits limited none = lines_fit start d goes fits limited none
-lines_fit start c (by_line {c = d} goes line next accepts agrees) fits limited none =
-    fits_more d.lines line (lines_fit start d goes fits limited none)
-    (line_fits d (subst Fits (sym (along_job goes)) fits) (subst IsLimit (sym (along_limit goes)) limited) line accepts)
+pub lines_fit : (start c : Contents) → GoesAlong start c → Fits (job start) → places_of (job start) ≤ 2 ^ 27
+    → IsLimit start.limit → start.lines ≡ [] → AllByRecursion FitsLine c.lines
+lines_fit start c walk.stays fits most limited none = subst (AllByRecursion FitsLine) (sym none) tt
+lines_fit start c (by_class {c = d} goes plain agrees) fits most limited none =
+    lines_fit start d goes fits most limited none
+lines_fit start c (by_line {c = d} goes line next accepts agrees) fits most limited none =
+    fits_more d.lines line (lines_fit start d goes fits most limited none)
+    (line_fits d (subst Fits (sym (along_job goes)) fits)
+    (subst (λ (j : Job). places_of j ≤ 2 ^ 27) (sym (along_job goes)) most) (subst IsLimit (sym (along_limit goes)) limited) line accepts)
 
 -- There are no more lines than places.
 pub picked_few : (test : ℕ → Bool) (n : ℕ) → length (places_where test n) ≤ n
@@ -132,5 +135,5 @@ few_lines c wave =
     ∙ length-map numbers (place_at (job c))) in
     let few = picked_few (λ place. is_line (class_of (job c) (certain c.written) place)) (length c.written) in
     let within = wave.holds.yields.within in
-    let all = wave.fits.fits_job.few_places in
+    let all = wave.few in
     omega (arith, long, few, within, all)

@@ -30,14 +30,14 @@ use Rattle.xr_cert_text.specs.Fits.{FitsPlace, FitsTurn, FitsTurnLine}
 use Rattle.xr_cert.proofs.OwnLines.{log_fits, picked_few, place_fits}
 
 -- The turn query of a place that isn't carried has some variables, and not too many.
-module _ (j : Job) (fits : Fits j) (c : ℕ → Value) (root : ℕ) (within : root < places_of j)
+module _ (j : Job) (fits : Fits j) (most : places_of j ≤ 2 ^ 27) (c : ℕ → Value) (root : ℕ)
+    (within : root < places_of j)
     (free : is_carried (class_of j c root) ≡ false) where
   few_variables : length (turn_variables j c root) ≤ 2 ^ 27
   unfolding turn_variables
   few_variables =
       let few = picked_few (is_turn_variable j c root) (root + 1) in
-      let all = fits.few_places in
-      omega (arith, few, within, all)
+      omega (arith, few, within, most)
 
   is_own : is_turn_variable j c root root ≡ true
   is_own = or_left (is_variable j c root root) (is_boundary j c root root)
@@ -73,18 +73,19 @@ module _ (j : Job) (fits : Fits j) (c : ℕ → Value) (root : ℕ) (within : ro
   )
 
 -- Its boundary places are those of the job.
-places_fit : (j : Job) → Fits j → (numbers : List ℕ) → AllByRecursion (λ k. k < places_of j) numbers
+places_fit : (j : Job) → Fits j → places_of j ≤ 2 ^ 27 → (numbers : List ℕ)
+    → AllByRecursion (λ k. k < places_of j) numbers
     → AllByRecursion FitsPlace (map (place_at j) numbers)
-places_fit j fits [] all = tt
-places_fit j fits (k ∷ numbers) all = (
-  place_fits j fits (place_at j k) (is_place_at j k fits.ordering fits.all all.0),
-  places_fit j fits numbers all.1,
+places_fit j fits most [] all = tt
+places_fit j fits most (k ∷ numbers) all = (
+  place_fits j fits most (place_at j k) (is_place_at j k fits.ordering fits.all all.0),
+  places_fit j fits most numbers all.1,
 )
 
-boundary_fits : (j : Job) → Fits j → (c : ℕ → Value) (root : ℕ) → root < places_of j
+boundary_fits : (j : Job) → Fits j → places_of j ≤ 2 ^ 27 → (c : ℕ → Value) (root : ℕ) → root < places_of j
     → AllByRecursion FitsPlace (map (place_at j) (certain_boundary j c root))
-boundary_fits j fits c root within =
-    places_fit j fits (certain_boundary j c root)
+boundary_fits j fits most c root within =
+    places_fit j fits most (certain_boundary j c root)
     (among_all (λ k. k < places_of j) (certain_boundary j c root)
     (λ k here. (let low = boundary_is_low j fits c c root within (λ i less. refl) k here in omega
     (arith, low, within))))
@@ -105,9 +106,10 @@ turn_lines_fit c root view is =
     let fits : Fits j = is.wave.fits.fits_job in
     let b : List ℕ = certain_boundary_in c root in
     stated_fit view.boundary view.turns
-    (subst (AllByRecursion FitsPlace) (sym is.boundary) (boundary_fits j fits (certain c.written) root is.has.within))
-    (turns_fit j fits (certain c.written) root is.has.within is.has.free (settled_bit c root) c.limit (first_kept b)
-    (first_due b)
+    (subst (AllByRecursion FitsPlace) (sym is.boundary)
+    (boundary_fits j fits is.wave.few (certain c.written) root is.has.within))
+    (turns_fit j fits is.wave.few (certain c.written) root is.has.within is.has.free (settled_bit c root) c.limit
+    (first_kept b) (first_due b)
     view.turns is.wave.limited.some is.turns)
 
 few_due : (places : List ℕ) → length (first_due places) ≤ 64

@@ -20,10 +20,10 @@ arguments_have j fits c place P within each =
     along (λ k. k < place) P (arguments j c place) each (arguments_below j fits c place within)
 
 pub arguments_small : (j : Job) → Fits j → (c : ℕ → Value) (place : ℕ) → place < places_of j
-    → AllByRecursion (λ k. k < 2 ^ 27) (arguments j c place)
+    → AllByRecursion (λ k. k < 2 ^ 40) (arguments j c place)
 arguments_small j fits c place within =
     let few = fits.few_places in
-    all_below (arguments j c place) place (2 ^ 27) (omega (arith, few)) (arguments_below j fits c place within)
+    all_below (arguments j c place) place (2 ^ 40) (omega (arith, few)) (arguments_below j fits c place within)
 
 abbrev pub unknowns : Job → (ℕ → Value) → ℕ → List ℕ
 unknowns j c place = filter (λ k. is_unknown (c k)) (arguments j c place)
@@ -35,9 +35,9 @@ unknowns_below j fits c place within =
     all_filter (λ k. k < place) (λ k. is_unknown (c k)) (arguments j c place) (arguments_below j fits c place within)
 
 pub unknowns_small : (j : Job) → Fits j → (c : ℕ → Value) (place : ℕ) → place < places_of j
-    → AllByRecursion (λ k. k < 2 ^ 27) (unknowns j c place)
+    → AllByRecursion (λ k. k < 2 ^ 40) (unknowns j c place)
 unknowns_small j fits c place within =
-    all_filter (λ k. k < 2 ^ 27) (λ k. is_unknown (c k)) (arguments j c place) (arguments_small j fits c place within)
+    all_filter (λ k. k < 2 ^ 40) (λ k. is_unknown (c k)) (arguments j c place) (arguments_small j fits c place within)
 
 pub unknowns_are : (j : Job) (c : ℕ → Value) (place : ℕ)
     → places_where (among (unknowns j c place)) place ≡ uncertain_places j c place

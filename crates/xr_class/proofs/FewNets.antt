@@ -50,5 +50,5 @@ cell_few udps table pins fits =
 pub places_long : (j : Job) (step : ℕ) (pins : List Pin) → length (places_at j step pins) ≡ length (net_pins pins)
 places_long j step pins = length-map (net_pins pins) (at j step)
 
-pub room_back : (w step back : ℕ) → step * w + w ≤ 2 ^ 27 → (step - back) * w + w ≤ 2 ^ 27
+pub room_back : (w step back : ℕ) → step * w + w ≤ 2 ^ 40 → (step - back) * w + w ≤ 2 ^ 40
 room_back w step back small = let low : (step - back) * w ≤ step * w = mul-le-mul_right w (omega arith) in omega (arith, low, small)

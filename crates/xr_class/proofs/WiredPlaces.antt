@@ -201,7 +201,7 @@ chooses_placed order (Udp number) own = refl
 
 -- Nets whose places at a step stand before a place reach it from the step's first place.
 pub nets_reach : (j : Job) (has : ℕ → Type 0) (place step first : ℕ) (nets : List ℕ) → first ≡ step * j.width
-    → place ≤ 2 ^ 27 → ((k : ℕ) → k < place → has k) → AllByRecursion (Reach j (λ k. k < place) step) nets
+    → place ≤ 2 ^ 40 → ((k : ℕ) → k < place → has k) → AllByRecursion (Reach j (λ k. k < place) step) nets
     → AllByRecursion (Reaches has first) (map (position_of j.order) nets)
 nets_reach j has place step first [] is few all reach = tt
 nets_reach j has place step first (net ∷ nets) is few all reach =
@@ -225,7 +225,7 @@ nets_keep_there j fits c facts place step first (net ∷ nets) are is reach =
 
 -- The same of pins that are named by their positions.
 pub pins_reach : (j : Job) (has : ℕ → Type 0) (place step first : ℕ) (pins own : List Pin)
-    → pins ≡ map (placed j.order) own → first ≡ step * j.width → place ≤ 2 ^ 27 → ((k : ℕ) → k < place → has k)
+    → pins ≡ map (placed j.order) own → first ≡ step * j.width → place ≤ 2 ^ 40 → ((k : ℕ) → k < place → has k)
     → AllByRecursion (Reach j (λ k. k < place) step) (net_pins own)
     → AllByRecursion (Reaches has first) (net_pins pins)
 pins_reach j has place step first pins own are is few all reach =

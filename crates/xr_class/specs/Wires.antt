@@ -29,7 +29,7 @@ StandsCell j place table pins = Stands j place (kind_of_table table) pins
 
 -- The place at a position of a step, whose first place has a number, has something.
 pub record Reaches (has : ℕ → Type 0) (first position : ℕ) : Type 0 where
-  pub small : first + position < 2 ^ 27
+  pub small : first + position < 2 ^ 40
   pub has_it : has (first + position)
 
 -- The nets of pins that are named by their positions all keep at that step.

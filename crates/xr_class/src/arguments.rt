@@ -109,7 +109,7 @@ fn uncertain_of<C: Source>(certain: &C, places: &[usize]) -> ArgumentsByNumber
 /// The places in place order and without doubles.
 fn ascending(places: &[usize]) -> ArgumentsByNumber
     requires few { length places.now ≤ 13 }
-    requires small { AllByRecursion (λ k. k < 2 ^ 27) places.now }
+    requires small { AllByRecursion (λ k. k < 2 ^ 40) places.now }
     ensures { (n : ℕ) → AllByRecursion (λ k. k < n) places.now → result ≡ places_where (among places.now) n }
 {
     let mut rising = ArgumentsByNumber::new();

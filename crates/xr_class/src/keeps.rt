@@ -189,7 +189,7 @@ pub fn pins_keep<E: Earlier>(
     requires certain { (k : ℕ) → k < place → E.has earlier.now k }
     requires facts { AreFacts (job_in circuit.now) (E.reads earlier.now) (E.facts earlier.now) place }
     requires nets { AllByRecursion (Reach (job_in circuit.now) (λ k. k < place) step) (net_pins pins.now) }
-    requires small { step * (job_in circuit.now).width + (job_in circuit.now).width ≤ 2 ^ 27 }
+    requires small { step * (job_in circuit.now).width + (job_in circuit.now).width ≤ 2 ^ 40 }
     ensures { result ≡ nets_keep (job_in circuit.now) (E.reads earlier.now) step (net_pins pins.now) }
 {
     match pins {
@@ -212,7 +212,7 @@ pub fn net_keeps<E: Earlier>(
     requires certain { (k : ℕ) → k < place → E.has earlier.now k }
     requires facts { AreFacts (job_in circuit.now) (E.reads earlier.now) (E.facts earlier.now) place }
     requires net { Reach (job_in circuit.now) (λ k. k < place) step net }
-    requires small { step * (job_in circuit.now).width + (job_in circuit.now).width ≤ 2 ^ 27 }
+    requires small { step * (job_in circuit.now).width + (job_in circuit.now).width ≤ 2 ^ 40 }
     ensures { result ≡ net_keeps (job_in circuit.now) (E.reads earlier.now) step net }
 {
     earlier.keeps(number_at(circuit, step, net))

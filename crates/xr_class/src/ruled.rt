@@ -66,7 +66,7 @@ fn driver_arguments<C: Source>(
 pub fn number_at(circuit: &Circuit<'_>, step: usize, net: u32) -> usize
     requires fits { CircuitFits circuit.now }
     requires net { net < (job_in circuit.now).width }
-    requires small { step * (job_in circuit.now).width + (job_in circuit.now).width ≤ 2 ^ 27 }
+    requires small { step * (job_in circuit.now).width + (job_in circuit.now).width ≤ 2 ^ 40 }
     ensures { result ≡ at (job_in circuit.now) step net }
 {
     step * width_of(circuit) + circuit.order.position(net) as usize
@@ -75,7 +75,7 @@ pub fn number_at(circuit: &Circuit<'_>, step: usize, net: u32) -> usize
 fn one_place(circuit: &Circuit<'_>, step: usize, net: u32) -> ArgumentsByNumber
     requires fits { CircuitFits circuit.now }
     requires net { net < (job_in circuit.now).width }
-    requires small { step * (job_in circuit.now).width + (job_in circuit.now).width ≤ 2 ^ 27 }
+    requires small { step * (job_in circuit.now).width + (job_in circuit.now).width ≤ 2 ^ 40 }
     ensures { result ≡ at (job_in circuit.now) step net ∷ [] }
 {
     let mut arguments = ArgumentsByNumber::new();
@@ -99,7 +99,7 @@ fn pin_places(circuit: &Circuit<'_>, step: usize, pins: &[Pin]) -> ArgumentsByNu
     requires fits { CircuitFits circuit.now }
     requires nets { AllByRecursion (λ net. net < (job_in circuit.now).width) (net_pins pins.now) }
     requires few { length (net_pins pins.now) ≤ 13 }
-    requires small { step * (job_in circuit.now).width + (job_in circuit.now).width ≤ 2 ^ 27 }
+    requires small { step * (job_in circuit.now).width + (job_in circuit.now).width ≤ 2 ^ 40 }
     ensures { result ≡ places_at (job_in circuit.now) step pins.now }
 {
     let mut arguments = ArgumentsByNumber::new();
@@ -111,7 +111,7 @@ fn push_places(circuit: &Circuit<'_>, arguments: &mut ArgumentsByNumber, step: u
     requires fits { CircuitFits circuit.now }
     requires nets { AllByRecursion (λ net. net < (job_in circuit.now).width) (net_pins pins.now) }
     requires room { length arguments.old + length (net_pins pins.now) ≤ 13 }
-    requires small { step * (job_in circuit.now).width + (job_in circuit.now).width ≤ 2 ^ 27 }
+    requires small { step * (job_in circuit.now).width + (job_in circuit.now).width ≤ 2 ^ 40 }
     ensures { arguments.new ≡ arguments.old ++ places_at (job_in circuit.now) step pins.now }
 {
     match pins {
@@ -171,7 +171,7 @@ fn old_arguments(circuit: &Circuit<'_>, step: usize, pins: &[Pin]) -> ArgumentsB
     requires nets { AllByRecursion (λ net. net < (job_in circuit.now).width) (net_pins pins.now) }
     requires few { length (net_pins pins.now) ≤ 6 }
     requires later { 0 < step }
-    requires small { step * (job_in circuit.now).width + (job_in circuit.now).width ≤ 2 ^ 27 }
+    requires small { step * (job_in circuit.now).width + (job_in circuit.now).width ≤ 2 ^ 40 }
     ensures places { result ≡ old_places (job_in circuit.now) step pins.now }
     ensures few { length result ≤ 6 }
 {

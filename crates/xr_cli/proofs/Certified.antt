@@ -3,8 +3,8 @@ use Rattle.std.proofs.Common.{◌≡◌, ◌∙◌, ℕ, List, ◌++◌, refl, s
 use Rattle.xr_along.specs.Along.{GoesAlong}
 use Rattle.xr_cert.proofs.Faultless.{begun_same}
 use Rattle.xr_cert.proofs.Fitted.{checked_accepted, own_accepted}
-use Rattle.xr_cert.proofs.OwnEntries.{own_lines}
 use Rattle.xr_cert.proofs.OwnText.{own_text_stands}
+use Rattle.xr_cert.specs.Checked.{IsAccepted}
 use Rattle.xr_cert.specs.Entries.{AreConditionsFor, entries_of, lines_in}
 use Rattle.xr_cert.specs.Step.{cert_in}
 use Rattle.xr_cert_text.specs.Text.{cert_text}
@@ -28,9 +28,11 @@ use Rattle.xr_phases.specs.Repair.{beginning}
 use Rattle.xr_phases.specs.Texts.{IsAgreed, IsJob}
 use Rattle.xr_phases.proofs.Jobs.{fits_job}
 use Rattle.xr_cli.specs.Checks.{Checks}
+use Rattle.xr_cli.specs.Conditions.{cert_by, needs_lines}
 use Rattle.xr_cli.specs.Headline.{value_in, wave_of}
 use Rattle.xr_cli.specs.Phases.{forces_in, whole_report}
 use Rattle.xr_cli.specs.Upgrades.{Upgrades}
+use Rattle.xr_cli.proofs.Conditioned.{conditions_of, have_conditions, same_cert, same_entries, same_lines, same_printed}
 use Rattle.xr_cli.proofs.Needing.{each_needs}
 
 module _ (conflicts : ℕ) (n : ANetlist) (r : Recorded) (cert : Cert) (wave : Contents) (conditions : List ConditionView)
@@ -58,6 +60,11 @@ module _ (conflicts : ℕ) (n : ANetlist) (r : Recorded) (cert : Cert) (wave : C
   conditions_there : AreConditionsFor cert.form TheWave conditions
   conditions_there = subst (λ (c : Contents). AreConditionsFor cert.form c conditions) wave_same certified.checked.conditions_are
 
+-- The report with the lines of its conditions.
+printed_there : (c : Contents) (r : Recorded) (views : List ConditionView)
+    → whole_report c r.binding views ≡ report_text c r.binding (forces_in c) ++ needs_lines c (conditions_of views)
+printed_there c r views = ap (λ (text : List ℕ). report_text c r.binding (forces_in c) ++ text) (same_printed c views)
+
 -- What a check promises.
 pub checks : (w : CheckValues) (n : ANetlist) (r : Recorded) (cert : Cert) (wave : Contents) (conditions : List ConditionView)
     → IsCertified w.conflicts (parts n r) cert wave conditions → (netlist recording text : List ℕ) → IsJob w.job netlist recording n r
@@ -69,6 +76,7 @@ checks w n r cert wave conditions certified netlist recording text job faultless
       n = n;
       r = r;
       job = job;
+      fits = certified.fits;
       replay = wave.history;
       agrees = record { replay = certified.replay; faultless = faultless };
       certificate = cert;
@@ -77,13 +85,15 @@ checks w n r cert wave conditions certified netlist recording text job faultless
       whole = whole w.conflicts n r cert wave conditions certified;
       accepted = checked_accepted (beginning w.conflicts n r wave.history) cert wave conditions refl refl certified.checked;
       holds = (sound w.conflicts n r cert wave conditions certified).holds;
-      conditions = conditions;
-      conditions_are = there;
-      stated = certified.checked.stated ∙ ap (λ (ls : List ALine). entries_of ls conditions) certified.checked.lines;
+      conditions = conditions_of conditions;
+      conditions_are = have_conditions cert.form (TheWave w.conflicts n r cert wave conditions certified) conditions there;
+      stated = certified.checked.stated ∙ ap (λ (ls : List ALine). entries_of ls conditions) certified.checked.lines
+          ∙ same_entries (lines_in cert.entries) conditions;
       events = forces_of (job_for n r) (value_in wave.written);
       are = forces_exist (job_for n r) (value_in wave.written) (fits_job n r certified.fits);
       report_is = ap (λ (c : Contents). report_text c r.binding (forces_in c) ++ conditions_text c conditions)
-          (wave_same w.conflicts n r cert wave conditions certified);
+          (wave_same w.conflicts n r cert wave conditions certified)
+          ∙ printed_there (TheWave w.conflicts n r cert wave conditions certified) r conditions;
       needs = each_needs cert.form (TheWave w.conflicts n r cert wave conditions certified) conditions there;
     }
 
@@ -100,10 +110,12 @@ upgrades_there w n r cert wave conditions certified found are netlist recording 
     let along = goes w.conflicts n r cert wave conditions certified in
     let is_wave = sound w.conflicts n r cert wave conditions certified in
     let finished = whole w.conflicts n r cert wave conditions certified in
+    let same = same_cert Turns there found in
     record {
       n = n;
       r = r;
       job = job;
+      fits = certified.fits;
       replay = wave.history;
       agrees = record { replay = certified.replay; faultless = faultless };
       certificate = cert;
@@ -113,18 +125,18 @@ upgrades_there w n r cert wave conditions certified found are netlist recording 
       whole = finished;
       accepted = checked_accepted start cert wave conditions refl refl certified.checked;
       holds = is_wave.holds;
-      conditions = found;
-      conditions_are = are;
-      upgraded = cert_in Turns there found;
+      conditions = conditions_of found;
+      conditions_are = have_conditions Turns there found are;
+      upgraded = cert_by Turns there (conditions_of found);
       upgrade = record {
         is = refl;
-        stands = own_text_stands Turns start there found refl along is_wave are;
-        accepted = own_accepted Turns start there found refl refl along is_wave finished are;
-        lines_are = own_lines (lines_in cert.entries) found;
+        stands = subst (IsTextOf (cert_text (cert_in Turns there found))) same (own_text_stands Turns start there found refl along is_wave are);
+        accepted = subst (λ (upgraded : Cert). IsAccepted start upgraded wave.written) same (own_accepted Turns start there found refl refl along is_wave finished are);
+        lines_are = same_lines Turns there found;
       };
       events = forces_of (job_for n r) (value_in wave.written);
       are = forces_exist (job_for n r) (value_in wave.written) (fits_job n r certified.fits);
-      report_is = refl;
+      report_is = printed_there there r found;
       needs = each_needs Turns there found are;
     }
 

@@ -1,5 +1,5 @@
 -- The headline, from a finished wave of a job whose recording agrees with the replay.
-use Rattle.std.proofs.Common.{◌≡◌, ◌∙◌, ℕ, ◌<◌, Bool, true, false, List, length, refl, sym, ap, subst, arith}
+use Rattle.std.proofs.Common.{◌≡◌, ◌∙◌, ◌++◌, ℕ, ◌<◌, Bool, true, false, List, length, refl, sym, ap, subst, arith}
 use Rattle.std.specs.Prelude.{slice_index}
 use Rattle.xr_cell.specs.Value.{IsKnown, bit_value, is_unknown}
 use Rattle.xr_cell.specs.declared.value.Value.{Value}
@@ -29,6 +29,7 @@ use Rattle.xr_vcd.specs.Recording.{value_at}
 use Rattle.xr_wave.specs.Contents.{Contents, IsFinished, IsWave}
 use Rattle.xr_wave.specs.Shown.{ShowsWave}
 use Rattle.xr_out.specs.Text.{vcd_text}
+use Rattle.xr_report.specs.Report.{report_text}
 use Rattle.std.specs.List.{AllByRecursion}
 use Rattle.xr_along.specs.Along.{GoesAlong}
 use Rattle.xr_cert.specs.Checked.{IsAccepted}
@@ -38,6 +39,8 @@ use Rattle.xr_cert.proofs.Fitted.{own_accepted}
 use Rattle.xr_cert.proofs.OwnText.{own_text_stands}
 use Rattle.xr_cond.specs.View.{ConditionView}
 use Rattle.xr_cert_text.specs.Text.{cert_text}
+use Rattle.xr_cert_text.specs.Wrong.{IsTextOf}
+use Rattle.xr_cert_text.specs.declared.cert.Cert.{Cert}
 use Rattle.xr_code.specs.Written.{code_text}
 use Rattle.xr_design.specs.Circuit.{PartsFit}
 use Rattle.xr_design.specs.declared.force.Event.{Event}
@@ -50,12 +53,14 @@ use Rattle.xr_job.specs.declared.netlist.Netlist.{Netlist as ANetlist}
 use Rattle.xr_job.specs.declared.recorded.Recorded.{Recorded}
 use Rattle.xr_line.specs.Line.{IsScopeName}
 use Rattle.xr_words.specs.Words.{RepairValues}
+use Rattle.xr_cli.specs.Conditions.{cert_by}
 use Rattle.xr_cli.specs.Headline.{Certifies, Headline, IsBit, IsForceCode, ShowsWaveform, place_of_bit, value_in}
 use Rattle.xr_cli.specs.Phases.{forces_in, whole_report}
 use Rattle.xr_phases.specs.Certificate.{form_of}
 use Rattle.xr_phases.specs.Phases.{scope_of}
 use Rattle.xr_phases.specs.Repair.{FitsJob, Found, IsFound, beginning}
 use Rattle.xr_phases.specs.Texts.{IsJob}
+use Rattle.xr_cli.proofs.Conditioned.{conditions_of, have_conditions, same_cert, same_printed}
 use Rattle.xr_cli.proofs.Needing.{each_needs}
 use Rattle.xr_cli.proofs.OwnForces.{own_forces_said}
 use Rattle.xr_phases.proofs.ReplaysExist.{replays_exist}
@@ -271,12 +276,14 @@ module _ (w : RepairValues) (netlist recording : List ℕ) (is : Made w netlist 
 
   -- Of conditions that the form of the words asks for.
   module _ (conditions : List ConditionView) (are : AreConditionsFor (form_of w.form) TheWave conditions) where
-    accepted_so : IsAccepted (beginning w.conflicts is.n is.r is.found.history) (cert_in (form_of w.form) TheWave conditions) written
-    accepted_so = own_accepted (form_of w.form) (beginning w.conflicts is.n is.r is.found.history) TheWave conditions refl refl along_there wave finished are
+    accepted_so : IsAccepted (beginning w.conflicts is.n is.r is.found.history) (cert_by (form_of w.form) TheWave (conditions_of conditions)) written
+    accepted_so = subst (λ (cert : Cert). IsAccepted (beginning w.conflicts is.n is.r is.found.history) cert written) (same_cert (form_of w.form) TheWave conditions)
+        (own_accepted (form_of w.form) (beginning w.conflicts is.n is.r is.found.history) TheWave conditions refl refl along_there wave finished are)
 
-    pub certifies_so : Certifies w is.n is.r is.found.history written lines conditions (cert_text (cert_in (form_of w.form) TheWave conditions))
+    pub certifies_so : Certifies w is.n is.r is.found.history written lines (conditions_of conditions) (cert_text (cert_in (form_of w.form) TheWave conditions))
     certifies_so = record {
-      stands = own_text_stands (form_of w.form) (beginning w.conflicts is.n is.r is.found.history) TheWave conditions refl along_there wave are;
+      stands = subst (IsTextOf (cert_text (cert_in (form_of w.form) TheWave conditions))) (same_cert (form_of w.form) TheWave conditions)
+          (own_text_stands (form_of w.form) (beginning w.conflicts is.n is.r is.found.history) TheWave conditions refl along_there wave are);
       accepted = accepted_so;
       one = λ other long yields. yields_one j w.conflicts fits shown_at_place other written lines (long ∙ sym finished)
           (omega (arith, long)) yields wave.holds.yields;
@@ -301,10 +308,10 @@ module _ (w : RepairValues) (netlist recording : List ℕ) (is : Made w netlist 
       shows = v_shows;
       vcd_is = refl;
       forces = forces_so named;
-      conditions = conditions;
-      conditions_are = are;
+      conditions = conditions_of conditions;
+      conditions_are = have_conditions (form_of w.form) TheWave conditions are;
       certifies = certifies_so;
-      report_is = refl;
+      report_is = ap (λ (text : List ℕ). report_text TheWave is.r.binding events ++ text) (same_printed TheWave conditions);
       needs = each_needs (form_of w.form) TheWave conditions are;
       known = λ moment b bit there. known_so (place_of_bit is.n is.r moment b bit) (within_at moment b bit there);
       unknown = λ moment b bit there. unknown_so (place_of_bit is.n is.r moment b bit) (within_at moment b bit there);

@@ -36,7 +36,7 @@ made_exact w = (
       λ text made. (
         one_length recording_limit text,
         λ few within. (
-          one_recorded text n.design (scope_of made_job) made_job.rounds (rule_of made_job.start),
+          one_recorded text n.design (scope_of made_job) made_job.rounds made_job.places (rule_of made_job.start),
           λ r held. (one_compared n r (orders_of n r has.ordered), λ agreed faultless found is. tt),
         ),
       ),
@@ -85,7 +85,7 @@ made_of_texts w = (
       λ text made. (
         (λ long is. of_long_recording),
         λ few within. (
-          of_recording text n.design (scope_of made_job) made_job.rounds,
+          of_recording text n.design (scope_of made_job) made_job.rounds made_job.places,
           λ r held. (of_compare n r, λ agreed faultless. ((λ o objects. of_objection o), λ found is. tt)),
         ),
       ),

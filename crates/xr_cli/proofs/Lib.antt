@@ -2,6 +2,7 @@
 mod Auditing
 mod Certified
 mod Answering
+mod Conditioned
 mod Fixing
 mod Headlines
 mod Lawfully

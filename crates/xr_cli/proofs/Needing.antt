@@ -12,6 +12,7 @@ use Rattle.xr_listing.specs.Conditions.{IsSomeCondition}
 use Rattle.xr_turns.specs.Conditions.{AreConditionsOf, settled_places}
 use Rattle.xr_wave.specs.Contents.{Contents, job}
 use Rattle.xr_cli.specs.Needs.{EachNeeds, Needs}
+use Rattle.xr_cli.proofs.Conditioned.{condition_of, conditions_of}
 
 -- Each is that of some place.
 some_of : (c : Contents) (places : List Place) (views : List ConditionView) → AreConditionsOf c places views → AllByRecursion (IsSomeCondition c) views
@@ -25,7 +26,7 @@ are_some Lines c views are = subst (AllByRecursion (IsSomeCondition c)) (sym are
 are_some Turns c views are = some_of c (settled_places c.lines) views are
 
 -- And its place needs what is listed.
-needed : (c : Contents) (root : _) (view : ConditionView) → IsConditionOf c root view → Needs (job c) c.written view
+needed : (c : Contents) (root : _) (view : ConditionView) → IsConditionOf c root view → Needs (job c) c.written (condition_of view)
 needed c root view is = record {
   number = root;
   within = is.has.within;
@@ -37,9 +38,9 @@ needed c root view is = record {
   is = condition_holds c root view is;
 }
 
-each_of : (c : Contents) (views : List ConditionView) → AllByRecursion (IsSomeCondition c) views → EachNeeds (job c) c.written views
+each_of : (c : Contents) (views : List ConditionView) → AllByRecursion (IsSomeCondition c) views → EachNeeds (job c) c.written (conditions_of views)
 each_of c [] are = tt
 each_of c (view ∷ views) are = (needed c are.0.0 view are.0.1, each_of c views are.1)
 
-pub each_needs : (form : Form) (c : Contents) (views : List ConditionView) → AreConditionsFor form c views → EachNeeds (job c) c.written views
+pub each_needs : (form : Form) (c : Contents) (views : List ConditionView) → AreConditionsFor form c views → EachNeeds (job c) c.written (conditions_of views)
 each_needs form c views are = each_of c views (are_some form c views are)

@@ -21,19 +21,16 @@ use Rattle.xr_job.specs.Compared.{job_for}
 use Rattle.xr_job.specs.declared.netlist.Netlist.{Netlist as ANetlist}
 use Rattle.xr_job.specs.declared.recorded.Recorded.{Recorded}
 use Rattle.xr_out.specs.Text.{vcd_text}
-use Rattle.xr_listing.specs.Conditions.{conditions_text}
 use Rattle.xr_report.specs.Report.{report_text}
 use Rattle.xr_wave.specs.Contents.{Contents}
 use Rattle.xr_words.specs.Words.{RepairValues}
 use Rattle.xr_cert.specs.Checked.{IsAccepted}
-use Rattle.xr_cert.specs.Entries.{AreConditionsFor}
-use Rattle.xr_cert.specs.Step.{cert_in}
 use Rattle.xr_cert_text.specs.Wrong.{IsTextOf}
 use Rattle.xr_code.specs.Says.{CodeSays}
 use Rattle.xr_code.specs.Written.{code_text}
 use Rattle.xr_forces.specs.ForcesOf.{AreForcesOf}
 use Rattle.xr_design.specs.declared.force.Event.{Event}
-use Rattle.xr_cond.specs.View.{ConditionView}
+use Rattle.xr_cli.specs.Conditions.{Condition, HaveConditions, cert_by, needs_lines}
 use Rattle.xr_cli.specs.Needs.{EachNeeds}
 use Rattle.xr_phases.specs.Certificate.{form_of}
 use Rattle.xr_phases.specs.Code.{IsForced, code_in}
@@ -93,11 +90,11 @@ pub record IsForceCode (w : RepairValues) (n : ANetlist) (r : Recorded) (wavefor
 -- X stands for the certificate of the form that the words name, of the waveform's lines and of conditions, and that is
 -- accepted for the job: it yields the waveform.
 pub record Certifies (w : RepairValues) (n : ANetlist) (r : Recorded) (replay : HistoryView) (waveform : List Written)
-    (lines : List ALine) (conditions : List ConditionView) (cert : List ℕ) : Type 0 where
+    (lines : List ALine) (conditions : List Condition) (cert : List ℕ) : Type 0 where
   pub stands : IsTextOf cert
-      (cert_in (form_of w.form) (wave_of n r replay w.conflicts waveform lines) conditions)
+      (cert_by (form_of w.form) (wave_of n r replay w.conflicts waveform lines) conditions)
   pub accepted : IsAccepted (beginning w.conflicts n r replay)
-      (cert_in (form_of w.form) (wave_of n r replay w.conflicts waveform lines) conditions) waveform
+      (cert_by (form_of w.form) (wave_of n r replay w.conflicts waveform lines) conditions) waveform
   -- The lines yield no other waveform of all places.
   pub one : (other : List Written) → length other ≡ places_of (job_for n r)
       → Yields (job_for n r) w.conflicts (shown_of (job_for n r) replay) other lines → other ≡ waveform
@@ -123,14 +120,14 @@ pub record Headline (w : RepairValues) (netlist recording : List ℕ) (vcd code 
   -- Replaying the netlist with the code C writes V.
   pub forces : IsForceCode w n r waveform vcd code
   -- In form 2 there is a condition for each certain Line place, in form 1 there is none.
-  pub conditions : List ConditionView
-  pub conditions_are : AreConditionsFor (form_of w.form) (wave_of n r replay w.conflicts waveform lines) conditions
+  pub conditions : List Condition
+  pub conditions_are : HaveConditions (form_of w.form) (job_for n r) w.conflicts waveform lines conditions
   -- The certificate X names the waveform: it is the one that its lines yield. It has the turns of the conditions.
   pub certifies : Certifies w n r replay waveform lines conditions cert
   -- The report tells how many places have which end, and what became of each recorded bit that is x or z, and has the
   -- lines of the conditions.
   pub report_is : report ≡ report_text (wave_of n r replay w.conflicts waveform lines) r.binding forces.events
-      ++ conditions_text (wave_of n r replay w.conflicts waveform lines) conditions
+      ++ needs_lines (wave_of n r replay w.conflicts waveform lines) conditions
   -- Each of these places needs the places that its line lists.
   pub needs : EachNeeds (job_for n r) waveform conditions
   -- Each bit that V shows known, its search ended, has that value in the two-valued circuit under every filling.

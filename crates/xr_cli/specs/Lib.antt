@@ -5,6 +5,7 @@ pub mod Listed
 pub mod Restarts
 pub mod Phases
 pub mod Texts
+pub mod Conditions
 pub mod Needs
 pub mod Headline
 pub mod Replays

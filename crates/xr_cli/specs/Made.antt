@@ -1,5 +1,6 @@
 -- The made job that a number and a number of gates stand for.
 use Rattle.std.specs.Prelude.{ℕ, List, [], Result, Ok, Err, codes}
+use Rattle.xr_job.specs.Recorded.{place_limit}
 use Rattle.xr_job.specs.declared.netlist.Netlist.{Netlist as ANetlist}
 use Rattle.xr_make.specs.Netlist.{netlist_text}
 use Rattle.xr_make.specs.Recording.{IsMadeRecording}
@@ -14,6 +15,7 @@ made_job = record {
   scope = codes "made";
   top = codes "made";
   rounds = 4;
+  places = place_limit;
   start = Cold;
   netlists = [];
 }

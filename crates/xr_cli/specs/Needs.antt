@@ -3,15 +3,15 @@ use Rattle.std.specs.Prelude.{◌≡◌, ℕ, ◌<◌, Bool, List, map}
 use Rattle.std.specs.List.{AllByRecursion}
 use Rattle.xr_cell.specs.Value.{bit_value}
 use Rattle.xr_cond.specs.Condition.{IsCondition}
-use Rattle.xr_cond.specs.View.{ConditionView}
 use Rattle.xr_design.specs.Fits.{place_at}
 use Rattle.xr_design.specs.Job.{Job, places_of}
 use Rattle.xr_design.specs.Waveform.{certain}
 use Rattle.xr_design.specs.declared.waveform.Written.{Written}
+use Rattle.xr_cli.specs.Conditions.{Condition}
 
 -- A place of a waveform, certain with some bit, needs the places of a list: whatever bits the others of its cone's
 -- boundary have, it has that bit.
-pub record Needs (j : Job) (waveform : List Written) (condition : ConditionView) : Type 0 where
+pub record Needs (j : Job) (waveform : List Written) (condition : Condition) : Type 0 where
   pub number : ℕ
   pub within : number < places_of j
   pub place_is : condition.place ≡ place_at j number
@@ -22,5 +22,5 @@ pub record Needs (j : Job) (waveform : List Written) (condition : ConditionView)
   pub is : IsCondition j (certain waveform) number bit listed
 
 -- So it is with each of these.
-abbrev pub EachNeeds : Job → List Written → List ConditionView → Type 0
+abbrev pub EachNeeds : Job → List Written → List Condition → Type 0
 EachNeeds j waveform conditions = AllByRecursion (Needs j waveform) conditions

@@ -247,8 +247,8 @@ repaired_made w recording n r = do
 
 abbrev pub recorded_made : MakeValues → ANetlist → List ℕ → Phases Answer Refused
 recorded_made w n recording = do
-  r ← judges (RecordingComes recording n.design (scope_of made_job) made_job.rounds (rule_of made_job.start))
-      recording_cause
+  r ← judges (RecordingComes recording n.design (scope_of made_job) made_job.rounds made_job.places
+      (rule_of made_job.start)) recording_cause
   repaired_made w recording n r
 
 abbrev pub with_recording : MakeValues → ANetlist → Phases Answer Refused

@@ -1,12 +1,10 @@
 -- What the upgrade of a certificate promises, a field a sentence.
 use Rattle.std.specs.Prelude.{◌≡◌, ℕ, List, ◌++◌, length}
 use Rattle.xr_cert.specs.Checked.{IsAccepted}
-use Rattle.xr_cert.specs.Entries.{AreConditionsFor, lines_in}
-use Rattle.xr_cert.specs.Step.{cert_in}
+use Rattle.xr_cert.specs.Entries.{lines_in}
 use Rattle.xr_cert_text.specs.Wrong.{IsTextOf}
 use Rattle.xr_cert_text.specs.declared.cert.Cert.{Cert}
 use Rattle.xr_cert_text.specs.declared.cert.Form.TheVariants.{Lines, Turns}
-use Rattle.xr_cond.specs.View.{ConditionView}
 use Rattle.xr_design.specs.Handed.{shown_of}
 use Rattle.xr_design.specs.History.{HistoryView}
 use Rattle.xr_design.specs.Job.{places_of}
@@ -16,22 +14,22 @@ use Rattle.xr_forces.specs.ForcesOf.{AreForcesOf}
 use Rattle.xr_job.specs.Compared.{job_for}
 use Rattle.xr_job.specs.declared.netlist.Netlist.{Netlist as ANetlist}
 use Rattle.xr_job.specs.declared.recorded.Recorded.{Recorded}
-use Rattle.xr_listing.specs.Conditions.{conditions_text}
 use Rattle.xr_model.specs.Growth.{Holds}
 use Rattle.xr_report.specs.Report.{report_text}
 use Rattle.xr_words.specs.Words.{UpgradeValues}
+use Rattle.xr_cli.specs.Conditions.{Condition, HaveConditions, cert_by, needs_lines}
 use Rattle.xr_cli.specs.Headline.{value_in, wave_of}
 use Rattle.xr_cli.specs.Needs.{EachNeeds}
-use Rattle.xr_phases.specs.Repair.{AgreesThroughout, beginning}
+use Rattle.xr_phases.specs.Repair.{AgreesThroughout, FitsJob, beginning}
 use Rattle.xr_phases.specs.Texts.{IsJob}
 
 -- Y stands for the certificate of form 2 of a waveform, of lines and of conditions, and that is accepted for the job:
 -- its lines of Line places are these, and yield the waveform.
 pub record IsUpgrade (w : UpgradeValues) (n : ANetlist) (r : Recorded) (replay : HistoryView)
-    (waveform : List Written) (certificate : Cert) (conditions : List ConditionView) (upgraded : Cert)
+    (waveform : List Written) (certificate : Cert) (conditions : List Condition) (upgraded : Cert)
     (text : List ℕ) : Type 0 where
   pub is : upgraded
-      ≡ cert_in Turns (wave_of n r replay w.conflicts waveform (lines_in certificate.entries)) conditions
+      ≡ cert_by Turns (wave_of n r replay w.conflicts waveform (lines_in certificate.entries)) conditions
   pub stands : IsTextOf text upgraded
   pub accepted : IsAccepted (beginning w.conflicts n r replay) upgraded waveform
   pub lines_are : lines_in upgraded.entries ≡ lines_in certificate.entries
@@ -41,6 +39,7 @@ pub record Upgrades (w : UpgradeValues) (netlist recording cert text report : Li
   pub n : ANetlist
   pub r : Recorded
   pub job : IsJob w.job netlist recording n r
+  pub fits : FitsJob n r
   pub replay : HistoryView
   pub agrees : AgreesThroughout n r replay
   -- X stands for a certificate of form 1 that is accepted, whoever wrote it: its lines yield this waveform of all
@@ -53,9 +52,9 @@ pub record Upgrades (w : UpgradeValues) (netlist recording cert text report : Li
   pub accepted : IsAccepted (beginning w.conflicts n r replay) certificate waveform
   pub holds : Holds (job_for n r) w.conflicts (shown_of (job_for n r) replay) waveform (lines_in certificate.entries)
   -- There is a condition for each certain Line place.
-  pub conditions : List ConditionView
-  pub conditions_are : AreConditionsFor Turns
-      (wave_of n r replay w.conflicts waveform (lines_in certificate.entries)) conditions
+  pub conditions : List Condition
+  pub conditions_are : HaveConditions Turns (job_for n r) w.conflicts waveform (lines_in certificate.entries)
+      conditions
   -- Y is the certificate of form 2 of the same lines, with the turns of the conditions, and is accepted too.
   pub upgraded : Cert
   pub upgrade : IsUpgrade w n r replay waveform certificate conditions upgraded text
@@ -64,6 +63,6 @@ pub record Upgrades (w : UpgradeValues) (netlist recording cert text report : Li
   pub are : AreForcesOf (job_for n r) (value_in waveform) events
   pub report_is : report
       ≡ report_text (wave_of n r replay w.conflicts waveform (lines_in certificate.entries)) r.binding events
-      ++ conditions_text (wave_of n r replay w.conflicts waveform (lines_in certificate.entries)) conditions
+      ++ needs_lines (wave_of n r replay w.conflicts waveform (lines_in certificate.entries)) conditions
   -- Each of these places needs the places that its line lists.
   pub needs : EachNeeds (job_for n r) waveform conditions

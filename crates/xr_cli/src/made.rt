@@ -20,7 +20,7 @@ use xr_base::Memory;
 use xr_code::read_times;
 use xr_design::{History, StartRule};
 use xr_forces::forces_of;
-use xr_job::{Netlist, Recorded};
+use xr_job::{Netlist, PLACES, Recorded};
 use xr_make::{made_netlist, made_recording};
 use xr_phases::{
     NETLIST_BYTES, Parts, RECORDING_BYTES, Refused, compared, names_of, netlist_in, recorded_in,
@@ -128,7 +128,7 @@ fn recorded_of(alloc: Global, text: &[u8], netlist: &Netlist) -> Result<Recorded
     requires short { length text.now ≤ 2 ^ 28 }
     requires fits { FitsNetlist netlist.now }
     ensures judged { Judged (RecordingComes text.now netlist.now.design (scope_of made_job) made_job.rounds
-        (rule_of made_job.start)) recording_cause itself result }
+        made_job.places (rule_of made_job.start)) recording_cause itself result }
     ensures fits { IfOk result (FitsRecorded netlist.now.design) }
 {
     let scope = names_of(alloc, NAME)?;
@@ -138,6 +138,7 @@ fn recorded_of(alloc: Global, text: &[u8], netlist: &Netlist) -> Result<Recorded
         text,
         scope.as_slice(),
         ROUNDS,
+        PLACES,
         StartRule::Cold,
     )
 }

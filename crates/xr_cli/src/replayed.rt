@@ -8,7 +8,7 @@ ghost use Rattle.xr_run.specs.Prepared.{PreparedAlone, answer_of};
 ghost use Rattle.xr_words.specs.Words.{replay_values};
 ghost use Rattle.xr_phases.specs.Code.{moments_line};
 ghost use Rattle.xr_cli.specs.Phases.{forced_phases, replay_answer};
-ghost use Rattle.xr_phases.specs.Repair.{FitsParts};
+ghost use Rattle.xr_phases.specs.Repair.{FitsPartsWithin};
 
 use std::alloc::Global;
 use xr_base::{Memory, put, put_number};
@@ -26,7 +26,7 @@ pub fn replayed<'a>(
     job: &Parts,
     forces: &Forces,
 ) -> Result<Ready<'a>, Refusal<Refused>>
-    requires fits { FitsParts job.now }
+    requires fits { FitsPartsWithin words.now.job.places job.now }
     requires forces { AreEvents (job_for job.now.netlist job.now.recorded) forces.now }
     ensures { PreparedAlone (forced_phases (replay_values words.now) job.now forces.now) answer_of result }
 {
@@ -48,7 +48,7 @@ fn texts_of<'a>(
     job: &Parts,
     history: &History,
 ) -> Result<Ready<'a>, Memory>
-    requires fits { FitsParts job.now }
+    requires fits { FitsPartsWithin words.now.job.places job.now }
     requires places { HasPlaces (job_for job.now.netlist job.now.recorded) history.now }
     ensures { IfOk result (λ ready. answer_of ready ≡ replay_answer (replay_values words.now) job.now history.now) }
 {

@@ -74,7 +74,7 @@ module _ (c : Contents) (root : ℕ) (places inside : List ℕ) (around : AreAro
       let few = picked_few (is_near (job c) (certain c.written) root) (root + 1) in
       let same = ap length around.places_are in
       let within = around.reach.within in
-      let all = fits.few_places in
+      let all = around.wave.few in
       omega (arith, few, same, within, all)
 
   near_is : (k : ℕ) → among places k ≡ true

@@ -80,11 +80,10 @@ few_picked test (suc n) = one (test n) (few_picked test n)
     one true up = let long = length-append (places_where test n) (n ∷ []) in omega (arith, long, up)
     one false up = omega (arith, up)
 
-pub next_few : (j : Job) → Fits j → (c : ℕ → Value) (root : ℕ) (places : List ℕ) (next : ℕ) (left : List ℕ)
+pub next_few : (j : Job) → places_of j ≤ 2 ^ 27 → (c : ℕ → Value) (root : ℕ) (places : List ℕ) (next : ℕ) (left : List ℕ)
     → root < places_of j → IsNext j c root places next left → length places < 2 ^ 27
-next_few j fits c root places next left within is =
+next_few j most c root places next left within is =
     let few = few_picked (in_cone j c root) (root + 1) in
-    let most = fits.few_places in
     let whole = ap length is.parts in
     let long = length-append places (next ∷ reverse left) in
     omega (arith, few, most, whole, long, within)
@@ -303,7 +302,7 @@ made_ends c root places rest nodes wave reach line made none = record {
     few : length nodes ≤ 2 ^ 27
     few = (let up = few_picked (in_cone j known root) (root + 1) in
         let within = reach.within in
-        let most = wave.fits.fits_job.few_places in
+        let most = wave.few in
         omega (arith, up, within, most, same))
 
 pub ends_ok : {T E : Type 0} (nodes_in : T → List Node) (P : List Node → Type 0) (result : Result T E)

@@ -1,5 +1,5 @@
 -- Places of a job, and of a history that is handed in.
-use Rattle.std.proofs.Common.{ℕ, ◌*◌, ◌<◌, arith, ⊎_elim}
+use Rattle.std.proofs.Common.{◌*◌, ◌<◌, arith, ⊎_elim}
 use Rattle.xr_design.specs.Filling.{IsPlace}
 use Rattle.xr_design.specs.Fits.{Fits}
 use Rattle.xr_design.specs.Handed.{HasPlaces, IsHandedIn, IsReplay, IsBlank}

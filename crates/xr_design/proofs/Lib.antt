@@ -12,6 +12,7 @@ pub mod Pins
 pub mod Prefix
 pub mod Reaching
 pub mod Replays
+mod RowLemmas
 pub mod Rules
 mod ShownLemmas
 pub mod TwoBack

@@ -1,14 +1,13 @@
 -- The order of a design lists each net once and behind its arguments.
-use Rattle.std.proofs.Common.{◌≡◌, ◌≢◌, ℕ, zero, suc, ◌+◌, ◌*◌, ◌<◌, ◌≤◌, Bool, true, false, List, [], ◌∷◌, length, take, get_or, slice_index, refl, sym, ap, ◌∙◌, arith, ◌⊎◌, inl, inr, subst, eqb, mul_comm}
+use Rattle.std.proofs.Common.{◌≡◌, ◌≢◌, ℕ, zero, suc, ◌<◌, ◌≤◌, Bool, true, false, List, [], ◌∷◌, length, take, get_or, slice_index, refl, sym, ap, ◌∙◌, arith, inl, inr, subst, eqb}
 use Rattle.std.specs.List.{AllByRecursion, Contains, list_any}
 use Rattle.std.proofs.lemmas.Bool.{cases_lt}
 use Rattle.std.proofs.lemmas.Bool.Decides.{Decides-eqb, eqb_tells}
 use Rattle.std.proofs.lemmas.List.{get_or_default, get_or-take, length-take-le}
 use Rattle.std.proofs.lemmas.Map.Made.{IsDistinct-from_AllPairs}
 use Rattle.std.proofs.lemmas.Map.Steps.{length-le_from_distinct_below}
-use Rattle.xr_cell.specs.declared.value.Value.TheVariants.{Z}
-use Rattle.xr_design.specs.Order.{IsNext, IsOrder, IsOrdering, arguments_of_driver, position_of}
-use Rattle.xr_design.specs.Job.{Job, job_of, driver_in, places_of}
+use Rattle.xr_design.specs.Order.{IsOrder, IsOrdering, arguments_of_driver, position_of}
+use Rattle.xr_design.specs.Job.{Job, job_of, driver_in}
 use Rattle.xr_design.specs.Fits.{Fits, StandsBefore}
 use Rattle.xr_design.specs.Design.{FitsDesign}
 use Rattle.xr_design.specs.Stim.{FitsStim}

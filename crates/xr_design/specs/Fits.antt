@@ -73,7 +73,7 @@ abbrev pub Standing : Job → ℕ → List ℕ → Type 0
 Standing j position nets = AllByRecursion (StandsBefore j position) nets
 
 -- The order lists each net behind its arguments, each driver fits, no register starts at z, a moment has 1 to 16 rounds,
--- and there are at most 2^20 nets and 2^27 places.
+-- and there are at most 2^20 nets and 2^40 places.
 pub record Fits (j : Job) : Type 0 where
   pub ordering : IsOrdering j.order
   pub all : length j.order ≡ j.width
@@ -83,7 +83,7 @@ pub record Fits (j : Job) : Type 0 where
   pub some_round : 0 < j.rounds
   pub few_rounds : j.rounds ≤ 16
   pub few_nets : j.width ≤ 2 ^ 20
-  pub few_places : places_of j ≤ 2 ^ 27
+  pub few_places : places_of j ≤ 2 ^ 40
 
 abbrev pub is_gate : Table → Bool
 is_gate (Gate gate) = true

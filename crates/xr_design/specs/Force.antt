@@ -1,5 +1,5 @@
 -- Forces: which places show another value than their driver's.
-use Rattle.std.specs.Prelude.{◌≡◌, ℕ, ◌<◌, ◌*◌, ◌==◌, ◌&&◌, Bool, Option, List, map, find, reverse, nat_le}
+use Rattle.std.specs.Prelude.{ℕ, ◌==◌, ◌&&◌, Bool, Option, List, map, find, reverse, nat_le}
 use Rattle.std.specs.List.{AllByRecursion}
 use Rattle.std.specs.List.Sorted.{IsStrictlyIncreasing}
 use Rattle.std.specs.Prelude.{option_and_then}

@@ -13,6 +13,7 @@ pub mod Name
 pub mod Order
 pub mod Register
 pub mod Replay
+pub mod Row
 pub mod Rule
 pub mod Settled
 pub mod Stim

@@ -142,5 +142,5 @@ pub fn recorded_at(circuit: &Circuit<'_>, step: usize, net: usize) -> Value
     ensures { result ≡ (job_in circuit.now).recorded (step / (job_in circuit.now).rounds) net }
 {
     let moment = step / circuit.stim.rounds as usize;
-    circuit.stim.inputs.as_slice()[moment].as_slice()[net]
+    circuit.stim.inputs.value(moment, net)
 }

@@ -1,51 +1,60 @@
-//! What each place shows and keeps.
+//! What each place shows and keeps, kept by what changes from step to step.
 
-ghost use Rattle.std.specs.Prelude.{◌≡◌, ℕ, List, ◌+◌, ◌*◌, ◌<◌, ◌≤◌, ◌^◌, IfOk, length};
+ghost use Rattle.std.specs.Prelude.{◌≡◌, ℕ, List, ◌*◌, ◌<◌, ◌≤◌, ◌^◌, IfNone, IfOk, IfSome, IsFalse, length};
 ghost use Rattle.xr_design.specs.Handed.{IsBlank};
 ghost use Rattle.xr_design.specs.Job.{job_of};
-ghost use Rattle.xr_design.specs.History.{HasPlace, blank_history, held_in, index_in, repeated, two_bits, value_of_bits, with_held};
+ghost use Rattle.xr_design.specs.History.{AreRows, HasPlace, blank_history, held_in, held_of_byte, history_by, net_place};
+ghost use Rattle.xr_design.specs.Row.{AreWritten, IsBlankAt};
 
 use crate::design::Design;
 use crate::place::Place;
 use crate::stim::Stim;
+use crate::two_bits::{BLANK, value_of_two_bits};
+use crate::writer::HistoryWriter;
 use std::alloc::Global;
 use std::marker::Model;
 use xr_base::Memory;
 use xr_cell::Value;
+use xr_ledger::{Change, LedgerIndex};
 
-/// A value shown and a value kept for each place of a design under a stimulus: one byte a place.
+/// A value shown and a value kept for each place of a design under a stimulus, written by a `HistoryWriter`. Takes
+/// eight bytes for each place that has others than its net a step before, eight for each net and for each step.
 #[derive(Debug, Drop)]
 pub struct History {
     nets: usize,
-    bytes: Vec<u8>,
+    steps: usize,
+    rows: LedgerIndex,
 }
 
 impl Model for History {
-    ghost use Rattle.std.specs.Prelude.{map, ◌≤◌, ◌^◌};
-    ghost use Rattle.xr_design.specs.History.{HistoryView, held_of_byte};
+    ghost use Rattle.xr_design.specs.History.{AreRows, HistoryView, history_by};
 
     ghost Value = { HistoryView };
 
-    ghost view = { λ history. record { nets = history.nets; places = map held_of_byte history.bytes.items } };
+    ghost view = { λ h. history_by h.rows.width h.steps h.rows.steps };
 
-    ghost invariant = { λ history. history.nets ≤ 2 ^ 20 };
+    ghost invariant = { λ h. AreRows h.nets h.rows.width h.rows.steps };
 }
 
-/// The byte of a place that shows and keeps x.
-const BLANK: u8 = 10;
-
 impl History {
-    /// A history in which every shown and kept value is x. Takes a byte for each place.
+    /// A history in which every shown and kept value is x. Takes some bytes for each net.
     pub fn blank(alloc: Global, design: &Design, stim: &Stim) -> Result<History, Memory>
         requires nets { length design.now.nets ≤ 2 ^ 20 }
-        requires places { length design.now.nets * (length stim.now.times * stim.now.rounds) ≤ 2 ^ 27 }
+        requires places { length design.now.nets * (length stim.now.times * stim.now.rounds) ≤ 2 ^ 40 }
         ensures all { IfOk result (λ h. h ≡ blank_history design.now stim.now) }
         ensures blank { (order : List ℕ) → IfOk result (IsBlank (job_of design.now order stim.now)) }
     {
-        let nets = design.nets.as_slice().len();
-        let steps = stim.times.as_slice().len() * stim.rounds as usize;
-        let bytes = vec![in alloc; BLANK; nets * steps]?;
-        Ok(History { nets, bytes })
+        let writer = HistoryWriter::blank(alloc, design, stim)?;
+        let history = writer.finish(alloc)?;
+        Ok(history)
+    }
+
+    /// The history of rows.
+    pub(crate) fn new(nets: usize, steps: usize, rows: LedgerIndex) -> History
+        requires { AreRows nets rows.width rows.steps }
+        ensures { result ≡ history_by rows.width steps rows.steps }
+    {
+        History { nets, steps, rows }
     }
 
     /// What the place shows. Takes no memory.
@@ -53,7 +62,7 @@ impl History {
         requires { HasPlace self.now place }
         ensures { result ≡ (held_in self.now place).shown }
     {
-        value_of_two_bits(self.bytes[self.index(place)] % 4)
+        value_of_two_bits(self.byte(place.net as usize, place.step as usize) % 4)
     }
 
     /// What the place keeps. Takes no memory.
@@ -61,55 +70,45 @@ impl History {
         requires { HasPlace self.now place }
         ensures { result ≡ (held_in self.now place).kept }
     {
-        value_of_two_bits(self.bytes[self.index(place)] / 4 % 4)
+        value_of_two_bits(self.byte(place.net as usize, place.step as usize) / 4 % 4)
     }
 
-    /// Writes what the place shows and keeps, and leaves all other places. Takes no memory.
-    pub fn set(&mut self, place: Place, shown: Value, kept: Value)
-        requires { HasPlace self.old place }
-        ensures { self.new ≡ with_held self.old place record { shown = shown; kept = kept } }
-    {
-        let index = self.index(place);
-        self.bytes[index] = two_bits_of(shown) + 4 * two_bits_of(kept);
-    }
-
-    /// Gives each place of a step what the place of its net a step before shows and keeps. Takes no memory.
-    pub fn repeat_step(&mut self, step: usize)
+    /// The nets that were written at a step behind the first, in order; each other has what it had one step before. None
+    /// where every place of the step is blank, since nothing was written so late. Takes no memory.
+    pub fn written(&self, step: usize) -> Option<&[Change]>
         requires later { 0 < step }
-        requires within { step * self.old.nets + self.old.nets ≤ length self.old.places }
-        ensures { self.new ≡ repeated self.old step }
+        ensures some { IfSome result (λ changes. AreWritten self.now step changes.now) }
+        ensures none { IfNone result (IsBlankAt self.now step) }
     {
-        let start = step * self.nets;
-        self.bytes.copy_within(start - self.nets..start, start);
+        if step >= self.rows.steps() {
+            return None;
+        }
+        Some(self.rows.changes_of(step))
     }
 
-    fn index(&self, place: Place) -> usize
-        requires { HasPlace self.now place }
-        ensures { result ≡ index_in self.now place }
+    /// How many nets there are.
+    pub(crate) fn nets(&self) -> usize
+        ensures { result ≡ self.now.nets }
     {
-        place.step as usize * self.nets + place.net as usize
+        self.nets
     }
-}
 
-fn two_bits_of(value: Value) -> u8
-    ensures bits { result ≡ two_bits value }
-    ensures few { result ≤ 3 }
-{
-    match value {
-        Value::Zero => 0,
-        Value::One => 1,
-        Value::X => 2,
-        Value::Z => 3,
+    /// Whether there is a row of a step; behind the last one every place is blank.
+    pub(crate) fn has_row(&self, step: usize) -> bool
+        ensures { IsFalse result → IsBlankAt self.now step }
+    {
+        step < self.rows.steps()
     }
-}
 
-fn value_of_two_bits(bits: u8) -> Value
-    ensures { result ≡ value_of_bits bits }
-{
-    match bits {
-        0 => Value::Zero,
-        1 => Value::One,
-        2 => Value::X,
-        _ => Value::Z,
+    /// The byte of a net at a step.
+    pub(crate) fn byte(&self, net: usize, step: usize) -> u8
+        requires { net < self.now.nets }
+        ensures { HasPlace self.now (net_place step net) →
+            held_of_byte result ≡ held_in self.now (net_place step net) }
+    {
+        if step >= self.rows.steps() {
+            return BLANK;
+        }
+        self.rows.at(net, step)
     }
 }

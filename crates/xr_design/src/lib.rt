@@ -16,10 +16,13 @@ mod order;
 mod place;
 mod reads;
 mod register;
+mod row;
 mod rule;
 mod shown;
 mod stim;
+mod two_bits;
 mod waveform;
+mod writer;
 
 pub use circuit::{
     Circuit, Spot, count_places, driver_at, recorded_at, spot_of, start_at, width_of,
@@ -38,7 +41,10 @@ pub use order::Order;
 pub use place::{Filling, Place};
 pub use reads::{AsValues, BitSource, Source, net_value, pin_values};
 pub use register::{clock_is_uncertain, updated_value};
+pub use row::HistoryRow;
 pub use rule::{rule_value, table_value};
-pub use shown::Shown;
+pub use shown::{Shown, ShownSoFar};
 pub use stim::{StartRule, Stim};
 pub use waveform::{Mark, Written};
+pub use writer::HistoryWriter;
+pub use xr_ledger::Change;

@@ -26,7 +26,7 @@ fn old_values<S: Source>(
     requires register { FitsRegister (job_in circuit.now).udps (job_in circuit.now).width latching.now }
     requires later { 0 < step }
     requires has { (place : ℕ) → place < step * (job_in circuit.now).width → S.has source.now place }
-    requires small { step * (job_in circuit.now).width ≤ 2 ^ 27 }
+    requires small { step * (job_in circuit.now).width ≤ 2 ^ 40 }
     ensures long { length result ≡ 10 }
     ensures values { take (length latching.now.pins) result ≡
         old_pins (job_in circuit.now) (S.reads source.now) step latching.now.pins }
@@ -48,7 +48,7 @@ fn new_values<S: Source>(
     requires register { FitsRegister (job_in circuit.now).udps (job_in circuit.now).width latching.now }
     requires later { 0 < step }
     requires has { (place : ℕ) → place < step * (job_in circuit.now).width → S.has source.now place }
-    requires small { step * (job_in circuit.now).width ≤ 2 ^ 27 }
+    requires small { step * (job_in circuit.now).width ≤ 2 ^ 40 }
     ensures long { length result ≡ 10 }
     ensures values { take (length latching.now.pins) result ≡
         new_pins (job_in circuit.now) (S.reads source.now) step latching.now.pins }
@@ -68,7 +68,7 @@ pub fn updated_value<S: Source>(
     requires register { FitsRegister (job_in circuit.now).udps (job_in circuit.now).width latching.now }
     requires later { 0 < step }
     requires has { (place : ℕ) → place < step * (job_in circuit.now).width → S.has source.now place }
-    requires small { step * (job_in circuit.now).width ≤ 2 ^ 27 }
+    requires small { step * (job_in circuit.now).width ≤ 2 ^ 40 }
     ensures { result ≡ updated (job_in circuit.now) (S.reads source.now) kept step latching.now }
 {
     let old = old_values(circuit, source, step, latching);
@@ -95,7 +95,7 @@ pub fn clock_is_uncertain<S: Source>(
     requires register { FitsRegister (job_in circuit.now).udps (job_in circuit.now).width latching.now }
     requires later { 0 < step }
     requires has { (place : ℕ) → place < step * (job_in circuit.now).width → S.has certain.now place }
-    requires small { step * (job_in circuit.now).width ≤ 2 ^ 27 }
+    requires small { step * (job_in circuit.now).width ≤ 2 ^ 40 }
     ensures { result ≡ has_uncertain_clock (job_in circuit.now) (S.reads certain.now) step latching.now }
 {
     let old = old_values(circuit, certain, step, latching);

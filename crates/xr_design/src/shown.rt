@@ -7,6 +7,7 @@ ghost use Rattle.xr_design.specs.Handed.{ShowsPlace, shown_of};
 use crate::circuit::Circuit;
 use crate::history::History;
 use crate::reads::Source;
+use crate::writer::HistoryWriter;
 use xr_cell::Value;
 
 /// What a history shows at the places of a circuit.
@@ -20,6 +21,23 @@ impl<'a> Source for Shown<'a> {
     ghost reads = { λ s place. shown_of (job_in s.circuit) s.history.now place };
 
     ghost has = { λ s place. ShowsPlace s.circuit s.history.now place };
+
+    fn value(&self, place: usize) -> Value {
+        self.history.shown(self.circuit.place_of(place))
+    }
+}
+
+/// What a history shows so far, as it is written, at the places of a circuit.
+#[derive(Clone, Copy, Debug)]
+pub struct ShownSoFar<'a> {
+    pub circuit: Circuit<'a>,
+    pub history: &'a HistoryWriter,
+}
+
+impl<'a> Source for ShownSoFar<'a> {
+    ghost reads = { λ s place. shown_of (job_in s.circuit) s.history.now.history place };
+
+    ghost has = { λ s place. ShowsPlace s.circuit s.history.now.history place };
 
     fn value(&self, place: usize) -> Value {
         self.history.shown(self.circuit.place_of(place))

@@ -2,7 +2,7 @@
 use Rattle.std.proofs.Common.{◌≡◌, ◌∙◌, ap, sym, ℕ, ◌<◌, ◌≤◌, List, [], ◌++◌, drop, take, length, true, string_bytes, refl, arith, Ok}
 use Rattle.xr_shelf.specs.Shelf.{Files, Opened as OpenedFile, ReadStep, bytes_of}
 use Rattle.xr_shelf.specs.NamedFiles.{File, files_of}
-use Rattle.xr_files.specs.Stage.{files_in, hand_of, unread_in}
+use Rattle.xr_files.specs.Stage.{files_in, hand_of, unread_in, written_in}
 use Rattle.xr_files.specs.Seen.{shelf_seen}
 use Rattle.xr_files.specs.declared.stage.Opened.{Opened}
 use Rattle.xr_files.specs.declared.stage.Stage.{Stage}
@@ -30,6 +30,7 @@ read_step before after opened left texts reads writes n name text buffer was is 
       later = record { reads = λ _. omega arith; writes = λ _. omega arith; begun = refl };
       counts = record { reads = λ _. refl; writes = λ _. refl };
       files = ap (λ (s : Stage). files_in s (files_of texts)) is ∙ sym (ap (λ (s : Stage). files_in s (files_of texts)) was);
+      written = ap written_in is ∙ sym (ap written_in was);
       hand = hand_in after left is ∙ ap (λ s. OpenedFile (string_bytes s)) same_name ∙ sym (hand_in before opened was);
       bound = bound;
       bytes = λ _ _ _. old ∙ bytes ∙ ap (λ (l : List ℕ). take n buffer ++ l) (sym new);

@@ -1,21 +1,18 @@
 -- What a run that ended with 0 says of the calls that were noted.
-use Rattle.std.proofs.Common.{Ok, ◌≡◌, ◌∙◌, ap, sym, subst, refl, ℕ, ◌+◌, List, [], Option, Some, None, true, map, length, take, get_or, inl, inr, arith}
+use Rattle.std.proofs.Common.{◌≡◌, ◌∙◌, ap, sym, subst, refl, ℕ, List, Option, Some, None, true, map, length, take, get_or, arith}
 use Rattle.std.specs.Prelude.{Contains, is_some}
 use Rattle.std.specs.List.{All}
-use Rattle.std.proofs.lemmas.Bool.{false≢true}
 use Rattle.std.proofs.lemmas.List.{take_all}
 use Rattle.xr_shelf.specs.NamedFiles.{File as NamedFile, files_of}
-use Rattle.xr_shelf.specs.Shelf.{Created, Files, Nothing}
+use Rattle.xr_shelf.specs.Shelf.{Files}
 use Rattle.xr_shelf.specs.Sink.{SinkView}
 use Rattle.xr_run.specs.Ends.{Commands, Comes}
 use Rattle.xr_run.specs.Outputs.{File, IsWhole, name_in}
-use Rattle.xr_run.specs.Phases.{LeavesClosed}
 use Rattle.xr_run.specs.Rows.{DoneRow, start_with}
 use Rattle.xr_run.proofs.Reading.{found_so, surely_there}
-use Rattle.xr_files.specs.Put.{AreNew, ArePut}
 use Rattle.xr_files.specs.Seen.{shelf_seen}
 use Rattle.xr_files.specs.Shipped.{AreKept, IsFetchedFor, Shipped, WasGiven, WasTaken, WritesOthers, start_over}
-use Rattle.xr_files.specs.Stage.{files_in, hand_of, taken_in, taken_or}
+use Rattle.xr_files.specs.Stage.{files_in, put_in, taken_in, taken_or, written_in}
 use Rattle.xr_files.specs.declared.fetched.Fetched.{Fetched}
 use Rattle.xr_files.specs.declared.stage.Stage.{Stage}
 use Rattle.xr_files.specs.declared.stage.Stage.TheVariants.{Resting}
@@ -30,21 +27,11 @@ by_trace : (trace before : Option (List ℕ)) (bytes : List ℕ) → before ≡ 
 by_trace None before bytes none is = sym none ∙ is
 by_trace (Some text) before bytes none is = is
 
--- Nothing was, where what is held is what was held, and nothing was there that could be made.
-no_trace : (trace before : Option (List ℕ)) → (is_some trace ≡ true → before ≡ None) → taken_or trace before ≡ before → trace ≡ None
-no_trace None before new is = refl
-no_trace (Some text) before new is = (let none = new refl in let both : Some text ≡ None = is ∙ none in cc)
-
 module _ (k : Commands) (read_by : k.Words → List (List ℕ)) (kept : AreKept k read_by) (line : List (List ℕ)) (fetched : Fetched) (before : SinkView)
-    (stage : Stage) (texts : List NamedFile) (reads writes : ℕ) (after : SinkView) (is : IsFetchedFor k read_by line fetched)
-    (put : writes ≡ 0 → ArePut stage) (new : AreNew stage (files_of texts)) where
+    (stage : Stage) (texts : List NamedFile) (reads writes : ℕ) (after : SinkView) (is : IsFetchedFor k read_by line fetched) where
   module _ (w : k.Words) (means : k.Means line w) (row : DoneRow (k.phases_of w) (start_over line fetched before) (shelf_seen stage texts reads writes) after) where
     same : files_of texts ≡ files_of fetched.texts
     same = row.begun
-
-    nothing_in_hand : LeavesClosed (k.phases_of w) (start_over line fetched before).shelf (shelf_seen stage texts reads writes) (Ok row.answer) → hand_of stage ≡ Nothing
-    nothing_in_hand (inl none) = none
-    nothing_in_hand (inr kept_so) = kept_so.0
 
     given : (name : List ℕ) → Contains (read_by w) name → WasGiven fetched name
     given name named =
@@ -59,29 +46,27 @@ module _ (k : Commands) (read_by : k.Words → List (List ℕ)) (kept : AreKept 
     textless : (name : List ℕ) → (Contains (read_by w) name → ⊥) → files_of texts name ≡ None
     textless name not = none_found (files_of texts name) (λ there. not (is.among w means name (ap (λ (f : Files). is_some (f name)) (sym same) ∙ there)))
 
-    taken_one : (file : File) → (Contains (read_by w) file.name → ⊥) → files_in stage (files_of texts) file.name ≡ Some file.bytes → WasTaken stage file
-    taken_one file not whole =
-        let took = by_trace (traced (taken_in stage) file.name) (files_of texts file.name) file.bytes (textless file.name not) whole in
-        let none = nothing_in_hand row.closed in
-        record {
-          took = took;
-          put = put (row.counts.writes []) file.name (ap (λ (o : Option (List ℕ)). is_some o) took) (λ created. (let both : Nothing ≡ Created file.name = sym none ∙ created in cc));
-        }
+    -- its bytes were taken, and put
+    taken_one : (file : File) → (Contains (read_by w) file.name → ⊥) → written_in stage file.name ≡ Some file.bytes → files_in stage (files_of texts) file.name ≡ Some file.bytes → WasTaken stage file
+    taken_one file not took whole = record {
+      took = took;
+      put = by_trace (traced (put_in stage) file.name) (files_of texts file.name) file.bytes (textless file.name not) whole;
+    }
+
+    all_files : take (length row.answer.files) row.answer.files ≡ row.answer.files
+    all_files = take_all (length row.answer.files) row.answer.files (omega arith)
+
+    written : All (IsWhole true (written_in stage)) row.answer.files
+    written = subst (All (IsWhole true (written_in stage))) all_files row.delivered.written.whole
 
     whole : All (IsWhole true (files_in stage (files_of texts))) row.answer.files
-    whole = subst (All (IsWhole true (files_in stage (files_of texts)))) (take_all (length row.answer.files) row.answer.files (omega arith)) row.written.whole
+    whole = subst (All (IsWhole true (files_in stage (files_of texts)))) all_files row.delivered.put.whole
 
     taken : All (WasTaken stage) row.answer.files
-    taken = λ i d less. taken_one (get_or row.answer.files i d) (others_written i d less) (whole i d less refl)
+    taken = λ i d less. taken_one (get_or row.answer.files i d) (others_written i d less) (written i d less refl) (whole i d less refl)
 
     untaken : (name : List ℕ) → (Contains (map name_in row.answer.files) name → ⊥) → traced (taken_in stage) name ≡ None
-    untaken name not =
-        let all : take (length row.answer.files + 1) row.answer.files ≡ row.answer.files = take_all (length row.answer.files + 1) row.answer.files (omega arith) in
-        let still : files_in stage (files_of texts) name ≡ files_of fetched.texts name =
-        row.written.rest name (λ within. not (subst (λ (fs : List File). Contains (map name_in fs) name) all within)) in
-        no_trace (traced (taken_in stage) name) (files_of texts name)
-        (λ made. none_found (files_of texts name) (λ there. false≢true (sym (new name made) ∙ there)))
-        (still ∙ ap (λ (f : Files). f name) (sym same))
+    untaken name not = row.delivered.written.rest name (λ within. not (subst (λ (fs : List File). Contains (map name_in fs) name) all_files within))
 
     pub row_shipped : Shipped k read_by line fetched before stage texts reads writes after
     row_shipped = record { words = w; means = means; row = row; inputs = given; outputs = taken; others = untaken }

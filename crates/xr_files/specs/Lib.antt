@@ -1,4 +1,5 @@
 -- Definitions of xr_files.
+pub mod Target
 pub mod Stage
 pub mod Put
 pub mod GivenUp

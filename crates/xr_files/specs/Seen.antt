@@ -2,7 +2,7 @@
 use Rattle.std.specs.Prelude.{ℕ, List}
 use Rattle.xr_shelf.specs.Shelf.{View}
 use Rattle.xr_shelf.specs.NamedFiles.{File, files_of}
-use Rattle.xr_files.specs.Stage.{hand_of, files_in, unread_in}
+use Rattle.xr_files.specs.Stage.{hand_of, files_in, unread_in, written_in}
 use Rattle.xr_files.specs.declared.stage.Stage.{Stage}
 
 -- By its stage and the texts that were fetched, which it is made over; its counts are those of every name.
@@ -12,6 +12,7 @@ shelf_seen stage texts reads writes = record {
   writes = λ _. writes;
   hand = hand_of stage;
   files = files_in stage (files_of texts);
+  written = written_in stage;
   unread = unread_in stage (files_of texts);
   begun = files_of texts;
 }

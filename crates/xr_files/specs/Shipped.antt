@@ -28,10 +28,10 @@ pub record WasGiven (fetched : Fetched) (name : List ℕ) : Type 0 where
   pub gave : traced fetched.gave.entries name ≡ Some text
   pub ended : traced fetched.ended.entries name ≡ Some text
 
--- Since the file was made, its writes took exactly these bytes, and then it was put under its name.
+-- Since the file was made, its writes took exactly these bytes, and with these it was put under its name.
 pub record WasTaken (stage : Stage) (file : File) : Type 0 where
   pub took : traced (taken_in stage) file.name ≡ Some file.bytes
-  pub put : IsPut stage file.name
+  pub put : IsPut stage file.name file.bytes
 
 -- No file of an answer has a name that is read.
 abbrev pub WritesOthers : List (List ℕ) → Answer → Type 0

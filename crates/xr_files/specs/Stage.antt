@@ -18,7 +18,7 @@ taken_in (Reading opened) = []
 taken_in (Wrote traces) = traces.took.entries
 taken_in (Writing created) = created.took.entries
 
--- The names that were put.
+-- What was put under each name: what its writes took until then.
 abbrev pub put_in : Stage → List Traced
 put_in Resting = []
 put_in (Reading opened) = []
@@ -29,12 +29,16 @@ abbrev pub taken_or : Option (List ℕ) → Option (List ℕ) → Option (List �
 taken_or None before = before
 taken_or (Some bytes) before = Some bytes
 
--- What was written of a name, else what it held before.
+-- What was put under a name, else what it held before.
 abbrev pub taken_over : List Traced → Files → Files
-taken_over took texts name = taken_or (traced took name) (texts name)
+taken_over put texts name = taken_or (traced put name) (texts name)
 
 abbrev pub files_in : Stage → Files → Files
-files_in stage texts = taken_over (taken_in stage) texts
+files_in stage texts = taken_over (put_in stage) texts
+
+-- What was written of a name.
+abbrev pub written_in : Stage → Files
+written_in stage name = traced (taken_in stage) name
 
 -- What isn't read of the opened file.
 abbrev pub unread_in : Stage → Files → List ℕ

@@ -2,15 +2,13 @@
 
 ghost use Rattle.std.specs.Prelude.{◌≡◌, is_some, IsTrue};
 ghost use Rattle.xr_shelf.specs.NamedFiles.{files_of};
-ghost use Rattle.xr_files.specs.Put.{AreNew, ArePut};
 ghost use Rattle.xr_files.specs.GivenUp.{GivesUp};
+ghost use Rattle.xr_files.specs.Put.{AreNew};
 ghost use Rattle.xr_files.specs.Stage.{put_in, taken_in};
-ghost use Rattle.std.proofs.Props.{props};
 
 use crate::fetched::Fetched;
-use crate::noted::{create_noted, put_noted};
+use crate::parts::Parts;
 use crate::stage::{Created, Opened, Stage, Traces};
-use crate::target::target_of;
 use std::alloc::Global;
 use std::fs::File;
 use std::mem;
@@ -20,17 +18,18 @@ use xr_shelf::{FaultCount, IoErr, Shelf};
 /// Real files, which report their bytes: of a file that is read the text that was fetched, of one that is written what
 /// its writes took. Once a file was made none is read, and no file that has a text is made.
 ///
-/// The bytes of a file lie in `NAME.part`, which is made new, until the file is closed; then it is renamed to `NAME`.
-/// After a failed write it is removed instead. A device, a pipe or a link is written itself.
+/// The bytes of a file lie in `NAME.part`, which is made new, until the file is put: then it is renamed to `NAME`. A run
+/// that gives up its files removes them instead. A device, a pipe or a link is written itself, and takes its bytes as they
+/// are written.
 #[derive(Drop)]
 pub struct FileShelf<'a, R: Files<File = File>> {
     files: &'a R,
     alloc: Global,
     fetched: &'a Fetched,
     stage: Stage,
+    parts: Parts,
     read_faults: FaultCount,
     write_faults: FaultCount,
-    pub ghost put: { write_faults ≡ 0 → ArePut stage } by { Prim.hlevel props },
     pub ghost apart: { AreNew stage (files_of fetched.now.texts) },
 }
 
@@ -47,6 +46,7 @@ impl<'a, R: Files<File = File>> FileShelf<'a, R> {
             alloc,
             fetched,
             stage: Stage::Resting,
+            parts: Parts::new(alloc),
             read_faults: FaultCount::new(),
             write_faults: FaultCount::new(),
         }
@@ -63,56 +63,30 @@ impl<'a, R: Files<File = File>> FileShelf<'a, R> {
         }
     }
 
-    /// Gives up the file in hand. One that was made is put under its name, or removed where a write failed.
-    fn give_up(&mut self) -> Result<(), IoErr>
+    /// Gives up the file in hand.
+    fn give_up(&mut self)
         ensures fetched { self.new.fetched ≡ self.old.fetched }
         ensures reads { self.new.read_faults ≡ self.old.read_faults }
-        ensures step { GivesUp self.old.stage self.new.stage self.old.write_faults self.new.write_faults result }
+        ensures writes { self.new.write_faults ≡ self.old.write_faults }
+        ensures step { GivesUp self.old.stage self.new.stage }
     {
-        match mem::replace(&mut self.stage, Stage::Resting) {
-            Stage::Resting => Ok(()),
-            Stage::Reading(_) => Ok(()),
-            Stage::Wrote(traces) => {
-                self.stage = Stage::Wrote(traces);
-                Ok(())
-            }
-            Stage::Writing(created) => self.finish(created),
-        }
+        self.stage = given_up(mem::replace(&mut self.stage, Stage::Resting));
     }
+}
 
-    /// Puts a file that was made under its name, or removes it where a write failed.
-    fn finish(&mut self, created: Created) -> Result<(), IoErr>
-        requires put { self.old.write_faults ≡ 0 → ArePut (Stage.Writing created) }
-        requires new { AreNew (Stage.Writing created) (files_of self.old.fetched.now.texts) }
-        ensures fetched { self.new.fetched ≡ self.old.fetched }
-        ensures reads { self.new.read_faults ≡ self.old.read_faults }
-        ensures step { GivesUp (Stage.Writing created) self.new.stage self.old.write_faults self.new.write_faults
-            result }
-    {
-        let Created {
-            name,
-            file: _,
-            target,
-            took,
-            mut put,
-        } = created;
-        if self.write_faults.count() > 0 {
-            target.discard(self.files);
-            self.stage = Stage::Wrote(Traces { took, put });
-            return Ok(());
-        }
-        match put_noted(self.files, name.as_str(), &target, &mut put) {
-            Ok(()) => {
-                self.stage = Stage::Wrote(Traces { took, put });
-                Ok(())
-            }
-            Err(_) => {
-                target.discard(self.files);
-                self.write_faults.rise();
-                self.stage = Stage::Wrote(Traces { took, put });
-                Err(IoErr::Failed)
-            }
-        }
+/// The stage without the file in hand.
+#[tactic(auto)]
+fn given_up(stage: Stage) -> Stage
+    ensures { GivesUp stage result }
+{
+    match stage {
+        Stage::Resting => Stage::Resting,
+        Stage::Reading(_) => Stage::Resting,
+        Stage::Wrote(traces) => Stage::Wrote(traces),
+        Stage::Writing(created) => Stage::Wrote(Traces {
+            took: created.took,
+            put: created.put,
+        }),
     }
 }
 
@@ -142,7 +116,7 @@ impl<'a, R: Files<File = File>> Shelf for FileShelf<'a, R> {
     ghost view = { λ s. shelf_seen s.stage s.fetched.now.texts s.read_faults s.write_faults };
 
     fn open_file(&mut self, name: &str) -> Result<(), IoErr> {
-        let _ = self.give_up();
+        self.give_up();
         if !self.has_text(name) {
             self.read_faults.rise();
             return Err(IoErr::Failed);
@@ -168,29 +142,31 @@ impl<'a, R: Files<File = File>> Shelf for FileShelf<'a, R> {
     }
 
     fn create_file(&mut self, name: &str) -> Result<(), IoErr> {
-        self.give_up()?;
+        self.give_up();
         if self.fetched.has(name) {
             self.write_faults.rise();
             return Err(IoErr::Failed);
         }
         let copy = String::from_str(self.alloc, name)?;
-        let target = target_of(self.files, self.alloc, name)?;
-        let Traces { mut took, mut put } = traces_of(mem::replace(&mut self.stage, Stage::Resting));
-        match create_noted(self.files, name, &target, &mut took, &mut put) {
+        let Traces { mut took, put } = traces_of(mem::replace(&mut self.stage, Stage::Resting));
+        match self.parts.make(self.files, name, &mut took) {
             Ok(file) => {
                 self.stage = Stage::Writing(Created {
                     name: copy,
                     file,
-                    target,
                     took,
                     put,
                 });
                 Ok(())
             }
-            Err(_) => {
+            Err(IoErr::Failed) => {
                 self.stage = Stage::Wrote(Traces { took, put });
                 self.write_faults.rise();
                 Err(IoErr::Failed)
+            }
+            Err(IoErr::Memory) => {
+                self.stage = Stage::Wrote(Traces { took, put });
+                Err(IoErr::Memory)
             }
         }
     }
@@ -209,7 +185,28 @@ impl<'a, R: Files<File = File>> Shelf for FileShelf<'a, R> {
     }
 
     fn close_file(&mut self) -> Result<(), IoErr> {
-        self.give_up()
+        self.give_up();
+        Ok(())
+    }
+
+    fn put_file(&mut self, name: &str) -> Result<(), IoErr> {
+        let Traces { took, mut put } = traces_of(mem::replace(&mut self.stage, Stage::Resting));
+        match self.parts.put(self.files, name, &took, &mut put) {
+            Ok(()) => {
+                self.stage = Stage::Wrote(Traces { took, put });
+                Ok(())
+            }
+            Err(_) => {
+                self.stage = Stage::Wrote(Traces { took, put });
+                self.write_faults.rise();
+                Err(IoErr::Failed)
+            }
+        }
+    }
+
+    fn discard(&mut self) {
+        self.give_up();
+        self.parts.discard(self.files);
     }
 }
 
@@ -232,12 +229,39 @@ mod tests {
         assert!(rt; matches!(gone, Err(ReadErr::Fault)));
         assert_eq!(rt; shelf.read_faults.count(), 1);
         assert!(rt; write_all(&mut shelf, name.as_str(), b"#0\n").is_ok());
+        assert!(rt; fs::read(&rt, name.as_str()).is_err());
+        assert!(rt; shelf.put_file(name.as_str()).is_ok());
         let mut fetched = Fetched::new(rt.alloc(), 100);
         assert!(rt; fetched.fetch(&rt, name.as_str()).is_ok());
         let mut again = FileShelf::new(&rt, rt.alloc(), &fetched);
         let read = read_all(rt.alloc(), &mut again, name.as_str(), 100);
         assert!(rt; matches!(&read, Ok(text) if text.as_slice() == b"#0\n".as_slice()));
         assert!(rt; write_all(&mut again, name.as_str(), b"#1\n").is_err());
+        fs::remove_file(&rt, name.as_str())?;
+        Ok(())
+    }
+
+    /// Two files are written, and the second can't be: neither name changes, and no part is left.
+    #[test]
+    fn leaves_no_part(rt: HostRuntime) -> Result<(), Fail> {
+        let folder = env::temp_dir(&rt)?;
+        let id = process::id(rt.process());
+        let name = format!(in rt.alloc(); "{}/xr_files-{id}.code", folder.as_path().display())?;
+        let part = format!(in rt.alloc(); "{}.part", name)?;
+        let other = format!(in rt.alloc();
+            "{}/none/xr_files-{id}.code",
+            folder.as_path().display()
+        )?;
+        fs::write(&rt, name.as_str(), b"old")?;
+        let none = Fetched::new(rt.alloc(), 100);
+        let mut shelf = FileShelf::new(&rt, rt.alloc(), &none);
+        assert!(rt; write_all(&mut shelf, name.as_str(), b"new").is_ok());
+        assert!(rt; fs::read(&rt, part.as_str()).is_ok());
+        assert!(rt; write_all(&mut shelf, other.as_str(), b"new").is_err());
+        shelf.discard();
+        assert!(rt; fs::read(&rt, part.as_str()).is_err());
+        let left = fs::read(&rt, name.as_str())?;
+        assert_eq!(rt; left.as_slice(), b"old".as_slice());
         fs::remove_file(&rt, name.as_str())?;
         Ok(())
     }

@@ -10,6 +10,7 @@ mod fetched;
 mod file_shelf;
 mod noted;
 mod out_sink;
+mod parts;
 mod progress;
 mod stage;
 mod target;

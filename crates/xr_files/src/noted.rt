@@ -4,8 +4,7 @@
 //! stands on the notes is proved.
 
 ghost use Rattle.std.specs.Prelude.{◌≡◌, ◌<◌, ◌≤◌, ◌+◌, [], length, take, IfOk, OnOk, OnErr};
-ghost use Rattle.xr_trace.specs.Record.{traced_anew, traced_more};
-ghost use Rattle.xr_files.specs.Put.{put_mark};
+ghost use Rattle.xr_trace.specs.Record.{traced_anew, traced_bytes, traced_more};
 
 use crate::target::Target;
 use std::fs;
@@ -38,19 +37,16 @@ pub fn read_noted<F: Read>(
     }
 }
 
-/// Makes a file for a name, and notes that nothing was written of it, and that it isn't put under its name.
+/// Makes a file for a name, and notes that nothing was written of it.
 #[tactic(auto)]
 pub fn create_noted<R: Files<File = File>>(
     files: &R,
     name: &str,
     target: &Target,
     took: &mut Record,
-    put: &mut Record,
 ) -> Result<File, Refused>
     ensures ok { OnOk result (took.new.entries ≡ traced_anew name.now [] took.old.entries) }
-    ensures unput { OnOk result (put.new.entries ≡ traced_anew name.now [] put.old.entries) }
     ensures err { OnErr result (took.new.entries ≡ took.old.entries) }
-    ensures err_put { OnErr result (put.new.entries ≡ put.old.entries) }
 {
     let made = match target {
         Target::Part(part) => File::create_new(files, part.as_str()),
@@ -59,7 +55,6 @@ pub fn create_noted<R: Files<File = File>>(
     match made {
         Ok(file) => {
             took.set(name.as_bytes(), &[]);
-            put.set(name.as_bytes(), &[]);
             Ok(file)
         }
         Err(_) => Err(Refused),
@@ -87,15 +82,18 @@ pub fn write_noted<W: Write>(
     }
 }
 
-/// Puts a file under its name, and notes that it was put there.
+/// Puts a file under its name, and notes that what its writes took stands there. A device, a pipe or a link took it as it
+/// was written.
 #[tactic(auto)]
 pub fn put_noted<R: Files<File = File>>(
     files: &R,
     name: &str,
     target: &Target,
+    took: &Record,
     put: &mut Record,
 ) -> Result<(), Refused>
-    ensures ok { OnOk result (put.new.entries ≡ traced_anew name.now put_mark put.old.entries) }
+    ensures ok { OnOk result (put.new.entries
+        ≡ traced_anew name.now (traced_bytes took.now.entries name.now) put.old.entries) }
     ensures err { OnErr result (put.new.entries ≡ put.old.entries) }
 {
     let moved = match target {
@@ -104,7 +102,7 @@ pub fn put_noted<R: Files<File = File>>(
     };
     match moved {
         Ok(()) => {
-            put.set(name.as_bytes(), &[1]);
+            put.copy(name.as_bytes(), took);
             Ok(())
         }
         Err(_) => Err(Refused),

@@ -4,7 +4,6 @@ ghost use Rattle.std.specs.Prelude.{◌≡◌, ◌<◌, ◌≤◌, ◌++◌, [],
 ghost use Rattle.xr_trace.specs.Record.{is_traced, traced_more};
 
 use crate::noted::{Refused, write_noted};
-use crate::target::Target;
 use std::fs::File;
 use xr_trace::Record;
 
@@ -42,7 +41,7 @@ fn give(unread: &[u8], buffer: &mut [u8]) -> usize
     count
 }
 
-/// What the writes of each name took since its file was made; and of each name whether that file was put under it.
+/// What the writes of each name took since its file was made; and of each name what was put under it.
 #[derive(Drop)]
 pub struct Traces {
     pub took: Record,
@@ -67,7 +66,6 @@ impl Traces {
 pub struct Created {
     pub name: String,
     pub file: File,
-    pub target: Target,
     pub took: Record,
     pub put: Record,
     ghost begun: { is_traced took.entries (string_bytes name) ≡ true },

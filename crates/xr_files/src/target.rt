@@ -1,5 +1,8 @@
 //! Where the bytes of a file lie while it is written.
 
+ghost use Rattle.std.specs.Prelude.{IfOk};
+ghost use Rattle.xr_files.specs.Target.{IsTargetOf};
+
 use std::alloc::Global;
 use std::fs;
 use std::fs::File;
@@ -7,7 +10,7 @@ use std::io::ErrorKind;
 use std::rt::Files;
 use xr_base::Memory;
 
-/// A file beside the name, whose bytes are put under the name once all are there; or what stands under the name itself.
+/// A file beside the name, which is put under the name once all files are written; or what stands under the name itself.
 #[derive(Drop)]
 pub enum Target {
     Part(String),
@@ -29,7 +32,9 @@ pub fn target_of<R: Files<File = File>>(
     files: &R,
     alloc: Global,
     name: &str,
-) -> Result<Target, Memory> {
+) -> Result<Target, Memory>
+    ensures { IfOk result (IsTargetOf name.now) }
+{
     if has_part(files, name) {
         return Ok(Target::Part(format!(in alloc; "{name}.part")?));
     }

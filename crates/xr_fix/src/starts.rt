@@ -15,8 +15,8 @@ use xr_design::{Bytes, Design, Stim};
 use xr_elab_names::NameSet;
 
 /// The stimulus with these bits as starts, each of the register with a written name, and all else equal; or the first
-/// piece at fault. Takes a byte for each value of the stimulus, the written names of all registers once, and a few
-/// words for each register and each piece; and time linear in all these.
+/// piece at fault. Takes as much memory as the stimulus, the written names of all registers once, and a few words for
+/// each register and each piece; and time linear in all these.
 pub fn with_starts(
     alloc: Global,
     design: &Design,
@@ -35,11 +35,11 @@ pub fn with_starts(
 {
     let starts = started(alloc, design, stim.starts.as_slice(), sets)?;
     let times = copied_times(alloc, stim.times.as_slice())?;
-    let inputs = copied_rows(alloc, stim.inputs.as_slice())?;
+    let inputs = stim.inputs.copied(alloc)?;
     Ok(Stim {
         times: Items::from_vec(times),
         rounds: stim.rounds,
-        inputs: Items::from_vec(inputs),
+        inputs,
         start: stim.start,
         starts: Items::from_vec(starts),
     })
@@ -98,16 +98,6 @@ fn copied(alloc: Global, values: &[Value]) -> Result<Vec<Value>, Memory>
     ensures { IfOk result (λ copy. copy.items ≡ values.now) }
 {
     Ok(values.to_vec(alloc)?)
-}
-
-fn copied_rows(alloc: Global, rows: &[Items<Value>]) -> Result<Vec<Items<Value>>, Memory>
-    ensures { IfOk result (λ copy. copy.items ≡ rows.now) }
-{
-    let mut copy = Vec::with_capacity(alloc, rows.len())?;
-    'rows: for row in rows {
-        copy.push(Items::from_vec(copied(alloc, row.as_slice())?))?;
-    }
-    Ok(copy)
 }
 
 fn copied_times(alloc: Global, times: &[u64]) -> Result<Vec<u64>, Memory>

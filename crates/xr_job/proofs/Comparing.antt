@@ -1,6 +1,6 @@
 -- What the first fault of a recording numbers is there, and the answer reports it.
 use Rattle.std.proofs.Common.{◌≡◌, inl, inr, ℕ, zero, suc, ◌<◌, ◌==◌, Bool, true, false, List, [], ◌∷◌, length, get_or}
-use Rattle.std.proofs.Common.{Option, None, Some, Result, Ok, Err, refl, sym, ap, subst, ◌∙◌, arith, eq-eqb}
+use Rattle.std.proofs.Common.{Option, None, Some, Result, Ok, Err, refl, sym, ap, subst, ◌∙◌, arith, eq-eqb, ⊎_elim}
 use Rattle.std.specs.Prelude.{find, unwrap_or, All, IsOk, slice_index_or}
 use Rattle.std.proofs.lemmas.Bool.Decides.{eqb_tells}
 use Rattle.xr_design.specs.Circuit.{PartsFit}
@@ -16,9 +16,11 @@ use Rattle.xr_match.specs.Bounds.{IsOf}
 use Rattle.xr_match.specs.declared.binding.Binding.{Binding}
 use Rattle.xr_match.specs.declared.binding.Bound.{Bound}
 use Rattle.xr_vcd.specs.Recording.{Recording, width_at}
-use Rattle.xr_replay.specs.Fault.{IsFaultless, IsFirstFault, TellsFirst, bound_at, no_variable}
+use Rattle.xr_replay.specs.Fault.{IsFirstFault, TellsFaultless, TellsFirst, bound_at, no_variable}
 use Rattle.xr_replay.specs.declared.differ.Differ.{Differ}
 use Rattle.xr_replay.specs.declared.differ.Differ.TheVariants as differ
+use Rattle.xr_replay.specs.declared.differ.DifferErr.{DifferErr}
+use Rattle.xr_replay.specs.declared.differ.DifferErr.TheVariants.{Differs, Memory as OutOfMemory}
 use Rattle.xr_job.specs.Netlist.{FitsNetlist}
 use Rattle.xr_job.specs.Compared.{IsReplayAnswer, IsThere, bound_in, job_for, refusal_for}
 use Rattle.xr_job.specs.declared.compare_refusal.CompareErr.{CompareErr}
@@ -115,36 +117,39 @@ pub unforced : (j : Job) (events : List Event) (history : HistoryView) → event
 unforced j events history none is = subst (λ (l : List Event). IsReplayUnder j (forced_by j l) history) none is
 
 -- Where the recording is compared: a fault is reported as it is.
-pub answer_refused : (netlist : Netlist) (recorded : Recorded) (d : Differ) (refusal : CompareRefusal) (result : Result (Unit {0}) Differ) → result ≡ Err d
-    → (IsFaultless (job_for netlist recorded) recorded.recording recorded.binding → IsOk result)
+pub answer_refused : (netlist : Netlist) (recorded : Recorded) (d : Differ) (refusal : CompareRefusal) (result : Result (Unit {0}) DifferErr) → result ≡ Err (Differs d)
+    → TellsFaultless (job_for netlist recorded) recorded.recording recorded.binding result
     → TellsFirst (job_for netlist recorded) recorded.recording recorded.binding result → refusal ≡ refusal_for netlist recorded d
     → (answer : Result HistoryView CompareErr) → answer ≡ Err (Refused refusal) → IsReplayAnswer netlist recorded answer
 answer_refused netlist recorded d refusal result is faultless first named answer ends = record {
-  replayed = λ none. absurd (not_ok result d is (faultless none));
-  refused = λ e refused. inl (
+  replayed = λ none. ⊎_elim (λ ok. absurd (not_ok result d is ok)) (λ out. absurd (not_out result d is out)) (faultless none);
+  refused = λ e refused. ⊎_elim (λ there. inl (
       ends ∙ ap (λ (r : CompareRefusal). Err (Refused r))
-      (named ∙ (ap (refusal_for netlist recorded) (same_fault result d refused.differ is (first refused.differ refused.first)) ∙ sym refused.reported)));
+      (named ∙ (ap (refusal_for netlist recorded) (same_fault result d refused.differ is there) ∙ sym refused.reported)))) (λ out. absurd (not_out result d is out)) (first refused.differ refused.first);
 }
   where
-    not_ok : (r : Result (Unit {0}) Differ) (x : Differ) → r ≡ Err x → IsOk r → ⊥
+    not_ok : (r : Result (Unit {0}) DifferErr) (x : Differ) → r ≡ Err (Differs x) → IsOk r → ⊥
     not_ok (Ok u) x same ok = cc
     not_ok (Err y) x same ok = let bad : false ≡ true = ok in cc
 
-    same_fault : (r : Result (Unit {0}) Differ) (x y : Differ) → r ≡ Err x → r ≡ Err y → x ≡ y
+    not_out : (r : Result (Unit {0}) DifferErr) (x : Differ) → r ≡ Err (Differs x) → r ≡ Err OutOfMemory → ⊥
+    not_out r x here there = cc
+
+    same_fault : (r : Result (Unit {0}) DifferErr) (x y : Differ) → r ≡ Err (Differs x) → r ≡ Err (Differs y) → x ≡ y
     same_fault r x y here there = cc
 
 -- A recording that agrees isn't refused.
-pub answer_agrees : (netlist : Netlist) (recorded : Recorded) (result : Result (Unit {0}) Differ) (u : Unit {0}) → result ≡ Ok u
+pub answer_agrees : (netlist : Netlist) (recorded : Recorded) (result : Result (Unit {0}) DifferErr) (u : Unit {0}) → result ≡ Ok u
     → TellsFirst (job_for netlist recorded) recorded.recording recorded.binding result
     → (history : HistoryView) (answer : Result HistoryView CompareErr) → answer ≡ Ok history → IsReplayAnswer netlist recorded answer
 answer_agrees netlist recorded result u is first history answer ends = record {
   replayed = λ none. inl (ok_by answer history ends);
-  refused = λ e refused. absurd (not_both result u refused.differ is (first refused.differ refused.first));
+  refused = λ e refused. ⊎_elim (λ there. absurd (not_both result u (Differs refused.differ) is there)) (λ out. absurd (not_both result u OutOfMemory is out)) (first refused.differ refused.first);
 }
   where
     ok_by : (r : Result HistoryView CompareErr) (h : HistoryView) → r ≡ Ok h → IsOk r
     ok_by (Ok x) h same = refl
     ok_by (Err e) h same = absurd cc
 
-    not_both : (r : Result (Unit {0}) Differ) (x : Unit {0}) (d : Differ) → r ≡ Ok x → r ≡ Err d → ⊥
-    not_both r x d here there = cc
+    not_both : (r : Result (Unit {0}) DifferErr) (x : Unit {0}) (e : DifferErr) → r ≡ Ok x → r ≡ Err e → ⊥
+    not_both r x e here there = cc

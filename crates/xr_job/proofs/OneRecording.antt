@@ -59,9 +59,9 @@ binding_is : (n : Binding) → binding_by n.timescale n.bound ≡ n
 unfolding binding_by
 binding_is n = refl
 
-module _ (design : Design) (recording : Recording) (scope : List (List ℕ)) (rounds : ℕ) where
+module _ (design : Design) (recording : Recording) (scope : List (List ℕ)) (rounds most : ℕ) where
   -- The first cause is one.
-  one_cause : (a b : BindErr) → IsRefusal design recording scope rounds a → IsRefusal design recording scope rounds b → a ≡ b
+  one_cause : (a b : BindErr) → IsRefusal design recording scope rounds most a → IsRefusal design recording scope rounds most b → a ≡ b
   one_cause cause.NoScope cause.NoScope first second = refl
   one_cause cause.NoScope (cause.RangeDiffers w) first second = absurd (both (has_scope scope recording.scopes) second.there first)
   one_cause cause.NoScope (cause.MissingInput n) first second = absurd (both (has_scope scope recording.scopes) (let m = second.matches in m.there) first)
@@ -86,14 +86,14 @@ module _ (design : Design) (recording : Recording) (scope : List (List ℕ)) (ro
   one_cause cause.Memory b first second = absurd first
 
   -- What is bound has no cause to be refused.
-  bound_or_cause : (binding : Binding) (e : BindErr) → IsBinding design recording scope rounds binding → IsRefusal design recording scope rounds e → ⊥
+  bound_or_cause : (binding : Binding) (e : BindErr) → IsBinding design recording scope rounds most binding → IsRefusal design recording scope rounds most e → ⊥
   bound_or_cause binding cause.NoScope is refused = both (has_scope scope recording.scopes) (let m = is.matches in m.there) refused
   bound_or_cause binding (cause.RangeDiffers v) is refused = matches_or_first design recording scope v is.matches refused.first
   bound_or_cause binding (cause.MissingInput n) is refused = all_or_least design (bounds_of design scope recording) n is.inputs refused.least
   bound_or_cause binding (cause.TooLarge p) is refused = let m = refused.many in let few = is.places in let many = m.many in let count = m.count in omega arith
   bound_or_cause binding cause.Memory is refused = refused
 
-  one_binding : (a b : Binding) → IsBinding design recording scope rounds a → IsBinding design recording scope rounds b → a ≡ b
+  one_binding : (a b : Binding) → IsBinding design recording scope rounds most a → IsBinding design recording scope rounds most b → a ≡ b
   one_binding a b first second =
       let bound : a.bound ≡ b.bound = first.bound ∙ sym second.bound in
       let scale : a.timescale ≡ b.timescale = first.timescale ∙ sym second.timescale in
@@ -126,67 +126,67 @@ one_faulty text a b first second =
     same_recording_fault a b (sym first.says ∙ (ap fault_of (one_fault text first.cause second.cause first.first second.first) ∙ second.says))
 
 -- A refusal is the first fault of the text, or that of a recording.
-data RefusedAs (text : List ℕ) (design : Design) (scope : List (List ℕ)) (rounds : ℕ) (e : RecordingRefusal) : Type 0 where
-  faulty : (fault : RecordingFault) → e ≡ Grammar fault → IsFaulty text fault → RefusedAs text design scope rounds e
-  alone : IsRecordingAlone text design scope rounds e → RefusedAs text design scope rounds e
+data RefusedAs (text : List ℕ) (design : Design) (scope : List (List ℕ)) (rounds most : ℕ) (e : RecordingRefusal) : Type 0 where
+  faulty : (fault : RecordingFault) → e ≡ Grammar fault → IsFaulty text fault → RefusedAs text design scope rounds most e
+  alone : IsRecordingAlone text design scope rounds most e → RefusedAs text design scope rounds most e
 
-refused_as : (text : List ℕ) (design : Design) (scope : List (List ℕ)) (rounds : ℕ) (e : RecordingRefusal)
-    → IsRefusedRecording text design scope rounds e → RefusedAs text design scope rounds e
-refused_as text design scope rounds (Grammar fault) refused = faulty fault refl refused
-refused_as text design scope rounds (NoScope name) refused = alone refused
-refused_as text design scope rounds (RangeDiffers name) refused = alone refused
-refused_as text design scope rounds (MissingInput name) refused = alone refused
-refused_as text design scope rounds (TooLarge places) refused = alone refused
+refused_as : (text : List ℕ) (design : Design) (scope : List (List ℕ)) (rounds most : ℕ) (e : RecordingRefusal)
+    → IsRefusedRecording text design scope rounds most e → RefusedAs text design scope rounds most e
+refused_as text design scope rounds most (Grammar fault) refused = faulty fault refl refused
+refused_as text design scope rounds most (NoScope name) refused = alone refused
+refused_as text design scope rounds most (RangeDiffers name) refused = alone refused
+refused_as text design scope rounds most (MissingInput name) refused = alone refused
+refused_as text design scope rounds most (TooLarge places) refused = alone refused
 
-module _ (text : List ℕ) (design : Design) (scope : List (List ℕ)) (rounds : ℕ) where
-  one_alone : (e f : RecordingRefusal) → IsRecordingAlone text design scope rounds e → IsRecordingAlone text design scope rounds f → e ≡ f
+module _ (text : List ℕ) (design : Design) (scope : List (List ℕ)) (rounds most : ℕ) where
+  one_alone : (e f : RecordingRefusal) → IsRecordingAlone text design scope rounds most e → IsRecordingAlone text design scope rounds most f → e ≡ f
   one_alone e f first second =
       let same = one_said text second.recording first.recording second.says first.says in
-      let there : IsUnbound design first.recording scope rounds f = subst (λ (r : Recording). IsUnbound design r scope rounds f) same second.unbound in
+      let there : IsUnbound design first.recording scope rounds most f = subst (λ (r : Recording). IsUnbound design r scope rounds most f) same second.unbound in
       one_unbound first.recording first.unbound there
     where
-      one_unbound : (recording : Recording) → IsUnbound design recording scope rounds e → IsUnbound design recording scope rounds f → e ≡ f
+      one_unbound : (recording : Recording) → IsUnbound design recording scope rounds most e → IsUnbound design recording scope rounds most f → e ≡ f
       one_unbound recording here there =
-          let causes = one_cause design recording scope rounds there.cause here.cause there.refused here.refused in
+          let causes = one_cause design recording scope rounds most there.cause here.cause there.refused here.refused in
           one_report design recording scope here.cause e f here.reports
           (subst (λ (c : BindErr). Reports design recording scope c f) causes there.reports)
 
-  one_refused : (e f : RecordingRefusal) → RefusedAs text design scope rounds e → RefusedAs text design scope rounds f → e ≡ f
+  one_refused : (e f : RecordingRefusal) → RefusedAs text design scope rounds most e → RefusedAs text design scope rounds most f → e ≡ f
   one_refused e f (faulty a is first) (faulty b other second) = is ∙ (ap (λ (x : RecordingFault). Grammar x) (one_faulty text a b first second) ∙ sym other)
   one_refused e f (faulty a is first) (alone second) = absurd (said_without_fault text second.recording first.cause second.says first.first)
   one_refused e f (alone first) (faulty b other second) = absurd (said_without_fault text first.recording second.cause first.says second.first)
   one_refused e f (alone first) (alone second) = one_alone e f first second
 
   recorded_or_refused : (start : StartRule) (r : Recorded) (e : RecordingRefusal)
-      → IsRecorded text design scope rounds start r → RefusedAs text design scope rounds e → ⊥
+      → IsRecorded text design scope rounds most start r → RefusedAs text design scope rounds most e → ⊥
   recorded_or_refused start r e is (faulty a same first) = said_without_fault text r.recording first.cause is.says first.first
   recorded_or_refused start r e is (alone other) =
       let same = one_said text r.recording other.recording is.says other.says in
-      let unbound : IsUnbound design r.recording scope rounds e = subst (λ (x : Recording). IsUnbound design x scope rounds e) (sym same) other.unbound in
-      bound_or_cause design r.recording scope rounds r.binding unbound.cause is.bound unbound.refused
+      let unbound : IsUnbound design r.recording scope rounds most e = subst (λ (x : Recording). IsUnbound design x scope rounds most e) (sym same) other.unbound in
+      bound_or_cause design r.recording scope rounds most r.binding unbound.cause is.bound unbound.refused
 
-  one_recorded : (start : StartRule) (a b : Recorded) → IsRecorded text design scope rounds start a
-      → IsRecorded text design scope rounds start b → (a.recording ≡ b.recording) × (a.binding ≡ b.binding)
+  one_recorded : (start : StartRule) (a b : Recorded) → IsRecorded text design scope rounds most start a
+      → IsRecorded text design scope rounds most start b → (a.recording ≡ b.recording) × (a.binding ≡ b.binding)
   one_recorded start a b first second =
       let same = one_said text a.recording b.recording first.says second.says in
-      let there : IsBinding design a.recording scope rounds b.binding =
-      subst (λ (x : Recording). IsBinding design x scope rounds b.binding) (sym same) second.bound in
-      (same, one_binding design a.recording scope rounds a.binding b.binding first.bound there)
+      let there : IsBinding design a.recording scope rounds most b.binding =
+      subst (λ (x : Recording). IsBinding design x scope rounds most b.binding) (sym same) second.bound in
+      (same, one_binding design a.recording scope rounds most a.binding b.binding first.bound there)
 
   -- The law.
   pub one_recording : (start : StartRule) (a b : Result Recorded RecordingRefusal)
-      → RecordingComes text design scope rounds start a → RecordingComes text design scope rounds start b → IsSame a b
+      → RecordingComes text design scope rounds most start a → RecordingComes text design scope rounds most start b → IsSame a b
   one_recording start (Ok a) (Ok b) first second = one_recorded start a b first second
-  one_recording start (Ok a) (Err f) first second = recorded_or_refused start a f first (refused_as text design scope rounds f second)
-  one_recording start (Err e) (Ok b) first second = recorded_or_refused start b e second (refused_as text design scope rounds e first)
+  one_recording start (Ok a) (Err f) first second = recorded_or_refused start a f first (refused_as text design scope rounds most f second)
+  one_recording start (Err e) (Ok b) first second = recorded_or_refused start b e second (refused_as text design scope rounds most e first)
   one_recording start (Err e) (Err f) first second =
-      one_refused e f (refused_as text design scope rounds e first) (refused_as text design scope rounds f second)
+      one_refused e f (refused_as text design scope rounds most e first) (refused_as text design scope rounds most f second)
 
   -- What a call answers, but for memory, is what the text comes to.
   pub recording_answer : (start : StartRule) (result : Result Recorded RecordingErr)
-      → IfOk result (IsRecorded text design scope rounds start)
-      → IfErr result (IfRecordingRefused (IsRefusedRecording text design scope rounds))
-      → IsRecordingAnswer text design scope rounds start result
+      → IfOk result (IsRecorded text design scope rounds most start)
+      → IfErr result (IfRecordingRefused (IsRefusedRecording text design scope rounds most))
+      → IsRecordingAnswer text design scope rounds most start result
   recording_answer start (Ok recorded) is refused = λ outcome comes. one_recording start (Ok recorded) outcome is comes
   recording_answer start (Err (Refused refusal)) is refused = λ outcome comes. one_recording start (Err refusal) outcome refused comes
   recording_answer start (Err Memory) is refused = λ outcome comes. tt

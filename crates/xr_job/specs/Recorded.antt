@@ -1,6 +1,6 @@
 -- What a recording's text comes to for a design: a recording whose variables are bound, and the stimulus that they
 -- give; or the first refusal.
-use Rattle.std.specs.Prelude.{◌≡◌, ℕ, ◌<◌, ◌≤◌, List, Some, Result, Ok, Err, length, All}
+use Rattle.std.specs.Prelude.{◌≡◌, ℕ, ◌*◌, ◌^◌, ◌<◌, ◌≤◌, List, Some, Result, Ok, Err, length, All}
 use Rattle.xr_vcd.specs.Faults.{FirstFault, Says}
 use Rattle.xr_vcd.specs.Recording.{Recording}
 use Rattle.xr_vcd.specs.RecordingFault.{fault_of}
@@ -25,11 +25,16 @@ use Rattle.xr_job.specs.declared.recording_refusal.RecordingRefusal.{RecordingRe
 use Rattle.xr_job.specs.declared.recording_refusal.RecordingRefusal.TheVariants.{Grammar, NoScope, RangeDiffers}
 use Rattle.xr_job.specs.declared.recording_refusal.RecordingRefusal.TheVariants.{MissingInput, TooLarge}
 
--- The text says a recording, its variables are bound, and this is the stimulus that they give.
-pub record IsRecorded (text : List ℕ) (design : Design) (scope : Texts) (rounds : ℕ)
+-- The most places of a job that is walked over: nets by moments by rounds.
+abbrev pub place_limit : ℕ
+place_limit = 2 ^ 27
+
+-- The text says a recording, its variables are bound for at most so many places, and this is the stimulus that they
+-- give.
+pub record IsRecorded (text : List ℕ) (design : Design) (scope : Texts) (rounds most : ℕ)
     (start : StartRule) (r : Recorded) : Type 0 where
   pub says : Says text r.recording
-  pub bound : bind.IsBinding design r.recording scope rounds r.binding
+  pub bound : bind.IsBinding design r.recording scope rounds most r.binding
   pub stim : IsStimOf design r.recording r.binding.bound rounds start r.stim
 
 -- The first fault of the text.
@@ -54,28 +59,30 @@ Reports design recording scope (cause.TooLarge places) refusal = refusal ≡ Too
 Reports design recording scope cause.Memory refusal = ⊥
 
 -- The variables aren't bound, and the refusal names the first cause.
-pub record IsUnbound (design : Design) (recording : Recording) (scope : Texts) (rounds : ℕ)
+pub record IsUnbound (design : Design) (recording : Recording) (scope : Texts) (rounds most : ℕ)
     (refusal : RecordingRefusal) : Type 0 where
   pub cause : BindErr
-  pub refused : bind.IsRefusal design recording scope rounds cause
+  pub refused : bind.IsRefusal design recording scope rounds most cause
   pub reports : Reports design recording scope cause refusal
 
 -- The text says a recording whose variables aren't bound.
-pub record IsRecordingAlone (text : List ℕ) (design : Design) (scope : Texts) (rounds : ℕ)
+pub record IsRecordingAlone (text : List ℕ) (design : Design) (scope : Texts) (rounds most : ℕ)
     (refusal : RecordingRefusal) : Type 0 where
   pub recording : Recording
   pub says : Says text recording
-  pub unbound : IsUnbound design recording scope rounds refusal
+  pub unbound : IsUnbound design recording scope rounds most refusal
 
 -- Each refusal by its cause.
-abbrev pub IsRefusedRecording : List ℕ → Design → Texts → ℕ → RecordingRefusal → Type 0
-IsRefusedRecording text design scope rounds (Grammar fault) = IsFaulty text fault
-IsRefusedRecording text design scope rounds refusal = IsRecordingAlone text design scope rounds refusal
+abbrev pub IsRefusedRecording : List ℕ → Design → Texts → ℕ → ℕ → RecordingRefusal → Type 0
+IsRefusedRecording text design scope rounds most (Grammar fault) = IsFaulty text fault
+IsRefusedRecording text design scope rounds most refusal = IsRecordingAlone text design scope rounds most refusal
 
--- What the text comes to.
-abbrev pub RecordingComes : List ℕ → Design → Texts → ℕ → StartRule → Result Recorded RecordingRefusal → Type 0
-RecordingComes text design scope rounds start (Ok recorded) = IsRecorded text design scope rounds start recorded
-RecordingComes text design scope rounds start (Err refusal) = IsRefusedRecording text design scope rounds refusal
+-- What the text comes to, for a replay of so many rounds and of at most so many places.
+abbrev pub RecordingComes : List ℕ → Design → Texts → ℕ → ℕ → StartRule → Result Recorded RecordingRefusal → Type 0
+RecordingComes text design scope rounds most start (Ok recorded) =
+    IsRecorded text design scope rounds most start recorded
+RecordingComes text design scope rounds most start (Err refusal) =
+    IsRefusedRecording text design scope rounds most refusal
 
 -- Two outcomes are the same: the same recording and binding, which give one stimulus, or the same refusal.
 abbrev pub IsSame : Result Recorded RecordingRefusal → Result Recorded RecordingRefusal → Type 0
@@ -96,32 +103,37 @@ AnswersRecording (Err (Refused refusal)) outcome = IsSame (Err refusal) outcome
 AnswersRecording (Err Memory) outcome = Unit {0}
 
 -- The answer is what the text comes to, unless memory runs out.
-abbrev pub IsRecordingAnswer : List ℕ → Design → Texts → ℕ → StartRule → Result Recorded RecordingErr → Type 0
-IsRecordingAnswer text design scope rounds start result =
-    (outcome : Result Recorded RecordingRefusal) → RecordingComes text design scope rounds start outcome
+abbrev pub IsRecordingAnswer : List ℕ → Design → Texts → ℕ → ℕ → StartRule → Result Recorded RecordingErr → Type 0
+IsRecordingAnswer text design scope rounds most start result =
+    (outcome : Result Recorded RecordingRefusal) → RecordingComes text design scope rounds most start outcome
     → AnswersRecording result outcome
 
 -- The law: a text comes to one outcome.
 abbrev pub RecordingsComeToOne : Type 0
-RecordingsComeToOne = (text : List ℕ) (design : Design) (scope : Texts) (rounds : ℕ) (start : StartRule)
-    (a b : Result Recorded RecordingRefusal) → RecordingComes text design scope rounds start a
-    → RecordingComes text design scope rounds start b → IsSame a b
+RecordingsComeToOne = (text : List ℕ) (design : Design) (scope : Texts) (rounds most : ℕ) (start : StartRule)
+    (a b : Result Recorded RecordingRefusal) → RecordingComes text design scope rounds most start a
+    → RecordingComes text design scope rounds most start b → IsSame a b
 
 -- A binding fits the recording that it is of.
-pub record IsBoundTo (design : Design) (recording : Recording) (scope : Texts) (rounds : ℕ)
+pub record IsBoundTo (design : Design) (recording : Recording) (scope : Texts) (rounds most : ℕ)
     (binding : Binding) : Type 0 where
-  pub is : bind.IsBinding design recording scope rounds binding
+  pub is : bind.IsBinding design recording scope rounds most binding
   pub fits : FitsBinding design binding
   pub variables : All (IsOf recording) binding.bound
 
--- What was recorded of a design fits it.
-pub record FitsRecorded (design : Design) (r : Recorded) : Type 0 where
+-- What was recorded of a design fits it, with at most so many places.
+pub record FitsRecordedWithin (most : ℕ) (design : Design) (r : Recorded) : Type 0 where
   pub stim : FitsStim design r.stim
   pub some_round : 1 ≤ r.stim.rounds
   pub few_rounds : r.stim.rounds ≤ 16
   pub times : r.recording.times ≡ r.stim.times
   pub binding : FitsBinding design r.binding
   pub variables : All (IsOf r.recording) r.binding.bound
+  pub few : length design.nets * (length r.stim.times * r.stim.rounds) ≤ most
+
+-- With few enough places to be walked over.
+abbrev pub FitsRecorded : Design → Recorded → Type 0
+FitsRecorded design r = FitsRecordedWithin place_limit design r
 
 -- What a cause numbers is there.
 abbrev pub IsNamed : Design → Recording → Texts → BindErr → Type 0

@@ -1,9 +1,9 @@
 //! The replay of a job, compared with its recording.
 
-ghost use Rattle.std.specs.Prelude.{◌≡◌, ◌<◌, ◌==◌, ◌↔◌, IfOk, IfErr, IsOk, find, length, option_map};
+ghost use Rattle.std.specs.Prelude.{◌≡◌, ◌<◌, ◌==◌, IfOk, IfErr, find, length, option_map};
 ghost use Rattle.xr_design.specs.Handed.{IsReplay};
 ghost use Rattle.xr_match.specs.Binding.{FitsBinding};
-ghost use Rattle.xr_replay.specs.Fault.{IsFaultless, IsFirstFault, TellsFirst};
+ghost use Rattle.xr_replay.specs.Fault.{IfDiffers, IsFaultless, IsFirstFault, TellsFaultless, TellsFirst};
 ghost use Rattle.xr_job.specs.Compared as spec;
 ghost use Rattle.xr_job.specs.Names.{net_name};
 ghost use Rattle.xr_job.specs.Netlist.{FitsNetlist};
@@ -17,7 +17,7 @@ use std::alloc::Global;
 use xr_base::Memory;
 use xr_design::{Bytes, Forces, History};
 use xr_match::Bound;
-use xr_replay::{Differ, compare, replay};
+use xr_replay::{Differ, DifferErr, compare, replay};
 
 /// The replay of a job without forces, where each moment is settled and the recording agrees in it; or the first fault.
 pub fn replay_and_compare(
@@ -41,27 +41,36 @@ pub fn replay_and_compare(
         &recorded.stim,
         &forces,
     )?;
-    match compared(netlist, recorded, &history) {
+    match compared(alloc, netlist, recorded, &history) {
         Ok(()) => Ok(history),
-        Err(differ) => Err(CompareErr::Refused(report_difference(
+        Err(DifferErr::Differs(differ)) => Err(CompareErr::Refused(report_difference(
             alloc, netlist, recorded, differ,
         )?)),
+        Err(DifferErr::Memory) => Err(CompareErr::Memory),
     }
 }
 
 /// The first fault of the recording, compared with the replay.
-fn compared(netlist: &Netlist, recorded: &Recorded, history: &History) -> Result<(), Differ>
+fn compared(
+    alloc: Global,
+    netlist: &Netlist,
+    recorded: &Recorded,
+    history: &History,
+) -> Result<(), DifferErr>
     requires netlist { FitsNetlist netlist.now }
     requires recorded { FitsRecorded netlist.now.design recorded.now }
     requires history { IsReplay (spec.job_for netlist.now recorded.now) history.now }
-    ensures agrees { IsOk result
-        ↔ IsFaultless (spec.job_for netlist.now recorded.now) recorded.now.recording recorded.now.binding }
-    ensures differs { IfErr result
-        (IsFirstFault (spec.job_for netlist.now recorded.now) recorded.now.recording recorded.now.binding) }
+    ensures agrees { IfOk result (λ _.
+        IsFaultless (spec.job_for netlist.now recorded.now) recorded.now.recording recorded.now.binding) }
+    ensures differs { IfErr result (IfDiffers
+        (IsFirstFault (spec.job_for netlist.now recorded.now) recorded.now.recording recorded.now.binding)) }
+    ensures faultless { TellsFaultless (spec.job_for netlist.now recorded.now)
+        recorded.now.recording recorded.now.binding result }
     ensures exact { TellsFirst (spec.job_for netlist.now recorded.now)
         recorded.now.recording recorded.now.binding result }
 {
     compare(
+        alloc,
         &netlist.design,
         &netlist.order,
         &recorded.stim,

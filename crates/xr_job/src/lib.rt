@@ -21,5 +21,5 @@ pub use laws::{netlists_come_to_one, recordings_come_to_one};
 pub use lines::{put_compare_line, put_netlist_line, put_recording_line};
 pub use netlist::{Netlist, read_netlist};
 pub use netlist_refusal::{NetlistErr, NetlistRefusal};
-pub use recorded::{Recorded, read_recording};
+pub use recorded::{PLACES, Recorded, read_recording};
 pub use recording_refusal::{RecordingErr, RecordingRefusal};

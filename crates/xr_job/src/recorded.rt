@@ -14,6 +14,9 @@ use xr_design::{Bytes, Design, StartRule, Stim};
 use xr_match::{BindErr, Binding, bind, stim_of};
 use xr_vcd::{Recording, read_vcd};
 
+/// The most places of a job that is walked over: nets by moments by rounds.
+pub const PLACES: u64 = 1 << 27;
+
 /// A recording of a design, its variables bound to the design's nets, and the stimulus that they give.
 #[derive(Drop)]
 pub struct Recorded {
@@ -22,14 +25,15 @@ pub struct Recorded {
     pub stim: Stim,
 }
 
-/// What a text records of a design in a scope, for a replay of a given number of rounds whose registers start by a
-/// rule; or why there is none.
+/// What a text records of a design in a scope, for a replay of a given number of rounds and of at most so many places,
+/// whose registers start by a rule; or why there is none.
 pub fn read_recording(
     alloc: Global,
     netlist: &Netlist,
     text: &[u8],
     scope: &[Bytes],
     rounds: u32,
+    most: u64,
     start: StartRule,
 ) -> Result<Recorded, RecordingErr>
     requires size { length text.now ≤ 2 ^ 28 }
@@ -37,13 +41,14 @@ pub fn read_recording(
     requires some { 0 < length scope.now }
     requires round { 1 ≤ rounds }
     requires rounds { rounds ≤ 16 }
-    ensures recorded { IfOk result (spec.IsRecorded text.now netlist.now.design scope.now rounds start) }
+    requires most { most ≤ 2 ^ 40 }
+    ensures recorded { IfOk result (spec.IsRecorded text.now netlist.now.design scope.now rounds most start) }
     ensures refused { IfErr result (spec.IfRecordingRefused
-        (spec.IsRefusedRecording text.now netlist.now.design scope.now rounds)) }
-    ensures exact { spec.IsRecordingAnswer text.now netlist.now.design scope.now rounds start result }
-    ensures fits { IfOk result (spec.FitsRecorded netlist.now.design) }
+        (spec.IsRefusedRecording text.now netlist.now.design scope.now rounds most)) }
+    ensures exact { spec.IsRecordingAnswer text.now netlist.now.design scope.now rounds most start result }
+    ensures fits { IfOk result (spec.FitsRecordedWithin most netlist.now.design) }
 {
-    find_recording(alloc, &netlist.design, text, scope, rounds, start)
+    find_recording(alloc, &netlist.design, text, scope, rounds, most, start)
 }
 
 fn find_recording(
@@ -52,6 +57,7 @@ fn find_recording(
     text: &[u8],
     scope: &[Bytes],
     rounds: u32,
+    most: u64,
     start: StartRule,
 ) -> Result<Recorded, RecordingErr>
     requires size { length text.now ≤ 2 ^ 28 }
@@ -59,13 +65,14 @@ fn find_recording(
     requires some { 0 < length scope.now }
     requires round { 1 ≤ rounds }
     requires rounds { rounds ≤ 16 }
-    ensures recorded { IfOk result (spec.IsRecorded text.now design.now scope.now rounds start) }
+    requires most { most ≤ 2 ^ 40 }
+    ensures recorded { IfOk result (spec.IsRecorded text.now design.now scope.now rounds most start) }
     ensures refused { IfErr result (spec.IfRecordingRefused
-        (spec.IsRefusedRecording text.now design.now scope.now rounds)) }
-    ensures fits { IfOk result (spec.FitsRecorded design.now) }
+        (spec.IsRefusedRecording text.now design.now scope.now rounds most)) }
+    ensures fits { IfOk result (spec.FitsRecordedWithin most design.now) }
 {
     let recording = read_vcd(alloc, text)?;
-    let binding = bind_variables(alloc, design, &recording, scope, rounds)?;
+    let binding = bind_variables(alloc, design, &recording, scope, rounds, most)?;
     let stim = stim_of(alloc, design, &recording, &binding, rounds, start)?;
     Ok(Recorded {
         recording,
@@ -81,16 +88,17 @@ fn bind_variables(
     recording: &Recording,
     scope: &[Bytes],
     rounds: u32,
+    most: u64,
 ) -> Result<Binding, RecordingErr>
     requires fits { FitsDesign design.now }
     requires some { 0 < length scope.now }
     requires round { 1 ≤ rounds }
     requires rounds { rounds ≤ 16 }
-    ensures bound { IfOk result (spec.IsBoundTo design.now recording.now scope.now rounds) }
+    ensures bound { IfOk result (spec.IsBoundTo design.now recording.now scope.now rounds most) }
     ensures refused { IfErr result (spec.IfRecordingRefused
-        (spec.IsUnbound design.now recording.now scope.now rounds)) }
+        (spec.IsUnbound design.now recording.now scope.now rounds most)) }
 {
-    match bind(alloc, design, recording, scope, rounds) {
+    match bind(alloc, design, recording, scope, rounds, most) {
         Ok(binding) => Ok(binding),
         Err(cause) => Err(RecordingErr::Refused(report_cause(
             alloc, design, recording, scope, cause,

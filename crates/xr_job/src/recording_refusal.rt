@@ -16,7 +16,7 @@ pub enum RecordingRefusal {
     RangeDiffers { name: Bytes },
     /// The least net that is an input and is no bit of a bound variable, by its written name.
     MissingInput { name: Bytes },
-    /// More than 2^27 places, and how many.
+    /// More places than the most, and how many.
     TooLarge { places: u64 },
 }
 

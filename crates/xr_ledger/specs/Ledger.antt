@@ -9,6 +9,11 @@ abbrev pub row_with : List ℕ → List Change → List ℕ
 row_with row [] = row
 row_with row (change ∷ changes) = row_with (slice_set row (change_position change) (change_payload change)) changes
 
+-- The position has this value after changes of a row that has one value everywhere, however long it is.
+abbrev pub IsValueAfter : ℕ → List Change → ℕ → ℕ → Type 0
+IsValueAfter first changes position value =
+    (width : ℕ) → position < width → value ≡ slice_index (row_with (replicate width first) changes) position
+
 -- What each position has at a step, and what was put at it, in order.
 pub record LedgerStep : Type 0 where
   pub row : List ℕ
@@ -50,14 +55,21 @@ finished_ledger ledger = record { width = ledger.width; steps = steps_of ledger 
 
 -- A ledger of one step, in which each position has the same.
 abbrev pub new_ledger : ℕ → ℕ → LedgerView
-new_ledger width first = record { width = width; before = []; last = record { row = replicate width first; changes = [] } }
+new_ledger width first = record {
+  width = width;
+  before = [];
+  last = record { row = replicate width first; changes = [] };
+}
 
 -- It, with a value put at a position of the step under way.
 abbrev pub with_put : LedgerView → ℕ → ℕ → LedgerView
 with_put old position payload = record {
   width = old.width;
   before = old.before;
-  last = record { row = slice_set old.last.row position payload; changes = old.last.changes ++ packed_change position payload ∷ [] };
+  last = record {
+    row = slice_set old.last.row position payload;
+    changes = old.last.changes ++ packed_change position payload ∷ [];
+  };
 }
 
 -- It, with the step under way done, and a next one that begins as that one ends.
@@ -66,12 +78,16 @@ after_turn old = record { width = old.width; before = steps_of old; last = recor
 
 -- The step that lies between two bounds in the list of all changes.
 abbrev pub step_between : List ℕ → List Change → ℕ → ℕ → LedgerStep
-step_between blank changes start end = record { row = row_with blank (take end changes); changes = slice_range changes start end }
+step_between blank changes start end = record {
+  row = row_with blank (take end changes);
+  changes = slice_range changes start end;
+}
 
 -- The steps that lie between the bounds of a list.
 unfoldable pub steps_between : List ℕ → List Change → List ℕ → List LedgerStep
 steps_between blank changes starts =
-    map (λ k. step_between blank changes (slice_index starts k) (slice_index starts (k + 1))) (range_with_len 0 (length starts - 1))
+    map (λ k. step_between blank changes (slice_index starts k) (slice_index starts (k + 1)))
+    (range_with_len 0 (length starts - 1))
 
 -- What a log of changes says, by where its steps start.
 abbrev pub ledger_of : ℕ → List ℕ → List Change → List ℕ → LedgerView
@@ -97,7 +113,8 @@ pub record AreBounds (changes : List Change) (starts : List ℕ) : Type 0 where
   pub rising : (k : ℕ) → k + 1 < length starts → slice_index starts k ≤ slice_index starts (k + 1)
 
 -- The log is in order, and three rows are those of the step under way and of the two before it.
-pub record IsLogged (width : ℕ) (blank : List ℕ) (changes : List Change) (starts row_now row_one row_two : List ℕ) : Type 0 where
+pub record IsLogged (width : ℕ) (blank : List ℕ) (changes : List Change)
+    (starts row_now row_one row_two : List ℕ) : Type 0 where
   pub wide : width ≤ 2 ^ 24
   pub inside : AreInWidth width changes
   pub some : 0 < length starts

@@ -86,9 +86,28 @@ impl LedgerIndex {
     pub fn changes_of(&self, step: usize) -> &[Change]
         requires { step < length self.now.steps }
         ensures changes { result.now ≡ step_changes self.now.steps step }
+        ensures within { AreInWidth self.now.width result.now }
         ensures row { RowFollows self.now.steps step }
     {
         changes_between(self.changes.as_slice(), self.starts.as_slice(), step)
+    }
+
+    /// Another one of the same steps. Takes as much memory.
+    pub fn copied(&self, alloc: Global) -> Result<LedgerIndex, Memory>
+        ensures { IfOk result (λ copy. copy ≡ self.now) }
+    {
+        let changes = self.changes.as_slice().to_vec(alloc)?;
+        let starts = self.starts.as_slice().to_vec(alloc)?;
+        let parts = self.parts.as_slice().to_vec(alloc)?;
+        let numbers = self.numbers.as_slice().to_vec(alloc)?;
+        Ok(LedgerIndex {
+            width: self.width,
+            first: self.first,
+            changes,
+            starts,
+            parts,
+            numbers,
+        })
     }
 }
 

@@ -1,8 +1,8 @@
 //! What each position has at each step.
 
-ghost use Rattle.std.specs.Prelude.{◌≡◌, ℕ, ◌-◌, ◌<◌, ◌≤◌, ◌^◌, All, IfOk, OnOk, OnErr, length, replicate, slice_index};
+ghost use Rattle.std.specs.Prelude.{◌≡◌, ℕ, ◌-◌, ◌<◌, ◌≤◌, ◌^◌, All, IfOk, OnOk, OnErr, length, slice_index};
 ghost use Rattle.xr_ledger.specs.Change.{AreInWidth};
-ghost use Rattle.xr_ledger.specs.Ledger.{RowFollows, after_turn, finished_ledger, new_ledger, row_back, row_with, step_changes, step_row, steps_of, with_put};
+ghost use Rattle.xr_ledger.specs.Ledger.{IsValueAfter, RowFollows, after_turn, finished_ledger, new_ledger, row_back, row_with, step_changes, step_row, steps_of, with_put};
 
 use crate::between::changes_between;
 use crate::change::Change;
@@ -30,7 +30,8 @@ impl Model for Ledger {
 
     ghost view = { λ l. logged l.width l.first l.changes.items l.starts.items };
 
-    ghost invariant = { λ l. IsLoggedFrom l.width l.first l.changes.items l.starts.items l.row.items l.one.items l.two.items };
+    ghost invariant = { λ l. IsLoggedFrom l.width l.first l.changes.items l.starts.items
+        l.row.items l.one.items l.two.items };
 }
 
 impl Ledger {
@@ -153,7 +154,8 @@ impl Ledger {
         changes_between(self.changes.as_slice(), self.starts.as_slice(), step)
     }
 
-    /// The finished ledger, to look up any place. Takes eight bytes for each position and four for each change.
+    /// The finished ledger, to look up any place. Takes eight bytes for each position and four for each change; with 2^32
+    /// changes or more it answers `Memory`.
     pub fn index(self, alloc: Global) -> Result<LedgerIndex, Memory>
         ensures { IfOk result (λ index. index ≡ finished_ledger self) }
     {
@@ -183,7 +185,7 @@ fn start_back(starts: &[usize], back: usize) -> usize
 
 /// What a position has after changes of a row that has one value everywhere.
 fn value_after(changes: &[Change], position: usize, first: u8) -> u8
-    ensures { (width : ℕ) → position < width → result ≡ slice_index (row_with (replicate width first) changes.now) position }
+    ensures { IsValueAfter first changes.now position result }
 {
     let mut count = changes.len();
     'changes: while count > 0 {

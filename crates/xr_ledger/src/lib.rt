@@ -1,5 +1,7 @@
-//! A history of small values by what changes: a log by step, the rows of the last three steps, and an index by position that is
-//! made when the ledger is finished. Start at specs/Ledger.antt, then at `Ledger` and `LedgerIndex`.
+//! Small values of many positions at many steps, kept by what changes: a log by step, the rows of the last three steps,
+//! and an index by position that is made when the ledger is finished.
+//!
+//! Start at specs/Ledger.antt, then at `Ledger` and `LedgerIndex`.
 #![tactic(auto)]
 
 mod between;

@@ -34,7 +34,7 @@ fn told_text(alloc: Global, wave: &Wave<'_>, audit: &Audit) -> Result<Vec<u8>, M
 {
     let listed = audit.listed.as_slice();
     let mut text = Vec::new(alloc);
-    put_audit_head(&mut text, wave, listed.len(), audit.unsure)?;
+    put_audit_head(alloc, &mut text, wave, listed.len(), audit.unsure)?;
     put_found(alloc, &mut text, wave, listed)?;
     put_groups(&mut text, audit.groups.as_slice())?;
     Ok(text)

@@ -36,7 +36,7 @@ fn text_of(alloc: Global, wave: &Wave<'_>, blame: &Blame) -> Result<Vec<u8>, Mem
     let bits = blame.bits.as_slice();
     let table = blame.table.as_slice();
     let mut text = Vec::new(alloc);
-    put_head(&mut text, wave, bits.len(), table.len())?;
+    put_head(alloc, &mut text, wave, bits.len(), table.len())?;
     put_bits(alloc, &mut text, wave, bits)?;
     put_sources(alloc, &mut text, wave, table)?;
     Ok(text)

@@ -56,7 +56,7 @@ fn text_of(
         &mut text,
         gained.len(),
         lost.len(),
-        undecided_of(before, after),
+        undecided_of(alloc, before, after)?,
     )?;
     put_items(alloc, &mut text, after, b"gained", gained)?;
     put_items(alloc, &mut text, before, b"lost", lost)?;
@@ -77,10 +77,12 @@ fn put_counts(text: &mut Vec<u8>, gained: usize, lost: usize, undecided: u64) ->
 }
 
 /// How many places of both waves are undecided.
-fn undecided_of(before: &Wave<'_>, after: &Wave<'_>) -> u64
-    ensures { result ≡ spec.undecided_of before.now after.now }
+fn undecided_of(alloc: Global, before: &Wave<'_>, after: &Wave<'_>) -> Result<u64, Memory>
+    ensures { IfOk result (λ count. count ≡ spec.undecided_of before.now after.now) }
 {
-    u64::from(counts_of(before).undecided) + u64::from(counts_of(after).undecided)
+    let first = counts_of(alloc, before)?.undecided;
+    let second = counts_of(alloc, after)?.undecided;
+    Ok(u64::from(first) + u64::from(second))
 }
 
 /// The lines of items, in their order.

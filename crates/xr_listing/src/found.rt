@@ -17,6 +17,7 @@ use xr_wave::Wave;
 
 // head = "audit places " number " listed " number " open " number " undecided " number
 pub fn put_audit_head(
+    alloc: Global,
     text: &mut Vec<u8>,
     wave: &Wave<'_>,
     listed: usize,
@@ -24,7 +25,7 @@ pub fn put_audit_head(
 ) -> Result<(), Memory>
     ensures { OnOk result (text.new.items ≡ text.old.items ++ spec.audit_head wave.now listed unsure) }
 {
-    let undecided = counts_of(wave).undecided;
+    let undecided = counts_of(alloc, wave)?.undecided;
     put_counted(text, b"audit places ", wave.count() as u64)?;
     put_counted(text, b" listed ", listed as u64)?;
     put_counted(text, b" open ", unsure)?;

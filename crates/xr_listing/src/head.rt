@@ -3,12 +3,14 @@
 ghost use Rattle.std.specs.Prelude.{◌≡◌, ◌++◌, OnOk};
 ghost use Rattle.xr_listing.specs.Blame as spec;
 
+use std::alloc::Global;
 use xr_base::{Memory, put, put_number};
 use xr_report::counts_of;
 use xr_wave::Wave;
 
 // head = "blame bits " number " sources " number " undecided " number
 pub fn put_head(
+    alloc: Global,
     text: &mut Vec<u8>,
     wave: &Wave<'_>,
     bits: usize,
@@ -16,7 +18,7 @@ pub fn put_head(
 ) -> Result<(), Memory>
     ensures { OnOk result (text.new.items ≡ text.old.items ++ spec.head_line wave.now bits sources) }
 {
-    let undecided = counts_of(wave).undecided;
+    let undecided = counts_of(alloc, wave)?.undecided;
     put(text, b"blame bits ")?;
     put_number(text, bits as u64)?;
     put(text, b" sources ")?;

@@ -1,7 +1,7 @@
 -- Made stimuli and bindings fit.
 use Rattle.std.proofs.Common.{◌≡◌, ℕ, zero, suc, ◌+◌, ◌*◌, ◌-◌, ◌<◌, ◌≤◌, ◌^◌, inl, inr, List, [], ◌∷◌, ◌++◌, length, get_or, All, refl, sym, ap, ◌∙◌, subst, arith, length-append}
 use Rattle.std.proofs.lemmas.Bool.{cases_lt}
-use Rattle.std.proofs.lemmas.List.{get_or_append_left, get_or-append_right}
+use Rattle.std.proofs.lemmas.List.{get_or_append_left, get_or-append_right, get_or_default}
 use Rattle.std.proofs.Math.ListN.{get_or-eq_default}
 use Rattle.std.proofs.lemmas.List.Elements.{All-append}
 use Rattle.std.specs.List.Sorted.{IsStrictlyIncreasing}
@@ -16,6 +16,7 @@ use Rattle.xr_design.specs.declared.design.Design.{Design}
 use Rattle.xr_design.specs.declared.design.Driver.{Driver}
 use Rattle.xr_design.specs.declared.design.Driver.TheVariants.{Input, Undriven, Constant, Copy, Cell, Register}
 use Rattle.xr_design.specs.declared.stim.Stim.{Stim}
+use Rattle.xr_inputs.specs.Rows.{HasWidth, moment_row}
 use Rattle.xr_match.specs.Binding.{FitsBinding, FitsBound}
 use Rattle.xr_make.specs.Recording.{made_binding, net_bound, nets_bound}
 use Rattle.xr_make.specs.Stimulus.{IsMadeStim, made_start, own_start, times_of}
@@ -81,8 +82,14 @@ stim_fits design number gates stim fits is =
       values = λ moment within. (is.inputs moment (omega (arith, many, within))).long;
       starts = is.starts.long;
       no_float = starts_fit design stim.starts fits is.starts.long is.starts.values;
-      places = subst (λ n. length design.nets * n ≤ 2 ^ 27) (sym sixty) (omega (arith, few));
+      places = subst (λ n. length design.nets * n ≤ 2 ^ 40) (sym sixty) (omega (arith, few));
     }
+
+-- Rows of one width are as wide as the first.
+pub rows_even : (width : ℕ) (rows : List (List Value)) → ((moment : ℕ) → moment < length rows → length (get_or rows moment []) ≡ width)
+    → 0 < length rows → All (HasWidth (length (moment_row rows 0))) rows
+rows_even width rows each some = λ k d within.
+    ap (λ (l : List Value). length l) (get_or_default rows k d [] within) ∙ (each k within ∙ sym (each 0 some))
 
 -- ---- the binding
 

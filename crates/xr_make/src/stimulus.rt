@@ -16,6 +16,7 @@ use std::alloc::Global;
 use xr_base::{Items, Memory};
 use xr_cell::Value;
 use xr_design::{Design, Driver, StartRule, Stim};
+use xr_inputs::Inputs;
 
 /// How many moments there are.
 const MOMENTS: u32 = 16;
@@ -23,19 +24,21 @@ const MOMENTS: u32 = 16;
 /// How many rounds a moment has.
 const ROUNDS: u32 = 4;
 
-/// The stimulus of a design that a number and a number of gates stand for. Takes 17 bytes for each net.
+/// The stimulus of a design that a number and a number of gates stand for. Takes nine bytes for each net, and eight for
+/// each value of an input that isn't that of the moment before; while it runs 16 more for each net.
 pub fn made_stim(alloc: Global, design: &Design, number: u64, gates: u32) -> Result<Stim, Memory>
     requires { FitsDesign design.now }
     ensures made { IfOk result (spec.IsMadeStim design.now number gates) }
     ensures fits { IfOk result (FitsStim design.now) }
 {
     let times = times_of(alloc)?;
-    let inputs = rows_of(alloc, design, number, gates)?;
+    let rows = rows_of(alloc, design, number, gates)?;
+    let inputs = Inputs::from_rows(alloc, rows.as_slice())?;
     let starts = starts_of(alloc, design)?;
     Ok(Stim {
         times: Items::from_vec(times),
         rounds: ROUNDS,
-        inputs: Items::from_vec(inputs),
+        inputs,
         start: StartRule::Cold,
         starts: Items::from_vec(starts),
     })

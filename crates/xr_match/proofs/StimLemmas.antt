@@ -1,13 +1,16 @@
 -- Rows of values, one input or one net more.
-use Rattle.std.proofs.Common.{◌≡◌, ◌≢◌, ℕ, zero, suc, ◌+◌, ◌<◌, ◌≤◌, ◌==◌, Bool, true, false, List, [], ◌∷◌, ◌++◌, Option, None, Some, length, get_or, set, refl, sym, ap, subst, ◌∙◌, arith, if◌then◌else◌, All, ⊎_elim, replicate, take}
+use Rattle.std.proofs.Common.{◌≡◌, ◌≢◌, ℕ, zero, suc, ◌+◌, ◌<◌, ◌≤◌, ◌==◌, Bool, true, false, List, [], ◌∷◌, ◌++◌, Option, None, Some, length, get_or, set, refl, sym, ap, subst, ◌∙◌, arith, if◌then◌else◌, All, ⊎_elim, replicate, take, Result, Ok, Err, OnOk, length-append}
+use Rattle.std.proofs.Math.ListN.{get_or-eq_default}
 use Rattle.std.proofs.Math.Seq.{get_or-append_seam}
 use Rattle.std.proofs.lemmas.Bool.{cases_lt}
 use Rattle.std.proofs.lemmas.Bool.Decides.{Decides-eqb}
 use Rattle.std.proofs.lemmas.List.{get_or-set_same, get_or-set_other, get_or_append_left, take_more}
 use Rattle.std.proofs.lemmas.List.Elements.{All-nil, All-push, All-append}
+use Rattle.xr_base.specs.declared.memory.Memory.{Memory}
 use Rattle.xr_cell.specs.Value.{read}
 use Rattle.xr_cell.specs.declared.value.Value.{Value}
 use Rattle.xr_cell.specs.declared.value.Value.TheVariants.{Zero, One, X, Z}
+use Rattle.xr_design.specs.Design.{FitsDesign}
 use Rattle.xr_design.specs.Fits.{FitsDriver}
 use Rattle.xr_design.specs.Job.{driver_in}
 use Rattle.xr_design.specs.declared.design.Design.{Design}
@@ -15,6 +18,7 @@ use Rattle.xr_design.specs.declared.design.Driver.{Driver}
 use Rattle.xr_design.specs.declared.design.Driver.TheVariants.{Input, Undriven, Constant, Copy, Cell, Register}
 use Rattle.xr_design.specs.declared.stim.StartRule.{StartRule}
 use Rattle.xr_design.specs.declared.stim.StartRule.TheVariants.{Cold, Recorded}
+use Rattle.xr_inputs.specs.Rows.{WrittenRows, all_rows}
 use Rattle.xr_vcd.specs.Recording.{Recording, value_at}
 use Rattle.xr_match.specs.Holding.{IsHolder}
 use Rattle.xr_match.specs.StimOf as spec
@@ -23,6 +27,11 @@ use Rattle.xr_match.specs.declared.stimulus.Held.{Held}
 
 abbrev held_at : Recording → ℕ → Holder → Value
 held_at recording moment h = value_at recording h.variable h.bit moment
+
+-- what follows where it is well
+pub on_ok : (r : Result (Unit {0}) Memory) (P Q : Type 0) → (P → Q) → OnOk r P → OnOk r Q
+on_ok (Ok u) P Q step is = step is
+on_ok (Err e) P Q step is = tt
 
 -- one input of a row has its value
 pub set_one : (recording : Recording) (moment : ℕ) (row : List Value) (input : Held) (net : ℕ) → input.net < length row
@@ -151,6 +160,14 @@ start_no_float design recording o rule (Copy argument) fits h = absurd cc
 start_no_float design recording o rule (Cell table pins) fits h = absurd cc
 start_no_float design recording o rule (Register latching) fits h = start_known recording o latching.start rule fits.start h
 
+-- no start is a float
+pub no_float_row : (design : Design) (recording : Recording) (holders : List (Option Holder)) (rule : StartRule) (row : List Value) → FitsDesign design
+    → spec.IsRow design (spec.start_in design recording holders rule) row → (net : ℕ) → get_or row net X ≡ Z → ⊥
+no_float_row design recording holders rule row fits is net float = ⊎_elim (λ (less : net < length design.nets).
+    start_no_float design recording (get_or holders net None) rule (driver_in design net) (fits.drivers net less) (sym (is.values net less) ∙ float))
+    (λ (more : length design.nets ≤ net). (let long = is.long in let none = get_or-eq_default row X {n = net} (omega (arith, long, more)) in let e = sym none ∙ float in absurd cc))
+    (cases_lt net (length design.nets))
+
 pub blank : (n net : ℕ) → get_or (replicate n X) net X ≡ X
 blank zero net = refl
 blank (suc n) zero = refl
@@ -174,3 +191,27 @@ pub set_more : (recording : Recording) (moment net i : ℕ) (inputs : List Held)
     → spec.set_from recording moment (get_or inputs i d ∷ []) net (spec.set_from recording moment (take i inputs) net old) ≡ spec.set_from recording moment (take (i + 1) inputs) net old
 set_more recording moment net i inputs d old within =
     sym (ap (λ (l : List Held). spec.set_from recording moment l net old) (take_more inputs i d within) ∙ set_append recording moment (take i inputs) (get_or inputs i d ∷ []) net old)
+
+-- a moment more, whose row was set from the one before
+module _ (design : Design) (recording seen : Recording) (holders : List (Option Holder)) (moment : ℕ) (inputs : List Held) (row : List Value) (rows : List (List Value)) (new : WrittenRows)
+    (same : seen ≡ recording) (is : inputs ≡ spec.inputs_of design holders) (set_row : spec.Sets seen moment inputs row new.row) (others : spec.HasOthers design recording holders row) (before : new.before ≡ rows) where
+  set_all : (net : ℕ) → get_or new.row net X ≡ spec.set_from recording moment (spec.inputs_below design holders (length design.nets)) net (get_or row net X)
+  set_all net =
+      set_row net ∙ ap (λ (r : Recording). spec.set_from r moment inputs net (get_or row net X)) same
+      ∙ ap (λ (l : List Held). spec.set_from recording moment l net (get_or row net X)) is
+
+  pub others_set : spec.HasOthers design recording holders new.row
+  others_set = others_stay design recording holders moment row new.row set_all others
+
+  pub rows_more : length new.row ≡ length design.nets → length rows ≡ moment → ((k : ℕ) → k < moment → spec.IsRow design (spec.value_by design recording holders k) (get_or rows k []))
+      → (k : ℕ) → k < moment + 1 → spec.IsRow design (spec.value_by design recording holders k) (get_or (all_rows new) k [])
+  rows_more long many each =
+      each_more (λ k x. spec.IsRow design (spec.value_by design recording holders k) x) [] rows (all_rows new) new.row moment many each
+      (row_is design recording holders moment row new.row set_all others long) (ap (λ (l : List (List Value)). l ++ new.row ∷ []) before)
+
+-- a row more
+pub many_more : (rows : List (List Value)) (new : WrittenRows) (moment : ℕ) → new.before ≡ rows → length rows ≡ moment → length (all_rows new) ≡ moment + 1
+many_more rows new moment before many =
+    let e = ap (λ (l : List (List Value)). length l) before in
+    let f = length-append new.before (new.row ∷ []) in
+    omega (arith, e, f, many)

@@ -28,12 +28,13 @@ pub record Matches (design : Design) (scope : Texts) (recording : Recording) : T
   pub there : has_scope scope recording.scopes ≡ true
   pub none : NoneDiffers design scope recording (length recording.variables)
 
--- Each variable that matched is bound, each input is a bit of one, and there are at most 2^27 places.
-pub record IsBinding (design : Design) (recording : Recording) (scope : Texts) (rounds : ℕ) (binding : Binding) : Type 0 where
+-- Each variable that matched is bound, each input is a bit of one, and there are at most so many places.
+pub record IsBinding (design : Design) (recording : Recording) (scope : Texts) (rounds most : ℕ)
+    (binding : Binding) : Type 0 where
   pub matches : Matches design scope recording
   pub bound : binding.bound ≡ bounds_of design scope recording
   pub inputs : AllBound design (bounds_of design scope recording) (length design.nets)
-  pub places : place_count design recording rounds ≤ 2 ^ 27
+  pub places : place_count design recording rounds ≤ most
   pub timescale : binding.timescale ≡ recording.timescale
 
 -- The refusal is that this variable differs.
@@ -73,23 +74,23 @@ pub record IsMissing (design : Design) (recording : Recording) (scope : Texts) (
   pub matches : Matches design scope recording
   pub least : IsLeast design (bounds_of design scope recording) net
 
--- more than 2^27 places: so many
-pub record IsMany (design : Design) (recording : Recording) (rounds places : ℕ) : Type 0 where
+-- more places than the most: so many
+pub record IsMany (design : Design) (recording : Recording) (rounds most places : ℕ) : Type 0 where
   pub count : places ≡ place_count design recording rounds
-  pub many : 2 ^ 27 < places
+  pub many : most < places
 
-abbrev pub HasMany : Design → Recording → ℕ → BindErr → Type 0
-HasMany design recording rounds NoScope = ⊥
-HasMany design recording rounds (RangeDiffers variable) = ⊥
-HasMany design recording rounds (MissingInput net) = ⊥
-HasMany design recording rounds (TooLarge places) = IsMany design recording rounds places
-HasMany design recording rounds Memory = ⊥
+abbrev pub HasMany : Design → Recording → ℕ → ℕ → BindErr → Type 0
+HasMany design recording rounds most NoScope = ⊥
+HasMany design recording rounds most (RangeDiffers variable) = ⊥
+HasMany design recording rounds most (MissingInput net) = ⊥
+HasMany design recording rounds most (TooLarge places) = IsMany design recording rounds most places
+HasMany design recording rounds most Memory = ⊥
 
--- More than 2^27 places, where no variable differs and each input is bound.
-pub record IsTooLarge (design : Design) (recording : Recording) (scope : Texts) (rounds places : ℕ) : Type 0 where
+-- More places than the most, where no variable differs and each input is bound.
+pub record IsTooLarge (design : Design) (recording : Recording) (scope : Texts) (rounds most places : ℕ) : Type 0 where
   pub matches : Matches design scope recording
   pub inputs : AllBound design (bounds_of design scope recording) (length design.nets)
-  pub many : IsMany design recording rounds places
+  pub many : IsMany design recording rounds most places
 
 -- The first variable that differs, as a refusal names it.
 abbrev pub IsFirstDiffering : Design → Texts → Recording → BindErr → Type 0
@@ -100,9 +101,9 @@ IsFirstDiffering design scope recording (TooLarge places) = ⊥
 IsFirstDiffering design scope recording Memory = ⊥
 
 -- Each refusal by its cause; want of memory is none of the recording's.
-abbrev pub IsRefusal : Design → Recording → Texts → ℕ → BindErr → Type 0
-IsRefusal design recording scope rounds NoScope = has_scope scope recording.scopes ≡ false
-IsRefusal design recording scope rounds (RangeDiffers variable) = IsDiffering design recording scope variable
-IsRefusal design recording scope rounds (MissingInput net) = IsMissing design recording scope net
-IsRefusal design recording scope rounds (TooLarge places) = IsTooLarge design recording scope rounds places
-IsRefusal design recording scope rounds Memory = ⊥
+abbrev pub IsRefusal : Design → Recording → Texts → ℕ → ℕ → BindErr → Type 0
+IsRefusal design recording scope rounds most NoScope = has_scope scope recording.scopes ≡ false
+IsRefusal design recording scope rounds most (RangeDiffers variable) = IsDiffering design recording scope variable
+IsRefusal design recording scope rounds most (MissingInput net) = IsMissing design recording scope net
+IsRefusal design recording scope rounds most (TooLarge places) = IsTooLarge design recording scope rounds most places
+IsRefusal design recording scope rounds most Memory = ⊥

@@ -18,20 +18,23 @@ use xr_base::{Items, Memory};
 use xr_design::{Bytes, Design};
 use xr_vcd::Recording;
 
-/// Binds the variables of a recording in this scope and below to the nets that they name, for a replay of so many rounds.
+/// Binds the variables of a recording in this scope and below to the nets that they name, for a replay of so many
+/// rounds and of at most so many places: nets by moments by rounds.
 pub fn bind(
     alloc: Global,
     design: &Design,
     recording: &Recording,
     scope: &[Bytes],
     rounds: u32,
+    most: u64,
 ) -> Result<Binding, BindErr>
     requires fits { FitsDesign design.now }
     requires some { 0 < length scope.now }
     requires round { 1 ≤ rounds }
     requires rounds { rounds ≤ 16 }
-    ensures bound { IfOk result (IsBinding design.now recording.now scope.now rounds) }
-    ensures refused { IfErr result (λ e. e ≢ OutOfMemory → IsRefusal design.now recording.now scope.now rounds e) }
+    ensures bound { IfOk result (IsBinding design.now recording.now scope.now rounds most) }
+    ensures refused { IfErr result (λ e. e ≢ OutOfMemory
+        → IsRefusal design.now recording.now scope.now rounds most e) }
     ensures fits { IfOk result (FitsBinding design.now) }
     ensures variables { IfOk result (λ binding. All (IsOf recording.now) binding.bound) }
 {
@@ -41,7 +44,7 @@ pub fn bind(
     }
     let bound = bind_variables(alloc, &matcher)?;
     check_inputs(alloc, design, bound.as_slice())?;
-    check_places(design, recording, rounds)?;
+    check_places(design, recording, rounds, most)?;
     let timescale = scale_of(alloc, recording)?;
     Ok(Binding {
         timescale,
@@ -63,16 +66,21 @@ fn check_inputs(alloc: Global, design: &Design, bound: &[Bound]) -> Result<(), B
     }
 }
 
-/// Refuses more than 2^27 places.
-fn check_places(design: &Design, recording: &Recording, rounds: u32) -> Result<(), BindErr>
+/// Refuses more places than the most.
+fn check_places(
+    design: &Design,
+    recording: &Recording,
+    rounds: u32,
+    most: u64,
+) -> Result<(), BindErr>
     requires few { length design.now.nets ≤ 2 ^ 20 }
     requires rounds { rounds ≤ 16 }
-    ensures few { OnOk result (place_count design.now recording.now rounds ≤ 2 ^ 27) }
-    ensures many { IfErr result (λ e. HasMany design.now recording.now rounds e) }
+    ensures few { OnOk result (place_count design.now recording.now rounds ≤ most) }
+    ensures many { IfErr result (λ e. HasMany design.now recording.now rounds most e) }
 {
     let moments = recording.times().len() as u64;
     let places = design.nets.as_slice().len() as u64 * (moments * rounds as u64);
-    if places > 1 << 27 {
+    if places > most {
         return Err(BindErr::TooLarge { places });
     }
     Ok(())

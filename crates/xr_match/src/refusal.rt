@@ -18,7 +18,7 @@ pub enum BindErr {
     RangeDiffers { variable: u32 },
     /// The least net that is an input and is no bit of a bound variable.
     MissingInput { net: u32 },
-    /// More than 2^27 places: so many.
+    /// More places than the most: so many.
     TooLarge { places: u64 },
     /// There was no memory.
     Memory,

@@ -17,6 +17,7 @@ use std::alloc::Global;
 use xr_base::{Items, Memory};
 use xr_cell::Value;
 use xr_design::{Design, Driver, StartRule, Stim};
+use xr_inputs::{Inputs, InputsWriter};
 use xr_vcd::{Cursor, Recording};
 
 /// An input of the design and what holds it.
@@ -27,8 +28,8 @@ pub struct Held {
 }
 
 /// The stimulus of a recording whose variables are bound, for a replay of so many rounds: the recorded values of the inputs, and
-/// what the registers start with by this rule. Takes a byte for each net in each moment; while it runs 8 more for each variable
-/// and 12 for each net.
+/// what the registers start with by this rule. Takes eight bytes for each value of an input that isn't that of the moment
+/// before, eight for each moment and for each net; while it runs 8 more for each variable and 12 for each net.
 pub fn stim_of(
     alloc: Global,
     design: &Design,
@@ -42,7 +43,7 @@ pub fn stim_of(
     requires variables { All (IsOf recording.now) bound.now.bound }
     requires round { 1 ≤ rounds }
     requires rounds { rounds ≤ 16 }
-    requires places { place_count design.now recording.now rounds ≤ 2 ^ 27 }
+    requires places { place_count design.now recording.now rounds ≤ 2 ^ 40 }
     ensures stim { IfOk result (spec.IsStimOf design.now recording.now bound.now.bound rounds start) }
     ensures fits { IfOk result (FitsStim design.now) }
 {
@@ -53,7 +54,7 @@ pub fn stim_of(
     Ok(Stim {
         times: Items::from_vec(times),
         rounds,
-        inputs: Items::from_vec(inputs),
+        inputs,
         start,
         starts: Items::from_vec(starts),
     })
@@ -65,23 +66,23 @@ fn rows_of(
     design: &Design,
     recording: &Recording,
     holders: &[Option<Holder>],
-) -> Result<Vec<Items<Value>>, Memory>
+) -> Result<Inputs, Memory>
     requires few { length design.now.nets ≤ 2 ^ 20 }
     requires long { length holders.now ≡ length design.now.nets }
     requires held { spec.AreHolders recording.now holders.now }
-    ensures as_many { IfOk result (λ rows. length rows.items ≡ length recording.now.times) }
-    ensures rows { IfOk result (λ rows. spec.AreRows design.now recording.now holders.now rows.items) }
+    requires moment { 0 < length recording.now.times }
+    ensures as_many { IfOk result (λ rows. length rows ≡ length recording.now.times) }
+    ensures rows { IfOk result (λ rows. spec.AreRows design.now recording.now holders.now rows) }
 {
     let inputs = inputs_of(alloc, design, holders)?;
     let mut cursor = Cursor::new(alloc, recording)?;
-    let mut row = vec![in alloc; Value::X; design.nets.as_slice().len()]?;
-    let mut rows = Vec::new(alloc);
-    'moments: for moment in 0..recording.times().len() as u32 {
-        set_inputs(row.as_mut_slice(), &mut cursor, inputs.as_slice(), moment);
-        let values = Vec::from_slice(alloc, &row)?;
-        rows.push(Items::from_vec(values))?;
+    let mut writer = InputsWriter::new(alloc, design.nets.as_slice().len())?;
+    set_inputs(&mut writer, &mut cursor, inputs.as_slice(), 0)?;
+    'moments: for moment in 1..recording.times().len() as u32 {
+        writer.next_moment()?;
+        set_inputs(&mut writer, &mut cursor, inputs.as_slice(), moment)?;
     }
-    Ok(rows)
+    writer.finish(alloc)
 }
 
 /// The inputs that a variable holds, each with that.
@@ -131,28 +132,42 @@ fn put_held(inputs: &mut Vec<Held>, design: &Design, net: u32, holder: Holder) -
     }
 }
 
-/// Sets the inputs to their values in a moment.
-fn set_inputs(row: &mut [Value], cursor: &mut Cursor<'_>, inputs: &[Held], moment: u32)
+/// Sets the inputs to their values in a moment, which is under way.
+fn set_inputs(
+    writer: &mut InputsWriter,
+    cursor: &mut Cursor<'_>,
+    inputs: &[Held],
+    moment: u32,
+) -> Result<(), Memory>
     requires moment { moment < length cursor.old.times }
-    requires fits { All (spec.FitsHolder cursor.old (length row.old)) inputs.now }
-    ensures long { length row.new ≡ length row.old }
-    ensures set { spec.Sets cursor.old moment inputs.now row.old row.new }
+    requires fits { All (spec.FitsHolder cursor.old (length writer.old.row)) inputs.now }
+    ensures before { OnOk result (writer.new.before ≡ writer.old.before) }
+    ensures long { OnOk result (length writer.new.row ≡ length writer.old.row) }
+    ensures set { OnOk result (spec.Sets cursor.old moment inputs.now writer.old.row writer.new.row) }
     ensures same { cursor.new ≡ cursor.old }
 {
     'inputs: for input in inputs {
-        set_input(row, cursor, *input, moment);
+        set_input(writer, cursor, *input, moment)?;
     }
+    Ok(())
 }
 
-fn set_input(row: &mut [Value], cursor: &mut Cursor<'_>, input: Held, moment: u32)
+fn set_input(
+    writer: &mut InputsWriter,
+    cursor: &mut Cursor<'_>,
+    input: Held,
+    moment: u32,
+) -> Result<(), Memory>
     requires moment { moment < length cursor.old.times }
-    requires fits { spec.FitsHolder cursor.old (length row.old) input }
-    ensures long { length row.new ≡ length row.old }
-    ensures set { spec.Sets cursor.old moment (input ∷ []) row.old row.new }
+    requires fits { spec.FitsHolder cursor.old (length writer.old.row) input }
+    ensures before { OnOk result (writer.new.before ≡ writer.old.before) }
+    ensures long { OnOk result (length writer.new.row ≡ length writer.old.row) }
+    ensures set { OnOk result (spec.Sets cursor.old moment (input ∷ []) writer.old.row writer.new.row) }
     ensures same { cursor.new ≡ cursor.old }
 {
     let holder = input.holder;
-    row[input.net as usize] = cursor.value(holder.variable, holder.bit, moment);
+    let value = cursor.value(holder.variable, holder.bit, moment);
+    writer.set(input.net as usize, value)
 }
 
 /// What each net starts with.

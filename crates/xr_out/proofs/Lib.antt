@@ -1,5 +1,5 @@
--- Lemmas of xr_out: bits side by side, texts that grow line by line, steps within a history, and histories of one text.
-pub mod Flat
+-- Lemmas of xr_out: texts that grow line by line, what isn't due, steps within a history, and histories of one text.
 pub mod Grown
+pub mod Marks
 pub mod OneText
 pub mod Places

@@ -1,5 +1,5 @@
 -- Steps and places within a history.
-use Rattle.std.proofs.Common.{◌≡◌, ℕ, zero, suc, ◌+◌, ◌-◌, ◌*◌, ◌<◌, ◌≤◌, ◌^◌, List, length, refl, sym, ◌∙◌, arith, All, subst}
+use Rattle.std.proofs.Common.{◌≡◌, ℕ, zero, suc, ◌-◌, ◌*◌, ◌<◌, ◌≤◌, ◌^◌, List, length, refl, sym, ◌∙◌, arith, All, subst}
 use Rattle.std.proofs.Math.Nat.{mul_comm, mul-le-mul_left}
 use Rattle.std.proofs.lemmas.Nat.{mul-add-lt}
 use Rattle.xr_design.specs.History.{HistoryView}
@@ -30,7 +30,7 @@ has_step_before history moment rounds step before h some more is b =
     subst (HasStep history) (step_before moment rounds step some more is ∙ sym b) (h (moment - 1) (omega arith))
 
 -- The last round of a moment is one of the steps of all moments.
-last_within : (moments rounds moment : ℕ) → 0 < rounds → moment < moments → last_round rounds moment < moments * rounds
+pub last_within : (moments rounds moment : ℕ) → 0 < rounds → moment < moments → last_round rounds moment < moments * rounds
 last_within moments rounds moment some less =
     let below = mul-add-lt moment rounds (rounds - 1) moments less (omega (arith, some)) in
     omega (arith, below, some, mul_comm rounds moments)
@@ -41,20 +41,21 @@ steps_small moments rounds few short =
     let wide = mul-le-mul_left moments short in
     omega (arith, wide, few)
 
--- A history of all steps of a stimulus has the last step of each moment.
+-- A history of all steps of a stimulus has each step of its moments.
 pub has_moments : (design : Design) (stim : Stim) (history : HistoryView) → HasSteps design stim history → HasMoments history (length stim.times) stim.rounds
 has_moments design stim history has =
     let moments = length stim.times in
-    let steps = moments * stim.rounds in
     record {
       few = stim.few_moments;
-      steps = λ moment less.
-          let last = last_within moments stim.rounds moment stim.some_round less in
-          record {
-            small = omega (arith, last, steps_small moments stim.rounds stim.few_moments stim.few_rounds);
-            places = λ net within.
-                let low : net < length design.nets = subst (λ n. net < n) has.nets within in
-                let below = mul-add-lt (last_round stim.rounds moment) (length design.nets) net steps last low in
-                record { net = within; step = rw (has.nets, has.places) below };
-          };
+      steps = there;
+      last = λ moment less. there (last_round stim.rounds moment) (last_within moments stim.rounds moment stim.some_round less);
+    }
+  where
+    there : (step : ℕ) → step < length stim.times * stim.rounds → HasStep history step
+    there step less = record {
+      small = omega (arith, less, steps_small (length stim.times) stim.rounds stim.few_moments stim.few_rounds);
+      places = λ net within.
+          let low : net < length design.nets = subst (λ n. net < n) has.nets within in
+          let below = mul-add-lt step (length design.nets) net (length stim.times * stim.rounds) less low in
+          record { net = within; step = rw (has.nets, has.places) below };
     }

@@ -1,8 +1,8 @@
 -- Definitions of xr_out: the text of the repaired recording.
 pub mod Code
 pub mod Declarations
-pub mod Flat
 pub mod Laws
 pub mod Moments
+pub mod Readers
 pub mod Steps
 pub mod Text

@@ -1,5 +1,5 @@
 -- The moments of a recording's text (IEEE 1364-2005, clause 18).
-use Rattle.std.specs.Prelude.{ℕ, zero, suc, ◌+◌, ◌-◌, ◌*◌, ◌==◌, List, [], ◌∷◌, ◌++◌, Bool, codes, decimal, length, map, if◌then◌else◌}
+use Rattle.std.specs.Prelude.{ℕ, zero, suc, ◌+◌, ◌==◌, List, [], ◌∷◌, ◌++◌, Bool, codes, decimal, length, map, if◌then◌else◌}
 use Rattle.std.specs.List.{list_all}
 use Rattle.xr_cell.specs.Value.{letter_of}
 use Rattle.xr_design.specs.History.{HistoryView, held_in}

@@ -1,5 +1,5 @@
 -- Which steps and which bits a history has.
-use Rattle.std.specs.Prelude.{ℕ, ◌<◌, ◌^◌, List, length, All}
+use Rattle.std.specs.Prelude.{ℕ, ◌*◌, ◌<◌, ◌^◌, List, length, All}
 use Rattle.xr_design.specs.History.{HistoryView, HasPlace}
 use Rattle.xr_match.specs.declared.binding.Bound.{Bound}
 use Rattle.xr_design.specs.Settled.{last_round}
@@ -17,7 +17,8 @@ pub record HasNets (history : HistoryView) (nets : List ℕ) : Type 0 where
 abbrev pub HasBits : HistoryView → Bound → Type 0
 HasBits history b = HasNets history b.bits
 
--- The last step of each moment is there.
+-- Each step of so many moments is there, and so the last one of each.
 pub record HasMoments (history : HistoryView) (moments rounds : ℕ) : Type 0 where
   pub few : moments < 2 ^ 28
-  pub steps : (moment : ℕ) → moment < moments → HasStep history (last_round rounds moment)
+  pub steps : (step : ℕ) → step < moments * rounds → HasStep history step
+  pub last : (moment : ℕ) → moment < moments → HasStep history (last_round rounds moment)

@@ -18,9 +18,9 @@ vcd_text design binding stim history =
     line (codes "$version xrepair $end") ++ timescale_line binding.timescale ++ declaration_lines design [] 0 binding.bound
     ++ line (codes "$enddefinitions $end") ++ lines_from history stim.rounds binding.bound 0 stim.times
 
--- A history has a place for each net of a design at each step of a stimulus, at most 2^27 of them.
+-- A history has a place for each net of a design at each step of a stimulus, at most 2^40 of them.
 pub record HasSteps (design : Design) (stim : Stim) (history : HistoryView) : Type 0 where
   pub nets : history.nets ≡ length design.nets
   pub places : length history.places ≡ length design.nets * (length stim.times * stim.rounds)
-  pub few : length history.places ≤ 2 ^ 27
+  pub few : length history.places ≤ 2 ^ 40
   pub few_nets : length design.nets ≤ 2 ^ 20

@@ -2,12 +2,13 @@
 //! Start at `vcd_text`, and at specs/Text.antt.
 #![tactic(auto)]
 
-mod bits;
 mod code;
 mod declarations;
 mod laws;
+mod marked;
 mod moments;
 mod puts;
+mod readers;
 mod text;
 
 pub use laws::texts_are_one;

@@ -1,25 +1,30 @@
 //! The text of the repaired recording.
 
-ghost use Rattle.std.specs.Prelude.{◌≡◌, ◌++◌, ◌<◌, ◌+◌, ◌*◌, All, OnOk, IfOk, length};
+ghost use Rattle.std.specs.Prelude.{◌≡◌, ◌++◌, ◌<◌, ◌+◌, ◌*◌, All, OnOk, IfOk, length, slice_index};
 ghost use Rattle.xr_match.specs.Binding.{FitsBinding};
-ghost use Rattle.xr_out.specs.Flat.{bits_of};
-ghost use Rattle.xr_out.specs.Moments.{lines_from};
+ghost use Rattle.xr_out.specs.Moments.{lines_from, moment_lines};
+ghost use Rattle.xr_out.specs.Readers.{AreReadersOf};
 ghost use Rattle.xr_out.specs.Steps.{HasBits, HasMoments};
 ghost use Rattle.xr_out.specs.Text as spec;
+ghost use Rattle.xr_replay_due.specs.Due.{HasRoomFor};
 
-use crate::bits::Bits;
 use crate::declarations::put_declarations;
-use crate::moments::put_moment;
+use crate::marked::mark_moment;
+use crate::moments::{put_marked, put_moment};
 use crate::puts::put_section;
+use crate::readers::BitReaders;
 use std::alloc::Global;
 use xr_base::{Memory, put};
 use xr_design::{Bytes, Design, History, Stim};
 use xr_match::{Binding, Bound};
+use xr_replay_due::Due;
 
 /// The text of a recording with what the history shows: its variables, and at each moment the values at its last round.
 ///
-/// Takes the text's bytes, 16 for each variable and 4 to 12 for each bit of one, and time linear in the text and in the
-/// places of bound bits at the moments' last rounds.
+/// Takes the text's bytes, 8 for each net, or for each bound variable where there are more of these, and 4 for each bit
+/// of one; on the way 16 more for each. With more than 2^32 bits it answers `Memory`. Takes time linear in the text, in
+/// what is written in each moment and in the bits of the variables that have a written one; with more than 2^20 bound
+/// variables, in all bits at each moment.
 #[tactic(auto, unfolding(crate::specs::Text::vcd_text))]
 pub fn vcd_text(
     alloc: Global,
@@ -37,8 +42,7 @@ pub fn vcd_text(
     put_timescale(&mut text, &bound.timescale)?;
     put_declarations(&mut text, design, bound.bound.as_slice())?;
     put(&mut text, b"$enddefinitions $end\n")?;
-    let table = Bits::of(alloc, bound.bound.as_slice())?;
-    put_moments(&mut text, bound.bound.as_slice(), &table, stim, history)?;
+    put_moments(alloc, &mut text, design, bound, stim, history)?;
     Ok(text)
 }
 
@@ -51,29 +55,90 @@ fn put_timescale(text: &mut Vec<u8>, timescale: &Option<Bytes>) -> Result<(), Me
     put_section(text, b"$timescale ", scale.as_slice())
 }
 
+/// The moments: by what is written in each, or as a whole where too many variables are bound.
 fn put_moments(
+    alloc: Global,
     text: &mut Vec<u8>,
-    bound: &[Bound],
-    table: &Bits,
+    design: &Design,
+    bound: &Binding,
     stim: &Stim,
     history: &History,
 ) -> Result<(), Memory>
-    requires table { table.now ≡ bits_of bound.now }
+    requires binding { FitsBinding design.now bound.now }
+    requires steps { spec.HasSteps design.now stim.now history.now }
+    ensures { let lines = lines_from history.now stim.now.rounds bound.now.bound 0 stim.now.times in
+        OnOk result (text.new.items ≡ text.old.items ++ lines) }
+{
+    match BitReaders::of(alloc, design, bound)? {
+        Some(readers) => put_changes(alloc, text, bound, &readers, stim, history),
+        None => put_whole(text, bound.bound.as_slice(), stim, history),
+    }
+}
+
+/// The moments, each as a whole.
+fn put_whole(
+    text: &mut Vec<u8>,
+    bound: &[Bound],
+    stim: &Stim,
+    history: &History,
+) -> Result<(), Memory>
     requires moments { HasMoments history.now (length stim.now.times) stim.now.rounds }
     requires bits { All (HasBits history.now) bound.now }
     ensures { let lines = lines_from history.now stim.now.rounds bound.now 0 stim.now.times in
         OnOk result (text.new.items ≡ text.old.items ++ lines) }
 {
     'moments: for (moment, time) in stim.times.as_slice().iter().enumerate() {
-        put_moment(
-            text,
-            bound,
-            table,
-            history,
-            stim.rounds,
-            moment as u32,
-            *time,
-        )?;
+        put_moment(text, bound, history, stim.rounds, moment as u32, *time)?;
     }
     Ok(())
+}
+
+/// The moments, each by what is written in it.
+fn put_changes(
+    alloc: Global,
+    text: &mut Vec<u8>,
+    bound: &Binding,
+    readers: &BitReaders,
+    stim: &Stim,
+    history: &History,
+) -> Result<(), Memory>
+    requires readers { AreReadersOf history.now.nets bound.now readers.now }
+    requires moments { HasMoments history.now (length stim.now.times) stim.now.rounds }
+    requires bits { All (HasBits history.now) bound.now.bound }
+    ensures { let lines = lines_from history.now stim.now.rounds bound.now.bound 0 stim.now.times in
+        OnOk result (text.new.items ≡ text.old.items ++ lines) }
+{
+    let mut due = Due::none(alloc, readers.room)?;
+    'moments: for moment in 0..stim.times.as_slice().len() {
+        put_next(text, bound, readers, &mut due, stim, history, moment as u32)?;
+    }
+    Ok(())
+}
+
+/// Puts a moment by what is written in it; as a whole the first one, and one where the history doesn't tell.
+fn put_next(
+    text: &mut Vec<u8>,
+    bound: &Binding,
+    readers: &BitReaders,
+    due: &mut Due,
+    stim: &Stim,
+    history: &History,
+    moment: u32,
+) -> Result<(), Memory>
+    requires readers { AreReadersOf history.now.nets bound.now readers.now }
+    requires moments { HasMoments history.now (length stim.now.times) stim.now.rounds }
+    requires bits { All (HasBits history.now) bound.now.bound }
+    requires moment { moment < length stim.now.times }
+    requires room { HasRoomFor due.old readers.now.room }
+    ensures long { length due.new ≡ length due.old }
+    ensures lines { let time = slice_index stim.now.times moment in
+        let lines = moment_lines history.now stim.now.rounds bound.now.bound moment time in
+        OnOk result (text.new.items ≡ text.old.items ++ lines) }
+{
+    let time = stim.times.as_slice()[moment as usize];
+    let variables = bound.bound.as_slice();
+    if !mark_moment(readers, stim, history, moment, due) {
+        return put_moment(text, variables, history, stim.rounds, moment, time);
+    }
+    put_marked(text, variables, due, history, stim.rounds, moment, time)
 }

@@ -188,7 +188,7 @@ module _ (w : JobValues) (netlist recording : List ℕ) (n m : ANetlist) (r s : 
   nets = netlists_same n m (one_outcome netlist w.top (Ok n) (Ok m) first.netlist_is.is second.netlist_is.is)
 
   stims : r.stim ≡ s.stim
-  stims = one_stim recording n.design (scope_of w) w.rounds (rule_of w.start) r s first.is
+  stims = one_stim recording n.design (scope_of w) w.rounds w.places (rule_of w.start) r s first.is
       (subst (λ (x : ANetlist). IsJob w netlist recording x s) (sym nets) second).is
 
   -- What holds of the second design and stimulus holds of the first.

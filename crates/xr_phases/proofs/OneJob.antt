@@ -24,13 +24,14 @@ use Rattle.xr_phases.proofs.OneStimulus.{one_binding, one_said, one_stim}
 same_recorded : (a b : Recorded) → a.recording ≡ b.recording → a.binding ≡ b.binding → a.stim ≡ b.stim → a ≡ b
 same_recorded a b said bound stim = λ i. record { recording = said i; binding = bound i; stim = stim i }
 
-pub one_recorded : (text : List ℕ) (design : Design) (scope : List (List ℕ)) (rounds : ℕ) (start : StartRule) → IsOne (RecordingComes text design scope rounds start)
-one_recorded text design scope rounds start (Ok a) (Ok b) first second =
-    ap Ok (same_recorded a b (one_said text design scope rounds start a b first second) (one_binding text design scope rounds start a b first second)
-    (one_stim text design scope rounds start a b first second))
-one_recorded text design scope rounds start (Ok a) (Err f) first second = absurd (one_recording text design scope rounds start (Ok a) (Err f) first second)
-one_recorded text design scope rounds start (Err e) (Ok b) first second = absurd (one_recording text design scope rounds start (Err e) (Ok b) first second)
-one_recorded text design scope rounds start (Err e) (Err f) first second = ap Err (one_recording text design scope rounds start (Err e) (Err f) first second)
+pub one_recorded : (text : List ℕ) (design : Design) (scope : List (List ℕ)) (rounds most : ℕ) (start : StartRule)
+    → IsOne (RecordingComes text design scope rounds most start)
+one_recorded text design scope rounds most start (Ok a) (Ok b) first second =
+    ap Ok (same_recorded a b (one_said text design scope rounds most start a b first second) (one_binding text design scope rounds most start a b first second)
+    (one_stim text design scope rounds most start a b first second))
+one_recorded text design scope rounds most start (Ok a) (Err f) first second = absurd (one_recording text design scope rounds most start (Ok a) (Err f) first second)
+one_recorded text design scope rounds most start (Err e) (Ok b) first second = absurd (one_recording text design scope rounds most start (Err e) (Ok b) first second)
+one_recorded text design scope rounds most start (Err e) (Err f) first second = ap Err (one_recording text design scope rounds most start (Err e) (Err f) first second)
 
 pub orders_of : (n : ANetlist) (r : Recorded) → IsOrder (driver_in n.design) (length n.design.nets) n.order → OrdersAll (job_for n r)
 orders_of n r ordered = record { ordering = order_lists (driver_in n.design) (length n.design.nets) n.order ordered; all = ordered.all }
@@ -49,5 +50,5 @@ pub job_exact : (w : JobValues) (next : Parts → Phases Answer Refused) → ((n
 job_exact w next after = λ text. (
   one_outcome text w.top,
   λ n has recording.
-      (one_recorded recording n.design (scope_of w) w.rounds (rule_of w.start), λ r held. after n r (orders_of n r has.ordered)),
+      (one_recorded recording n.design (scope_of w) w.rounds w.places (rule_of w.start), λ r held. after n r (orders_of n r has.ordered)),
 )

@@ -45,13 +45,13 @@ of_netlist text top (netlist.Grammar fault) is = (omega arith, omega arith)
 of_netlist text top (netlist.Design fault) is = (omega arith, omega arith)
 of_netlist text top (netlist.Loop names) is = (omega arith, omega arith)
 
-pub of_recording : (text : List ℕ) (design : Design) (scope : List (List ℕ)) (rounds : ℕ) (e : RecordingRefusal) → IsRefusedRecording text design scope rounds e → IsOfTexts (Recording e)
+pub of_recording : (text : List ℕ) (design : Design) (scope : List (List ℕ)) (rounds most : ℕ) (e : RecordingRefusal) → IsRefusedRecording text design scope rounds most e → IsOfTexts (Recording e)
 unfolding IsOfTexts
-of_recording text design scope rounds (recording.Grammar fault) is = (omega arith, omega arith)
-of_recording text design scope rounds (recording.NoScope name) is = (omega arith, omega arith)
-of_recording text design scope rounds (recording.RangeDiffers name) is = (omega arith, omega arith)
-of_recording text design scope rounds (recording.MissingInput name) is = (omega arith, omega arith)
-of_recording text design scope rounds (recording.TooLarge places) is = (omega arith, omega arith)
+of_recording text design scope rounds most (recording.Grammar fault) is = (omega arith, omega arith)
+of_recording text design scope rounds most (recording.NoScope name) is = (omega arith, omega arith)
+of_recording text design scope rounds most (recording.RangeDiffers name) is = (omega arith, omega arith)
+of_recording text design scope rounds most (recording.MissingInput name) is = (omega arith, omega arith)
+of_recording text design scope rounds most (recording.TooLarge places) is = (omega arith, omega arith)
 
 of_differ : (n : ANetlist) (r : Recorded) (d : Differ) → IsOfTexts (Compare (refusal_for n r d))
 unfolding IsOfTexts
@@ -119,7 +119,7 @@ job_of_texts w next after = (
     of_netlist text w.top,
     λ n has. (
       of_long_recording,
-      λ recording. (of_recording recording n.design (scope_of w) w.rounds, λ r held. after n r),
+      λ recording. (of_recording recording n.design (scope_of w) w.rounds w.places, λ r held. after n r),
     ),
   ),
 )

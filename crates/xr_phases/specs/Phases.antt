@@ -79,7 +79,7 @@ netlist_phases w = do
 abbrev pub recording_phases : JobValues → ANetlist → Phases Recorded Refused
 recording_phases w n = do
   text ← reads (w.recording ∷ []) recording_limit LongRecording
-  judges (RecordingComes text n.design (scope_of w) w.rounds (rule_of w.start)) recording_cause
+  judges (RecordingComes text n.design (scope_of w) w.rounds w.places (rule_of w.start)) recording_cause
 
 abbrev pub job_phases : JobValues → Phases Parts Refused
 job_phases w = do

@@ -21,7 +21,7 @@ use Rattle.xr_repair.specs.Repaired.{IsObjection, IsOfJob}
 use Rattle.xr_job.specs.Compared.{IsRefusedReplay, job_for}
 use Rattle.xr_job.specs.Names.{net_name}
 use Rattle.xr_job.specs.Netlist.{FitsNetlist}
-use Rattle.xr_job.specs.Recorded.{FitsRecorded}
+use Rattle.xr_job.specs.Recorded.{FitsRecordedWithin, place_limit}
 use Rattle.xr_job.specs.declared.compare_refusal.CompareRefusal.{CompareRefusal}
 use Rattle.xr_job.specs.declared.netlist.Netlist.{Netlist as ANetlist}
 use Rattle.xr_job.specs.declared.recorded.Recorded.{Recorded}
@@ -47,13 +47,20 @@ abbrev pub rule_of : Start → StartRule
 rule_of named.Cold = Cold
 rule_of named.Recorded = AsRecorded
 
--- A design with its order fits, and so does what was recorded of it.
-pub record FitsJob (n : ANetlist) (r : Recorded) : Type 0 where
+-- A design with its order fits, and so does what was recorded of it, with at most so many places.
+pub record FitsJobWithin (most : ℕ) (n : ANetlist) (r : Recorded) : Type 0 where
   pub netlist : FitsNetlist n
-  pub recorded : FitsRecorded n.design r
+  pub recorded : FitsRecordedWithin most n.design r
+
+abbrev pub FitsPartsWithin : ℕ → Parts → Type 0
+FitsPartsWithin most job = FitsJobWithin most job.netlist job.recorded
+
+-- It fits, with few enough places to be walked over.
+abbrev pub FitsJob : ANetlist → Recorded → Type 0
+FitsJob n r = FitsJobWithin place_limit n r
 
 abbrev pub FitsParts : Parts → Type 0
-FitsParts job = FitsJob job.netlist job.recorded
+FitsParts job = FitsPartsWithin place_limit job
 
 -- A history is the replay of the job, each moment is settled, and the recording agrees in it.
 pub record AgreesThroughout (n : ANetlist) (r : Recorded) (history : HistoryView) : Type 0 where

@@ -1,13 +1,15 @@
 //! The forces that a code's text says.
 
 ghost use Rattle.std.specs.Prelude.{◌≡◌, IfOk};
+ghost use Rattle.xr_design.specs.Circuit.{PartsFit};
+ghost use Rattle.xr_design.specs.Design.{FitsDesign};
 ghost use Rattle.xr_design.specs.Force.{AreEvents};
 ghost use Rattle.xr_job.specs.Compared.{job_for};
 ghost use Rattle.xr_run.specs.Prepared.{Judged, Prepared};
 ghost use Rattle.xr_words.specs.Words.{replay_values};
 ghost use Rattle.xr_phases.specs.Code.{CodeComes, code_in};
 ghost use Rattle.xr_phases.specs.Phases.{code_cause, code_phases, itself};
-ghost use Rattle.xr_phases.specs.Repair.{FitsParts};
+ghost use Rattle.xr_phases.specs.Repair.{FitsPartsWithin};
 
 use crate::cause::Refused;
 use crate::parts::Parts;
@@ -29,7 +31,7 @@ pub fn forces_of<S: Shelf>(
     words: &ReplayWords<'_>,
     job: &Parts,
 ) -> Result<Forces, Refusal<Refused>>
-    requires { FitsParts job.now }
+    requires { FitsPartsWithin words.now.job.places job.now }
     ensures prepared { Prepared S.told (code_phases (replay_values words.now) job.now) itself
         (S.view shelf.old) (S.view shelf.new) result }
     ensures events { IfOk result (AreEvents (job_for job.now.netlist job.now.recorded)) }
@@ -46,7 +48,8 @@ fn forces_in(
     text: &[u8],
     scope: &[Bytes],
 ) -> Result<Forces, Refusal<Refused>>
-    requires { FitsParts job.now }
+    requires parts { PartsFit job.now.netlist.design job.now.netlist.order job.now.recorded.stim }
+    requires names { FitsDesign job.now.netlist.design }
     ensures judged { Judged (CodeComes (code_in job.now text.now scope.now)) code_cause itself result }
     ensures events { IfOk result (AreEvents (job_for job.now.netlist job.now.recorded)) }
 {

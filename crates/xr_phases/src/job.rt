@@ -1,14 +1,14 @@
 //! The netlist and the recording that the words of a command name.
 
-ghost use Rattle.std.specs.Prelude.{◌≡◌, IfOk};
+ghost use Rattle.std.specs.Prelude.{◌≡◌, ◌≤◌, IfOk};
 ghost use Rattle.xr_design.specs.Handed.{IsReplay};
 ghost use Rattle.xr_job.specs.Compared.{job_for};
 ghost use Rattle.xr_job.specs.Netlist.{FitsNetlist};
-ghost use Rattle.xr_job.specs.Recorded.{FitsRecorded};
+ghost use Rattle.xr_job.specs.Recorded.{FitsRecordedWithin};
 ghost use Rattle.xr_run.specs.Prepared.{Prepared};
 ghost use Rattle.xr_words.specs.Words.{job_values};
 ghost use Rattle.xr_phases.specs.Phases.{agreed_job, agreed_phases, itself, job_phases, netlist_phases, recording_phases};
-ghost use Rattle.xr_phases.specs.Repair.{FitsParts, rule_of};
+ghost use Rattle.xr_phases.specs.Repair.{FitsParts, FitsPartsWithin, rule_of};
 
 use crate::cause::Refused;
 use crate::judged::{compared, netlist_in, recorded_in};
@@ -27,12 +27,14 @@ pub const NETLIST_BYTES: usize = 67_108_864;
 /// The most bytes of a recording.
 pub const RECORDING_BYTES: usize = 268_435_456;
 
-/// The job that the words name, whose recording has to agree with its replay, and that replay.
+/// The job that the words name, whose recording has to agree with its replay, and that replay. The job is one that is
+/// walked over.
 pub fn agreed_of<S: Shelf>(
     alloc: Global,
     shelf: &mut S,
     words: &JobWords<'_>,
 ) -> Result<Agreed, Refusal<Refused>>
+    requires { words.now.places ≤ 134217728 }
     ensures prepared { Prepared S.told (agreed_phases (job_values words.now)) agreed_job
         (S.view shelf.old) (S.view shelf.new) result }
     ensures fits { IfOk result (λ agreed. FitsParts agreed.job) }
@@ -53,7 +55,7 @@ pub fn job_of<S: Shelf>(
 ) -> Result<Parts, Refusal<Refused>>
     ensures prepared { Prepared S.told (job_phases (job_values words.now)) itself
         (S.view shelf.old) (S.view shelf.new) result }
-    ensures fits { IfOk result FitsParts }
+    ensures fits { IfOk result (FitsPartsWithin words.now.places) }
 {
     let netlist = netlist_of(alloc, shelf, words)?;
     let recorded = recorded_of(alloc, shelf, words, &netlist)?;
@@ -90,7 +92,7 @@ fn recorded_of<S: Shelf>(
     requires { FitsNetlist netlist.now }
     ensures prepared { Prepared S.told (recording_phases (job_values words.now) netlist.now) itself
         (S.view shelf.old) (S.view shelf.new) result }
-    ensures fits { IfOk result (FitsRecorded netlist.now.design) }
+    ensures fits { IfOk result (FitsRecordedWithin words.now.places netlist.now.design) }
 {
     let scope = names_of(alloc, words.scope)?;
     let text = read_input(
@@ -106,6 +108,7 @@ fn recorded_of<S: Shelf>(
         text.as_slice(),
         scope.as_slice(),
         words.rounds,
+        words.places,
         rule_of(words.start),
     )
 }

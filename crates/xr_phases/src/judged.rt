@@ -4,7 +4,7 @@ ghost use Rattle.std.specs.Prelude.{◌≡◌, ◌<◌, ◌≤◌, ◌^◌, leng
 ghost use Rattle.xr_design.specs.Handed.{IsReplay};
 ghost use Rattle.xr_job.specs.Compared.{job_for};
 ghost use Rattle.xr_job.specs.Netlist.{FitsNetlist, NetlistComes};
-ghost use Rattle.xr_job.specs.Recorded.{FitsRecorded, RecordingComes};
+ghost use Rattle.xr_job.specs.Recorded.{FitsRecorded, FitsRecordedWithin, RecordingComes};
 ghost use Rattle.xr_run.specs.Prepared.{Judged};
 ghost use Rattle.xr_phases.specs.Repair.{LengthComes, CompareComes};
 ghost use Rattle.xr_phases.specs.Phases.{compare_cause, itself, netlist_cause, nothing_in, recording_cause};
@@ -42,13 +42,14 @@ pub fn netlist_in(alloc: Global, text: &[u8], top: &str) -> Result<Netlist, Refu
     }
 }
 
-/// What a text records of a design.
+/// What a text records of a design, for a replay of at most so many places.
 pub fn recorded_in(
     alloc: Global,
     netlist: &Netlist,
     text: &[u8],
     scope: &[Bytes],
     rounds: u32,
+    most: u64,
     start: StartRule,
 ) -> Result<Recorded, Refusal<Refused>>
     requires size { length text.now ≤ 2 ^ 28 }
@@ -56,11 +57,12 @@ pub fn recorded_in(
     requires some { 0 < length scope.now }
     requires round { 1 ≤ rounds }
     requires rounds { rounds ≤ 16 }
-    ensures judged { Judged (RecordingComes text.now netlist.now.design scope.now rounds start)
+    requires most { most ≤ 2 ^ 40 }
+    ensures judged { Judged (RecordingComes text.now netlist.now.design scope.now rounds most start)
         recording_cause itself result }
-    ensures fits { IfOk result (FitsRecorded netlist.now.design) }
+    ensures fits { IfOk result (FitsRecordedWithin most netlist.now.design) }
 {
-    match read_recording(alloc, netlist, text, scope, rounds, start) {
+    match read_recording(alloc, netlist, text, scope, rounds, most, start) {
         Ok(recorded) => Ok(recorded),
         Err(RecordingErr::Refused(cause)) => Err(Refusal::Text {
             cause: Refused::Recording(cause),

@@ -1,5 +1,5 @@
 -- First faults: what is checked in turn leads to them, and there is at most one.
-use Rattle.std.proofs.Common.{◌≡◌, ◌↔◌, ℕ, true, false, Result, Ok, Err, IfOk, IfErr, IsOk, ◌<◌, length, slice_index, refl, sym, ap, ◌∙◌, arith, subst, ⊎_elim}
+use Rattle.std.proofs.Common.{◌≡◌, ℕ, inl, inr, Result, Ok, Err, IfOk, IfErr, ◌<◌, length, slice_index, refl, sym, ap, ◌∙◌, arith, subst, ⊎_elim}
 use Rattle.std.proofs.lemmas.Bool.{cases_lt}
 use Rattle.xr_design.specs.Fits.{Fits}
 use Rattle.xr_design.specs.Job.{Job, at}
@@ -13,7 +13,9 @@ use Rattle.xr_match.specs.declared.binding.Bound.{Bound}
 use Rattle.xr_vcd.specs.Recording.{Recording, value_at}
 use Rattle.xr_replay.specs.declared.differ.Differ.{Differ}
 use Rattle.xr_replay.specs.declared.differ.Differ.TheVariants.{Unsettled, Disagrees}
-use Rattle.xr_replay.specs.Fault.{BitAgrees, HasNoFault, IsBitFault, IsDisagreementIn, IsFault, IsFaultIn, IsFaultless, IsFirstBit, IsFirstDisagreement, IsFirstFault, IsFirstUnsettled, IsUnsettledAt, IsUnsettledIn, IsVariableFault, VariableAgrees, bound_at, kept_after, moment_of, no_variable, shown_bit}
+use Rattle.xr_replay.specs.declared.differ.DifferErr.{DifferErr}
+use Rattle.xr_replay.specs.declared.differ.DifferErr.TheVariants.{Differs, Memory}
+use Rattle.xr_replay.specs.Fault.{BitAgrees, HasNoFault, IfDiffers, IsBitFault, IsDisagreementIn, IsFault, IsFaultIn, IsFaultless, IsFirstBit, IsFirstDisagreement, IsFirstFault, IsFirstUnsettled, IsUnsettledAt, IsUnsettledIn, IsVariableFault, TellsFaultless, TellsFirst, VariableAgrees, bound_at, kept_after, moment_of, no_variable, shown_bit}
 use Rattle.xr_replay.proofs.Places.{net_there}
 use Rattle.xr_replay.proofs.Writing.{net_within}
 
@@ -128,11 +130,13 @@ one_fault j fits recording binding d e first second =
 faultless : (j : Job) (recording : Recording) (binding : Binding) (differ : Differ) → IsFaultless j recording binding → IsFirstFault j recording binding differ → ⊥
 faultless j recording binding differ none first = clash j recording binding differ first.fault (none (moment_of differ) first.within)
 
--- An answer that is right where it is Ok and where it is an error is so exactly.
-pub agrees_exactly : (j : Job) (recording : Recording) (binding : Binding) (result : Result (Unit {0}) Differ) → IfOk result (λ _. IsFaultless j recording binding) → IfErr result (IsFirstFault j recording binding) → IsOk result ↔ IsFaultless j recording binding
-agrees_exactly j recording binding (Ok unit) none first = ((λ yes. none), (λ yes. refl))
-agrees_exactly j recording binding (Err differ) none first = ((λ yes. absurd (let no : false ≡ true = yes in cc)), (λ yes. absurd (faultless j recording binding differ yes first)))
+-- An answer that is right where it is Ok and where it is a fault is so exactly, unless memory ran out.
+pub tells_faultless : (j : Job) (recording : Recording) (binding : Binding) (result : Result (Unit {0}) DifferErr) → IfErr result (IfDiffers (IsFirstFault j recording binding)) → TellsFaultless j recording binding result
+tells_faultless j recording binding (Ok unit) first none = inl refl
+tells_faultless j recording binding (Err (Differs differ)) first none = absurd (faultless j recording binding differ none first)
+tells_faultless j recording binding (Err Memory) first none = inr refl
 
-pub differs_exactly : (j : Job) → Fits j → (recording : Recording) (binding : Binding) (result : Result (Unit {0}) Differ) → IfOk result (λ _. IsFaultless j recording binding) → IfErr result (IsFirstFault j recording binding) → (differ : Differ) → IsFirstFault j recording binding differ → result ≡ Err differ
-differs_exactly j fits recording binding (Ok unit) none first differ is = absurd (faultless j recording binding differ none is)
-differs_exactly j fits recording binding (Err other) none first differ is = ap Err (one_fault j fits recording binding other differ first is)
+pub tells_first : (j : Job) → Fits j → (recording : Recording) (binding : Binding) (result : Result (Unit {0}) DifferErr) → IfOk result (λ _. IsFaultless j recording binding) → IfErr result (IfDiffers (IsFirstFault j recording binding)) → TellsFirst j recording binding result
+tells_first j fits recording binding (Ok unit) none first differ is = absurd (faultless j recording binding differ none is)
+tells_first j fits recording binding (Err (Differs other)) none first differ is = inl (ap (λ (d : Differ). Err (Differs d)) (one_fault j fits recording binding other differ first is))
+tells_first j fits recording binding (Err Memory) none first differ is = inr refl

@@ -1,4 +1,5 @@
 -- Lemmas of xr_replay.
+pub mod Bindings
 pub mod Compares
 pub mod Faults
 pub mod Forces
@@ -10,4 +11,5 @@ pub mod Repeats
 pub mod Replays
 pub mod Seeing
 pub mod Sweeps
+pub mod Watching
 pub mod Writing

@@ -11,6 +11,9 @@ use Rattle.xr_design.specs.Force.{forced_at, forced_by}
 use Rattle.xr_design.specs.Job.{Job, at}
 use Rattle.xr_design.specs.Order.{position_of}
 use Rattle.xr_design.proofs.Rules.{position_in}
+use Rattle.xr_inputs.specs.Rows.{AreChanged, AreElsewhere, moment_row}
+use Rattle.xr_ledger.specs.Change.{change_position, nth_change}
+use Rattle.xr_ledger.specs.declared.change.Change.{Change}
 use Rattle.xr_replay_due.specs.Due.{HasRoomFor, is_due}
 use Rattle.xr_replay.specs.Forced.{ChangesOnlyBy, HasForced, NoEventOf, event_at}
 use Rattle.xr_replay.specs.Marks.{AreChangesDue, AreEventsDue, AreInputsDue, OnlyMore}
@@ -34,10 +37,10 @@ pub events_more : (j : Job) (events : List Event) (from n : ℕ) (old new : List
 events_more j events from n old new more here due i low high =
     ⊎_elim (λ same. (let P : ℕ → Type 0 = λ k. is_due new (position_of j.order (event_at events k).net) ≡ true in subst P (sym same) here)) (λ differ. more (position_of j.order (event_at events i).net) (due i low (omega (arith, high, differ)))) (cases_eq i n)
 
--- One net more is due, or has the same value.
-pub changes_more : (j : Job) (n : ℕ) (values before : List Value) (old new : List ℕ) → OnlyMore old new → (is_due new (position_of j.order n) ≡ false → slice_index_or values n X ≡ slice_index_or before n X) → AreChangesDue j n values before old → AreChangesDue j (n + 1) values before new
-changes_more j n values before old new more here due net low clear =
-    ⊎_elim (λ same. (let P : ℕ → Type 0 = λ k. is_due new (position_of j.order k) ≡ false → slice_index_or values k X ≡ slice_index_or before k X in subst P (sym same) here clear)) (λ differ. due net (omega (arith, low, differ)) (clear_before old new (position_of j.order net) more clear)) (cases_eq net n)
+-- The net of one change more is due.
+pub changes_more : (j : Job) (changes : List Change) (n : ℕ) (old new : List ℕ) → OnlyMore old new → is_due new (position_of j.order (change_position (nth_change changes n))) ≡ true → AreChangesDue j n changes old → AreChangesDue j (n + 1) changes new
+changes_more j changes n old new more here due i low =
+    ⊎_elim (λ same. (let P : ℕ → Type 0 = λ k. is_due new (position_of j.order (change_position (nth_change changes k))) ≡ true in subst P (sym same) here)) (λ differ. more (position_of j.order (change_position (nth_change changes i))) (due i (omega (arith, low, differ)))) (cases_eq i n)
 
 -- A net is forced as one step before, where the values by which nets are forced changed only at others.
 pub forced_but_for : (j : Job) → Fits j → (events : List Event) (step from to : ℕ) (old new : List (Option Value)) → HasForced j.width events step new → HasForced j.width events (step - 1) old → ChangesOnlyBy events from to old new → (net : ℕ) → net < j.width → NoEventOf events from to net → IsForcedSame j (forced_by j events) step net
@@ -81,7 +84,10 @@ due_marked_first j fits forced events step from to old mid new first second more
         let P : ℕ → Type 0 = λ k. is_due new k ≡ false in
         recorded_by j step (slice_index j.order p) (driver_on j p) (inputs (slice_index j.order p) (net_within j fits p low) (subst P (sym (position_there j fits p low)) clear))
 
--- Rows of values that differ only at nets that are due.
-pub inputs_due : (j : Job) (step : ℕ) (values before : List Value) (due : List ℕ) → ((net : ℕ) → slice_index_or values net X ≡ j.recorded (step / j.rounds) net) → ((net : ℕ) → slice_index_or before net X ≡ j.recorded ((step - 1) / j.rounds) net) → length values ≡ j.width → AreChangesDue j (length values) values before due → AreInputsDue j step due
-inputs_due j step values before due now then long changes net low clear =
-    sym (now net) ∙ (changes net (omega (arith, low, long)) clear ∙ then net)
+-- What isn't due has no change, and is recorded as in the moment before.
+pub inputs_due : (j : Job) (step : ℕ) (rows : List (List Value)) (changes : List Change) (due : List ℕ) → ((moment net : ℕ) → j.recorded moment net ≡ slice_index_or (moment_row rows moment) net X) → length (moment_row rows (step / j.rounds)) ≡ j.width
+    → step / j.rounds - 1 ≡ (step - 1) / j.rounds → AreChanged rows (step / j.rounds) changes → AreChangesDue j (length changes) changes due → AreInputsDue j step due
+inputs_due j step rows changes due reads long earlier changed marked net low clear =
+    let moment = step / j.rounds in
+    let elsewhere : AreElsewhere changes net = λ i within is. (let P : ℕ → Type 0 = λ k. is_due due (position_of j.order k) ≡ true in let no : true ≡ false = sym (subst P is (marked i within)) ∙ clear in cc) in
+    reads moment net ∙ changed.others net (omega (arith, low, long)) elsewhere ∙ sym (reads (moment - 1) net) ∙ ap (λ (m : ℕ). j.recorded m net) earlier

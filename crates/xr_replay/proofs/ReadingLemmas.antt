@@ -25,32 +25,32 @@ use Rattle.xr_replay.specs.Sweep.{driver_on}
 use Rattle.xr_replay.proofs.Writing.{net_within}
 
 -- What holds of each reading by its place holds of each.
-each_all : (P : Reading → Type 0) (rs : List Reading) → ((i : ℕ) → i < length rs → P (reading_at rs i)) → AllByRecursion P rs
+pub each_all : (P : Reading → Type 0) (rs : List Reading) → ((i : ℕ) → i < length rs → P (reading_at rs i)) → AllByRecursion P rs
 each_all P [] each = tt
 each_all P (r ∷ rs) each = (each zero (omega arith), each_all P rs (λ i less. each (suc i) (omega (arith, less))))
 
-all_each : (P : Reading → Type 0) (rs : List Reading) (i : ℕ) → AllByRecursion P rs → i < length rs → P (reading_at rs i)
+pub all_each : (P : Reading → Type 0) (rs : List Reading) (i : ℕ) → AllByRecursion P rs → i < length rs → P (reading_at rs i)
 all_each P [] i all less = absurd (omega (arith, less))
 all_each P (r ∷ rs) zero all less = all.0
 all_each P (r ∷ rs) (suc i) all less = all_each P rs i all.1 (omega (arith, less))
 
-all_front : (P : Reading → Type 0) (xs ys : List Reading) → AllByRecursion P (xs ++ ys) → AllByRecursion P xs
+pub all_front : (P : Reading → Type 0) (xs ys : List Reading) → AllByRecursion P (xs ++ ys) → AllByRecursion P xs
 all_front P [] ys all = tt
 all_front P (x ∷ xs) ys all = (all.0, all_front P xs ys all.1)
 
-all_back : (P : Reading → Type 0) (xs ys : List Reading) → AllByRecursion P (xs ++ ys) → AllByRecursion P ys
+pub all_back : (P : Reading → Type 0) (xs ys : List Reading) → AllByRecursion P (xs ++ ys) → AllByRecursion P ys
 all_back P [] ys all = all
 all_back P (x ∷ xs) ys all = all_back P xs ys all.1
 
-all_join : (P : Reading → Type 0) (xs ys : List Reading) → AllByRecursion P xs → AllByRecursion P ys → AllByRecursion P (xs ++ ys)
+pub all_join : (P : Reading → Type 0) (xs ys : List Reading) → AllByRecursion P xs → AllByRecursion P ys → AllByRecursion P (xs ++ ys)
 all_join P [] ys front back = back
 all_join P (x ∷ xs) ys front back = (front.0, all_join P xs ys front.1 back)
 
-all_of : (P : Reading → Type 0) (position : ℕ) (nets : List ℕ) → AllByRecursion (λ net. P record { net = net; position = position }) nets → AllByRecursion P (readings_of position nets)
+pub all_of : (P : Reading → Type 0) (position : ℕ) (nets : List ℕ) → AllByRecursion (λ net. P record { net = net; position = position }) nets → AllByRecursion P (readings_of position nets)
 all_of P position [] all = tt
 all_of P position (net ∷ nets) all = (all.0, all_of P position nets all.1)
 
-of_all : (P : Reading → Type 0) (position : ℕ) (nets : List ℕ) → AllByRecursion P (readings_of position nets) → AllByRecursion (λ net. P record { net = net; position = position }) nets
+pub of_all : (P : Reading → Type 0) (position : ℕ) (nets : List ℕ) → AllByRecursion P (readings_of position nets) → AllByRecursion (λ net. P record { net = net; position = position }) nets
 of_all P position [] all = tt
 of_all P position (net ∷ nets) all = (all.0, of_all P position nets all.1)
 
@@ -111,7 +111,7 @@ few_readings j nets_by (suc n) within are =
     omega (arith, before, few, both, count)
 
 -- A reading whose net and position are below a number.
-abbrev IsWithin : ℕ → Reading → Type 0
+abbrev pub IsWithin : ℕ → Reading → Type 0
 IsWithin nets reading = (reading.net < nets) × (reading.position < nets)
 
 below_all : (j : Job) (nets : List ℕ) (n : ℕ) → n < j.width → AllByRecursion (λ net. net < j.width) nets → AllByRecursion (λ net. (net < j.width) × (n < j.width)) nets
@@ -132,7 +132,7 @@ readings_within j nets_by are =
     }
 
 -- A reading's position is among the readers of its net.
-abbrev IsAmong : ReadersView → Reading → Type 0
+abbrev pub IsAmong : ReadersView → Reading → Type 0
 IsAmong readers reading = Contains (readers_of readers reading.net) reading.position
 
 among_by : (j : Job) (nets_by : Driver → List ℕ) (readers : ReadersView) (n p : ℕ) → p < n → AllByRecursion (IsAmong readers) (readings_to j nets_by n) → AllByRecursion (λ net. Contains (readers_of readers net) p) (nets_by (driver_on j p))
@@ -168,7 +168,7 @@ pins_append (Dead ∷ xs) ys = pins_append xs ys
 net_of_pin : (pins : List Pin) (i : ℕ) (d : Pin) → i < length pins → net_pins (take (i + 1) pins) ≡ net_pins (take i pins) ++ net_pins (slice_index_or pins i d ∷ [])
 net_of_pin pins i d less = ap net_pins (take_more pins i d less) ∙ pins_append (take i pins) (slice_index_or pins i d ∷ [])
 
-readings_append : (position : ℕ) (xs ys : List ℕ) → readings_of position (xs ++ ys) ≡ readings_of position xs ++ readings_of position ys
+pub readings_append : (position : ℕ) (xs ys : List ℕ) → readings_of position (xs ++ ys) ≡ readings_of position xs ++ readings_of position ys
 readings_append position [] ys = refl
 readings_append position (x ∷ xs) ys = ap (λ (rs : List Reading). let reading : Reading = record { net = x; position = position } in reading ∷ rs) (readings_append position xs ys)
 

@@ -13,7 +13,7 @@ use Rattle.xr_design.specs.Fits.{Fits, FitsDriver, StandsBefore}
 use Rattle.xr_design.specs.Job.{Job, at, step_of, net_of, places_of}
 use Rattle.xr_design.specs.Order.{arguments_of_driver, net_pins, position_of}
 use Rattle.xr_design.specs.Register.{pin_of}
-use Rattle.xr_design.specs.Replay.{Held, blank, driven, kept, held_at, replay_under, register_kept, table_of}
+use Rattle.xr_design.specs.Replay.{Held, blank, driven, held_at, replay_under, register_kept, table_of}
 use Rattle.xr_design.proofs.Prefix.{prefix}
 use Rattle.xr_design.proofs.Rules.{spot, position_in, back_one, old_below, new_below, agree_on, updated_reads}
 use Rattle.xr_replay.specs.Filled.{replayed}

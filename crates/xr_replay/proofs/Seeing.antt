@@ -71,7 +71,7 @@ after_step j step less =
     let turned = mul_comm (j.moments * j.rounds) j.width in
     omega (arith, more, turned)
 
-pub after_small : (j : Job) → Fits j → (step : ℕ) → step < j.moments * j.rounds → (step + 1) * j.width ≤ 2 ^ 27
+pub after_small : (j : Job) → Fits j → (step : ℕ) → step < j.moments * j.rounds → (step + 1) * j.width ≤ 2 ^ 40
 after_small j fits step less =
     let all = after_step j step less in
     let few = fits.few_places in

@@ -1,22 +1,19 @@
 -- A step that is gone over: what rests stays, and what moves makes its readers due.
-use Rattle.std.proofs.Common.{◌≡◌, ◌≢◌, ℕ, zero, suc, ◌+◌, ◌-◌, ◌*◌, ◌%◌, ◌<◌, ◌≤◌, ◌==◌, ◌||◌, Bool, true, false, Option, List, [], ◌∷◌, ◌++◌, length, take, drop, min, slice_index, slice_index_or, refl, sym, ap, ◌∙◌, arith, subst, add-zero, ⊎_elim}
+use Rattle.std.proofs.Common.{◌≡◌, ◌≢◌, ℕ, zero, suc, ◌+◌, ◌-◌, ◌*◌, ◌%◌, ◌<◌, ◌≤◌, ◌==◌, ◌||◌, Bool, true, false, Option, List, [], ◌∷◌, length, min, slice_index, slice_index_or, refl, sym, ap, ◌∙◌, arith, subst, add-zero, ⊎_elim}
 use Rattle.std.specs.Prelude.{Contains}
-use Rattle.std.specs.List.{AllByRecursion, copy_within, list_any}
+use Rattle.std.specs.List.{AllByRecursion, list_any}
 use Rattle.std.proofs.lemmas.Bool.{cases_eq, cases_lt}
 use Rattle.std.proofs.lemmas.Grind.{common_steps}
-use Rattle.std.proofs.lemmas.List.{get_or_append_left, get_or-append-add, get_or-drop, get_or-take, length-drop, length-take-le}
 use Rattle.std.proofs.Math.Nat.{mul-le-mul_right, mul_comm}
-use Rattle.std.proofs.Math.Seq.{paste}
-use Rattle.std.proofs.lemmas.List.Edits.{length-paste, take-paste}
 use Rattle.xr_cell.specs.declared.value.Value.{Value}
 use Rattle.xr_design.specs.declared.design.Driver.{Driver}
 use Rattle.xr_design.specs.declared.design.Driver.TheVariants.{Input, Undriven, Constant, Copy, Cell, Register}
-use Rattle.xr_design.specs.Fits.{Fits, FitsDriver, StandsBefore}
+use Rattle.xr_design.specs.Fits.{Fits, FitsDriver, StandsBefore, place_at}
 use Rattle.xr_design.specs.Handed.{held_of}
-use Rattle.xr_design.specs.History.{HistoryView, held_in, repeated}
-use Rattle.xr_design.specs.Job.{Job, at, net_of, places_of, step_of}
+use Rattle.xr_design.specs.History.{HasPlace, HistoryView, IsNextStep, WriterView, held_in, net_place}
+use Rattle.xr_design.specs.Job.{Job, at, places_of, step_of}
 use Rattle.xr_design.specs.Order.{arguments_of_driver, net_pins, position_of}
-use Rattle.xr_design.specs.Replay.{Held, blank}
+use Rattle.xr_design.specs.Replay.{Held}
 use Rattle.xr_design.proofs.Rules.{position_in, spot}
 use Rattle.xr_replay_due.specs.Due.{HasRoomFor, NoneBetween, is_due}
 use Rattle.xr_replay_due.specs.Readers.{ReadersView, readers_of}
@@ -24,11 +21,11 @@ use Rattle.xr_replay.specs.Filled.{IsFilled, replayed}
 use Rattle.xr_replay.specs.Readings.{AreReaders}
 use Rattle.xr_replay.specs.Still.{AreStillBefore, IsForcedSame, IsRecordedSame, IsStillAt, LooksSame, Stays, looked_at}
 use Rattle.xr_replay.specs.Sweep.{AreAhead, AreAwaited, AreDue, IsSwept, driver_on}
-use Rattle.xr_replay.proofs.Places.{has_step, net_there, place_at_position}
+use Rattle.xr_replay.proofs.Places.{net_there, place_at_position}
 use Rattle.xr_replay.proofs.Quiet.{all_two, resting_stays}
 use Rattle.xr_replay.proofs.Repeats.{at_there, step_before}
 use Rattle.xr_replay.proofs.Replays.{all_by}
-use Rattle.xr_replay.proofs.Writing.{net_within}
+use Rattle.xr_replay.proofs.Writing.{index_within, net_within, place_within}
 
 -- A net that stands at a position is the one there.
 there : (j : Job) → Fits j → (position net : ℕ) → net < j.width → position_of j.order net ≡ position → net ≡ slice_index j.order position
@@ -118,11 +115,11 @@ ahead_marked j fits forced step position old new marked are = record {
 same_test : (a : ℕ) → (a == a) ≡ true
 same_test a = let same : a ≡ a = refl in grind (arith, common_steps)
 
-or_true : (a : Bool) → (a || true) ≡ true
+pub or_true : (a : Bool) → (a || true) ≡ true
 or_true true = refl
 or_true false = refl
 
-contained : (xs : List ℕ) (k x : ℕ) → k < length xs → slice_index_or xs k x ≡ x → list_any (λ y. y == x) xs ≡ true
+pub contained : (xs : List ℕ) (k x : ℕ) → k < length xs → slice_index_or xs k x ≡ x → list_any (λ y. y == x) xs ≡ true
 contained [] k x less is = absurd (omega (arith, less))
 contained (y ∷ xs) zero x less is = rw (is, same_test x) refl
 contained (y ∷ xs) (suc k) x less is = rw (contained xs k x (omega (arith, less)) is) (or_true (y == x))
@@ -206,47 +203,15 @@ swept_computed j forced step position old new filled others swept =
       behind = λ p from low. others p low (λ same. omega (arith, from, same)) ∙ swept.behind p (omega (arith, from)) low;
     }
 
--- A list into which a part of its own is copied.
-copied_before : (xs : List Held) (i at n k : ℕ) → at + n ≤ length xs → i + n ≤ length xs → k < at → slice_index_or (paste xs at (drop i xs) n) k blank ≡ slice_index_or xs k blank
-copied_before xs i at n k room long less =
-    let rest = length-drop i xs in
-    let front = take-paste xs at (drop i xs) n (omega (arith, room)) (omega (arith, long, rest)) in
-    let head = length-take-le at xs (omega (arith, room)) in
-    sym (get_or-take (at + n) (paste xs at (drop i xs) n) k blank (omega (arith, less)))
-    ∙ ap (λ (l : List Held). slice_index_or l k blank) front
-    ∙ get_or_append_left (take at xs) (take n (drop i xs)) blank k (omega (arith, less, head))
-    ∙ get_or-take at xs k blank less
-
-copied_here : (xs : List Held) (i at n k : ℕ) → at + n ≤ length xs → i + n ≤ length xs → k < n → slice_index_or (paste xs at (drop i xs) n) (at + k) blank ≡ slice_index_or xs (i + k) blank
-copied_here xs i at n k room long less =
-    let rest = length-drop i xs in
-    let front = take-paste xs at (drop i xs) n (omega (arith, room)) (omega (arith, long, rest)) in
-    let head : length (take at xs) ≡ at = length-take-le at xs (omega (arith, room)) in
-    let index : at + k ≡ length (take at xs) + k = ap (λ (m : ℕ). m + k) (sym head) in
-    sym (get_or-take (at + n) (paste xs at (drop i xs) n) (at + k) blank (omega (arith, less)))
-    ∙ ap (λ (l : List Held). slice_index_or l (at + k) blank) front
-    ∙ ap (λ (m : ℕ). slice_index_or (take at xs ++ take n (drop i xs)) m blank) index
-    ∙ get_or-append-add (take at xs) (take n (drop i xs)) k blank
-    ∙ get_or-take n (drop i xs) k blank less
-    ∙ get_or-drop i xs k blank
-
--- A place of a step before another stands before that one's row.
-row_ends : (w s t net : ℕ) → s < t → net < w → s * w + net < t * w
-row_ends w s t net less low = let more : (s + 1) * w ≤ t * w = mul-le-mul_right w (omega (arith, less)) in omega (arith, more, low)
-
-one_row : (s n : ℕ) → 0 < s → (s - 1) * n + n ≡ s * n
-one_row zero n some = absurd (omega (arith, some))
-one_row (suc s) n some = let e : suc s - 1 ≡ s = omega arith in rw e (omega arith)
-
 -- The step of a place before a step's row is an earlier one.
 step_earlier : (w s t net : ℕ) → s * w + net < t * w → s < t
 step_earlier w s t net less = ⊎_elim (λ before. before) (λ behind. absurd (let more : t * w ≤ s * w = mul-le-mul_right w behind in omega (arith, more, less))) (cases_lt s t)
 
--- A step that is repeated has nothing of its own yet.
-pub swept_none : (j : Job) → Fits j → (forced : ℕ → Option Value) (step : ℕ) (old new : HistoryView) → 0 < step → step < j.moments * j.rounds → IsFilled j forced (step * j.width) old → new ≡ repeated old step → IsSwept j forced step 0 new
-swept_none j fits forced step old new later less filled new_is = record {
+-- A step that begins as the one before has nothing of its own yet.
+pub swept_none : (j : Job) → Fits j → (forced : ℕ → Option Value) (step : ℕ) (old new : WriterView) → step < j.moments * j.rounds → old.step + 1 ≡ step → IsFilled j forced (step * j.width) old.history → IsNextStep old new → IsSwept j forced step 0 new.history
+swept_none j fits forced step old new less next_is filled next = record {
   filled = record {
-    places = record { nets = ap (λ (h : HistoryView). h.nets) new_is ∙ filled.places.nets; all = ap (λ (h : HistoryView). length h.places) new_is ∙ long ∙ filled.places.all };
+    places = record { nets = next.nets ∙ filled.places.nets; all = next.long ∙ filled.places.all };
     held = λ place low. before place (omega (arith, low));
   };
   behind = λ p from low. behind p low;
@@ -255,56 +220,28 @@ swept_none j fits forced step old new later less filled new_is = record {
     w : ℕ
     w = j.width
 
-    nets : old.nets ≡ w
-    nets = filled.places.nets
-
-    room : step * old.nets + old.nets ≤ length old.places
-    room = (has_step j old step filled.places less).room
-
-    row : (step - 1) * old.nets + old.nets ≡ step * old.nets
-    row = one_row step old.nets later
-
-    count : step * old.nets - (step - 1) * old.nets ≡ old.nets
-    count = omega (arith, row)
-
-    long : length (copy_within old.places ((step - 1) * old.nets) (step * old.nets) (step * old.nets)) ≡ length old.places
-    long =
-        let rest = length-drop ((step - 1) * old.nets) old.places in
-        length-paste old.places (step * old.nets) (drop ((step - 1) * old.nets) old.places) (step * old.nets - (step - 1) * old.nets) (omega (arith, count, room)) (omega (arith, count, room, rest, row))
-
-    places_is : new.places ≡ paste old.places (step * old.nets) (drop ((step - 1) * old.nets) old.places) old.nets
-    places_is = ap (λ (h : HistoryView). h.places) new_is ∙ ap (λ (n : ℕ). paste old.places (step * old.nets) (drop ((step - 1) * old.nets) old.places) n) count
-
-    nets_new : new.nets ≡ old.nets
-    nets_new = ap (λ (h : HistoryView). h.nets) new_is
-
-    held_at_row : (h : HistoryView) (s p : ℕ) → p < w → held_of j h (s * w + p) ≡ slice_index_or h.places (s * h.nets + slice_index j.order p) blank
-    held_at_row h s p low = ap (held_in h) (place_at_position j s p low)
-
-    behind : (p : ℕ) → p < w → held_of j new (step * w + p) ≡ replayed j forced ((step - 1) * w + p)
+    behind : (p : ℕ) → p < w → held_of j new.history (step * w + p) ≡ replayed j forced ((step - 1) * w + p)
     behind p low =
         let net = slice_index j.order p in
-        let net_low : net < old.nets = rw nets (net_within j fits p low) in
-        let first : held_of j new (step * w + p) ≡ slice_index_or new.places (step * old.nets + net) blank = held_at_row new step p low ∙ ap (λ (n : ℕ). slice_index_or new.places (step * n + slice_index j.order p) blank) nets_new in
-        let second = ap (λ (l : List Held). slice_index_or l (step * old.nets + net) blank) places_is in
-        let third = copied_here old.places ((step - 1) * old.nets) (step * old.nets) old.nets net room (omega (arith, row, room)) net_low in
-        let fourth = sym (held_at_row old (step - 1) p low) in
-        first ∙ (second ∙ (third ∙ (fourth ∙ filled.held ((step - 1) * w + p) (rw add-zero at (step_before w step p 0 later low)))))
+        let back : step - 1 ≡ old.step = omega (arith, next_is) in
+        let here : place_at j (step * w + p) ≡ net_place (old.step + 1) net = place_at_position j step p low ∙ ap (λ (s : ℕ). net_place s (slice_index j.order p)) (sym next_is) in
+        let there : place_at j ((step - 1) * w + p) ≡ net_place old.step net = place_at_position j (step - 1) p low ∙ ap (λ (s : ℕ). net_place s (slice_index j.order p)) back in
+        let has : HasPlace old.history (net_place (old.step + 1) net) = subst (HasPlace old.history) here (index_within j fits old.history (step * w + p) filled.places (place_within j step p less low)) in
+        ap (held_in new.history) here
+        ∙ next.row net has
+        ∙ sym (ap (held_in old.history) there)
+        ∙ filled.held ((step - 1) * w + p) (rw add-zero at (step_before w step p 0 (omega (arith, next_is)) low))
 
-    before : (place : ℕ) → place < step * w → held_of j new place ≡ replayed j forced place
+    before : (place : ℕ) → place < step * w → held_of j new.history place ≡ replayed j forced place
     before place low =
         let more : step * w ≤ (j.moments * j.rounds) * w = mul-le-mul_right w (omega (arith, less)) in
         let turned = mul_comm (j.moments * j.rounds) w in
         let inside : place < places_of j = omega (arith, low, more, turned) in
         let s = spot j fits place inside in
-        let net_low : net_of j place < old.nets = rw nets s.net in
         let whole = s.whole in
         let earlier : step_of j place < step = step_earlier w (step_of j place) step (place % w) (rw whole low) in
-        let index : step_of j place * old.nets + net_of j place < step * old.nets = row_ends old.nets (step_of j place) step (net_of j place) earlier net_low in
-        let first : held_of j new place ≡ slice_index_or new.places (step_of j place * old.nets + net_of j place) blank = ap (λ (n : ℕ). slice_index_or new.places (step_of j place * n + net_of j place) blank) nets_new in
-        let second = ap (λ (l : List Held). slice_index_or l (step_of j place * old.nets + net_of j place) blank) places_is in
-        let third = copied_before old.places ((step - 1) * old.nets) (step * old.nets) old.nets (step_of j place * old.nets + net_of j place) room (omega (arith, row, room)) index in
-        first ∙ (second ∙ (third ∙ filled.held place low))
+        next.others (place_at j place) (index_within j fits old.history place filled.places inside) (λ same. omega (arith, same, earlier, next_is))
+        ∙ filled.held place low
 
 -- The first position of a step: what rests but for what it reads.
 pub due_first : (j : Job) (forced : ℕ → Option Value) (step : ℕ) (old new : List ℕ) → HasRoomFor new j.width → ((p : ℕ) → p < j.width → is_due new p ≡ false → is_due old p ≡ false) → ((p : ℕ) → p < j.width → is_due new p ≡ false → IsForcedSame j forced step (slice_index j.order p)) → ((p : ℕ) → p < j.width → is_due new p ≡ false → IsRecordedSame j step (slice_index j.order p) (driver_on j p)) → AreAwaited j forced step old → AreDue j forced step 0 new

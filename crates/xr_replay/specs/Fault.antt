@@ -1,5 +1,5 @@
 -- The faults of a recording beside the replay of its inputs: by moment, unsettled registers before values that differ.
-use Rattle.std.specs.Prelude.{◌≡◌, ℕ, ◌+◌, ◌<◌, Err, None, Result, [], All, length, slice_index, slice_index_or}
+use Rattle.std.specs.Prelude.{◌≡◌, ◌⊎◌, ℕ, ◌+◌, ◌<◌, Err, None, Result, [], All, IsOk, length, slice_index, slice_index_or}
 use Rattle.xr_cell.specs.declared.value.Value.{Value}
 use Rattle.xr_cell.specs.declared.value.Value.TheVariants.{X}
 use Rattle.xr_design.specs.Job.{Job, at}
@@ -14,6 +14,8 @@ use Rattle.xr_match.specs.declared.binding.Bound.{Bound}
 use Rattle.xr_vcd.specs.Recording.{Recording, value_at}
 use Rattle.xr_replay.specs.declared.differ.Differ.{Differ}
 use Rattle.xr_replay.specs.declared.differ.Differ.TheVariants.{Unsettled, Disagrees}
+use Rattle.xr_replay.specs.declared.differ.DifferErr.{DifferErr}
+use Rattle.xr_replay.specs.declared.differ.DifferErr.TheVariants.{Differs, Memory}
 
 -- What the update after a step gives for a net. Only a register is ever updated.
 abbrev pub kept_after : Job → ℕ → ℕ → Driver → Value
@@ -133,6 +135,15 @@ abbrev pub IsDisagreementIn : Job → Recording → Binding → ℕ → Differ �
 IsDisagreementIn j recording binding moment (Unsettled net when kept next) = ⊥
 IsDisagreementIn j recording binding moment (Disagrees variable bit when recorded replayed) = (when ≡ moment) × IsFirstDisagreement j recording binding moment variable bit recorded replayed
 
--- The answer is each first fault that there is.
-abbrev pub TellsFirst : Job → Recording → Binding → Result (Unit {0}) Differ → Type 0
-TellsFirst j recording binding result = (differ : Differ) → IsFirstFault j recording binding differ → result ≡ Err differ
+-- An error that is a fault is of this kind.
+abbrev pub IfDiffers : (Differ → Type 0) → DifferErr → Type 0
+IfDiffers P (Differs differ) = P differ
+IfDiffers P Memory = Unit {0}
+
+-- The answer is that there is no fault where there is none, unless memory ran out.
+abbrev pub TellsFaultless : Job → Recording → Binding → Result (Unit {0}) DifferErr → Type 0
+TellsFaultless j recording binding result = IsFaultless j recording binding → IsOk result ⊎ (result ≡ Err Memory)
+
+-- The answer is each first fault that there is, unless memory ran out.
+abbrev pub TellsFirst : Job → Recording → Binding → Result (Unit {0}) DifferErr → Type 0
+TellsFirst j recording binding result = (differ : Differ) → IsFirstFault j recording binding differ → (result ≡ Err (Differs differ)) ⊎ (result ≡ Err Memory)

@@ -21,6 +21,10 @@ use Rattle.xr_replay.specs.Sweep.{AreAhead, AreAwaited, AreDue, IsSwept, driver_
 abbrev pub IsReplayOf : Design → List ℕ → Stim → List Event → HistoryView → Type 0
 IsReplayOf design order stim events history = IsReplayUnder (job_of design order stim) (forced_by (job_of design order stim) events) history
 
+-- It is the replay of a circuit.
+abbrev pub IsReplayIn : Circuit → List Event → HistoryView → Type 0
+IsReplayIn circuit events history = IsReplayUnder (job_in circuit) (forced_by (job_in circuit) events) history
+
 -- It has the replay of the steps before, of the first positions of the step too, and of one position more.
 abbrev pub FilledBefore : Circuit → List Event → ℕ → HistoryView → Type 0
 FilledBefore circuit events step history = IsFilled (job_in circuit) (forced_by (job_in circuit) events) (step * (job_in circuit).width) history

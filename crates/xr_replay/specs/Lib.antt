@@ -10,3 +10,4 @@ pub mod Seen
 pub mod Sides
 pub mod Still
 pub mod Sweep
+pub mod Watched

@@ -1,57 +1,64 @@
 //! One place of the replay, from what the places before have.
 
-ghost use Rattle.std.specs.Prelude.{◌≡◌, ◌+◌, ◌*◌, ◌<◌, unwrap_or};
+ghost use Rattle.std.specs.Prelude.{◌≡◌, ◌+◌, ◌*◌, ◌<◌, OnOk, unwrap_or};
 ghost use Rattle.xr_design.specs.Circuit.{job_in, CircuitFits};
 ghost use Rattle.xr_design.specs.Replay.{kept_by};
 ghost use Rattle.xr_replay.specs.Forced.{HasForced};
 ghost use Rattle.xr_replay.specs.Going.{FilledBefore, FilledTo, FilledWith, KeepsOthers};
 
 use crate::driven::given_value;
+use xr_base::Memory;
 use xr_cell::Value;
-use xr_design::{Circuit, Driver, Event, History, Place, driver_at, kept_value, width_of};
+use xr_design::{Circuit, Driver, Event, HistoryWriter, Place, driver_at, kept_value, width_of};
 
-/// Every place of a step, in the order of the nets. Takes no memory.
+/// Every place of the step under way, in the order of the nets.
 pub fn fill_step(
     circuit: &Circuit<'_>,
     events: &[Event],
     forced: &[Option<Value>],
-    history: &mut History,
+    writer: &mut HistoryWriter,
     step: u32,
-)
+) -> Result<(), Memory>
     requires fits { CircuitFits circuit.now }
     requires step { step < (job_in circuit.now).moments * (job_in circuit.now).rounds }
     requires forced { HasForced (job_in circuit.now).width events.now step forced.now }
-    requires filled { FilledBefore circuit.now events.now step history.old }
-    ensures { FilledBefore circuit.now events.now (step + 1) history.new }
+    requires under_way { writer.old.step ≡ step }
+    requires filled { FilledBefore circuit.now events.now step writer.old.history }
+    ensures under_way { OnOk result (writer.new.step ≡ step) }
+    ensures filled { OnOk result (FilledBefore circuit.now events.now (step + 1) writer.new.history) }
 {
     let nets = width_of(circuit);
     'positions: for position in 0..nets {
-        compute_place(circuit, events, forced, history, step, position as u32);
+        compute_place(circuit, events, forced, writer, step, position as u32)?;
     }
+    Ok(())
 }
 
-/// The place at a position of a step. Takes no memory.
+/// The place at a position of the step under way.
 pub fn compute_place(
     circuit: &Circuit<'_>,
     events: &[Event],
     forced: &[Option<Value>],
-    history: &mut History,
+    writer: &mut HistoryWriter,
     step: u32,
     position: u32,
-)
+) -> Result<(), Memory>
     requires fits { CircuitFits circuit.now }
     requires step { step < (job_in circuit.now).moments * (job_in circuit.now).rounds }
     requires position { position < (job_in circuit.now).width }
     requires forced { HasForced (job_in circuit.now).width events.now step forced.now }
-    requires filled { FilledTo circuit.now events.now step position history.old }
-    ensures filled { FilledWith circuit.now events.now step position history.new }
-    ensures others { KeepsOthers circuit.now step position history.old history.new }
+    requires under_way { writer.old.step ≡ step }
+    requires filled { FilledTo circuit.now events.now step position writer.old.history }
+    ensures under_way { OnOk result (writer.new.step ≡ step) }
+    ensures filled { OnOk result (FilledWith circuit.now events.now step position writer.new.history) }
+    ensures others { OnOk result (KeepsOthers circuit.now step position writer.old.history writer.new.history) }
 {
     let net = circuit.order.net(position);
     let driver = driver_at(circuit, net as usize);
-    let value = given_value(circuit, history, step, position, net, driver);
+    let value = given_value(circuit, writer, step, position, net, driver);
     let (shown, kept) = place_values(forced[net as usize], driver, value);
-    history.set(Place { step, net }, shown, kept);
+    writer.set(Place { step, net }, shown, kept)?;
+    Ok(())
 }
 
 /// What a place shows and keeps where its driver gives a value.

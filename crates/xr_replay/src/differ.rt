@@ -1,5 +1,6 @@
 //! The faults of a recording beside the replay.
 
+use xr_base::Memory;
 use xr_cell::Value;
 
 /// The first fault of a recording beside the replay of its inputs.
@@ -21,4 +22,35 @@ pub enum Differ {
         recorded: Value,
         replayed: Value,
     },
+}
+
+/// Why a recording isn't found to agree with the replay of its inputs.
+#[derive(Clone, Copy, Debug, PartialEq, Eq)]
+pub enum DifferErr {
+    /// It doesn't: the first fault.
+    Differs(Differ),
+    /// There was no memory.
+    Memory,
+}
+
+impl From<Differ> for DifferErr {
+    ghost use Rattle.std.specs.Prelude.{◌≡◌};
+    ghost use Rattle.xr_replay.specs.declared.differ.DifferErr.TheVariants.{Differs};
+
+    ghost from_gives = { λ differ e. e ≡ Differs differ };
+
+    fn from(differ: Differ) -> Self {
+        DifferErr::Differs(differ)
+    }
+}
+
+impl From<Memory> for DifferErr {
+    ghost use Rattle.std.specs.Prelude.{◌≡◌};
+    ghost use Rattle.xr_replay.specs.declared.differ.DifferErr.TheVariants.{Memory as OutOfMemory};
+
+    ghost from_gives = { λ _ e. e ≡ OutOfMemory };
+
+    fn from(_: Memory) -> Self {
+        DifferErr::Memory
+    }
 }

@@ -43,7 +43,8 @@ fn cell_readers(alloc: Global, circuit: &Circuit<'_>) -> Result<Readers, Memory>
     Ok(Readers::new(alloc, nets, readings.as_slice())?)
 }
 
-fn register_readers(alloc: Global, circuit: &Circuit<'_>) -> Result<Readers, Memory>
+/// The registers that look back at each net of a circuit.
+pub fn register_readers(alloc: Global, circuit: &Circuit<'_>) -> Result<Readers, Memory>
     requires { CircuitFits circuit.now }
     ensures { IfOk result (AreReaders (job_in circuit.now) looked_at) }
 {
@@ -106,7 +107,8 @@ fn push_pin(pin: Pin, position: u32, readings: &mut Vec<Reading>) -> Result<(), 
     }
 }
 
-fn push_net(net: u32, position: u32, readings: &mut Vec<Reading>) -> Result<(), Memory>
+/// A reading more.
+pub fn push_net(net: u32, position: u32, readings: &mut Vec<Reading>) -> Result<(), Memory>
     ensures { OnOk result (AppendsReadings readings.old.items readings.new.items position (net ∷ [])) }
 {
     readings.push(Reading { net, position })?;

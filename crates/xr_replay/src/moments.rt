@@ -1,39 +1,54 @@
 //! The comparison of a recording with the replay: the first fault by moment.
+//!
+//! The first moment is looked at as a whole. In a later one only what is due is: a register that looks back at a net
+//! that is written at its last step, and a bound variable that is recorded in it or has a bit whose net is written in
+//! it. The rest is as in the moment before, which has no fault.
 
-ghost use Rattle.std.specs.Prelude.{◌≡◌, ◌+◌, ◌*◌, ◌<◌, ◌↔◌, All, IfErr, IfOk, IsOk, length};
+ghost use Rattle.std.specs.Prelude.{◌≡◌, ◌+◌, ◌-◌, ◌*◌, ◌<◌, ◌≤◌, ◌^◌, All, IfErr, IfOk, length};
 ghost use Rattle.xr_design.specs.Circuit.{PartsFit};
 ghost use Rattle.xr_design.specs.Handed.{IsReplay};
 ghost use Rattle.xr_design.specs.Job.{job_of};
 ghost use Rattle.xr_match.specs.Binding.{FitsBinding};
 ghost use Rattle.xr_match.specs.Bounds.{IsOf};
-ghost use Rattle.xr_replay.specs.Fault.{HasNoFault, IsFaultIn, IsFaultless, IsFirstFault, TellsFirst};
+ghost use Rattle.xr_replay.specs.Fault.{HasNoFault, IfDiffers, IsFaultIn, IsFaultless, IsFirstFault, TellsFaultless, TellsFirst};
 ghost use Rattle.xr_replay.specs.Sides.{AreSides, job_beside};
+ghost use Rattle.xr_replay.specs.Watched.{AgreeUnlessDue, AreAtRest, AreWatchers};
+ghost use Rattle.xr_replay_due.specs.Due.{HasRoomFor};
 
-use crate::differ::Differ;
-use crate::recorded::check_recorded;
-use crate::settled::check_settled;
+use crate::differ::{Differ, DifferErr};
+use crate::marked::Marked;
+use crate::recorded::{check_due_variables, check_recorded};
+use crate::settled::{check_due_registers, check_settled};
 use crate::sides::Sides;
-use xr_design::{Circuit, Design, History, Order, Stim};
+use crate::watchers::Watchers;
+use std::alloc::Global;
+use xr_design::{Circuit, Design, History, Order, Stim, width_of};
 use xr_match::Binding;
 use xr_vcd::Recording;
 
 /// The first fault of a recording beside the replay, by moment. In a moment the first unsettled register in the order
-/// of the nets comes before the first variable that disagrees, and in it the leftmost bit. Takes no memory.
+/// of the nets comes before the first variable that disagrees, and in it the leftmost bit. Costs what is written and
+/// recorded in each moment but the first, where no variable is bound twice and at most 2^20 are bound. Takes some 50
+/// bytes for each net, each variable of the recording, each pin of a register and each bound bit, and some 20 for each
+/// moment and each change of the recording.
 pub fn compare(
+    alloc: Global,
     design: &Design,
     order: &Order,
     stim: &Stim,
     history: &History,
     recording: &Recording,
     bound: &Binding,
-) -> Result<(), Differ>
+) -> Result<(), DifferErr>
     requires fits { PartsFit design.now order.now stim.now }
     requires history { IsReplay (job_of design.now order.now stim.now) history.now }
     requires times { recording.now.times ≡ stim.now.times }
     requires bound { FitsBinding design.now bound.now }
     requires recorded { All (IsOf recording.now) bound.now.bound }
-    ensures agrees { IsOk result ↔ IsFaultless (job_of design.now order.now stim.now) recording.now bound.now }
-    ensures differs { IfErr result (IsFirstFault (job_of design.now order.now stim.now) recording.now bound.now) }
+    ensures agrees { IfOk result (λ _. IsFaultless (job_of design.now order.now stim.now) recording.now bound.now) }
+    ensures differs { IfErr result
+        (IfDiffers (IsFirstFault (job_of design.now order.now stim.now) recording.now bound.now)) }
+    ensures faultless { TellsFaultless (job_of design.now order.now stim.now) recording.now bound.now result }
     ensures exact { TellsFirst (job_of design.now order.now stim.now) recording.now bound.now result }
 {
     let sides = Sides {
@@ -45,15 +60,31 @@ pub fn compare(
         history,
         recording,
     };
-    check_moments(&sides, bound)
+    first_fault(alloc, &sides, bound)
 }
 
-fn check_moments(sides: &Sides<'_>, bound: &Binding) -> Result<(), Differ>
+fn first_fault(alloc: Global, sides: &Sides<'_>, bound: &Binding) -> Result<(), DifferErr>
     requires sides { AreSides sides.now }
     requires bound { FitsBinding sides.now.circuit.design.now bound.now }
     requires recorded { All (IsOf sides.now.recording.now) bound.now.bound }
     ensures agrees { IfOk result (λ _. IsFaultless (job_beside sides.now) sides.now.recording.now bound.now) }
-    ensures differs { IfErr result (IsFirstFault (job_beside sides.now) sides.now.recording.now bound.now) }
+    ensures differs { IfErr result
+        (IfDiffers (IsFirstFault (job_beside sides.now) sides.now.recording.now bound.now)) }
+{
+    match Watchers::of(alloc, sides, bound)? {
+        Some(watchers) => check_changes(alloc, sides, bound, &watchers),
+        None => check_moments(sides, bound),
+    }
+}
+
+/// The moments, each as a whole.
+fn check_moments(sides: &Sides<'_>, bound: &Binding) -> Result<(), DifferErr>
+    requires sides { AreSides sides.now }
+    requires bound { FitsBinding sides.now.circuit.design.now bound.now }
+    requires recorded { All (IsOf sides.now.recording.now) bound.now.bound }
+    ensures agrees { IfOk result (λ _. IsFaultless (job_beside sides.now) sides.now.recording.now bound.now) }
+    ensures differs { IfErr result
+        (IfDiffers (IsFirstFault (job_beside sides.now) sides.now.recording.now bound.now)) }
 {
     'moments: for moment in 0..sides.circuit.stim.times.as_slice().len() {
         check_moment(sides, bound, moment as u32)?;
@@ -61,6 +92,60 @@ fn check_moments(sides: &Sides<'_>, bound: &Binding) -> Result<(), Differ>
     Ok(())
 }
 
+/// The moments, each by what is due in it.
+fn check_changes(
+    alloc: Global,
+    sides: &Sides<'_>,
+    bound: &Binding,
+    watchers: &Watchers<'_>,
+) -> Result<(), DifferErr>
+    requires sides { AreSides sides.now }
+    requires bound { FitsBinding sides.now.circuit.design.now bound.now }
+    requires recorded { All (IsOf sides.now.recording.now) bound.now.bound }
+    requires watchers { AreWatchers sides.now bound.now watchers.now }
+    ensures agrees { IfOk result (λ _. IsFaultless (job_beside sides.now) sides.now.recording.now bound.now) }
+    ensures differs { IfErr result
+        (IfDiffers (IsFirstFault (job_beside sides.now) sides.now.recording.now bound.now)) }
+{
+    let mut marked = Marked::none(alloc, width_of(&sides.circuit), watchers.room)?;
+    'moments: for moment in 0..sides.circuit.stim.times.as_slice().len() {
+        check_next(sides, bound, watchers, &mut marked, moment as u32)?;
+    }
+    Ok(())
+}
+
+/// A moment after one without a fault, by what is due in it; the first one as a whole.
+fn check_next(
+    sides: &Sides<'_>,
+    bound: &Binding,
+    watchers: &Watchers<'_>,
+    marked: &mut Marked,
+    moment: u32,
+) -> Result<(), Differ>
+    requires sides { AreSides sides.now }
+    requires bound { FitsBinding sides.now.circuit.design.now bound.now }
+    requires recorded { All (IsOf sides.now.recording.now) bound.now.bound }
+    requires watchers { AreWatchers sides.now bound.now watchers.now }
+    requires moment { moment < (job_beside sides.now).moments }
+    requires before { 0 < moment
+        → HasNoFault (job_beside sides.now) sides.now.recording.now bound.now (moment - 1) }
+    requires registers { HasRoomFor marked.old.registers (job_beside sides.now).width }
+    requires variables { HasRoomFor marked.old.variables watchers.now.room }
+    ensures registers { length marked.new.registers ≡ length marked.old.registers }
+    ensures variables { length marked.new.variables ≡ length marked.old.variables }
+    ensures none { IfOk result (λ _. HasNoFault (job_beside sides.now) sides.now.recording.now bound.now moment) }
+    ensures fault { IfErr result (IsFaultIn (job_beside sides.now) sides.now.recording.now bound.now moment) }
+{
+    if moment == 0 {
+        return check_moment(sides, bound, moment);
+    }
+    if !marked.mark(sides, watchers, moment) {
+        return check_moment(sides, bound, moment);
+    }
+    check_marked(sides, bound, marked, moment)
+}
+
+/// A moment as a whole.
 fn check_moment(sides: &Sides<'_>, bound: &Binding, moment: u32) -> Result<(), Differ>
     requires sides { AreSides sides.now }
     requires bound { FitsBinding sides.now.circuit.design.now bound.now }
@@ -71,4 +156,24 @@ fn check_moment(sides: &Sides<'_>, bound: &Binding, moment: u32) -> Result<(), D
 {
     check_settled(sides, moment)?;
     check_recorded(sides, bound, moment)
+}
+
+/// What is due in a moment.
+fn check_marked(
+    sides: &Sides<'_>,
+    bound: &Binding,
+    marked: &Marked,
+    moment: u32,
+) -> Result<(), Differ>
+    requires sides { AreSides sides.now }
+    requires bound { FitsBinding sides.now.circuit.design.now bound.now }
+    requires recorded { All (IsOf sides.now.recording.now) bound.now.bound }
+    requires moment { moment < (job_beside sides.now).moments }
+    requires rest { AreAtRest sides.now moment marked.now.registers }
+    requires agree { AgreeUnlessDue sides.now bound.now moment marked.now.variables }
+    ensures none { IfOk result (λ _. HasNoFault (job_beside sides.now) sides.now.recording.now bound.now moment) }
+    ensures fault { IfErr result (IsFaultIn (job_beside sides.now) sides.now.recording.now bound.now moment) }
+{
+    check_due_registers(sides, &marked.registers, moment)?;
+    check_due_variables(sides, bound, &marked.variables, moment)
 }

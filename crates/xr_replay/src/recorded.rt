@@ -5,12 +5,14 @@ ghost use Rattle.xr_match.specs.Binding.{FitsBinding, FitsBound};
 ghost use Rattle.xr_match.specs.Bounds.{IsOf};
 ghost use Rattle.xr_replay.specs.Fault.{Agrees, IsBitFault, IsDisagreementIn, IsVariableFault};
 ghost use Rattle.xr_replay.specs.Sides.{AgreesBeside, AreSides, BitAgreesBeside, job_beside};
+ghost use Rattle.xr_replay.specs.Watched.{AgreeUnlessDue};
 
 use crate::differ::Differ;
 use crate::held::net_value;
 use crate::sides::{Sides, last_step_of};
 use crate::values::is_same;
 use xr_match::{Binding, Bound};
+use xr_replay_due::Due;
 
 /// Whether each bound variable agrees in a moment, else the first bit of the first variable that doesn't. Takes no
 /// memory.
@@ -24,6 +26,30 @@ pub fn check_recorded(sides: &Sides<'_>, bound: &Binding, moment: u32) -> Result
 {
     'variables: for variable in bound.bound.as_slice() {
         check_variable(sides, variable, moment)?;
+    }
+    Ok(())
+}
+
+/// The same, where each bound variable that isn't due agrees. Costs the bits of those that are. Takes no memory.
+pub fn check_due_variables(
+    sides: &Sides<'_>,
+    bound: &Binding,
+    due: &Due,
+    moment: u32,
+) -> Result<(), Differ>
+    requires sides { AreSides sides.now }
+    requires bound { FitsBinding sides.now.circuit.design.now bound.now }
+    requires recorded { All (IsOf sides.now.recording.now) bound.now.bound }
+    requires moment { moment < (job_beside sides.now).moments }
+    requires agree { AgreeUnlessDue sides.now bound.now moment due.now }
+    ensures agrees { IfOk result (λ _. Agrees (job_beside sides.now) sides.now.recording.now bound.now moment) }
+    ensures fault { IfErr result (IsDisagreementIn (job_beside sides.now) sides.now.recording.now bound.now moment) }
+{
+    let variables = bound.bound.as_slice();
+    let mut number = due.first_from(0);
+    'variables: while number < variables.len() {
+        check_variable(sides, &variables[number], moment)?;
+        number = due.first_from(number + 1);
     }
     Ok(())
 }

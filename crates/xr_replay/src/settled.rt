@@ -4,11 +4,13 @@ ghost use Rattle.std.specs.Prelude.{◌≡◌, ◌<◌, IfErr, IfOk, slice_index
 ghost use Rattle.xr_design.specs.Settled.{IsSettled};
 ghost use Rattle.xr_replay.specs.Fault.{IsUnsettledAt, IsUnsettledIn};
 ghost use Rattle.xr_replay.specs.Sides.{AreSides, SettlesIn, job_beside};
+ghost use Rattle.xr_replay.specs.Watched.{AreAtRest};
 
 use crate::differ::Differ;
 use crate::held::net_kept;
 use crate::sides::{Sides, last_step_of};
-use xr_design::{Driver, Latching, Shown, driver_at, updated_value};
+use xr_design::{Driver, Latching, Shown, driver_at, updated_value, width_of};
+use xr_replay_due::Due;
 
 /// Whether each register is settled at the last step of a moment, else the first in the order of the nets that isn't.
 /// Takes no memory.
@@ -21,6 +23,24 @@ pub fn check_settled(sides: &Sides<'_>, moment: u32) -> Result<(), Differ>
     'positions: for position in 0..sides.circuit.design.nets.as_slice().len() {
         let net = net_at(sides, position as u32);
         check_net(sides, moment, net)?;
+    }
+    Ok(())
+}
+
+/// The same, where each register that isn't due is settled. Costs the registers that are. Takes no memory.
+pub fn check_due_registers(sides: &Sides<'_>, due: &Due, moment: u32) -> Result<(), Differ>
+    requires sides { AreSides sides.now }
+    requires moment { moment < (job_beside sides.now).moments }
+    requires rest { AreAtRest sides.now moment due.now }
+    ensures settled { IfOk result (λ _. IsSettled (job_beside sides.now) moment) }
+    ensures fault { IfErr result (IsUnsettledIn (job_beside sides.now) moment) }
+{
+    let nets = width_of(&sides.circuit);
+    let mut position = due.first_from(0);
+    'positions: while position < nets {
+        let net = net_at(sides, position as u32);
+        check_net(sides, moment, net)?;
+        position = due.first_from(position + 1);
     }
     Ok(())
 }

@@ -1,15 +1,15 @@
 //! The replay of a design: what a simulator of four values shows at each place, and what its registers keep.
 //!
 //! Step by step, and within a step in the order of the nets. A later step begins as a copy of the one before, and only
-//! the places are computed that may differ: their number, and a copy of a byte a place, is what it costs.
+//! the places are computed that may differ: their number is what it costs.
 
-ghost use Rattle.std.specs.Prelude.{◌≡◌, ◌+◌, ◌-◌, ◌*◌, ◌<◌, ◌≤◌, IfOk, length};
+ghost use Rattle.std.specs.Prelude.{◌≡◌, ◌+◌, ◌-◌, ◌*◌, ◌<◌, ◌≤◌, IfOk, OnOk, length};
 ghost use Rattle.xr_design.specs.Circuit.{job_in, CircuitFits, PartsFit};
-ghost use Rattle.xr_design.specs.Force.{AreEvents, forced_by};
-ghost use Rattle.xr_design.specs.Handed.{HasPlaces, IsReplayUnder};
+ghost use Rattle.xr_design.specs.Force.{AreEvents};
+ghost use Rattle.xr_design.specs.Handed.{HasPlaces};
 ghost use Rattle.xr_design.specs.Job.{job_of};
 ghost use Rattle.xr_replay.specs.Forced.{AreOrdered, HasForced, HasTaken};
-ghost use Rattle.xr_replay.specs.Going.{AwaitedIn, FilledBefore, ForcedButFor, IsReplayOf};
+ghost use Rattle.xr_replay.specs.Going.{AwaitedIn, FilledBefore, ForcedButFor, IsReplayIn, IsReplayOf};
 ghost use Rattle.xr_replay.specs.Readings.{AreFans};
 ghost use Rattle.xr_replay_due.specs.Due.{HasRoomFor};
 
@@ -22,9 +22,10 @@ use crate::waiting::Waiting;
 use std::alloc::Global;
 use xr_base::Memory;
 use xr_cell::Value;
-use xr_design::{Circuit, Design, Event, Forces, History, Order, Stim, width_of};
+use xr_design::{Circuit, Design, Event, Forces, History, HistoryWriter, Order, Stim, width_of};
 
-/// What each place shows and keeps under forces. Takes a byte for each place, and some 30 for each net and each pin.
+/// What each place shows and keeps under forces. Takes eight bytes for each place that has others than its net has a
+/// step before, eight for each step, and some 40 for each net and each pin.
 pub fn replay(
     alloc: Global,
     design: &Design,
@@ -41,7 +42,7 @@ pub fn replay(
         order,
         stim,
     };
-    let mut history = History::blank(alloc, design, stim)?;
+    let mut writer = HistoryWriter::blank(alloc, design, stim)?;
     let nets = width_of(&circuit);
     let mut forced = vec![in alloc; None; nets]?;
     let fans = Fans::of(alloc, &circuit)?;
@@ -52,8 +53,9 @@ pub fn replay(
         &fans,
         &mut forced,
         &mut waiting,
-        &mut history,
-    );
+        &mut writer,
+    )?;
+    let history = writer.finish(alloc)?;
     Ok(history)
 }
 
@@ -64,16 +66,17 @@ fn fill_steps(
     fans: &Fans,
     forced: &mut [Option<Value>],
     waiting: &mut Waiting,
-    history: &mut History,
-)
+    writer: &mut HistoryWriter,
+) -> Result<(), Memory>
     requires fits { CircuitFits circuit.now }
     requires events { AreEvents (job_in circuit.now) events.now }
     requires fans { AreFans (job_in circuit.now) fans.now }
     requires forced { HasTaken (job_in circuit.now).width events.now 0 0 forced.old }
     requires due { AwaitedIn circuit.now events.now 0 waiting.old.due }
     requires ahead { HasRoomFor waiting.old.ahead (job_in circuit.now).width }
-    requires places { HasPlaces (job_in circuit.now) history.old }
-    ensures { IsReplayUnder (job_in circuit.now) (forced_by (job_in circuit.now) events.now) history.new }
+    requires first { writer.old.step ≡ 0 }
+    requires places { HasPlaces (job_in circuit.now) writer.old.history }
+    ensures { OnOk result (IsReplayIn circuit.now events.now writer.new.history) }
 {
     let mut taken = 0;
     let steps = circuit.stim.times.as_slice().len() * circuit.stim.rounds as usize;
@@ -86,12 +89,13 @@ fn fill_steps(
             fans,
             forced,
             waiting,
-            history,
+            writer,
             step as u32,
             before,
             taken,
-        );
+        )?;
     }
+    Ok(())
 }
 
 /// The places of a step, at which the events from one on, up to another, are new.
@@ -101,11 +105,11 @@ fn next_step(
     fans: &Fans,
     forced: &[Option<Value>],
     waiting: &mut Waiting,
-    history: &mut History,
+    writer: &mut HistoryWriter,
     step: u32,
     from: usize,
     to: usize,
-)
+) -> Result<(), Memory>
     requires fits { CircuitFits circuit.now }
     requires ordered { AreOrdered (job_in circuit.now).width events.now }
     requires fans { AreFans (job_in circuit.now) fans.now }
@@ -115,18 +119,21 @@ fn next_step(
     requires before { 0 < step → ForcedButFor circuit.now events.now from to step }
     requires due { AwaitedIn circuit.now events.now step waiting.old.due }
     requires ahead { HasRoomFor waiting.old.ahead (job_in circuit.now).width }
-    requires filled { FilledBefore circuit.now events.now step history.old }
-    ensures filled { FilledBefore circuit.now events.now (step + 1) history.new }
-    ensures due { AwaitedIn circuit.now events.now (step + 1) waiting.new.due }
-    ensures ahead { HasRoomFor waiting.new.ahead (job_in circuit.now).width }
+    requires under_way { writer.old.step ≡ step - 1 }
+    requires filled { FilledBefore circuit.now events.now step writer.old.history }
+    ensures under_way { OnOk result (writer.new.step ≡ step) }
+    ensures filled { OnOk result (FilledBefore circuit.now events.now (step + 1) writer.new.history) }
+    ensures due { OnOk result (AwaitedIn circuit.now events.now (step + 1) waiting.new.due) }
+    ensures ahead { OnOk result (HasRoomFor waiting.new.ahead (job_in circuit.now).width) }
 {
     if step == 0 {
-        fill_step(circuit, events, forced, history, step);
-        return;
+        fill_step(circuit, events, forced, writer, step)?;
+        return Ok(());
     }
     later_step(
-        circuit, events, fans, forced, waiting, history, step, from, to,
-    );
+        circuit, events, fans, forced, waiting, writer, step, from, to,
+    )?;
+    Ok(())
 }
 
 /// The places of a step behind another.
@@ -136,11 +143,11 @@ fn later_step(
     fans: &Fans,
     forced: &[Option<Value>],
     waiting: &mut Waiting,
-    history: &mut History,
+    writer: &mut HistoryWriter,
     step: u32,
     from: usize,
     to: usize,
-)
+) -> Result<(), Memory>
     requires fits { CircuitFits circuit.now }
     requires ordered { AreOrdered (job_in circuit.now).width events.now }
     requires fans { AreFans (job_in circuit.now) fans.now }
@@ -151,14 +158,17 @@ fn later_step(
     requires before { ForcedButFor circuit.now events.now from to step }
     requires due { AwaitedIn circuit.now events.now step waiting.old.due }
     requires ahead { HasRoomFor waiting.old.ahead (job_in circuit.now).width }
-    requires filled { FilledBefore circuit.now events.now step history.old }
-    ensures filled { FilledBefore circuit.now events.now (step + 1) history.new }
-    ensures due { AwaitedIn circuit.now events.now (step + 1) waiting.new.due }
-    ensures ahead { HasRoomFor waiting.new.ahead (job_in circuit.now).width }
+    requires under_way { writer.old.step ≡ step - 1 }
+    requires filled { FilledBefore circuit.now events.now step writer.old.history }
+    ensures under_way { OnOk result (writer.new.step ≡ step) }
+    ensures filled { OnOk result (FilledBefore circuit.now events.now (step + 1) writer.new.history) }
+    ensures due { OnOk result (AwaitedIn circuit.now events.now (step + 1) waiting.new.due) }
+    ensures ahead { OnOk result (HasRoomFor waiting.new.ahead (job_in circuit.now).width) }
 {
     mark_events(circuit, events, from, to, &mut waiting.due);
     mark_inputs(circuit, step, &mut waiting.due);
-    history.repeat_step(step as usize);
-    sweep(circuit, events, fans, forced, waiting, history, step);
+    writer.next_step()?;
+    sweep(circuit, events, fans, forced, waiting, writer, step)?;
     waiting.turn();
+    Ok(())
 }

@@ -3,7 +3,7 @@
 //! A net that shows another value than one step before makes the copies and cells that read it due behind it, and the
 //! registers that look back at it one step later.
 
-ghost use Rattle.std.specs.Prelude.{◌≡◌, ◌+◌, ◌*◌, ◌<◌, true, false, length};
+ghost use Rattle.std.specs.Prelude.{◌≡◌, ◌+◌, ◌*◌, ◌<◌, OnOk, true, false, length};
 ghost use Rattle.xr_design.specs.Circuit.{job_in, CircuitFits};
 ghost use Rattle.xr_replay.specs.Forced.{HasForced};
 ghost use Rattle.xr_replay.specs.Going.{AheadTo, DueFrom, FilledWith, StillAt, SweptTo};
@@ -13,42 +13,46 @@ ghost use Rattle.xr_replay_due.specs.Readers.{IsTable, readers_of};
 
 use crate::computed::compute_place;
 use crate::fans::Fans;
-use crate::held::net_value;
+use crate::held::value_so_far;
 use crate::values::is_same;
 use crate::waiting::Waiting;
+use xr_base::Memory;
 use xr_cell::Value;
-use xr_design::{Circuit, Event, History, width_of};
+use xr_design::{Circuit, Event, HistoryWriter, width_of};
 use xr_replay_due::{Due, Readers};
 
-/// The places of a step whose row is that of the step before. Takes no memory.
+/// The places of the step under way, whose row is that of the step before.
 pub fn sweep(
     circuit: &Circuit<'_>,
     events: &[Event],
     fans: &Fans,
     forced: &[Option<Value>],
     waiting: &mut Waiting,
-    history: &mut History,
+    writer: &mut HistoryWriter,
     step: u32,
-)
+) -> Result<(), Memory>
     requires fits { CircuitFits circuit.now }
     requires fans { AreFans (job_in circuit.now) fans.now }
     requires later { 0 < step }
     requires step { step < (job_in circuit.now).moments * (job_in circuit.now).rounds }
     requires forced { HasForced (job_in circuit.now).width events.now step forced.now }
-    requires swept { SweptTo circuit.now events.now step 0 history.old }
+    requires under_way { writer.old.step ≡ step }
+    requires swept { SweptTo circuit.now events.now step 0 writer.old.history }
     requires due { DueFrom circuit.now events.now step 0 waiting.old.due }
     requires ahead { AheadTo circuit.now events.now step 0 waiting.old.ahead }
-    ensures swept { SweptTo circuit.now events.now step (job_in circuit.now).width history.new }
-    ensures due { HasRoomFor waiting.new.due (job_in circuit.now).width }
-    ensures ahead { AheadTo circuit.now events.now step (job_in circuit.now).width waiting.new.ahead }
+    ensures under_way { OnOk result (writer.new.step ≡ step) }
+    ensures swept { OnOk result (SweptTo circuit.now events.now step (job_in circuit.now).width writer.new.history) }
+    ensures due { OnOk result (HasRoomFor waiting.new.due (job_in circuit.now).width) }
+    ensures ahead { OnOk result (AheadTo circuit.now events.now step (job_in circuit.now).width waiting.new.ahead) }
 {
     let nets = width_of(circuit);
     let mut position = waiting.due.first_from(0);
     'positions: while position < nets {
         let place = position as u32;
-        visit_place(circuit, events, fans, forced, waiting, history, step, place);
+        visit_place(circuit, events, fans, forced, waiting, writer, step, place)?;
         position = waiting.due.first_from(position + 1);
     }
+    Ok(())
 }
 
 /// The place at a position of a step, and what becomes due where its net moves.
@@ -58,36 +62,39 @@ fn visit_place(
     fans: &Fans,
     forced: &[Option<Value>],
     waiting: &mut Waiting,
-    history: &mut History,
+    writer: &mut HistoryWriter,
     step: u32,
     position: u32,
-)
+) -> Result<(), Memory>
     requires fits { CircuitFits circuit.now }
     requires fans { AreFans (job_in circuit.now) fans.now }
     requires later { 0 < step }
     requires step { step < (job_in circuit.now).moments * (job_in circuit.now).rounds }
     requires position { position < (job_in circuit.now).width }
     requires forced { HasForced (job_in circuit.now).width events.now step forced.now }
-    requires swept { SweptTo circuit.now events.now step position history.old }
+    requires under_way { writer.old.step ≡ step }
+    requires swept { SweptTo circuit.now events.now step position writer.old.history }
     requires due { DueFrom circuit.now events.now step position waiting.old.due }
     requires ahead { AheadTo circuit.now events.now step position waiting.old.ahead }
-    ensures swept { SweptTo circuit.now events.now step (position + 1) history.new }
-    ensures due { DueFrom circuit.now events.now step (position + 1) waiting.new.due }
-    ensures ahead { AheadTo circuit.now events.now step (position + 1) waiting.new.ahead }
+    ensures under_way { OnOk result (writer.new.step ≡ step) }
+    ensures swept { OnOk result (SweptTo circuit.now events.now step (position + 1) writer.new.history) }
+    ensures due { OnOk result (DueFrom circuit.now events.now step (position + 1) waiting.new.due) }
+    ensures ahead { OnOk result (AheadTo circuit.now events.now step (position + 1) waiting.new.ahead) }
 {
-    compute_place(circuit, events, forced, history, step, position);
-    if stays_at(circuit, events, history, step, position) {
-        return;
+    compute_place(circuit, events, forced, writer, step, position)?;
+    if stays_at(circuit, events, writer, step, position) {
+        return Ok(());
     }
     let net = circuit.order.net(position);
     mark_readers(circuit, fans, net, waiting);
+    Ok(())
 }
 
 /// Whether the net at a position shows the value that it showed one step before.
 fn stays_at(
     circuit: &Circuit<'_>,
     events: &[Event],
-    history: &History,
+    writer: &HistoryWriter,
     step: u32,
     position: u32,
 ) -> bool
@@ -95,13 +102,13 @@ fn stays_at(
     requires later { 0 < step }
     requires step { step < (job_in circuit.now).moments * (job_in circuit.now).rounds }
     requires position { position < (job_in circuit.now).width }
-    requires filled { FilledWith circuit.now events.now step position history.now }
+    requires filled { FilledWith circuit.now events.now step position writer.now.history }
     ensures still { result ≡ true → StillAt circuit.now events.now step position }
     ensures moves { result ≡ false → StillAt circuit.now events.now step position → ⊥ }
 {
     let net = circuit.order.net(position);
-    let shown = net_value(circuit, history, step, net);
-    let before = net_value(circuit, history, step - 1, net);
+    let shown = value_so_far(circuit, writer, step, net);
+    let before = value_so_far(circuit, writer, step - 1, net);
     is_same(shown, before)
 }
 
@@ -118,17 +125,17 @@ pub fn mark_readers(circuit: &Circuit<'_>, fans: &Fans, net: u32, waiting: &mut 
     ensures ahead { GainsAll waiting.old.ahead waiting.new.ahead (readers_of fans.now.registers net) }
 {
     let nets = width_of(circuit);
-    mark_all(&fans.cells, net, nets, &mut waiting.due);
-    mark_all(&fans.registers, net, nets, &mut waiting.ahead);
+    mark_all(&fans.cells, net as usize, nets, &mut waiting.due);
+    mark_all(&fans.registers, net as usize, nets, &mut waiting.ahead);
 }
 
-/// The readers of a net, of so many, become due.
-fn mark_all(readers: &Readers, net: u32, nets: usize, due: &mut Due)
+/// The readers of a net, of so many, become due. Takes no memory.
+pub fn mark_all(readers: &Readers, net: usize, nets: usize, due: &mut Due)
     requires table { IsTable nets readers.now }
     requires net { net < nets }
     requires room { HasRoomFor due.old nets }
     ensures long { length due.new ≡ length due.old }
     ensures gains { GainsAll due.old due.new (readers_of readers.now net) }
 {
-    due.insert_all(readers.of(net as usize, nets));
+    due.insert_all(readers.of(net, nets));
 }

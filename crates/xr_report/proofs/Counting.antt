@@ -1,20 +1,18 @@
 -- Counts of places that grow by one place.
-use Rattle.std.proofs.Common.{◌≡◌, ℕ, zero, suc, ◌+◌, ◌<◌, Bool, List, [], ◌∷◌, ◌++◌, length, refl, sym, ap, ◌∙◌, arith, add-one}
+use Rattle.std.proofs.Common.{◌≡◌, ℕ, zero, suc, ◌+◌, Bool, List, [], ◌∷◌, ◌++◌, refl, sym, ap, ◌∙◌, arith, add-one}
 use Rattle.std.proofs.lemmas.List.Sums.{sum_by_push}
 use Rattle.std.specs.List.{range_with_len}
 use Rattle.xr_cell.specs.declared.value.Value.{Value}
 use Rattle.xr_cell.specs.declared.value.Value.TheVariants.{Zero, One, X, Z}
 use Rattle.xr_design.specs.Fits.{place_at}
 use Rattle.xr_design.specs.History.{held_in}
-use Rattle.xr_design.specs.Job.{number_of, places_of}
 use Rattle.xr_design.specs.Waveform.{written_at}
 use Rattle.xr_design.specs.declared.place.Place.{Place}
 use Rattle.xr_design.specs.declared.waveform.Mark.{Mark}
 use Rattle.xr_design.specs.declared.waveform.Mark.TheVariants.{Certain, Unknown, Undecided}
-use Rattle.xr_design.proofs.Numbers.{number_of_place_at}
 use Rattle.xr_report.specs.Counts.{count_where, counts_below, is_known_place, is_repaired, is_undecided, is_unknown_mark, one_if, total, with_place}
 use Rattle.xr_report.specs.declared.counts.Counts.{Counts}
-use Rattle.xr_wave.specs.Contents.{Contents, IsWave, job, shown_in, written_of}
+use Rattle.xr_wave.specs.Contents.{Contents, job, shown_in}
 
 range_more : (a n : ℕ) → range_with_len a (suc n) ≡ range_with_len a n ++ (a + n) ∷ []
 range_more a zero = let e : a + 0 ≡ a = omega arith in rw e refl
@@ -38,21 +36,13 @@ counts_more c n =
     rw (count_more is_known_place c n, count_more is_repaired c n, unknown, undecided) refl
 
 -- With the place of a number the counts so far become those with it.
-pub counted : (c : Contents) → IsWave c → (number : ℕ) → number < length c.written
-    → (place : Place) (counts grown : Counts) (mark : Mark) (shown : Value) → place ≡ place_at (job c) number
-    → counts ≡ counts_below c number → mark ≡ (written_of c place).mark → shown ≡ (held_in c.history place).shown
-    → grown ≡ with_place counts mark shown → grown ≡ counts_below c (number + 1)
-counted c wave number less place counts grown mark shown place_is counts_are mark_is shown_is grown_is =
-    let j = job c in
-    let fits = wave.fits.fits_job in
-    let room = wave.holds.sound.within in
-    let within : number < places_of j = omega (arith, room, less) in
-    let number_is : number_of j place ≡ number =
-    ap (number_of j) place_is ∙ number_of_place_at j number fits.ordering fits.all within in
-    let mark_at : mark ≡ (written_at c.written number).mark =
-    mark_is ∙ ap (λ n. (written_at c.written n).mark) number_is in
+pub counted : (c : Contents) (number : ℕ) (place : Place) (counts grown : Counts) (mark : Mark) (shown : Value)
+    → place ≡ place_at (job c) number → counts ≡ counts_below c number → mark ≡ (written_at c.written number).mark
+    → shown ≡ (held_in c.history place).shown → grown ≡ with_place counts mark shown
+    → grown ≡ counts_below c (number + 1)
+counted c number place counts grown mark shown place_is counts_are mark_is shown_is grown_is =
     let shown_at : shown ≡ shown_in c number = shown_is ∙ ap (λ p. (held_in c.history p).shown) place_is in
-    rw (grown_is, counts_are, mark_at, shown_at) (sym (counts_more c number))
+    rw (grown_is, counts_are, mark_is, shown_at) (sym (counts_more c number))
 
 -- A place more is counted once.
 pub total_more : (counts : Counts) (mark : Mark) (shown : Value)

@@ -3,21 +3,24 @@
 ghost use Rattle.std.specs.Prelude.{◌≡◌, ◌+◌, ◌-◌, ◌*◌, ◌<◌, ◌++◌, OnOk, IfOk, length};
 ghost use Rattle.xr_match.specs.Binding.{FitsBinding};
 ghost use Rattle.xr_match.specs.BoundBits.{IsBitOf};
-ghost use Rattle.xr_wave.specs.Contents.{IsFinished};
+ghost use Rattle.xr_design.specs.Settled as design;
+ghost use Rattle.xr_wave.specs.Contents.{IsFinished, job};
 ghost use Rattle.xr_report.specs.Bits as spec;
 ghost use Rattle.xr_report.specs.Finished.{HasMoments, HasStep};
 
+use crate::row::bring;
 use std::alloc::Global;
 use xr_base::{Memory, put, put_number};
 use xr_cell::Value;
-use xr_design::{Mark, Place, Stim};
+use xr_design::{HistoryRow, Mark, Place, Stim};
 use xr_match::{Binding, BoundBit, BoundBits};
 use xr_wave::Wave;
 
 /// The lines of a report, moment by moment: one for each bit of a bound variable whose recorded value is x or z, with
 /// what the wave has at the moment's last round. The recorded value is what the history shows there.
 ///
-/// Takes the text's bytes and those of one name at a time, and time linear in the text and in the bits of all moments.
+/// Takes the text's bytes, those of one name at a time, and a byte for each net; and time linear in the text, in the bits
+/// of all moments and in what the history writes.
 #[tactic(auto, unfolding(crate::specs::Bits::bit_lines))]
 pub fn bit_lines(alloc: Global, wave: &Wave<'_>, bound: &Binding) -> Result<Vec<u8>, Memory>
     requires finished { IsFinished wave.now }
@@ -27,16 +30,26 @@ pub fn bit_lines(alloc: Global, wave: &Wave<'_>, bound: &Binding) -> Result<Vec<
     // With it comes the fact that the history has the places of the wave.
     let _count = wave.count();
     let mut text = Vec::new(alloc);
+    let mut replayed = HistoryRow::first(alloc, wave.replayed())?;
     let mut bits = BoundBits::new(wave.stim(), bound.bound.as_slice());
     'bits: while let Some(bit) = bits.next() {
-        put_bit(alloc, &mut text, wave, bit)?;
+        bring(alloc, &mut replayed, last_step(wave.stim(), bit.moment))?;
+        put_bit(alloc, &mut text, wave, &replayed, bit)?;
     }
     Ok(text)
 }
 
-fn put_bit(alloc: Global, text: &mut Vec<u8>, wave: &Wave<'_>, bit: BoundBit) -> Result<(), Memory>
+fn put_bit(
+    alloc: Global,
+    text: &mut Vec<u8>,
+    wave: &Wave<'_>,
+    replayed: &HistoryRow<'_>,
+    bit: BoundBit,
+) -> Result<(), Memory>
     requires moments { HasMoments wave.now }
     requires bit { IsBitOf wave.now.design (length wave.now.stim.times) bit }
+    requires history { replayed.now.history ≡ wave.now.history }
+    requires step { replayed.now.step ≡ design.last_step (job wave.now) bit.moment }
     ensures { OnOk result (text.new.items ≡ text.old.items ++ spec.bound_line wave.now bit) }
 {
     let stim = wave.stim();
@@ -50,6 +63,7 @@ fn put_bit(alloc: Global, text: &mut Vec<u8>, wave: &Wave<'_>, bit: BoundBit) ->
         wave,
         place,
         stim.times.as_slice()[bit.moment as usize],
+        replayed.shown(bit.net),
     )
 }
 
@@ -67,12 +81,13 @@ fn put_place(
     wave: &Wave<'_>,
     place: Place,
     time: u64,
+    recorded: Value,
 ) -> Result<(), Memory>
     requires step { HasStep wave.now place.step }
     requires net { place.net < length wave.now.design.nets }
+    requires recorded { recorded ≡ spec.recorded_in wave.now place }
     ensures { OnOk result (text.new.items ≡ text.old.items ++ spec.bit_line wave.now time place) }
 {
-    let recorded = wave.replayed().shown(place);
     if recorded.is_known() {
         return Ok(());
     }

@@ -1,10 +1,13 @@
 //! How many places of a wave have which end.
 
-ghost use Rattle.std.specs.Prelude.{◌≡◌, ◌<◌, ◌^◌, length};
+ghost use Rattle.std.specs.Prelude.{◌≡◌, ◌<◌, ◌^◌, IfOk, length};
 ghost use Rattle.xr_report.specs.Counts.{counts_of, total, with_place};
 
+use crate::row::bring;
+use std::alloc::Global;
+use xr_base::Memory;
 use xr_cell::Value;
-use xr_design::Mark;
+use xr_design::{HistoryRow, Mark};
 use xr_wave::Wave;
 
 /// How many written places have which end.
@@ -40,14 +43,14 @@ impl Counts {
     }
 }
 
-/// How many written places of a wave have which end. Takes no memory, and time linear in the places.
-pub fn counts_of(wave: &Wave<'_>) -> Counts
-    ensures counts { result ≡ counts_of wave.now }
-    ensures all { total result ≡ length wave.now.written }
+/// How many written places of a wave have which end. Takes a byte for each net, and time linear in the places.
+pub fn counts_of(alloc: Global, wave: &Wave<'_>) -> Result<Counts, Memory>
+    ensures counts { IfOk result (λ counts. counts ≡ counts_of wave.now) }
+    ensures all { IfOk result (λ counts. total counts ≡ length wave.now.written) }
 {
     let circuit = wave.circuit();
-    let history = wave.replayed();
     let count = wave.count();
+    let mut replayed = HistoryRow::first(alloc, wave.replayed())?;
     let mut counts = Counts {
         known: 0,
         repaired: 0,
@@ -56,7 +59,8 @@ pub fn counts_of(wave: &Wave<'_>) -> Counts
     };
     'places: for number in 0..count {
         let place = circuit.place_of(number);
-        counts.add(wave.mark(place), history.shown(place));
+        bring(alloc, &mut replayed, place.step)?;
+        counts.add(wave.written(number).mark, replayed.shown(place.net));
     }
-    counts
+    Ok(counts)
 }

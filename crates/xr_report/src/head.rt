@@ -13,7 +13,7 @@ use xr_wave::Wave;
 /// The first three lines of a report: how many places and moments there are, and how many rounds a moment has; how many
 /// places have which end; how many `force` statements there are, as given, and lines of the certificate.
 ///
-/// Takes the text's bytes, and time linear in the places.
+/// Takes the text's bytes and a byte for each net, and time linear in the places.
 #[tactic(auto, unfolding(crate::specs::Head::head_lines))]
 pub fn head_lines(alloc: Global, wave: &Wave<'_>, forces: usize) -> Result<Vec<u8>, Memory>
     requires { IsFinished wave.now }
@@ -21,7 +21,7 @@ pub fn head_lines(alloc: Global, wave: &Wave<'_>, forces: usize) -> Result<Vec<u
 {
     let mut text = Vec::new(alloc);
     put_sizes(&mut text, wave)?;
-    put_counts(&mut text, counts_of(wave))?;
+    put_counts(&mut text, counts_of(alloc, wave)?)?;
     put_lines(&mut text, forces, wave.lines().len())?;
     Ok(text)
 }

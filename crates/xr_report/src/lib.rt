@@ -7,8 +7,10 @@ mod counts;
 mod head;
 mod puts;
 mod report;
+mod row;
 
 pub use bits::bit_lines;
 pub use counts::{Counts, counts_of};
 pub use head::head_lines;
 pub use report::{write_head, write_report};
+pub use row::bring;

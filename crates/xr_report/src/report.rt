@@ -14,8 +14,8 @@ use xr_match::Binding;
 use xr_wave::Wave;
 
 /// The whole report of a finished wave: its first three lines, with how many of the events force a net, then a line for
-/// each recorded bit that is x or z. Takes the text's bytes twice, and time linear in the places and in the bits of all
-/// moments.
+/// each recorded bit that is x or z. Takes the text's bytes twice and a byte for each net, and time linear in the places
+/// and in the bits of all moments.
 #[tactic(auto, unfolding(crate::specs::Report::report_text))]
 pub fn write_report(
     alloc: Global,
@@ -34,7 +34,7 @@ pub fn write_report(
 }
 
 /// The first three lines of the report of a finished wave, with how many of the events force a net. Takes the text's
-/// bytes, and time linear in the places.
+/// bytes and a byte for each net, and time linear in the places.
 pub fn write_head(alloc: Global, wave: &Wave<'_>, forces: &Forces) -> Result<Vec<u8>, Memory>
     requires { IsFinished wave.now }
     ensures { IfOk result (λ text. text.items ≡ spec.head_text wave.now forces.now) }

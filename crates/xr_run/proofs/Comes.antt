@@ -131,7 +131,7 @@ module _ (k : Commands) (s : Start) (law : Lawful k s) (shelf : View) (sink : Si
         fails : (answer : Answer) → Stands (k.phases_of w) s answer → (before : SinkView) → before.faults ≤ sink.faults
             → OutputFails s answer shelf before name ⊎ ReportFails (k.phases_of w) s answer shelf before name → ⊥
         fails answer stands before later (inl output) =
-            none.writes answer output.k output.file stands output.is (subst (λ (n : List ℕ). Rose (s.shelf.writes n) (shelf.writes n)) output.name_is output.rose)
+            none.writes answer output.i output.file stands output.is (subst (λ (n : List ℕ). Rose (s.shelf.writes n) (shelf.writes n)) output.name_is output.rose)
         fails answer stands before later (inr report) =
             let up = report.rose.up in
             let end = report.rose.end in none.printed record { up = omega (arith, up, later); end = omega (arith, end) }

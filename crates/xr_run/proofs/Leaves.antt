@@ -8,6 +8,7 @@ use Rattle.xr_shelf.specs.Calls.{Gained}
 use Rattle.xr_run.specs.Ends.{Commands, Gains, IsLineOf, LeavesFiles, LineMade, LinePrinted, MemoryPrinted, Ran, RanWords}
 use Rattle.xr_base.specs.Text.{line}
 use Rattle.xr_run.specs.Lines.{memory_line, read_line, report_name, usage_line, write_line}
+use Rattle.xr_run.specs.Outputs.{LeavesUpTo}
 use Rattle.xr_run.specs.Phases.{Answer, ComesTo}
 use Rattle.xr_run.specs.Rows.{Start, NothingDone, OutputFails, PartDone, ReportFails, Stands, WriteRow}
 
@@ -21,17 +22,21 @@ module _ (k : Commands) (s : Start) (shelf : View) (sink : SinkView) (status : �
   after_fault : (w : k.Words) → k.Means s.line w → (status ≡ 0) ⊎ ((status ≡ 4) ⊎ (status ≡ 20)) → (name : List ℕ) (before : SinkView) (row : WriteRow (k.phases_of w) s shelf before name) → LeavesFiles k s shelf status
   after_fault w means ends name before row = by row.fails
     where
+      up_to : (i : ℕ) → LeavesUpTo s.shelf_told row.answer.files i s.shelf shelf → LeavesFiles k s shelf status
+      up_to i (inl same) = LeavesFiles.leaves_as_before same
+      up_to i (inr (n, up, all)) = LeavesFiles.leaves_written ends (w, means, (row.answer, row.stands, (n, all)))
+
       by : OutputFails s row.answer shelf before name ⊎ ReportFails (k.phases_of w) s row.answer shelf before name → LeavesFiles k s shelf status
-      by (inl output) = LeavesFiles.leaves_written ends (w, means, (row.answer, row.stands, (output.k, output.written)))
-      by (inr report) = LeavesFiles.leaves_written ends (w, means, (row.answer, row.stands, (length row.answer.files, report.written)))
+      by (inl output) = up_to output.i output.left
+      by (inr report) = LeavesFiles.leaves_written ends (w, means, (row.answer, row.stands, (length row.answer.files, report.delivered)))
 
   -- what want of memory left
   after_memory : (w : k.Words) → k.Means s.line w → status ≡ 20 → (before : SinkView) → NothingDone s shelf before ⊎ PartDone (k.phases_of w) s shelf before → LeavesFiles k s shelf status
   after_memory w means twenty before (inl nothing) = LeavesFiles.leaves_as_before nothing.files
-  after_memory w means twenty before (inr part) = LeavesFiles.leaves_written (inr (inr twenty)) (w, means, (part.answer, part.stands, (part.k, part.written)))
+  after_memory w means twenty before (inr part) = LeavesFiles.leaves_written (inr (inr twenty)) (w, means, (part.answer, part.stands, (part.k, part.delivered)))
 
   files_of_ran : (w : k.Words) → k.Means s.line w → Ran (k.phases_of w) k.reporting s shelf sink status → LeavesFiles k s shelf status
-  files_of_ran w means (Ran.ends_done is row) = LeavesFiles.leaves_written (inl is) (w, means, (row.answer, row.stands, (length row.answer.files, row.written)))
+  files_of_ran w means (Ran.ends_done is row) = LeavesFiles.leaves_written (inl is) (w, means, (row.answer, row.stands, (length row.answer.files, row.delivered)))
   files_of_ran w means (Ran.ends_unread name row printed) = LeavesFiles.leaves_as_before row.files
   files_of_ran w means (Ran.ends_refused cause row printed) = LeavesFiles.leaves_as_before row.files
   files_of_ran w means (Ran.ends_unwritten name before row printed) = after_fault w means (inr printed.is) name before row

@@ -1,6 +1,7 @@
 -- Lemmas on runs.
 mod Joins
 mod Files
+mod Deliveries
 pub mod Apart
 pub mod Exact
 mod Steps

@@ -34,8 +34,16 @@ rose_after old mid new later rose = record { up = (let up = rose.up in omega (ar
 -- a file that can't be written, after a step that raised no count
 pub unwritten_after : (file : File) (a b c : View) (e : Undelivered) → Later a b → SameCounts a b → FileUnwritten file b c e → FileUnwritten file a c e
 unwritten_after file a b c (Fault line) later same cause =
-    (cause.0, rose_after (a.writes file.name) (b.writes file.name) (c.writes file.name) (later.writes file.name) cause.1, cause.2)
+    (cause.0, rose_after (a.writes file.name) (b.writes file.name) (c.writes file.name) (later.writes file.name) cause.1)
 unwritten_after file a b c OutOfMemory later same cause = same_twice a b c same cause
+
+-- and before one that raised no count
+pub unwritten_before : (file : File) (a b c : View) (e : Undelivered) → FileUnwritten file a b e → Later b c → SameCounts b c → FileUnwritten file a c e
+unwritten_before file a b c (Fault line) cause later same =
+    let count = same.writes file.name in
+    let rose = cause.1 in
+    (cause.0, record { up = (let up = rose.up in omega (arith, up, count)); end = rose.end })
+unwritten_before file a b c OutOfMemory cause later same = same_twice a b c cause same
 
 in_one : (name other : List ℕ) → Contains (name ∷ []) other → other ≡ name
 in_one name other (zero, within, is) = sym is

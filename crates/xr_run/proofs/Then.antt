@@ -105,7 +105,7 @@ module _ {A B C : Type 0} (then : A → Phases B C) where
   closed_here p c old new (inr (kept, unread)) = inr (kept, refuses_unread p c unread)
 
 module _ {A B C : Type 0} (told : Bool) (p : Phases A C) (then : A → Phases B C) (a : A) (old mid new : View)
-    (comes : ComesTo told old.files p (Ok a)) (later : Later old mid) (files : mid.files ≡ old.files) (kept : SameCounts old mid) (closed : LeavesClosed p old mid (Ok a)) where
+    (comes : ComesTo told old.files p (Ok a)) (later : Later old mid) (files : mid.files ≡ old.files) (written : mid.written ≡ old.written) (kept : SameCounts old mid) (closed : LeavesClosed p old mid (Ok a)) where
   refused_after : (e : Refusal C) → Refused told (then a) mid new e → Refused told (p >>= then) old new e
   refused_after (Read file) is = record {
     next = next_after told old.files then p a (string_bytes file) comes (subst (λ (f : Files). ReadsNext told f (then a) (string_bytes file)) files is.next);
@@ -128,6 +128,7 @@ module _ {A B C : Type 0} (told : Bool) (p : Phases A C) (then : A → Phases B 
   prepared_after seen (Ok y) more = record {
     later = later_twice old mid new later more.later;
     files = more.files ∙ files;
+    written = more.written ∙ written;
     comes = passes told old.files then p a (Ok (seen y)) comes (subst (λ (f : Files). ComesTo told f (then a) (Ok (seen y))) files more.comes);
     kept = same_twice old mid new kept more.kept;
     closed = closed_then then p a (Ok (seen y)) old mid new closed more.closed;
@@ -136,6 +137,7 @@ module _ {A B C : Type 0} (told : Bool) (p : Phases A C) (then : A → Phases B 
   prepared_after seen (Err e) more = record {
     later = later_twice old mid new later more.later;
     files = more.files ∙ files;
+    written = more.written ∙ written;
     comes = tt;
     kept = tt;
     closed = tt;
@@ -146,7 +148,7 @@ module _ {A B C X Y : Type 0} (told : Bool) (p : Phases A C) (then : A → Phase
   -- What is prepared, and then more.
   pub prepared_then : (x : X) (result : Result Y (Refusal C)) → Prepared told p seen old mid (Ok x) → Prepared told (then (seen x)) seen_then mid new result
       → Prepared told (p >>= then) seen_then old new result
-  prepared_then x result first more = prepared_after told p then (seen x) old mid new first.comes first.later first.files first.kept first.closed seen_then result more
+  prepared_then x result first more = prepared_after told p then (seen x) old mid new first.comes first.later first.files first.written first.kept first.closed seen_then result more
 
   refused_here : (e : Refusal C) → Refused told p old new e → Refused told (p >>= then) old new e
   refused_here (Read file) is = record { next = next_here told old.files then p (string_bytes file) is.next; rose = is.rose; closed = is.closed }
@@ -156,7 +158,7 @@ module _ {A B C X Y : Type 0} (told : Bool) (p : Phases A C) (then : A → Phase
 
   -- Or it is refused, and so is all.
   pub prepared_refused : (e : Refusal C) → Prepared told p seen old new (Err e) → Prepared told (p >>= then) seen_then old new (Err e)
-  prepared_refused e first = record { later = first.later; files = first.files; comes = tt; kept = tt; closed = tt; refused = refused_here e first.refused }
+  prepared_refused e first = record { later = first.later; files = first.files; written = first.written; comes = tt; kept = tt; closed = tt; refused = refused_here e first.refused }
 
 -- A text that is read is prepared.
 text_refused : {C : Type 0} (told : Bool) (names : List (List ℕ)) (limit : ℕ) (long : C) (old new : View) (e : Refusal C) → TextUnread told names limit long old new e
@@ -174,12 +176,13 @@ pub text_prepared : {C : Type 0} (told : Bool) (names : List (List ℕ)) (limit 
 text_prepared told names limit long old new (Ok v) read = record {
   later = read.later;
   files = read.files;
+  written = read.written;
   comes = inr (v.items, read.text, refl);
   kept = read.kept;
   closed = inl read.closed;
   refused = tt;
 }
-text_prepared told names limit long old new (Err e) read = record { later = read.later; files = read.files; comes = tt; kept = tt; closed = tt; refused = text_refused told names limit long old new e read.refused }
+text_prepared told names limit long old new (Err e) read = record { later = read.later; files = read.files; written = read.written; comes = tt; kept = tt; closed = tt; refused = text_refused told names limit long old new e read.refused }
 
 -- So is what is judged, with no call on the shelf.
 module _ {B C E X : Type 0} (told : Bool) (judge : Result B E → Type 0) (cause : E → C) (seen : X → B) (v : View) where
@@ -190,8 +193,8 @@ module _ {B C E X : Type 0} (told : Bool) (judge : Result B E → Type 0) (cause
   judged_refused Memory is = same_here v
 
   pub judged_prepared : (result : Result X (Refusal C)) → Judged judge cause seen result → Prepared told (judges judge cause) seen v v result
-  judged_prepared (Ok x) is = record { later = later_here v; files = refl; comes = inr (seen x, is.found, refl); kept = same_here v; closed = inr (refl, inr (seen x, is.found, refl)); refused = tt }
-  judged_prepared (Err e) is = record { later = later_here v; files = refl; comes = tt; kept = tt; closed = tt; refused = judged_refused e is.refused }
+  judged_prepared (Ok x) is = record { later = later_here v; files = refl; written = refl; comes = inr (seen x, is.found, refl); kept = same_here v; closed = inr (refl, inr (seen x, is.found, refl)); refused = tt }
+  judged_prepared (Err e) is = record { later = later_here v; files = refl; written = refl; comes = tt; kept = tt; closed = tt; refused = judged_refused e is.refused }
 
   searched_refused : (e : Refusal C) → IsJudgedBy judge cause e → Refused told (searches judge cause) v v e
   searched_refused (Read file) is = absurd is
@@ -200,12 +203,12 @@ module _ {B C E X : Type 0} (told : Bool) (judge : Result B E → Type 0) (cause
   searched_refused Memory is = same_here v
 
   pub searched_prepared : (result : Result X (Refusal C)) → Judged judge cause seen result → Prepared told (searches judge cause) seen v v result
-  searched_prepared (Ok x) is = record { later = later_here v; files = refl; comes = inr (seen x, is.found, refl); kept = same_here v; closed = inr (refl, inr (seen x, is.found, refl)); refused = tt }
-  searched_prepared (Err e) is = record { later = later_here v; files = refl; comes = tt; kept = tt; closed = tt; refused = searched_refused e is.refused }
+  searched_prepared (Ok x) is = record { later = later_here v; files = refl; written = refl; comes = inr (seen x, is.found, refl); kept = same_here v; closed = inr (refl, inr (seen x, is.found, refl)); refused = tt }
+  searched_prepared (Err e) is = record { later = later_here v; files = refl; written = refl; comes = tt; kept = tt; closed = tt; refused = searched_refused e is.refused }
 
 -- What is found is found.
 pub found_prepared : {A C X : Type 0} (told : Bool) (seen : X → A) (a : A) (v : View) (x : X) → seen x ≡ a → Prepared {C = C} told (Phases.Finds a) seen v v (Ok x)
-found_prepared told seen a v x is = record { later = later_here v; files = refl; comes = ap (λ (b : _). Ok b) is; kept = same_here v; closed = inr (refl, ap (λ (b : _). Ok b) is); refused = tt }
+found_prepared told seen a v x is = record { later = later_here v; files = refl; written = refl; comes = ap (λ (b : _). Ok b) is; kept = same_here v; closed = inr (refl, ap (λ (b : _). Ok b) is); refused = tt }
 
 -- ---- the ways of a function that goes through phases
 
@@ -238,7 +241,7 @@ module _ {A B C E X Y : Type 0} (judge : Result A E → Type 0) (cause : E → C
 
 -- There was no memory, in such a function.
 pub memory_out : {A C X : Type 0} (p : Phases A C) (seen : X → A) → PreparedAlone {X = X} p seen (Err Memory)
-memory_out p seen = λ told v. record { later = later_here v; files = refl; comes = tt; kept = tt; closed = tt; refused = same_here v }
+memory_out p seen = λ told v. record { later = later_here v; files = refl; written = refl; comes = tt; kept = tt; closed = tt; refused = same_here v }
 
 -- All is found.
 pub found_alone : {A C X : Type 0} (seen : X → A) (x : X) → PreparedAlone {C = C} (Phases.Finds (seen x)) seen (Ok x)

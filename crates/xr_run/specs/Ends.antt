@@ -6,7 +6,7 @@ use Rattle.xr_shelf.specs.Calls.{Gained, GainedLess}
 use Rattle.xr_shelf.specs.Sink.{SinkView}
 use Rattle.xr_base.specs.Text.{line}
 use Rattle.xr_run.specs.Lines.{memory_line, read_line, report_name, usage_line, write_line}
-use Rattle.xr_run.specs.Outputs.{Delivery, File, WrittenTo}
+use Rattle.xr_run.specs.Outputs.{DeliveredTo, Delivery, File}
 use Rattle.xr_run.specs.Phases.{Answer, Phases, IsFirm, NeverRefused, PassesAll, ReadsNext}
 use Rattle.xr_run.specs.Rows.{Start, Stands, DoneRow, ReadRow, TextRow, WriteRow, MemoryRow}
 use Rattle.xr_run.specs.declared.refusal.Refusal.{Refusal}
@@ -175,12 +175,13 @@ module _ (k : Commands) (s : Start) where
 
   -- ---- what a run leaves
 
-  -- The files: as they were; or, with no status but 0, 4 and 20, those of an answer that stood are written up to one.
+  -- The files: as they were; or, with no status but 0, 4 and 20, all those of an answer that stood were written, the
+  -- first of them are whole under their names, and every other name holds what it held.
   pub data LeavesFiles (shelf : View) (status : ℕ) : Type 0 where
     leaves_as_before : shelf.files ≡ s.shelf.files → LeavesFiles shelf status
     leaves_written : (status ≡ 0) ⊎ ((status ≡ 4) ⊎ (status ≡ 20))
         → Within (λ w. (answer : Answer) × Stands (k.phases_of w) s answer
-        × ((i : ℕ) × WrittenTo s.shelf_told i answer.files s.shelf.files shelf.files)) → LeavesFiles shelf status
+        × ((k : ℕ) × DeliveredTo s.shelf_told k answer.files s.shelf shelf)) → LeavesFiles shelf status
 
   -- The line of a refusal, by its status.
   pub data IsLineOf (status : ℕ) (text : List ℕ) : Type 0 where

@@ -36,6 +36,7 @@ module _ {C : Type 0} (told : Bool) where
       (Refusal C)) : Type 0 where
     pub later : Later old new
     pub files : new.files ≡ old.files
+    pub written : new.written ≡ old.written
     pub text : IfOk result (λ part. IsTrue told → IsKept limit part (held old name))
     pub there : IfOk result (λ part. IsSome part → IsTrue told → IsSome (old.files name))
     pub fits : IfOk result (λ part. IfSome part (λ v. length v.items ≤ limit))
@@ -56,6 +57,7 @@ module _ {C : Type 0} (told : Bool) where
       (Refusal C)) : Type 0 where
     pub later : Later old new
     pub files : new.files ≡ old.files
+    pub written : new.written ≡ old.written
     pub text : IfOk result (λ v. IsRead told old.files names limit v.items)
     pub kept : OnOk result (SameCounts old new)
     pub closed : OnOk result (new.hand ≡ Nothing)

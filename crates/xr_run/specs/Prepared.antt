@@ -33,11 +33,13 @@ Refused told p old new (Long cause) = IsLongRefused told p old new cause
 Refused told p old new (Text cause) = IsRefused told p old new cause
 Refused told p old new Memory = SameCounts old new
 
--- The texts of the shelf, by the phases: what is found, seen by a view, or a refusal. No file changed.
+-- The texts of the shelf, by the phases: what is found, seen by a view, or a refusal. No file changed, and none was
+-- written.
 pub record Prepared {A C X : Type 0} (told : Bool) (p : Phases A C) (seen : X → A) (old new : View)
     (result : Result X (Refusal C)) : Type 0 where
   pub later : Later old new
   pub files : new.files ≡ old.files
+  pub written : new.written ≡ old.written
   pub comes : IfOk result (λ x. ComesTo told old.files p (Ok (seen x)))
   pub kept : OnOk result (SameCounts old new)
   pub closed : IfOk result (λ x. LeavesClosed p old new (Ok (seen x)))

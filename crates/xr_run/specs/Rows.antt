@@ -5,7 +5,7 @@ use Rattle.std.specs.declared.alloc.Global.{Global}
 use Rattle.xr_shelf.specs.Shelf.{View, Nothing, SameCounts, Rose}
 use Rattle.xr_shelf.specs.Sink.{SinkView}
 use Rattle.xr_shelf.specs.Calls.{Gained}
-use Rattle.xr_run.specs.Outputs.{File, WrittenTo}
+use Rattle.xr_run.specs.Outputs.{DeliveredTo, File, LeavesUpTo}
 use Rattle.xr_run.specs.Lines.{report_name}
 use Rattle.xr_run.specs.Phases.{Answer, Phases, ComesTo, IsTooLong, LeavesClosed, ReadsNext}
 
@@ -33,12 +33,12 @@ start_of words shelf_told sink_told shelf sink = start_with (map string_bytes wo
 abbrev pub Stands : {C : Type 0} → Phases Answer C → Start → Answer → Type 0
 Stands p s answer = ComesTo s.shelf_told s.shelf.files p (Ok answer)
 
--- All is written and printed, no other file changed, no count rose, and the shelf is over the texts that it was made
--- over.
+-- All is delivered and printed, no other file was written and none changed, no count rose, and the shelf is over the
+-- texts that it was made over.
 pub record DoneRow {C : Type 0} (p : Phases Answer C) (s : Start) (shelf : View) (sink : SinkView) : Type 0 where
   pub answer : Answer
   pub stands : Stands p s answer
-  pub written : WrittenTo s.shelf_told (length answer.files) answer.files s.shelf.files shelf.files
+  pub delivered : DeliveredTo s.shelf_told (length answer.files) answer.files s.shelf shelf
   pub printed : IsTrue s.sink_told → sink.bytes ≡ s.sink.bytes ++ answer.printed
   pub counts : SameCounts s.shelf shelf
   pub faults : sink.faults ≡ s.sink.faults
@@ -60,13 +60,14 @@ pub record TextRow {C : Type 0} (p : Phases Answer C) (s : Start) (shelf : View)
   pub counts : SameCounts s.shelf shelf
   pub closed : LeavesClosed p s.shelf shelf (Err cause) ⊎ IsTooLong s.shelf_told s.shelf.files p cause
 
--- The answer stood, k outputs are whole, and the writing count of the next one rose; nothing was printed.
+-- The answer stood, and the writing count of the output of number i rose: no file changed, or all outputs were written
+-- and those before it are whole. Nothing was printed.
 pub record OutputFails (s : Start) (answer : Answer) (shelf : View) (sink : SinkView) (name : List ℕ) : Type 0 where
-  pub k : ℕ
+  pub i : ℕ
   pub file : File
-  pub is : slice_get answer.files k ≡ Some file
+  pub is : slice_get answer.files i ≡ Some file
   pub name_is : name ≡ file.name
-  pub written : WrittenTo s.shelf_told k answer.files s.shelf.files shelf.files
+  pub left : LeavesUpTo s.shelf_told answer.files i s.shelf shelf
   pub rose : Rose (s.shelf.writes name) (shelf.writes name)
   pub closed : shelf.hand ≡ Nothing
   pub unprinted : sink ≡ s.sink
@@ -75,7 +76,7 @@ pub record OutputFails (s : Start) (answer : Answer) (shelf : View) (sink : Sink
 pub record ReportFails {C : Type 0} (p : Phases Answer C) (s : Start) (answer : Answer) (shelf : View) (sink : SinkView)
     (name : List ℕ) : Type 0 where
   pub name_is : name ≡ report_name
-  pub written : WrittenTo s.shelf_told (length answer.files) answer.files s.shelf.files shelf.files
+  pub delivered : DeliveredTo s.shelf_told (length answer.files) answer.files s.shelf shelf
   pub gained : IsTrue s.sink_told → Gained answer.printed s.sink sink
   pub rose : Rose s.sink.faults sink.faults
   pub counts : SameCounts s.shelf shelf
@@ -87,8 +88,8 @@ pub record WriteRow {C : Type 0} (p : Phases Answer C) (s : Start) (shelf : View
   pub stands : Stands p s answer
   pub fails : OutputFails s answer shelf sink name ⊎ ReportFails p s answer shelf sink name
 
--- Nothing was created or printed; or the answer stood, k outputs are whole and the next one in part, and the sink
--- gained a prefix of the report once they all were.
+-- No file changed, and nothing was printed; or the answer stood, all outputs were written and the first k are whole, and
+-- the sink gained a prefix of the report once they all were.
 pub record NothingDone (s : Start) (shelf : View) (sink : SinkView) : Type 0 where
   pub files : shelf.files ≡ s.shelf.files
   pub unprinted : sink ≡ s.sink
@@ -97,7 +98,7 @@ pub record PartDone {C : Type 0} (p : Phases Answer C) (s : Start) (shelf : View
   pub answer : Answer
   pub stands : Stands p s answer
   pub k : ℕ
-  pub written : WrittenTo s.shelf_told k answer.files s.shelf.files shelf.files
+  pub delivered : DeliveredTo s.shelf_told k answer.files s.shelf shelf
   pub gained : (sink ≡ s.sink) ⊎ ((k ≡ length answer.files) × (IsTrue s.sink_told → Gained answer.printed s.sink sink))
 
 -- Want of memory. No count rose.

@@ -71,9 +71,10 @@ fn read_file<S: Shelf, C: Drop>(
 }
 
 /// Gives up the file in hand, where a fault is reported already.
-pub(crate) fn give_up<S: Shelf>(shelf: &mut S)
+fn give_up<S: Shelf>(shelf: &mut S)
     ensures hand { (S.view shelf.new).hand ≡ Nothing }
     ensures files { (S.view shelf.new).files ≡ (S.view shelf.old).files }
+    ensures written { (S.view shelf.new).written ≡ (S.view shelf.old).written }
     ensures later { Later (S.view shelf.old) (S.view shelf.new) }
 {
     let _ = shelf.close_file();

@@ -17,6 +17,7 @@ read_starts told name limit old new step = record {
   later = step.later;
   kept = step.counts;
   files = step.files;
+  written = step.written;
   hand = step.ok;
   there = step.there;
   text = λ t. sym (step.unread t);
@@ -28,6 +29,7 @@ read_grows told name so_far buffer limit count old mid new turn step fits = reco
   later = later_trans old mid new turn.later step.later;
   kept = same_trans old mid new turn.kept step.counts;
   files = step.files ∙ turn.files;
+  written = step.written ∙ turn.written;
   hand = step.hand ∙ turn.hand;
   there = turn.there;
   text = λ t. read_more (held old name) so_far mid.unread (take count buffer) new.unread (turn.text t) (step.bytes name turn.hand t);
@@ -38,6 +40,7 @@ pub read_fails : (told : Bool) (name so_far buffer : List ℕ) (limit : ℕ) (ol
 read_fails told name so_far buffer limit old mid new e turn step = record {
   later = later_trans old mid new turn.later step.later;
   files = step.files ∙ turn.files;
+  written = step.written ∙ turn.written;
   text = tt;
   fits = tt;
   there = tt;
@@ -53,6 +56,7 @@ pub read_long : (told : Bool) (name so_far buffer : List ℕ) (limit count : ℕ
 read_long told name so_far buffer limit count old mid new turn step over = record {
   later = later_trans old mid new turn.later step.later;
   files = step.files ∙ turn.files;
+  written = step.written ∙ turn.written;
   text = tt;
   fits = tt;
   there = tt;
@@ -64,10 +68,11 @@ read_long told name so_far buffer limit count old mid new turn step over = recor
   kept = λ _. same_trans old mid new turn.kept step.counts;
 }
 
-pub read_memory : (told : Bool) (name so_far : List ℕ) (limit : ℕ) (old new : View) → Later old new → SameCounts old new → new.files ≡ old.files → ReadAll told name limit old new (Err ReadMemory)
-read_memory told name so_far limit old new later same files = record {
+pub read_memory : (told : Bool) (name so_far : List ℕ) (limit : ℕ) (old new : View) → Later old new → SameCounts old new → new.files ≡ old.files → new.written ≡ old.written → ReadAll told name limit old new (Err ReadMemory)
+read_memory told name so_far limit old new later same files written = record {
   later = later;
   files = files;
+  written = written;
   text = tt;
   fits = tt;
   there = tt;
@@ -77,10 +82,11 @@ read_memory told name so_far limit old new later same files = record {
   kept = λ _. same;
 }
 
-pub close_fails : (told : Bool) (name so_far : List ℕ) (limit : ℕ) (old mid new : View) (e : IoErr) → Later old mid → SameCounts old mid → mid.files ≡ old.files → mid.hand ≡ Opened name → CloseStep mid new (Err e) → ReadAll told name limit old new (Err (read_err e))
-close_fails told name so_far limit old mid new e later same files hand step = record {
+pub close_fails : (told : Bool) (name so_far : List ℕ) (limit : ℕ) (old mid new : View) (e : IoErr) → Later old mid → SameCounts old mid → mid.files ≡ old.files → mid.written ≡ old.written → mid.hand ≡ Opened name → CloseStep mid new (Err e) → ReadAll told name limit old new (Err (read_err e))
+close_fails told name so_far limit old mid new e later same files written hand step = record {
   later = later_trans old mid new later step.later;
   files = step.files ∙ files;
+  written = step.written ∙ written;
   text = tt;
   fits = tt;
   there = tt;
@@ -100,6 +106,7 @@ pub read_done : (told : Bool) (name buffer : List ℕ) (limit : ℕ) (old mid la
 read_done told name buffer limit old mid last new v turn step room close = record {
   later = later_trans old mid new turn.later (later_trans mid last new step.later close.later);
   files = close.files ∙ step.files ∙ turn.files;
+  written = close.written ∙ step.written ∙ turn.written;
   text = λ t. sym (turn.text t ∙ ap (λ (l : List ℕ). v.items ++ l) (step.end name turn.hand refl room t) ∙ append-nil v.items);
   fits = turn.fits;
   there = turn.there;

@@ -8,6 +8,7 @@ pub record ReadTurn (told : Bool) (name so_far : List ℕ) (limit : ℕ) (old ne
   pub later : Later old new
   pub kept : SameCounts old new
   pub files : new.files ≡ old.files
+  pub written : new.written ≡ old.written
   pub hand : new.hand ≡ Opened name
   pub there : IsTrue told → IsSome (old.files name)
   pub text : IsTrue told → held old name ≡ so_far ++ new.unread
@@ -17,8 +18,9 @@ pub record WriteTurn (told : Bool) (name bytes : List ℕ) (done : ℕ) (old new
   pub later : Later old new
   pub kept : SameCounts old new
   pub hand : new.hand ≡ Created name
-  pub others : OthersKept name old.files new.files
-  pub wrote : IsTrue told → new.files name ≡ Some (take done bytes)
+  pub files : new.files ≡ old.files
+  pub others : OthersKept name old.written new.written
+  pub wrote : IsTrue told → new.written name ≡ Some (take done bytes)
   pub within : done ≤ length bytes
 
 pub record PrintTurn (told : Bool) (text : List ℕ) (done : ℕ) (old new : SinkView) : Type 0 where

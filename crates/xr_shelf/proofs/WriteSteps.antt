@@ -40,6 +40,7 @@ write_grows told name bytes done count old mid new turn given =
       later = later_trans old mid new turn.later step.later;
       kept = same_trans old mid new turn.kept step.counts;
       hand = step.hand ∙ turn.hand;
+      files = step.files ∙ turn.files;
       others = λ other not. step.others other not ∙ turn.others other not;
       wrote = λ t. step.wrote t ∙ ap (λ (o : Option (List ℕ)). Some (bytes_of o ++ take count (drop done bytes))) (turn.wrote t) ∙ ap (λ (l : List ℕ). Some l) (sym (take-add done count bytes));
       within = omega (arith, turn.within, step.bound, length-drop done bytes);
@@ -48,6 +49,7 @@ write_grows told name bytes done count old mid new turn given =
 pub write_fails : (told : Bool) (name bytes : List ℕ) (done : ℕ) (old mid new : View) (e : IoErr) (rest : List ℕ) → WriteTurn told name bytes done old mid → WriteStep told name mid new rest (Err e) → WriteAll told name bytes old new (Err (write_err e))
 write_fails told name bytes done old mid new e rest turn step = record {
   later = later_trans old mid new turn.later step.later;
+  files = step.files ∙ turn.files;
   others = λ other not. step.others other not ∙ turn.others other not;
   whole = tt;
   part = λ t. inr (take done bytes, step.err t ∙ turn.wrote t, front done bytes);

@@ -8,11 +8,12 @@ use Rattle.xr_shelf.specs.declared.fault.ReadErr.TheVariants.{Fault as ReadFault
 use Rattle.xr_shelf.specs.declared.fault.WriteErr.{WriteErr}
 use Rattle.xr_shelf.specs.declared.fault.WriteErr.TheVariants.{Fault as WriteFault}
 
--- A whole file read, which was there: its text, or a fault with a risen count of that very name. Where any count of faults rose in the
--- call, the answer is Fault; so TooLong comes before any fault.
+-- A whole file read, which was there: its text, or a fault with a risen count of that very name. Where any count of
+-- faults rose in the call, the answer is Fault; so TooLong comes before any fault.
 pub record ReadAll (told : Bool) (name : List ℕ) (limit : ℕ) (old new : View) (result : Result (Vec ℕ Global) ReadErr) : Type 0 where
   pub later : Later old new
   pub files : new.files ≡ old.files
+  pub written : new.written ≡ old.written
   pub text : IfOk result (λ v. IsTrue told → v.items ≡ held old name)
   pub fits : IfOk result (λ v. length v.items ≤ limit)
   pub there : OnOk result (IsTrue told → IsSome (old.files name))
@@ -21,17 +22,19 @@ pub record ReadAll (told : Bool) (name : List ℕ) (limit : ℕ) (old new : View
   pub fault : IsErrOf result ReadFault → Rose (old.reads name) (new.reads name)
   pub kept : (IsErrOf result ReadFault → ⊥) → SameCounts old new
 
--- The name holds what it held, or a prefix of the bytes.
+-- Of the name is written what was, or a prefix of the bytes.
 abbrev pub HoldsPart : List ℕ → List ℕ → Files → Files → Type 0
 HoldsPart name bytes old new = (new name ≡ old name) ⊎ ((part : List ℕ) × (new name ≡ Some part) × Prefix part bytes)
 
--- A whole file written. A file that was created holds a prefix of the bytes, and one that wasn't holds what it
--- held, or nothing. Where any count rose in the call, the answer is Fault.
+-- A whole file written, and not put under its name yet: whatever the answer, every name holds what it held. Of a file
+-- that was created a prefix of the bytes is written; of one that wasn't, what was, or nothing. Where any count rose in the
+-- call, the answer is Fault.
 pub record WriteAll (told : Bool) (name bytes : List ℕ) (old new : View) (result : Result Unit WriteErr) : Type 0 where
   pub later : Later old new
-  pub others : OthersKept name old.files new.files
-  pub whole : OnOk result (IsTrue told → new.files name ≡ Some bytes)
-  pub part : IsTrue told → HoldsPart name bytes old.files new.files
+  pub files : new.files ≡ old.files
+  pub others : OthersKept name old.written new.written
+  pub whole : OnOk result (IsTrue told → new.written name ≡ Some bytes)
+  pub part : IsTrue told → HoldsPart name bytes old.written new.written
   pub closed : OnOk result (new.hand ≡ Nothing)
   pub fault : IsErrOf result WriteFault → Rose (old.writes name) (new.writes name)
   pub kept : (IsErrOf result WriteFault → ⊥) → SameCounts old new

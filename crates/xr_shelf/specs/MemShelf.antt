@@ -8,11 +8,12 @@ use Rattle.xr_shelf.specs.declared.in_hand.InHand.{InHand}
 use Rattle.xr_shelf.specs.declared.fault.IoErr.{IoErr}
 use Rattle.xr_shelf.specs.declared.fault.IoErr.TheVariants.{Failed, Memory}
 
--- A shelf in memory: the most bytes it moves in a call, its files, the file in hand with what isn't read of it,
--- its calls, and its counts of faults, which are those of every name.
+-- A shelf in memory: the most bytes it moves in a call, its files, what was written of each, the file in hand with what
+-- isn't read of it, its calls, and its counts of faults, which are those of every name.
 pub record MemShelfView : Type 0 where
   pub piece : ℕ
   pub files : List File
+  pub written : List File
   pub hand : Hand
   pub unread : List ℕ
   pub plan : PlanView
@@ -20,10 +21,11 @@ pub record MemShelfView : Type 0 where
   pub write_faults : ℕ
 
 -- What is seen of its parts.
-abbrev pub seen_of : ℕ → List File → InHand → PlanView → ℕ → ℕ → MemShelfView
-seen_of piece files hand plan read_faults write_faults = record {
+abbrev pub seen_of : ℕ → List File → List File → InHand → PlanView → ℕ → ℕ → MemShelfView
+seen_of piece files written hand plan read_faults write_faults = record {
   piece = piece;
   files = files;
+  written = written;
   hand = hand_of hand;
   unread = unread_of hand;
   plan = plan;
@@ -33,19 +35,36 @@ seen_of piece files hand plan read_faults write_faults = record {
 
 -- No file, none in hand, no call, no fault.
 abbrev pub empty_shelf : ℕ → MemShelfView
-empty_shelf piece = record { piece = piece; files = []; hand = Nothing; unread = []; plan = no_calls; read_faults = 0; write_faults = 0 }
+empty_shelf piece = record {
+  piece = piece;
+  files = [];
+  written = [];
+  hand = Nothing;
+  unread = [];
+  plan = no_calls;
+  read_faults = 0;
+  write_faults = 0;
+}
 
 -- The same shelf with another plan.
 abbrev pub with_plan : MemShelfView → PlanView → MemShelfView
-with_plan shelf plan = record { piece = shelf.piece; files = shelf.files; hand = shelf.hand; unread = shelf.unread; plan = plan; read_faults = shelf.read_faults; write_faults = shelf.write_faults }
+with_plan shelf plan = record shelf { plan = plan }
 
 -- The same shelf with other files.
 abbrev pub with_files : MemShelfView → List File → MemShelfView
-with_files shelf files = record { piece = shelf.piece; files = files; hand = shelf.hand; unread = shelf.unread; plan = shelf.plan; read_faults = shelf.read_faults; write_faults = shelf.write_faults }
+with_files shelf files = record shelf { files = files }
 
 -- What is seen of it as a shelf, which is made over no text.
 abbrev pub shelf_of : MemShelfView → View
-shelf_of shelf = record { reads = λ _. shelf.read_faults; writes = λ _. shelf.write_faults; hand = shelf.hand; files = files_of shelf.files; unread = shelf.unread; begun = λ _. None }
+shelf_of shelf = record {
+  reads = λ _. shelf.read_faults;
+  writes = λ _. shelf.write_faults;
+  hand = shelf.hand;
+  files = files_of shelf.files;
+  written = files_of shelf.written;
+  unread = shelf.unread;
+  begun = λ _. None;
+}
 
 abbrev pub is_opened : Hand → Bool
 is_opened Nothing = false
@@ -90,16 +109,18 @@ pub record MemRead (old new : MemShelfView) (before after : List ℕ) (result : 
   pub files : new.files ≡ old.files
   pub counts : Counts old new (has_failed result) false
 
--- `create_file` fails exactly where it is set to; an error leaves all files.
+-- `create_file` fails exactly where it is set to; an error leaves what was written.
 pub record MemCreate (old new : MemShelfView) (result : Result Unit IoErr) : Type 0 where
   pub fails : IsErrOf result Failed ↔ FailsNext old.plan
-  pub err : OnErr result (new.files ≡ old.files)
+  pub files : new.files ≡ old.files
+  pub err : OnErr result (new.written ≡ old.written)
   pub counts : Counts old new false (has_failed result)
 
 -- `write` takes a piece, and fails exactly where it is set to.
 pub record MemWrite (old new : MemShelfView) (bytes : List ℕ) (result : Result ℕ IoErr) : Type 0 where
   pub fails : IsErrOf result Failed ↔ FailsNext old.plan
   pub takes : IfOk result (λ n. n ≡ min old.piece (length bytes))
+  pub files : new.files ≡ old.files
   pub counts : Counts old new false (has_failed result)
 
 -- `close_file` fails exactly where a file is in hand and it is set to fail, which counts as a fault of reading
@@ -109,3 +130,9 @@ pub record MemClose (old new : MemShelfView) (result : Result Unit IoErr) : Type
   pub memory : IsErrOf result Memory → ⊥
   pub files : new.files ≡ old.files
   pub counts : Counts old new (if is_opened old.hand then has_failed result else false) (if is_created old.hand then has_failed result else false)
+
+-- `put_file` fails exactly where it is set to; an error leaves all files.
+pub record MemPut (old new : MemShelfView) (result : Result Unit IoErr) : Type 0 where
+  pub fails : IsErrOf result Failed ↔ FailsNext old.plan
+  pub err : OnErr result (new.files ≡ old.files)
+  pub counts : Counts old new false (has_failed result)

@@ -7,19 +7,25 @@ use Rattle.xr_shelf.specs.declared.in_hand.InHand.{InHand}
 use Rattle.xr_shelf.specs.declared.fault.IoErr.{IoErr}
 use Rattle.xr_shelf.specs.declared.fault.IoErr.TheVariants.{Failed}
 
--- A shelf in memory without faults: its files, and the file in hand with what isn't read of it.
+-- A shelf in memory without faults: its files, what was written of each, and the file in hand with what isn't read of it.
 pub record PlainShelfView : Type 0 where
   pub files : List File
+  pub written : List File
   pub hand : Hand
   pub unread : List ℕ
 
 -- What is seen of its parts.
-abbrev pub plainly_seen : List File → InHand → PlainShelfView
-plainly_seen files hand = record { files = files; hand = hand_of hand; unread = unread_of hand }
+abbrev pub plainly_seen : List File → List File → InHand → PlainShelfView
+plainly_seen files written hand = record {
+  files = files;
+  written = written;
+  hand = hand_of hand;
+  unread = unread_of hand;
+}
 
 -- No file, and none in hand.
 abbrev pub empty_plain_shelf : PlainShelfView
-empty_plain_shelf = record { files = []; hand = Nothing; unread = [] }
+empty_plain_shelf = record { files = []; written = []; hand = Nothing; unread = [] }
 
 -- What each name holds: nothing, where there is no such file.
 abbrev pub files_plainly : List File → Files
@@ -32,6 +38,7 @@ plain_shelf_of shelf = record {
   writes = λ _. 0;
   hand = shelf.hand;
   files = files_plainly shelf.files;
+  written = files_of shelf.written;
   unread = shelf.unread;
   begun = λ _. None;
 }
@@ -39,6 +46,7 @@ plain_shelf_of shelf = record {
 -- `put`: the file is set, and all else is as it was.
 pub record PutsPlainFile (name bytes : List ℕ) (old new : PlainShelfView) : Type 0 where
   pub files : SetsFile name bytes (files_of old.files) (files_of new.files)
+  pub written : new.written ≡ old.written
   pub hand : new.hand ≡ old.hand
   pub unread : new.unread ≡ old.unread
 

@@ -18,13 +18,15 @@ pub data Hand : Type 0 where
 abbrev pub Files : Type 0
 Files = List ℕ → Option (List ℕ)
 
--- What is seen of a shelf: a count of faults of reading and one of writing for each name, the file in hand, the map,
--- the bytes of the opened file that aren't read yet, and the texts that it was made over, which no call changes.
+-- What is seen of a shelf: a count of faults of reading and one of writing for each name, the file in hand, what stands
+-- under each name, what was written of each since its file was created, be it put under the name or not, the bytes of
+-- the opened file that aren't read yet, and the texts that the shelf was made over, which no call changes.
 pub record View : Type 0 where
   pub reads : List ℕ → ℕ
   pub writes : List ℕ → ℕ
   pub hand : Hand
   pub files : Files
+  pub written : Files
   pub unread : List ℕ
   pub begun : Files
 
@@ -35,6 +37,10 @@ bytes_of (Some bytes) = bytes
 -- The bytes under a name: none where there is no such file.
 abbrev pub held : View → List ℕ → List ℕ
 held v name = bytes_of (v.files name)
+
+-- The bytes that were written of a name: none where there was no such file.
+abbrev pub gathered : View → List ℕ → List ℕ
+gathered v name = bytes_of (v.written name)
 
 -- No count of faults fell, and the texts that the shelf was made over are what they were.
 pub record Later (old new : View) : Type 0 where
@@ -56,7 +62,7 @@ abbrev pub KeepsCounts : {T : Type 0} → View → View → Result T IoErr → T
 KeepsCounts old new (Ok _) = SameCounts old new
 KeepsCounts old new (Err e) = KeptUnless e (SameCounts old new)
 
--- No file but this one changed.
+-- Nothing changed but of this name.
 abbrev pub OthersKept : List ℕ → Files → Files → Type 0
 OthersKept name old new = (other : List ℕ) → (other ≡ name → ⊥) → new other ≡ old other
 
@@ -70,6 +76,7 @@ pub record OpenStep (told : Bool) (name : List ℕ) (old new : View) (result : R
   pub later : Later old new
   pub counts : KeepsCounts old new result
   pub files : new.files ≡ old.files
+  pub written : new.written ≡ old.written
   pub ok : OnOk result (new.hand ≡ Opened name)
   pub there : OnOk result (IsTrue told → IsSome (old.files name))
   pub unread : OnOk result (IsTrue told → new.unread ≡ held old name)
@@ -82,6 +89,7 @@ pub record ReadStep (told : Bool) (old new : View) (buffer : List ℕ) (result :
   pub later : Later old new
   pub counts : KeepsCounts old new result
   pub files : new.files ≡ old.files
+  pub written : new.written ≡ old.written
   pub hand : new.hand ≡ old.hand
   pub bound : IfOk result (λ n. n ≤ length buffer)
   pub bytes : (name : List ℕ) → old.hand ≡ Opened name → IfOk result (λ n. IsTrue told → old.unread ≡ take n buffer ++ new.unread)
@@ -90,27 +98,31 @@ pub record ReadStep (told : Bool) (old new : View) (buffer : List ℕ) (result :
   pub err : OnErr result (IsTrue told → new.unread ≡ old.unread)
   pub fault : IsErrOf result Failed → (name : List ℕ) × (old.hand ≡ Opened name) × Rose (old.reads name) (new.reads name)
 
--- `create_file`: the name is empty and in hand, or none is in hand and the name may have been emptied.
+-- `create_file`: nothing is written of the name, whose file is in hand; or none is in hand, and what was written of the
+-- name may be gone. What stands under the names stays.
 pub record CreateStep (told : Bool) (name : List ℕ) (old new : View) (result : Result Unit IoErr) : Type 0 where
   pub later : Later old new
   pub counts : KeepsCounts old new result
-  pub others : OthersKept name old.files new.files
+  pub files : new.files ≡ old.files
+  pub others : OthersKept name old.written new.written
   pub ok : OnOk result (new.hand ≡ Created name)
-  pub empty : OnOk result (IsTrue told → new.files name ≡ Some [])
+  pub empty : OnOk result (IsTrue told → new.written name ≡ Some [])
   pub err : OnErr result (new.hand ≡ Nothing)
-  pub kept : OnErr result (IsTrue told → (new.files name ≡ old.files name) ⊎ (new.files name ≡ Some []))
+  pub kept : OnErr result (IsTrue told → (new.written name ≡ old.written name) ⊎ (new.written name ≡ Some []))
   pub fault : IsErrOf result Failed → Rose (old.writes name) (new.writes name)
 
--- `write`: the file in hand gains the first of the bytes, at least one where there are any.
+-- `write`: the file in hand gains the first of the bytes, at least one where there are any. What stands under the names
+-- stays.
 pub record WriteStep (told : Bool) (name : List ℕ) (old new : View) (bytes : List ℕ) (result : Result ℕ IoErr) : Type 0 where
   pub later : Later old new
   pub counts : KeepsCounts old new result
   pub hand : new.hand ≡ old.hand
-  pub others : OthersKept name old.files new.files
+  pub files : new.files ≡ old.files
+  pub others : OthersKept name old.written new.written
   pub bound : IfOk result (λ n. n ≤ length bytes)
   pub some : IfOk result (λ n. 0 < length bytes → 0 < n)
-  pub wrote : IfOk result (λ n. IsTrue told → new.files name ≡ Some (held old name ++ take n bytes))
-  pub err : OnErr result (IsTrue told → new.files name ≡ old.files name)
+  pub wrote : IfOk result (λ n. IsTrue told → new.written name ≡ Some (gathered old name ++ take n bytes))
+  pub err : OnErr result (IsTrue told → new.written name ≡ old.written name)
   pub fault : IsErrOf result Failed → Rose (old.writes name) (new.writes name)
 
 -- `write` with a created file in hand.
@@ -122,5 +134,25 @@ pub record CloseStep (old new : View) (result : Result Unit IoErr) : Type 0 wher
   pub later : Later old new
   pub counts : KeepsCounts old new result
   pub files : new.files ≡ old.files
+  pub written : new.written ≡ old.written
   pub hand : new.hand ≡ Nothing
   pub fault : IsErrOf result Failed → ((name : List ℕ) × (old.hand ≡ Opened name) × Rose (old.reads name) (new.reads name)) ⊎ ((name : List ℕ) × (old.hand ≡ Created name) × Rose (old.writes name) (new.writes name))
+
+-- `put_file`: what was written of the name stands under it. After an error it does too, or what stood there stays.
+pub record PutStep (told : Bool) (name : List ℕ) (old new : View) (result : Result Unit IoErr) : Type 0 where
+  pub later : Later old new
+  pub counts : KeepsCounts old new result
+  pub hand : new.hand ≡ Nothing
+  pub written : new.written ≡ old.written
+  pub others : OthersKept name old.files new.files
+  pub ok : OnOk result (IsTrue told → new.files name ≡ Some (gathered old name))
+  pub err : OnErr result (IsTrue told → (new.files name ≡ old.files name) ⊎ (new.files name ≡ Some (gathered old name)))
+  pub fault : IsErrOf result Failed → Rose (old.writes name) (new.writes name)
+
+-- `discard`: no file is in hand, and what stands under the names stays.
+pub record DiscardStep (old new : View) : Type 0 where
+  pub later : Later old new
+  pub counts : SameCounts old new
+  pub hand : new.hand ≡ Nothing
+  pub files : new.files ≡ old.files
+  pub written : new.written ≡ old.written

@@ -1,10 +1,10 @@
 //! A shelf in memory, whose calls can be set to fail.
 
 ghost use Rattle.std.specs.Prelude.{◌≡◌, ◌≤◌, ℕ, List, true, OnOk, OnErr, option_copied};
-ghost use Rattle.xr_shelf.specs.Shelf.{Created as CreatedFile, OpenStep, ReadStep, CreateStep, Writes, CloseStep};
+ghost use Rattle.xr_shelf.specs.Shelf.{Created as CreatedFile, OpenStep, ReadStep, CreateStep, Writes, CloseStep, PutStep, DiscardStep};
 ghost use Rattle.xr_shelf.specs.NamedFiles.{files_of};
 ghost use Rattle.xr_shelf.specs.Plan.{with_fault};
-ghost use Rattle.xr_shelf.specs.MemShelf.{empty_shelf, with_plan, shelf_of, PutsFile, MemOpen, MemRead, MemCreate, MemWrite, MemClose};
+ghost use Rattle.xr_shelf.specs.MemShelf.{empty_shelf, with_plan, shelf_of, PutsFile, MemOpen, MemRead, MemCreate, MemWrite, MemClose, MemPut};
 
 use crate::fault::IoErr;
 use crate::fault_count::FaultCount;
@@ -23,6 +23,7 @@ pub struct MemShelf {
     alloc: Global,
     piece: usize,
     files: NamedFiles,
+    written: NamedFiles,
     hand: InHand,
     plan: Plan,
     read_faults: FaultCount,
@@ -35,7 +36,7 @@ impl Model for MemShelf {
 
     ghost Value = { MemShelfView };
 
-    ghost view = { λ s. seen_of s.piece s.files s.hand s.plan s.read_faults s.write_faults };
+    ghost view = { λ s. seen_of s.piece s.files s.written s.hand s.plan s.read_faults s.write_faults };
 
     ghost invariant = { λ s. 1 ≤ s.piece };
 }
@@ -50,6 +51,7 @@ impl MemShelf {
             alloc,
             piece,
             files: NamedFiles::new(alloc),
+            written: NamedFiles::new(alloc),
             hand: InHand::Nothing,
             plan: Plan::new(alloc),
             read_faults: FaultCount::new(),
@@ -71,6 +73,13 @@ impl MemShelf {
         ensures { option_copied result ≡ files_of self.now.files name.now }
     {
         self.files.get(name)
+    }
+
+    /// What was written of a file since it was created, be it put under its name or not. Takes no memory.
+    pub fn written(&self, name: &str) -> Option<&[u8]>
+        ensures { option_copied result ≡ files_of self.now.written name.now }
+    {
+        self.written.get(name)
     }
 
     /// How many calls of reading failed, which stays at the end of its type. Takes no memory.
@@ -149,7 +158,7 @@ impl Shelf for MemShelf {
             return Err(IoErr::Failed);
         }
         let created = String::from_str(self.alloc, name)?;
-        self.files.set(name, Vec::new(self.alloc))?;
+        self.written.set(name, Vec::new(self.alloc))?;
         self.hand = InHand::Created(created);
         Ok(())
     }
@@ -167,7 +176,7 @@ impl Shelf for MemShelf {
             return Err(IoErr::Failed);
         }
         let count = self.piece.min(bytes.len());
-        self.files.append(name, &bytes[..count])?;
+        self.written.append(name, &bytes[..count])?;
         Ok(count)
     }
 
@@ -191,5 +200,27 @@ impl Shelf for MemShelf {
                 Err(IoErr::Failed)
             }
         }
+    }
+
+    fn put_file(&mut self, name: &str) -> Result<(), IoErr>
+        ensures step { PutStep true name.now (shelf_of self.old) (shelf_of self.new) result }
+        ensures exact { MemPut self.old self.new result }
+    {
+        self.hand = InHand::Nothing;
+        if self.plan.call() {
+            self.write_faults.rise();
+            return Err(IoErr::Failed);
+        }
+        let bytes = self.written.get(name).unwrap_or(b"");
+        let copy = Vec::from_slice(self.alloc, bytes)?;
+        self.files.set(name, copy)?;
+        Ok(())
+    }
+
+    fn discard(&mut self)
+        ensures step { DiscardStep (shelf_of self.old) (shelf_of self.new) }
+        ensures plan { self.new.plan ≡ self.old.plan }
+    {
+        self.hand = InHand::Nothing;
     }
 }

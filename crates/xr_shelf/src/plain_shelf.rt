@@ -1,7 +1,7 @@
 //! A shelf in memory without faults.
 
 ghost use Rattle.std.specs.Prelude.{◌≡◌, ℕ, List, length, true, OnOk, OnErr, IfOk, option_copied};
-ghost use Rattle.xr_shelf.specs.Shelf.{Created as CreatedFile, OpenStep, ReadStep, CreateStep, Writes, CloseStep};
+ghost use Rattle.xr_shelf.specs.Shelf.{Created as CreatedFile, OpenStep, ReadStep, CreateStep, Writes, CloseStep, PutStep, DiscardStep};
 ghost use Rattle.xr_shelf.specs.NamedFiles.{files_of};
 ghost use Rattle.xr_shelf.specs.PlainShelf.{empty_plain_shelf, plain_shelf_of, NeverFails, PlainRead, PutsPlainFile};
 
@@ -19,6 +19,7 @@ use xr_base::Memory;
 pub struct PlainShelf {
     alloc: Global,
     files: NamedFiles,
+    written: NamedFiles,
     hand: InHand,
 }
 
@@ -27,7 +28,7 @@ impl Model for PlainShelf {
 
     ghost Value = { PlainShelfView };
 
-    ghost view = { λ s. plainly_seen s.files s.hand };
+    ghost view = { λ s. plainly_seen s.files s.written s.hand };
 }
 
 impl PlainShelf {
@@ -38,6 +39,7 @@ impl PlainShelf {
         PlainShelf {
             alloc,
             files: NamedFiles::new(alloc),
+            written: NamedFiles::new(alloc),
             hand: InHand::Nothing,
         }
     }
@@ -89,11 +91,12 @@ impl Shelf for PlainShelf {
     fn create_file(&mut self, name: &str) -> Result<(), IoErr>
         ensures step { CreateStep true name.now (plain_shelf_of self.old) (plain_shelf_of self.new) result }
         ensures never { NeverFails result }
-        ensures err { OnErr result (self.new.files ≡ self.old.files) }
+        ensures files { self.new.files ≡ self.old.files }
+        ensures err { OnErr result (self.new.written ≡ self.old.written) }
     {
         self.hand = InHand::Nothing;
         let created = String::from_str(self.alloc, name)?;
-        self.files.set(name, Vec::new(self.alloc))?;
+        self.written.set(name, Vec::new(self.alloc))?;
         self.hand = InHand::Created(created);
         Ok(())
     }
@@ -107,7 +110,7 @@ impl Shelf for PlainShelf {
         let InHand::Created(name) = &self.hand else {
             unreachable!()
         };
-        self.files.append(name, bytes)?;
+        self.written.append(name, bytes)?;
         Ok(bytes.len())
     }
 
@@ -117,5 +120,23 @@ impl Shelf for PlainShelf {
     {
         self.hand = InHand::Nothing;
         Ok(())
+    }
+
+    fn put_file(&mut self, name: &str) -> Result<(), IoErr>
+        ensures step { PutStep true name.now (plain_shelf_of self.old) (plain_shelf_of self.new) result }
+        ensures never { NeverFails result }
+        ensures err { OnErr result (self.new.files ≡ self.old.files) }
+    {
+        self.hand = InHand::Nothing;
+        let bytes = self.written.get(name).unwrap_or(b"");
+        let copy = Vec::from_slice(self.alloc, bytes)?;
+        self.files.set(name, copy)?;
+        Ok(())
+    }
+
+    fn discard(&mut self)
+        ensures { DiscardStep (plain_shelf_of self.old) (plain_shelf_of self.new) }
+    {
+        self.hand = InHand::Nothing;
     }
 }

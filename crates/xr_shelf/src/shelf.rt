@@ -1,7 +1,7 @@
 //! A shelf of named files, and whole files read from it and written to it.
 
 ghost use Rattle.std.specs.Prelude.{◌≡◌, List, ℕ, Bool};
-ghost use Rattle.xr_shelf.specs.Shelf.{View, Created, OpenStep, ReadStep, CreateStep, Writes, CloseStep};
+ghost use Rattle.xr_shelf.specs.Shelf.{View, Created, OpenStep, ReadStep, CreateStep, Writes, CloseStep, PutStep, DiscardStep};
 ghost use Rattle.xr_shelf.specs.Calls.{ReadAll, WriteAll};
 
 use crate::fault::{IoErr, ReadErr, WriteErr};
@@ -12,9 +12,12 @@ const BUFFER_BYTES: usize = 65_536;
 
 /// Named files, one of which may be in hand, opened or created.
 ///
+/// A file that is created and written doesn't stand under its name until `put_file` puts it there: until then the name
+/// holds what it held. So many files can be written before the first name changes.
+///
 /// A count of faults rises only in a call that fails, so where one rose, some call failed. A fault at one name says
-/// nothing of another name. A failed call leaves every file as it was, but a failed
-/// `create_file` may have emptied the file that it names.
+/// nothing of another name. A failed call leaves what stands under every name, but a failed `put_file` may have put the
+/// file there.
 pub trait Shelf {
     /// Whether what the files hold is reported. No call changes it.
     ghost told: { Bool };
@@ -30,7 +33,7 @@ pub trait Shelf {
     fn read(&mut self, buffer: &mut [u8]) -> Result<usize, IoErr>
         ensures { ReadStep told (view self.old) (view self.new) buffer.new result };
 
-    /// Gives up the file in hand, and makes an empty file to be written.
+    /// Gives up the file in hand, and makes an empty file to be written, which isn't put under its name yet.
     fn create_file(&mut self, name: &str) -> Result<(), IoErr>
         ensures { CreateStep told name.now (view self.old) (view self.new) result };
 
@@ -42,6 +45,14 @@ pub trait Shelf {
     /// Gives up the file in hand.
     fn close_file(&mut self) -> Result<(), IoErr>
         ensures { CloseStep (view self.old) (view self.new) result };
+
+    /// Gives up the file in hand, and puts what was written of a file under its name.
+    fn put_file(&mut self, name: &str) -> Result<(), IoErr>
+        ensures { PutStep told name.now (view self.old) (view self.new) result };
+
+    /// Gives up the file in hand, and each file that isn't put under its name.
+    fn discard(&mut self)
+        ensures { DiscardStep (view self.old) (view self.new) };
 }
 
 /// All the bytes of a file, of which there are at most `limit`. Takes a buffer of 65,536 bytes besides.
@@ -73,7 +84,7 @@ pub fn read_all<S: Shelf>(
     Ok(text)
 }
 
-/// Makes a file anew and writes all the bytes to it. Takes no memory.
+/// Makes a file anew and writes all the bytes to it, for `put_file` to put it under its name. Takes no memory.
 ///
 /// After an `Err` the file may still be in hand; the next file opened or created takes its place.
 pub fn write_all<S: Shelf>(shelf: &mut S, name: &str, bytes: &[u8]) -> Result<(), WriteErr>

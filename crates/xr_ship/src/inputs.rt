@@ -9,13 +9,8 @@ use std::fs::File;
 use std::rt::Files;
 use xr_base::Memory;
 use xr_files::Fetched;
+use xr_phases::{RECORDING_BYTES, TEXT_BYTES};
 use xr_words::{Command, JobWords};
-
-/// A recording, the longest text of a job, has so many bytes at most.
-const RECORDING_BYTES: usize = 268_435_456;
-
-/// Other files have so many.
-const TEXT_BYTES: usize = 9_223_372_036_854_775_807;
 
 /// The most bytes that are read of each file: as many as the longest of them may have.
 pub fn most_bytes(command: &Command<'_>) -> usize

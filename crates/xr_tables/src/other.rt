@@ -2,7 +2,7 @@
 //! another bit, one that lists the fewest, or none does.
 
 ghost use Rattle.std.specs.Prelude.{◌<◌, ◌≤◌, IfOk, MatchOption, length};
-ghost use Rattle.xr_tables.specs.Other.{AreAll, IsAll, IsOtherNumber, IsShownBy};
+ghost use Rattle.xr_tables.specs.Other.{AreAll, IsAll, IsLeastOtherAt, IsLeastOtherBelow, IsShownBy};
 
 use crate::fillings::places_by;
 use std::alloc::Global;
@@ -56,10 +56,11 @@ pub fn compare_blocks(
     }
 }
 
-/// A number at which blocks have another bit than one that is given.
+/// A number at which blocks have another bit than one that is given, with the least ones of those.
 fn other_number(blocks: &[LaneBits], empty: bool) -> Option<usize>
     requires { length blocks.now ≤ 256 }
-    ensures { MatchOption result (AreAll blocks.now empty (length blocks.now)) (IsOtherNumber blocks.now empty) }
+    ensures { MatchOption result (AreAll blocks.now empty (length blocks.now))
+        (IsLeastOtherBelow blocks.now empty (length blocks.now)) }
 {
     let mut found = None;
     'numbers: for block in 0..blocks.len() {
@@ -72,7 +73,7 @@ fn other_number(blocks: &[LaneBits], empty: bool) -> Option<usize>
 fn other_in(blocks: &[LaneBits], block: usize, empty: bool) -> Option<usize>
     requires within { block < length blocks.now }
     requires few { block < 256 }
-    ensures { MatchOption result (IsAll blocks.now empty block) (IsOtherNumber blocks.now empty) }
+    ensures { MatchOption result (IsAll blocks.now empty block) (IsLeastOtherAt blocks.now empty block) }
 {
     match least_lane(blocks[block].turned(empty)) {
         Some(lane) => Some(256 * block + lane as usize),

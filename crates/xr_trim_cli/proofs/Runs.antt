@@ -75,7 +75,7 @@ module _ (s : Start) (shelf : View) (sink : SinkView) (status : ℕ) where
         let row = there.2 in record {
           words = there.0;
           means = there.1;
-          kept = λ t. kept_of s.shelf_told s.shelf.files shelf.files there.0 row.answer t (answered s.shelf_told s.shelf.files there.0 row.answer row.stands) row.written;
+          kept = λ t. kept_of s.shelf_told s.shelf.files shelf.files there.0 row.answer t (answered s.shelf_told s.shelf.files there.0 row.answer row.stands) row.delivered.put;
         }
 
 -- ---- refusals

@@ -33,7 +33,8 @@ impl Model for Recording {
 }
 
 impl Recording {
-    ghost use Rattle.std.specs.Prelude.{◌≡◌, ◌+◌, ◌<◌, ◌≤◌, ◌^◌, [], ◌∷◌, ◌++◌, length, option_map, slice_index_or};
+    ghost use Rattle.std.specs.Prelude.{◌≡◌, ◌+◌, ◌<◌, ◌≤◌, ◌^◌, [], ◌∷◌, ◌++◌, length, option_map, slice_index, slice_index_or};
+    ghost use Rattle.xr_vcd_changes.specs.Held.{moments_of};
     ghost use Rattle.xr_vcd.specs.Changes.{recorded};
     ghost use Rattle.xr_vcd.specs.Recording.{IsRecording, IsValueAt, IsWithin, path_at, last_name, value_at, width_at};
     ghost use Rattle.xr_vcd.specs.Trees.{AreTimes};
@@ -126,6 +127,16 @@ impl Recording {
     {
         let number = self.numbers[variable as usize];
         self.changes.count(number as usize)
+    }
+
+    /// The moment of a change of the variable's code, by its number among them. Takes no memory.
+    pub fn change_moment(&self, variable: u32, change: usize) -> u32
+        requires variable { variable < length self.now.variables }
+        requires change { change < length (slice_index_or self.now.changes variable []) }
+        ensures { result ≡ slice_index (moments_of (slice_index_or self.now.changes variable [])) change }
+    {
+        let number = self.numbers[variable as usize];
+        self.changes.moment_of(number as usize, change)
     }
 
     /// The time of each moment, ascending. Takes no memory.

@@ -1,8 +1,9 @@
 -- The digits that a code holds, by its stored entries.
-use Rattle.std.proofs.Common.{◌≡◌, ℕ, zero, suc, ◌+◌, ◌-◌, ◌<◌, ◌≤◌, true, false, List, [], ◌∷◌, length, map, refl, sym, ap, ◌∙◌, arith, nat_le, All, slice_index_or, get_or}
+use Rattle.std.proofs.Common.{◌≡◌, ℕ, zero, suc, ◌+◌, ◌-◌, ◌<◌, ◌≤◌, true, false, List, [], ◌∷◌, length, map, refl, sym, ap, ◌∙◌, arith, nat_le, All, slice_index_or, get_or, ⊎_elim}
+use Rattle.std.proofs.lemmas.Bool.{cases_lt}
 use Rattle.std.proofs.lemmas.List.{length-map, get_or-map, get_or_past}
 use Rattle.xr_vcd_changes.specs.declared.track.Entry.{Entry}
-use Rattle.xr_vcd_changes.specs.Held.{Change, held, track_of}
+use Rattle.xr_vcd_changes.specs.Held.{Change, held, moments_of, track_of}
 use Rattle.xr_vcd_changes.specs.Stored.{IsKept, IsTrack, change_of, changes_of}
 
 held_none : (m : ℕ) (texts : List (List ℕ)) (es : List Entry) (had : List ℕ) → ((k : ℕ) (d : Entry) → 0 ≤ k → k < length es → nat_le (slice_index_or es k d).moment m ≡ false) → held m (changes_of texts es) had ≡ had
@@ -51,3 +52,17 @@ pub count_of_absent : (texts : List (List ℕ)) (ts : List (List Entry)) (now : 
 count_of_absent texts ts now code view le =
     let past : track_of now code ≡ [] = rw (← view) (get_or_past (map (changes_of texts) ts) code [] (rw (length-map ts (changes_of texts)) le)) in
     rw past refl
+
+-- A code that has a change is there.
+pub code_of_change : (texts : List (List ℕ)) (ts : List (List Entry)) (now : List (List Change)) (code n : ℕ) → map (changes_of texts) ts ≡ now → n < length (track_of now code) → code < length ts
+code_of_change texts ts now code n view lt =
+    ⊎_elim (λ (there : code < length ts). there) (λ (past : length ts ≤ code). (let none = count_of_absent texts ts now code view past in absurd (omega (arith, lt, none)))) (cases_lt code (length ts))
+
+moments_are : (texts : List (List ℕ)) (es : List Entry) (n : ℕ) (e : Entry) → n < length es → (slice_index_or es n e).moment ≡ get_or (moments_of (changes_of texts es)) n 0
+moments_are texts [] n e lt = absurd (omega (arith, lt))
+moments_are texts (x ∷ es) zero e lt = refl
+moments_are texts (x ∷ es) (suc n) e lt = moments_are texts es n e (omega (arith, lt))
+
+pub moment_is : (texts : List (List ℕ)) (ts : List (List Entry)) (now : List (List Change)) (code n : ℕ) (t : List Entry) (e : Entry) → map (changes_of texts) ts ≡ now → code < length ts → t ≡ get_or ts code t → n < length t → e ≡ slice_index_or t n e → e.moment ≡ get_or (moments_of (track_of now code)) n 0
+moment_is texts ts now code n t e view lt is less at =
+    rw (← view, track_of_is texts ts code t lt is) (ap (λ (x : Entry). x.moment) at ∙ moments_are texts t n e less)

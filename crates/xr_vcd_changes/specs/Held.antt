@@ -1,5 +1,5 @@
 -- What a code holds in a moment (IEEE 1364-2005, clause 18).
-use Rattle.std.specs.Prelude.{ℕ, ◌-◌, List, [], ◌∷◌, ◌++◌, length, if◌then◌else◌, nat_le, ◌==◌, ◌||◌, slice_index, slice_index_or, slice_set, replicate}
+use Rattle.std.specs.Prelude.{ℕ, ◌-◌, List, [], ◌∷◌, ◌++◌, length, if◌then◌else◌, nat_le, ◌==◌, ◌||◌, slice_index, slice_index_or, slice_set, replicate, map}
 use Rattle.xr_cell.specs.declared.value.Value.{Value}
 use Rattle.xr_cell.specs.declared.value.Value.TheVariants.{Zero, One, X, Z}
 
@@ -10,6 +10,10 @@ pub record Change : Type 0 where
 
 abbrev pub change : ℕ → List ℕ → Change
 change moment digits = record { moment = moment; digits = digits }
+
+-- the moment of each change
+abbrev pub moments_of : List Change → List ℕ
+moments_of changes = map (λ (c : Change). c.moment) changes
 
 -- What a code holds in a moment, where it held `had` before its changes: the digits of its last change in the moment or
 -- before it.

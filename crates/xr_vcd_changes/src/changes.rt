@@ -2,7 +2,7 @@
 
 ghost use Rattle.std.specs.Prelude.{◌≡◌, ℕ, ◌+◌, ◌<◌, ◌≤◌, ◌^◌, [], ◌∷◌, ◌++◌, List, length, IfOk, OnOk, OnErr, slice_index, slice_index_or};
 ghost use Rattle.xr_vcd_changes.specs.Last.{IsLastValue};
-ghost use Rattle.xr_vcd_changes.specs.Held.{bit_value, change, digit_value, extended, fill_of, held, track_of, unknown, with_last};
+ghost use Rattle.xr_vcd_changes.specs.Held.{bit_value, change, digit_value, extended, fill_of, held, moments_of, track_of, unknown, with_last};
 
 use crate::digits::Digits;
 use crate::track::{Entry, Track};
@@ -77,6 +77,15 @@ impl Changes {
         }
         let track = &self.tracks[code];
         track.len()
+    }
+
+    /// The moment of a change of the code, by its number among them. Takes no memory.
+    pub fn moment_of(&self, code: usize, number: usize) -> u32
+        requires { number < length (track_of self.now.tracks code) }
+        ensures { result ≡ slice_index (moments_of (track_of self.now.tracks code)) number }
+    {
+        let track = &self.tracks[code];
+        track.entry(number).moment
     }
 
     /// The value of one bit of a code, counted from the left, in the moment: of a code without a number x. Takes no

@@ -6,5 +6,6 @@ mod NextClass
 mod OneWave
 mod RootPlaces
 mod ShownPlaces
+mod StepsRead
 mod WaveGrowth
 mod Ways

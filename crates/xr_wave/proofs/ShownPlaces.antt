@@ -1,23 +1,27 @@
 -- A history that is filled with what a wave shows, place by place.
-use Rattle.std.proofs.Common.{◌≡◌, ◌≢◌, ℕ, ◌+◌, ◌*◌, ◌<◌, length, sym, refl, ap, ◌∙◌, arith, subst, ⊎_elim, get_or, set, get_or-set_same, get_or-set_other, length-set}
+use Rattle.std.proofs.Common.{◌≡◌, ◌≢◌, ℕ, List, ◌+◌, ◌*◌, ◌/◌, ◌<◌, length, sym, refl, ap, ◌∙◌, arith, subst, ⊎_elim, get_or, set, get_or-set_same, get_or-set_other, length-set}
 use Rattle.std.specs.Prelude.{slice_index}
+use Rattle.std.proofs.Math.Nat.{div-lt_iff_lt-mul}
 use Rattle.std.proofs.lemmas.Bool.{cases_eq}
+use Rattle.std.proofs.lemmas.List.{length-replicate}
 use Rattle.std.proofs.lemmas.Nat.{div-mul-add, mod-mul-add, same_from_place}
 use Rattle.xr_cell.specs.declared.value.Value.{Value}
 use Rattle.xr_cell.specs.declared.value.Value.TheVariants.{X}
+use Rattle.xr_design.specs.declared.design.Design.{Design}
 use Rattle.xr_design.specs.declared.place.Place.{Place}
+use Rattle.xr_design.specs.declared.stim.Stim.{Stim}
 use Rattle.xr_design.specs.Filling.{IsPlace}
 use Rattle.xr_design.specs.Fits.{Fits, place_at}
-use Rattle.xr_design.specs.Handed.{HasPlaces}
-use Rattle.xr_design.specs.History.{HistoryView, held_in, index_in}
-use Rattle.xr_design.specs.Job.{Job, number_of, places_of}
+use Rattle.xr_design.specs.Handed.{HasPlaces, held_of}
+use Rattle.xr_design.specs.History.{HistoryView, IsNextStep, WriterView, blank_history, held_in, index_in}
+use Rattle.xr_design.specs.Job.{Job, job_of, number_of, places_of}
 use Rattle.xr_design.specs.Order.{position_of}
 use Rattle.xr_design.specs.Replay.{Held, blank}
 use Rattle.xr_design.specs.Waveform.{written_at}
 use Rattle.xr_design.proofs.Numbers.{is_place_at, number_of_place_at}
 use Rattle.xr_design.proofs.OrderLemmas.{net_at_position}
 use Rattle.xr_design.proofs.Reaching.{step_small}
-use Rattle.xr_design.proofs.Rules.{position_in}
+use Rattle.xr_design.proofs.Rules.{position_in, some_width}
 use Rattle.xr_wave.specs.Contents.{Contents, IsFinished, IsWave, job, written_of}
 use Rattle.xr_wave.specs.Shown.{ShowsBelow, ShowsWave, held_from}
 use Rattle.xr_design.proofs.Handed.{has_place}
@@ -138,6 +142,39 @@ shows_there c step position net n value history after wave step_within position_
           places = set history.places
               (index_in history (place_at (job c) (step * (job c).width + position))) h;
         }) held
+
+-- At first none is.
+pub shows_none : (c : Contents) (design : Design) (order : List ℕ) (stim : Stim) → job_of design order stim ≡ job c
+    → ShowsBelow c (0 * (job c).width) (blank_history design stim)
+shows_none c design order stim is = record {
+  places = subst (λ (j : Job). HasPlaces j (blank_history design stim)) is (record {
+    nets = refl;
+    all = length-replicate (length design.nets * (length stim.times * stim.rounds)) blank;
+  });
+  held = λ number less. absurd (omega (arith, less));
+}
+
+-- With a step begun, the places of those before are shown as they were.
+pub shows_next : (c : Contents) (step : ℕ) (old new : WriterView) → IsWave c
+    → step < (job c).moments * (job c).rounds → old.step ≡ step → IsNextStep old new
+    → ShowsBelow c ((step + 1) * (job c).width) old.history → ShowsBelow c ((step + 1) * (job c).width) new.history
+shows_next c step old new wave step_within step_is next shows = record {
+  places = record { nets = next.nets ∙ shows.places.nets; all = next.long ∙ shows.places.all };
+  held = each;
+}
+  where
+    j : Job
+    j = job c
+
+    each : (number : ℕ) → number < (step + 1) * (job c).width → held_of (job c) new.history number ≡ held_from c number
+    each number less =
+        let room = step_small (job c).width step ((job c).moments * (job c).rounds) step_within in
+        let within : number < places_of j = omega (arith, room, less) in
+        let some : 0 < j.width = some_width j.width (j.moments * j.rounds) number within in
+        let place = is_place_at j number wave.fits.fits_job.ordering wave.fits.fits_job.all within in
+        let earlier : number / j.width < step + 1 = (div-lt_iff_lt-mul some).1 less in
+        next.others (place_at j number) (has_place j old.history (place_at j number) shows.places place)
+        (λ same. omega (arith, same, earlier, step_is)) ∙ shows.held number less
 
 -- Where all places are shown, the history shows the wave.
 pub shows_all : (c : Contents) (history : HistoryView) → IsWave c → IsFinished c

@@ -20,6 +20,7 @@ pub wave_grown : (c : Contents) (x : Written) (new : List ALine) → IsWave c
     → IsWave (record c { written = c.written ++ x ∷ []; lines = c.lines ++ new })
 wave_grown c x new is next = record {
   fits = is.fits;
+  few = is.few;
   handed = is.handed;
   limited = is.limited;
   holds = grown (job c) c.limit is.fits.fits_job (shown_in c) c.written c.lines x new is.holds next;

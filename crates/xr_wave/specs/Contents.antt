@@ -1,5 +1,5 @@
 -- What a wave holds, and what is always true of it.
-use Rattle.std.specs.Prelude.{◌≡◌, ℕ, ◌<◌, ◌≤◌, Option, None, Some, List, [], length, nat_lt, if◌then◌else◌}
+use Rattle.std.specs.Prelude.{◌≡◌, ℕ, ◌<◌, ◌≤◌, ◌^◌, Option, None, Some, List, [], length, nat_lt, if◌then◌else◌}
 use Rattle.xr_cell.specs.declared.value.Value.{Value}
 use Rattle.xr_design.specs.declared.design.Design.{Design}
 use Rattle.xr_design.specs.declared.stim.Stim.{Stim}
@@ -10,7 +10,7 @@ use Rattle.xr_design.specs.Filling.{IsPlace}
 use Rattle.xr_design.specs.Fits.{place_at}
 use Rattle.xr_design.specs.Handed.{IsHandedIn, shown_of}
 use Rattle.xr_design.specs.History.{HistoryView}
-use Rattle.xr_design.specs.Job.{Job, job_of, number_of, places_of}
+use Rattle.xr_design.specs.Job.{Job, job_of, number_of, places_of, step_of}
 use Rattle.xr_design.specs.Rule.{rule}
 use Rattle.xr_design.specs.Waveform.{certain, written_at}
 use Rattle.xr_model.specs.Assignment.{argument_places}
@@ -71,12 +71,19 @@ pub record IsLimit (limit : ℕ) : Type 0 where
   pub some : 0 < limit
   pub few : limit ≤ 100000
 
--- It is of a circuit that fits, a history of its job and a limit; it is sound, and its lines yield it.
+-- It is of a circuit that fits and has at most 2^27 places, a history of its job and a limit; it is sound, and its lines
+-- yield it.
 pub record IsWave (c : Contents) : Type 0 where
   pub fits : PartsFit c.design c.order c.stim
+  pub few : places_of (job c) ≤ 2 ^ 27
   pub handed : IsHandedIn (job c) c.history
   pub limited : IsLimit c.limit
   pub holds : Holds (job c) c.limit (shown_in c) c.written c.lines
+
+-- The same of a wave whose history is read at the step of the next place, where there is one.
+pub record IsWaveAt (c : Contents) (step : ℕ) : Type 0 where
+  pub wave : IsWave c
+  pub reads : length c.written < places_of (job c) → step ≡ step_of (job c) (length c.written)
 
 -- The number of the next place, and the class of a place.
 abbrev pub next_number : Contents → ℕ

@@ -1,6 +1,6 @@
 //! The history of a finished wave: what its waveform shows.
 
-ghost use Rattle.std.specs.Prelude.{◌≡◌, ◌+◌, ◌*◌, ◌<◌, ◌≤◌, IfOk, length};
+ghost use Rattle.std.specs.Prelude.{◌≡◌, ◌+◌, ◌*◌, ◌<◌, ◌≤◌, IfOk, OnOk, length};
 ghost use Rattle.xr_wave.specs.Contents.{IsFinished, IsWave, job};
 ghost use Rattle.xr_wave.specs.Shown.{ShowsBelow, ShowsWave};
 
@@ -8,31 +8,36 @@ use crate::wave::Wave;
 use std::alloc::Global;
 use xr_base::Memory;
 use xr_cell::Value;
-use xr_design::{History, Place, width_of};
+use xr_design::{History, HistoryWriter, Place, width_of};
 
 impl<'a> Wave<'a> {
-    /// The history that shows what a finished wave shows, and keeps x. Takes a byte for each place.
+    /// The history that shows what a finished wave shows, and keeps x. Takes eight bytes for each place that shows
+    /// another value than its net a step before, eight for each step, and some for each net.
     pub fn history(&self, alloc: Global) -> Result<History, Memory>
         requires { IsFinished self.now }
         ensures { IfOk result (λ history. ShowsWave self.now history) }
     {
         let circuit = self.circuit();
-        let mut history = History::blank(alloc, circuit.design, circuit.stim)?;
+        let mut writer = HistoryWriter::blank(alloc, circuit.design, circuit.stim)?;
         let steps = circuit.stim.times.as_slice().len() * circuit.stim.rounds as usize;
         'steps: for step in 0..steps {
-            show_step(self, &mut history, step);
+            show_step(self, &mut writer, step)?;
+            writer.next_step()?;
         }
+        let history = writer.finish(alloc)?;
         Ok(history)
     }
 }
 
-/// Shows the places of a step, where those of the steps before are shown.
-fn show_step(wave: &Wave<'_>, history: &mut History, step: usize)
+/// Shows the places of the step under way, where those of the steps before are shown.
+fn show_step(wave: &Wave<'_>, writer: &mut HistoryWriter, step: usize) -> Result<(), Memory>
     requires wave { IsWave wave.now }
     requires finished { IsFinished wave.now }
     requires step { step < (job wave.now).moments * (job wave.now).rounds }
-    requires earlier { ShowsBelow wave.now (step * (job wave.now).width) history.old }
-    ensures { ShowsBelow wave.now ((step + 1) * (job wave.now).width) history.new }
+    requires under_way { writer.old.step ≡ step }
+    requires earlier { ShowsBelow wave.now (step * (job wave.now).width) writer.old.history }
+    ensures under_way { OnOk result (writer.new.step ≡ step) }
+    ensures shown { OnOk result (ShowsBelow wave.now ((step + 1) * (job wave.now).width) writer.new.history) }
 {
     let circuit = wave.circuit();
     let width = width_of(&circuit);
@@ -42,6 +47,7 @@ fn show_step(wave: &Wave<'_>, history: &mut History, step: usize)
             step: step as u32,
             net: circuit.order.net(position as u32),
         };
-        history.set(place, wave.written(before + position).value, Value::X);
+        writer.set(place, wave.written(before + position).value, Value::X)?;
     }
+    Ok(())
 }

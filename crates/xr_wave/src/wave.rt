@@ -1,11 +1,11 @@
 //! A waveform that grows by one place at a time.
 
-ghost use Rattle.std.specs.Prelude.{◌≡◌, ◌<◌, ◌≤◌, [], IfOk, IfErr, length, map};
+ghost use Rattle.std.specs.Prelude.{◌≡◌, ◌-◌, ◌<◌, ◌≤◌, ◌^◌, ◌++◌, ◌∷◌, [], IfOk, IfErr, length, map};
 ghost use Rattle.xr_cell.specs.declared.value.Value.{Value as AnyValue};
 ghost use Rattle.xr_design.specs.Circuit.{PartsFit, CircuitFits, job_in};
 ghost use Rattle.xr_design.specs.Fits.{place_at};
 ghost use Rattle.xr_design.specs.Handed.{IsHandedIn};
-ghost use Rattle.xr_design.specs.Job.{job_of, number_of, places_of};
+ghost use Rattle.xr_design.specs.Job.{job_of, number_of, places_of, step_of};
 ghost use Rattle.xr_design.specs.Waveform.{written_at};
 ghost use Rattle.xr_model.specs.Class.{class_seen};
 ghost use Rattle.xr_model.specs.Growth.{NextHolds};
@@ -13,7 +13,9 @@ ghost use Rattle.xr_model.specs.Sound.{Sound};
 ghost use Rattle.xr_model.specs.Yields.{Yields};
 ghost use Rattle.xr_wave.specs.Advance.{with_written};
 ghost use Rattle.xr_wave.specs.Contents.{FromWithin, IsLimit, IsReached, IsWave, IsWritten, arguments_in, class_in, job, next_number, next_place, next_seen, nothing_written, rule_in, shown_in, written_of};
-ghost use Rattle.xr_wave_bytes.specs.View.{next_class};
+ghost use Rattle.xr_wave_bytes.specs.Kept.{ValuesAgree};
+ghost use Rattle.xr_wave_bytes.specs.View as view;
+ghost use Rattle.xr_wave_bytes.specs.View.{HasMore, and_one, next_class};
 ghost use Rattle.xr_wave.specs.Token.{HasNext, IsLineNext, LineAgrees, LineHolds, with_line, written_by_line};
 
 use crate::arguments::{Arguments, places_of_numbers};
@@ -21,7 +23,9 @@ use std::alloc::Global;
 use std::marker::Model;
 use xr_base::Memory;
 use xr_cell::Value;
-use xr_design::{Circuit, Design, History, Mark, Order, Place, Stim, Written, count_places};
+use xr_design::{
+    Circuit, Design, History, HistoryRow, Mark, Order, Place, Stim, Written, count_places,
+};
 use xr_model::{Class, ClassByNumber, Line};
 use xr_wave_bytes::Waveform;
 
@@ -36,26 +40,27 @@ pub struct Wave<'a> {
 #[derive(Debug, Drop)]
 struct Parts<'a> {
     waveform: Waveform<'a>,
-    replayed: &'a History,
+    /// At the step of the next place.
+    replayed: HistoryRow<'a>,
     limit: u32,
     lines: Vec<Line>,
 }
 
 impl<'a> Model for Wave<'a> {
-    ghost use Rattle.xr_wave.specs.Contents.{Contents, IsWave, contents_of};
+    ghost use Rattle.xr_wave.specs.Contents.{Contents, IsWaveAt, contents_of};
 
     ghost Value = { Contents };
 
-    ghost view = { λ w. contents_of w.parts.value.waveform w.parts.value.replayed.now w.parts.value.limit
+    ghost view = { λ w. contents_of w.parts.value.waveform w.parts.value.replayed.history w.parts.value.limit
         w.parts.value.lines.items };
 
-    ghost invariant = { λ w. IsWave (contents_of w.parts.value.waveform w.parts.value.replayed.now w.parts.value.limit
-        w.parts.value.lines.items) };
+    ghost invariant = { λ w. IsWaveAt (contents_of w.parts.value.waveform w.parts.value.replayed.history
+        w.parts.value.limit w.parts.value.lines.items) w.parts.value.replayed.step };
 }
 
 impl<'a> Wave<'a> {
     /// A wave of which nothing is written. `limit` is how many clauses the log of a licence has, 1 to 100,000. Takes a
-    /// byte for each place, 16 bytes for each net, 8 to 24 for each pin.
+    /// byte for each place, 17 bytes for each net, 8 to 24 for each pin.
     pub fn new(
         alloc: Global,
         design: &'a Design,
@@ -65,6 +70,7 @@ impl<'a> Wave<'a> {
         limit: u32,
     ) -> Result<Wave<'a>, Memory>
         requires fits { PartsFit design.now order.now stim.now }
+        requires few { places_of (job_of design.now order.now stim.now) ≤ 2 ^ 27 }
         requires handed { IsHandedIn (job_of design.now order.now stim.now) replayed.now }
         requires limit { IsLimit limit }
         ensures { IfOk result (λ w. w ≡ nothing_written design.now order.now stim.now replayed.now limit) }
@@ -75,9 +81,10 @@ impl<'a> Wave<'a> {
             stim,
         };
         let waveform = Waveform::new(alloc, circuit)?;
+        let row = HistoryRow::first(alloc, replayed)?;
         let parts = Parts {
             waveform,
-            replayed,
+            replayed: row,
             limit,
             lines: Vec::new(alloc),
         };
@@ -111,7 +118,7 @@ impl<'a> Wave<'a> {
     pub fn replayed(&self) -> &'a History
         ensures { result.now ≡ self.now.history }
     {
-        self.parts.replayed
+        self.parts.replayed.history()
     }
 
     /// How many clauses the log of a licence has. Takes no memory.
@@ -248,7 +255,7 @@ impl<'a> Wave<'a> {
         ensures shown { result ≡ shown_in self.now (next_number self.now) }
         ensures wave { IsWave self.now }
     {
-        self.parts.replayed.shown(self.place_behind())
+        self.parts.replayed.shown(self.place_behind().net)
     }
 
     /// The next place, where there is one.
@@ -278,7 +285,7 @@ impl<'a> Wave<'a> {
         requires next { NextHolds (job self) self.limit (shown_in self) self.written written [] }
         ensures { result ≡ with_written self.entry written }
     {
-        self.parts.waveform.push(written);
+        self.parts.push(written);
         self
     }
 
@@ -301,8 +308,42 @@ impl<'a> Wave<'a> {
         if self.parts.lines.push(line).is_err() {
             unreachable!()
         }
-        self.parts.waveform.push(written);
+        self.parts.push(written);
         Ok(self)
+    }
+}
+
+impl<'a> Parts<'a> {
+    /// Writes the next place, and goes on to the step of the one behind it.
+    fn push(&mut self, written: Written)
+        requires next { HasMore self.old.waveform }
+        requires agrees { ValuesAgree (view.job self.old.waveform) (self.old.waveform.written ++ written ∷ []) }
+        requires reads { self.old.replayed.step ≡
+            step_of (view.job self.old.waveform) (length self.old.waveform.written) }
+        ensures waveform { self.new.waveform ≡ and_one self.old.waveform written }
+        ensures history { self.new.replayed.history ≡ self.old.replayed.history }
+        ensures limit { self.new.limit ≡ self.old.limit }
+        ensures lines { self.new.lines ≡ self.old.lines }
+        ensures reads { HasMore self.new.waveform → self.new.replayed.step ≡
+            step_of (view.job self.new.waveform) (length self.new.waveform.written) }
+    {
+        self.waveform.push(written);
+        follow(&mut self.replayed, &self.waveform);
+    }
+}
+
+/// Goes on to the step of the next place, from that of the place before it.
+fn follow(replayed: &mut HistoryRow<'_>, waveform: &Waveform<'_>)
+    requires some { 0 < length waveform.now.written }
+    requires within { length waveform.now.written ≤ places_of (view.job waveform.now) }
+    requires before { replayed.old.step ≡ step_of (view.job waveform.now) (length waveform.now.written - 1) }
+    ensures history { replayed.new.history ≡ replayed.old.history }
+    ensures reads { HasMore waveform.now → replayed.new.step ≡
+        step_of (view.job waveform.now) (length waveform.now.written) }
+{
+    let more = waveform.count() < count_places(&waveform.circuit());
+    if more && replayed.step() < waveform.place_behind().step as usize {
+        replayed.next_step();
     }
 }
 

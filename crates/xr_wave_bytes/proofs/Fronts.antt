@@ -1,10 +1,11 @@
 -- Where the next place stands.
 use Rattle.std.proofs.Common.{◌≡◌, ℕ, ◌+◌, ◌*◌, ◌/◌, ◌%◌, ◌<◌, ◌≤◌, ◌^◌, sym, ap, ◌∙◌, arith}
 use Rattle.std.proofs.lemmas.Nat.{div-mul-add, mod-mul-add}
-use Rattle.std.proofs.Math.Nat.{div-le_self, zero-div, zero-mod}
+use Rattle.std.proofs.Math.Nat.{zero-div, zero-mod}
 use Rattle.xr_design.specs.Fits.{Fits, place_at}
 use Rattle.xr_design.specs.Job.{Job, places_of, step_of}
 use Rattle.xr_design.specs.declared.place.Place.{Place}
+use Rattle.xr_design.proofs.Numbers.{is_place_at}
 use Rattle.xr_design.proofs.Rules.{spot}
 use Rattle.xr_wave_bytes.specs.Front.{IsAt, IsFront, place_of_front}
 use Rattle.xr_wave_bytes.specs.declared.front.Front.{Front}
@@ -50,17 +51,17 @@ next_step j fits place front next within is step position full =
     }
 
 -- A step fits its number.
-pub small_step : (j : Job) → Fits j → (place : ℕ) (front : Front) → place < places_of j → IsAt j place front
-    → front.step < 2 ^ 27
-small_step j fits place front within is =
-    let up = div-le_self place j.width in
+pub small_step : (j : Job) → Fits j → j.moments * j.rounds ≤ 2 ^ 32 → (place : ℕ) (front : Front) → place < places_of j
+    → IsAt j place front → front.step < 2 ^ 32
+small_step j fits few place front within is =
+    let low = (is_place_at j place fits.ordering fits.all within).step in
     let same = is.step in
-    let few = fits.few_places in
-    omega (arith, up, same, few, within)
+    omega (arith, low, same, few)
 
-pub is_front : (j : Job) → Fits j → (place : ℕ) (front : Front) → place < places_of j → IsAt j place front → IsFront j front
-is_front j fits place front within is =
-    let small = small_step j fits place front within is in
+pub is_front : (j : Job) → Fits j → j.moments * j.rounds ≤ 2 ^ 32 → (place : ℕ) (front : Front) → place < places_of j
+    → IsAt j place front → IsFront j front
+is_front j fits few_steps place front within is =
+    let small = small_step j fits few_steps place front within is in
     let low = (spot j fits place within).position in
     let here = is.position in
     let all = fits.all in

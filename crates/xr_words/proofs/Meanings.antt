@@ -4,7 +4,7 @@ use Rattle.std.specs.Str.{bytes_eq}
 use Rattle.xr_words.specs.Forms.{IsCommand, IsNamed, IsNamedOnly, has_files, word_of}
 use Rattle.xr_line.specs.Line.{HasFiles, IsNumber, Item, Text, given, words_of_items}
 use Rattle.xr_line.specs.Read.{files_of, value_of}
-use Rattle.xr_words.specs.Words.{AreOutside, BlameValues, CheckValues, ExportValues, FixValues, Gives, GivesBlame, GivesCheck, GivesExport, GivesFix, GivesJob, GivesMake, GivesProve, GivesRepair, GivesReplay, GivesUpgrade, IsCount, IsForm, IsNumberTo, IsStart, JobValues, MakeValues, Means, MeansOnly, OfBlame, OfFix, OfCheck, OfExport, OfMake, OfProve, OfRepair, OfReplay, OfUpgrade, ProveValues, RepairValues, ReplayValues, UpgradeValues, Values, form_number, name_of, netlists_of, start_word, AuditValues, GivesAudit, OfAudit}
+use Rattle.xr_words.specs.Words.{AreOutside, BlameValues, CheckValues, ExportValues, FixValues, Gives, GivesBlame, GivesCheck, GivesExport, GivesFix, GivesJob, GivesMake, GivesOptions, GivesProve, GivesRepair, GivesReplay, GivesUpgrade, IsCount, IsForm, IsNumberTo, IsStart, JobValues, MakeValues, Means, MeansOnly, OfBlame, OfFix, OfCheck, OfExport, OfMake, OfProve, OfRepair, OfReplay, OfUpgrade, ProveValues, RepairValues, ReplayValues, UpgradeValues, Values, form_number, name_of, netlists_of, start_word, AuditValues, GivesAudit, OfAudit}
 use Rattle.xr_words.specs.declared.forms.Name.{Name}
 use Rattle.xr_words.specs.declared.forms.Name.TheVariants.{Blame, Check, Export, Fix, Make, Prove, Repair, Replay, Upgrade, Audit}
 use Rattle.xr_line.specs.declared.line.Line.{Line}
@@ -26,14 +26,17 @@ module _ (option other : Text → Option Text) (each : AreAlike option other) wh
   conflicts_by : (count : ℕ) → IsCount (option (codes "conflicts")) 1000 100000 count → IsCount (other (codes "conflicts")) 1000 100000 count
   conflicts_by count is = subst (λ (o : Option Text). IsCount o 1000 100000 count) (each (codes "conflicts") refl) is
 
-  job_by : (job : JobValues) → GivesJob option job → GivesJob other job
-  job_by job gives = record {
+  options_by : (job : JobValues) → GivesOptions option job → GivesOptions other job
+  options_by job gives = record {
     recording = text_by (codes "record") refl job.recording gives.recording;
     scope = text_by (codes "scope") refl job.scope gives.scope;
     top = text_by (codes "top") refl job.top gives.top;
     rounds = subst (λ (o : Option Text). IsCount o 4 16 job.rounds) (each (codes "rounds") refl) gives.rounds;
     start = subst (λ (o : Option Text). IsStart o job.start) (each (codes "start") refl) gives.start;
   }
+
+  job_by : (job : JobValues) → GivesJob option job → GivesJob other job
+  job_by job gives = record { options = options_by job gives.options; places = gives.places }
 
   pub gives_by : (v : Values) → Gives option v → Gives other v
   gives_by (OfRepair v) gives = record {
@@ -46,7 +49,8 @@ module _ (option other : Text → Option Text) (each : AreAlike option other) wh
     apart = gives.apart;
   }
   gives_by (OfReplay v) gives = record {
-    job = job_by v.job gives.job;
+    options = options_by v.job gives.options;
+    places = subst (λ (o : Option Text). IsCount o 134217728 1099511627776 v.job.places) (each (codes "places") refl) gives.places;
     code = text_by (codes "code") refl v.code gives.code;
     vcd = text_by (codes "vcd") refl v.vcd gives.vcd;
     apart = gives.apart;
@@ -129,14 +133,18 @@ one_form (Some text) a b first second = one_number_form text a b first second
 some_same : (a b : Text) (o : Option Text) → o ≡ Some a → o ≡ Some b → a ≡ b
 some_same a b o first second = let both : Some a ≡ Some b = sym first ∙ second in cc
 
-one_job : (option : Text → Option Text) (a b : JobValues) → GivesJob option a → GivesJob option b → a.netlists ≡ b.netlists → a ≡ b
-one_job option a b first second netlists =
+one_job_within : (option : Text → Option Text) (a b : JobValues) → GivesOptions option a → GivesOptions option b → a.places ≡ b.places → a.netlists ≡ b.netlists → a ≡ b
+one_job_within option a b first second places netlists =
     let recording = some_same a.recording b.recording (option (codes "record")) first.recording second.recording in
     let scope = some_same a.scope b.scope (option (codes "scope")) first.scope second.scope in
     let top = some_same a.top b.top (option (codes "top")) first.top second.top in
     let rounds = one_count (option (codes "rounds")) 4 16 a.rounds b.rounds first.rounds second.rounds in
     let start = one_start (option (codes "start")) a.start b.start first.start second.start in
-    λ i. record { recording = recording i; scope = scope i; top = top i; rounds = rounds i; start = start i; netlists = netlists i }
+    λ i. record { recording = recording i; scope = scope i; top = top i; rounds = rounds i; places = places i; start = start i; netlists = netlists i }
+
+one_job : (option : Text → Option Text) (a b : JobValues) → GivesJob option a → GivesJob option b → a.netlists ≡ b.netlists → a ≡ b
+one_job option a b first second netlists =
+    one_job_within option a b first.options second.options (first.places ∙ sym second.places) netlists
 
 one_repair : (option : Text → Option Text) (a b : RepairValues) → GivesRepair option a → GivesRepair option b → a.job.netlists ≡ b.job.netlists → a ≡ b
 one_repair option a b first second netlists =
@@ -150,7 +158,8 @@ one_repair option a b first second netlists =
 
 one_replay : (option : Text → Option Text) (a b : ReplayValues) → GivesReplay option a → GivesReplay option b → a.job.netlists ≡ b.job.netlists → a ≡ b
 one_replay option a b first second netlists =
-    let job = one_job option a.job b.job first.job second.job netlists in
+    let places = one_count (option (codes "places")) 134217728 1099511627776 a.job.places b.job.places first.places second.places in
+    let job = one_job_within option a.job b.job first.options second.options places netlists in
     let code = some_same a.code b.code (option (codes "code")) first.code second.code in
     let vcd = some_same a.vcd b.vcd (option (codes "vcd")) first.vcd second.vcd in
     λ i. record { job = job i; code = code i; vcd = vcd i }

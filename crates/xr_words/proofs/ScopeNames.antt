@@ -71,7 +71,7 @@ module _ (words : List Text) (items : List Item) (files : List Text) (is : IsCom
 
 -- So does the scope that words of `repair` name.
 pub scope_named : (words : List Text) (v : RepairValues) → Means words (OfRepair v) → AllByRecursion IsScopeName (pieces_of 46 v.job.scope)
-scope_named words v m = scope_fits words m.items v.job.netlists m.is v.job.scope m.gives.job.scope
+scope_named words v m = scope_fits words m.items v.job.netlists m.is v.job.scope m.gives.job.options.scope
 
 -- ---- sets
 

@@ -17,6 +17,9 @@ job rest = needs (codes "record") Reads ∷ needs (codes "scope") Scope ∷ need
 abbrev pub rounds : Plain
 rounds = takes (codes "rounds") (Number 1 16)
 
+abbrev pub places : Plain
+places = takes (codes "places") (Number 1 1099511627776)
+
 abbrev pub conflicts : Plain
 conflicts = takes (codes "conflicts") (Number 1 100000)
 
@@ -29,7 +32,7 @@ abbrev pub table_of : Name → List Plain
 table_of Repair =
     job (needs (codes "vcd") Writes ∷ needs (codes "code") Writes ∷ needs (codes "cert") Writes
     ∷ takes (codes "form") (Number 1 2) ∷ rounds ∷ conflicts ∷ start ∷ [])
-table_of Replay = job (needs (codes "code") Reads ∷ needs (codes "vcd") Writes ∷ rounds ∷ start ∷ [])
+table_of Replay = job (needs (codes "code") Reads ∷ needs (codes "vcd") Writes ∷ rounds ∷ places ∷ start ∷ [])
 table_of Check = job (needs (codes "cert") Reads ∷ rounds ∷ conflicts ∷ start ∷ [])
 table_of Make =
     needs (codes "number") (Number 0 18446744073709551615) ∷ needs (codes "gates") (Number 0 100000)

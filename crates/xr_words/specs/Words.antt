@@ -1,7 +1,7 @@
 -- The set of command lines, and what each means.
 -- `repair --record R --scope S --top T --vcd V --code C --cert X [--form N] [--rounds N] [--conflicts N] [--start W]
 -- FILE..`
--- `replay --record R --scope S --top T --code C --vcd V [--rounds N] [--start W] FILE..`
+-- `replay --record R --scope S --top T --code C --vcd V [--rounds N] [--places N] [--start W] FILE..`
 -- `check --record R --scope S --top T --cert X [--rounds N] [--conflicts N] [--start W] FILE..`
 -- `make --number N --gates N --netlist F --record R`
 -- `export --to PREFIX --record R --scope S --top T [--rounds N] [--conflicts N] [--start W] FILE..`
@@ -74,6 +74,7 @@ pub record JobValues : Type 0 where
   pub scope : Text
   pub top : Text
   pub rounds : ℕ
+  pub places : ℕ
   pub start : Start
   pub netlists : List Text
 
@@ -169,12 +170,17 @@ netlists_of (OfUpgrade v) = v.job.netlists
 -- ---- the set
 
 -- These are the values of the options that every command with a job has.
-pub record GivesJob (option : Text → Option Text) (job : JobValues) : Type 0 where
+pub record GivesOptions (option : Text → Option Text) (job : JobValues) : Type 0 where
   pub recording : option (codes "record") ≡ Some job.recording
   pub scope : option (codes "scope") ≡ Some job.scope
   pub top : option (codes "top") ≡ Some job.top
   pub rounds : IsCount (option (codes "rounds")) 4 16 job.rounds
   pub start : IsStart (option (codes "start")) job.start
+
+-- So they are, and the job is one that is walked over: it has at most 2^27 places.
+pub record GivesJob (option : Text → Option Text) (job : JobValues) : Type 0 where
+  pub options : GivesOptions option job
+  pub places : job.places ≡ 134217728
 
 -- These are those of `repair`, and each file that is written has a name of its own.
 pub record GivesRepair (option : Text → Option Text) (v : RepairValues) : Type 0 where
@@ -186,9 +192,11 @@ pub record GivesRepair (option : Text → Option Text) (v : RepairValues) : Type
   pub conflicts : IsCount (option (codes "conflicts")) 1000 100000 v.conflicts
   pub apart : AreApart (v.vcd ∷ v.code ∷ v.cert ∷ []) (v.job.recording ∷ v.job.netlists)
 
--- These are those of `replay`, and the file that is written has another name than each that is read.
+-- These are those of `replay`, which names the most places of its job, and the file that is written has another name
+-- than each that is read.
 pub record GivesReplay (option : Text → Option Text) (v : ReplayValues) : Type 0 where
-  pub job : GivesJob option v.job
+  pub options : GivesOptions option v.job
+  pub places : IsCount (option (codes "places")) 134217728 1099511627776 v.job.places
   pub code : option (codes "code") ≡ Some v.code
   pub vcd : option (codes "vcd") ≡ Some v.vcd
   pub apart : AreApart (v.vcd ∷ []) (v.job.recording ∷ v.code ∷ v.job.netlists)
@@ -278,6 +286,7 @@ job_values words = record {
   scope = words.scope.now;
   top = words.top.now;
   rounds = words.rounds;
+  places = words.places;
   start = words.start;
   netlists = map string_bytes words.netlists.now;
 }

@@ -46,6 +46,12 @@ const ROUNDS: Opt<'static> = Opt {
     kind: Kind::Number(1, 16),
 };
 
+const PLACES: Opt<'static> = Opt {
+    name: "places",
+    required: false,
+    kind: Kind::Number(1, 1_099_511_627_776),
+};
+
 const CONFLICTS: Opt<'static> = Opt {
     name: "conflicts",
     required: false,
@@ -87,7 +93,7 @@ static REPAIR: [Opt<'static>; 10] = [
     START,
 ];
 
-static REPLAY: [Opt<'static>; 7] = [
+static REPLAY: [Opt<'static>; 8] = [
     RECORD,
     SCOPE,
     TOP,
@@ -102,6 +108,7 @@ static REPLAY: [Opt<'static>; 7] = [
         kind: Kind::Writes,
     },
     ROUNDS,
+    PLACES,
     START,
 ];
 

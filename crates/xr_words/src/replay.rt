@@ -5,7 +5,8 @@ ghost use Rattle.xr_line.specs.Read.{value_of};
 ghost use Rattle.xr_line.specs.Apart.{AreApart};
 ghost use Rattle.xr_words.specs.Words.{GivesReplay, ReplayValues, replay_values};
 
-use crate::job::job_of;
+use crate::job::job_within;
+use crate::typed::places_of;
 use crate::words::ReplayWords;
 use xr_line::{Line, are_apart};
 
@@ -17,8 +18,9 @@ pub fn replay_of<'a>(line: &Line<'a>, files: &'a [String]) -> Option<ReplayWords
     ensures none { IfNone result ((v : ReplayValues) → v.job.netlists ≡ map string_bytes files.now
         → GivesReplay (value_of line.now) v → ⊥) }
 {
+    let places = places_of(line)?;
     let words = ReplayWords {
-        job: job_of(line, files)?,
+        job: job_within(line, files, places)?,
         code: line.get("code")?,
         vcd: line.get("vcd")?,
     };

@@ -6,6 +6,7 @@ ghost use Rattle.xr_words.specs.declared.words.Form.{Form};
 ghost use Rattle.xr_words.specs.declared.words.Start.{Start};
 ghost use Rattle.xr_words.specs.Words.{IsCount, IsForm, IsStart};
 
+use crate::job::PLACES;
 use crate::words::{Form, Start};
 use xr_line::{Line, number_in};
 
@@ -13,6 +14,9 @@ use xr_line::{Line, number_in};
 const MOST_CONFLICTS: u32 = 100_000;
 
 const CONFLICTS: u32 = 1_000;
+
+/// The most places that the words of a replay may name, 2^40.
+const MOST_PLACES: u64 = 1_099_511_627_776;
 
 /// The clauses of a search that a line names.
 pub fn conflicts_of(line: &Line<'_>) -> Option<u32>
@@ -24,11 +28,35 @@ pub fn conflicts_of(line: &Line<'_>) -> Option<u32>
     count_of(line.get("conflicts"), CONFLICTS, MOST_CONFLICTS)
 }
 
+/// The most places of a replay that a line names.
+pub fn places_of(line: &Line<'_>) -> Option<u64>
+    ensures count { IfSome result (IsCount (value_of line.now (codes "places")) 134217728 1099511627776) }
+    ensures least { IfSome result (λ count. 1 ≤ count) }
+    ensures most { IfSome result (λ count. count ≤ 1099511627776) }
+    ensures none { IfNone result ((count : ℕ)
+        → IsCount (value_of line.now (codes "places")) 134217728 1099511627776 count → ⊥) }
+{
+    long_count_of(line.get("places"), PLACES, MOST_PLACES)
+}
+
 /// The number of an option that may be absent, from 1 to `most`.
 pub fn count_of(text: Option<&str>, absent: u32, most: u32) -> Option<u32>
     requires least { 1 ≤ absent }
     requires most { absent ≤ most }
     ensures count { IfSome result (λ count. IsCount (option_map (λ s. s.now) text.entry) absent most count) }
+    ensures least { IfSome result (λ count. 1 ≤ count) }
+    ensures most { IfSome result (λ count. count ≤ most) }
+    ensures none { IfNone result ((count : ℕ) → IsCount (option_map (λ s. s.now) text.entry) absent most count → ⊥) }
+{
+    let count = long_count_of(text, u64::from(absent), u64::from(most))?;
+    Some(count as u32)
+}
+
+/// The same in 64 bits.
+fn long_count_of(text: Option<&str>, absent: u64, most: u64) -> Option<u64>
+    requires least { 1 ≤ absent }
+    requires most { absent ≤ most }
+    ensures count { IfSome result (IsCount (option_map (λ s. s.now) text.entry) absent most) }
     ensures least { IfSome result (λ count. 1 ≤ count) }
     ensures most { IfSome result (λ count. count ≤ most) }
     ensures none { IfNone result ((count : ℕ) → IsCount (option_map (λ s. s.now) text.entry) absent most count → ⊥) }
@@ -39,15 +67,15 @@ pub fn count_of(text: Option<&str>, absent: u32, most: u32) -> Option<u32>
     }
 }
 
-fn count_in(text: &str, most: u32) -> Option<u32>
+fn count_in(text: &str, most: u64) -> Option<u64>
     ensures count { IfSome result (λ count. IsCount (Some text.now) 1 most count) }
     ensures none { IfNone result ((count : ℕ) → IsCount (Some text.now) 1 most count → ⊥) }
 {
     let number = number_in(text)?;
-    if number < 1 || u64::from(most) < number {
+    if number < 1 || most < number {
         return None;
     }
-    Some(number as u32)
+    Some(number)
 }
 
 /// The start that an option names, cold where it is absent.

@@ -47,12 +47,16 @@ pub struct JobWords<'a> {
     pub top: &'a str,
     /// The rounds of a moment, 1 to 16.
     pub rounds: u32,
+    /// The most places: nets by moments by rounds, 1 to 2^40.
+    pub places: u64,
     pub start: Start,
     /// The files of the netlist, one or more.
     pub netlists: &'a [String],
     ghost some_files: { 0 < length netlists.now },
     ghost some_rounds: { 1 ≤ rounds },
     ghost few_rounds: { rounds ≤ 16 },
+    ghost some_places: { 1 ≤ places },
+    ghost few_places: { places ≤ 1099511627776 },
 }
 
 /// The words of `repair`.
@@ -69,6 +73,7 @@ pub struct RepairWords<'a> {
     pub form: Form,
     /// The clauses of a search, 1 to 100,000.
     pub conflicts: u32,
+    ghost few_places: { job.places ≤ 134217728 },
     ghost some_clauses: { 1 ≤ conflicts },
     ghost few_clauses: { conflicts ≤ 100000 },
     ghost code_apart: { code.now ≢ vcd.now },
@@ -94,6 +99,7 @@ pub struct CheckWords<'a> {
     pub cert: &'a str,
     /// The clauses of a log that leaves a place undecided, 1 to 100,000.
     pub conflicts: u32,
+    ghost few_places: { job.places ≤ 134217728 },
     ghost some_clauses: { 1 ≤ conflicts },
     ghost few_clauses: { conflicts ≤ 100000 },
 }
@@ -121,6 +127,7 @@ pub struct ExportWords<'a> {
     pub prefix: &'a str,
     /// The clauses of a search, 1 to 100,000.
     pub conflicts: u32,
+    ghost few_places: { job.places ≤ 134217728 },
     ghost some_clauses: { 1 ≤ conflicts },
     ghost few_clauses: { conflicts ≤ 100000 },
 }
@@ -140,6 +147,7 @@ pub struct AuditWords<'a> {
     pub job: JobWords<'a>,
     /// The clauses of a search, 1 to 100,000.
     pub conflicts: u32,
+    ghost few_places: { job.places ≤ 134217728 },
     ghost some_clauses: { 1 ≤ conflicts },
     ghost few_clauses: { conflicts ≤ 100000 },
 }
@@ -150,6 +158,7 @@ pub struct BlameWords<'a> {
     pub job: JobWords<'a>,
     /// The clauses of a search, 1 to 100,000.
     pub conflicts: u32,
+    ghost few_places: { job.places ≤ 134217728 },
     ghost some_clauses: { 1 ≤ conflicts },
     ghost few_clauses: { conflicts ≤ 100000 },
 }
@@ -162,6 +171,7 @@ pub struct FixWords<'a> {
     pub sets: &'a str,
     /// The clauses of a search, 1 to 100,000.
     pub conflicts: u32,
+    ghost few_places: { job.places ≤ 134217728 },
     ghost some_clauses: { 1 ≤ conflicts },
     ghost few_clauses: { conflicts ≤ 100000 },
 }
@@ -176,6 +186,7 @@ pub struct UpgradeWords<'a> {
     pub to: &'a str,
     /// The clauses of a search, and of a log that leaves a place undecided, 1 to 100,000.
     pub conflicts: u32,
+    ghost few_places: { job.places ≤ 134217728 },
     ghost some_clauses: { 1 ≤ conflicts },
     ghost few_clauses: { conflicts ≤ 100000 },
 }

@@ -1,4 +1,4 @@
-//! A history of two nets.
+//! A history of two nets as it is written.
 
 ghost use Rattle.std.specs.Prelude.{◌≡◌, IfOk, length};
 
@@ -8,7 +8,7 @@ use std::process::Abort;
 use std::test::Fail;
 use xr_base::Items;
 use xr_cell::Value;
-use xr_design::{Design, Driver, History, Place, Stim};
+use xr_design::{Design, Driver, HistoryWriter, Place, Stim};
 
 fn two_nets(alloc: Global) -> Result<Design, AllocError>
     ensures { IfOk result (λ design. length design.nets ≡ 2) }
@@ -22,25 +22,27 @@ fn two_nets(alloc: Global) -> Result<Design, AllocError>
     })
 }
 
-/// A place has what was set last, and another keeps what it has.
-fn check_set(rt: &impl Abort, history: &mut History)
-    requires nets { history.old.nets ≡ 2 }
-    requires places { length history.old.places ≡ 8 }
+/// A place of the step under way has what was set last, and another keeps what it has.
+fn check_set(rt: &impl Abort, writer: &mut HistoryWriter) -> Result<(), Fail>
+    requires step { writer.old.step ≡ 1 }
+    requires nets { writer.old.history.nets ≡ 2 }
+    requires places { length writer.old.history.places ≡ 8 }
 {
     let set = Place { step: 1, net: 0 };
     let other = Place { step: 3, net: 1 };
-    assert_eq!(rt; history.shown(set), Value::X, "blank");
-    assert_eq!(rt; history.kept(other), Value::X, "blank");
+    assert_eq!(rt; writer.shown(set), Value::X, "blank");
+    assert_eq!(rt; writer.kept(other), Value::X, "blank");
     for (shown, kept) in [
         (Value::Zero, Value::One),
         (Value::Z, Value::X),
         (Value::One, Value::Z),
     ] {
-        history.set(set, shown, kept);
-        assert_eq!(rt; history.shown(set), shown, "{shown:?} and {kept:?}");
-        assert_eq!(rt; history.kept(set), kept, "{shown:?} and {kept:?}");
-        assert_eq!(rt; history.shown(other), Value::X, "another place");
+        writer.set(set, shown, kept)?;
+        assert_eq!(rt; writer.shown(set), shown, "{shown:?} and {kept:?}");
+        assert_eq!(rt; writer.kept(set), kept, "{shown:?} and {kept:?}");
+        assert_eq!(rt; writer.shown(other), Value::X, "another place");
     }
+    Ok(())
 }
 
 fn check_blank(rt: &impl Abort, alloc: Global, design: &Design, stim: &Stim) -> Result<(), Fail>
@@ -48,9 +50,9 @@ fn check_blank(rt: &impl Abort, alloc: Global, design: &Design, stim: &Stim) -> 
     requires times { length stim.now.times ≡ 2 }
     requires rounds { stim.now.rounds ≡ 2 }
 {
-    let mut history = History::blank(alloc, design, stim)?;
-    check_set(rt, &mut history);
-    Ok(())
+    let mut writer = HistoryWriter::blank(alloc, design, stim)?;
+    writer.next_step()?;
+    check_set(rt, &mut writer)
 }
 
 #[test]

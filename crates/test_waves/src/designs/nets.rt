@@ -6,6 +6,7 @@ use std::alloc::{AllocError, Global};
 use std::test::Fail;
 use xr_base::{Items, Memory};
 use xr_design::{Design, Driver, Name, NamePart, Net, Order, StartRule, Stim};
+use xr_inputs::InputsWriter;
 
 pub fn part(alloc: Global, text: &[u8], escaped: bool) -> Result<NamePart, AllocError> {
     Ok(NamePart {
@@ -60,13 +61,13 @@ pub fn two_moments(alloc: Global) -> Result<Stim, Fail>
     ensures rounds { IfOk result (λ stim. stim.rounds ≡ 2) }
 {
     let times = [0, 10].to_vec(alloc)?;
-    let mut inputs = Vec::new(alloc);
-    inputs.push(Items::from_vec(Vec::new(alloc)))?;
-    inputs.push(Items::from_vec(Vec::new(alloc)))?;
+    let mut inputs = InputsWriter::new(alloc, 0)?;
+    inputs.next_moment()?;
+    let inputs = inputs.finish(alloc)?;
     Ok(Stim {
         times: Items::from_vec(times),
         rounds: 2,
-        inputs: Items::from_vec(inputs),
+        inputs,
         start: StartRule::Cold,
         starts: Items::from_vec(Vec::new(alloc)),
     })

@@ -10,7 +10,7 @@ use std::process::Abort;
 use std::test::Fail;
 use xr_base::Items;
 use xr_cell::Value;
-use xr_design::{Bytes, Design, History, Place, Stim};
+use xr_design::{Bytes, Design, HistoryWriter, Place, Stim};
 use xr_match::{Binding, Bound};
 use xr_out::vcd_text;
 
@@ -60,8 +60,12 @@ fn check_text(
     requires times { length stim.now.times ≡ 2 }
     requires rounds { stim.now.rounds ≡ 2 }
 {
-    let mut history = History::blank(alloc, design, stim)?;
-    history.set(Place { step: 3, net: 0 }, Value::One, Value::X);
+    let mut writer = HistoryWriter::blank(alloc, design, stim)?;
+    writer.next_step()?;
+    writer.next_step()?;
+    writer.next_step()?;
+    writer.set(Place { step: 3, net: 0 }, Value::One, Value::X)?;
+    let history = writer.finish(alloc)?;
     let text = vcd_text(alloc, design, binding, stim, &history)?;
     let want = b"$version xrepair $end\n$timescale 1ns $end\n$scope module top $end\n\
         $var wire 1 ! \\a-b $end\n$upscope $end\n$enddefinitions $end\n\

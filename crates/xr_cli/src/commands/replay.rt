@@ -4,7 +4,7 @@
 ghost use Rattle.xr_words.specs.Words.{replay_values};
 ghost use Rattle.xr_run.specs.Prepared.{Prepared, answer_of};
 ghost use Rattle.xr_cli.specs.Phases.{coded_phases, replay_phases};
-ghost use Rattle.xr_phases.specs.Repair.{FitsParts};
+ghost use Rattle.xr_phases.specs.Repair.{FitsPartsWithin};
 
 use crate::replayed::replayed;
 use std::alloc::Global;
@@ -42,7 +42,7 @@ fn replay_job<'a, S: Shelf>(
     words: &ReplayWords<'a>,
     job: &Parts,
 ) -> Result<Ready<'a>, Refusal<Refused>>
-    requires { FitsParts job.now }
+    requires { FitsPartsWithin words.now.job.places job.now }
     ensures { Prepared S.told (coded_phases (replay_values words.now) job.now) answer_of
         (S.view shelf.old) (S.view shelf.new) result }
 {

@@ -6,8 +6,8 @@ use Rattle.xr_class.proofs.arguments.ascending.Given as goal
 abbrev pub invariant-rest : goal.invariant-rest
 invariant-rest l = record {
   listed : l.rising ≡ places_where (among l.places) l.bound;
-  low : l.bound ≤ 2 ^ 27;
+  low : l.bound ≤ 2 ^ 40;
 }
 
 abbrev pub decreases-rest : goal.decreases-rest
-decreases-rest l = 2 ^ 27 - l.bound
+decreases-rest l = 2 ^ 40 - l.bound

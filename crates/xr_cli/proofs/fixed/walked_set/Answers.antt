@@ -7,7 +7,7 @@ use Rattle.xr_words.specs.Words.{fix_values}
 use Rattle.xr_phases.specs.Phases.{itself, walk_cause}
 use Rattle.xr_phases.specs.Repair.{ReplayWalkComes, Walked}
 use Rattle.xr_cli.specs.Phases.{fix_answer}
-use Rattle.xr_cli.proofs.Restarts.{are_beside, bound_there, set_fits}
+use Rattle.xr_cli.proofs.Restarts.{are_beside, bound_there, set_few, set_fits}
 use Rattle.xr_cli.proofs.fixed.walked_set.Goals as goal
 
 pub replay_of-requires : goal.replay_of-requires
@@ -19,6 +19,11 @@ pub replay_wave-requires-clause-fits : goal.replay_wave-requires-clause-fits
 replay_wave-requires-clause-fits g c =
     let set = c.args.set.now in
     set_fits set.job.now.netlist set.job.now.recorded set.stim.now c.requires.set.fits c.requires.set.fits_stim c.requires.set.others
+
+pub replay_wave-requires-clause-few : goal.replay_wave-requires-clause-few
+replay_wave-requires-clause-few g c =
+    let set = c.args.set.now in
+    set_few set.job.now.netlist set.job.now.recorded set.stim.now c.requires.set.fits c.requires.set.others
 
 pub listed-requires-clause-waves : goal.listed-requires-clause-waves
 listed-requires-clause-waves g c =

@@ -15,8 +15,8 @@ pub returns-clause-prepared : goal.returns-clause-prepared
 returns-clause-prepared g c =
     let n = c.args.netlist in
     let text = c.args.texts.recording.items in
-    let judged = subst (λ (l : List ℕ). Judged (RecordingComes l n.design (scope_of made_job) made_job.rounds (rule_of made_job.start)) recording_cause itself
+    let judged = subst (λ (l : List ℕ). Judged (RecordingComes l n.design (scope_of made_job) made_job.rounds made_job.places (rule_of made_job.start)) recording_cause itself
     (Ok c.in_ok-recorded.recorded)) c.as_slice.ensures.value c.in_ok-recorded.ensures.judged in
-    judged_then (RecordingComes text n.design (scope_of made_job) made_job.rounds (rule_of made_job.start)) recording_cause
+    judged_then (RecordingComes text n.design (scope_of made_job) made_job.rounds made_job.places (rule_of made_job.start)) recording_cause
     (λ (r : Recorded). repaired_made (make_values c.args.texts.words) text n r) itself answer_of
     c.in_ok-recorded.recorded c.repaired.result judged c.repaired.ensures.prepared

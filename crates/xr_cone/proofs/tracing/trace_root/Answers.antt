@@ -44,10 +44,9 @@ pub place_body-requires-clause-few : goal.place_body-requires-clause-few
 place_body-requires-clause-few c =
     let j = job c.args.wave.now in
     let known = certain c.args.wave.now.written in
-    let fits : Fits j = subst Fits c.circuit-circuit.ensures.job c.circuit-circuit.ensures.fits.fits_job in
     let next = made_next j known c.args.root c.rest.places.items c.rest.rest.items c.pop.new.self.items c.in-Some.place
     c.rest.nodes.items c.rest.invariant.made c.in-Some.ensures.items in
-    rw c.as_slice.ensures.value (next_few j fits known c.args.root c.rest.places.items c.in-Some.place
+    rw c.as_slice.ensures.value (next_few j c.circuit-circuit.ensures.wave.few known c.args.root c.rest.places.items c.in-Some.place
     c.pop.new.self.items c.requires.reach.within next)
 
 pub place_body-requires-clause-all : goal.place_body-requires-clause-all

@@ -1,7 +1,7 @@
 -- The replay and its first fault.
 use Rattle.std.proofs.Common.{refl}
 use Rattle.xr_job.specs.Compared.{job_for}
-use Rattle.xr_job.proofs.Comparing.{answer_refused, circuit_fits, is_there, unforced}
+use Rattle.xr_job.proofs.Comparing.{answer_agrees, answer_refused, circuit_fits, is_there, unforced}
 use Rattle.xr_job.proofs.compare.replay_and_compare.Goals as goal
 
 pub replay-requires-clause-fits : goal.replay-requires-clause-fits
@@ -13,13 +13,17 @@ compared-requires-clause-history c = unforced (job_for c.args.netlist.now c.args
 pub returns-in-Ok-clause-replay : goal.returns-in-Ok-clause-replay
 returns-in-Ok-clause-replay c = unforced (job_for c.args.netlist.now c.args.recorded.now) _ _ c.empty-forces.ensures c.in_ok-history.ensures
 
-pub returns-in-Ok-clause-agrees : goal.returns-in-Ok-clause-agrees
-returns-in-Ok-clause-agrees c = c.in-Ok.ensures.agrees.0 refl
+pub returns-in-Ok-clause-exact : goal.returns-in-Ok-clause-exact
+returns-in-Ok-clause-exact c =
+    answer_agrees c.args.netlist.now c.args.recorded.now c.compared.result _ c.in-Ok.is c.compared.ensures.exact c.in_ok-history.history _ refl
 
 pub report_difference-requires-clause-there : goal.report_difference-requires-clause-there
-report_difference-requires-clause-there c = is_there c.args.netlist.now c.args.recorded.now c.requires.recorded c.in-Err.differ c.in-Err.ensures.differs
+report_difference-requires-clause-there c =
+    let first = rw c.in-Err-Differs.field-0-is at c.in-Err-Differs.ensures.differs in
+    is_there c.args.netlist.now c.args.recorded.now c.requires.recorded c.in-Err-Differs.differ first
 
-pub returns-clause-exact : goal.returns-clause-exact
-returns-clause-exact c =
-    answer_refused c.args.netlist.now c.args.recorded.now c.in-Err.differ c.in_ok-report_difference-in-Err.field-0 c.compared.result c.in-Err.is
-    c.compared.ensures.agrees.1 c.compared.ensures.exact c.in_ok-report_difference-in-Err.ensures _ refl
+pub returns-in-Err-Differs-clause-exact : goal.returns-in-Err-Differs-clause-exact
+returns-in-Err-Differs-clause-exact c =
+    let is = rw c.in-Err-Differs.field-0-is at c.in-Err-Differs.is in
+    answer_refused c.args.netlist.now c.args.recorded.now c.in-Err-Differs.differ c.in_ok-report_difference-in-Err-Differs.field-0 c.compared.result is
+    c.compared.ensures.faultless c.compared.ensures.exact c.in_ok-report_difference-in-Err-Differs.ensures _ refl

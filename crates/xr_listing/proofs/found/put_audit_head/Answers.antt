@@ -10,7 +10,7 @@ use Rattle.xr_listing.proofs.found.put_audit_head.Goals as goal
 pub returns : goal.returns
 returns c =
     let wave = c.args.wave.now in
-    let told = c.counts_of-undecided.ensures.counts in
+    let told = c.in_ok-undecided.ensures.counts in
     on_ok_weaker c.put.result (λ last.
     five_put c.args.text.now.items c.put_counted.new.text.items c.put_counted-2.new.text.items c.put_counted-3.new.text.items
     c.put_counted-4.new.text.items c.put.new.text.items (counted_text (codes "audit places ") _)

@@ -1,51 +1,76 @@
 -- One moment more.
-use Rattle.std.proofs.Common.{◌≡◌, ℕ, List, [], ◌∷◌, ◌++◌, length, get_or, take, drop, All, sym, ap, subst, ◌∙◌, arith, length-append}
+use Rattle.std.proofs.Common.{◌≡◌, ℕ, List, Option, [], ◌∷◌, ◌<◌, length, All, sym, ap, subst, refl, ◌∙◌, arith}
+use Rattle.std.proofs.lemmas.List.{length-replicate}
 use Rattle.xr_cell.specs.declared.value.Value.{Value}
 use Rattle.xr_cell.specs.declared.value.Value.TheVariants.{X}
+use Rattle.xr_design.specs.declared.design.Design.{Design}
+use Rattle.xr_design.specs.declared.design.Net.{Net}
+use Rattle.xr_inputs.specs.Rows.{WrittenRows, all_rows}
 use Rattle.xr_match.specs.StimOf as spec
-use Rattle.xr_vcd.specs.Recording.{Recording}
+use Rattle.xr_match.specs.declared.inputs.Holder.{Holder}
 use Rattle.xr_match.specs.declared.stimulus.Held.{Held}
-use Rattle.xr_match.proofs.StimLemmas.{row_is, others_stay, inputs_fit, each_more}
-use Rattle.xr_match.proofs.Written.{written}
+use Rattle.xr_match.proofs.StimLemmas.{blank_others, inputs_fit, many_more, others_set, rows_more}
 use Rattle.xr_match.proofs.stimulus.rows_of.Goals as goal
+use Rattle.xr_vcd.specs.Recording.{Recording}
+
+fits_row : (d : Design) (r seen : Recording) (holders : List (Option Holder)) (inputs : List Held) (row : List Value) → spec.AreHolders r holders → length holders ≡ length d.nets → inputs ≡ spec.inputs_of d holders
+    → length row ≡ length d.nets → seen ≡ r → All (spec.FitsHolder seen (length row)) inputs
+fits_row d r seen holders inputs row held many is long same =
+    subst (λ (s : Recording). All (spec.FitsHolder s (length row)) inputs) (sym same)
+    (subst (λ (l : List Held). All (spec.FitsHolder r (length row)) l) (sym is)
+    (inputs_fit d r holders (length row) (length d.nets) held (omega (arith, many)) (omega (arith, long))))
 
 pub set_inputs-requires-clause-fits : goal.set_inputs-requires-clause-fits
 set_inputs-requires-clause-fits c =
+    let writer = c.in_ok-writer.writer in
+    let long : length writer.row ≡ length c.args.design.now.nets = ap (λ (w : WrittenRows). length w.row) c.in_ok-writer.ensures ∙ length-replicate (length c.as_slice.result.now) X ∙ ap (λ (l : List Net). length l) c.as_slice.ensures in
+    fits_row c.args.design.now c.args.recording.now c.in_ok-cursor.cursor c.args.holders.now c.as_slice-2.result.now writer.row c.requires.held c.requires.long (c.as_slice-2.ensures.value ∙ c.in_ok-inputs.ensures) long c.in_ok-cursor.ensures
+
+pub set_inputs-requires-in-moments-clause-fits : goal.set_inputs-requires-in-moments-clause-fits
+set_inputs-requires-in-moments-clause-fits c =
+    let row = c.next_moment.new.self.row in
+    let long : length row ≡ length c.args.design.now.nets = ap (λ (w : WrittenRows). length w.row) c.in_ok-next_moment.ensures.ok ∙ c.moments.invariant.long in
+    fits_row c.args.design.now c.args.recording.now c.moments.cursor c.args.holders.now c.as_slice-in-moments.result.now row c.requires.held c.requires.long (c.as_slice-in-moments.ensures.value ∙ c.in_ok-inputs.ensures) long c.moments.invariant.cursor
+
+pub moments-init : goal.moments-init
+moments-init c =
     let d = c.args.design.now in
-    let n = length d.nets in
-    let row = c.as_mut_slice.result.now in
-    let long : length row ≡ n = ap (λ (l : List Value). length l) c.as_mut_slice.ensures.value ∙ c.moments.invariant.long in
-    let is = c.as_slice-in-moments.ensures.value ∙ c.in_ok-inputs.ensures in
-    let many = c.requires.long in
-    let fits = subst (λ (l : List Held). All (spec.FitsHolder c.args.recording.now (length row)) l) (sym is)
-    (inputs_fit d c.args.recording.now c.args.holders.now (length row) n c.requires.held (omega (arith, many)) (omega (arith, long))) in
-    subst (λ (r : Recording). All (spec.FitsHolder r (length row)) c.as_slice-in-moments.result.now) (sym c.moments.invariant.cursor) fits
+    let r = c.args.recording.now in
+    let holders = c.args.holders.now in
+    let writer = c.in_ok-writer.writer in
+    let new = c.set_inputs.new.writer in
+    let blank = c.in_ok-writer.ensures in
+    let is = c.as_slice-2.ensures.value ∙ c.in_ok-inputs.ensures in
+    let others = blank_others d r holders writer.row (length c.as_slice.result.now) (ap (λ (w : WrittenRows). w.row) blank) in
+    let before : new.before ≡ [] = c.in_ok-set_inputs.ensures.before ∙ ap (λ (w : WrittenRows). w.before) blank in
+    let long : length new.row ≡ length d.nets = c.in_ok-set_inputs.ensures.long ∙ ap (λ (w : WrittenRows). length w.row) blank ∙ length-replicate (length c.as_slice.result.now) X ∙ ap (λ (l : List Net). length l) c.as_slice.ensures in
+    let set_row = c.in_ok-set_inputs.ensures.set in
+    record {
+      cursor = c.set_inputs.ensures.same ∙ c.in_ok-cursor.ensures;
+      long = long;
+      others = others_set d r c.in_ok-cursor.cursor holders 0 c.as_slice-2.result.now writer.row [] new c.in_ok-cursor.ensures is set_row others before;
+      as_many = many_more [] new 0 before refl;
+      rows = rows_more d r c.in_ok-cursor.cursor holders 0 c.as_slice-2.result.now writer.row [] new c.in_ok-cursor.ensures is set_row others before long refl (λ k within. absurd (omega (arith, within)));
+    }
 
 pub moments-preserved : goal.moments-preserved
 moments-preserved c =
     let d = c.args.design.now in
     let r = c.args.recording.now in
     let holders = c.args.holders.now in
-    let n = length d.nets in
-    let m = c.moments.moment in
-    let old = c.moments.row.items in
-    let new = c.set_inputs.new.row in
-    let rows = c.moments.rows.items in
-    let row = c.from_vec.result in
-    let seen : c.as_mut_slice.result.now ≡ old = c.as_mut_slice.ensures.value in
-    let many : length new ≡ length old = c.set_inputs.ensures.long ∙ ap (λ (l : List Value). length l) seen in
-    let whole : take c.moments.row.len (new ++ drop (length new) old) ≡ new = written old new c.moments.row.len c.moments.row.ok.0 many in
-    let inputs : c.as_slice-in-moments.result.now ≡ spec.inputs_below d holders n = c.as_slice-in-moments.ensures.value ∙ c.in_ok-inputs.ensures in
-    let set : (net : ℕ) → get_or new net X ≡ spec.set_from r m (spec.inputs_below d holders n) net (get_or old net X) =
-    λ net. c.set_inputs.ensures.set net ∙ ap (λ (q : Recording). spec.set_from q m c.as_slice-in-moments.result.now net (get_or c.as_mut_slice.result.now net X)) c.moments.invariant.cursor ∙ ap (λ (l : List Held). spec.set_from r m l net (get_or c.as_mut_slice.result.now net X)) inputs ∙ ap (λ (l : List Value). spec.set_from r m (spec.inputs_below d holders n) net (get_or l net X)) seen in
-    let others = c.moments.invariant.others in
-    let copy : row ≡ new = c.from_vec.ensures ∙ c.in_ok-values.ensures.items ∙ c.deref.ensures.value ∙ whole in
-    let pushed : c.push.new.self.items ≡ rows ++ row ∷ [] = c.in_ok-push.ensures.items in
-    let is : spec.IsRow d (spec.value_by d r holders m) row = subst (λ (l : List Value). spec.IsRow d (spec.value_by d r holders m) l) (sym copy) (row_is d r holders m old new set others (many ∙ c.moments.invariant.long)) in
+    let old = c.moments.writer in
+    let writer = c.next_moment.new.self in
+    let new = c.set_inputs-in-moments.new.writer in
+    let next = c.in_ok-next_moment.ensures.ok in
+    let is = c.as_slice-in-moments.ensures.value ∙ c.in_ok-inputs.ensures in
+    let others = subst (λ (w : WrittenRows). spec.HasOthers d r holders w.row) (sym next) c.moments.invariant.others in
+    let before : new.before ≡ all_rows old = c.in_ok-set_inputs-2.ensures.before ∙ ap (λ (w : WrittenRows). w.before) next in
+    let long : length new.row ≡ length d.nets = c.in_ok-set_inputs-2.ensures.long ∙ ap (λ (w : WrittenRows). length w.row) next ∙ c.moments.invariant.long in
+    let set_row = c.in_ok-set_inputs-2.ensures.set in
     record {
-      cursor = c.set_inputs.ensures.same ∙ c.moments.invariant.cursor;
-      long = ap (λ (l : List Value). length l) whole ∙ many ∙ c.moments.invariant.long;
-      others = subst (λ (l : List Value). spec.HasOthers d r holders l) (sym whole) (others_stay d r holders m old new set others);
-      as_many = (let e = ap (λ (l : List (List Value)). length l) pushed in let f = length-append rows (row ∷ []) in let g = c.moments.invariant.as_many in omega (arith, e, f, g));
-      rows = each_more (λ k x. spec.IsRow d (spec.value_by d r holders k) x) [] rows c.push.new.self.items row m c.moments.invariant.as_many c.moments.invariant.rows is pushed;
+      cursor = c.set_inputs-in-moments.ensures.same ∙ c.moments.invariant.cursor;
+      long = long;
+      others = others_set d r c.moments.cursor holders c.moments.moment c.as_slice-in-moments.result.now writer.row (all_rows old) new c.moments.invariant.cursor is set_row others before;
+      as_many = many_more (all_rows old) new c.moments.moment before c.moments.invariant.as_many;
+      rows = rows_more d r c.moments.cursor holders c.moments.moment c.as_slice-in-moments.result.now writer.row (all_rows old) new c.moments.invariant.cursor is set_row others before long c.moments.invariant.as_many c.moments.invariant.rows;
     }

@@ -6,7 +6,8 @@ use Rattle.xr_match.proofs.stimulus.set_inputs.Given as goal
 
 abbrev pub invariant-inputs : goal.invariant-inputs
 invariant-inputs l = record {
-  long : length l.row ≡ length l.initial.row;
+  before : l.writer.before ≡ l.initial.writer.before;
+  long : length l.writer.row ≡ length l.initial.writer.row;
   same : l.cursor ≡ l.initial.cursor;
-  set : (net : ℕ) → slice_index_or l.row net X ≡ spec.set_from l.initial.cursor l.moment (take l.input-index l.inputs) net (slice_index_or l.initial.row net X);
+  set : (net : ℕ) → slice_index_or l.writer.row net X ≡ spec.set_from l.initial.cursor l.moment (take l.input-index l.inputs) net (slice_index_or l.initial.writer.row net X);
 }

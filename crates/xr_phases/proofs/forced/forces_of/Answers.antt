@@ -7,7 +7,14 @@ use Rattle.xr_words.specs.Words.{replay_values}
 use Rattle.xr_phases.specs.Code.{CodeComes, code_in, text_limit}
 use Rattle.xr_phases.specs.Phases.{code_cause, itself, scope_of}
 use Rattle.xr_phases.specs.declared.cause.Refused.TheVariants.{LongCode}
+use Rattle.xr_phases.proofs.Jobs.{circuit_fits, design_fits}
 use Rattle.xr_phases.proofs.forced.forces_of.Goals as goal
+
+pub forces_in-requires-clause-parts : goal.forces_in-requires-clause-parts
+forces_in-requires-clause-parts g c = circuit_fits c.args.job.now.netlist c.args.job.now.recorded c.requires
+
+pub forces_in-requires-clause-names : goal.forces_in-requires-clause-names
+forces_in-requires-clause-names g c = design_fits c.args.job.now.netlist c.args.job.now.recorded c.requires
 
 pub returns-clause-prepared : goal.returns-clause-prepared
 returns-clause-prepared g c =

@@ -9,15 +9,15 @@ pub positions-preserved : goal.positions-preserved
 positions-preserved c =
     let j = job_in c.args.circuit.now in
     let more : c.args.step * j.width + c.positions.position + 1 ≡ c.args.step * j.width + (c.positions.position + 1) = omega arith in
-    let P : ℕ → Type 0 = λ n. IsFilled (job_in c.args.circuit.now) (forced_by (job_in c.args.circuit.now) c.args.events.now) n c.compute_place.new.history in
-    subst P more c.compute_place.ensures.filled
+    let P : ℕ → Type 0 = λ n. IsFilled (job_in c.args.circuit.now) (forced_by (job_in c.args.circuit.now) c.args.events.now) n c.compute_place.new.writer.history in
+    record { under_way = c.in_ok-compute_place.ensures.under_way; filled = subst P more c.in_ok-compute_place.ensures.filled }
 
-pub returns : goal.returns
-returns c =
+pub returns-clause-filled : goal.returns-clause-filled
+returns-clause-filled c =
     let j = job_in c.args.circuit.now in
     let end = c.positions-test.false in
     let last = c.positions.auto.position-end in
     let count = c.width_of-nets.ensures in
     let all : c.args.step * j.width + c.positions.position ≡ (c.args.step + 1) * j.width = omega (arith, end, last, count) in
-    let P : ℕ → Type 0 = λ n. IsFilled (job_in c.args.circuit.now) (forced_by (job_in c.args.circuit.now) c.args.events.now) n c.positions.history in
-    subst P all c.positions.invariant
+    let P : ℕ → Type 0 = λ n. IsFilled (job_in c.args.circuit.now) (forced_by (job_in c.args.circuit.now) c.args.events.now) n c.positions.writer.history in
+    subst P all c.positions.invariant.filled

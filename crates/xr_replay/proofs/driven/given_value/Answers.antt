@@ -19,11 +19,11 @@ driven_value-requires-clause-driver c = driver_fits (job_in c.args.circuit.now) 
 
 pub driven_value-requires-clause-has : goal.driven_value-requires-clause-has
 driven_value-requires-clause-has c =
-    rw c.width_of.ensures (shows_below c.args.circuit.now c.requires.fits c.args.history.now c.requires.places c.args.step c.args.position c.requires.step c.requires.position)
+    rw c.width_of.ensures (shows_below c.args.circuit.now c.requires.fits c.args.writer.now.history c.requires.places c.args.step c.args.position c.requires.step c.requires.position)
 
 pub returns : goal.returns
 returns c =
     let j = job_in c.args.circuit.now in
     c.driven_value.ensures
-    ∙ ap (λ (was : Value). driven j (seen (shown_of j c.args.history.now) was) c.args.step c.args.net c.args.driver.now) c.was_kept-was.ensures
-    ∙ sym (driven_seen c.args.circuit.now c.args.history.now c.args.step c.args.net c.args.driver.now)
+    ∙ ap (λ (was : Value). driven j (seen (shown_of j c.args.writer.now.history) was) c.args.step c.args.net c.args.driver.now) c.was_kept-was.ensures
+    ∙ sym (driven_seen c.args.circuit.now c.args.writer.now.history c.args.step c.args.net c.args.driver.now)

@@ -1,18 +1,23 @@
--- One net more is due, or has the same value.
-use Rattle.std.proofs.Common.{◌<◌, ◌∙◌, length, arith}
-use Rattle.std.proofs.lemmas.List.{get_or_default}
-use Rattle.xr_cell.specs.declared.value.Value.TheVariants.{X, Zero}
+-- The net of one change more is due.
+use Rattle.std.proofs.Common.{◌≡◌, ℕ, ◌<◌, true, sym, subst, ◌∙◌}
 use Rattle.xr_design.specs.Circuit.{job_in}
+use Rattle.xr_design.specs.Order.{position_of}
+use Rattle.xr_ledger.specs.Change.{change_position, nth_change}
+use Rattle.xr_replay_due.specs.Due.{is_due}
 use Rattle.xr_replay.proofs.Marking.{changes_more}
 use Rattle.xr_replay.proofs.marks.mark_changes.Goals as goal
 
-pub nets-preserved : goal.nets-preserved
-nets-preserved c =
+pub mark_net-requires-clause-net : goal.mark_net-requires-clause-net
+mark_net-requires-clause-net c =
+    subst (λ (net : ℕ). net < (job_in c.args.circuit.now).width) (sym c.position.ensures) (c.requires.nets c.changes.change-index c.changes-test.true)
+
+pub changes-preserved : goal.changes-preserved
+changes-preserved c =
     let j = job_in c.args.circuit.now in
-    let inside : c.nets.net < length c.args.values.now = (let test = c.nets-test.true in omega (arith, test)) in
-    let other : c.nets.net < length c.args.before.now = (let values = c.requires.values in let before = c.requires.before in omega (arith, inside, values, before)) in
+    let here : is_due c.mark_net.new.due (position_of j.order (change_position (nth_change c.args.changes.now c.changes.change-index))) ≡ true =
+    subst (λ (net : ℕ). is_due c.mark_net.new.due (position_of j.order net) ≡ true) c.position.ensures c.mark_net.ensures.here in
     record {
-      long = c.mark_change.ensures.long ∙ c.nets.invariant.long;
-      more = λ position is. c.mark_change.ensures.more position (c.nets.invariant.more position is);
-      changes = changes_more j c.nets.net c.args.values.now c.args.before.now c.nets.due c.mark_change.new.due c.mark_change.ensures.more (λ clear. get_or_default c.args.values.now c.nets.net X Zero inside ∙ c.mark_change.ensures.same clear ∙ get_or_default c.args.before.now c.nets.net Zero X other) c.nets.invariant.changes;
+      long = c.mark_net.ensures.long ∙ c.changes.invariant.long;
+      more = λ position is. c.mark_net.ensures.more position (c.changes.invariant.more position is);
+      changes = changes_more j c.args.changes.now c.changes.change-index c.changes.due c.mark_net.new.due c.mark_net.ensures.more here c.changes.invariant.changes;
     }

@@ -2,6 +2,7 @@
 use Rattle.std.proofs.Common.{◌≡◌, ℕ, Err, rules, length, ap, arith, below_more}
 use Rattle.xr_replay.specs.Fault.{HasNoFault}
 use Rattle.xr_replay.specs.Sides.{job_beside}
+use Rattle.xr_replay.specs.declared.differ.DifferErr.TheVariants.{Differs}
 use Rattle.xr_replay.proofs.Faults.{first_fault}
 use Rattle.xr_replay.proofs.moments.check_moments.Goals as goal
 
@@ -12,7 +13,7 @@ moments-preserved c =
 
 pub returns-in_err-check_moment-clause-differs : goal.returns-in_err-check_moment-clause-differs
 returns-in_err-check_moment-clause-differs c =
-    let is : c.from_residual.result ≡ Err c.in_err-check_moment.field-0.0 = search rules in
+    let is : c.from_residual.result ≡ Err (Differs c.in_err-check_moment.field-0.0) = search rules in
     let j = job_beside c.args.sides.now in
     let same = ap length c.as_slice-moment-end.ensures in
     let test = c.moments-test.true in

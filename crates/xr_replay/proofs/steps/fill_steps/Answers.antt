@@ -35,11 +35,12 @@ steps-preserved c =
     let back : c.steps.step ≡ c.steps.step + 1 - 1 = omega arith in
     let values = c.take_events-taken.new.values in
     record {
-      filled = c.next_step.ensures.filled;
+      under_way = (let under_way = c.in_ok-next_step.ensures.under_way in omega (arith, under_way));
+      filled = c.in_ok-next_step.ensures.filled;
       taken = taken_later j.width c.args.events.now c.steps.step c.take_events-taken.result values (rw long at c.take_events-taken.ensures.taken);
       before = λ later. (let P : ℕ → Type 0 = λ n. HasForced (length c.args.circuit.now.design.now.nets) c.args.events.now n c.take_events-taken.new.values in subst P back (rw long at c.take_events-taken.ensures.forced));
-      due = c.next_step.ensures.due;
-      ahead = c.next_step.ensures.ahead;
+      due = c.in_ok-next_step.ensures.due;
+      ahead = c.in_ok-next_step.ensures.ahead;
     }
 
 pub returns : goal.returns
@@ -49,4 +50,4 @@ returns c =
     let last : c.steps.step ≡ j.moments * j.rounds = rw (← times) (omega arith) in
     let all : c.steps.step * j.width ≡ places_of j = rw last (mul_comm (j.moments * j.rounds) j.width) in
     let f = forced_by j c.args.events.now in
-    filled_all j f c.steps.history (subst (λ n. IsFilled (job_in c.args.circuit.now) (forced_by (job_in c.args.circuit.now) c.args.events.now) n c.steps.history) all c.steps.invariant.filled)
+    filled_all j f c.steps.writer.history (subst (λ n. IsFilled (job_in c.args.circuit.now) (forced_by (job_in c.args.circuit.now) c.args.events.now) n c.steps.writer.history) all c.steps.invariant.filled)

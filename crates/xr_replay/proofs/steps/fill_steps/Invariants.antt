@@ -1,5 +1,5 @@
 -- The steps so far are filled, the events up to the one before are taken, and what waits is due.
-use Rattle.std.proofs.Common.{◌<◌, ◌-◌, ◌*◌}
+use Rattle.std.proofs.Common.{◌≡◌, ◌<◌, ◌-◌, ◌*◌}
 use Rattle.xr_design.specs.Circuit.{job_in}
 use Rattle.xr_design.specs.Force.{forced_by}
 use Rattle.xr_replay_due.specs.Due.{HasRoomFor}
@@ -10,7 +10,8 @@ use Rattle.xr_replay.proofs.steps.fill_steps.Given as goal
 
 abbrev pub invariant-steps : goal.invariant-steps
 invariant-steps l = record {
-  filled : IsFilled (job_in l.circuit) (forced_by (job_in l.circuit) l.events) (l.step * (job_in l.circuit).width) l.history;
+  under_way : l.writer.step ≡ l.step - 1;
+  filled : IsFilled (job_in l.circuit) (forced_by (job_in l.circuit) l.events) (l.step * (job_in l.circuit).width) l.writer.history;
   taken : HasTaken (job_in l.circuit).width l.events l.step l.taken l.forced;
   before : 0 < l.step → HasForced (job_in l.circuit).width l.events (l.step - 1) l.forced;
   due : AreAwaited (job_in l.circuit) (forced_by (job_in l.circuit) l.events) l.step l.waiting.due;

@@ -4,7 +4,6 @@ use Rattle.xr_design.specs.Circuit.{job_in}
 use Rattle.xr_design.specs.Force.{forced_by}
 use Rattle.xr_replay.specs.Sweep.{AreAwaited}
 use Rattle.xr_replay.proofs.Marking.{due_marked_first}
-use Rattle.xr_replay.proofs.Places.{has_step}
 use Rattle.xr_replay.proofs.Sweeps.{ahead_first, awaited_next, filled_next, swept_none}
 use Rattle.xr_replay.proofs.steps.later_step.Goals as goal
 
@@ -17,13 +16,19 @@ mark_inputs-requires-clause-room c =
     let long = c.mark_events.ensures.long in
     omega (arith, room, long)
 
-pub repeat_step-requires-clause-within : goal.repeat_step-requires-clause-within
-repeat_step-requires-clause-within c = (has_step (job_in c.args.circuit.now) c.args.history.now c.args.step c.requires.filled.places c.requires.step).room
+pub sweep-requires-clause-under_way : goal.sweep-requires-clause-under_way
+sweep-requires-clause-under_way c =
+    let next = c.in_ok-next_step.ensures.ok.step in
+    let under_way = c.requires.under_way in
+    let later = c.requires.later in
+    omega (arith, next, under_way, later)
 
 pub sweep-requires-clause-swept : goal.sweep-requires-clause-swept
 sweep-requires-clause-swept c =
     let j = job_in c.args.circuit.now in
-    swept_none j c.requires.fits.fits_job (forced_by j c.args.events.now) c.args.step c.args.history.now c.repeat_step.new.self c.requires.later c.requires.step c.requires.filled c.repeat_step.ensures
+    let under_way = c.requires.under_way in
+    let later = c.requires.later in
+    swept_none j c.requires.fits.fits_job (forced_by j c.args.events.now) c.args.step c.args.writer.now c.next_step.new.self c.requires.step (omega (arith, under_way, later)) c.requires.filled c.in_ok-next_step.ensures.ok
 
 pub sweep-requires-clause-due : goal.sweep-requires-clause-due
 sweep-requires-clause-due c =
@@ -38,16 +43,16 @@ sweep-requires-clause-ahead c =
 pub returns-clause-filled : goal.returns-clause-filled
 returns-clause-filled c =
     let j = job_in c.args.circuit.now in
-    filled_next j (forced_by j c.args.events.now) c.args.step c.sweep.new.history c.sweep.ensures.swept
+    filled_next j (forced_by j c.args.events.now) c.args.step c.sweep.new.writer.history c.in_ok-sweep.ensures.swept
 
 pub returns-clause-due : goal.returns-clause-due
 returns-clause-due c =
     let j = job_in c.args.circuit.now in
     let P = λ (due : List ℕ). AreAwaited (job_in c.args.circuit.now) (forced_by (job_in c.args.circuit.now) c.args.events.now) (c.args.step + 1) due in
-    subst P (sym c.turn.ensures.due) (awaited_next j c.requires.fits.fits_job (forced_by j c.args.events.now) c.args.step c.sweep.new.waiting.ahead c.requires.later c.sweep.ensures.ahead)
+    subst P (sym c.turn.ensures.due) (awaited_next j c.requires.fits.fits_job (forced_by j c.args.events.now) c.args.step c.sweep.new.waiting.ahead c.requires.later c.in_ok-sweep.ensures.ahead)
 
 pub returns-clause-ahead : goal.returns-clause-ahead
 returns-clause-ahead c =
-    let room = c.sweep.ensures.due in
+    let room = c.in_ok-sweep.ensures.due in
     let long = c.turn.ensures.ahead in
     omega (arith, room, long)

@@ -10,7 +10,7 @@ use Rattle.xr_replay.proofs.sweep.visit_place.Goals as goal
 pub returns-then-stays_at-clause-swept : goal.returns-then-stays_at-clause-swept
 returns-then-stays_at-clause-swept c =
     let j = job_in c.args.circuit.now in
-    swept_computed j (forced_by j c.args.events.now) c.args.step c.args.position c.args.history.now c.compute_place.new.history c.compute_place.ensures.filled c.compute_place.ensures.others c.requires.swept
+    swept_computed j (forced_by j c.args.events.now) c.args.step c.args.position c.args.writer.now.history c.compute_place.new.writer.history c.in_ok-compute_place.ensures.filled c.in_ok-compute_place.ensures.others c.requires.swept
 
 pub returns-then-stays_at-clause-due : goal.returns-then-stays_at-clause-due
 returns-then-stays_at-clause-due c =
@@ -25,7 +25,7 @@ returns-then-stays_at-clause-ahead c =
 pub returns-clause-swept : goal.returns-clause-swept
 returns-clause-swept c =
     let j = job_in c.args.circuit.now in
-    swept_computed j (forced_by j c.args.events.now) c.args.step c.args.position c.args.history.now c.compute_place.new.history c.compute_place.ensures.filled c.compute_place.ensures.others c.requires.swept
+    swept_computed j (forced_by j c.args.events.now) c.args.step c.args.position c.args.writer.now.history c.compute_place.new.writer.history c.in_ok-compute_place.ensures.filled c.in_ok-compute_place.ensures.others c.requires.swept
 
 pub returns-clause-due : goal.returns-clause-due
 returns-clause-due c =

@@ -1,4 +1,5 @@
--- The lines so far and those of the bits that are left are all, and each bit that is left is there.
+-- The lines so far and those of the bits that are left are all, each bit that is left is there, and the row is that of the
+-- history.
 use Rattle.std.proofs.Common.{◌≡◌, ◌++◌, length}
 use Rattle.std.specs.List.{AllByRecursion, flat_map}
 use Rattle.xr_match.specs.BoundBits.{IsBitOf, bound_bits, left_of}
@@ -10,6 +11,7 @@ invariant-bits l = record {
   lines : l.text.items ++ flat_map (bound_line l.wave) (left_of l.bits)
       ≡ flat_map (bound_line l.wave) (bound_bits (length l.wave.stim.times) l.bound.bound);
   within : AllByRecursion (IsBitOf l.wave.design (length l.wave.stim.times)) (left_of l.bits);
+  history : l.replayed.history ≡ l.wave.history;
 }
 
 abbrev pub decreases-bits : goal.decreases-bits

@@ -12,7 +12,7 @@ returns-in-Ok g c = λ line.
     let reporting = reporting_of g.W.Cause.Cause.status_of g.W.Cause.Cause.text_of in
     let s = start_with line g.S.Shelf.told g.O.Sink.told (g.S.Shelf.view c.args.shelf.now) (g.O.Sink.view c.prepare.new.out) in
     rw (sym c.in-Ok.ensures.out) (delivered_row (g.W.Prepare.phases c.args.words.now) reporting s (answer_of c.in-Ok.ready) (g.S.Shelf.view c.prepare.new.shelf) (g.S.Shelf.view c.deliver_ready.new.shelf)
-    (g.O.Sink.view c.deliver_ready.new.out) c.deliver_ready.result ready.comes ready.later ready.files ready.kept ready.closed c.deliver_ready.ensures)
+    (g.O.Sink.view c.deliver_ready.new.out) c.deliver_ready.result ready.comes ready.later ready.files ready.written ready.kept ready.closed c.deliver_ready.ensures)
 
 pub returns-in-Err : goal.returns-in-Err
 returns-in-Err g c = λ line.

@@ -1,17 +1,23 @@
--- An output more is whole; or one isn't.
+-- An output more is written; or one isn't.
 use Rattle.std.proofs.Common.{rules, ◌≡◌, ◌<◌, ◌∙◌, ℕ, Err, Some, length, map, inl, inr, refl, ap, subst, arith}
 use Rattle.std.specs.Prelude.{slice_get, option_map}
 use Rattle.std.proofs.lemmas.List.{length-map}
 use Rattle.std.proofs.lemmas.Option.{slice_get_read, slice_get-map}
-use Rattle.xr_run.specs.Outputs.{file_of}
-use Rattle.xr_run.proofs.Files.{Before, none_before, more_before, stopped, all_written}
+use Rattle.xr_run.specs.Outputs.{WrittenTo, file_of}
+use Rattle.xr_run.proofs.Files.{none_written, one_written}
 use Rattle.xr_run.proofs.Steps.{later_here, later_twice, same_here, same_twice, unwritten_after}
 use Rattle.xr_run.proofs.delivery.write_outputs.Goals as goal
 
 pub outputs-init : goal.outputs-init
 outputs-init g c =
     let old = g.S.Shelf.view c.args.shelf.now in
-    record { before = none_before g.S.Shelf.told (map file_of c.args.outputs.now) old.files; later = later_here old; kept = same_here old; closed = inr refl }
+    record {
+      before = none_written g.S.Shelf.told (map file_of c.args.outputs.now) old.written;
+      files = refl;
+      later = later_here old;
+      kept = same_here old;
+      closed = inr refl;
+    }
 
 pub outputs-preserved : goal.outputs-preserved
 outputs-preserved g c =
@@ -26,7 +32,8 @@ outputs-preserved g c =
     let is : slice_get (map file_of outputs) i ≡ Some (file_of c.output-item.result) =
     slice_get-map file_of outputs i ∙ ap (option_map file_of) (slice_get_read outputs (length outputs) i c.output-item.result refl within c.output-item.is) in
     record {
-      before = more_before g.S.Shelf.told i (map file_of outputs) (file_of c.output-item.result) old.files mid.files new.files c.requires inv.before is step.others step.ends.0;
+      before = one_written g.S.Shelf.told i (map file_of outputs) (file_of c.output-item.result) old.written mid.written new.written c.requires inv.before is step.others step.ends.0;
+      files = step.same ∙ inv.files;
       later = later_twice old mid new inv.later step.later;
       kept = same_twice old mid new inv.kept step.ends.1;
       closed = inl step.ends.2;
@@ -49,15 +56,8 @@ returns-in_err-write_output g c =
     let told : c.from_residual.result ≡ Err e = search rules in
     rw told record {
       later = later_twice old mid new inv.later step.later;
-      ends = (
-        i,
-        record {
-          file = file;
-          is = is;
-          written = stopped g.S.Shelf.told i (map file_of outputs) file old.files mid.files new.files c.requires inv.before is step.others step.ends.0;
-          cause = unwritten_after file old mid new e inv.later inv.kept step.ends.1;
-        },
-      );
+      same = step.same ∙ inv.files;
+      ends = (i, record { file = file; is = is; cause = unwritten_after file old mid new e inv.later inv.kept step.ends });
     }
 
 pub returns : goal.returns
@@ -70,5 +70,6 @@ returns g c =
     let all : c.outputs.output-index ≡ length files = omega (arith, long) in
     record {
       later = inv.later;
-      ends = (all_written g.S.Shelf.told files old.files new.files (subst (λ (k : ℕ). Before g.S.Shelf.told k files old.files new.files) all inv.before), inv.kept, inv.closed);
+      same = inv.files;
+      ends = (subst (λ (k : ℕ). WrittenTo g.S.Shelf.told k files old.written new.written) all inv.before, inv.kept, inv.closed);
     }

@@ -36,6 +36,7 @@ files-preserved g c =
       closed_next c.in_ok-text.text c.in_ok-part.part new.hand _ c.in_ok-text.ensures.both c.in_ok-part.ensures.closed,
       there_next g.S.Shelf.told old.files string_bytes names i item c.files.text c.in_ok-text.text c.in_ok-part.part within c.in_ok-text.ensures.first c.in_ok-text.ensures.both inv.6
           (subst (λ (n : List ℕ). IsSome c.in_ok-part.part → IsTrue g.S.Shelf.told → IsSome (old.files n)) name (subst (λ (f : Files). IsSome c.in_ok-part.part → IsTrue g.S.Shelf.told → IsSome (f c.deref.result.now)) inv.1 c.in_ok-part.ensures.there)),
+      step.written ∙ inv.7,
     )
 
 pub returns-in_err-part : goal.returns-in_err-part
@@ -59,6 +60,7 @@ returns-in_err-part g c =
     rw is record {
       later = later_twice old mid new inv.0 step.later;
       files = step.files ∙ inv.1;
+      written = step.written ∙ inv.7;
       text = tt;
       kept = tt;
       closed = tt;

@@ -36,14 +36,14 @@ returns-in_err-extend_from_slice g c =
     let is : c.from_residual-in_err-extend_from_slice.result ≡ Err ReadMemory = search rules in
     let turn = c.turns.invariant.0 in
     let step = c.in_ok-count.ensures in
-    rw is (read_memory _ _ c.turns.text.items _ _ _ (later_trans _ _ _ turn.later step.later) (same_trans _ _ _ turn.kept step.counts) (step.files ∙ turn.files))
+    rw is (read_memory _ _ c.turns.text.items _ _ _ (later_trans _ _ _ turn.later step.later) (same_trans _ _ _ turn.kept step.counts) (step.files ∙ turn.files) (step.written ∙ turn.written))
 
 pub returns-in_err-close_file : goal.returns-in_err-close_file
 returns-in_err-close_file g c =
     let is : c.from_residual-in_err-close_file.result ≡ Err (read_err c.in_err-close_file.field-0.0) = search rules in
     let turn = c.turns.invariant.0 in
     let step = c.in_ok-count.ensures in
-    rw is (close_fails _ _ c.turns.text.items _ _ _ _ _ (later_trans _ _ _ turn.later step.later) (same_trans _ _ _ turn.kept step.counts) (step.files ∙ turn.files) (step.hand ∙ turn.hand) c.in_err-close_file.ensures)
+    rw is (close_fails _ _ c.turns.text.items _ _ _ _ _ (later_trans _ _ _ turn.later step.later) (same_trans _ _ _ turn.kept step.counts) (step.files ∙ turn.files) (step.written ∙ turn.written) (step.hand ∙ turn.hand) c.in_err-close_file.ensures)
 
 pub returns : goal.returns
 returns g c =

@@ -20,4 +20,4 @@ returns-clause-shipped g c = λ zero.
     let new = c.new-shelf.ensures in
     let begun = started line fetched before _ c.new-shelf.result.fetched.now _ _ new.stage new.fetched new.reads new.writes in
     let comes = subst (λ (s : Start). Comes commands s (shelf_seen left.stage left.fetched.now.texts left.read_faults left.write_faults) after c.run-status.result) begun c.run-status.ensures.comes in
-    shipped commands read_by kept line fetched before left.stage left.fetched.now.texts left.read_faults left.write_faults after c.requires left.put left.apart c.run-status.result comes zero
+    shipped commands read_by kept line fetched before left.stage left.fetched.now.texts left.read_faults left.write_faults after c.requires c.run-status.result comes zero

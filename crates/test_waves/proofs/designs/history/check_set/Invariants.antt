@@ -3,4 +3,4 @@ use Rattle.std.proofs.Common.{◌≡◌, length}
 use Rattle.test_waves.proofs.designs.history.check_set.Given as goal
 
 abbrev pub invariant-loop-shown : goal.invariant-loop-shown
-invariant-loop-shown g l = (l.history.nets ≡ 2) × (length l.history.places ≡ 8)
+invariant-loop-shown g l = (l.writer.step ≡ 1) × (l.writer.history.nets ≡ 2) × (length l.writer.history.places ≡ 8)

@@ -13,5 +13,5 @@ seen_class-requires-clause-within c =
     let is = subst (λ parts. c.next_class.result ≡ next_class (view.job parts.waveform) parts.waveform.written)
     c.deref.ensures c.next_class.ensures in
     subst (λ (j : Job). FromWithin (places_of j) c.in-Some.class) (ap job c.self.view_is ∙ sym c.circuit.ensures.job)
-    (next_from_job (view.job waveform) c.self.invariant.fits.fits_job waveform.written c.in-Some.class
+    (next_from_job (view.job waveform) c.self.invariant.wave.fits.fits_job waveform.written c.in-Some.class
     (sym is ∙ c.in-Some.is))

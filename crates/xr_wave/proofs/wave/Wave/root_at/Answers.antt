@@ -1,5 +1,5 @@
 -- The root is written, since it isn't after the place.
-use Rattle.std.proofs.Common.{◌≡◌, ◌∙◌, ◌<◌, ap, length, subst}
+use Rattle.std.proofs.Common.{◌≡◌, ◌∙◌, ◌<◌, ap, subst}
 use Rattle.xr_design.specs.Fits.{place_at}
 use Rattle.xr_design.specs.Job.{Job, number_of, places_of}
 use Rattle.xr_wave.specs.Contents.{job}

@@ -1,7 +1,7 @@
 -- The history has each place of the job.
 use Rattle.std.proofs.Common.{◌≡◌, ◌<◌, ◌∙◌, length, ap, sym, subst}
 use Rattle.xr_design.specs.Fits.{place_at}
-use Rattle.xr_design.specs.Job.{places_of}
+use Rattle.xr_design.specs.Job.{places_of, step_of}
 use Rattle.xr_design.proofs.Handed.{handed_places, has_place}
 use Rattle.xr_design.proofs.Numbers.{is_place_at}
 use Rattle.xr_wave.specs.Contents.{Contents, job}
@@ -13,10 +13,11 @@ pub shown-requires : goal.shown-requires
 shown-requires c =
     let waveform = c.self.inside.parts.value.waveform in
     let j = view.job waveform in
-    let history = c.self.inside.parts.value.replayed.now in
-    let fits = c.self.invariant.fits.fits_job in
+    let history = c.self.inside.parts.value.replayed.history in
+    let fits = c.self.invariant.wave.fits.fits_job in
     let less : length waveform.written < places_of j = subst HasNext (sym c.self.view_is) c.requires in
     let place : c.place_behind.result ≡ place_at j (length waveform.written) =
     c.place_behind.ensures ∙ ap (λ (v : Contents). place_at (job v) (length v.written)) (sym c.self.view_is) in
-    rw (place, c.deref.ensures) (has_place j history _ (handed_places j history c.self.invariant.handed)
+    let step : c.self.inside.parts.value.replayed.step ≡ step_of j (length waveform.written) = c.self.invariant.reads less in
+    rw (place, c.deref.ensures, step) (has_place j history _ (handed_places j history c.self.invariant.wave.handed)
     (is_place_at j (length waveform.written) fits.ordering fits.all less))

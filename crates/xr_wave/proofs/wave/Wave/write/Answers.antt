@@ -1,11 +1,13 @@
 -- The wave stays a wave.
-use Rattle.std.proofs.Common.{List, ◌++◌, ◌∷◌, [], sym, subst, append-nil}
+use Rattle.std.proofs.Common.{◌≡◌, List, ◌++◌, ◌∷◌, [], length, ap, sym, subst, append-nil}
+use Rattle.xr_design.specs.Job.{step_of}
 use Rattle.xr_model.specs.declared.line.Line.{Line as ALine}
 use Rattle.xr_wave.specs.Contents.{Contents, IsWave, contents_of, job}
 use Rattle.xr_wave.specs.Token.{HasNext}
 use Rattle.xr_wave_bytes.specs.Kept.{ValuesAgree}
 use Rattle.xr_wave_bytes.specs.View as view
-use Rattle.xr_wave_bytes.specs.View.{HasMore, WaveformView, and_one}
+use Rattle.xr_wave_bytes.specs.View.{HasMore, and_one}
+use Rattle.xr_wave.proofs.StepsRead.{wave_pushed}
 use Rattle.xr_wave.proofs.WaveGrowth.{wave_agrees, wave_grown}
 use Rattle.xr_wave.proofs.wave.Wave.write.Goals as goal
 
@@ -14,12 +16,17 @@ push-requires-clause-next c =
     subst (λ parts. HasMore parts.waveform) (sym c.deref_mut.ensures.value)
     (subst HasNext (sym c.self.view_is) c.requires.next.said.within)
 
+pub push-requires-clause-reads : goal.push-requires-clause-reads
+push-requires-clause-reads c =
+    subst (λ parts. parts.replayed.step ≡ step_of (view.job parts.waveform) (length parts.waveform.written))
+    (sym c.deref_mut.ensures.value) (c.self.invariant.reads (subst HasNext (sym c.self.view_is) c.requires.next.said.within))
+
 pub push-requires-clause-agrees : goal.push-requires-clause-agrees
 push-requires-clause-agrees c =
     let x = c.args.written in
     subst (λ parts. ValuesAgree (view.job parts.waveform) (parts.waveform.written ++ x ∷ [])) (sym c.deref_mut.ensures.value)
     (subst (λ (v : Contents). ValuesAgree (job v) (v.written ++ x ∷ [])) (sym c.self.view_is)
-    (wave_agrees c.args.self x [] (subst IsWave c.self.view_is c.self.invariant) c.requires.next))
+    (wave_agrees c.args.self x [] (subst IsWave c.self.view_is c.self.invariant.wave) c.requires.next))
 
 pub invariant_of-self : goal.invariant_of-self
 invariant_of-self c =
@@ -27,11 +34,13 @@ invariant_of-self c =
     let x = c.args.written in
     let grown = subst (λ (v : Contents). IsWave (record v { written = v.written ++ x ∷ []; lines = v.lines ++ [] }))
     (sym c.self.view_is)
-    (wave_grown c.args.self x [] (subst IsWave c.self.view_is c.self.invariant) c.requires.next) in
+    (wave_grown c.args.self x [] (subst IsWave c.self.view_is c.self.invariant.wave) c.requires.next) in
     let written = subst (λ (lines : List ALine).
-    IsWave (contents_of (and_one own.waveform x) own.replayed.now own.limit lines)) (append-nil own.lines.items) grown in
+    IsWave (contents_of (and_one own.waveform x) own.replayed.history own.limit lines)) (append-nil own.lines.items) grown in
     let parts = c.deref_mut.result.now in
-    subst (λ (w : WaveformView). IsWave (contents_of w parts.replayed.now parts.limit parts.lines.items))
-    (sym c.push.ensures)
-    (subst (λ p. IsWave (contents_of (and_one p.waveform x) p.replayed.now p.limit p.lines.items))
-    (sym c.deref_mut.ensures.value) written)
+    let new = c.push.new.self in
+    let pushed = c.push.ensures in
+    wave_pushed parts.waveform new.waveform parts.replayed new.replayed parts.limit new.limit parts.lines.items
+    new.lines.items x pushed.waveform pushed.history pushed.limit (ap (λ lines. lines.items) pushed.lines)
+    (subst (λ p. IsWave (contents_of (and_one p.waveform x) p.replayed.history p.limit p.lines.items))
+    (sym c.deref_mut.ensures.value) written) pushed.reads

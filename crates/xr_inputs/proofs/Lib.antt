@@ -1,0 +1,2 @@
+-- Lemmas of xr_inputs.
+pub mod RowLemmas

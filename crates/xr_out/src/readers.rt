@@ -1,0 +1,41 @@
+//! The bound variables by the nets of their bits.
+
+ghost use Rattle.std.specs.Prelude.{◌≤◌, ◌^◌, IfOk, IfSome, length};
+ghost use Rattle.xr_match.specs.Binding.{FitsBinding};
+ghost use Rattle.xr_out.specs.Readers.{AreReadersOf};
+
+use std::alloc::Global;
+use xr_base::Memory;
+use xr_design::Design;
+use xr_match::Binding;
+use xr_replay::bit_readers;
+use xr_replay_due::Readers;
+
+const MOST_BOUND: usize = 1 << 20;
+
+/// For each net the numbers of the bound variables that have it among their bits. No net and no such number is as great
+/// as `room`.
+#[derive(Debug, Drop)]
+pub struct BitReaders {
+    pub room: usize,
+    pub variables: Readers,
+}
+
+impl BitReaders {
+    /// Those of a binding; none where there are more than 2^20 bound variables. Takes 8 bytes for each net, or for each
+    /// bound variable where there are more of these, and 4 for each bit; on the way 16 more for each. With more than
+    /// 2^32 bits it answers `Memory`.
+    pub fn of(alloc: Global, design: &Design, bound: &Binding) -> Result<Option<BitReaders>, Memory>
+        requires nets { length design.now.nets ≤ 2 ^ 20 }
+        requires bound { FitsBinding design.now bound.now }
+        ensures { IfOk result (λ found. IfSome found (AreReadersOf (length design.now.nets) bound.now)) }
+    {
+        let count = bound.bound.as_slice().len();
+        if count > MOST_BOUND {
+            return Ok(None);
+        }
+        let room = design.nets.as_slice().len().max(count);
+        let variables = bit_readers(alloc, room, bound)?;
+        Ok(Some(BitReaders { room, variables }))
+    }
+}
