@@ -116,7 +116,7 @@ module _ (told : Bool) (files : Files) (w : MakeValues) (answer : Answer) where
       let all : headlines.Made made_repair (made_netlist w) text = record {
         n = n;
         r = r;
-        job = record { elaborated = n; netlist_is = record { fits = fits; is = has }; fits = within; is = held; job_is = refl };
+        job = record { netlist_is = record { fits = fits; is = has }; fits = within; is = held };
         faultless = faultless;
         found = there;
         is = is;

@@ -9,13 +9,11 @@ use Rattle.xr_run.specs.Phases.{Answer, ComesTo, IsRead, NeverRefused, PassesAll
 use Rattle.xr_run.specs.Rows.{Start}
 use Rattle.xr_run.proofs.Comes.{comes}
 use Rattle.xr_run.proofs.Exact.{err_same, never_refused, ok_err}
-use Rattle.xr_job.specs.Compared.{job_for}
 use Rattle.xr_job.specs.declared.netlist.Netlist.{Netlist as ANetlist}
 use Rattle.xr_job.specs.declared.recorded.Recorded.{Recorded}
 use Rattle.xr_words.specs.Words.{BlameValues, CheckValues, ExportValues, JobValues, MakeValues, OfBlame, OfCheck, OfExport, OfFix, OfMake, OfProve, OfRepair, OfReplay, OfUpgrade, ProveValues, RepairValues, ReplayValues, UpgradeValues, Values, AuditValues, OfAudit}
 use Rattle.xr_cert_text.specs.Wrong.{IsTextOf}
 use Rattle.xr_code.specs.Says.{FirstFault}
-use Rattle.xr_replay.specs.Fault.{IsFaultless}
 use Rattle.xr_phases.specs.Texts.{FixFails, netlist_held, recording_held, AreRefused, CheckFails, CodeFails, HasJob, HasNetlist, IsObjected, RepairFails, UpgradeFails}
 use Rattle.xr_phases.specs.Certificate.{IsWrong}
 use Rattle.xr_phases.specs.Code.{code_in, text_limit}
@@ -23,7 +21,7 @@ use Rattle.xr_cli.specs.Answers.{ReportsInputs}
 use Rattle.xr_cli.specs.Commands.{commands}
 use Rattle.xr_cli.specs.Ends.{AreInOrder, Done, EndsInOrder, IsTheOne, RefusesTexts, AreRefusedFor}
 use Rattle.xr_cli.specs.Foreign.{repair_for}
-use Rattle.xr_cli.specs.Made.{IsRecordingOf, made_conflicts, made_job, made_netlist}
+use Rattle.xr_cli.specs.Made.{made_conflicts, made_job, made_netlist}
 use Rattle.xr_cli.specs.Listed.{repair_to_blame}
 use Rattle.xr_cli.specs.Phases.{blamed_phases, check_answer, check_phases, coded_phases, compared_check, compared_upgrade, exported_phases, fixed_phases, prove_answer, prove_phases, phases_of, repair_answer, repaired_phases, replay_answer, make_answer, make_phases, recorded_made, repaired_made, audited_phases, upgrade_answer, upgrade_phases}
 use Rattle.xr_phases.specs.Phases.{parts, scope_of}
@@ -176,7 +174,7 @@ module _ (told : Bool) (files : Files) (w : MakeValues) (cause : Refused) where
       AreRefused.job_fails record {
         n = n;
         r = r;
-        job = record { elaborated = n; netlist_is = has; fits = fits; is = held; job_is = refl };
+        job = record { netlist_is = has; fits = fits; is = held };
         holds = repair_of_made_fails text n r more;
       }
 
@@ -308,20 +306,11 @@ module _ (told : Bool) (files : Files) where
     tt,
     is.job.netlist_is.fits,
     (
-      is.job.elaborated,
+      is.n,
       is.job.netlist_is.is,
-      (is.recording, made, (tt, is.job.fits, (is.r, is.job.is, (tt, faultless, (not_found, λ found there. tt))))),
+      (is.recording, is.made, (tt, is.job.fits, (is.r, is.job.is, (tt, is.faultless, (made_not_objected w is, λ found there. tt))))),
     ),
   )
-    where
-      made : IsRecordingOf w is.job.elaborated is.recording
-      made = subst (λ (x : ANetlist). IsRecordingOf w x is.recording) is.job.job_is is.made
-
-      faultless : IsFaultless (job_for is.job.elaborated is.r) is.r.recording is.r.binding
-      faultless = subst (λ (x : ANetlist). IsFaultless (job_for x is.r) is.r.recording is.r.binding) is.job.job_is is.faultless
-
-      not_found : (o : Objection) → IsObjectionIn made_conflicts is.job.elaborated is.r.stim o → ⊥
-      not_found = subst (λ (x : ANetlist). (o : Objection) → IsObjectionIn made_conflicts x is.r.stim o → ⊥) is.job.job_is (made_not_objected w is)
   never (OfExport w) t is =
       let objected = not_objected (repair_for w) (netlist_held files w.job) (recording_held files w.job) is in
       passed (OfExport w) t (job_passes files w.job (λ (job : Parts). exported_phases w job.netlist job.recorded) is.n is.r is.job

@@ -6,7 +6,6 @@ use Rattle.xr_make.specs.Netlist.{netlist_text}
 use Rattle.xr_make.specs.Recording.{IsMadeRecording}
 use Rattle.xr_words.specs.Words.{JobValues, MakeValues}
 use Rattle.xr_words.specs.declared.words.Start.TheVariants.{Cold}
-use Rattle.xr_words.specs.declared.words.Undriven.TheVariants.{Released}
 
 -- Its texts are of the module `made`, in a scope of that name, with four rounds and a cold start. They are read from no
 -- file.
@@ -18,7 +17,6 @@ made_job = record {
   rounds = 4;
   places = place_limit;
   start = Cold;
-  undriven = Released;
   netlists = [];
 }
 

@@ -34,15 +34,15 @@ use Rattle.xr_words.specs.Words.{ReplayValues, Values, OfBlame, OfCheck, OfExpor
 use Rattle.xr_words.specs.Words.{OfAudit}
 use Rattle.xr_phases.specs.Certificate.{CheckComes, CheckShows, ConditionsCome, FormComes, form_of}
 use Rattle.xr_phases.specs.Code.{ForcedComes, moments_line, text_limit}
-use Rattle.xr_phases.specs.Phases.{agreed_then, certificate_phases, code_phases, compare_cause, itself, job_phases}
-use Rattle.xr_phases.specs.Phases.{netlist_cause, no_cause, proof_cause, recording_cause, scope_of, start_cause}
-use Rattle.xr_phases.specs.Phases.{uncertified_cause, walk_cause}
+use Rattle.xr_phases.specs.Phases.{certificate_phases, code_phases, compare_cause, itself, job_phases, netlist_cause}
+use Rattle.xr_phases.specs.Phases.{no_cause, proof_cause, recording_cause, scope_of, start_cause, uncertified_cause}
+use Rattle.xr_phases.specs.Phases.{walk_cause}
 use Rattle.xr_phases.specs.Sets.{StartsCome, sets_of}
 use Rattle.xr_cli.specs.Foreign.{ExportComes, refuted_line}
 use Rattle.xr_cli.specs.Audited.{AuditComes}
 use Rattle.xr_cli.specs.Listed.{BlameComes}
 use Rattle.xr_phases.specs.Repair.{LengthComes, CompareComes, Found, ReplayWalkComes, WalkComes, netlist_limit}
-use Rattle.xr_phases.specs.Repair.{recording_limit, rules_of}
+use Rattle.xr_phases.specs.Repair.{recording_limit, rule_of}
 use Rattle.xr_cli.specs.Made.{MadeComes, made_conflicts, made_job, made_netlist}
 use Rattle.xr_phases.specs.declared.cause.Refused.{Refused}
 use Rattle.xr_phases.specs.declared.cause.Refused.TheVariants.{LongNetlist, LongRecording, LongCnf, LongLog}
@@ -102,7 +102,9 @@ repaired_phases w n r = do
   walk_phases w n r
 
 abbrev pub repair_phases : RepairValues → Phases Answer Refused
-repair_phases w = agreed_then w.job (λ (job : Parts). walk_phases w job.netlist job.recorded)
+repair_phases w = do
+  job ← job_phases w.job
+  repaired_phases w job.netlist job.recorded
 
 -- ---- replay
 
@@ -123,7 +125,7 @@ forced_phases w job forces = do
 
 abbrev pub coded_phases : ReplayValues → Parts → Phases Answer Refused
 coded_phases w job = do
-  forces ← code_phases w.code w.job job
+  forces ← code_phases w job
   forced_phases w job forces
 
 abbrev pub replay_phases : ReplayValues → Phases Answer Refused
@@ -156,7 +158,9 @@ compared_check w job = do
   certified_phases w job
 
 abbrev pub check_phases : CheckValues → Phases Answer Refused
-check_phases w = agreed_then w.job (certified_phases w)
+check_phases w = do
+  job ← job_phases w.job
+  compared_check w job
 
 -- ---- upgrade
 
@@ -193,7 +197,9 @@ compared_upgrade w job = do
   certified_upgrade w job
 
 abbrev pub upgrade_phases : UpgradeValues → Phases Answer Refused
-upgrade_phases w = agreed_then w.job (certified_upgrade w)
+upgrade_phases w = do
+  job ← job_phases w.job
+  compared_upgrade w job
 
 -- ---- make
 
@@ -242,7 +248,7 @@ repaired_made w recording n r = do
 abbrev pub recorded_made : MakeValues → ANetlist → List ℕ → Phases Answer Refused
 recorded_made w n recording = do
   r ← judges (RecordingComes recording n.design (scope_of made_job) made_job.rounds made_job.places
-      (rules_of made_job)) recording_cause
+      (rule_of made_job.start)) recording_cause
   repaired_made w recording n r
 
 abbrev pub with_recording : MakeValues → ANetlist → Phases Answer Refused
@@ -269,7 +275,9 @@ exported_phases w n r = do
   walk_exported w n r
 
 abbrev pub export_phases : ExportValues → Phases Answer Refused
-export_phases w = agreed_then w.job (λ (job : Parts). walk_exported w job.netlist job.recorded)
+export_phases w = do
+  job ← job_phases w.job
+  exported_phases w job.netlist job.recorded
 
 -- ---- prove
 
@@ -305,7 +313,9 @@ audited_phases w n r = do
   walk_audited w n r
 
 abbrev pub audit_phases : AuditValues → Phases Answer Refused
-audit_phases w = agreed_then w.job (λ (job : Parts). walk_audited w job.netlist job.recorded)
+audit_phases w = do
+  job ← job_phases w.job
+  audited_phases w job.netlist job.recorded
 
 -- ---- blame
 
@@ -321,7 +331,9 @@ blamed_phases w n r = do
   walk_blamed w n r
 
 abbrev pub blame_phases : BlameValues → Phases Answer Refused
-blame_phases w = agreed_then w.job (λ (job : Parts). walk_blamed w job.netlist job.recorded)
+blame_phases w = do
+  job ← job_phases w.job
+  blamed_phases w job.netlist job.recorded
 
 -- ---- fix
 
@@ -351,7 +363,9 @@ fixed_phases w n r = do
   set_phases w n r
 
 abbrev pub fix_phases : FixValues → Phases Answer Refused
-fix_phases w = agreed_then w.job (λ (job : Parts). set_phases w job.netlist job.recorded)
+fix_phases w = do
+  job ← job_phases w.job
+  fixed_phases w job.netlist job.recorded
 
 -- ---- all
 

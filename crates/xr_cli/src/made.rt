@@ -12,7 +12,7 @@ ghost use Rattle.xr_cli.specs.Made.{made_job, made_netlist};
 ghost use Rattle.xr_cli.specs.Phases.{bytes_in, make_answer, make_phases, make_with, netlist_made, recorded_made};
 ghost use Rattle.xr_cli.specs.Phases.{recording_made, repaired_made, walk_made, with_recording};
 ghost use Rattle.xr_phases.specs.Phases.{itself, recording_cause, scope_of};
-ghost use Rattle.xr_phases.specs.Repair.{FitsParts, rules_of};
+ghost use Rattle.xr_phases.specs.Repair.{FitsParts, rule_of};
 
 use crate::made_texts::MadeTexts;
 use std::alloc::Global;
@@ -20,9 +20,8 @@ use xr_base::Memory;
 use xr_code::read_times;
 use xr_design::{History, StartRule};
 use xr_forces::forces_of;
-use xr_job::{Netlist, PLACES, Recorded, Rules};
+use xr_job::{Netlist, PLACES, Recorded};
 use xr_make::{made_netlist, made_recording};
-use xr_match::UndrivenRule;
 use xr_phases::{
     NETLIST_BYTES, Parts, RECORDING_BYTES, Refused, compared, names_of, netlist_in, recorded_in,
     short_in, wave_of,
@@ -120,24 +119,17 @@ fn recorded<'a, O: Sink>(
         answer_of result }
     ensures out { O.view out.new ≡ O.view out.old }
 {
-    let mut netlist = netlist;
-    let recorded = recorded_of(alloc, texts.recording.as_slice(), &mut netlist)?;
+    let recorded = recorded_of(alloc, texts.recording.as_slice(), &netlist)?;
     repaired(alloc, texts, &Parts { netlist, recorded }, out)
 }
 
-/// What a text records of a netlist, which stays as it is.
-fn recorded_of(
-    alloc: Global,
-    text: &[u8],
-    netlist: &mut Netlist,
-) -> Result<Recorded, Refusal<Refused>>
+/// What a text records of a netlist.
+fn recorded_of(alloc: Global, text: &[u8], netlist: &Netlist) -> Result<Recorded, Refusal<Refused>>
     requires short { length text.now ≤ 2 ^ 28 }
-    requires fits { FitsNetlist netlist.old }
-    ensures judged { Judged (RecordingComes text.now netlist.old.design (scope_of made_job) made_job.rounds
-        made_job.places (rules_of made_job)) recording_cause itself result }
-    ensures same { IfOk result (λ _. netlist.new ≡ netlist.old) }
-    ensures fits { IfOk result (FitsRecorded netlist.new.design) }
-    ensures fits_netlist { IfOk result (λ _. FitsNetlist netlist.new) }
+    requires fits { FitsNetlist netlist.now }
+    ensures judged { Judged (RecordingComes text.now netlist.now.design (scope_of made_job) made_job.rounds
+        made_job.places (rule_of made_job.start)) recording_cause itself result }
+    ensures fits { IfOk result (FitsRecorded netlist.now.design) }
 {
     let scope = names_of(alloc, NAME)?;
     recorded_in(
@@ -147,10 +139,7 @@ fn recorded_of(
         scope.as_slice(),
         ROUNDS,
         PLACES,
-        Rules {
-            start: StartRule::Cold,
-            undriven: UndrivenRule::Released,
-        },
+        StartRule::Cold,
     )
 }
 

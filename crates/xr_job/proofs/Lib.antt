@@ -6,4 +6,3 @@ pub mod OneLoop
 pub mod OneNetlist
 pub mod OneRecording
 pub mod OneText
-pub mod JobNetlists

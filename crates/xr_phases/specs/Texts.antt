@@ -12,7 +12,7 @@ use Rattle.xr_fix.specs.Started.{IsFirstFault, IsStarted, Piece}
 use Rattle.xr_fix.specs.declared.refusal.StartFault.{StartFault}
 use Rattle.xr_job.specs.Compared.{IsRefusedReplay, job_for}
 use Rattle.xr_job.specs.Netlist.{NetlistComes}
-use Rattle.xr_job.specs.Recorded.{RecordingComes, job_netlist}
+use Rattle.xr_job.specs.Recorded.{RecordingComes}
 use Rattle.xr_job.specs.declared.compare_refusal.CompareRefusal.{CompareRefusal}
 use Rattle.xr_job.specs.declared.netlist.Netlist.{Netlist as ANetlist}
 use Rattle.xr_job.specs.declared.netlist_refusal.NetlistRefusal.{NetlistRefusal}
@@ -24,8 +24,7 @@ use Rattle.xr_words.specs.Words.{JobValues}
 use Rattle.xr_phases.specs.Certificate.{IsUncertified, IsWrong}
 use Rattle.xr_phases.specs.Code.{code_in, text_limit}
 use Rattle.xr_phases.specs.Phases.{parts, scope_of}
-use Rattle.xr_phases.specs.Repair.{IsObjectionIn, IsWalked, Walked, netlist_limit, recording_limit, rules_of}
-use Rattle.xr_phases.specs.Repair.{undriven_rule_of}
+use Rattle.xr_phases.specs.Repair.{IsObjectionIn, IsWalked, Walked, netlist_limit, recording_limit, rule_of}
 use Rattle.xr_phases.specs.declared.cause.Objection.{Objection}
 use Rattle.xr_phases.specs.declared.cause.Refused.{Refused}
 use Rattle.xr_phases.specs.declared.cause.Refused.TheVariants.{LongNetlist, Netlist, LongRecording, Recording}
@@ -47,14 +46,11 @@ pub record HasNetlist (w : JobValues) (netlist : List ℕ) (n : ANetlist) : Type
   pub fits : length netlist ≤ netlist_limit
   pub is : NetlistComes netlist w.top (Ok n)
 
--- Nor is the recording's, and it stands for this recording of the design, with its binding and its stimulus. The job has
--- the design that the words' rules make of the netlist's.
+-- Nor is the recording's, and it stands for this recording of the design, with its binding and its stimulus.
 pub record IsJob (w : JobValues) (netlist recording : List ℕ) (n : ANetlist) (r : Recorded) : Type 0 where
-  pub elaborated : ANetlist
-  pub netlist_is : HasNetlist w netlist elaborated
+  pub netlist_is : HasNetlist w netlist n
   pub fits : length recording ≤ recording_limit
-  pub is : RecordingComes recording elaborated.design (scope_of w) w.rounds w.places (rules_of w) (Ok r)
-  pub job_is : n ≡ job_netlist (undriven_rule_of w.undriven) elaborated r.binding.bound
+  pub is : RecordingComes recording n.design (scope_of w) w.rounds w.places (rule_of w.start) (Ok r)
 
 -- ---- refused
 
@@ -73,7 +69,7 @@ pub record IsRefusedRecording (w : JobValues) (netlist recording : List ℕ) (e 
   pub n : ANetlist
   pub netlist_is : HasNetlist w netlist n
   pub fits : length recording ≤ recording_limit
-  pub is : RecordingComes recording n.design (scope_of w) w.rounds w.places (rules_of w) (Err e)
+  pub is : RecordingComes recording n.design (scope_of w) w.rounds w.places (rule_of w.start) (Err e)
 
 -- The texts stand for a job, of which this holds.
 pub record HasJob (w : JobValues) (netlist recording : List ℕ) (Holds : ANetlist → Recorded → Type 0) : Type 0 where

@@ -8,7 +8,7 @@ use Rattle.xr_files.proofs.Others.{IsOther, none_written, not_among, one_more}
 use Rattle.xr_files.specs.Shipped.{AreKept, WritesOthers}
 use Rattle.xr_line.specs.Line.{Text}
 use Rattle.xr_phases.specs.Code.{text_limit}
-use Rattle.xr_phases.specs.Phases.{job_parts, job_phases}
+use Rattle.xr_phases.specs.Phases.{job_phases, parts}
 use Rattle.xr_phases.specs.Repair.{recording_limit}
 use Rattle.xr_phases.specs.declared.cause.Refused.{Refused}
 use Rattle.xr_phases.specs.declared.parts.Parts.{Parts}
@@ -33,7 +33,7 @@ module _ (inputs : List Text) (w : JobValues) (within : (name : Text) → Contai
   recording_in = (within w.recording (0, omega arith, refl), tt)
 
   job_among : (f : Parts → Phases Answer Refused) → ((job : Parts) → ReadsAmong inputs (f job)) → ReadsAmong inputs (job_phases w >>= f)
-  job_among f rest = (netlists_in, λ text n. (recording_in, λ recording r. rest (job_parts w n r)))
+  job_among f rest = (netlists_in, λ text n. (recording_in, λ recording r. rest (parts n r)))
 
 own_in : (name : Text) (names : List Text) → AllByRecursion (Contains (name ∷ names)) (name ∷ [])
 own_in name names = ((0, omega arith, refl), tt)
@@ -66,7 +66,7 @@ job_sure w f name most fits (suc k, less, is) = inl ((k, omega (arith, less), is
 
 -- The certificate comes after them.
 cert_sure : (w : JobValues) (f : Parts → Phases Answer Refused) (name : Text) (most : ℕ) → ((job : Parts) → ReadsSurely name most (f job)) → ReadsSurely name most (job_phases w >>= f)
-cert_sure w f name most rest = inr (λ text n. inr (λ recording r. rest (job_parts w n r)))
+cert_sure w f name most rest = inr (λ text n. inr (λ recording r. rest (parts n r)))
 
 each : (w : Values) (name : Text) → Contains (read_by w) name → ReadsSurely name (most_of w) (phases_of w)
 each (OfRepair w) name named = job_sure w.job (λ (job : Parts). repaired_phases w job.netlist job.recorded) name recording_limit (omega arith) named
@@ -91,7 +91,7 @@ as_listed w = record { only = only w; each = each w }
 -- ---- no file that is read is written
 
 job_finds : (Is : Answer → Type 0) (w : JobValues) (f : Parts → Phases Answer Refused) → ((job : Parts) → FindsOnly Is (f job)) → FindsOnly Is (job_phases w >>= f)
-job_finds Is w f rest = λ text n _ recording r _. rest (job_parts w n r)
+job_finds Is w f rest = λ text n _ recording r _. rest (parts n r)
 
 no_files : (inputs : List Text) (answer : Answer) → answer.files ≡ [] → WritesOthers inputs answer
 no_files inputs answer none = subst (λ (files : List File). All (IsOther inputs) files) (sym none) (none_written inputs)

@@ -68,9 +68,9 @@ impl<'t> Library<'t> {
     }
 }
 
-/// Names, each with the first number that it was given.
+/// Names with the number of the first definition of each.
 #[derive(Drop)]
-pub struct Numbers<'t> {
+struct Numbers<'t> {
     numbers: IndexMap<&'t [u8], usize>,
 }
 
@@ -88,8 +88,7 @@ impl<'t> Numbers<'t> {
     ghost use Rattle.std.specs.Map.{lookup};
     ghost use Rattle.xr_trim.specs.Library.{with_number};
 
-    /// No names. Takes no memory.
-    pub fn new(alloc: Global) -> Numbers<'t>
+    fn new(alloc: Global) -> Numbers<'t>
         ensures { result ≡ [] }
     {
         Numbers {
@@ -97,15 +96,14 @@ impl<'t> Numbers<'t> {
         }
     }
 
-    /// The number of a name. Takes no memory.
-    pub fn find(&self, name: &[u8]) -> Option<usize>
+    fn find(&self, name: &[u8]) -> Option<usize>
         ensures { result ≡ lookup (bytes_eq name.now) self.now }
     {
         self.numbers.get(name).copied()
     }
 
     /// A name more. One that is there keeps its number.
-    pub fn add(&mut self, name: &'t [u8], number: usize) -> Result<(), AllocError>
+    fn add(&mut self, name: &'t [u8], number: usize) -> Result<(), AllocError>
         ensures { OnOk result (self.new ≡ with_number name.now number self.old) }
     {
         if !self.numbers.contains_key(name) {

@@ -1,10 +1,10 @@
 -- What the words of a command give together, and that it is one.
-use Rattle.std.proofs.Common.{◌≡◌, ◌∙◌, ℕ, ◌<◌, List, [], ◌∷◌, ◌++◌, length, Option, Some, None, true, false, codes, refl, sym, ap, subst, arith}
+use Rattle.std.proofs.Common.{◌≡◌, ◌∙◌, ℕ, ◌<◌, List, [], ◌∷◌, ◌++◌, length, Option, Some, None, Bool, true, false, codes, refl, sym, ap, subst, arith}
+use Rattle.std.specs.Str.{bytes_eq}
 use Rattle.xr_words.specs.Forms.{IsCommand, IsNamed, IsNamedOnly, has_files, word_of}
 use Rattle.xr_line.specs.Line.{HasFiles, IsNumber, Item, Text, given, words_of_items}
-use Rattle.xr_line.specs.Read.{files_of, options_by, value_of}
-use Rattle.xr_line.proofs.SameOptions.{same_options}
-use Rattle.xr_words.specs.Words.{AreOutside, BlameValues, CheckValues, ExportValues, FixValues, Gives, GivesBlame, GivesCheck, GivesExport, GivesFix, GivesJob, GivesMake, GivesOptions, GivesProve, GivesRepair, GivesReplay, GivesUpgrade, IsCount, IsForm, IsNumberTo, IsStart, IsUndriven, JobValues, MakeValues, Means, MeansOnly, OfBlame, OfFix, OfCheck, OfExport, OfMake, OfProve, OfRepair, OfReplay, OfUpgrade, ProveValues, RepairValues, ReplayValues, UpgradeValues, Values, form_number, name_of, netlists_of, start_word, undriven_word, AuditValues, GivesAudit, OfAudit}
+use Rattle.xr_line.specs.Read.{files_of, value_of}
+use Rattle.xr_words.specs.Words.{AreOutside, BlameValues, CheckValues, ExportValues, FixValues, Gives, GivesBlame, GivesCheck, GivesExport, GivesFix, GivesJob, GivesMake, GivesOptions, GivesProve, GivesRepair, GivesReplay, GivesUpgrade, IsCount, IsForm, IsNumberTo, IsStart, JobValues, MakeValues, Means, MeansOnly, OfBlame, OfFix, OfCheck, OfExport, OfMake, OfProve, OfRepair, OfReplay, OfUpgrade, ProveValues, RepairValues, ReplayValues, UpgradeValues, Values, form_number, name_of, netlists_of, start_word, AuditValues, GivesAudit, OfAudit}
 use Rattle.xr_words.specs.declared.forms.Name.{Name}
 use Rattle.xr_words.specs.declared.forms.Name.TheVariants.{Blame, Check, Export, Fix, Make, Prove, Repair, Replay, Upgrade, Audit}
 use Rattle.xr_line.specs.declared.line.Line.{Line}
@@ -12,8 +12,91 @@ use Rattle.xr_words.specs.declared.words.Form.{Form}
 use Rattle.xr_words.specs.declared.words.Form.TheVariants.{Lines, Turns}
 use Rattle.xr_words.specs.declared.words.Start.{Start}
 use Rattle.xr_words.specs.declared.words.Start.TheVariants.{Cold, Recorded}
-use Rattle.xr_words.specs.declared.words.Undriven.{Undriven}
-use Rattle.xr_words.specs.declared.words.Undriven.TheVariants as named
+
+-- ---- the same values by another function
+
+-- Two functions give each option the same value.
+abbrev pub AreAlike : (Text → Option Text) → (Text → Option Text) → Type 0
+AreAlike option other = (name : Text) → bytes_eq name (codes "FILE") ≡ false → option name ≡ other name
+
+module _ (option other : Text → Option Text) (each : AreAlike option other) where
+  text_by : (name : Text) → bytes_eq name (codes "FILE") ≡ false → (text : Text) → option name ≡ Some text → other name ≡ Some text
+  text_by name free text is = sym (each name free) ∙ is
+
+  conflicts_by : (count : ℕ) → IsCount (option (codes "conflicts")) 1000 100000 count → IsCount (other (codes "conflicts")) 1000 100000 count
+  conflicts_by count is = subst (λ (o : Option Text). IsCount o 1000 100000 count) (each (codes "conflicts") refl) is
+
+  options_by : (job : JobValues) → GivesOptions option job → GivesOptions other job
+  options_by job gives = record {
+    recording = text_by (codes "record") refl job.recording gives.recording;
+    scope = text_by (codes "scope") refl job.scope gives.scope;
+    top = text_by (codes "top") refl job.top gives.top;
+    rounds = subst (λ (o : Option Text). IsCount o 4 16 job.rounds) (each (codes "rounds") refl) gives.rounds;
+    start = subst (λ (o : Option Text). IsStart o job.start) (each (codes "start") refl) gives.start;
+  }
+
+  job_by : (job : JobValues) → GivesJob option job → GivesJob other job
+  job_by job gives = record { options = options_by job gives.options; places = gives.places }
+
+  pub gives_by : (v : Values) → Gives option v → Gives other v
+  gives_by (OfRepair v) gives = record {
+    job = job_by v.job gives.job;
+    vcd = text_by (codes "vcd") refl v.vcd gives.vcd;
+    code = text_by (codes "code") refl v.code gives.code;
+    cert = text_by (codes "cert") refl v.cert gives.cert;
+    form = subst (λ (o : Option Text). IsForm o v.form) (each (codes "form") refl) gives.form;
+    conflicts = conflicts_by v.conflicts gives.conflicts;
+    apart = gives.apart;
+  }
+  gives_by (OfReplay v) gives = record {
+    options = options_by v.job gives.options;
+    places = subst (λ (o : Option Text). IsCount o 134217728 1099511627776 v.job.places) (each (codes "places") refl) gives.places;
+    code = text_by (codes "code") refl v.code gives.code;
+    vcd = text_by (codes "vcd") refl v.vcd gives.vcd;
+    apart = gives.apart;
+  }
+  gives_by (OfCheck v) gives = record {
+    job = job_by v.job gives.job;
+    cert = text_by (codes "cert") refl v.cert gives.cert;
+    conflicts = conflicts_by v.conflicts gives.conflicts;
+  }
+  gives_by (OfMake v) gives = record {
+    number = subst (λ (o : Option Text). IsNumberTo o 18446744073709551615 v.number) (each (codes "number") refl) gives.number;
+    gates = subst (λ (o : Option Text). IsNumberTo o 100000 v.gates) (each (codes "gates") refl) gives.gates;
+    netlist = text_by (codes "netlist") refl v.netlist gives.netlist;
+    recording = text_by (codes "record") refl v.recording gives.recording;
+    apart = gives.apart;
+  }
+  gives_by (OfExport v) gives = record {
+    job = job_by v.job gives.job;
+    prefix = text_by (codes "to") refl v.prefix gives.prefix;
+    conflicts = conflicts_by v.conflicts gives.conflicts;
+    free = gives.free;
+  }
+  gives_by (OfProve v) gives = record {
+    cnf = text_by (codes "cnf") refl v.cnf gives.cnf;
+    log = text_by (codes "log") refl v.log gives.log;
+  }
+  gives_by (OfAudit v) gives = record {
+    job = job_by v.job gives.job;
+    conflicts = conflicts_by v.conflicts gives.conflicts;
+  }
+  gives_by (OfBlame v) gives = record {
+    job = job_by v.job gives.job;
+    conflicts = conflicts_by v.conflicts gives.conflicts;
+  }
+  gives_by (OfFix v) gives = record {
+    job = job_by v.job gives.job;
+    sets = text_by (codes "set") refl v.sets gives.sets;
+    conflicts = conflicts_by v.conflicts gives.conflicts;
+  }
+  gives_by (OfUpgrade v) gives = record {
+    job = job_by v.job gives.job;
+    cert = text_by (codes "cert") refl v.cert gives.cert;
+    to = text_by (codes "to") refl v.to gives.to;
+    conflicts = conflicts_by v.conflicts gives.conflicts;
+    apart = gives.apart;
+  }
 
 -- ---- one set of values
 
@@ -29,19 +112,6 @@ one_word text Cold Cold first second = refl
 one_word text Cold Recorded first second = absurd (two_starts (sym first ∙ second))
 one_word text Recorded Cold first second = absurd (two_starts (sym second ∙ first))
 one_word text Recorded Recorded first second = refl
-
-two_rules : codes "released" ≡ codes "recorded" → ⊥
-two_rules same = let third : ◌≡◌ {A = ℕ} 108 99 = ap (λ (l : Text). get_or l 2 0) same in omega (arith, third)
-
-one_rule : (text : Text) (a b : Undriven) → text ≡ undriven_word a → text ≡ undriven_word b → a ≡ b
-one_rule text named.Released named.Released first second = refl
-one_rule text named.Released named.Recorded first second = absurd (two_rules (sym first ∙ second))
-one_rule text named.Recorded named.Released first second = absurd (two_rules (sym second ∙ first))
-one_rule text named.Recorded named.Recorded first second = refl
-
-one_undriven : (o : Option Text) (a b : Undriven) → IsUndriven o a → IsUndriven o b → a ≡ b
-one_undriven None a b first second = first ∙ sym second
-one_undriven (Some text) a b first second = one_rule text a b first second
 
 one_start : (o : Option Text) (a b : Start) → IsStart o a → IsStart o b → a ≡ b
 one_start None a b first second = first ∙ sym second
@@ -70,8 +140,7 @@ one_job_within option a b first second places netlists =
     let top = some_same a.top b.top (option (codes "top")) first.top second.top in
     let rounds = one_count (option (codes "rounds")) 4 16 a.rounds b.rounds first.rounds second.rounds in
     let start = one_start (option (codes "start")) a.start b.start first.start second.start in
-    let undriven = one_undriven (option (codes "undriven")) a.undriven b.undriven first.undriven second.undriven in
-    λ i. record { recording = recording i; scope = scope i; top = top i; rounds = rounds i; places = places i; start = start i; undriven = undriven i; netlists = netlists i }
+    λ i. record { recording = recording i; scope = scope i; top = top i; rounds = rounds i; places = places i; start = start i; netlists = netlists i }
 
 one_job : (option : Text → Option Text) (a b : JobValues) → GivesJob option a → GivesJob option b → a.netlists ≡ b.netlists → a ≡ b
 one_job option a b first second netlists =
@@ -237,11 +306,11 @@ module _ (words : List Text) (name : Name) (line : Line) (is : IsNamed words nam
   no_files lacks = subst (λ (b : Bool). HasFiles b (files_of line)) lacks is.is.line.some
 
   -- Words with these values are in the set.
-  pub means : (own : ValuesOf name) → name_of (of name own) ≡ name → netlists_of (of name own) ≡ files_of line → Gives (options_by (value_of line)) (of name own) → Means words (of name own)
+  pub means : (own : ValuesOf name) → name_of (of name own) ≡ name → netlists_of (of name own) ≡ files_of line → Gives (value_of line) (of name own) → Means words (of name own)
   means own named files gives = record {
     items = is.items;
     is = subst (λ (n : Name). IsCommand n words is.items (netlists_of (of name own))) (sym named) (subst (λ (f : List Text). IsCommand name words is.items f) (sym files) is.is);
-    gives = subst (λ (option : Text → Option Text). Gives option (of name own)) (same_options (value_of line) (given is.items) is.each) gives;
+    gives = gives_by (value_of line) (given is.items) is.each (of name own) gives;
   }
 
 module _ (words : List Text) (name : Name) (line : Line) (only : IsNamedOnly words name line) (v : Values) (m : Means words v) where
@@ -252,26 +321,24 @@ module _ (words : List Text) (name : Name) (line : Line) (only : IsNamedOnly wor
   files_are : netlists_of v ≡ files_of line
   files_are = only.files_are (name_of v) m.items (netlists_of v) m.is
 
-  are_given : Gives (options_by (value_of line)) v
-  are_given =
-      subst (λ (option : Text → Option Text). Gives option v)
-      (same_options (given m.items) (value_of line) (only.each (name_of v) m.items (netlists_of v) m.is)) m.gives
+  are_given : Gives (value_of line) v
+  are_given = gives_by (given m.items) (value_of line) (only.each (name_of v) m.items (netlists_of v) m.is) v m.gives
 
 -- They mean nothing else.
-pub means_only : (words : List Text) (name : Name) (line : Line) → IsNamedOnly words name line → (own : ValuesOf name) → netlists_of (of name own) ≡ files_of line → Gives (options_by (value_of line)) (of name own) → MeansOnly words (of name own)
+pub means_only : (words : List Text) (name : Name) (line : Line) → IsNamedOnly words name line → (own : ValuesOf name) → netlists_of (of name own) ≡ files_of line → Gives (value_of line) (of name own) → MeansOnly words (of name own)
 means_only words name line only own files gives other m =
     let theirs = is_of words name line only other m in
     theirs.is
-    ∙ one_own name (options_by (value_of line)) theirs.own own (subst (Gives (options_by (value_of line))) theirs.is (are_given words name line only other m)) gives
+    ∙ one_own name (value_of line) theirs.own own (subst (Gives (value_of line)) theirs.is (are_given words name line only other m)) gives
     (sym (ap (λ (v : Values). netlists_of v) theirs.is) ∙ files_are words name line only other m ∙ sym files)
 
 -- Where the options give no values, the words are outside of the set.
 pub means_none : (words : List Text) (name : Name) (line : Line) → IsNamedOnly words name line
-    → ((own : ValuesOf name) → netlists_of (of name own) ≡ files_of line → Gives (options_by (value_of line)) (of name own) → ⊥) → AreOutside words
+    → ((own : ValuesOf name) → netlists_of (of name own) ≡ files_of line → Gives (value_of line) (of name own) → ⊥) → AreOutside words
 means_none words name line only none v m =
     let theirs = is_of words name line only v m in
     none theirs.own (sym (ap (λ (v : Values). netlists_of v) theirs.is) ∙ files_are words name line only v m)
-    (subst (Gives (options_by (value_of line))) theirs.is (are_given words name line only v m))
+    (subst (Gives (value_of line)) theirs.is (are_given words name line only v m))
 
 -- So are words that name no command.
 pub nothing_named : (words : List Text) → ((name : Name) (items : List Item) (files : List Text) → IsCommand name words items files → ⊥) → AreOutside words

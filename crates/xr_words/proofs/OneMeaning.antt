@@ -12,12 +12,10 @@ use Rattle.xr_line.specs.declared.option.Opt.{Opt}
 use Rattle.xr_line.specs.Tables.{Plain, PlainKind, Reads, Writes, Prefix, Module, Scope, Number, Word, Either, Sets, plain, plain_kind}
 use Rattle.xr_words.specs.Forms.{IsCommand, has_files, table_of, word_of}
 use Rattle.xr_line.specs.Line.{IsLine, Item, Text, are_apart, are_options, given, is_kind, is_name}
-use Rattle.xr_line.specs.Read.{options_by}
-use Rattle.xr_words.specs.Words.{Gives, Means, MeansOnly, Values, name_of, netlists_of}
+use Rattle.xr_words.specs.Words.{Means, MeansOnly, Values, name_of, netlists_of}
 use Rattle.xr_line.proofs.Alike.{line_alike}
-use Rattle.xr_line.proofs.SameOptions.{AreAlike, same_options}
 use Rattle.xr_words.proofs.Commands.{same_name}
-use Rattle.xr_words.proofs.Meanings.{one_values}
+use Rattle.xr_words.proofs.Meanings.{AreAlike, gives_by, one_values}
 use Rattle.xr_line.proofs.Settling.{many_is}
 use Rattle.xr_line.proofs.Whole.{IsPassed, line_passes}
 
@@ -121,8 +119,7 @@ one_meaning words v other first second =
     let is = subst (λ (n : Name). IsCommand n words second.items (netlists_of other)) name second.is in
     let alike = one_given (name_of v) words first.items second.items (netlists_of v) (netlists_of other) first.is is in
     let files = one_files (name_of v) words first.items second.items (netlists_of v) (netlists_of other) first.is is in
-    let gives = subst (λ (option : Text → Option Text). Gives option other) (same_options (given second.items) (given first.items) alike) second.gives in
-    sym (one_values (options_by (given first.items)) v other name first.gives gives (sym files))
+    sym (one_values (given first.items) v other name first.gives (gives_by (given second.items) (given first.items) alike other second.gives) (sym files))
 
 pub means_one : (words : List Text) (v : Values) → Means words v → MeansOnly words v
 means_one words v means = λ other again. one_meaning words v other means again

@@ -1,17 +1,16 @@
 -- The set of command lines, and what each means.
 -- `repair --record R --scope S --top T --vcd V --code C --cert X [--form N] [--rounds N] [--conflicts N] [--start W]
--- [--undriven U] FILE..`
--- `replay --record R --scope S --top T --code C --vcd V [--rounds N] [--places N] [--start W] [--undriven U] FILE..`
--- `check --record R --scope S --top T --cert X [--rounds N] [--conflicts N] [--start W] [--undriven U] FILE..`
+-- FILE..`
+-- `replay --record R --scope S --top T --code C --vcd V [--rounds N] [--places N] [--start W] FILE..`
+-- `check --record R --scope S --top T --cert X [--rounds N] [--conflicts N] [--start W] FILE..`
 -- `make --number N --gates N --netlist F --record R`
--- `export --to PREFIX --record R --scope S --top T [--rounds N] [--conflicts N] [--start W] [--undriven U] FILE..`
+-- `export --to PREFIX --record R --scope S --top T [--rounds N] [--conflicts N] [--start W] FILE..`
 -- `prove --cnf F --log G`
--- `audit --record R --scope S --top T [--rounds N] [--conflicts N] [--start W] [--undriven U] FILE..`
--- `blame --record R --scope S --top T [--rounds N] [--conflicts N] [--start W] [--undriven U] FILE..`
--- `fix --set LIST --record R --scope S --top T [--rounds N] [--conflicts N] [--start W] [--undriven U] FILE..`
--- `upgrade --record R --scope S --top T --cert X --to Y [--rounds N] [--conflicts N] [--start W] [--undriven U] FILE..`
--- with W being `cold` or `recorded`, U being `released` or `recorded`, and LIST being pieces joined by commas, each a
--- name, `=`, and `0` or `1`.
+-- `audit --record R --scope S --top T [--rounds N] [--conflicts N] [--start W] FILE..`
+-- `blame --record R --scope S --top T [--rounds N] [--conflicts N] [--start W] FILE..`
+-- `fix --set LIST --record R --scope S --top T [--rounds N] [--conflicts N] [--start W] FILE..`
+-- `upgrade --record R --scope S --top T --cert X --to Y [--rounds N] [--conflicts N] [--start W] FILE..`
+-- with W being `cold` or `recorded`, and LIST being pieces joined by commas, each a name, `=`, and `0` or `1`.
 use Rattle.std.specs.Prelude.{◌≡◌, ℕ, ◌≤◌, List, [], ◌∷◌, Option, Some, None, codes, map, string_bytes}
 use Rattle.xr_words.specs.declared.forms.Name.{Name}
 use Rattle.xr_words.specs.declared.forms.Name.TheVariants.{Audit, Blame, Check, Export, Fix, Make, Prove}
@@ -32,14 +31,11 @@ use Rattle.xr_words.specs.declared.words.RepairWords.{RepairWords}
 use Rattle.xr_words.specs.declared.words.ReplayWords.{ReplayWords}
 use Rattle.xr_words.specs.declared.words.Start.{Start}
 use Rattle.xr_words.specs.declared.words.Start.TheVariants.{Cold, Recorded}
-use Rattle.xr_words.specs.declared.words.Undriven.{Undriven}
-use Rattle.xr_words.specs.declared.words.Undriven.TheVariants as named
 use Rattle.xr_words.specs.declared.words.UpgradeWords.{UpgradeWords}
 use Rattle.xr_line.specs.Apart.{AreApart}
 use Rattle.xr_words.specs.Free.{AreFree}
 use Rattle.xr_words.specs.Forms.{IsCommand}
 use Rattle.xr_line.specs.Line.{IsNumber, Item, Text, given}
-use Rattle.xr_line.specs.Read.{options_by}
 
 -- ---- values
 
@@ -62,15 +58,6 @@ abbrev pub IsStart : Option Text → Start → Type 0
 IsStart None start = start ≡ Cold
 IsStart (Some text) start = text ≡ start_word start
 
-abbrev pub undriven_word : Undriven → Text
-undriven_word named.Released = codes "released"
-undriven_word named.Recorded = codes "recorded"
-
--- What is said of nets without a driver; they are released where nothing is.
-abbrev pub IsUndriven : Option Text → Undriven → Type 0
-IsUndriven None undriven = undriven ≡ named.Released
-IsUndriven (Some text) undriven = text ≡ undriven_word undriven
-
 abbrev pub form_number : Form → ℕ
 form_number Lines = 1
 form_number Turns = 2
@@ -89,7 +76,6 @@ pub record JobValues : Type 0 where
   pub rounds : ℕ
   pub places : ℕ
   pub start : Start
-  pub undriven : Undriven
   pub netlists : List Text
 
 pub record RepairValues : Type 0 where
@@ -190,7 +176,6 @@ pub record GivesOptions (option : Text → Option Text) (job : JobValues) : Type
   pub top : option (codes "top") ≡ Some job.top
   pub rounds : IsCount (option (codes "rounds")) 4 16 job.rounds
   pub start : IsStart (option (codes "start")) job.start
-  pub undriven : IsUndriven (option (codes "undriven")) job.undriven
 
 -- So they are, and the job is one that is walked over: it has at most 2^27 places.
 pub record GivesJob (option : Text → Option Text) (job : JobValues) : Type 0 where
@@ -283,7 +268,7 @@ Gives option (OfUpgrade v) = GivesUpgrade option v
 pub record Means (words : List Text) (v : Values) : Type 0 where
   pub items : List Item
   pub is : IsCommand (name_of v) words items (netlists_of v)
-  pub gives : Gives (options_by (given items)) v
+  pub gives : Gives (given items) v
 
 -- They are outside of it.
 abbrev pub AreOutside : List Text → Type 0
@@ -303,7 +288,6 @@ job_values words = record {
   rounds = words.rounds;
   places = words.places;
   start = words.start;
-  undriven = words.undriven;
   netlists = map string_bytes words.netlists.now;
 }
 

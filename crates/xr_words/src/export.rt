@@ -2,7 +2,7 @@
 
 ghost use Rattle.std.specs.Prelude.{◌≡◌, ◌↔◌, ◌∷◌, ◌<◌, IsTrue, IfSome, IfNone, length, map, string_bytes};
 ghost use Rattle.std.specs.List.{All};
-ghost use Rattle.xr_line.specs.Read.{options_by, value_of};
+ghost use Rattle.xr_line.specs.Read.{value_of};
 ghost use Rattle.xr_words.specs.Free.{AreFree, BeginsWith, IsEnding, IsFree};
 ghost use Rattle.xr_words.specs.Words.{ExportValues, GivesExport, export_values};
 
@@ -15,9 +15,9 @@ use xr_line::Line;
 pub fn export_of<'a>(line: &Line<'a>, files: &'a [String]) -> Option<ExportWords<'a>>
     requires { 0 < length files.now }
     ensures files { IfSome result (λ words. (export_values words).job.netlists ≡ map string_bytes files.now) }
-    ensures gives { IfSome result (λ words. GivesExport (options_by (value_of line.now)) (export_values words)) }
+    ensures gives { IfSome result (λ words. GivesExport (value_of line.now) (export_values words)) }
     ensures none { IfNone result ((v : ExportValues) → v.job.netlists ≡ map string_bytes files.now
-        → GivesExport (options_by (value_of line.now)) v → ⊥) }
+        → GivesExport (value_of line.now) v → ⊥) }
 {
     let job = job_of(line, files)?;
     let prefix = line.get("to")?;

@@ -29,5 +29,5 @@ pub use read::read_words;
 pub use usage::usage_of;
 pub use words::{
     AuditWords, BlameWords, CheckWords, Command, ExportWords, FixWords, Form, JobWords, MakeWords,
-    ProveWords, RepairWords, ReplayWords, Start, Undriven, UpgradeWords,
+    ProveWords, RepairWords, ReplayWords, Start, UpgradeWords,
 };

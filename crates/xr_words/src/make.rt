@@ -1,7 +1,7 @@
 //! The words of `make`.
 
 ghost use Rattle.std.specs.Prelude.{◌≡◌, ◌↔◌, ◌≤◌, ◌≢◌, [], ◌∷◌, ℕ, Some, IsTrue, IfSome, IfNone, codes};
-ghost use Rattle.xr_line.specs.Read.{options_by, value_of};
+ghost use Rattle.xr_line.specs.Read.{value_of};
 ghost use Rattle.xr_words.specs.Words.{GivesMake, IsNumberTo, MakeValues, make_values};
 
 use crate::words::MakeWords;
@@ -12,8 +12,8 @@ const MOST_GATES: u64 = 100_000;
 
 /// What the options name, none where one lacks or has no value that it may have.
 pub fn make_of<'a>(line: &Line<'a>) -> Option<MakeWords<'a>>
-    ensures gives { IfSome result (λ words. GivesMake (options_by (value_of line.now)) (make_values words)) }
-    ensures none { IfNone result ((v : MakeValues) → GivesMake (options_by (value_of line.now)) v → ⊥) }
+    ensures gives { IfSome result (λ words. GivesMake (value_of line.now) (make_values words)) }
+    ensures none { IfNone result ((v : MakeValues) → GivesMake (value_of line.now) v → ⊥) }
 {
     let number = number_in(line.get("number")?)?;
     let gates = gates_in(line.get("gates")?)?;

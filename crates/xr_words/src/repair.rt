@@ -1,7 +1,7 @@
 //! The words of `repair`.
 
 ghost use Rattle.std.specs.Prelude.{◌≡◌, ◌↔◌, [], ◌∷◌, ◌<◌, IsTrue, IfSome, IfNone, length, map, string_bytes};
-ghost use Rattle.xr_line.specs.Read.{options_by, value_of};
+ghost use Rattle.xr_line.specs.Read.{value_of};
 ghost use Rattle.xr_line.specs.Apart.{AreApart};
 ghost use Rattle.xr_words.specs.Words.{GivesRepair, RepairValues, repair_values};
 
@@ -14,9 +14,9 @@ use xr_line::{Line, are_apart};
 pub fn repair_of<'a>(line: &Line<'a>, files: &'a [String]) -> Option<RepairWords<'a>>
     requires { 0 < length files.now }
     ensures files { IfSome result (λ words. (repair_values words).job.netlists ≡ map string_bytes files.now) }
-    ensures gives { IfSome result (λ words. GivesRepair (options_by (value_of line.now)) (repair_values words)) }
+    ensures gives { IfSome result (λ words. GivesRepair (value_of line.now) (repair_values words)) }
     ensures none { IfNone result ((v : RepairValues) → v.job.netlists ≡ map string_bytes files.now
-        → GivesRepair (options_by (value_of line.now)) v → ⊥) }
+        → GivesRepair (value_of line.now) v → ⊥) }
 {
     let job = job_of(line, files)?;
     let vcd = line.get("vcd")?;

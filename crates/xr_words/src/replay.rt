@@ -1,7 +1,7 @@
 //! The words of `replay`.
 
 ghost use Rattle.std.specs.Prelude.{◌≡◌, ◌↔◌, [], ◌∷◌, ◌<◌, IsTrue, IfSome, IfNone, length, map, string_bytes};
-ghost use Rattle.xr_line.specs.Read.{options_by, value_of};
+ghost use Rattle.xr_line.specs.Read.{value_of};
 ghost use Rattle.xr_line.specs.Apart.{AreApart};
 ghost use Rattle.xr_words.specs.Words.{GivesReplay, ReplayValues, replay_values};
 
@@ -14,9 +14,9 @@ use xr_line::{Line, are_apart};
 pub fn replay_of<'a>(line: &Line<'a>, files: &'a [String]) -> Option<ReplayWords<'a>>
     requires { 0 < length files.now }
     ensures files { IfSome result (λ words. (replay_values words).job.netlists ≡ map string_bytes files.now) }
-    ensures gives { IfSome result (λ words. GivesReplay (options_by (value_of line.now)) (replay_values words)) }
+    ensures gives { IfSome result (λ words. GivesReplay (value_of line.now) (replay_values words)) }
     ensures none { IfNone result ((v : ReplayValues) → v.job.netlists ≡ map string_bytes files.now
-        → GivesReplay (options_by (value_of line.now)) v → ⊥) }
+        → GivesReplay (value_of line.now) v → ⊥) }
 {
     let places = places_of(line)?;
     let words = ReplayWords {

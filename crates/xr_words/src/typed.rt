@@ -4,11 +4,10 @@ ghost use Rattle.std.specs.Prelude.{◌≡◌, ◌≤◌, ℕ, Some, IfSome, IfN
 ghost use Rattle.xr_line.specs.Read.{value_of};
 ghost use Rattle.xr_words.specs.declared.words.Form.{Form};
 ghost use Rattle.xr_words.specs.declared.words.Start.{Start};
-ghost use Rattle.xr_words.specs.declared.words.Undriven.{Undriven};
-ghost use Rattle.xr_words.specs.Words.{IsCount, IsForm, IsStart, IsUndriven};
+ghost use Rattle.xr_words.specs.Words.{IsCount, IsForm, IsStart};
 
 use crate::job::PLACES;
-use crate::words::{Form, Start, Undriven};
+use crate::words::{Form, Start};
 use xr_line::{Line, number_in};
 
 /// The most clauses of a search, and how many there are where none are given.
@@ -97,28 +96,6 @@ fn start_in(text: &str) -> Option<Start>
     match text {
         "cold" => Some(Start::Cold),
         "recorded" => Some(Start::Recorded),
-        _ => None,
-    }
-}
-
-/// What an option says of nets without a driver; they are released where it is absent.
-pub fn undriven_of(text: Option<&str>) -> Option<Undriven>
-    ensures undriven { IfSome result (IsUndriven (option_map (λ s. s.now) text.entry)) }
-    ensures none { IfNone result ((undriven : Undriven) → IsUndriven (option_map (λ s. s.now) text.entry) undriven → ⊥) }
-{
-    match text {
-        Some(text) => undriven_in(text),
-        None => Some(Undriven::Released),
-    }
-}
-
-fn undriven_in(text: &str) -> Option<Undriven>
-    ensures undriven { IfSome result (IsUndriven (Some text.now)) }
-    ensures none { IfNone result ((undriven : Undriven) → IsUndriven (Some text.now) undriven → ⊥) }
-{
-    match text {
-        "released" => Some(Undriven::Released),
-        "recorded" => Some(Undriven::Recorded),
         _ => None,
     }
 }

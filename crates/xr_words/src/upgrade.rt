@@ -1,7 +1,7 @@
 //! The words of `upgrade`.
 
 ghost use Rattle.std.specs.Prelude.{◌≡◌, ◌↔◌, [], ◌∷◌, ◌<◌, IsTrue, IfSome, IfNone, length, map, string_bytes};
-ghost use Rattle.xr_line.specs.Read.{options_by, value_of};
+ghost use Rattle.xr_line.specs.Read.{value_of};
 ghost use Rattle.xr_line.specs.Apart.{AreApart};
 ghost use Rattle.xr_words.specs.Words.{GivesUpgrade, UpgradeValues, upgrade_values};
 
@@ -14,9 +14,9 @@ use xr_line::{Line, are_apart};
 pub fn upgrade_of<'a>(line: &Line<'a>, files: &'a [String]) -> Option<UpgradeWords<'a>>
     requires { 0 < length files.now }
     ensures files { IfSome result (λ words. (upgrade_values words).job.netlists ≡ map string_bytes files.now) }
-    ensures gives { IfSome result (λ words. GivesUpgrade (options_by (value_of line.now)) (upgrade_values words)) }
+    ensures gives { IfSome result (λ words. GivesUpgrade (value_of line.now) (upgrade_values words)) }
     ensures none { IfNone result ((v : UpgradeValues) → v.job.netlists ≡ map string_bytes files.now
-        → GivesUpgrade (options_by (value_of line.now)) v → ⊥) }
+        → GivesUpgrade (value_of line.now) v → ⊥) }
 {
     let words = UpgradeWords {
         job: job_of(line, files)?,

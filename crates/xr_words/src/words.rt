@@ -27,15 +27,6 @@ pub enum Start {
     Recorded,
 }
 
-/// What nets without a driver have.
-#[derive(Clone, Copy, Debug, PartialEq, Eq)]
-pub enum Undriven {
-    /// Each floats.
-    Released,
-    /// Each has what is recorded of it, if anything is.
-    Recorded,
-}
-
 /// The form of a certificate.
 #[derive(Clone, Copy, Debug, PartialEq, Eq)]
 pub enum Form {
@@ -59,7 +50,6 @@ pub struct JobWords<'a> {
     /// The most places: nets by moments by rounds, 1 to 2^40.
     pub places: u64,
     pub start: Start,
-    pub undriven: Undriven,
     /// The files of the netlist, one or more.
     pub netlists: &'a [String],
     ghost some_files: { 0 < length netlists.now },

@@ -1,6 +1,6 @@
 //! `check`: reads a netlist, a recording of it and a certificate, and prints the report of what the certificate shows.
 
-ghost use Rattle.xr_words.specs.Words.{check_values, job_values};
+ghost use Rattle.xr_words.specs.Words.{check_values};
 ghost use Rattle.xr_design.specs.Handed.{IsReplay};
 ghost use Rattle.xr_job.specs.Compared.{job_for};
 ghost use Rattle.xr_run.specs.Prepared.{Prepared, answer_of};
@@ -10,35 +10,15 @@ ghost use Rattle.xr_phases.specs.Repair.{FitsParts};
 use crate::checked::checked;
 use std::alloc::Global;
 use xr_design::History;
-use xr_phases::{AfterAgreed, Agreed, Parts, Refused, certificate_of, prepare_agreed};
+use xr_phases::{Parts, Refused, agreed_of, certificate_of};
 use xr_run::{Prepare, Ready, Refusal};
 use xr_shelf::{Shelf, Sink};
-use xr_words::{CheckWords, JobWords};
+use xr_words::CheckWords;
 
 /// `check` with its words.
 #[derive(Clone, Copy, Debug)]
 pub struct Check<'a> {
     pub words: CheckWords<'a>,
-}
-
-impl<'a> AfterAgreed for Check<'a> {
-    ghost job = { λ command. job_values command.words.job };
-
-    ghost after = { λ command. certified_phases (check_values command.words) };
-
-    fn words(&self) -> &JobWords<'_> {
-        &self.words.job
-    }
-
-    fn go_on<S: Shelf, O: Sink>(
-        &self,
-        alloc: Global,
-        shelf: &mut S,
-        agreed: &Agreed,
-        _out: &mut O,
-    ) -> Result<Ready<'_>, Refusal<Refused>> {
-        check_agreed(alloc, shelf, &self.words, &agreed.job, &agreed.history)
-    }
 }
 
 impl<'a> Prepare for Check<'a> {
@@ -50,9 +30,10 @@ impl<'a> Prepare for Check<'a> {
         &self,
         alloc: Global,
         shelf: &mut S,
-        out: &mut O,
+        _out: &mut O,
     ) -> Result<Ready<'_>, Refusal<Refused>> {
-        prepare_agreed(self, alloc, shelf, out)
+        let agreed = agreed_of(alloc, shelf, &self.words.job)?;
+        check_agreed(alloc, shelf, &self.words, &agreed.job, &agreed.history)
     }
 }
 

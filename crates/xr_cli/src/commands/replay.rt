@@ -46,6 +46,6 @@ fn replay_job<'a, S: Shelf>(
     ensures { Prepared S.told (coded_phases (replay_values words.now) job.now) answer_of
         (S.view shelf.old) (S.view shelf.new) result }
 {
-    let forces = forces_of(alloc, shelf, words.code, &words.job, job)?;
+    let forces = forces_of(alloc, shelf, words, job)?;
     replayed(alloc, words, job, &forces)
 }

@@ -1,7 +1,7 @@
 //! `upgrade`: reads a netlist, a recording of it and a certificate of form 1, and writes the certificate of form 2 with
 //! the same lines.
 
-ghost use Rattle.xr_words.specs.Words.{upgrade_values, job_values};
+ghost use Rattle.xr_words.specs.Words.{upgrade_values};
 ghost use Rattle.xr_design.specs.Handed.{IsReplay};
 ghost use Rattle.xr_job.specs.Compared.{job_for};
 ghost use Rattle.xr_run.specs.Prepared.{Prepared, answer_of};
@@ -11,35 +11,15 @@ ghost use Rattle.xr_phases.specs.Repair.{FitsParts};
 use crate::upgraded::upgraded;
 use std::alloc::Global;
 use xr_design::History;
-use xr_phases::{AfterAgreed, Agreed, Parts, Refused, certificate_of, prepare_agreed};
+use xr_phases::{Parts, Refused, agreed_of, certificate_of};
 use xr_run::{Prepare, Ready, Refusal};
 use xr_shelf::{Shelf, Sink};
-use xr_words::{JobWords, UpgradeWords};
+use xr_words::UpgradeWords;
 
 /// `upgrade` with its words.
 #[derive(Clone, Copy, Debug)]
 pub struct Upgrade<'a> {
     pub words: UpgradeWords<'a>,
-}
-
-impl<'a> AfterAgreed for Upgrade<'a> {
-    ghost job = { λ command. job_values command.words.job };
-
-    ghost after = { λ command. certified_upgrade (upgrade_values command.words) };
-
-    fn words(&self) -> &JobWords<'_> {
-        &self.words.job
-    }
-
-    fn go_on<S: Shelf, O: Sink>(
-        &self,
-        alloc: Global,
-        shelf: &mut S,
-        agreed: &Agreed,
-        _out: &mut O,
-    ) -> Result<Ready<'_>, Refusal<Refused>> {
-        upgrade_agreed(alloc, shelf, &self.words, &agreed.job, &agreed.history)
-    }
 }
 
 impl<'a> Prepare for Upgrade<'a> {
@@ -51,9 +31,10 @@ impl<'a> Prepare for Upgrade<'a> {
         &self,
         alloc: Global,
         shelf: &mut S,
-        out: &mut O,
+        _out: &mut O,
     ) -> Result<Ready<'_>, Refusal<Refused>> {
-        prepare_agreed(self, alloc, shelf, out)
+        let agreed = agreed_of(alloc, shelf, &self.words.job)?;
+        upgrade_agreed(alloc, shelf, &self.words, &agreed.job, &agreed.history)
     }
 }
 
