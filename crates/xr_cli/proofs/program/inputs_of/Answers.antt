@@ -1,0 +1,24 @@
+-- The files of the command that the words begin with.
+use Rattle.std.proofs.Common.{rules, map, ◌≡◌, ◌∷◌}
+use Rattle.std.specs.Prelude.{string_bytes}
+use Rattle.xr_set.proofs.Runs.{inputs_read, none_read}
+use Rattle.xr_phases.proofs.Statuses.{IsOfTexts}
+use Rattle.xr_cli.specs.Commands.{command_of, reporting, word_of}
+use Rattle.xr_cli.proofs.Lawful.{apart, lawful_of}
+use Rattle.xr_cli.proofs.program.inputs_of.Goals as goal
+
+pub returns-in-Some-name_of-clause-set : goal.returns-in-Some-name_of-clause-set
+returns-in-Some-name_of-clause-set c =
+    let words = map string_bytes c.args.words.now in
+    let rest = map string_bytes c.in-Some.rest.now in
+    let name = c.in-Some-name_of.name in
+    let is : words ≡ word_of name ∷ rest = search rules in
+    inputs_read command_of reporting apart IsOfTexts lawful_of words name rest is c.inputs_named.result c.inputs_named.ensures.set
+
+pub returns-in-Some-name_of-clause-none : goal.returns-in-Some-name_of-clause-none
+returns-in-Some-name_of-clause-none c =
+    let words = map string_bytes c.args.words.now in
+    let rest = map string_bytes c.in-Some.rest.now in
+    let name = c.in-Some-name_of.name in
+    let is : words ≡ word_of name ∷ rest = search rules in
+    none_read command_of reporting apart words name rest is c.inputs_named.result c.inputs_named.ensures.none
