@@ -21,11 +21,15 @@ use Rattle.xr_run.specs.declared.refusal.Refusal.{Refusal}
 use Rattle.xr_run.specs.declared.refusal.Refusal.TheVariants.{Read, Long, Text, Memory}
 use Rattle.xr_run.proofs.Then.{searched_prepared}
 use Rattle.xr_wave.specs.Contents.{Contents, IsFinished, IsWave, job, nothing_written}
-use Rattle.xr_cli.specs.Audit.{AuditValues, AuditComes, ListsAudit, PrintsAudit, Audits, walk_audited}
+use Rattle.xr_words.specs.Words.{AuditValues}
+use Rattle.xr_cli.specs.Audited.{AuditComes, ListsAudit, PrintsAudit}
+use Rattle.xr_cli.specs.Audits.{Audits}
 use Rattle.xr_cli.specs.Headline.{wave_of}
-use Rattle.xr_phases.specs.Phases.{no_cause, walk_cause, parts}
+use Rattle.xr_cli.specs.Phases.{walk_audited}
+use Rattle.xr_phases.specs.Phases.{no_cause, walk_cause}
 use Rattle.xr_phases.specs.Repair.{IsObjectionBy, IsRepairedBy, WaveComes}
 use Rattle.xr_phases.specs.Texts.{IsAgreed, IsJob}
+use Rattle.xr_phases.specs.Phases.{parts}
 use Rattle.xr_phases.specs.declared.cause.Objection.{Objection}
 use Rattle.xr_phases.specs.declared.cause.Refused.{Refused}
 

@@ -1,25 +1,16 @@
 -- Lemmas on the program.
-mod Audit
 mod Auditing
-mod Blame
 mod Certified
-mod Check
+mod Answering
 mod Conditioned
-mod Export
-mod Fix
-mod Free
+mod Fixing
 mod Headlines
-mod Inputs
-pub mod Lawful
-mod Make
+mod Lawfully
 mod Making
 mod Needing
 mod OwnChecks
 mod OwnForces
-mod Prove
-mod Repair
-mod Replay
 mod Restarts
+mod Runs
 mod TextsOf
-mod Upgrade
 mod Walk

@@ -18,16 +18,13 @@ use Rattle.xr_job.specs.declared.netlist.Netlist.{Netlist as ANetlist}
 use Rattle.xr_job.specs.declared.recorded.Recorded.{Recorded}
 use Rattle.xr_export.specs.Export.{Exports}
 use Rattle.xr_prove.specs.Proof.{ProofComes}
-use Rattle.xr_cli.specs.Blame.{BlameValues, BlameComes, ListsBlame, walk_blamed}
-use Rattle.xr_cli.specs.Check.{CheckValues, check_answer, checked_phases}
-use Rattle.xr_cli.specs.Export.{ExportValues, ExportComes, walk_exported}
-use Rattle.xr_cli.specs.Make.{MakeValues, made_conflicts, make_answer, walk_made}
-use Rattle.xr_cli.specs.Repair.{RepairValues, forces_in, repair_answer, texts_phases, walk_phases}
-use Rattle.xr_cli.specs.Replay.{ReplayValues, forced_phases, replay_answer}
-use Rattle.xr_cli.specs.Upgrade.{UpgradeValues, checked_upgrade, turned_phases, upgrade_answer}
+use Rattle.xr_words.specs.Words.{BlameValues, CheckValues, ExportValues, MakeValues, RepairValues, ReplayValues, UpgradeValues}
 use Rattle.xr_phases.specs.Certificate.{CheckComes, CheckShows, ConditionsCome, IsCertified, check_shows, form_of}
 use Rattle.xr_phases.specs.Code.{ForcedComes, IsForced}
-use Rattle.xr_cli.specs.Prove.{proof_phases, prove_answer}
+use Rattle.xr_cli.specs.Foreign.{ExportComes}
+use Rattle.xr_cli.specs.Listed.{BlameComes, ListsBlame}
+use Rattle.xr_cli.specs.Made.{made_conflicts}
+use Rattle.xr_cli.specs.Phases.{check_answer, checked_phases, checked_upgrade, forced_phases, forces_in, make_answer, proof_phases, prove_answer, repair_answer, replay_answer, walk_blamed, texts_phases, turned_phases, upgrade_answer, walk_exported, walk_made, walk_phases}
 use Rattle.xr_phases.specs.Phases.{itself, no_cause, proof_cause, walk_cause}
 use Rattle.xr_phases.specs.Repair.{Found, IsFound, WalkComes}
 use Rattle.xr_phases.specs.declared.parts.Parts.{Parts}

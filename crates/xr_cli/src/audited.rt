@@ -6,12 +6,13 @@ ghost use Rattle.xr_design.specs.Handed.{IsBlank, IsReplay};
 ghost use Rattle.xr_job.specs.Compared.{job_for};
 ghost use Rattle.xr_run.specs.Prepared.{IsJudgedBy, PreparedAlone, answer_of};
 ghost use Rattle.xr_wave.specs.Contents.{IsLimit};
-ghost use Rattle.xr_cli.specs.Audit.{audit_values, AuditComes, PrintsAudit, walk_audited};
+ghost use Rattle.xr_words.specs.Words.{audit_values};
+ghost use Rattle.xr_cli.specs.Audited.{AuditComes, PrintsAudit};
+ghost use Rattle.xr_cli.specs.Phases.{walk_audited};
 ghost use Rattle.xr_phases.specs.Phases.{no_cause};
 ghost use Rattle.xr_phases.specs.Repair.{FitsParts, IsRepairedBy};
 
 use crate::checked::ready_with;
-use crate::commands::audit::Audit;
 use std::alloc::Global;
 use xr_base::Memory;
 use xr_design::History;
@@ -20,11 +21,12 @@ use xr_phases::{Parts, Refused, wave_under};
 use xr_run::{Ready, Refusal, Report};
 use xr_shelf::Sink;
 use xr_wave::Wave;
+use xr_words::AuditWords;
 
 /// The walk over the places of a job that agrees, of which nothing is known, and its audit beside the replay.
 pub fn audited<'a, O: Sink>(
     alloc: Global,
-    words: &Audit<'a>,
+    words: &AuditWords<'a>,
     job: &Parts,
     history: &History,
     out: &mut O,

@@ -7,13 +7,13 @@ ghost use Rattle.xr_job.specs.Netlist.{FitsNetlist};
 ghost use Rattle.xr_job.specs.Recorded.{FitsRecorded, RecordingComes};
 ghost use Rattle.xr_run.specs.Prepared.{Judged, PreparedAlone, answer_of};
 ghost use Rattle.xr_wave.specs.Contents.{IsFinished};
-ghost use Rattle.xr_cli.specs.Make.{make_values, made_job, made_netlist, bytes_in, make_answer, make_phases, make_with};
-ghost use Rattle.xr_cli.specs.Make.{netlist_made, recorded_made, recording_made, repaired_made, walk_made};
-ghost use Rattle.xr_cli.specs.Make.{with_recording};
+ghost use Rattle.xr_words.specs.Words.{make_values};
+ghost use Rattle.xr_cli.specs.Made.{made_job, made_netlist};
+ghost use Rattle.xr_cli.specs.Phases.{bytes_in, make_answer, make_phases, make_with, netlist_made, recorded_made};
+ghost use Rattle.xr_cli.specs.Phases.{recording_made, repaired_made, walk_made, with_recording};
 ghost use Rattle.xr_phases.specs.Phases.{itself, recording_cause, scope_of};
 ghost use Rattle.xr_phases.specs.Repair.{FitsParts, rule_of};
 
-use crate::commands::make::Make;
 use crate::made_texts::MadeTexts;
 use std::alloc::Global;
 use xr_base::Memory;
@@ -30,6 +30,7 @@ use xr_report::write_head;
 use xr_run::{Output, Ready, Refusal, Report};
 use xr_shelf::Sink;
 use xr_wave::Wave;
+use xr_words::MakeWords;
 
 /// The module of a made netlist, and the scope of its recording.
 const NAME: &str = "made";
@@ -43,7 +44,7 @@ const CONFLICTS: u32 = 1_000;
 /// What the words ask. The sink is told how far the walk has come.
 pub fn made<'a, O: Sink>(
     alloc: Global,
-    words: &Make<'a>,
+    words: &MakeWords<'a>,
     out: &mut O,
 ) -> Result<Ready<'a>, Refusal<Refused>>
     ensures prepared { PreparedAlone (make_phases (make_values words.now)) answer_of result }
@@ -66,7 +67,7 @@ fn netlist_of(alloc: Global, text: &[u8]) -> Result<Netlist, Refusal<Refused>>
 /// The recording of a netlist, and what the words ask of both.
 fn with_netlist<'a, O: Sink>(
     alloc: Global,
-    words: &Make<'a>,
+    words: &MakeWords<'a>,
     text: Vec<u8>,
     netlist: Netlist,
     out: &mut O,
@@ -88,7 +89,7 @@ fn with_netlist<'a, O: Sink>(
 /// The recording of a netlist, where it isn't too long.
 fn recording_of(
     alloc: Global,
-    words: &Make<'_>,
+    words: &MakeWords<'_>,
     netlist: &Netlist,
 ) -> Result<Vec<u8>, Refusal<Refused>>
     requires { FitsNetlist netlist.now }

@@ -12,4 +12,3 @@ pub mod Files
 pub mod Settling
 pub mod Apart
 pub mod Alike
-pub mod SameOptions

@@ -14,7 +14,7 @@ use Rattle.xr_job.specs.declared.netlist_refusal.NetlistRefusal.{NetlistRefusal}
 use Rattle.xr_job.specs.declared.recorded.Recorded.{Recorded}
 use Rattle.xr_job.specs.declared.recording_refusal.RecordingRefusal.{RecordingRefusal}
 use Rattle.xr_line.specs.Line.{pieces_of}
-use Rattle.xr_words.specs.Words.{JobValues}
+use Rattle.xr_words.specs.Words.{JobValues, ReplayValues}
 use Rattle.xr_phases.specs.Certificate.{CertificateComes}
 use Rattle.xr_phases.specs.Code.{CodeComes, code_in, text_limit}
 use Rattle.xr_phases.specs.Repair.{CompareComes, netlist_limit, recording_limit, rule_of}
@@ -97,16 +97,12 @@ agreed_phases w = do
 abbrev pub agreed_job : Agreed → Parts
 agreed_job agreed = agreed.job
 
--- And then what a command comes to.
-abbrev pub agreed_then : {A : Type 0} → JobValues → (Parts → Phases A Refused) → Phases A Refused
-agreed_then w after = agreed_phases w >>= after
-
 -- ---- a code, and a certificate
 
-abbrev pub code_phases : List ℕ → JobValues → Parts → Phases (List Event) Refused
-code_phases name w job = do
-  text ← reads (name ∷ []) text_limit LongCode
-  judges (CodeComes (code_in job text (scope_of w))) code_cause
+abbrev pub code_phases : ReplayValues → Parts → Phases (List Event) Refused
+code_phases w job = do
+  text ← reads (w.code ∷ []) text_limit LongCode
+  judges (CodeComes (code_in job text (scope_of w.job))) code_cause
 
 abbrev pub certificate_phases : List ℕ → Phases Cert Refused
 certificate_phases name = do

@@ -12,7 +12,7 @@ use Rattle.xr_model.specs.declared.line.Line.{Line as ALine}
 use Rattle.xr_run.specs.Outputs.{File}
 use Rattle.xr_run.specs.Phases.{Answer}
 use Rattle.xr_wave.specs.Contents.{Contents}
-use Rattle.xr_cli.specs.Free.{AreFree, BeginsWith}
+use Rattle.xr_words.specs.Free.{AreFree, BeginsWith}
 
 pub all_others : (inputs : List Text) (files : List File) → AllByRecursion (IsOther inputs) files → All (IsOther inputs) files
 all_others inputs [] others = none_written inputs

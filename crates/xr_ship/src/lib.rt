@@ -2,8 +2,8 @@
 //! the words on them. Start at `ship`; its clauses' words are those of `Shipped` in xr_files, and of `Comes`, `Done`,
 //! `RefusesTexts` and `EndsInOrder`, which `run` has.
 //!
-//! `reads_as_listed` is the law of the files that each command says that it reads (`specs/Reads.antt`): its phases read
-//! just these.
+//! `specs/Reads.antt` lists the files that each command reads, and `reads_as_listed` is the law of the list: a command's
+//! phases read just these.
 #![tactic(auto)]
 
 mod inputs;

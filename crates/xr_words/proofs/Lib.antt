@@ -1,1 +1,5 @@
-pub mod OneJob
+pub mod Commands
+pub mod Free
+pub mod Meanings
+pub mod OneMeaning
+pub mod ScopeNames

@@ -1,3 +1,4 @@
--- Definitions of the words of a job.
+-- Definitions of the command lines of the program.
 pub mod Forms
+pub mod Free
 pub mod Words

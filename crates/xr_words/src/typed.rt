@@ -6,7 +6,7 @@ ghost use Rattle.xr_words.specs.declared.words.Form.{Form};
 ghost use Rattle.xr_words.specs.declared.words.Start.{Start};
 ghost use Rattle.xr_words.specs.Words.{IsCount, IsForm, IsStart};
 
-use crate::job::PLACE_LIMIT;
+use crate::job::PLACES;
 use crate::words::{Form, Start};
 use xr_line::{Line, number_in};
 
@@ -36,7 +36,7 @@ pub fn places_of(line: &Line<'_>) -> Option<u64>
     ensures none { IfNone result ((count : ℕ)
         → IsCount (value_of line.now (codes "places")) 134217728 1099511627776 count → ⊥) }
 {
-    long_count_of(line.get("places"), PLACE_LIMIT, MOST_PLACES)
+    long_count_of(line.get("places"), PLACES, MOST_PLACES)
 }
 
 /// The number of an option that may be absent, from 1 to `most`.

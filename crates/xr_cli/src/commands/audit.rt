@@ -1,83 +1,25 @@
 //! `audit`: reads a netlist and a recording of it, and prints the places that the replay knows otherwise.
 
-ghost use Rattle.std.specs.Prelude.{◌≤◌};
+ghost use Rattle.xr_words.specs.Words.{audit_values};
+ghost use Rattle.xr_cli.specs.Phases.{audit_phases};
 
 use crate::audited::audited;
 use std::alloc::Global;
-use xr_line::{Line, Opt};
-use xr_phases::{AfterAgreed, Agreed, RECORDING_BYTES, Refused, prepare_agreed};
-use xr_run::{Ready, Refusal};
-use xr_set::{Form, Inputs, Run};
+use xr_phases::{Refused, agreed_of};
+use xr_run::{Prepare, Ready, Refusal};
 use xr_shelf::{Shelf, Sink};
-use xr_words::{CONFLICTS, JobWords, RECORD, ROUNDS, SCOPE, START, TOP, conflicts_of, job_of};
+use xr_words::AuditWords;
 
-static OPTIONS: [Opt<'static>; 6] = [RECORD, SCOPE, TOP, ROUNDS, CONFLICTS, START];
-
-/// The words of `audit`.
-#[derive(Clone, Copy, Debug, Drop)]
+/// `audit` with its words.
+#[derive(Clone, Copy, Debug)]
 pub struct Audit<'a> {
-    pub job: JobWords<'a>,
-    /// The clauses of a search, 1 to 100,000.
-    pub conflicts: u32,
-    ghost few_places: { job.places ≤ 134217728 },
-    ghost some_clauses: { 1 ≤ conflicts },
-    ghost few_clauses: { conflicts ≤ 100000 },
+    pub words: AuditWords<'a>,
 }
 
-impl<'a> AfterAgreed for Audit<'a> {
-    ghost use Rattle.xr_words.specs.Words.{job_values};
-    ghost use Rattle.xr_cli.specs.Audit.{audit_values, walk_audited};
-
-    ghost job = { λ command. job_values command.job };
-
-    ghost after = { λ command job. walk_audited (audit_values command) job.netlist job.recorded };
-
-    fn words(&self) -> &JobWords<'_> {
-        &self.job
-    }
-
-    fn go_on<S: Shelf, O: Sink>(
-        &self,
-        alloc: Global,
-        _shelf: &mut S,
-        agreed: &Agreed,
-        out: &mut O,
-    ) -> Result<Ready<'_>, Refusal<Refused>> {
-        audited(alloc, self, &agreed.job, &agreed.history, out)
-    }
-}
-
-impl<'a> Run<'a> for Audit<'a> {
-    ghost use Rattle.xr_cli.specs.Audit.{audit, audit_values};
-
+impl<'a> Prepare for Audit<'a> {
     type Cause = Refused;
 
-    ghost command = { audit };
-
-    ghost values = { audit_values };
-
-    fn form() -> Form<'a> {
-        Form {
-            word: "audit",
-            options: &OPTIONS,
-            files: true,
-        }
-    }
-
-    fn of_line(line: &Line<'a>, files: &'a [String]) -> Option<Self> {
-        let job = job_of(line, files)?;
-        let conflicts = conflicts_of(line)?;
-        Some(Audit { job, conflicts })
-    }
-
-    fn inputs(&self) -> Inputs<'a> {
-        Inputs {
-            first: Some(self.job.recording),
-            second: None,
-            rest: self.job.netlists,
-            most: RECORDING_BYTES,
-        }
-    }
+    ghost phases = { λ command. audit_phases (audit_values command.words) };
 
     fn prepare<S: Shelf, O: Sink>(
         &self,
@@ -85,6 +27,7 @@ impl<'a> Run<'a> for Audit<'a> {
         shelf: &mut S,
         out: &mut O,
     ) -> Result<Ready<'_>, Refusal<Refused>> {
-        prepare_agreed(self, alloc, shelf, out)
+        let agreed = agreed_of(alloc, shelf, &self.words.job)?;
+        audited(alloc, &self.words, &agreed.job, &agreed.history, out)
     }
 }

@@ -1,102 +1,25 @@
 //! `fix`: reads a netlist and a recording of it, and prints which bits become known where unknown starts are set.
 
-ghost use Rattle.std.specs.Prelude.{◌≤◌};
+ghost use Rattle.xr_words.specs.Words.{fix_values};
+ghost use Rattle.xr_cli.specs.Phases.{fix_phases};
 
 use crate::fixed::fixed;
 use std::alloc::Global;
-use xr_line::{Kind, Line, Opt};
-use xr_phases::{AfterAgreed, Agreed, RECORDING_BYTES, Refused, prepare_agreed};
-use xr_run::{Ready, Refusal};
-use xr_set::{Form, Inputs, Run};
+use xr_phases::{Refused, agreed_of};
+use xr_run::{Prepare, Ready, Refusal};
 use xr_shelf::{Shelf, Sink};
-use xr_words::{CONFLICTS, JobWords, RECORD, ROUNDS, SCOPE, START, TOP, conflicts_of, job_of};
+use xr_words::FixWords;
 
-static OPTIONS: [Opt<'static>; 7] = [
-    RECORD,
-    SCOPE,
-    TOP,
-    Opt {
-        name: "set",
-        required: true,
-        kind: Kind::Sets,
-    },
-    ROUNDS,
-    CONFLICTS,
-    START,
-];
-
-/// The words of `fix`.
-#[derive(Clone, Copy, Debug, Drop)]
+/// `fix` with its words.
+#[derive(Clone, Copy, Debug)]
 pub struct Fix<'a> {
-    pub job: JobWords<'a>,
-    /// The starts to be set: pieces joined by commas, each a name, `=`, and `0` or `1`.
-    pub sets: &'a str,
-    /// The clauses of a search, 1 to 100,000.
-    pub conflicts: u32,
-    ghost few_places: { job.places ≤ 134217728 },
-    ghost some_clauses: { 1 ≤ conflicts },
-    ghost few_clauses: { conflicts ≤ 100000 },
+    pub words: FixWords<'a>,
 }
 
-impl<'a> AfterAgreed for Fix<'a> {
-    ghost use Rattle.xr_words.specs.Words.{job_values};
-    ghost use Rattle.xr_cli.specs.Fix.{fix_values, set_phases};
-
-    ghost job = { λ command. job_values command.job };
-
-    ghost after = { λ command job. set_phases (fix_values command) job.netlist job.recorded };
-
-    fn words(&self) -> &JobWords<'_> {
-        &self.job
-    }
-
-    fn go_on<S: Shelf, O: Sink>(
-        &self,
-        alloc: Global,
-        _shelf: &mut S,
-        agreed: &Agreed,
-        out: &mut O,
-    ) -> Result<Ready<'_>, Refusal<Refused>> {
-        fixed(alloc, self, &agreed.job, &agreed.history, out)
-    }
-}
-
-impl<'a> Run<'a> for Fix<'a> {
-    ghost use Rattle.xr_cli.specs.Fix.{fix, fix_values};
-
+impl<'a> Prepare for Fix<'a> {
     type Cause = Refused;
 
-    ghost command = { fix };
-
-    ghost values = { fix_values };
-
-    fn form() -> Form<'a> {
-        Form {
-            word: "fix",
-            options: &OPTIONS,
-            files: true,
-        }
-    }
-
-    fn of_line(line: &Line<'a>, files: &'a [String]) -> Option<Self> {
-        let job = job_of(line, files)?;
-        let sets = line.get("set")?;
-        let conflicts = conflicts_of(line)?;
-        Some(Fix {
-            job,
-            sets,
-            conflicts,
-        })
-    }
-
-    fn inputs(&self) -> Inputs<'a> {
-        Inputs {
-            first: Some(self.job.recording),
-            second: None,
-            rest: self.job.netlists,
-            most: RECORDING_BYTES,
-        }
-    }
+    ghost phases = { λ command. fix_phases (fix_values command.words) };
 
     fn prepare<S: Shelf, O: Sink>(
         &self,
@@ -104,6 +27,7 @@ impl<'a> Run<'a> for Fix<'a> {
         shelf: &mut S,
         out: &mut O,
     ) -> Result<Ready<'_>, Refusal<Refused>> {
-        prepare_agreed(self, alloc, shelf, out)
+        let agreed = agreed_of(alloc, shelf, &self.words.job)?;
+        fixed(alloc, &self.words, &agreed.job, &agreed.history, out)
     }
 }

@@ -1,95 +1,25 @@
 //! `make`: writes the netlist and the recording of a made job, and prints how many of its places have which end.
 
-ghost use Rattle.std.specs.Prelude.{◌≢◌, ◌≤◌};
+ghost use Rattle.xr_words.specs.Words.{make_values};
+ghost use Rattle.xr_cli.specs.Phases.{make_phases};
 
-use crate::gates::gates_in;
 use crate::made::made;
 use std::alloc::Global;
-use xr_line::{Kind, Line, Opt, number_in};
-use xr_phases::{RECORDING_BYTES, Refused};
-use xr_run::{Ready, Refusal};
-use xr_set::{Form, Inputs, Run};
+use xr_phases::Refused;
+use xr_run::{Prepare, Ready, Refusal};
 use xr_shelf::{Shelf, Sink};
+use xr_words::MakeWords;
 
-static OPTIONS: [Opt<'static>; 4] = [
-    Opt {
-        name: "number",
-        required: true,
-        kind: Kind::Number(0, u64::MAX),
-    },
-    Opt {
-        name: "gates",
-        required: true,
-        kind: Kind::Number(0, 100_000),
-    },
-    Opt {
-        name: "netlist",
-        required: true,
-        kind: Kind::Writes,
-    },
-    Opt {
-        name: "record",
-        required: true,
-        kind: Kind::Writes,
-    },
-];
-
-/// The words of `make`.
-#[derive(Clone, Copy, Debug, Drop)]
+/// `make` with its words.
+#[derive(Clone, Copy, Debug)]
 pub struct Make<'a> {
-    /// The number that the draws begin with.
-    pub number: u64,
-    /// How many gates, 0 to 100,000.
-    pub gates: u32,
-    /// The file of the netlist.
-    pub netlist: &'a str,
-    /// The file of the recording.
-    pub recording: &'a str,
-    ghost few_gates: { gates ≤ 100000 },
-    ghost apart: { recording.now ≢ netlist.now },
+    pub words: MakeWords<'a>,
 }
 
-impl<'a> Run<'a> for Make<'a> {
-    ghost use Rattle.xr_cli.specs.Make.{make, make_values};
-
+impl<'a> Prepare for Make<'a> {
     type Cause = Refused;
 
-    ghost command = { make };
-
-    ghost values = { make_values };
-
-    fn form() -> Form<'a> {
-        Form {
-            word: "make",
-            options: &OPTIONS,
-            files: false,
-        }
-    }
-
-    fn of_line(line: &Line<'a>, _files: &'a [String]) -> Option<Self> {
-        let number = number_in(line.get("number")?)?;
-        let gates = gates_in(line.get("gates")?)?;
-        let netlist = line.get("netlist")?;
-        let recording = line.get("record")?;
-        if recording == netlist {
-            return None;
-        }
-        Some(Make {
-            number,
-            gates,
-            netlist,
-            recording,
-        })
-    }
-
-    fn inputs(&self) -> Inputs<'a> {
-        Inputs {
-            first: None,
-            second: None,
-            rest: &[],
-            most: RECORDING_BYTES,
-        }
-    }
+    ghost phases = { λ command. make_phases (make_values command.words) };
 
     fn prepare<S: Shelf, O: Sink>(
         &self,
@@ -97,6 +27,6 @@ impl<'a> Run<'a> for Make<'a> {
         _shelf: &mut S,
         out: &mut O,
     ) -> Result<Ready<'_>, Refusal<Refused>> {
-        made(alloc, self, out)
+        made(alloc, &self.words, out)
     }
 }

@@ -1,5 +1,5 @@
 -- The wave is found, and what is listed of it.
-use Rattle.xr_cli.specs.Blame.{blame_values}
+use Rattle.xr_words.specs.Words.{blame_values}
 use Rattle.xr_cli.proofs.Walk.{blame_found}
 use Rattle.xr_cli.proofs.blamed.blamed.Goals as goal
 

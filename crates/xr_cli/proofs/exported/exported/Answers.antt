@@ -1,5 +1,5 @@
 -- The wave is found, and its texts.
-use Rattle.xr_cli.specs.Export.{export_values}
+use Rattle.xr_words.specs.Words.{export_values}
 use Rattle.xr_cli.proofs.Walk.{export_found}
 use Rattle.xr_cli.proofs.exported.exported.Goals as goal
 

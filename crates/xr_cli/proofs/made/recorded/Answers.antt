@@ -4,8 +4,10 @@ use Rattle.xr_job.specs.Recorded.{RecordingComes}
 use Rattle.xr_job.specs.declared.recorded.Recorded.{Recorded}
 use Rattle.xr_run.specs.Prepared.{Judged, answer_of}
 use Rattle.xr_run.proofs.Then.{judged_then}
-use Rattle.xr_cli.specs.Make.{make_values, made_job, repaired_made}
+use Rattle.xr_words.specs.Words.{make_values}
+use Rattle.xr_cli.specs.Made.{made_job}
 use Rattle.xr_phases.specs.Phases.{itself, recording_cause, scope_of}
+use Rattle.xr_cli.specs.Phases.{repaired_made}
 use Rattle.xr_phases.specs.Repair.{rule_of}
 use Rattle.xr_cli.proofs.made.recorded.Goals as goal
 

@@ -1,12 +1,8 @@
--- The first comes in, and then the others.
-use Rattle.std.proofs.Common.{map, string_bytes}
-use Rattle.std.specs.Prelude.{option_map}
-use Rattle.xr_set.specs.Command.{put_name}
-use Rattle.xr_ship.proofs.Adding.{adds_then}
+-- What is fetched for a command is what it reads.
 use Rattle.xr_ship.proofs.inputs.fetch_inputs.Goals as goal
 
-pub returns-clause-among : goal.returns-clause-among
-returns-clause-among g c =
-    let inputs = c.args.inputs.now in
-    adds_then (option_map (λ s. s.now) inputs.first) (put_name (option_map (λ s. s.now) inputs.second) (map string_bytes inputs.rest.now)) c.args.fetched.now c.fetch_named.new.fetched c.fetch_later.new.fetched
-    c.fetch_named.ensures.among c.fetch_later.ensures.among
+pub returns-in-Check-clause-among : goal.returns-in-Check-clause-among
+returns-in-Check-clause-among g c = rw c.in-Check.is c.fetch_beside-in-Check.ensures.among
+
+pub returns-in-Upgrade-clause-among : goal.returns-in-Upgrade-clause-among
+returns-in-Upgrade-clause-among g c = rw c.in-Upgrade.is c.fetch_beside-in-Upgrade.ensures.among

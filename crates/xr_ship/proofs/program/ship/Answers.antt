@@ -5,8 +5,8 @@ use Rattle.xr_files.specs.Seen.{shelf_seen}
 use Rattle.xr_files.specs.Sink.{sink_seen}
 use Rattle.xr_run.specs.Ends.{Comes}
 use Rattle.xr_run.specs.Rows.{Start}
-use Rattle.xr_cli.specs.Commands.{command_of, reporting}
-use Rattle.xr_set.specs.Set.{EndsInOrder, commands}
+use Rattle.xr_cli.specs.Commands.{commands}
+use Rattle.xr_cli.specs.Ends.{EndsInOrder}
 use Rattle.xr_ship.proofs.Listing.{kept}
 use Rattle.xr_ship.specs.Reads.{read_by}
 use Rattle.xr_ship.proofs.program.ship.Goals as goal
@@ -16,7 +16,7 @@ returns-clause-complete g c =
     let left = c.run-status.new.shelf in
     let new = c.new-shelf.ensures in
     let begun = started (map string_bytes c.args.words.now) c.args.fetched.now (sink_seen c.args.out.now.faults c.args.out.now.took) _ c.new-shelf.result.fetched.now _ _ new.stage new.fetched new.reads new.writes in
-    subst (λ (s : Start). EndsInOrder command_of reporting s (shelf_seen left.stage left.fetched.now.texts left.read_faults left.write_faults) (sink_seen c.run-status.new.out.faults c.run-status.new.out.took) c.run-status.result)
+    subst (λ (s : Start). EndsInOrder s (shelf_seen left.stage left.fetched.now.texts left.read_faults left.write_faults) (sink_seen c.run-status.new.out.faults c.run-status.new.out.took) c.run-status.result)
     begun c.run-status.ensures.complete
 
 pub returns-clause-shipped : goal.returns-clause-shipped
@@ -28,5 +28,5 @@ returns-clause-shipped g c = λ zero.
     let after = sink_seen c.run-status.new.out.faults c.run-status.new.out.took in
     let new = c.new-shelf.ensures in
     let begun = started line fetched before _ c.new-shelf.result.fetched.now _ _ new.stage new.fetched new.reads new.writes in
-    let comes = subst (λ (s : Start). Comes (commands command_of reporting) s (shelf_seen left.stage left.fetched.now.texts left.read_faults left.write_faults) after c.run-status.result) begun c.run-status.ensures.comes in
-    shipped (commands command_of reporting) read_by kept line fetched before left.stage left.fetched.now.texts left.read_faults left.write_faults after c.requires c.run-status.result comes zero
+    let comes = subst (λ (s : Start). Comes commands s (shelf_seen left.stage left.fetched.now.texts left.read_faults left.write_faults) after c.run-status.result) begun c.run-status.ensures.comes in
+    shipped commands read_by kept line fetched before left.stage left.fetched.now.texts left.read_faults left.write_faults after c.requires c.run-status.result comes zero

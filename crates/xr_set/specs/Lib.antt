@@ -1,3 +1,0 @@
--- Definitions of a set of commands.
-pub mod Command
-pub mod Set
