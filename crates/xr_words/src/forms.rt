@@ -64,7 +64,13 @@ const START: Opt<'static> = Opt {
     kind: Kind::Either("cold", "recorded"),
 };
 
-static REPAIR: [Opt<'static>; 10] = [
+const LEVELS: Opt<'static> = Opt {
+    name: "levels",
+    required: false,
+    kind: Kind::Either("change", "hold"),
+};
+
+static REPAIR: [Opt<'static>; 11] = [
     RECORD,
     SCOPE,
     TOP,
@@ -91,9 +97,10 @@ static REPAIR: [Opt<'static>; 10] = [
     ROUNDS,
     CONFLICTS,
     START,
+    LEVELS,
 ];
 
-static REPLAY: [Opt<'static>; 8] = [
+static REPLAY: [Opt<'static>; 9] = [
     RECORD,
     SCOPE,
     TOP,
@@ -110,9 +117,10 @@ static REPLAY: [Opt<'static>; 8] = [
     ROUNDS,
     PLACES,
     START,
+    LEVELS,
 ];
 
-static CHECK: [Opt<'static>; 7] = [
+static CHECK: [Opt<'static>; 8] = [
     RECORD,
     SCOPE,
     TOP,
@@ -124,6 +132,7 @@ static CHECK: [Opt<'static>; 7] = [
     ROUNDS,
     CONFLICTS,
     START,
+    LEVELS,
 ];
 
 static MAKE: [Opt<'static>; 4] = [
@@ -149,7 +158,7 @@ static MAKE: [Opt<'static>; 4] = [
     },
 ];
 
-static EXPORT: [Opt<'static>; 7] = [
+static EXPORT: [Opt<'static>; 8] = [
     RECORD,
     SCOPE,
     TOP,
@@ -161,6 +170,7 @@ static EXPORT: [Opt<'static>; 7] = [
     ROUNDS,
     CONFLICTS,
     START,
+    LEVELS,
 ];
 
 static PROVE: [Opt<'static>; 2] = [
@@ -176,11 +186,11 @@ static PROVE: [Opt<'static>; 2] = [
     },
 ];
 
-static AUDIT: [Opt<'static>; 6] = [RECORD, SCOPE, TOP, ROUNDS, CONFLICTS, START];
+static AUDIT: [Opt<'static>; 7] = [RECORD, SCOPE, TOP, ROUNDS, CONFLICTS, START, LEVELS];
 
-static BLAME: [Opt<'static>; 6] = [RECORD, SCOPE, TOP, ROUNDS, CONFLICTS, START];
+static BLAME: [Opt<'static>; 7] = [RECORD, SCOPE, TOP, ROUNDS, CONFLICTS, START, LEVELS];
 
-static FIX: [Opt<'static>; 7] = [
+static FIX: [Opt<'static>; 8] = [
     RECORD,
     SCOPE,
     TOP,
@@ -192,9 +202,10 @@ static FIX: [Opt<'static>; 7] = [
     ROUNDS,
     CONFLICTS,
     START,
+    LEVELS,
 ];
 
-static UPGRADE: [Opt<'static>; 8] = [
+static UPGRADE: [Opt<'static>; 9] = [
     RECORD,
     SCOPE,
     TOP,
@@ -211,6 +222,7 @@ static UPGRADE: [Opt<'static>; 8] = [
     ROUNDS,
     CONFLICTS,
     START,
+    LEVELS,
 ];
 
 /// The options of a command.
