@@ -14,7 +14,7 @@ use crate::words::{names_of, text_of};
 use std::alloc::Global;
 use test_cases::{Part, Report};
 use xr_base::Memory;
-use xr_design::{Bytes, Levels, RegisterRules, StartRule};
+use xr_design::{Bytes, StartRule};
 use xr_job::{Netlist, PLACES, Recorded, read_netlist, read_recording};
 
 /// Compares what a part says with what comes.
@@ -63,10 +63,7 @@ fn recorded_of(
         &scope,
         rounds,
         PLACES,
-        RegisterRules {
-            start: StartRule::Cold,
-            levels: Levels::Change,
-        },
+        StartRule::Cold,
     )
     .ok())
 }

@@ -110,7 +110,7 @@ pub fn recorded_of(
     }
     let scope = [Bytes::from_vec(Vec::from_slice(alloc, b"dut")?)];
     let rounds = texts.rounds.clamp(1, 16);
-    Ok(read_recording(alloc, netlist, text, &scope, rounds, PLACES, texts.rules).ok())
+    Ok(read_recording(alloc, netlist, text, &scope, rounds, PLACES, texts.start).ok())
 }
 
 fn wave_of<'a>(

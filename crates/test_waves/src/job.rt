@@ -10,7 +10,7 @@ use std::alloc::Global;
 use std::test::Fail;
 use xr_base::Items;
 use xr_cell::Value;
-use xr_design::{Bytes, Forces, History, Levels, RegisterRules, StartRule};
+use xr_design::{Bytes, Forces, History, StartRule};
 use xr_job::{
     CompareRefusal, Netlist, PLACES, Recorded, put_compare_line, read_netlist, read_recording,
     replay_and_compare,
@@ -117,10 +117,7 @@ fn recorded_in(alloc: Global, netlist: &Netlist, recording: &[u8]) -> Result<Rec
         &scope,
         1,
         PLACES,
-        RegisterRules {
-            start: StartRule::Cold,
-            levels: Levels::Change,
-        },
+        StartRule::Cold,
     )?;
     Ok(recorded)
 }

@@ -13,7 +13,7 @@ use Rattle.xr_phases.specs.Code.{code_in}
 use Rattle.xr_cli.specs.Made.{made_job, made_netlist}
 use Rattle.xr_cli.specs.Phases.{blamed_phases, coded_phases, compared_check, compared_upgrade, exported_phases, fixed_phases, make_phases, phases_of, repaired_phases, audited_phases}
 use Rattle.xr_phases.specs.Phases.{parts, scope_of}
-use Rattle.xr_phases.specs.Repair.{netlist_limit, recording_limit, rules_of}
+use Rattle.xr_phases.specs.Repair.{netlist_limit, recording_limit, rule_of}
 use Rattle.xr_phases.specs.declared.parts.Parts.{Parts}
 use Rattle.xr_cli.proofs.Making.{one_length, one_made}
 use Rattle.xr_phases.proofs.OneCode.{one_code}
@@ -36,7 +36,7 @@ made_exact w = (
       λ text made. (
         one_length recording_limit text,
         λ few within. (
-          one_recorded text n.design (scope_of made_job) made_job.rounds made_job.places (rules_of made_job),
+          one_recorded text n.design (scope_of made_job) made_job.rounds made_job.places (rule_of made_job.start),
           λ r held. (one_compared n r (orders_of n r has.ordered), λ agreed faultless found is. tt),
         ),
       ),

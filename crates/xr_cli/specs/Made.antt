@@ -5,11 +5,10 @@ use Rattle.xr_job.specs.declared.netlist.Netlist.{Netlist as ANetlist}
 use Rattle.xr_make.specs.Netlist.{netlist_text}
 use Rattle.xr_make.specs.Recording.{IsMadeRecording}
 use Rattle.xr_words.specs.Words.{JobValues, MakeValues}
-use Rattle.xr_words.specs.declared.words.Levels.TheVariants.{Change}
 use Rattle.xr_words.specs.declared.words.Start.TheVariants.{Cold}
 
--- Its texts are of the module `made`, in a scope of that name, with four rounds, a cold start, and levels that decide
--- registers by change. They are read from no file.
+-- Its texts are of the module `made`, in a scope of that name, with four rounds and a cold start. They are read from no
+-- file.
 abbrev pub made_job : JobValues
 made_job = record {
   recording = [];
@@ -18,7 +17,6 @@ made_job = record {
   rounds = 4;
   places = place_limit;
   start = Cold;
-  levels = Change;
   netlists = [];
 }
 

@@ -42,7 +42,7 @@ use Rattle.xr_cli.specs.Foreign.{ExportComes, refuted_line}
 use Rattle.xr_cli.specs.Audited.{AuditComes}
 use Rattle.xr_cli.specs.Listed.{BlameComes}
 use Rattle.xr_phases.specs.Repair.{LengthComes, CompareComes, Found, ReplayWalkComes, WalkComes, netlist_limit}
-use Rattle.xr_phases.specs.Repair.{recording_limit, rules_of}
+use Rattle.xr_phases.specs.Repair.{recording_limit, rule_of}
 use Rattle.xr_cli.specs.Made.{MadeComes, made_conflicts, made_job, made_netlist}
 use Rattle.xr_phases.specs.declared.cause.Refused.{Refused}
 use Rattle.xr_phases.specs.declared.cause.Refused.TheVariants.{LongNetlist, LongRecording, LongCnf, LongLog}
@@ -248,7 +248,7 @@ repaired_made w recording n r = do
 abbrev pub recorded_made : MakeValues → ANetlist → List ℕ → Phases Answer Refused
 recorded_made w n recording = do
   r ← judges (RecordingComes recording n.design (scope_of made_job) made_job.rounds made_job.places
-      (rules_of made_job)) recording_cause
+      (rule_of made_job.start)) recording_cause
   repaired_made w recording n r
 
 abbrev pub with_recording : MakeValues → ANetlist → Phases Answer Refused

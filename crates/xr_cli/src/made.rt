@@ -12,13 +12,13 @@ ghost use Rattle.xr_cli.specs.Made.{made_job, made_netlist};
 ghost use Rattle.xr_cli.specs.Phases.{bytes_in, make_answer, make_phases, make_with, netlist_made, recorded_made};
 ghost use Rattle.xr_cli.specs.Phases.{recording_made, repaired_made, walk_made, with_recording};
 ghost use Rattle.xr_phases.specs.Phases.{itself, recording_cause, scope_of};
-ghost use Rattle.xr_phases.specs.Repair.{FitsParts, rules_of};
+ghost use Rattle.xr_phases.specs.Repair.{FitsParts, rule_of};
 
 use crate::made_texts::MadeTexts;
 use std::alloc::Global;
 use xr_base::Memory;
 use xr_code::read_times;
-use xr_design::{History, Levels, RegisterRules, StartRule};
+use xr_design::{History, StartRule};
 use xr_forces::forces_of;
 use xr_job::{Netlist, PLACES, Recorded};
 use xr_make::{made_netlist, made_recording};
@@ -128,7 +128,7 @@ fn recorded_of(alloc: Global, text: &[u8], netlist: &Netlist) -> Result<Recorded
     requires short { length text.now ≤ 2 ^ 28 }
     requires fits { FitsNetlist netlist.now }
     ensures judged { Judged (RecordingComes text.now netlist.now.design (scope_of made_job) made_job.rounds
-        made_job.places (rules_of made_job)) recording_cause itself result }
+        made_job.places (rule_of made_job.start)) recording_cause itself result }
     ensures fits { IfOk result (FitsRecorded netlist.now.design) }
 {
     let scope = names_of(alloc, NAME)?;
@@ -139,10 +139,7 @@ fn recorded_of(alloc: Global, text: &[u8], netlist: &Netlist) -> Result<Recorded
         scope.as_slice(),
         ROUNDS,
         PLACES,
-        RegisterRules {
-            start: StartRule::Cold,
-            levels: Levels::Change,
-        },
+        StartRule::Cold,
     )
 }
 

@@ -8,7 +8,7 @@ use Rattle.xr_vcd.specs.declared.fault.RecordingFault.{RecordingFault}
 use Rattle.xr_vcd.specs.declared.refusal.VcdErr.{VcdErr}
 use Rattle.xr_design.specs.Stim.{FitsStim}
 use Rattle.xr_design.specs.declared.design.Design.{Design}
-use Rattle.xr_design.specs.declared.stim.RegisterRules.{RegisterRules}
+use Rattle.xr_design.specs.declared.stim.StartRule.{StartRule}
 use Rattle.xr_match.specs.Binding.{FitsBinding}
 use Rattle.xr_match.specs.Bounds.{IsOf}
 use Rattle.xr_match.specs.Refusal as bind
@@ -32,10 +32,10 @@ place_limit = 2 ^ 27
 -- The text says a recording, its variables are bound for at most so many places, and this is the stimulus that they
 -- give.
 pub record IsRecorded (text : List ℕ) (design : Design) (scope : Texts) (rounds most : ℕ)
-    (rules : RegisterRules) (r : Recorded) : Type 0 where
+    (start : StartRule) (r : Recorded) : Type 0 where
   pub says : Says text r.recording
   pub bound : bind.IsBinding design r.recording scope rounds most r.binding
-  pub stim : IsStimOf design r.recording r.binding.bound rounds rules r.stim
+  pub stim : IsStimOf design r.recording r.binding.bound rounds start r.stim
 
 -- The first fault of the text.
 pub record IsFaulty (text : List ℕ) (fault : RecordingFault) : Type 0 where
@@ -78,10 +78,10 @@ IsRefusedRecording text design scope rounds most (Grammar fault) = IsFaulty text
 IsRefusedRecording text design scope rounds most refusal = IsRecordingAlone text design scope rounds most refusal
 
 -- What the text comes to, for a replay of so many rounds and of at most so many places.
-abbrev pub RecordingComes : List ℕ → Design → Texts → ℕ → ℕ → RegisterRules → Result Recorded RecordingRefusal → Type 0
-RecordingComes text design scope rounds most rules (Ok recorded) =
-    IsRecorded text design scope rounds most rules recorded
-RecordingComes text design scope rounds most rules (Err refusal) =
+abbrev pub RecordingComes : List ℕ → Design → Texts → ℕ → ℕ → StartRule → Result Recorded RecordingRefusal → Type 0
+RecordingComes text design scope rounds most start (Ok recorded) =
+    IsRecorded text design scope rounds most start recorded
+RecordingComes text design scope rounds most start (Err refusal) =
     IsRefusedRecording text design scope rounds most refusal
 
 -- Two outcomes are the same: the same recording and binding, which give one stimulus, or the same refusal.
@@ -103,16 +103,16 @@ AnswersRecording (Err (Refused refusal)) outcome = IsSame (Err refusal) outcome
 AnswersRecording (Err Memory) outcome = Unit {0}
 
 -- The answer is what the text comes to, unless memory runs out.
-abbrev pub IsRecordingAnswer : List ℕ → Design → Texts → ℕ → ℕ → RegisterRules → Result Recorded RecordingErr → Type 0
-IsRecordingAnswer text design scope rounds most rules result =
-    (outcome : Result Recorded RecordingRefusal) → RecordingComes text design scope rounds most rules outcome
+abbrev pub IsRecordingAnswer : List ℕ → Design → Texts → ℕ → ℕ → StartRule → Result Recorded RecordingErr → Type 0
+IsRecordingAnswer text design scope rounds most start result =
+    (outcome : Result Recorded RecordingRefusal) → RecordingComes text design scope rounds most start outcome
     → AnswersRecording result outcome
 
 -- The law: a text comes to one outcome.
 abbrev pub RecordingsComeToOne : Type 0
-RecordingsComeToOne = (text : List ℕ) (design : Design) (scope : Texts) (rounds most : ℕ) (rules : RegisterRules)
-    (a b : Result Recorded RecordingRefusal) → RecordingComes text design scope rounds most rules a
-    → RecordingComes text design scope rounds most rules b → IsSame a b
+RecordingsComeToOne = (text : List ℕ) (design : Design) (scope : Texts) (rounds most : ℕ) (start : StartRule)
+    (a b : Result Recorded RecordingRefusal) → RecordingComes text design scope rounds most start a
+    → RecordingComes text design scope rounds most start b → IsSame a b
 
 -- A binding fits the recording that it is of.
 pub record IsBoundTo (design : Design) (recording : Recording) (scope : Texts) (rounds most : ℕ)

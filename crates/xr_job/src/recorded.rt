@@ -10,7 +10,7 @@ use crate::netlist::Netlist;
 use crate::recording_refusal::{RecordingErr, RecordingRefusal};
 use std::alloc::Global;
 use xr_base::Memory;
-use xr_design::{Bytes, Design, RegisterRules, Stim};
+use xr_design::{Bytes, Design, StartRule, Stim};
 use xr_match::{BindErr, Binding, bind, stim_of};
 use xr_vcd::{Recording, read_vcd};
 
@@ -26,7 +26,7 @@ pub struct Recorded {
 }
 
 /// What a text records of a design in a scope, for a replay of a given number of rounds and of at most so many places,
-/// whose registers go by these rules; or why there is none.
+/// whose registers start by a rule; or why there is none.
 pub fn read_recording(
     alloc: Global,
     netlist: &Netlist,
@@ -34,7 +34,7 @@ pub fn read_recording(
     scope: &[Bytes],
     rounds: u32,
     most: u64,
-    rules: RegisterRules,
+    start: StartRule,
 ) -> Result<Recorded, RecordingErr>
     requires size { length text.now ≤ 2 ^ 28 }
     requires fits { FitsNetlist netlist.now }
@@ -42,13 +42,13 @@ pub fn read_recording(
     requires round { 1 ≤ rounds }
     requires rounds { rounds ≤ 16 }
     requires most { most ≤ 2 ^ 40 }
-    ensures recorded { IfOk result (spec.IsRecorded text.now netlist.now.design scope.now rounds most rules) }
+    ensures recorded { IfOk result (spec.IsRecorded text.now netlist.now.design scope.now rounds most start) }
     ensures refused { IfErr result (spec.IfRecordingRefused
         (spec.IsRefusedRecording text.now netlist.now.design scope.now rounds most)) }
-    ensures exact { spec.IsRecordingAnswer text.now netlist.now.design scope.now rounds most rules result }
+    ensures exact { spec.IsRecordingAnswer text.now netlist.now.design scope.now rounds most start result }
     ensures fits { IfOk result (spec.FitsRecordedWithin most netlist.now.design) }
 {
-    find_recording(alloc, &netlist.design, text, scope, rounds, most, rules)
+    find_recording(alloc, &netlist.design, text, scope, rounds, most, start)
 }
 
 fn find_recording(
@@ -58,7 +58,7 @@ fn find_recording(
     scope: &[Bytes],
     rounds: u32,
     most: u64,
-    rules: RegisterRules,
+    start: StartRule,
 ) -> Result<Recorded, RecordingErr>
     requires size { length text.now ≤ 2 ^ 28 }
     requires fits { FitsDesign design.now }
@@ -66,14 +66,14 @@ fn find_recording(
     requires round { 1 ≤ rounds }
     requires rounds { rounds ≤ 16 }
     requires most { most ≤ 2 ^ 40 }
-    ensures recorded { IfOk result (spec.IsRecorded text.now design.now scope.now rounds most rules) }
+    ensures recorded { IfOk result (spec.IsRecorded text.now design.now scope.now rounds most start) }
     ensures refused { IfErr result (spec.IfRecordingRefused
         (spec.IsRefusedRecording text.now design.now scope.now rounds most)) }
     ensures fits { IfOk result (spec.FitsRecordedWithin most design.now) }
 {
     let recording = read_vcd(alloc, text)?;
     let binding = bind_variables(alloc, design, &recording, scope, rounds, most)?;
-    let stim = stim_of(alloc, design, &recording, &binding, rounds, rules)?;
+    let stim = stim_of(alloc, design, &recording, &binding, rounds, start)?;
     Ok(Recorded {
         recording,
         binding,

@@ -2,7 +2,7 @@
 use Rattle.std.specs.Prelude.{◌≡◌, ℕ, true, List, [], ◌∷◌, ◌++◌, map, ◌⊎◌, All}
 use Rattle.std.specs.List.{AllByRecursion}
 use Rattle.xr_design.specs.declared.design.Design.{Design}
-use Rattle.xr_design.specs.declared.stim.RegisterRules.{RegisterRules}
+use Rattle.xr_design.specs.declared.stim.StartRule.{StartRule}
 use Rattle.xr_design.specs.declared.stim.Stim.{Stim}
 use Rattle.xr_vcd.specs.Bytes.{without_range}
 use Rattle.xr_vcd.specs.Recording.{Recording, path_at}
@@ -36,7 +36,7 @@ BitsStandInOrder = (design : Design) (scope : Texts) (recording : Recording) (v 
 
 -- A recording whose variables are bound has one stimulus.
 abbrev pub OneStimulus : Type 0
-OneStimulus = (design : Design) (recording : Recording) (bound : List Bound) (rounds : ℕ) (rules : RegisterRules) (a b : Stim) → IsStimOf design recording bound rounds rules a → IsStimOf design recording bound rounds rules b → a ≡ b
+OneStimulus = (design : Design) (recording : Recording) (bound : List Bound) (rounds : ℕ) (rule : StartRule) (a b : Stim) → IsStimOf design recording bound rounds rule a → IsStimOf design recording bound rounds rule b → a ≡ b
 
 -- Each bit that a walk gives is of one of the moments, and of a net of the design.
 abbrev pub BitsAreThere : Type 0

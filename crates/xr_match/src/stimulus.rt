@@ -16,7 +16,7 @@ use crate::inputs::{Holder, holders_of};
 use std::alloc::Global;
 use xr_base::{Items, Memory};
 use xr_cell::Value;
-use xr_design::{Design, Driver, RegisterRules, StartRule, Stim};
+use xr_design::{Design, Driver, StartRule, Stim};
 use xr_inputs::{Inputs, InputsWriter};
 use xr_vcd::{Cursor, Recording};
 
@@ -28,7 +28,7 @@ pub struct Held {
 }
 
 /// The stimulus of a recording whose variables are bound, for a replay of so many rounds: the recorded values of the inputs, and
-/// what the registers start with by these rules. Takes eight bytes for each value of an input that isn't that of the moment
+/// what the registers start with by this rule. Takes eight bytes for each value of an input that isn't that of the moment
 /// before, eight for each moment and for each net; while it runs 8 more for each variable and 12 for each net.
 pub fn stim_of(
     alloc: Global,
@@ -36,7 +36,7 @@ pub fn stim_of(
     recording: &Recording,
     bound: &Binding,
     rounds: u32,
-    rules: RegisterRules,
+    start: StartRule,
 ) -> Result<Stim, Memory>
     requires design { FitsDesign design.now }
     requires fits { FitsBinding design.now bound.now }
@@ -44,18 +44,18 @@ pub fn stim_of(
     requires round { 1 ≤ rounds }
     requires rounds { rounds ≤ 16 }
     requires places { place_count design.now recording.now rounds ≤ 2 ^ 40 }
-    ensures stim { IfOk result (spec.IsStimOf design.now recording.now bound.now.bound rounds rules) }
+    ensures stim { IfOk result (spec.IsStimOf design.now recording.now bound.now.bound rounds start) }
     ensures fits { IfOk result (FitsStim design.now) }
 {
     let times = recording.times().to_vec(alloc)?;
     let holders = holders_of(alloc, design, bound.bound.as_slice())?;
     let inputs = rows_of(alloc, design, recording, holders.as_slice())?;
-    let starts = starts_of(alloc, design, recording, holders.as_slice(), rules.start)?;
+    let starts = starts_of(alloc, design, recording, holders.as_slice(), start)?;
     Ok(Stim {
         times: Items::from_vec(times),
         rounds,
         inputs,
-        rules,
+        start,
         starts: Items::from_vec(starts),
     })
 }

@@ -36,7 +36,7 @@ use Rattle.xr_job.specs.declared.recorded.Recorded.{Recorded}
 use Rattle.xr_job.proofs.OneNetlist.{one_outcome}
 use Rattle.xr_words.specs.Words.{JobValues}
 use Rattle.xr_phases.specs.Phases.{parts, scope_of}
-use Rattle.xr_phases.specs.Repair.{IsObjectionIn, is_undecided_body, is_undecided_line, rules_of}
+use Rattle.xr_phases.specs.Repair.{IsObjectionIn, is_undecided_body, is_undecided_line, rule_of}
 use Rattle.xr_phases.specs.Texts.{AreRefused, FixFails, HasJob, IfOptimistic, IsFoundUnderSet, IsJob, IsObjected, IsObjectedSet, IsOneCause, IsOneObjection, IsOneOfWalks}
 use Rattle.xr_phases.specs.declared.cause.Objection.{Objection}
 use Rattle.xr_phases.specs.declared.cause.Refused.{Refused}
@@ -188,7 +188,7 @@ module _ (w : JobValues) (netlist recording : List ℕ) (n m : ANetlist) (r s : 
   nets = netlists_same n m (one_outcome netlist w.top (Ok n) (Ok m) first.netlist_is.is second.netlist_is.is)
 
   stims : r.stim ≡ s.stim
-  stims = one_stim recording n.design (scope_of w) w.rounds w.places (rules_of w) r s first.is
+  stims = one_stim recording n.design (scope_of w) w.rounds w.places (rule_of w.start) r s first.is
       (subst (λ (x : ANetlist). IsJob w netlist recording x s) (sym nets) second).is
 
   -- What holds of the second design and stimulus holds of the first.

@@ -3,7 +3,7 @@ use Rattle.std.proofs.Common.{◌≡◌, ◌∙◌, ℕ, List, length, Ok, Err, 
 use Rattle.xr_design.specs.Job.{driver_in}
 use Rattle.xr_design.specs.Order.{IsOrder}
 use Rattle.xr_design.specs.declared.design.Design.{Design}
-use Rattle.xr_design.specs.declared.stim.RegisterRules.{RegisterRules}
+use Rattle.xr_design.specs.declared.stim.StartRule.{StartRule}
 use Rattle.xr_design.proofs.OrdersFit.{order_lists}
 use Rattle.xr_replay.specs.declared.differ.Differ.{Differ}
 use Rattle.xr_run.specs.Phases.{Answer, AreExact, IsOne, Phases, ◌>>=◌}
@@ -15,7 +15,7 @@ use Rattle.xr_job.specs.declared.recorded.Recorded.{Recorded}
 use Rattle.xr_job.proofs.OneNetlist.{one_outcome}
 use Rattle.xr_job.proofs.OneRecording.{one_recording}
 use Rattle.xr_phases.specs.Phases.{job_phases, parts, scope_of}
-use Rattle.xr_phases.specs.Repair.{CompareComes, rules_of}
+use Rattle.xr_phases.specs.Repair.{CompareComes, rule_of}
 use Rattle.xr_phases.specs.declared.cause.Refused.{Refused}
 use Rattle.xr_phases.specs.declared.parts.Parts.{Parts}
 use Rattle.xr_phases.proofs.Faults.{OrdersAll, no_first, one_fault}
@@ -24,7 +24,7 @@ use Rattle.xr_phases.proofs.OneStimulus.{one_binding, one_said, one_stim}
 same_recorded : (a b : Recorded) → a.recording ≡ b.recording → a.binding ≡ b.binding → a.stim ≡ b.stim → a ≡ b
 same_recorded a b said bound stim = λ i. record { recording = said i; binding = bound i; stim = stim i }
 
-pub one_recorded : (text : List ℕ) (design : Design) (scope : List (List ℕ)) (rounds most : ℕ) (start : RegisterRules)
+pub one_recorded : (text : List ℕ) (design : Design) (scope : List (List ℕ)) (rounds most : ℕ) (start : StartRule)
     → IsOne (RecordingComes text design scope rounds most start)
 one_recorded text design scope rounds most start (Ok a) (Ok b) first second =
     ap Ok (same_recorded a b (one_said text design scope rounds most start a b first second) (one_binding text design scope rounds most start a b first second)
@@ -50,5 +50,5 @@ pub job_exact : (w : JobValues) (next : Parts → Phases Answer Refused) → ((n
 job_exact w next after = λ text. (
   one_outcome text w.top,
   λ n has recording.
-      (one_recorded recording n.design (scope_of w) w.rounds w.places (rules_of w), λ r held. after n r (orders_of n r has.ordered)),
+      (one_recorded recording n.design (scope_of w) w.rounds w.places (rule_of w.start), λ r held. after n r (orders_of n r has.ordered)),
 )

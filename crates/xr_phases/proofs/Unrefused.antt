@@ -19,7 +19,7 @@ use Rattle.xr_words.specs.Words.{JobValues}
 use Rattle.xr_phases.specs.Certificate.{IsUncertified, IsWrong}
 use Rattle.xr_phases.specs.Code.{text_limit}
 use Rattle.xr_phases.specs.Phases.{parts, scope_of}
-use Rattle.xr_phases.specs.Repair.{AgreesThroughout, beginning, rules_of}
+use Rattle.xr_phases.specs.Repair.{AgreesThroughout, beginning, rule_of}
 use Rattle.xr_phases.specs.Texts.{AreRefused, CheckFails, HasNetlist, IsJob, UpgradeFails}
 use Rattle.xr_phases.specs.declared.cause.Refused.{Refused}
 use Rattle.xr_phases.specs.declared.cause.Uncertified.{Uncertified}
@@ -34,10 +34,10 @@ module _ (w : JobValues) (netlist recording : List ℕ) (n : ANetlist) (r : Reco
   one_netlist m has = ok_same m n (one_outcome netlist w.top (Ok m) (Ok n) has.is is.netlist_is.is)
 
   comes_there : (m : ANetlist) → HasNetlist w netlist m → (result : Result Recorded RecordingRefusal)
-      → RecordingComes recording m.design (scope_of w) w.rounds w.places (rules_of w) result → result ≡ Ok r
+      → RecordingComes recording m.design (scope_of w) w.rounds w.places (rule_of w.start) result → result ≡ Ok r
   comes_there m has result comes =
-      one_recorded recording n.design (scope_of w) w.rounds w.places (rules_of w) result (Ok r)
-      (subst (λ (x : ANetlist). RecordingComes recording x.design (scope_of w) w.rounds w.places (rules_of w) result)
+      one_recorded recording n.design (scope_of w) w.rounds w.places (rule_of w.start) result (Ok r)
+      (subst (λ (x : ANetlist). RecordingComes recording x.design (scope_of w) w.rounds w.places (rule_of w.start) result)
       (one_netlist m has) comes) is.is
 
   job_unrefused : (After : Parts → Refused → Type 0) (cause : Refused) → (After (parts n r) cause → ⊥)

@@ -17,7 +17,7 @@ use Rattle.xr_line.specs.Line.{pieces_of}
 use Rattle.xr_words.specs.Words.{JobValues, ReplayValues}
 use Rattle.xr_phases.specs.Certificate.{CertificateComes}
 use Rattle.xr_phases.specs.Code.{CodeComes, code_in, text_limit}
-use Rattle.xr_phases.specs.Repair.{CompareComes, netlist_limit, recording_limit, rules_of}
+use Rattle.xr_phases.specs.Repair.{CompareComes, netlist_limit, recording_limit, rule_of}
 use Rattle.xr_phases.specs.declared.cause.Objection.{Objection}
 use Rattle.xr_phases.specs.declared.cause.Refused.{Refused}
 use Rattle.xr_phases.specs.declared.cause.Refused.TheVariants.{LongNetlist, Netlist, LongRecording, Recording, Compare}
@@ -79,7 +79,7 @@ netlist_phases w = do
 abbrev pub recording_phases : JobValues → ANetlist → Phases Recorded Refused
 recording_phases w n = do
   text ← reads (w.recording ∷ []) recording_limit LongRecording
-  judges (RecordingComes text n.design (scope_of w) w.rounds w.places (rules_of w)) recording_cause
+  judges (RecordingComes text n.design (scope_of w) w.rounds w.places (rule_of w.start)) recording_cause
 
 abbrev pub job_phases : JobValues → Phases Parts Refused
 job_phases w = do

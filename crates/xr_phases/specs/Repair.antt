@@ -5,9 +5,6 @@ use Rattle.xr_design.specs.Circuit.{PartsFit}
 use Rattle.xr_design.specs.Handed.{IsReplay}
 use Rattle.xr_design.specs.History.{HistoryView}
 use Rattle.xr_design.specs.Job.{job_of}
-use Rattle.xr_design.specs.declared.stim.Levels.{Levels}
-use Rattle.xr_design.specs.declared.stim.Levels.TheVariants.{Change, Hold}
-use Rattle.xr_design.specs.declared.stim.RegisterRules.{RegisterRules}
 use Rattle.xr_design.specs.declared.stim.StartRule.{StartRule}
 use Rattle.xr_design.specs.declared.stim.Stim.{Stim}
 use Rattle.xr_design.specs.declared.stim.StartRule.TheVariants.{Cold, Recorded as AsRecorded}
@@ -28,9 +25,6 @@ use Rattle.xr_job.specs.Recorded.{FitsRecordedWithin, place_limit}
 use Rattle.xr_job.specs.declared.compare_refusal.CompareRefusal.{CompareRefusal}
 use Rattle.xr_job.specs.declared.netlist.Netlist.{Netlist as ANetlist}
 use Rattle.xr_job.specs.declared.recorded.Recorded.{Recorded}
-use Rattle.xr_words.specs.Words.{JobValues}
-use Rattle.xr_words.specs.declared.words.Levels.{Levels as NamedLevels}
-use Rattle.xr_words.specs.declared.words.Levels.TheVariants as levels
 use Rattle.xr_words.specs.declared.words.Start.{Start}
 use Rattle.xr_words.specs.declared.words.Start.TheVariants as named
 use Rattle.xr_phases.specs.declared.cause.Objection.{Objection}
@@ -52,14 +46,6 @@ LengthComes limit text (Err long) = limit < length text
 abbrev pub rule_of : Start → StartRule
 rule_of named.Cold = Cold
 rule_of named.Recorded = AsRecorded
-
-abbrev pub levels_of : NamedLevels → Levels
-levels_of levels.Change = Change
-levels_of levels.Hold = Hold
-
--- By which rules registers go.
-abbrev pub rules_of : JobValues → RegisterRules
-rules_of w = record { start = rule_of w.start; levels = levels_of w.levels }
 
 -- A design with its order fits, and so does what was recorded of it, with at most so many places.
 pub record FitsJobWithin (most : ℕ) (n : ANetlist) (r : Recorded) : Type 0 where

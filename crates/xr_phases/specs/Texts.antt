@@ -24,7 +24,7 @@ use Rattle.xr_words.specs.Words.{JobValues}
 use Rattle.xr_phases.specs.Certificate.{IsUncertified, IsWrong}
 use Rattle.xr_phases.specs.Code.{code_in, text_limit}
 use Rattle.xr_phases.specs.Phases.{parts, scope_of}
-use Rattle.xr_phases.specs.Repair.{IsObjectionIn, IsWalked, Walked, netlist_limit, recording_limit, rules_of}
+use Rattle.xr_phases.specs.Repair.{IsObjectionIn, IsWalked, Walked, netlist_limit, recording_limit, rule_of}
 use Rattle.xr_phases.specs.declared.cause.Objection.{Objection}
 use Rattle.xr_phases.specs.declared.cause.Refused.{Refused}
 use Rattle.xr_phases.specs.declared.cause.Refused.TheVariants.{LongNetlist, Netlist, LongRecording, Recording}
@@ -50,7 +50,7 @@ pub record HasNetlist (w : JobValues) (netlist : List ℕ) (n : ANetlist) : Type
 pub record IsJob (w : JobValues) (netlist recording : List ℕ) (n : ANetlist) (r : Recorded) : Type 0 where
   pub netlist_is : HasNetlist w netlist n
   pub fits : length recording ≤ recording_limit
-  pub is : RecordingComes recording n.design (scope_of w) w.rounds w.places (rules_of w) (Ok r)
+  pub is : RecordingComes recording n.design (scope_of w) w.rounds w.places (rule_of w.start) (Ok r)
 
 -- ---- refused
 
@@ -69,7 +69,7 @@ pub record IsRefusedRecording (w : JobValues) (netlist recording : List ℕ) (e 
   pub n : ANetlist
   pub netlist_is : HasNetlist w netlist n
   pub fits : length recording ≤ recording_limit
-  pub is : RecordingComes recording n.design (scope_of w) w.rounds w.places (rules_of w) (Err e)
+  pub is : RecordingComes recording n.design (scope_of w) w.rounds w.places (rule_of w.start) (Err e)
 
 -- The texts stand for a job, of which this holds.
 pub record HasJob (w : JobValues) (netlist recording : List ℕ) (Holds : ANetlist → Recorded → Type 0) : Type 0 where

@@ -8,14 +8,14 @@ ghost use Rattle.xr_job.specs.Recorded.{FitsRecordedWithin};
 ghost use Rattle.xr_run.specs.Prepared.{Prepared};
 ghost use Rattle.xr_words.specs.Words.{job_values};
 ghost use Rattle.xr_phases.specs.Phases.{agreed_job, agreed_phases, itself, job_phases, netlist_phases, recording_phases};
-ghost use Rattle.xr_phases.specs.Repair.{FitsParts, FitsPartsWithin, levels_of, rule_of, rules_of};
+ghost use Rattle.xr_phases.specs.Repair.{FitsParts, FitsPartsWithin, rule_of};
 
 use crate::cause::Refused;
 use crate::judged::{compared, netlist_in, recorded_in};
 use crate::parts::{Agreed, Parts};
 use crate::pieces::names_of;
 use std::alloc::Global;
-use xr_design::{Levels, RegisterRules, StartRule};
+use xr_design::StartRule;
 use xr_job::{Netlist, Recorded};
 use xr_run::{Refusal, read_input, read_inputs};
 use xr_shelf::Shelf;
@@ -109,29 +109,11 @@ fn recorded_of<S: Shelf>(
         scope.as_slice(),
         words.rounds,
         words.places,
-        rules_of(words),
+        rule_of(words.start),
     )
 }
 
-/// The rules that the words name.
-fn rules_of(words: &JobWords<'_>) -> RegisterRules
-    ensures { result ≡ rules_of (job_values words.now) }
-{
-    RegisterRules {
-        start: rule_of(words.start),
-        levels: levels_of(words.levels),
-    }
-}
-
-fn levels_of(levels: xr_words::Levels) -> Levels
-    ensures { result ≡ levels_of levels }
-{
-    match levels {
-        xr_words::Levels::Change => Levels::Change,
-        xr_words::Levels::Hold => Levels::Hold,
-    }
-}
-
+/// The rule that the words name.
 fn rule_of(start: Start) -> StartRule
     ensures { result ≡ rule_of start }
 {

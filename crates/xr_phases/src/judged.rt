@@ -11,7 +11,7 @@ ghost use Rattle.xr_phases.specs.Phases.{compare_cause, itself, netlist_cause, n
 
 use crate::cause::Refused;
 use std::alloc::Global;
-use xr_design::{Bytes, History, RegisterRules};
+use xr_design::{Bytes, History, StartRule};
 use xr_job::{
     CompareErr, Netlist, NetlistErr, Recorded, RecordingErr, read_netlist, read_recording,
     replay_and_compare,
@@ -50,7 +50,7 @@ pub fn recorded_in(
     scope: &[Bytes],
     rounds: u32,
     most: u64,
-    rules: RegisterRules,
+    start: StartRule,
 ) -> Result<Recorded, Refusal<Refused>>
     requires size { length text.now ≤ 2 ^ 28 }
     requires fits { FitsNetlist netlist.now }
@@ -58,11 +58,11 @@ pub fn recorded_in(
     requires round { 1 ≤ rounds }
     requires rounds { rounds ≤ 16 }
     requires most { most ≤ 2 ^ 40 }
-    ensures judged { Judged (RecordingComes text.now netlist.now.design scope.now rounds most rules)
+    ensures judged { Judged (RecordingComes text.now netlist.now.design scope.now rounds most start)
         recording_cause itself result }
     ensures fits { IfOk result (FitsRecordedWithin most netlist.now.design) }
 {
-    match read_recording(alloc, netlist, text, scope, rounds, most, rules) {
+    match read_recording(alloc, netlist, text, scope, rounds, most, start) {
         Ok(recorded) => Ok(recorded),
         Err(RecordingErr::Refused(cause)) => Err(Refusal::Text {
             cause: Refused::Recording(cause),

@@ -4,15 +4,13 @@ use Rattle.std.specs.Str.{bytes_eq}
 use Rattle.xr_words.specs.Forms.{IsCommand, IsNamed, IsNamedOnly, has_files, word_of}
 use Rattle.xr_line.specs.Line.{HasFiles, IsNumber, Item, Text, given, words_of_items}
 use Rattle.xr_line.specs.Read.{files_of, value_of}
-use Rattle.xr_words.specs.Words.{AreOutside, BlameValues, CheckValues, ExportValues, FixValues, Gives, GivesBlame, GivesCheck, GivesExport, GivesFix, GivesJob, GivesMake, GivesOptions, GivesProve, GivesRepair, GivesReplay, GivesUpgrade, IsCount, IsForm, IsNumberTo, IsStart, AreLevels, JobValues, MakeValues, Means, MeansOnly, OfBlame, OfFix, OfCheck, OfExport, OfMake, OfProve, OfRepair, OfReplay, OfUpgrade, ProveValues, RepairValues, ReplayValues, UpgradeValues, Values, form_number, levels_word, name_of, netlists_of, start_word, AuditValues, GivesAudit, OfAudit}
+use Rattle.xr_words.specs.Words.{AreOutside, BlameValues, CheckValues, ExportValues, FixValues, Gives, GivesBlame, GivesCheck, GivesExport, GivesFix, GivesJob, GivesMake, GivesOptions, GivesProve, GivesRepair, GivesReplay, GivesUpgrade, IsCount, IsForm, IsNumberTo, IsStart, JobValues, MakeValues, Means, MeansOnly, OfBlame, OfFix, OfCheck, OfExport, OfMake, OfProve, OfRepair, OfReplay, OfUpgrade, ProveValues, RepairValues, ReplayValues, UpgradeValues, Values, form_number, name_of, netlists_of, start_word, AuditValues, GivesAudit, OfAudit}
 use Rattle.xr_words.specs.declared.forms.Name.{Name}
 use Rattle.xr_words.specs.declared.forms.Name.TheVariants.{Blame, Check, Export, Fix, Make, Prove, Repair, Replay, Upgrade, Audit}
 use Rattle.xr_line.specs.declared.line.Line.{Line}
 use Rattle.xr_words.specs.declared.words.Form.{Form}
 use Rattle.xr_words.specs.declared.words.Form.TheVariants.{Lines, Turns}
 use Rattle.xr_words.specs.declared.words.Start.{Start}
-use Rattle.xr_words.specs.declared.words.Levels.{Levels}
-use Rattle.xr_words.specs.declared.words.Levels.TheVariants.{Change, Hold}
 use Rattle.xr_words.specs.declared.words.Start.TheVariants.{Cold, Recorded}
 
 -- ---- the same values by another function
@@ -35,7 +33,6 @@ module _ (option other : Text → Option Text) (each : AreAlike option other) wh
     top = text_by (codes "top") refl job.top gives.top;
     rounds = subst (λ (o : Option Text). IsCount o 4 16 job.rounds) (each (codes "rounds") refl) gives.rounds;
     start = subst (λ (o : Option Text). IsStart o job.start) (each (codes "start") refl) gives.start;
-    levels = subst (λ (o : Option Text). AreLevels o job.levels) (each (codes "levels") refl) gives.levels;
   }
 
   job_by : (job : JobValues) → GivesJob option job → GivesJob other job
@@ -116,19 +113,6 @@ one_word text Cold Recorded first second = absurd (two_starts (sym first ∙ sec
 one_word text Recorded Cold first second = absurd (two_starts (sym second ∙ first))
 one_word text Recorded Recorded first second = refl
 
-two_levels : codes "change" ≡ codes "hold" → ⊥
-two_levels same = let long : ◌≡◌ {A = ℕ} 6 4 = ap (λ (l : Text). length l) same in omega (arith, long)
-
-one_levels_word : (text : Text) (a b : Levels) → text ≡ levels_word a → text ≡ levels_word b → a ≡ b
-one_levels_word text Change Change first second = refl
-one_levels_word text Change Hold first second = absurd (two_levels (sym first ∙ second))
-one_levels_word text Hold Change first second = absurd (two_levels (sym second ∙ first))
-one_levels_word text Hold Hold first second = refl
-
-one_levels : (o : Option Text) (a b : Levels) → AreLevels o a → AreLevels o b → a ≡ b
-one_levels None a b first second = first ∙ sym second
-one_levels (Some text) a b first second = one_levels_word text a b first second
-
 one_start : (o : Option Text) (a b : Start) → IsStart o a → IsStart o b → a ≡ b
 one_start None a b first second = first ∙ sym second
 one_start (Some text) a b first second = one_word text a b first second
@@ -156,8 +140,7 @@ one_job_within option a b first second places netlists =
     let top = some_same a.top b.top (option (codes "top")) first.top second.top in
     let rounds = one_count (option (codes "rounds")) 4 16 a.rounds b.rounds first.rounds second.rounds in
     let start = one_start (option (codes "start")) a.start b.start first.start second.start in
-    let levels = one_levels (option (codes "levels")) a.levels b.levels first.levels second.levels in
-    λ i. record { recording = recording i; scope = scope i; top = top i; rounds = rounds i; places = places i; start = start i; levels = levels i; netlists = netlists i }
+    λ i. record { recording = recording i; scope = scope i; top = top i; rounds = rounds i; places = places i; start = start i; netlists = netlists i }
 
 one_job : (option : Text → Option Text) (a b : JobValues) → GivesJob option a → GivesJob option b → a.netlists ≡ b.netlists → a ≡ b
 one_job option a b first second netlists =

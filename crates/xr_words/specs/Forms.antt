@@ -26,27 +26,24 @@ conflicts = takes (codes "conflicts") (Number 1 100000)
 abbrev pub start : Plain
 start = takes (codes "start") (Either (codes "cold") (codes "recorded"))
 
-abbrev pub levels : Plain
-levels = takes (codes "levels") (Either (codes "change") (codes "hold"))
-
 -- ---- the tables, a row a command
 
 abbrev pub table_of : Name → List Plain
 table_of Repair =
     job (needs (codes "vcd") Writes ∷ needs (codes "code") Writes ∷ needs (codes "cert") Writes
-    ∷ takes (codes "form") (Number 1 2) ∷ rounds ∷ conflicts ∷ start ∷ levels ∷ [])
-table_of Replay = job (needs (codes "code") Reads ∷ needs (codes "vcd") Writes ∷ rounds ∷ places ∷ start ∷ levels ∷ [])
-table_of Check = job (needs (codes "cert") Reads ∷ rounds ∷ conflicts ∷ start ∷ levels ∷ [])
+    ∷ takes (codes "form") (Number 1 2) ∷ rounds ∷ conflicts ∷ start ∷ [])
+table_of Replay = job (needs (codes "code") Reads ∷ needs (codes "vcd") Writes ∷ rounds ∷ places ∷ start ∷ [])
+table_of Check = job (needs (codes "cert") Reads ∷ rounds ∷ conflicts ∷ start ∷ [])
 table_of Make =
     needs (codes "number") (Number 0 18446744073709551615) ∷ needs (codes "gates") (Number 0 100000)
     ∷ needs (codes "netlist") Writes ∷ needs (codes "record") Writes ∷ []
-table_of Export = job (needs (codes "to") Prefix ∷ rounds ∷ conflicts ∷ start ∷ levels ∷ [])
+table_of Export = job (needs (codes "to") Prefix ∷ rounds ∷ conflicts ∷ start ∷ [])
 table_of Prove = needs (codes "cnf") Reads ∷ needs (codes "log") Reads ∷ []
-table_of Audit = job (rounds ∷ conflicts ∷ start ∷ levels ∷ [])
-table_of Blame = job (rounds ∷ conflicts ∷ start ∷ levels ∷ [])
-table_of Fix = job (needs (codes "set") Sets ∷ rounds ∷ conflicts ∷ start ∷ levels ∷ [])
+table_of Audit = job (rounds ∷ conflicts ∷ start ∷ [])
+table_of Blame = job (rounds ∷ conflicts ∷ start ∷ [])
+table_of Fix = job (needs (codes "set") Sets ∷ rounds ∷ conflicts ∷ start ∷ [])
 table_of Upgrade =
-    job (needs (codes "cert") Reads ∷ needs (codes "to") Writes ∷ rounds ∷ conflicts ∷ start ∷ levels ∷ [])
+    job (needs (codes "cert") Reads ∷ needs (codes "to") Writes ∷ rounds ∷ conflicts ∷ start ∷ [])
 
 abbrev pub has_files : Name → Bool
 has_files Repair = true

@@ -1,16 +1,16 @@
 -- The set of command lines, and what each means.
 -- `repair --record R --scope S --top T --vcd V --code C --cert X [--form N] [--rounds N] [--conflicts N] [--start W]
--- [--levels L] FILE..`
--- `replay --record R --scope S --top T --code C --vcd V [--rounds N] [--places N] [--start W] [--levels L] FILE..`
--- `check --record R --scope S --top T --cert X [--rounds N] [--conflicts N] [--start W] [--levels L] FILE..`
+-- FILE..`
+-- `replay --record R --scope S --top T --code C --vcd V [--rounds N] [--places N] [--start W] FILE..`
+-- `check --record R --scope S --top T --cert X [--rounds N] [--conflicts N] [--start W] FILE..`
 -- `make --number N --gates N --netlist F --record R`
--- `export --to PREFIX --record R --scope S --top T [--rounds N] [--conflicts N] [--start W] [--levels L] FILE..`
+-- `export --to PREFIX --record R --scope S --top T [--rounds N] [--conflicts N] [--start W] FILE..`
 -- `prove --cnf F --log G`
--- `audit --record R --scope S --top T [--rounds N] [--conflicts N] [--start W] [--levels L] FILE..`
--- `blame --record R --scope S --top T [--rounds N] [--conflicts N] [--start W] [--levels L] FILE..`
--- `fix --set LIST --record R --scope S --top T [--rounds N] [--conflicts N] [--start W] [--levels L] FILE..`
--- `upgrade --record R --scope S --top T --cert X --to Y [--rounds N] [--conflicts N] [--start W] [--levels L] FILE..`
--- with W being `cold` or `recorded`, L being `change` or `hold`, and LIST being pieces joined by commas, each a name, `=`, and `0` or `1`.
+-- `audit --record R --scope S --top T [--rounds N] [--conflicts N] [--start W] FILE..`
+-- `blame --record R --scope S --top T [--rounds N] [--conflicts N] [--start W] FILE..`
+-- `fix --set LIST --record R --scope S --top T [--rounds N] [--conflicts N] [--start W] FILE..`
+-- `upgrade --record R --scope S --top T --cert X --to Y [--rounds N] [--conflicts N] [--start W] FILE..`
+-- with W being `cold` or `recorded`, and LIST being pieces joined by commas, each a name, `=`, and `0` or `1`.
 use Rattle.std.specs.Prelude.{◌≡◌, ℕ, ◌≤◌, List, [], ◌∷◌, Option, Some, None, codes, map, string_bytes}
 use Rattle.xr_words.specs.declared.forms.Name.{Name}
 use Rattle.xr_words.specs.declared.forms.Name.TheVariants.{Audit, Blame, Check, Export, Fix, Make, Prove}
@@ -25,8 +25,6 @@ use Rattle.xr_words.specs.declared.words.FixWords.{FixWords}
 use Rattle.xr_words.specs.declared.words.Form.{Form}
 use Rattle.xr_words.specs.declared.words.Form.TheVariants.{Lines, Turns}
 use Rattle.xr_words.specs.declared.words.JobWords.{JobWords}
-use Rattle.xr_words.specs.declared.words.Levels.{Levels}
-use Rattle.xr_words.specs.declared.words.Levels.TheVariants.{Change, Hold}
 use Rattle.xr_words.specs.declared.words.MakeWords.{MakeWords}
 use Rattle.xr_words.specs.declared.words.ProveWords.{ProveWords}
 use Rattle.xr_words.specs.declared.words.RepairWords.{RepairWords}
@@ -60,15 +58,6 @@ abbrev pub IsStart : Option Text → Start → Type 0
 IsStart None start = start ≡ Cold
 IsStart (Some text) start = text ≡ start_word start
 
-abbrev pub levels_word : Levels → Text
-levels_word Change = codes "change"
-levels_word Hold = codes "hold"
-
--- When levels decide registers, by change where nothing is said.
-abbrev pub AreLevels : Option Text → Levels → Type 0
-AreLevels None levels = levels ≡ Change
-AreLevels (Some text) levels = text ≡ levels_word levels
-
 abbrev pub form_number : Form → ℕ
 form_number Lines = 1
 form_number Turns = 2
@@ -87,7 +76,6 @@ pub record JobValues : Type 0 where
   pub rounds : ℕ
   pub places : ℕ
   pub start : Start
-  pub levels : Levels
   pub netlists : List Text
 
 pub record RepairValues : Type 0 where
@@ -188,7 +176,6 @@ pub record GivesOptions (option : Text → Option Text) (job : JobValues) : Type
   pub top : option (codes "top") ≡ Some job.top
   pub rounds : IsCount (option (codes "rounds")) 4 16 job.rounds
   pub start : IsStart (option (codes "start")) job.start
-  pub levels : AreLevels (option (codes "levels")) job.levels
 
 -- So they are, and the job is one that is walked over: it has at most 2^27 places.
 pub record GivesJob (option : Text → Option Text) (job : JobValues) : Type 0 where
@@ -301,7 +288,6 @@ job_values words = record {
   rounds = words.rounds;
   places = words.places;
   start = words.start;
-  levels = words.levels;
   netlists = map string_bytes words.netlists.now;
 }
 

@@ -64,13 +64,7 @@ const START: Opt<'static> = Opt {
     kind: Kind::Either("cold", "recorded"),
 };
 
-const LEVELS: Opt<'static> = Opt {
-    name: "levels",
-    required: false,
-    kind: Kind::Either("change", "hold"),
-};
-
-static REPAIR: [Opt<'static>; 11] = [
+static REPAIR: [Opt<'static>; 10] = [
     RECORD,
     SCOPE,
     TOP,
@@ -97,10 +91,9 @@ static REPAIR: [Opt<'static>; 11] = [
     ROUNDS,
     CONFLICTS,
     START,
-    LEVELS,
 ];
 
-static REPLAY: [Opt<'static>; 9] = [
+static REPLAY: [Opt<'static>; 8] = [
     RECORD,
     SCOPE,
     TOP,
@@ -117,10 +110,9 @@ static REPLAY: [Opt<'static>; 9] = [
     ROUNDS,
     PLACES,
     START,
-    LEVELS,
 ];
 
-static CHECK: [Opt<'static>; 8] = [
+static CHECK: [Opt<'static>; 7] = [
     RECORD,
     SCOPE,
     TOP,
@@ -132,7 +124,6 @@ static CHECK: [Opt<'static>; 8] = [
     ROUNDS,
     CONFLICTS,
     START,
-    LEVELS,
 ];
 
 static MAKE: [Opt<'static>; 4] = [
@@ -158,7 +149,7 @@ static MAKE: [Opt<'static>; 4] = [
     },
 ];
 
-static EXPORT: [Opt<'static>; 8] = [
+static EXPORT: [Opt<'static>; 7] = [
     RECORD,
     SCOPE,
     TOP,
@@ -170,7 +161,6 @@ static EXPORT: [Opt<'static>; 8] = [
     ROUNDS,
     CONFLICTS,
     START,
-    LEVELS,
 ];
 
 static PROVE: [Opt<'static>; 2] = [
@@ -186,11 +176,11 @@ static PROVE: [Opt<'static>; 2] = [
     },
 ];
 
-static AUDIT: [Opt<'static>; 7] = [RECORD, SCOPE, TOP, ROUNDS, CONFLICTS, START, LEVELS];
+static AUDIT: [Opt<'static>; 6] = [RECORD, SCOPE, TOP, ROUNDS, CONFLICTS, START];
 
-static BLAME: [Opt<'static>; 7] = [RECORD, SCOPE, TOP, ROUNDS, CONFLICTS, START, LEVELS];
+static BLAME: [Opt<'static>; 6] = [RECORD, SCOPE, TOP, ROUNDS, CONFLICTS, START];
 
-static FIX: [Opt<'static>; 8] = [
+static FIX: [Opt<'static>; 7] = [
     RECORD,
     SCOPE,
     TOP,
@@ -202,10 +192,9 @@ static FIX: [Opt<'static>; 8] = [
     ROUNDS,
     CONFLICTS,
     START,
-    LEVELS,
 ];
 
-static UPGRADE: [Opt<'static>; 9] = [
+static UPGRADE: [Opt<'static>; 8] = [
     RECORD,
     SCOPE,
     TOP,
@@ -222,7 +211,6 @@ static UPGRADE: [Opt<'static>; 9] = [
     ROUNDS,
     CONFLICTS,
     START,
-    LEVELS,
 ];
 
 /// The options of a command.

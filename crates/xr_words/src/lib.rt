@@ -28,6 +28,6 @@ pub use laws::words_mean_one;
 pub use read::read_words;
 pub use usage::usage_of;
 pub use words::{
-    AuditWords, BlameWords, CheckWords, Command, ExportWords, FixWords, Form, JobWords, Levels,
-    MakeWords, ProveWords, RepairWords, ReplayWords, Start, UpgradeWords,
+    AuditWords, BlameWords, CheckWords, Command, ExportWords, FixWords, Form, JobWords, MakeWords,
+    ProveWords, RepairWords, ReplayWords, Start, UpgradeWords,
 };

@@ -27,15 +27,6 @@ pub enum Start {
     Recorded,
 }
 
-/// When pins that hold a register, an active set or reset or an open latch, decide it in the circuit of zeros and ones.
-#[derive(Clone, Copy, Debug, PartialEq, Eq)]
-pub enum Levels {
-    /// When one of its pins changes.
-    Change,
-    /// At each step.
-    Hold,
-}
-
 /// The form of a certificate.
 #[derive(Clone, Copy, Debug, PartialEq, Eq)]
 pub enum Form {
@@ -59,7 +50,6 @@ pub struct JobWords<'a> {
     /// The most places: nets by moments by rounds, 1 to 2^40.
     pub places: u64,
     pub start: Start,
-    pub levels: Levels,
     /// The files of the netlist, one or more.
     pub netlists: &'a [String],
     ghost some_files: { 0 < length netlists.now },

@@ -22,5 +22,5 @@ returns-clause-fits c =
       times = sym is.times;
       binding = bound.fits;
       variables = bound.variables;
-      few = few_places c.args.design.now c.in_ok-recording.recording c.in_ok-binding.binding.bound c.args.rounds c.args.most c.args.rules c.in_ok-stim.stim is places.places;
+      few = few_places c.args.design.now c.in_ok-recording.recording c.in_ok-binding.binding.bound c.args.rounds c.args.most c.args.start c.in_ok-stim.stim is places.places;
     }
