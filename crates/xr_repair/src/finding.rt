@@ -1,5 +1,5 @@
-//! What the next place, a Line place, has under all fillings: by lanes, by an earlier place, by a guess that is tested, by
-//! tables over few sources, or else by its cone.
+//! What the next place, a Line place, has under all fillings: by lanes, by an earlier place, by tables over few sources,
+//! or else by its cone.
 
 ghost use Rattle.std.specs.Prelude.{◌<◌, ◌≤◌, IfOk, OnOk, length};
 ghost use Rattle.xr_along.specs.Along.{GoesAlong};
@@ -15,7 +15,6 @@ use crate::aids::Aids;
 use crate::earlier::find_by_log;
 use crate::fillings::try_fillings;
 use crate::found::Found;
-use crate::guessed::find_guessed;
 use crate::search::search;
 use std::alloc::Global;
 use xr_base::Memory;
@@ -43,7 +42,7 @@ pub fn find(alloc: Global, wave: &Wave<'_>, aids: &mut Aids) -> Result<Found, Me
     }
 }
 
-/// The same by an earlier place that rests on the same, or else by a guess, by tables or by its cone.
+/// The same by an earlier place that rests on the same, or else by tables or its cone.
 #[tactic(auto, using(crate::proofs::Searching::pair_accepted))]
 fn find_by_equal(alloc: Global, wave: &Wave<'_>, aids: &mut Aids) -> Result<Found, Memory>
     requires class { IsLineNext wave.now }
@@ -57,11 +56,11 @@ fn find_by_equal(alloc: Global, wave: &Wave<'_>, aids: &mut Aids) -> Result<Foun
         Shown::Pair(pair) => Ok(Found::Pair(pair)),
         Shown::Settled(settled) => Ok(Found::Settled(settled)),
         Shown::Earlier(place) => find_by_earlier(alloc, wave, aids, place),
-        Shown::Nothing => find_by_guess(alloc, wave, aids),
+        Shown::Nothing => find_by_tables(alloc, wave, aids),
     }
 }
 
-/// The same by the log of an earlier place that asks the same, or else by a guess, by tables or by its cone.
+/// The same by the log of an earlier place that asks the same, or else by tables or its cone.
 #[tactic(auto, using(crate::proofs::Searching::pair_accepted))]
 fn find_by_earlier(
     alloc: Global,
@@ -78,21 +77,6 @@ fn find_by_earlier(
     ensures right { OnOk result (AreRightOf wave.now aids.new) }
 {
     match find_by_log(alloc, wave, place)? {
-        Some(found) => Ok(found),
-        None => find_by_guess(alloc, wave, aids),
-    }
-}
-
-/// The same by a guess, if a test shows that it is right, or else by tables or its cone.
-#[tactic(auto, using(crate::proofs::Searching::pair_accepted))]
-fn find_by_guess(alloc: Global, wave: &Wave<'_>, aids: &mut Aids) -> Result<Found, Memory>
-    requires class { IsLineNext wave.now }
-    requires right { AreRightOf wave.now aids.old }
-    requires looked { IsLookedAt wave.now aids.old.cones.lanes }
-    ensures shown { IfOk result (IsShown wave.now) }
-    ensures right { OnOk result (AreRightOf wave.now aids.new) }
-{
-    match find_guessed(alloc, wave, &mut aids.cones, &mut aids.guesser)? {
         Some(found) => Ok(found),
         None => find_by_tables(alloc, wave, aids),
     }
