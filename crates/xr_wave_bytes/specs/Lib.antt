@@ -3,4 +3,3 @@ pub mod Byte
 pub mod Front
 pub mod View
 pub mod Kept
-pub mod Repeat
