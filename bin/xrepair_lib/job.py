@@ -112,7 +112,7 @@ class Job:
         """The job with another value of an option."""
         return dataclasses.replace(self, options=tuple({**dict(self.options), name: value}.items()))
 
-    def words(self, options=("rounds", "conflicts", "start")):
+    def words(self, options=("rounds", "conflicts", "start", "undriven")):
         """The words that all commands have in common, the options of these names among them."""
         given = [word for name, value in self.options if name in options for word in (f"--{name}", value)]
         return ["--record", self.record, "--scope", self.scope, "--top", self.top, *given, *self.files]

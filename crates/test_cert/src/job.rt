@@ -11,7 +11,8 @@ use std::alloc::Global;
 use xr_base::{Memory, put};
 use xr_cert::{Cert, CheckErr, Checked, Form, check_cert};
 use xr_design::{Bytes, History, StartRule};
-use xr_job::{Netlist, PLACES, Recorded, read_netlist, read_recording, replay_and_compare};
+use xr_job::{Netlist, PLACES, Recorded, Rules, read_netlist, read_recording, replay_and_compare};
+use xr_match::UndrivenRule;
 use xr_repair::{RepairErr, repair};
 use xr_wave::Wave;
 
@@ -67,7 +68,7 @@ pub enum Task {
 /// Puts what is asked of the job of a case.
 pub fn put_job(alloc: Global, out: &mut Vec<u8>, texts: &Texts, task: Task) -> Result<(), Memory> {
     match read_netlist(alloc, texts.netlist.as_slice(), "top") {
-        Ok(netlist) => put_netlist(alloc, out, texts, task, &netlist),
+        Ok(netlist) => put_netlist(alloc, out, texts, task, netlist),
         Err(_) => put(out, b"no design\n"),
     }
 }
@@ -77,20 +78,26 @@ fn put_netlist(
     out: &mut Vec<u8>,
     texts: &Texts,
     task: Task,
-    netlist: &Netlist,
+    netlist: Netlist,
 ) -> Result<(), Memory>
-    requires { FitsNetlist netlist.now }
+    requires { FitsNetlist netlist }
 {
-    match recorded_of(alloc, netlist, texts)? {
-        Some(recorded) => put_recorded(alloc, out, texts, task, netlist, &recorded),
+    let mut netlist = netlist;
+    match recorded_of(alloc, &mut netlist, texts)? {
+        Some(recorded) => put_recorded(alloc, out, texts, task, &netlist, &recorded),
         None => put(out, b"no recording\n"),
     }
 }
 
 /// The recording of a case.
-fn recorded_of(alloc: Global, netlist: &Netlist, texts: &Texts) -> Result<Option<Recorded>, Memory>
-    requires { FitsNetlist netlist.now }
-    ensures { IfOk result (λ found. IfSome found (FitsRecorded netlist.now.design)) }
+fn recorded_of(
+    alloc: Global,
+    netlist: &mut Netlist,
+    texts: &Texts,
+) -> Result<Option<Recorded>, Memory>
+    requires { FitsNetlist netlist.old }
+    ensures netlist { IfOk result (λ found. IfSome found (λ _. FitsNetlist netlist.new)) }
+    ensures recorded { IfOk result (λ found. IfSome found (FitsRecorded netlist.new.design)) }
 {
     let text = texts.recording.as_slice();
     if text.len() > 1 << 28 {
@@ -98,8 +105,11 @@ fn recorded_of(alloc: Global, netlist: &Netlist, texts: &Texts) -> Result<Option
     }
     let scope = [Bytes::from_vec(Vec::from_slice(alloc, b"dut")?)];
     let rounds = texts.rounds.clamp(1, 16);
-    let start = StartRule::Cold;
-    Ok(read_recording(alloc, netlist, text, &scope, rounds, PLACES, start).ok())
+    let rules = Rules {
+        start: StartRule::Cold,
+        undriven: UndrivenRule::Released,
+    };
+    Ok(read_recording(alloc, netlist, text, &scope, rounds, PLACES, rules).ok())
 }
 
 fn put_recorded(

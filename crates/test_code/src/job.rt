@@ -15,7 +15,8 @@ use std::alloc::Global;
 use test_cases::{Part, Report};
 use xr_base::Memory;
 use xr_design::{Bytes, StartRule};
-use xr_job::{Netlist, PLACES, Recorded, read_netlist, read_recording};
+use xr_job::{Netlist, PLACES, Recorded, Rules, read_netlist, read_recording};
+use xr_match::UndrivenRule;
 
 /// Compares what a part says with what comes.
 pub fn compare_job(
@@ -24,10 +25,10 @@ pub fn compare_job(
     texts: &Texts<'_>,
     part: Part<'_>,
 ) -> Result<(), Memory> {
-    let Some(netlist) = netlist_of(alloc, texts) else {
+    let Some(mut netlist) = netlist_of(alloc, texts) else {
         return compare(report, part.line, b"a design", b"none");
     };
-    let Some(recorded) = recorded_of(alloc, &netlist, texts)? else {
+    let Some(recorded) = recorded_of(alloc, &mut netlist, texts)? else {
         return compare(report, part.line, b"moments", b"none");
     };
     let scope = names_of(alloc, texts.scope)?;
@@ -44,11 +45,12 @@ fn netlist_of(alloc: Global, texts: &Texts<'_>) -> Option<Netlist>
 /// The moments of a case.
 fn recorded_of(
     alloc: Global,
-    netlist: &Netlist,
+    netlist: &mut Netlist,
     texts: &Texts<'_>,
 ) -> Result<Option<Recorded>, Memory>
-    requires { FitsNetlist netlist.now }
-    ensures { IfOk result (λ found. IfSome found (FitsRecorded netlist.now.design)) }
+    requires { FitsNetlist netlist.old }
+    ensures netlist { IfOk result (λ found. IfSome found (λ _. FitsNetlist netlist.new)) }
+    ensures recorded { IfOk result (λ found. IfSome found (FitsRecorded netlist.new.design)) }
 {
     let text = recording_of(alloc, &netlist.design, texts.times)?;
     if text.len() > 1 << 28 {
@@ -63,7 +65,10 @@ fn recorded_of(
         &scope,
         rounds,
         PLACES,
-        StartRule::Cold,
+        Rules {
+            start: StartRule::Cold,
+            undriven: UndrivenRule::Released,
+        },
     )
     .ok())
 }

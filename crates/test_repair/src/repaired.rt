@@ -14,7 +14,8 @@ use std::alloc::Global;
 use test_cases::{Lines, Part, Report};
 use xr_base::Memory;
 use xr_design::{Bytes, History};
-use xr_job::{Netlist, PLACES, Recorded, read_netlist, read_recording, replay_and_compare};
+use xr_job::{Netlist, PLACES, Recorded, Rules, read_netlist, read_recording, replay_and_compare};
+use xr_match::UndrivenRule;
 use xr_repair::{RepairErr, repair};
 use xr_wave::Wave;
 
@@ -39,7 +40,7 @@ fn repair_and_compare(
     let Some(netlist) = netlist_of(alloc, texts) else {
         return Ok("no design");
     };
-    repair_netlist(alloc, report, texts, facts, &netlist)
+    repair_netlist(alloc, report, texts, facts, netlist)
 }
 
 fn repair_netlist(
@@ -47,14 +48,15 @@ fn repair_netlist(
     report: &mut Report,
     texts: &Texts,
     facts: Part<'_>,
-    netlist: &Netlist,
+    netlist: Netlist,
 ) -> Result<&'static str, Memory>
-    requires { FitsNetlist netlist.now }
+    requires { FitsNetlist netlist }
 {
-    let Some(recorded) = recorded_of(alloc, netlist, texts)? else {
+    let mut netlist = netlist;
+    let Some(recorded) = recorded_of(alloc, &mut netlist, texts)? else {
         return Ok("no recording");
     };
-    repair_recorded(alloc, report, texts.conflicts, facts, netlist, &recorded)
+    repair_recorded(alloc, report, texts.conflicts, facts, &netlist, &recorded)
 }
 
 fn repair_recorded(
@@ -98,11 +100,12 @@ pub fn netlist_of(alloc: Global, texts: &Texts) -> Option<Netlist>
 /// The recording of a case.
 pub fn recorded_of(
     alloc: Global,
-    netlist: &Netlist,
+    netlist: &mut Netlist,
     texts: &Texts,
 ) -> Result<Option<Recorded>, Memory>
-    requires { FitsNetlist netlist.now }
-    ensures { IfOk result (λ found. IfSome found (FitsRecorded netlist.now.design)) }
+    requires { FitsNetlist netlist.old }
+    ensures netlist { IfOk result (λ found. IfSome found (λ _. FitsNetlist netlist.new)) }
+    ensures recorded { IfOk result (λ found. IfSome found (FitsRecorded netlist.new.design)) }
 {
     let text = texts.recording.as_slice();
     if text.len() > 1 << 28 {
@@ -110,7 +113,11 @@ pub fn recorded_of(
     }
     let scope = [Bytes::from_vec(Vec::from_slice(alloc, b"dut")?)];
     let rounds = texts.rounds.clamp(1, 16);
-    Ok(read_recording(alloc, netlist, text, &scope, rounds, PLACES, texts.start).ok())
+    let rules = Rules {
+        start: texts.start,
+        undriven: UndrivenRule::Released,
+    };
+    Ok(read_recording(alloc, netlist, text, &scope, rounds, PLACES, rules).ok())
 }
 
 fn wave_of<'a>(

@@ -41,7 +41,7 @@ fn replay_and_look(
     let Some(netlist) = netlist_of(alloc, texts) else {
         return Ok("no design");
     };
-    replay_netlist(alloc, report, texts, rows, &netlist)
+    replay_netlist(alloc, report, texts, rows, netlist)
 }
 
 fn replay_netlist(
@@ -49,14 +49,15 @@ fn replay_netlist(
     report: &mut Report,
     texts: &Texts,
     rows: Part<'_>,
-    netlist: &Netlist,
+    netlist: Netlist,
 ) -> Result<&'static str, Memory>
-    requires { FitsNetlist netlist.now }
+    requires { FitsNetlist netlist }
 {
-    let Some(recorded) = recorded_of(alloc, netlist, texts)? else {
+    let mut netlist = netlist;
+    let Some(recorded) = recorded_of(alloc, &mut netlist, texts)? else {
         return Ok("no recording");
     };
-    replay_recorded(alloc, report, texts, rows, netlist, &recorded)?;
+    replay_recorded(alloc, report, texts, rows, &netlist, &recorded)?;
     Ok("a replay")
 }
 

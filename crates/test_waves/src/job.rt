@@ -12,9 +12,10 @@ use xr_base::Items;
 use xr_cell::Value;
 use xr_design::{Bytes, Forces, History, StartRule};
 use xr_job::{
-    CompareRefusal, Netlist, PLACES, Recorded, put_compare_line, read_netlist, read_recording,
-    replay_and_compare,
+    CompareRefusal, Netlist, PLACES, Recorded, Rules, put_compare_line, read_netlist,
+    read_recording, replay_and_compare,
 };
+use xr_match::UndrivenRule;
 use xr_repair::repair;
 use xr_replay::replay;
 use xr_wave::Wave;
@@ -39,8 +40,8 @@ impl Job {
         requires { length recording.now ≤ 2 ^ 28 }
         ensures { IfOk result (λ job. IsReplayed job.netlist job.recorded job.history) }
     {
-        let netlist = read_netlist(alloc, netlist, "m")?;
-        let recorded = recorded_in(alloc, &netlist, recording)?;
+        let mut netlist = read_netlist(alloc, netlist, "m")?;
+        let recorded = recorded_in(alloc, &mut netlist, recording)?;
         let history = replay_and_compare(alloc, &netlist, &recorded)?;
         Ok(Job {
             netlist,
@@ -104,10 +105,11 @@ impl Job {
 }
 
 /// What the recording has in the scope `t`.
-fn recorded_in(alloc: Global, netlist: &Netlist, recording: &[u8]) -> Result<Recorded, Fail>
+fn recorded_in(alloc: Global, netlist: &mut Netlist, recording: &[u8]) -> Result<Recorded, Fail>
     requires size { length recording.now ≤ 2 ^ 28 }
-    requires fits { FitsNetlist netlist.now }
-    ensures { IfOk result (FitsRecorded netlist.now.design) }
+    requires fits { FitsNetlist netlist.old }
+    ensures netlist { IfOk result (λ _. FitsNetlist netlist.new) }
+    ensures recorded { IfOk result (FitsRecorded netlist.new.design) }
 {
     let scope = [Bytes::from_vec(b"t".to_vec(alloc)?)];
     let recorded = read_recording(
@@ -117,7 +119,10 @@ fn recorded_in(alloc: Global, netlist: &Netlist, recording: &[u8]) -> Result<Rec
         &scope,
         1,
         PLACES,
-        StartRule::Cold,
+        Rules {
+            start: StartRule::Cold,
+            undriven: UndrivenRule::Released,
+        },
     )?;
     Ok(recorded)
 }

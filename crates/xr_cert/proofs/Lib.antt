@@ -1,4 +1,4 @@
--- Lemmas of checked certificates.
+-- Lemmas of checked certificates, and those of the turns that they state.
 pub mod Accepting
 pub mod AllLines
 pub mod Dues
@@ -19,3 +19,4 @@ pub mod Standing
 pub mod Taking
 pub mod TurnCounts
 pub mod Ways
+pub use Rattle.xr_turns.proofs.StatedTurns

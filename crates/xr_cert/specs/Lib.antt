@@ -1,4 +1,4 @@
--- Definitions of checked certificates.
+-- Definitions of checked certificates, and those of turns and conditions that their clauses cite.
 pub mod Entries
 pub mod Walk
 pub mod Checked
@@ -6,3 +6,6 @@ pub mod Step
 pub mod Standing
 pub mod Laws
 pub mod Words
+pub use Rattle.xr_cond.specs.View
+pub use Rattle.xr_turns.specs.Conditions
+pub use Rattle.xr_turns.specs.TurnLines

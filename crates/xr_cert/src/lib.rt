@@ -30,3 +30,5 @@ pub use laws::{
 pub use refusal::{CertErr, CertFault, CheckErr};
 pub use text::{read_cert, write_cert};
 pub use xr_cert_text::{Cert, Entry, Form, Head};
+pub use xr_cond::Condition;
+pub use xr_turns::conditions_of;

@@ -13,7 +13,7 @@ use Rattle.xr_job.specs.Compared.{job_for}
 use Rattle.xr_job.specs.declared.netlist.Netlist.{Netlist as ANetlist}
 use Rattle.xr_job.specs.declared.recorded.Recorded.{Recorded}
 use Rattle.xr_model.specs.Sound.{IsOptimistic}
-use Rattle.xr_objection.proofs.Objecting.{objections_object}
+use Rattle.xr_phases.proofs.Objecting.{objections_object}
 use Rattle.xr_run.specs.Prepared.{IsJudgedBy, PreparedAlone, answer_of}
 use Rattle.xr_run.specs.Phases.{Answer}
 use Rattle.xr_run.specs.declared.ready.Ready.{Ready}
@@ -21,15 +21,11 @@ use Rattle.xr_run.specs.declared.refusal.Refusal.{Refusal}
 use Rattle.xr_run.specs.declared.refusal.Refusal.TheVariants.{Read, Long, Text, Memory}
 use Rattle.xr_run.proofs.Then.{searched_prepared}
 use Rattle.xr_wave.specs.Contents.{Contents, IsFinished, IsWave, job, nothing_written}
-use Rattle.xr_words.specs.Words.{AuditValues}
-use Rattle.xr_cli.specs.Audited.{AuditComes, ListsAudit, PrintsAudit}
-use Rattle.xr_cli.specs.Audits.{Audits}
+use Rattle.xr_cli.specs.Audit.{AuditValues, AuditComes, ListsAudit, PrintsAudit, Audits, walk_audited}
 use Rattle.xr_cli.specs.Headline.{wave_of}
-use Rattle.xr_cli.specs.Phases.{walk_audited}
-use Rattle.xr_phases.specs.Phases.{no_cause, walk_cause}
+use Rattle.xr_phases.specs.Phases.{no_cause, walk_cause, parts}
 use Rattle.xr_phases.specs.Repair.{IsObjectionBy, IsRepairedBy, WaveComes}
 use Rattle.xr_phases.specs.Texts.{IsAgreed, IsJob}
-use Rattle.xr_phases.specs.Phases.{parts}
 use Rattle.xr_phases.specs.declared.cause.Objection.{Objection}
 use Rattle.xr_phases.specs.declared.cause.Refused.{Refused}
 
@@ -80,7 +76,7 @@ module _ (conflicts : ℕ) (n : ANetlist) (r : Recorded) (blank : HistoryView) (
 
 -- An audit that is printed.
 pub audit_found : (w : AuditValues) (n : ANetlist) (r : Recorded) (ready : Ready)
-    → ListsAudit w.conflicts n r (answer_of ready) → PreparedAlone (walk_audited w n r) answer_of (Ok ready)
+    → ListsAudit w.conflicts n r (answer_of ready) → PreparedAlone (walk_audited w (parts n r)) answer_of (Ok ready)
 audit_found w n r ready lists = λ told v.
     searched_prepared told (AuditComes w.conflicts n r) no_cause answer_of v (Ok ready) record { found = lists; refused = tt }
 

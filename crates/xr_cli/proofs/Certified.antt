@@ -21,17 +21,17 @@ use Rattle.xr_listing.specs.Conditions.{conditions_text}
 use Rattle.xr_model.specs.declared.line.Line.{Line as ALine}
 use Rattle.xr_report.specs.Report.{report_text}
 use Rattle.xr_wave.specs.Contents.{Contents, IsFinished, IsWave}
-use Rattle.xr_words.specs.Words.{CheckValues, UpgradeValues}
+use Rattle.xr_cli.specs.Check.{CheckValues, Checks}
+use Rattle.xr_cli.specs.Upgrade.{UpgradeValues, Upgrades}
 use Rattle.xr_phases.specs.Certificate.{IsCertified}
 use Rattle.xr_phases.specs.Phases.{parts}
 use Rattle.xr_phases.specs.Repair.{beginning}
 use Rattle.xr_phases.specs.Texts.{IsAgreed, IsJob}
 use Rattle.xr_phases.proofs.Jobs.{fits_job}
-use Rattle.xr_cli.specs.Checks.{Checks}
 use Rattle.xr_cli.specs.Conditions.{cert_by, needs_lines}
-use Rattle.xr_cli.specs.Headline.{value_in, wave_of}
-use Rattle.xr_cli.specs.Phases.{forces_in, whole_report}
-use Rattle.xr_cli.specs.Upgrades.{Upgrades}
+use Rattle.xr_cli.specs.Headline.{RepairedJob, value_in, wave_of}
+use Rattle.xr_words.specs.Words.{JobValues}
+use Rattle.xr_cli.specs.Repair.{forces_in, whole_report}
 use Rattle.xr_cli.proofs.Conditioned.{conditions_of, have_conditions, same_cert, same_entries, same_lines, same_printed}
 use Rattle.xr_cli.proofs.Needing.{each_needs}
 
@@ -60,6 +60,22 @@ module _ (conflicts : ℕ) (n : ANetlist) (r : Recorded) (cert : Cert) (wave : C
   conditions_there : AreConditionsFor cert.form TheWave conditions
   conditions_there = subst (λ (c : Contents). AreConditionsFor cert.form c conditions) wave_same certified.checked.conditions_are
 
+-- The job is repaired by the lines of the certificate.
+abbrev certified_job : (w : JobValues) (conflicts : ℕ) (n : ANetlist) (r : Recorded) (cert : Cert) (wave : Contents) (conditions : List ConditionView)
+    → IsCertified conflicts (parts n r) cert wave conditions → (netlist recording : List ℕ) → IsJob w netlist recording n r → IsAgreed (parts n r)
+    → RepairedJob w conflicts netlist recording
+certified_job w conflicts n r cert wave conditions certified netlist recording job faultless = record {
+  n = n;
+  r = r;
+  is = job;
+  replay = wave.history;
+  agrees = record { replay = certified.replay; faultless = faultless };
+  waveform = wave.written;
+  lines = lines_in cert.entries;
+  whole = whole conflicts n r cert wave conditions certified;
+  holds = (sound conflicts n r cert wave conditions certified).holds;
+}
+
 -- The report with the lines of its conditions.
 printed_there : (c : Contents) (r : Recorded) (views : List ConditionView)
     → whole_report c r.binding views ≡ report_text c r.binding (forces_in c) ++ needs_lines c (conditions_of views)
@@ -73,18 +89,12 @@ pub checks : (w : CheckValues) (n : ANetlist) (r : Recorded) (cert : Cert) (wave
 checks w n r cert wave conditions certified netlist recording text job faultless stands =
     let there = conditions_there w.conflicts n r cert wave conditions certified in
     record {
-      n = n;
-      r = r;
-      job = job;
+      job = certified_job w.job w.conflicts n r cert wave conditions certified netlist recording job faultless;
       fits = certified.fits;
-      replay = wave.history;
-      agrees = record { replay = certified.replay; faultless = faultless };
       certificate = cert;
       stands = stands;
-      waveform = wave.written;
-      whole = whole w.conflicts n r cert wave conditions certified;
+      lines_are = refl;
       accepted = checked_accepted (beginning w.conflicts n r wave.history) cert wave conditions refl refl certified.checked;
-      holds = (sound w.conflicts n r cert wave conditions certified).holds;
       conditions = conditions_of conditions;
       conditions_are = have_conditions cert.form (TheWave w.conflicts n r cert wave conditions certified) conditions there;
       stated = certified.checked.stated ∙ ap (λ (ls : List ALine). entries_of ls conditions) certified.checked.lines
@@ -112,19 +122,13 @@ upgrades_there w n r cert wave conditions certified found are netlist recording 
     let finished = whole w.conflicts n r cert wave conditions certified in
     let same = same_cert Turns there found in
     record {
-      n = n;
-      r = r;
-      job = job;
+      job = certified_job w.job w.conflicts n r cert wave conditions certified netlist recording job faultless;
       fits = certified.fits;
-      replay = wave.history;
-      agrees = record { replay = certified.replay; faultless = faultless };
       certificate = cert;
       stands = stands;
+      lines_are = refl;
       form_is = form;
-      waveform = wave.written;
-      whole = finished;
       accepted = checked_accepted start cert wave conditions refl refl certified.checked;
-      holds = is_wave.holds;
       conditions = conditions_of found;
       conditions_are = have_conditions Turns there found are;
       upgraded = cert_by Turns there (conditions_of found);

@@ -16,9 +16,9 @@ use Rattle.xr_design.specs.Waveform.{certain}
 use Rattle.xr_design.specs.declared.place.Place.{Place}
 use Rattle.xr_listing.specs.Conditions.{condition_line, conditions_text}
 use Rattle.xr_model.specs.declared.line.Line.{Line as ALine}
-use Rattle.xr_turns.proofs.StatedTurns.{kept_within, stated_turns, states_turns}
-use Rattle.xr_turns.specs.Conditions.{AreConditionsOf, gives_bit, settled_places}
-use Rattle.xr_turns.specs.TurnLines.{turn_lines}
+use Rattle.xr_cert.proofs.StatedTurns.{kept_within, stated_turns, states_turns}
+use Rattle.xr_cert.specs.Conditions.{AreConditionsOf, gives_bit, settled_places}
+use Rattle.xr_cert.specs.TurnLines.{turn_lines}
 use Rattle.xr_wave.specs.Contents.{Contents, job}
 use Rattle.xr_cli.specs.Conditions.{Condition, EachHasCondition, HasCondition, HaveConditions, cert_by, entries_by, needs_lines}
 

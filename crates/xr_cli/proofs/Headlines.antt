@@ -52,10 +52,9 @@ use Rattle.xr_job.specs.Compared.{job_for}
 use Rattle.xr_job.specs.declared.netlist.Netlist.{Netlist as ANetlist}
 use Rattle.xr_job.specs.declared.recorded.Recorded.{Recorded}
 use Rattle.xr_line.specs.Line.{IsScopeName}
-use Rattle.xr_words.specs.Words.{RepairValues}
+use Rattle.xr_cli.specs.Repair.{RepairValues, forces_in, whole_report}
 use Rattle.xr_cli.specs.Conditions.{cert_by}
-use Rattle.xr_cli.specs.Headline.{Certifies, Headline, IsBit, IsForceCode, ShowsWaveform, place_of_bit, value_in}
-use Rattle.xr_cli.specs.Phases.{forces_in, whole_report}
+use Rattle.xr_cli.specs.Headline.{Certifies, Headline, IsBit, IsForceCode, RepairedJob, ShowsWaveform, place_of_bit, value_in}
 use Rattle.xr_phases.specs.Certificate.{form_of}
 use Rattle.xr_phases.specs.Phases.{scope_of}
 use Rattle.xr_phases.specs.Repair.{FitsJob, Found, IsFound, beginning}
@@ -181,6 +180,20 @@ module _ (w : RepairValues) (netlist recording : List ℕ) (is : Made w netlist 
   pub finished : length is.found.wave.written ≡ places_of (job_for is.n is.r)
   finished = subst IsFinished same is.is.repaired.finished
 
+  -- The job is repaired.
+  abbrev pub repaired_job : RepairedJob w.job w.conflicts netlist recording
+  repaired_job = record {
+    n = is.n;
+    r = is.r;
+    is = is.job;
+    replay = is.found.history;
+    agrees = record { replay = is.is.replay; faultless = is.faultless };
+    waveform = is.found.wave.written;
+    lines = is.found.wave.lines;
+    whole = finished;
+    holds = wave.holds;
+  }
+
   sound : Sound (job_for is.n is.r) w.conflicts (shown_of (job_for is.n is.r) is.found.history) is.found.wave.written is.found.wave.lines
   sound = wave.holds.sound
 
@@ -294,16 +307,8 @@ module _ (w : RepairValues) (netlist recording : List ℕ) (is : Made w netlist 
         (whole_report TheWave is.r.binding conditions)
     unfolding forces_so
     headline_there named = record {
-      n = is.n;
-      r = is.r;
-      job = is.job;
+      job = repaired_job;
       fits = is.is.fits;
-      replay = is.found.history;
-      agrees = record { replay = is.is.replay; faultless = is.faultless };
-      waveform = written;
-      lines = lines;
-      whole = finished;
-      holds = wave.holds;
       shown = V;
       shows = v_shows;
       vcd_is = refl;

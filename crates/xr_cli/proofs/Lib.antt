@@ -1,16 +1,25 @@
 -- Lemmas on the program.
+mod Audit
 mod Auditing
+mod Blame
 mod Certified
-mod Answering
+mod Check
 mod Conditioned
-mod Fixing
+mod Export
+mod Fix
+mod Free
 mod Headlines
-mod Lawfully
+mod Inputs
+pub mod Lawful
+mod Make
 mod Making
 mod Needing
 mod OwnChecks
 mod OwnForces
+mod Prove
+mod Repair
+mod Replay
 mod Restarts
-mod Runs
 mod TextsOf
+mod Upgrade
 mod Walk

@@ -20,14 +20,10 @@ use Rattle.xr_run.specs.declared.refusal.Refusal.{Refusal}
 use Rattle.xr_run.proofs.Then.{prepared_refused, prepared_then}
 use Rattle.xr_shelf.specs.Shelf.{Files}
 use Rattle.xr_wave.specs.Contents.{Contents}
-use Rattle.xr_words.specs.Words.{MakeValues, RepairValues}
+use Rattle.xr_cli.specs.Make.{MakeValues, SaysMake, IsRecordingOf, MadeComes, made_conflicts, made_job, made_netlist, Makes, make_answer, make_phases, IsMadeOf}
+use Rattle.xr_cli.specs.Repair.{RepairValues, forces_in}
 use Rattle.xr_words.specs.declared.words.Form.TheVariants.{Lines}
-use Rattle.xr_cli.specs.Answers.{SaysMake}
-use Rattle.xr_cli.specs.Made.{IsRecordingOf, MadeComes, made_conflicts, made_job, made_netlist}
 use Rattle.xr_phases.specs.Repair.{LengthComes}
-use Rattle.xr_cli.specs.Makes.{Makes}
-use Rattle.xr_cli.specs.Phases.{forces_in, make_answer, make_phases}
-use Rattle.xr_cli.specs.Texts.{IsMadeOf}
 use Rattle.xr_phases.specs.declared.cause.Refused.{Refused}
 use Rattle.xr_phases.specs.declared.cause.Refused.TheVariants.{Compare, LongNetlist, LongRecording, Netlist, Optimistic, Recording}
 use Rattle.xr_cli.proofs.Headlines as headlines
@@ -78,17 +74,9 @@ makes : (w : MakeValues) (recording : List ℕ) (is : headlines.Made made_repair
 makes w recording is made =
     let netlist = made_netlist w in
     record {
-      n = is.n;
-      r = is.r;
-      job = is.job;
+      job = headlines.repaired_job made_repair netlist recording is;
       netlist_is = refl;
       made = made;
-      replay = is.found.history;
-      agrees = record { replay = is.is.replay; faultless = is.faultless };
-      waveform = is.found.wave.written;
-      lines = is.found.wave.lines;
-      whole = headlines.finished made_repair netlist recording is;
-      holds = (headlines.wave made_repair netlist recording is).holds;
       events = headlines.events made_repair netlist recording is;
       are = headlines.are_forces made_repair netlist recording is;
       printed_is = ap (λ (c : Contents). head_text c (forces_in c)) (headlines.same made_repair netlist recording is);
@@ -116,7 +104,7 @@ module _ (told : Bool) (files : Files) (w : MakeValues) (answer : Answer) where
       let all : headlines.Made made_repair (made_netlist w) text = record {
         n = n;
         r = r;
-        job = record { netlist_is = record { fits = fits; is = has }; fits = within; is = held };
+        job = record { elaborated = n; netlist_is = record { fits = fits; is = has }; fits = within; is = held; job_is = refl };
         faultless = faultless;
         found = there;
         is = is;

@@ -9,7 +9,7 @@ use Rattle.xr_cond.proofs.NextTurns.{condition_holds}
 use Rattle.xr_design.specs.Job.{number_of}
 use Rattle.xr_design.specs.declared.place.Place.{Place}
 use Rattle.xr_listing.specs.Conditions.{IsSomeCondition}
-use Rattle.xr_turns.specs.Conditions.{AreConditionsOf, settled_places}
+use Rattle.xr_cert.specs.Conditions.{AreConditionsOf, settled_places}
 use Rattle.xr_wave.specs.Contents.{Contents, job}
 use Rattle.xr_cli.specs.Needs.{EachNeeds, Needs}
 use Rattle.xr_cli.proofs.Conditioned.{condition_of, conditions_of}

@@ -5,27 +5,29 @@ use Rattle.xr_phases.specs.Certificate.{form_of}
 use Rattle.xr_phases.specs.Code.{text_limit}
 use Rattle.xr_phases.specs.Repair.{beginning}
 use Rattle.xr_phases.specs.Texts.{IsJob}
-use Rattle.xr_words.specs.Words.{CheckValues, JobValues, RepairValues}
+use Rattle.xr_cli.specs.Check.{CheckValues, IsCheckable}
+use Rattle.xr_words.specs.Words.{JobValues}
+use Rattle.xr_cli.specs.Repair.{RepairValues}
 use Rattle.xr_cli.specs.Conditions.{cert_by}
 use Rattle.xr_cli.specs.Headline.{Headline, wave_of}
 use Rattle.xr_cli.specs.Laws.{IsCheckOf}
-use Rattle.xr_cli.specs.Texts.{IsCheckable}
 
 pub own_checkable : (w : RepairValues) (check : CheckValues) (netlist recording vcd code cert report : List ℕ)
     → Headline w netlist recording vcd code cert report → IsCheckOf w check → length cert ≤ text_limit
     → IsCheckable check netlist recording cert
 own_checkable w check netlist recording vcd code cert report headline is fits =
-    let wave = wave_of headline.n headline.r headline.replay w.conflicts headline.waveform headline.lines in
+    let there = headline.job in
+    let wave = wave_of there.n there.r there.replay w.conflicts there.waveform there.lines in
     record {
-      n = headline.n;
-      r = headline.r;
-      job = subst (λ (j : JobValues). IsJob j netlist recording headline.n headline.r) (sym is.job) headline.job;
-      replay = headline.replay;
-      agrees = headline.agrees;
+      n = there.n;
+      r = there.r;
+      job = subst (λ (j : JobValues). IsJob j netlist recording there.n there.r) (sym is.job) there.is;
+      replay = there.replay;
+      agrees = there.agrees;
       fits = fits;
       certificate = cert_by (form_of w.form) wave headline.conditions;
       stands = headline.certifies.stands;
-      waveform = headline.waveform;
-      accepted = subst (λ (limit : ℕ). IsAccepted (beginning limit headline.n headline.r headline.replay)
-          (cert_by (form_of w.form) wave headline.conditions) headline.waveform) (sym is.conflicts) headline.certifies.accepted;
+      waveform = there.waveform;
+      accepted = subst (λ (limit : ℕ). IsAccepted (beginning limit there.n there.r there.replay)
+          (cert_by (form_of w.form) wave headline.conditions) there.waveform) (sym is.conflicts) headline.certifies.accepted;
     }

@@ -28,9 +28,10 @@ use Rattle.xr_run.specs.Prepared.{answer_of}
 use Rattle.xr_run.specs.declared.ready.Ready.{Ready}
 use Rattle.xr_wave.specs.Contents.{Contents, job}
 use Rattle.xr_wave.specs.Shown.{ShowsWave}
-use Rattle.xr_words.specs.Words.{MakeValues, RepairValues, UpgradeValues}
-use Rattle.xr_cli.specs.Made.{made_netlist}
-use Rattle.xr_cli.specs.Phases.{HasTexts, answer_with, check_answer, forces_in, make_answer, make_with, upgrade_answer, whole_report}
+use Rattle.xr_cli.specs.Make.{MakeValues, made_netlist, make_answer, make_with}
+use Rattle.xr_cli.specs.Repair.{RepairValues, HasTexts, answer_with, forces_in, whole_report}
+use Rattle.xr_cli.specs.Upgrade.{UpgradeValues, upgrade_answer}
+use Rattle.xr_cli.specs.Check.{check_answer}
 use Rattle.xr_phases.specs.Certificate.{check_shows, form_of}
 use Rattle.xr_phases.specs.Phases.{scope_of}
 use Rattle.xr_phases.specs.declared.parts.Parts.{Parts}

@@ -1,5 +1,5 @@
 -- What a walk comes to, as phases.
-use Rattle.std.proofs.Common.{◌≡◌, ℕ, List, Ok, refl}
+use Rattle.std.proofs.Common.{◌≡◌, ℕ, List, Result, Ok, refl}
 use Rattle.xr_cert.specs.Entries.{AreConditionsFor}
 use Rattle.xr_cert_text.specs.declared.cert.Cert.{Cert}
 use Rattle.xr_cert_text.specs.declared.cert.Form.TheVariants.{Turns}
@@ -10,29 +10,29 @@ use Rattle.xr_forces.specs.ForcesOf.{AreForcesOf}
 use Rattle.xr_forces.specs.Waves.{values_of}
 use Rattle.xr_forces.proofs.Showing.{forces_are_one}
 use Rattle.xr_wave.specs.Contents.{Contents, job}
-use Rattle.xr_run.specs.Phases.{Phases, searches}
+use Rattle.xr_run.specs.Phases.{Answer, Phases, searches, ◌>>=◌}
 use Rattle.xr_run.specs.Prepared.{PreparedAlone, answer_of}
 use Rattle.xr_run.specs.declared.ready.Ready.{Ready}
 use Rattle.xr_run.proofs.Then.{found_prepared, judged_then, prepared_then, searched_prepared, searched_then}
 use Rattle.xr_job.specs.declared.netlist.Netlist.{Netlist as ANetlist}
 use Rattle.xr_job.specs.declared.recorded.Recorded.{Recorded}
-use Rattle.xr_export.specs.Export.{Exports}
 use Rattle.xr_prove.specs.Proof.{ProofComes}
-use Rattle.xr_words.specs.Words.{BlameValues, CheckValues, ExportValues, MakeValues, RepairValues, ReplayValues, UpgradeValues}
+use Rattle.xr_cli.specs.Check.{CheckValues, check_answer, checked_phases}
+use Rattle.xr_cli.specs.Make.{MakeValues, made_conflicts, make_answer, walk_made}
+use Rattle.xr_cli.specs.Repair.{RepairValues, forces_in, repair_answer, texts_phases, walk_phases}
+use Rattle.xr_cli.specs.Replay.{ReplayValues, forced_phases, replay_answer}
+use Rattle.xr_cli.specs.Upgrade.{UpgradeValues, checked_upgrade, turned_phases, upgrade_answer}
 use Rattle.xr_phases.specs.Certificate.{CheckComes, CheckShows, ConditionsCome, IsCertified, check_shows, form_of}
 use Rattle.xr_phases.specs.Code.{ForcedComes, IsForced}
-use Rattle.xr_cli.specs.Foreign.{ExportComes}
-use Rattle.xr_cli.specs.Listed.{BlameComes, ListsBlame}
-use Rattle.xr_cli.specs.Made.{made_conflicts}
-use Rattle.xr_cli.specs.Phases.{check_answer, checked_phases, checked_upgrade, forced_phases, forces_in, make_answer, proof_phases, prove_answer, repair_answer, replay_answer, walk_blamed, texts_phases, turned_phases, upgrade_answer, walk_exported, walk_made, walk_phases}
-use Rattle.xr_phases.specs.Phases.{itself, no_cause, proof_cause, walk_cause}
+use Rattle.xr_cli.specs.Prove.{proof_phases, prove_answer}
+use Rattle.xr_phases.specs.Phases.{itself, no_cause, parts, proof_cause, walk_cause}
 use Rattle.xr_phases.specs.Repair.{Found, IsFound, WalkComes}
 use Rattle.xr_phases.specs.declared.parts.Parts.{Parts}
 
 -- A wave that is found, with its texts.
 pub walk_found : (w : RepairValues) (n : ANetlist) (r : Recorded) (found : Found) (conditions : List ConditionView) (ready : Ready)
     → IsFound w.conflicts n r found → AreConditionsFor (form_of w.form) found.wave conditions → answer_of ready ≡ repair_answer w n r found conditions
-    → PreparedAlone (walk_phases w n r) answer_of (Ok ready)
+    → PreparedAlone (walk_phases w (parts n r)) answer_of (Ok ready)
 walk_found w n r found conditions ready is are same =
     searched_then (WalkComes w.conflicts n r) walk_cause (texts_phases w n r) itself answer_of found (Ok ready) record { found = is; refused = tt }
     (searched_then (ConditionsCome (form_of w.form) found.wave) no_cause (λ (x : List ConditionView). Phases.Finds (repair_answer w n r found x)) itself answer_of
@@ -77,21 +77,13 @@ upgrade_found w job cert wave conditions found ready is are same =
     (searched_then (ConditionsCome Turns wave) no_cause (λ (x : List ConditionView). Phases.Finds (upgrade_answer w job wave x)) itself answer_of
     found (Ok ready) record { found = are; refused = tt } (λ told v. found_prepared told answer_of (upgrade_answer w job wave found) v ready same))
 
--- A wave that is found, with what is written of it for other solvers.
-pub export_found : (w : ExportValues) (n : ANetlist) (r : Recorded) (found : Found) (ready : Ready) → IsFound w.conflicts n r found
-    → Exports w.prefix found.wave (answer_of ready) → PreparedAlone (walk_exported w n r) answer_of (Ok ready)
-export_found w n r found ready is exports =
-    searched_then (WalkComes w.conflicts n r) walk_cause (λ (x : Found). searches (ExportComes w.prefix x.wave) no_cause) itself answer_of
+-- A wave that is found, with what is then found of it.
+pub listed_found : (conflicts : ℕ) (n : ANetlist) (r : Recorded) (Comes : Contents → Result Answer ⊥ → Type 0) (found : Found) (ready : Ready) → IsFound conflicts n r found
+    → Comes found.wave (Ok (answer_of ready)) → PreparedAlone (searches (WalkComes conflicts n r) walk_cause >>= (λ (x : Found). searches (Comes x.wave) no_cause)) answer_of (Ok ready)
+listed_found conflicts n r Comes found ready is lists =
+    searched_then (WalkComes conflicts n r) walk_cause (λ (x : Found). searches (Comes x.wave) no_cause) itself answer_of
     found (Ok ready) record { found = is; refused = tt }
-    (λ told v. searched_prepared told (ExportComes w.prefix found.wave) no_cause answer_of v (Ok ready) record { found = exports; refused = tt })
-
--- A wave that is found, with what is to blame for its unknown bits.
-pub blame_found : (w : BlameValues) (n : ANetlist) (r : Recorded) (found : Found) (ready : Ready) → IsFound w.conflicts n r found
-    → ListsBlame r.binding.bound found.wave (answer_of ready) → PreparedAlone (walk_blamed w n r) answer_of (Ok ready)
-blame_found w n r found ready is lists =
-    searched_then (WalkComes w.conflicts n r) walk_cause (λ (x : Found). searches (BlameComes r.binding.bound x.wave) no_cause) itself answer_of
-    found (Ok ready) record { found = is; refused = tt }
-    (λ told v. searched_prepared told (BlameComes r.binding.bound found.wave) no_cause answer_of v (Ok ready) record { found = lists; refused = tt })
+    (λ told v. searched_prepared told (Comes found.wave) no_cause answer_of v (Ok ready) record { found = lists; refused = tt })
 
 -- A proof, with what is printed of it.
 pub proof_found : (cnf log : List ℕ) (count : ℕ) (ready : Ready) → ProofComes cnf log (Ok count) → answer_of ready ≡ prove_answer count

@@ -1,42 +1,49 @@
 -- What a repair promises, a field a sentence.
-use Rattle.std.specs.Prelude.{◌≡◌, ◌≢◌, ℕ, ◌<◌, ◌++◌, Bool, true, List, length, slice_index, Contains}
-use Rattle.xr_cell.specs.declared.value.Value.{Value}
+use Rattle.std.specs.Prelude.{◌++◌, ◌<◌, ◌∷◌, ◌≡◌, ◌≢◌, Bool, Contains, List, [], codes, length, slice_index, true, ℕ}
 use Rattle.xr_cell.specs.Value.{IsKnown, bit_value, is_unknown}
+use Rattle.xr_cell.specs.declared.value.Value.{Value}
+use Rattle.xr_cert.specs.Checked.{IsAccepted}
+use Rattle.xr_cert_text.specs.Wrong.{IsTextOf}
+use Rattle.xr_cli.specs.Conditions.{Condition, HaveConditions, cert_by, needs_lines}
+use Rattle.xr_cli.specs.Needs.{EachNeeds}
+use Rattle.xr_cli.specs.Repair.{FailsAsRepair, GivesRepair, IsRepairable, RepairValues, answer_with, repair_phases}
+use Rattle.xr_code.specs.Says.{CodeSays}
+use Rattle.xr_code.specs.Written.{code_text}
+use Rattle.xr_design.specs.Handed.{shown_of}
+use Rattle.xr_design.specs.History.{HistoryView}
 use Rattle.xr_design.specs.Job.{Job, at, places_of}
 use Rattle.xr_design.specs.Settled.{last_step}
 use Rattle.xr_design.specs.Waveform.{Settles, certain, written_at}
+use Rattle.xr_design.specs.declared.force.Event.{Event}
 use Rattle.xr_design.specs.declared.waveform.Mark.TheVariants.{Undecided}
 use Rattle.xr_design.specs.declared.waveform.Written.{Written}
-use Rattle.xr_match.specs.declared.binding.Bound.{Bound}
-use Rattle.xr_model.specs.Sound.{HasLicence, IsDecided, Sound}
-use Rattle.xr_model.specs.Growth.{Holds}
-use Rattle.xr_model.specs.Line.{GivesBoth}
-use Rattle.xr_model.specs.Stated.{stated}
-use Rattle.xr_model.specs.Yields.{Yields}
-use Rattle.xr_model.specs.declared.line.Line.{Line as ALine}
-use Rattle.xr_vcd.specs.Recording.{value_at}
-use Rattle.xr_design.specs.Handed.{shown_of}
-use Rattle.xr_design.specs.History.{HistoryView}
+use Rattle.xr_forces.specs.ForcesOf.{AreForcesOf}
 use Rattle.xr_job.specs.Compared.{job_for}
 use Rattle.xr_job.specs.declared.netlist.Netlist.{Netlist as ANetlist}
 use Rattle.xr_job.specs.declared.recorded.Recorded.{Recorded}
+use Rattle.xr_line.specs.Tables.{Number, Writes, needs, takes}
+use Rattle.xr_match.specs.declared.binding.Bound.{Bound}
+use Rattle.xr_model.specs.Growth.{Holds}
+use Rattle.xr_model.specs.Line.{GivesBoth}
+use Rattle.xr_model.specs.Sound.{HasLicence, IsDecided, Sound}
+use Rattle.xr_model.specs.Stated.{stated}
+use Rattle.xr_model.specs.Yields.{Yields}
+use Rattle.xr_model.specs.declared.line.Line.{Line as ALine}
 use Rattle.xr_out.specs.Text.{vcd_text}
-use Rattle.xr_report.specs.Report.{report_text}
-use Rattle.xr_wave.specs.Contents.{Contents}
-use Rattle.xr_words.specs.Words.{RepairValues}
-use Rattle.xr_cert.specs.Checked.{IsAccepted}
-use Rattle.xr_cert_text.specs.Wrong.{IsTextOf}
-use Rattle.xr_code.specs.Says.{CodeSays}
-use Rattle.xr_code.specs.Written.{code_text}
-use Rattle.xr_forces.specs.ForcesOf.{AreForcesOf}
-use Rattle.xr_design.specs.declared.force.Event.{Event}
-use Rattle.xr_cli.specs.Conditions.{Condition, HaveConditions, cert_by, needs_lines}
-use Rattle.xr_cli.specs.Needs.{EachNeeds}
 use Rattle.xr_phases.specs.Certificate.{form_of}
 use Rattle.xr_phases.specs.Code.{IsForced, code_in}
 use Rattle.xr_phases.specs.Phases.{parts, scope_of}
-use Rattle.xr_phases.specs.Repair.{AgreesThroughout, FitsJob, beginning}
-use Rattle.xr_phases.specs.Texts.{IsJob}
+use Rattle.xr_phases.specs.Repair.{AgreesThroughout, FitsJob, beginning, recording_limit}
+use Rattle.xr_phases.specs.Texts.{IsJob, netlist_held, recording_held}
+use Rattle.xr_phases.specs.declared.cause.Refused.{Refused}
+use Rattle.xr_report.specs.Report.{report_text}
+use Rattle.xr_run.specs.Phases.{Answer}
+use Rattle.xr_set.specs.Command.{Command}
+use Rattle.xr_shelf.specs.Shelf.{Files}
+use Rattle.xr_vcd.specs.Recording.{value_at}
+use Rattle.xr_wave.specs.Contents.{Contents}
+use Rattle.xr_words.specs.Words.{JobValues, job_reads}
+use Rattle.xr_words.specs.Forms as shared
 
 -- A bit of a bound variable in a moment, and the place that shows it: its net at the moment's last step.
 pub record IsBit (n : ANetlist) (r : Recorded) (moment : ℕ) (b : Bound) (bit : ℕ) : Type 0 where
@@ -99,52 +106,94 @@ pub record Certifies (w : RepairValues) (n : ANetlist) (r : Recorded) (replay : 
   pub one : (other : List Written) → length other ≡ places_of (job_for n r)
       → Yields (job_for n r) w.conflicts (shown_of (job_for n r) replay) other lines → other ≡ waveform
 
--- The texts stand for a job whose recording agrees with its replay; there are a waveform of all its places and lines,
--- so that:
-pub record Headline (w : RepairValues) (netlist recording : List ℕ) (vcd code cert report : List ℕ) : Type 0 where
+-- The texts stand for a job whose recording agrees with its replay; there are a waveform of all its places and lines:
+-- the waveform is sound for the replay, and the lines yield it.
+pub record RepairedJob (w : JobValues) (conflicts : ℕ) (netlist recording : List ℕ) : Type 0 where
   pub n : ANetlist
   pub r : Recorded
-  pub job : IsJob w.job netlist recording n r
-  pub fits : FitsJob n r
+  pub is : IsJob w netlist recording n r
   pub replay : HistoryView
   pub agrees : AgreesThroughout n r replay
   pub waveform : List Written
   pub lines : List ALine
   pub whole : length waveform ≡ places_of (job_for n r)
-  -- The waveform is sound for the replay, and the lines yield it.
-  pub holds : Holds (job_for n r) w.conflicts (shown_of (job_for n r) replay) waveform lines
+  pub holds : Holds (job_for n r) conflicts (shown_of (job_for n r) replay) waveform lines
+
+-- Its circuit, and its wave.
+abbrev pub circuit_of : {w : JobValues} {conflicts : ℕ} {netlist recording : List ℕ}
+    → RepairedJob w conflicts netlist recording → Job
+circuit_of job = job_for job.n job.r
+
+abbrev pub wave_of_job : {w : JobValues} {conflicts : ℕ} {netlist recording : List ℕ}
+    → RepairedJob w conflicts netlist recording → Contents
+wave_of_job {w} {conflicts} job = wave_of job.n job.r job.replay conflicts job.waveform job.lines
+
+-- The texts stand for a job that is repaired, so that:
+pub record Headline (w : RepairValues) (netlist recording : List ℕ) (vcd code cert report : List ℕ) : Type 0 where
+  pub job : RepairedJob w.job w.conflicts netlist recording
+  pub fits : FitsJob job.n job.r
   -- V is the text of what the waveform shows.
   pub shown : HistoryView
-  pub shows : ShowsWaveform (job_for n r) waveform shown
-  pub vcd_is : vcd ≡ vcd_text n.design r.binding r.stim shown
+  pub shows : ShowsWaveform (circuit_of job) job.waveform shown
+  pub vcd_is : vcd ≡ vcd_text job.n.design job.r.binding job.r.stim shown
   -- Replaying the netlist with the code C writes V.
-  pub forces : IsForceCode w n r waveform vcd code
+  pub forces : IsForceCode w job.n job.r job.waveform vcd code
   -- In form 2 there is a condition for each certain Line place, in form 1 there is none.
   pub conditions : List Condition
-  pub conditions_are : HaveConditions (form_of w.form) (job_for n r) w.conflicts waveform lines conditions
+  pub conditions_are : HaveConditions (form_of w.form) (circuit_of job) w.conflicts job.waveform job.lines conditions
   -- The certificate X names the waveform: it is the one that its lines yield. It has the turns of the conditions.
-  pub certifies : Certifies w n r replay waveform lines conditions cert
+  pub certifies : Certifies w job.n job.r job.replay job.waveform job.lines conditions cert
   -- The report tells how many places have which end, and what became of each recorded bit that is x or z, and has the
   -- lines of the conditions.
-  pub report_is : report ≡ report_text (wave_of n r replay w.conflicts waveform lines) r.binding forces.events
-      ++ needs_lines (wave_of n r replay w.conflicts waveform lines) conditions
+  pub report_is : report ≡ report_text (wave_of_job job) job.r.binding forces.events
+      ++ needs_lines (wave_of_job job) conditions
   -- Each of these places needs the places that its line lists.
-  pub needs : EachNeeds (job_for n r) waveform conditions
+  pub needs : EachNeeds (circuit_of job) job.waveform conditions
   -- Each bit that V shows known, its search ended, has that value in the two-valued circuit under every filling.
-  pub known : ForBits n r (λ place recorded. (bit : Bool) → shown_of (job_for n r) shown place ≡ bit_value bit
-      → (written_at waveform place).mark ≢ Undecided → Settles (job_for n r) waveform place bit)
+  pub known : ForBits job.n job.r (λ place recorded. (bit : Bool)
+      → shown_of (circuit_of job) shown place ≡ bit_value bit
+      → (written_at job.waveform place).mark ≢ Undecided → Settles (circuit_of job) job.waveform place bit)
   -- Each bit that V shows unknown, its search ended, has two fillings that are listed, in a line or by a class: the
   -- first gives 0, the second 1.
-  pub unknown : ForBits n r (λ place recorded. is_unknown (shown_of (job_for n r) shown place) ≡ true
-      → (written_at waveform place).mark ≢ Undecided
-      → GivesBoth (job_for n r) waveform place (stated (job_for n r) (certain waveform) lines place))
-  -- Each other bit is marked undecided, with its licence: more than 12 sources, and a log of as many clauses as the
-  -- words say.
-  pub undecided : ForBits n r (λ place recorded. (written_at waveform place).mark ≡ Undecided
-      → HasLicence (job_for n r) w.conflicts waveform lines place)
+  pub unknown : ForBits job.n job.r (λ place recorded. is_unknown (shown_of (circuit_of job) shown place) ≡ true
+      → (written_at job.waveform place).mark ≢ Undecided
+      → GivesBoth (circuit_of job) job.waveform place (stated (circuit_of job) (certain job.waveform) job.lines place))
+  -- Each other bit is marked undecided, with its licence: over 12 sources, and a log of the words' number of clauses.
+  pub undecided : ForBits job.n job.r (λ place recorded. (written_at job.waveform place).mark ≡ Undecided
+      → HasLicence (circuit_of job) w.conflicts job.waveform job.lines place)
   -- The bits that the recording knows stand.
-  pub stand : ForBits n r (λ place recorded. IsKnown recorded → shown_of (job_for n r) shown place ≡ recorded)
+  pub stand : ForBits job.n job.r (λ place recorded. IsKnown recorded
+      → shown_of (circuit_of job) shown place ≡ recorded)
   -- Where no place is undecided, no other waveform without undecided places is sound, whatever its lines and its limit.
-  pub only : IsDecided waveform → (limit : ℕ) (other : List Written) (more : List ALine)
-      → length other ≡ places_of (job_for n r) → Sound (job_for n r) limit (shown_of (job_for n r) replay) other more
-      → IsDecided other → other ≡ waveform
+  pub only : IsDecided job.waveform → (limit : ℕ) (other : List Written) (more : List ALine)
+      → length other ≡ places_of (circuit_of job)
+      → Sound (circuit_of job) limit (shown_of (circuit_of job) job.replay) other more
+      → IsDecided other → other ≡ job.waveform
+
+-- V, C and X are written in this order and the report printed; of them and the files' texts the headline holds.
+pub record SaysRepair (files : Files) (w : RepairValues) (answer : Answer) : Type 0 where
+  pub vcd : List ℕ
+  pub code : List ℕ
+  pub cert : List ℕ
+  pub report : List ℕ
+  pub answer_is : answer ≡ answer_with w vcd code cert report
+  pub headline : Headline w (netlist_held files w.job) (recording_held files w.job) vcd code cert report
+
+-- ---- the command
+
+abbrev pub repair : Command Refused
+repair = record {
+  word = codes "repair";
+  table = shared.job (needs (codes "vcd") Writes ∷ needs (codes "code") Writes ∷ needs (codes "cert") Writes
+      ∷ takes (codes "form") (Number 1 2) ∷ shared.conflicts ∷ []);
+  has_files = true;
+  Values = RepairValues;
+  files = λ v. v.job.netlists;
+  Gives = GivesRepair;
+  inputs = λ v. job_reads v.job;
+  most = recording_limit;
+  phases = repair_phases;
+  InOrder = λ files v. IsRepairable v.job v.conflicts (netlist_held files v.job) (recording_held files v.job);
+  Says = SaysRepair;
+  Fails = λ files v cause. FailsAsRepair v.job v.conflicts files cause;
+}

@@ -1,20 +1,26 @@
--- What the functions of src/laws.rt ensure: an answer says what is promised, and a repair's own certificate is in order
--- for a check of its job.
+-- What the functions of src/laws.rt ensure: words have one meaning, an answer says what is promised, and a repair's own
+-- certificate is in order for a check of its job.
 use Rattle.std.specs.Prelude.{◌≡◌, ℕ, ◌≤◌, Bool, List, Ok, length}
 use Rattle.xr_phases.specs.Code.{text_limit}
 use Rattle.xr_run.specs.Phases.{Answer, ComesTo}
+use Rattle.xr_set.specs.Command.{ReportsInputs}
+use Rattle.xr_set.specs.Set.{Means, MeansOnly, Values, inputs_of, phases_of}
 use Rattle.xr_shelf.specs.Shelf.{Files}
-use Rattle.xr_words.specs.Words.{CheckValues, Means, RepairValues, Values}
-use Rattle.xr_cli.specs.Answers.{ReportsInputs, AnswerSays}
+use Rattle.xr_cli.specs.Check.{CheckValues, IsCheckable}
+use Rattle.xr_cli.specs.Commands.{command_of}
 use Rattle.xr_cli.specs.Headline.{Headline}
-use Rattle.xr_cli.specs.Phases.{phases_of}
-use Rattle.xr_cli.specs.Texts.{IsCheckable}
+use Rattle.xr_cli.specs.Repair.{RepairValues}
+
+-- Words have at most one meaning.
+abbrev pub WordsMeanOne : Type 0
+WordsMeanOne = (words : List (List ℕ)) (v : Values command_of) → Means command_of words v
+    → MeansOnly command_of words v
 
 -- What a command of the set finds, of files that the shelf reports if it reads any, says what is promised.
 abbrev pub AnswersSay : Type 0
-AnswersSay = (told : Bool) (files : Files) (line : List (List ℕ)) (words : Values) (answer : Answer)
-    → ReportsInputs told words → Means line words → ComesTo told files (phases_of words) (Ok answer)
-    → AnswerSays files words answer
+AnswersSay = (told : Bool) (files : Files) (line : List (List ℕ)) (words : Values command_of) (answer : Answer)
+    → ReportsInputs (inputs_of command_of words) told → Means command_of line words
+    → ComesTo told files (phases_of command_of words) (Ok answer) → (command_of words.0).Says files words.1 answer
 
 -- A check of what a repair wrote: of the same job, with logs of as many clauses.
 pub record IsCheckOf (w : RepairValues) (check : CheckValues) : Type 0 where

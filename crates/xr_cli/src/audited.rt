@@ -6,13 +6,12 @@ ghost use Rattle.xr_design.specs.Handed.{IsBlank, IsReplay};
 ghost use Rattle.xr_job.specs.Compared.{job_for};
 ghost use Rattle.xr_run.specs.Prepared.{IsJudgedBy, PreparedAlone, answer_of};
 ghost use Rattle.xr_wave.specs.Contents.{IsLimit};
-ghost use Rattle.xr_words.specs.Words.{audit_values};
-ghost use Rattle.xr_cli.specs.Audited.{AuditComes, PrintsAudit};
-ghost use Rattle.xr_cli.specs.Phases.{walk_audited};
+ghost use Rattle.xr_cli.specs.Audit.{audit_values, AuditComes, PrintsAudit, walk_audited};
 ghost use Rattle.xr_phases.specs.Phases.{no_cause};
 ghost use Rattle.xr_phases.specs.Repair.{FitsParts, IsRepairedBy};
 
 use crate::checked::ready_with;
+use crate::commands::audit::Audit;
 use std::alloc::Global;
 use xr_base::Memory;
 use xr_design::History;
@@ -21,19 +20,18 @@ use xr_phases::{Parts, Refused, wave_under};
 use xr_run::{Ready, Refusal, Report};
 use xr_shelf::Sink;
 use xr_wave::Wave;
-use xr_words::AuditWords;
 
 /// The walk over the places of a job that agrees, of which nothing is known, and its audit beside the replay.
 pub fn audited<'a, O: Sink>(
     alloc: Global,
-    words: &AuditWords<'a>,
+    words: &Audit<'a>,
     job: &Parts,
     history: &History,
     out: &mut O,
 ) -> Result<Ready<'a>, Refusal<Refused>>
     requires fits { FitsParts job.now }
     requires replay { IsReplay (job_for job.now.netlist job.now.recorded) history.now }
-    ensures prepared { PreparedAlone (walk_audited (audit_values words.now) job.now.netlist job.now.recorded)
+    ensures prepared { PreparedAlone (walk_audited (audit_values words.now) job.now)
         answer_of result }
     ensures out { O.view out.new ≡ O.view out.old }
 {

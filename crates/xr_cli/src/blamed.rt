@@ -4,12 +4,11 @@ ghost use Rattle.std.specs.Prelude.{◌≡◌, IfOk};
 ghost use Rattle.xr_design.specs.Handed.{IsReplay};
 ghost use Rattle.xr_job.specs.Compared.{job_for};
 ghost use Rattle.xr_run.specs.Prepared.{PreparedAlone, answer_of};
-ghost use Rattle.xr_words.specs.Words.{blame_values};
-ghost use Rattle.xr_cli.specs.Listed.{ListsBlame};
-ghost use Rattle.xr_cli.specs.Phases.{walk_blamed};
+ghost use Rattle.xr_cli.specs.Blame.{blame_values, ListsBlame, walk_blamed};
 ghost use Rattle.xr_phases.specs.Repair.{FitsParts, IsWaveOf};
 
 use crate::checked::ready_with;
+use crate::commands::blame::Blame;
 use std::alloc::Global;
 use xr_base::Memory;
 use xr_code::read_times;
@@ -19,19 +18,18 @@ use xr_phases::{Parts, Refused, wave_of};
 use xr_run::{Ready, Refusal, Report};
 use xr_shelf::Sink;
 use xr_wave::Wave;
-use xr_words::BlameWords;
 
 /// The walk over the places of a job that agrees, and what is to blame.
 pub fn blamed<'a, O: Sink>(
     alloc: Global,
-    words: &BlameWords<'a>,
+    words: &Blame<'a>,
     job: &Parts,
     history: &History,
     out: &mut O,
 ) -> Result<Ready<'a>, Refusal<Refused>>
     requires fits { FitsParts job.now }
     requires replay { IsReplay (job_for job.now.netlist job.now.recorded) history.now }
-    ensures prepared { PreparedAlone (walk_blamed (blame_values words.now) job.now.netlist job.now.recorded)
+    ensures prepared { PreparedAlone (walk_blamed (blame_values words.now) job.now)
         answer_of result }
     ensures out { O.view out.new ≡ O.view out.old }
 {

@@ -5,12 +5,12 @@ ghost use Rattle.std.specs.List.{AllByRecursion};
 ghost use Rattle.xr_design.specs.Handed.{IsReplay};
 ghost use Rattle.xr_job.specs.Compared.{job_for};
 ghost use Rattle.xr_listing.specs.Conditions.{IsSomeCondition};
-ghost use Rattle.xr_run.specs.Prepared.{PreparedAlone, answer_of};
-ghost use Rattle.xr_words.specs.Words.{check_values};
+ghost use Rattle.xr_run.specs.Prepared.{Prepared, PreparedAlone, answer_of};
+ghost use Rattle.xr_cli.specs.Check.{certified_phases, check_answer, check_values, checked_phases};
 ghost use Rattle.xr_phases.specs.Certificate.{check_shows};
 ghost use Rattle.xr_phases.specs.Repair.{FitsParts, IsWaveOf};
-ghost use Rattle.xr_cli.specs.Phases.{check_answer, checked_phases};
 
+use crate::commands::check::Check;
 use crate::report::report_with;
 use std::alloc::Global;
 use xr_base::Memory;
@@ -18,15 +18,32 @@ use xr_cert::Cert;
 use xr_cond::Condition;
 use xr_design::History;
 use xr_forces::forces_of;
-use xr_phases::{Parts, Refused, certified_wave};
+use xr_phases::{Parts, Refused, certificate_of, certified_wave};
 use xr_run::{Ready, Refusal, Report};
+use xr_shelf::Shelf;
 use xr_wave::Wave;
-use xr_words::CheckWords;
+
+/// The check of a certificate of a job whose recording agrees.
+pub fn check_agreed<'a, S: Shelf>(
+    alloc: Global,
+    shelf: &mut S,
+    words: &Check<'a>,
+    job: &Parts,
+    history: &History,
+) -> Result<Ready<'a>, Refusal<Refused>>
+    requires fits { FitsParts job.now }
+    requires replay { IsReplay (job_for job.now.netlist job.now.recorded) history.now }
+    ensures { Prepared S.told (certified_phases (check_values words.now) job.now) answer_of
+        (S.view shelf.old) (S.view shelf.new) result }
+{
+    let cert = certificate_of(alloc, shelf, words.cert)?;
+    checked(alloc, words, job, history, cert)
+}
 
 /// What the words ask of a certificate of a job that agrees.
-pub fn checked<'a>(
+fn checked<'a>(
     alloc: Global,
-    words: &CheckWords<'a>,
+    words: &Check<'a>,
     job: &Parts,
     history: &History,
     cert: Cert,

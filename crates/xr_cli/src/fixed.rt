@@ -6,12 +6,12 @@ ghost use Rattle.xr_fix.specs.Gained.{AreBeside};
 ghost use Rattle.xr_job.specs.Compared.{job_for};
 ghost use Rattle.xr_match.specs.Binding.{FitsBinding};
 ghost use Rattle.xr_run.specs.Prepared.{PreparedAlone, answer_of};
-ghost use Rattle.xr_words.specs.Words.{fix_values};
+ghost use Rattle.xr_cli.specs.Fix.{fix_values, fix_answer, set_phases, walk_fixed, walk_set};
 ghost use Rattle.xr_phases.specs.Repair.{FitsParts, IsRepairedBy};
 ghost use Rattle.xr_cli.specs.Restarts.{IsRestarted};
-ghost use Rattle.xr_cli.specs.Phases.{fix_answer, set_phases, walk_fixed, walk_set};
 
 use crate::checked::ready_with;
+use crate::commands::fix::Fix;
 use crate::restarted::Restarted;
 use std::alloc::Global;
 use xr_base::Memory;
@@ -21,19 +21,18 @@ use xr_phases::{Parts, Refused, replay_of, replay_wave, sets_of, started};
 use xr_run::{Ready, Refusal, Report};
 use xr_shelf::Sink;
 use xr_wave::Wave;
-use xr_words::FixWords;
 
 /// A job that agrees, with the starts that the words set.
 pub fn fixed<'a, O: Sink>(
     alloc: Global,
-    words: &FixWords<'_>,
+    words: &Fix<'_>,
     job: &Parts,
     history: &History,
     out: &mut O,
 ) -> Result<Ready<'a>, Refusal<Refused>>
     requires fits { FitsParts job.now }
     requires replay { IsReplay (job_for job.now.netlist job.now.recorded) history.now }
-    ensures prepared { PreparedAlone (set_phases (fix_values words.now) job.now.netlist job.now.recorded)
+    ensures prepared { PreparedAlone (set_phases (fix_values words.now) job.now)
         answer_of result }
     ensures out { O.view out.new ≡ O.view out.old }
 {

@@ -1,6 +1,11 @@
-//! Laws of answers. None of these functions does anything: what each ensures is a law, proved here once.
+//! Laws of words and of answers. None of these functions does anything: what each ensures is a law, proved here once.
 
 ghost use Rattle.xr_cli.specs.Laws as spec;
+
+/// Words have at most one meaning.
+pub fn words_mean_one()
+    ensures { spec.WordsMeanOne }
+{}
 
 /// Where the shelf reports the files that it reads, what a command of the set finds says what is promised.
 pub fn answers_say_what_is_promised()

@@ -7,21 +7,22 @@ ghost use Rattle.xr_job.specs.Netlist.{FitsNetlist};
 ghost use Rattle.xr_job.specs.Recorded.{FitsRecorded, RecordingComes};
 ghost use Rattle.xr_run.specs.Prepared.{Judged, PreparedAlone, answer_of};
 ghost use Rattle.xr_wave.specs.Contents.{IsFinished};
-ghost use Rattle.xr_words.specs.Words.{make_values};
-ghost use Rattle.xr_cli.specs.Made.{made_job, made_netlist};
-ghost use Rattle.xr_cli.specs.Phases.{bytes_in, make_answer, make_phases, make_with, netlist_made, recorded_made};
-ghost use Rattle.xr_cli.specs.Phases.{recording_made, repaired_made, walk_made, with_recording};
+ghost use Rattle.xr_cli.specs.Make.{make_values, made_job, made_netlist, bytes_in, make_answer, make_phases, make_with};
+ghost use Rattle.xr_cli.specs.Make.{netlist_made, recorded_made, recording_made, repaired_made, walk_made};
+ghost use Rattle.xr_cli.specs.Make.{with_recording};
 ghost use Rattle.xr_phases.specs.Phases.{itself, recording_cause, scope_of};
-ghost use Rattle.xr_phases.specs.Repair.{FitsParts, rule_of};
+ghost use Rattle.xr_phases.specs.Repair.{FitsParts, rules_of};
 
+use crate::commands::make::Make;
 use crate::made_texts::MadeTexts;
 use std::alloc::Global;
 use xr_base::Memory;
 use xr_code::read_times;
 use xr_design::{History, StartRule};
 use xr_forces::forces_of;
-use xr_job::{Netlist, PLACES, Recorded};
+use xr_job::{Netlist, PLACES, Recorded, Rules};
 use xr_make::{made_netlist, made_recording};
+use xr_match::UndrivenRule;
 use xr_phases::{
     NETLIST_BYTES, Parts, RECORDING_BYTES, Refused, compared, names_of, netlist_in, recorded_in,
     short_in, wave_of,
@@ -30,7 +31,6 @@ use xr_report::write_head;
 use xr_run::{Output, Ready, Refusal, Report};
 use xr_shelf::Sink;
 use xr_wave::Wave;
-use xr_words::MakeWords;
 
 /// The module of a made netlist, and the scope of its recording.
 const NAME: &str = "made";
@@ -44,7 +44,7 @@ const CONFLICTS: u32 = 1_000;
 /// What the words ask. The sink is told how far the walk has come.
 pub fn made<'a, O: Sink>(
     alloc: Global,
-    words: &MakeWords<'a>,
+    words: &Make<'a>,
     out: &mut O,
 ) -> Result<Ready<'a>, Refusal<Refused>>
     ensures prepared { PreparedAlone (make_phases (make_values words.now)) answer_of result }
@@ -67,7 +67,7 @@ fn netlist_of(alloc: Global, text: &[u8]) -> Result<Netlist, Refusal<Refused>>
 /// The recording of a netlist, and what the words ask of both.
 fn with_netlist<'a, O: Sink>(
     alloc: Global,
-    words: &MakeWords<'a>,
+    words: &Make<'a>,
     text: Vec<u8>,
     netlist: Netlist,
     out: &mut O,
@@ -89,7 +89,7 @@ fn with_netlist<'a, O: Sink>(
 /// The recording of a netlist, where it isn't too long.
 fn recording_of(
     alloc: Global,
-    words: &MakeWords<'_>,
+    words: &Make<'_>,
     netlist: &Netlist,
 ) -> Result<Vec<u8>, Refusal<Refused>>
     requires { FitsNetlist netlist.now }
@@ -119,17 +119,24 @@ fn recorded<'a, O: Sink>(
         answer_of result }
     ensures out { O.view out.new ≡ O.view out.old }
 {
-    let recorded = recorded_of(alloc, texts.recording.as_slice(), &netlist)?;
+    let mut netlist = netlist;
+    let recorded = recorded_of(alloc, texts.recording.as_slice(), &mut netlist)?;
     repaired(alloc, texts, &Parts { netlist, recorded }, out)
 }
 
-/// What a text records of a netlist.
-fn recorded_of(alloc: Global, text: &[u8], netlist: &Netlist) -> Result<Recorded, Refusal<Refused>>
+/// What a text records of a netlist, which stays as it is.
+fn recorded_of(
+    alloc: Global,
+    text: &[u8],
+    netlist: &mut Netlist,
+) -> Result<Recorded, Refusal<Refused>>
     requires short { length text.now ≤ 2 ^ 28 }
-    requires fits { FitsNetlist netlist.now }
-    ensures judged { Judged (RecordingComes text.now netlist.now.design (scope_of made_job) made_job.rounds
-        made_job.places (rule_of made_job.start)) recording_cause itself result }
-    ensures fits { IfOk result (FitsRecorded netlist.now.design) }
+    requires fits { FitsNetlist netlist.old }
+    ensures judged { Judged (RecordingComes text.now netlist.old.design (scope_of made_job) made_job.rounds
+        made_job.places (rules_of made_job)) recording_cause itself result }
+    ensures same { IfOk result (λ _. netlist.new ≡ netlist.old) }
+    ensures fits { IfOk result (FitsRecorded netlist.new.design) }
+    ensures fits_netlist { IfOk result (λ _. FitsNetlist netlist.new) }
 {
     let scope = names_of(alloc, NAME)?;
     recorded_in(
@@ -139,7 +146,10 @@ fn recorded_of(alloc: Global, text: &[u8], netlist: &Netlist) -> Result<Recorded
         scope.as_slice(),
         ROUNDS,
         PLACES,
-        StartRule::Cold,
+        Rules {
+            start: StartRule::Cold,
+            undriven: UndrivenRule::Released,
+        },
     )
 }
 

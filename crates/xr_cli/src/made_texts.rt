@@ -1,15 +1,14 @@
 //! The texts of a made job.
 
 ghost use Rattle.std.specs.Prelude.{◌≡◌, ◌≤◌, ◌^◌, length};
-ghost use Rattle.xr_words.specs.Words.{make_values};
-ghost use Rattle.xr_cli.specs.Made.{made_netlist};
+ghost use Rattle.xr_cli.specs.Make.{make_values, made_netlist};
 
-use xr_words::MakeWords;
+use crate::commands::make::Make;
 
 /// The made netlist, a recording of at most 2^28 bytes, and the words that name their files.
 #[derive(Drop)]
 pub struct MadeTexts<'a> {
-    pub words: MakeWords<'a>,
+    pub words: Make<'a>,
     pub netlist: Vec<u8>,
     pub recording: Vec<u8>,
     ghost netlist_is: { netlist.items ≡ made_netlist (make_values words) },

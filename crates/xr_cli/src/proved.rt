@@ -2,20 +2,35 @@
 
 ghost use Rattle.std.specs.Prelude.{◌≡◌, IfOk};
 ghost use Rattle.xr_prove.specs.Proof.{ProofComes};
-ghost use Rattle.xr_run.specs.Prepared.{Judged, PreparedAlone, answer_of};
-ghost use Rattle.xr_cli.specs.Foreign.{refuted_line};
+ghost use Rattle.xr_run.specs.Prepared.{Judged, Prepared, PreparedAlone, answer_of};
+ghost use Rattle.xr_cli.specs.Prove.{log_phases, proof_phases, prove_answer, prove_values, refuted_line};
 ghost use Rattle.xr_phases.specs.Phases.{itself, proof_cause};
-ghost use Rattle.xr_cli.specs.Phases.{proof_phases, prove_answer};
 
 use crate::checked::ready_with;
+use crate::commands::prove::Prove;
 use std::alloc::Global;
 use xr_base::{Memory, put, put_number};
-use xr_phases::Refused;
+use xr_phases::{Refused, TEXT_BYTES};
 use xr_prove::{ProofErr, check_proof};
-use xr_run::{Ready, Refusal, Report};
+use xr_run::{Ready, Refusal, Report, read_input};
+use xr_shelf::Shelf;
+
+/// The check of the log against a formula's text.
+pub fn prove_cnf<'a, S: Shelf>(
+    alloc: Global,
+    shelf: &mut S,
+    words: &Prove<'a>,
+    cnf: &[u8],
+) -> Result<Ready<'a>, Refusal<Refused>>
+    ensures { Prepared S.told (log_phases (prove_values words.now) cnf.now) answer_of
+        (S.view shelf.old) (S.view shelf.new) result }
+{
+    let log = read_input(alloc, shelf, words.log, TEXT_BYTES, Refused::LongLog)?;
+    proved(alloc, cnf, log.as_slice())
+}
 
 /// What the texts of a formula and of a log come to.
-pub fn proved<'a>(alloc: Global, cnf: &[u8], log: &[u8]) -> Result<Ready<'a>, Refusal<Refused>>
+fn proved<'a>(alloc: Global, cnf: &[u8], log: &[u8]) -> Result<Ready<'a>, Refusal<Refused>>
     ensures { PreparedAlone (proof_phases cnf.now log.now) answer_of result }
 {
     let count = count_of(alloc, cnf, log)?;

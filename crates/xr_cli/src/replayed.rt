@@ -4,25 +4,40 @@ ghost use Rattle.std.specs.Prelude.{◌≡◌, IfOk};
 ghost use Rattle.xr_design.specs.Force.{AreEvents};
 ghost use Rattle.xr_design.specs.Handed.{HasPlaces};
 ghost use Rattle.xr_job.specs.Compared.{job_for};
-ghost use Rattle.xr_run.specs.Prepared.{PreparedAlone, answer_of};
-ghost use Rattle.xr_words.specs.Words.{replay_values};
+ghost use Rattle.xr_run.specs.Prepared.{Prepared, PreparedAlone, answer_of};
+ghost use Rattle.xr_cli.specs.Replay.{coded_phases, forced_phases, replay_answer, replay_values};
 ghost use Rattle.xr_phases.specs.Code.{moments_line};
-ghost use Rattle.xr_cli.specs.Phases.{forced_phases, replay_answer};
 ghost use Rattle.xr_phases.specs.Repair.{FitsPartsWithin};
 
+use crate::commands::replay::Replay;
 use std::alloc::Global;
 use xr_base::{Memory, put, put_number};
 use xr_design::{Forces, History, Stim};
 use xr_out::vcd_text;
-use xr_phases::{Parts, Refused};
+use xr_phases::{Parts, Refused, forces_of};
 use xr_replay::replay;
 use xr_run::{Output, Ready, Refusal, Report};
-use xr_words::ReplayWords;
+use xr_shelf::Shelf;
+
+/// The replay of a job under the code that the words name.
+pub fn replay_job<'a, S: Shelf>(
+    alloc: Global,
+    shelf: &mut S,
+    words: &Replay<'a>,
+    job: &Parts,
+) -> Result<Ready<'a>, Refusal<Refused>>
+    requires { FitsPartsWithin words.now.job.places job.now }
+    ensures { Prepared S.told (coded_phases (replay_values words.now) job.now) answer_of
+        (S.view shelf.old) (S.view shelf.new) result }
+{
+    let forces = forces_of(alloc, shelf, words.code, &words.job, job)?;
+    replayed(alloc, words, job, &forces)
+}
 
 /// What the words ask of a job and of the forces that their code says.
-pub fn replayed<'a>(
+fn replayed<'a>(
     alloc: Global,
-    words: &ReplayWords<'a>,
+    words: &Replay<'a>,
     job: &Parts,
     forces: &Forces,
 ) -> Result<Ready<'a>, Refusal<Refused>>
@@ -44,7 +59,7 @@ pub fn replayed<'a>(
 /// The text of what a history shows, and how many moments it has.
 fn texts_of<'a>(
     alloc: Global,
-    words: &ReplayWords<'a>,
+    words: &Replay<'a>,
     job: &Parts,
     history: &History,
 ) -> Result<Ready<'a>, Memory>

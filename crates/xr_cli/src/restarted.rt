@@ -1,13 +1,13 @@
 //! A job beside the stimulus with set starts.
 
+use crate::commands::fix::Fix;
 use xr_design::{History, Stim};
 use xr_phases::Parts;
-use xr_words::FixWords;
 
 /// A job that agrees, its replay, and its stimulus with the starts that the words set.
 #[derive(Drop)]
 pub struct Restarted<'a> {
-    pub words: FixWords<'a>,
+    pub words: Fix<'a>,
     pub job: &'a Parts,
     pub history: &'a History,
     pub stim: &'a Stim,

@@ -3,10 +3,10 @@
 ghost use Rattle.std.specs.Prelude.{◌≡◌, IfOk};
 ghost use Rattle.xr_wave.specs.Shown.{ShowsWave};
 ghost use Rattle.xr_run.specs.Prepared.{answer_of};
-ghost use Rattle.xr_words.specs.Words.{repair_values};
-ghost use Rattle.xr_cli.specs.Phases.{HasTexts, answer_with};
+ghost use Rattle.xr_cli.specs.Repair.{repair_values, HasTexts, answer_with};
 ghost use Rattle.xr_phases.specs.Repair.{FitsJob, IsWaveOf};
 
+use crate::commands::repair::Repair;
 use crate::report::report_with;
 use std::alloc::Global;
 use xr_base::Memory;
@@ -19,12 +19,11 @@ use xr_out::vcd_text;
 use xr_phases::{conditions_for, form_of, names_of};
 use xr_run::{Output, Ready, Report};
 use xr_wave::Wave;
-use xr_words::RepairWords;
 
 /// The texts of a finished wave of a job: the recording, the code, the certificate and the report.
 pub fn texts_of<'a>(
     alloc: Global,
-    words: &RepairWords<'a>,
+    words: &Repair<'a>,
     netlist: &Netlist,
     recorded: &Recorded,
     wave: &Wave<'_>,
@@ -60,7 +59,7 @@ pub fn texts_of<'a>(
 /// The texts, ready to be delivered.
 fn ready_of<'a>(
     alloc: Global,
-    words: &RepairWords<'a>,
+    words: &Repair<'a>,
     vcd: Vec<u8>,
     code: Vec<u8>,
     cert: Vec<u8>,

@@ -6,11 +6,12 @@ ghost use Rattle.xr_cert_text.specs.declared.cert.Form.TheVariants.{Turns};
 ghost use Rattle.xr_design.specs.Handed.{IsReplay};
 ghost use Rattle.xr_job.specs.Compared.{job_for};
 ghost use Rattle.xr_listing.specs.Conditions.{IsSomeCondition};
-ghost use Rattle.xr_run.specs.Prepared.{PreparedAlone, answer_of};
-ghost use Rattle.xr_words.specs.Words.{upgrade_values};
+ghost use Rattle.xr_run.specs.Prepared.{Prepared, PreparedAlone, answer_of};
+ghost use Rattle.xr_cli.specs.Upgrade.{certified_upgrade, checked_upgrade, formed_upgrade, upgrade_answer};
+ghost use Rattle.xr_cli.specs.Upgrade.{upgrade_values};
 ghost use Rattle.xr_phases.specs.Repair.{FitsParts, IsWaveOf};
-ghost use Rattle.xr_cli.specs.Phases.{checked_upgrade, formed_upgrade, upgrade_answer};
 
+use crate::commands::upgrade::Upgrade;
 use crate::report::report_with;
 use std::alloc::Global;
 use xr_base::Memory;
@@ -18,15 +19,32 @@ use xr_cert::{Cert, Form, write_cert};
 use xr_cond::Condition;
 use xr_design::History;
 use xr_forces::forces_of;
-use xr_phases::{Parts, Refused, certified_wave, conditions_for, without_turns};
+use xr_phases::{Parts, Refused, certificate_of, certified_wave, conditions_for, without_turns};
 use xr_run::{Output, Ready, Refusal, Report};
+use xr_shelf::Shelf;
 use xr_wave::Wave;
-use xr_words::UpgradeWords;
+
+/// The upgrade of a certificate of a job whose recording agrees.
+pub fn upgrade_agreed<'a, S: Shelf>(
+    alloc: Global,
+    shelf: &mut S,
+    words: &Upgrade<'a>,
+    job: &Parts,
+    history: &History,
+) -> Result<Ready<'a>, Refusal<Refused>>
+    requires fits { FitsParts job.now }
+    requires replay { IsReplay (job_for job.now.netlist job.now.recorded) history.now }
+    ensures { Prepared S.told (certified_upgrade (upgrade_values words.now) job.now) answer_of
+        (S.view shelf.old) (S.view shelf.new) result }
+{
+    let cert = certificate_of(alloc, shelf, words.cert)?;
+    upgraded(alloc, words, job, history, cert)
+}
 
 /// What the words ask of a certificate of a job that agrees.
-pub fn upgraded<'a>(
+fn upgraded<'a>(
     alloc: Global,
-    words: &UpgradeWords<'a>,
+    words: &Upgrade<'a>,
     job: &Parts,
     history: &History,
     cert: Cert,
@@ -42,7 +60,7 @@ pub fn upgraded<'a>(
 /// The same of a certificate that has no turns yet.
 fn with_turns<'a>(
     alloc: Global,
-    words: &UpgradeWords<'a>,
+    words: &Upgrade<'a>,
     job: &Parts,
     history: &History,
     cert: Cert,
@@ -60,7 +78,7 @@ fn with_turns<'a>(
 /// The certificate of a finished wave of a job and of conditions, and its report.
 fn texts_of<'a>(
     alloc: Global,
-    words: &UpgradeWords<'a>,
+    words: &Upgrade<'a>,
     job: &Parts,
     wave: &Wave<'_>,
     conditions: &[Condition],

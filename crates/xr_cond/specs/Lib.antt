@@ -1,4 +1,4 @@
--- Definitions of conditions and their turns.
+-- Definitions of conditions and their turns, and of the boundaries of cones, which their clauses cite.
 pub mod Exchange
 pub mod First
 pub mod Condition
@@ -8,3 +8,4 @@ pub mod Turns
 pub mod View
 pub mod Laws
 pub mod WorkedConditions
+pub use Rattle.xr_cone.specs.Boundary

@@ -6,3 +6,4 @@ pub mod OneLoop
 pub mod OneNetlist
 pub mod OneRecording
 pub mod OneText
+pub mod JobNetlists

@@ -6,7 +6,6 @@ use Rattle.xr_vcd.specs.RecordingFault.{fault_of}
 use Rattle.xr_vcd.specs.declared.fault.RecordingFault.{RecordingFault}
 use Rattle.xr_vcd.specs.declared.variable.Variable.{Variable}
 use Rattle.xr_design.specs.declared.design.Design.{Design}
-use Rattle.xr_design.specs.declared.stim.StartRule.{StartRule}
 use Rattle.xr_match.specs.Bounds.{bounds_of, differs_at}
 use Rattle.xr_match.specs.Refusal.{IsBinding, IsFirst, IsLeast, IsRefusal, Matches, AllBound}
 use Rattle.xr_match.specs.Telling.{has_scope}
@@ -19,6 +18,7 @@ use Rattle.xr_job.specs.Recorded.{IfRecordingRefused, IsFaulty, IsRecorded, IsRe
 use Rattle.xr_job.specs.Recorded.{IsRefusedRecording, IsSame, IsUnbound, RecordingComes, Reports}
 use Rattle.xr_job.specs.declared.recorded.Recorded.{Recorded}
 use Rattle.xr_job.specs.declared.recording_refusal.RecordingErr.{RecordingErr}
+use Rattle.xr_job.specs.declared.rules.Rules.{Rules}
 use Rattle.xr_job.specs.declared.recording_refusal.RecordingErr.TheVariants.{Refused, Memory}
 use Rattle.xr_job.specs.declared.recording_refusal.RecordingRefusal.{RecordingRefusal}
 use Rattle.xr_job.specs.declared.recording_refusal.RecordingRefusal.TheVariants.{Grammar, NoScope, RangeDiffers, MissingInput, TooLarge}
@@ -157,36 +157,36 @@ module _ (text : List ℕ) (design : Design) (scope : List (List ℕ)) (rounds m
   one_refused e f (alone first) (faulty b other second) = absurd (said_without_fault text first.recording second.cause first.says second.first)
   one_refused e f (alone first) (alone second) = one_alone e f first second
 
-  recorded_or_refused : (start : StartRule) (r : Recorded) (e : RecordingRefusal)
-      → IsRecorded text design scope rounds most start r → RefusedAs text design scope rounds most e → ⊥
-  recorded_or_refused start r e is (faulty a same first) = said_without_fault text r.recording first.cause is.says first.first
-  recorded_or_refused start r e is (alone other) =
+  recorded_or_refused : (rules : Rules) (r : Recorded) (e : RecordingRefusal)
+      → IsRecorded text design scope rounds most rules r → RefusedAs text design scope rounds most e → ⊥
+  recorded_or_refused rules r e is (faulty a same first) = said_without_fault text r.recording first.cause is.says first.first
+  recorded_or_refused rules r e is (alone other) =
       let same = one_said text r.recording other.recording is.says other.says in
       let unbound : IsUnbound design r.recording scope rounds most e = subst (λ (x : Recording). IsUnbound design x scope rounds most e) (sym same) other.unbound in
       bound_or_cause design r.recording scope rounds most r.binding unbound.cause is.bound unbound.refused
 
-  one_recorded : (start : StartRule) (a b : Recorded) → IsRecorded text design scope rounds most start a
-      → IsRecorded text design scope rounds most start b → (a.recording ≡ b.recording) × (a.binding ≡ b.binding)
-  one_recorded start a b first second =
+  one_recorded : (rules : Rules) (a b : Recorded) → IsRecorded text design scope rounds most rules a
+      → IsRecorded text design scope rounds most rules b → (a.recording ≡ b.recording) × (a.binding ≡ b.binding)
+  one_recorded rules a b first second =
       let same = one_said text a.recording b.recording first.says second.says in
       let there : IsBinding design a.recording scope rounds most b.binding =
       subst (λ (x : Recording). IsBinding design x scope rounds most b.binding) (sym same) second.bound in
       (same, one_binding design a.recording scope rounds most a.binding b.binding first.bound there)
 
   -- The law.
-  pub one_recording : (start : StartRule) (a b : Result Recorded RecordingRefusal)
-      → RecordingComes text design scope rounds most start a → RecordingComes text design scope rounds most start b → IsSame a b
-  one_recording start (Ok a) (Ok b) first second = one_recorded start a b first second
-  one_recording start (Ok a) (Err f) first second = recorded_or_refused start a f first (refused_as text design scope rounds most f second)
-  one_recording start (Err e) (Ok b) first second = recorded_or_refused start b e second (refused_as text design scope rounds most e first)
-  one_recording start (Err e) (Err f) first second =
+  pub one_recording : (rules : Rules) (a b : Result Recorded RecordingRefusal)
+      → RecordingComes text design scope rounds most rules a → RecordingComes text design scope rounds most rules b → IsSame a b
+  one_recording rules (Ok a) (Ok b) first second = one_recorded rules a b first second
+  one_recording rules (Ok a) (Err f) first second = recorded_or_refused rules a f first (refused_as text design scope rounds most f second)
+  one_recording rules (Err e) (Ok b) first second = recorded_or_refused rules b e second (refused_as text design scope rounds most e first)
+  one_recording rules (Err e) (Err f) first second =
       one_refused e f (refused_as text design scope rounds most e first) (refused_as text design scope rounds most f second)
 
   -- What a call answers, but for memory, is what the text comes to.
-  pub recording_answer : (start : StartRule) (result : Result Recorded RecordingErr)
-      → IfOk result (IsRecorded text design scope rounds most start)
+  pub recording_answer : (rules : Rules) (result : Result Recorded RecordingErr)
+      → IfOk result (IsRecorded text design scope rounds most rules)
       → IfErr result (IfRecordingRefused (IsRefusedRecording text design scope rounds most))
-      → IsRecordingAnswer text design scope rounds most start result
-  recording_answer start (Ok recorded) is refused = λ outcome comes. one_recording start (Ok recorded) outcome is comes
-  recording_answer start (Err (Refused refusal)) is refused = λ outcome comes. one_recording start (Err refusal) outcome refused comes
-  recording_answer start (Err Memory) is refused = λ outcome comes. tt
+      → IsRecordingAnswer text design scope rounds most rules result
+  recording_answer rules (Ok recorded) is refused = λ outcome comes. one_recording rules (Ok recorded) outcome is comes
+  recording_answer rules (Err (Refused refusal)) is refused = λ outcome comes. one_recording rules (Err refusal) outcome refused comes
+  recording_answer rules (Err Memory) is refused = λ outcome comes. tt

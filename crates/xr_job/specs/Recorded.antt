@@ -1,6 +1,6 @@
 -- What a recording's text comes to for a design: a recording whose variables are bound, and the stimulus that they
 -- give; or the first refusal.
-use Rattle.std.specs.Prelude.{◌≡◌, ℕ, ◌*◌, ◌^◌, ◌<◌, ◌≤◌, List, Some, Result, Ok, Err, length, All}
+use Rattle.std.specs.Prelude.{◌≡◌, ℕ, ◌*◌, ◌^◌, ◌<◌, ◌≤◌, List, Option, Some, Result, Ok, Err, length, All}
 use Rattle.xr_vcd.specs.Faults.{FirstFault, Says}
 use Rattle.xr_vcd.specs.Recording.{Recording}
 use Rattle.xr_vcd.specs.RecordingFault.{fault_of}
@@ -8,34 +8,59 @@ use Rattle.xr_vcd.specs.declared.fault.RecordingFault.{RecordingFault}
 use Rattle.xr_vcd.specs.declared.refusal.VcdErr.{VcdErr}
 use Rattle.xr_design.specs.Stim.{FitsStim}
 use Rattle.xr_design.specs.declared.design.Design.{Design}
-use Rattle.xr_design.specs.declared.stim.StartRule.{StartRule}
+use Rattle.xr_design.specs.declared.stim.Stim.{Stim}
 use Rattle.xr_match.specs.Binding.{FitsBinding}
 use Rattle.xr_match.specs.Bounds.{IsOf}
+use Rattle.xr_match.specs.Holding.{held_in}
+use Rattle.xr_match.specs.JobDesign.{holder_by, job_design, with_inputs}
 use Rattle.xr_match.specs.Refusal as bind
 use Rattle.xr_match.specs.Naming.{Texts}
 use Rattle.xr_match.specs.StimOf.{IsStimOf}
 use Rattle.xr_match.specs.declared.binding.Binding.{Binding}
+use Rattle.xr_match.specs.declared.binding.Bound.{Bound}
+use Rattle.xr_match.specs.declared.inputs.Holder.{Holder}
 use Rattle.xr_match.specs.declared.refusal.BindErr.{BindErr}
 use Rattle.xr_match.specs.declared.refusal.BindErr.TheVariants as cause
+use Rattle.xr_match.specs.declared.rule.UndrivenRule.{UndrivenRule}
+use Rattle.xr_match.specs.declared.rule.UndrivenRule.TheVariants as undriven
 use Rattle.xr_job.specs.Names.{IsVariableName, dotted, net_name}
+use Rattle.xr_job.specs.declared.netlist.Netlist.{Netlist}
 use Rattle.xr_job.specs.declared.recorded.Recorded.{Recorded}
 use Rattle.xr_job.specs.declared.recording_refusal.RecordingErr.{RecordingErr}
 use Rattle.xr_job.specs.declared.recording_refusal.RecordingErr.TheVariants.{Refused, Memory}
 use Rattle.xr_job.specs.declared.recording_refusal.RecordingRefusal.{RecordingRefusal}
 use Rattle.xr_job.specs.declared.recording_refusal.RecordingRefusal.TheVariants.{Grammar, NoScope, RangeDiffers}
 use Rattle.xr_job.specs.declared.recording_refusal.RecordingRefusal.TheVariants.{MissingInput, TooLarge}
+use Rattle.xr_job.specs.declared.rules.Rules.{Rules}
 
 -- The most places of a job that is walked over: nets by moments by rounds.
 abbrev pub place_limit : ℕ
 place_limit = 2 ^ 27
 
+-- A stimulus of a job's design, by what holds each net of the netlist's.
+abbrev pub IsJobStim : Design → Recording → Binding → ℕ → Rules → Stim → Type 0
+IsJobStim design recording binding rounds rules stim =
+    IsStimOf (job_design rules.undriven design binding.bound) recording (holder_by rules.undriven design binding.bound)
+    rounds rules.start stim
+
 -- The text says a recording, its variables are bound for at most so many places, and this is the stimulus that they
--- give.
+-- give by the rules.
 pub record IsRecorded (text : List ℕ) (design : Design) (scope : Texts) (rounds most : ℕ)
-    (start : StartRule) (r : Recorded) : Type 0 where
+    (rules : Rules) (r : Recorded) : Type 0 where
   pub says : Says text r.recording
   pub bound : bind.IsBinding design r.recording scope rounds most r.binding
-  pub stim : IsStimOf design r.recording r.binding.bound rounds start r.stim
+  pub stim : IsJobStim design r.recording r.binding rounds rules r.stim
+
+-- The netlist of a job has the job's design in place of its text's, and the same order.
+abbrev pub job_netlist : UndrivenRule → Netlist → List Bound → Netlist
+job_netlist undriven.Released n bound = n
+job_netlist undriven.Recorded n bound =
+    record { design = job_design undriven.Recorded n.design bound; order = n.order }
+
+-- the same by a list of what holds each net
+abbrev pub netlist_by : UndrivenRule → List (Option Holder) → Netlist → Netlist
+netlist_by undriven.Released holders n = n
+netlist_by undriven.Recorded holders n = record { design = with_inputs (held_in holders) n.design; order = n.order }
 
 -- The first fault of the text.
 pub record IsFaulty (text : List ℕ) (fault : RecordingFault) : Type 0 where
@@ -78,10 +103,10 @@ IsRefusedRecording text design scope rounds most (Grammar fault) = IsFaulty text
 IsRefusedRecording text design scope rounds most refusal = IsRecordingAlone text design scope rounds most refusal
 
 -- What the text comes to, for a replay of so many rounds and of at most so many places.
-abbrev pub RecordingComes : List ℕ → Design → Texts → ℕ → ℕ → StartRule → Result Recorded RecordingRefusal → Type 0
-RecordingComes text design scope rounds most start (Ok recorded) =
-    IsRecorded text design scope rounds most start recorded
-RecordingComes text design scope rounds most start (Err refusal) =
+abbrev pub RecordingComes : List ℕ → Design → Texts → ℕ → ℕ → Rules → Result Recorded RecordingRefusal → Type 0
+RecordingComes text design scope rounds most rules (Ok recorded) =
+    IsRecorded text design scope rounds most rules recorded
+RecordingComes text design scope rounds most rules (Err refusal) =
     IsRefusedRecording text design scope rounds most refusal
 
 -- Two outcomes are the same: the same recording and binding, which give one stimulus, or the same refusal.
@@ -103,16 +128,16 @@ AnswersRecording (Err (Refused refusal)) outcome = IsSame (Err refusal) outcome
 AnswersRecording (Err Memory) outcome = Unit {0}
 
 -- The answer is what the text comes to, unless memory runs out.
-abbrev pub IsRecordingAnswer : List ℕ → Design → Texts → ℕ → ℕ → StartRule → Result Recorded RecordingErr → Type 0
-IsRecordingAnswer text design scope rounds most start result =
-    (outcome : Result Recorded RecordingRefusal) → RecordingComes text design scope rounds most start outcome
+abbrev pub IsRecordingAnswer : List ℕ → Design → Texts → ℕ → ℕ → Rules → Result Recorded RecordingErr → Type 0
+IsRecordingAnswer text design scope rounds most rules result =
+    (outcome : Result Recorded RecordingRefusal) → RecordingComes text design scope rounds most rules outcome
     → AnswersRecording result outcome
 
 -- The law: a text comes to one outcome.
 abbrev pub RecordingsComeToOne : Type 0
-RecordingsComeToOne = (text : List ℕ) (design : Design) (scope : Texts) (rounds most : ℕ) (start : StartRule)
-    (a b : Result Recorded RecordingRefusal) → RecordingComes text design scope rounds most start a
-    → RecordingComes text design scope rounds most start b → IsSame a b
+RecordingsComeToOne = (text : List ℕ) (design : Design) (scope : Texts) (rounds most : ℕ) (rules : Rules)
+    (a b : Result Recorded RecordingRefusal) → RecordingComes text design scope rounds most rules a
+    → RecordingComes text design scope rounds most rules b → IsSame a b
 
 -- A binding fits the recording that it is of.
 pub record IsBoundTo (design : Design) (recording : Recording) (scope : Texts) (rounds most : ℕ)

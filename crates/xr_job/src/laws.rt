@@ -8,7 +8,7 @@ pub fn netlists_come_to_one()
     ensures { NetlistsComeToOne }
 {}
 
-/// A recording's text, for a design, a scope, rounds and a start, comes to one outcome.
+/// A recording's text, for a design, a scope, rounds and rules, comes to one outcome.
 pub fn recordings_come_to_one()
     ensures { RecordingsComeToOne }
 {}

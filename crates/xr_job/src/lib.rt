@@ -14,6 +14,7 @@ mod netlist;
 mod netlist_refusal;
 mod recorded;
 mod recording_refusal;
+mod rules;
 
 pub use compare::replay_and_compare;
 pub use compare_refusal::{CompareErr, CompareRefusal};
@@ -23,3 +24,4 @@ pub use netlist::{Netlist, read_netlist};
 pub use netlist_refusal::{NetlistErr, NetlistRefusal};
 pub use recorded::{PLACES, Recorded, read_recording};
 pub use recording_refusal::{RecordingErr, RecordingRefusal};
+pub use rules::Rules;

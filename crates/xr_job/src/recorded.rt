@@ -1,6 +1,6 @@
 //! The recording of a job.
 
-ghost use Rattle.std.specs.Prelude.{◌<◌, ◌≤◌, ◌^◌, IfOk, IfErr, length};
+ghost use Rattle.std.specs.Prelude.{◌≡◌, ◌<◌, ◌≤◌, ◌^◌, IfOk, IfErr, length};
 ghost use Rattle.xr_design.specs.Design.{FitsDesign};
 ghost use Rattle.xr_job.specs.Netlist.{FitsNetlist};
 ghost use Rattle.xr_job.specs.Recorded as spec;
@@ -8,10 +8,12 @@ ghost use Rattle.xr_job.specs.Recorded as spec;
 use crate::names::{joined, name_of, variable_name};
 use crate::netlist::Netlist;
 use crate::recording_refusal::{RecordingErr, RecordingRefusal};
+use crate::rules::Rules;
 use std::alloc::Global;
-use xr_base::Memory;
-use xr_design::{Bytes, Design, StartRule, Stim};
-use xr_match::{BindErr, Binding, bind, stim_of};
+use std::mem;
+use xr_base::{Items, Memory};
+use xr_design::{Bytes, Design, Stim};
+use xr_match::{BindErr, Binding, Holder, UndrivenRule, bind, holders_by, stim_of, with_inputs};
 use xr_vcd::{Recording, read_vcd};
 
 /// The most places of a job that is walked over: nets by moments by rounds.
@@ -25,60 +27,104 @@ pub struct Recorded {
     pub stim: Stim,
 }
 
-/// What a text records of a design in a scope, for a replay of a given number of rounds and of at most so many places,
-/// whose registers start by a rule; or why there is none.
+/// What a text records of a netlist's design in a scope, for a replay of a given number of rounds and of at most so many
+/// places, by some rules; or why there is none. Where there is one, the netlist becomes the job's: nets without a driver
+/// that the recording holds are inputs where the rules say so.
 pub fn read_recording(
     alloc: Global,
-    netlist: &Netlist,
+    netlist: &mut Netlist,
     text: &[u8],
     scope: &[Bytes],
     rounds: u32,
     most: u64,
-    start: StartRule,
+    rules: Rules,
 ) -> Result<Recorded, RecordingErr>
     requires size { length text.now ≤ 2 ^ 28 }
-    requires fits { FitsNetlist netlist.now }
+    requires fits { FitsNetlist netlist.old }
     requires some { 0 < length scope.now }
     requires round { 1 ≤ rounds }
     requires rounds { rounds ≤ 16 }
     requires most { most ≤ 2 ^ 40 }
-    ensures recorded { IfOk result (spec.IsRecorded text.now netlist.now.design scope.now rounds most start) }
+    ensures recorded { IfOk result (spec.IsRecorded text.now netlist.old.design scope.now rounds most rules) }
+    ensures netlist { IfOk result (λ r.
+        netlist.new ≡ spec.job_netlist rules.undriven netlist.old r.binding.bound) }
     ensures refused { IfErr result (spec.IfRecordingRefused
-        (spec.IsRefusedRecording text.now netlist.now.design scope.now rounds most)) }
-    ensures exact { spec.IsRecordingAnswer text.now netlist.now.design scope.now rounds most start result }
-    ensures fits { IfOk result (spec.FitsRecordedWithin most netlist.now.design) }
+        (spec.IsRefusedRecording text.now netlist.old.design scope.now rounds most)) }
+    ensures exact { spec.IsRecordingAnswer text.now netlist.old.design scope.now rounds most rules result }
+    ensures fits { IfOk result (spec.FitsRecordedWithin most netlist.new.design) }
+    ensures fits_netlist { IfOk result (λ _. FitsNetlist netlist.new) }
 {
-    find_recording(alloc, &netlist.design, text, scope, rounds, most, start)
+    find_recording(alloc, netlist, text, scope, rounds, most, rules)
 }
 
 fn find_recording(
     alloc: Global,
-    design: &Design,
+    netlist: &mut Netlist,
     text: &[u8],
     scope: &[Bytes],
     rounds: u32,
     most: u64,
-    start: StartRule,
+    rules: Rules,
 ) -> Result<Recorded, RecordingErr>
     requires size { length text.now ≤ 2 ^ 28 }
-    requires fits { FitsDesign design.now }
+    requires fits { FitsNetlist netlist.old }
     requires some { 0 < length scope.now }
     requires round { 1 ≤ rounds }
     requires rounds { rounds ≤ 16 }
     requires most { most ≤ 2 ^ 40 }
-    ensures recorded { IfOk result (spec.IsRecorded text.now design.now scope.now rounds most start) }
+    ensures recorded { IfOk result (spec.IsRecorded text.now netlist.old.design scope.now rounds most rules) }
+    ensures netlist { IfOk result (λ r.
+        netlist.new ≡ spec.job_netlist rules.undriven netlist.old r.binding.bound) }
     ensures refused { IfErr result (spec.IfRecordingRefused
-        (spec.IsRefusedRecording text.now design.now scope.now rounds most)) }
-    ensures fits { IfOk result (spec.FitsRecordedWithin most design.now) }
+        (spec.IsRefusedRecording text.now netlist.old.design scope.now rounds most)) }
+    ensures fits { IfOk result (spec.FitsRecordedWithin most netlist.new.design) }
+    ensures fits_netlist { IfOk result (λ _. FitsNetlist netlist.new) }
 {
     let recording = read_vcd(alloc, text)?;
-    let binding = bind_variables(alloc, design, &recording, scope, rounds, most)?;
-    let stim = stim_of(alloc, design, &recording, &binding, rounds, start)?;
+    let binding = bind_variables(alloc, &netlist.design, &recording, scope, rounds, most)?;
+    let holders = holders_by(
+        alloc,
+        &netlist.design,
+        &netlist.order,
+        &binding,
+        rules.undriven,
+    )?;
+    give_inputs(alloc, netlist, holders.as_slice(), rules.undriven);
+    let stim = stim_of(
+        alloc,
+        &netlist.design,
+        &recording,
+        holders.as_slice(),
+        rounds,
+        rules.start,
+    )?;
     Ok(Recorded {
         recording,
         binding,
         stim,
     })
+}
+
+/// Makes nets without a driver that are held inputs, where the rule says so. Takes no memory.
+fn give_inputs(alloc: Global, netlist: &mut Netlist, holders: &[Option<Holder>], rule: UndrivenRule)
+    requires { length holders.now ≡ length netlist.old.design.nets }
+    ensures { netlist.new ≡ spec.netlist_by rule holders.now netlist.old }
+{
+    match rule {
+        UndrivenRule::Released => {}
+        UndrivenRule::Recorded => {
+            let design = mem::replace(&mut netlist.design, no_design(alloc));
+            netlist.design = with_inputs(design, holders);
+        }
+    }
+}
+
+/// A design without a net.
+fn no_design(alloc: Global) -> Design {
+    Design {
+        nets: Items::from_vec(Vec::new(alloc)),
+        udps: Items::from_vec(Vec::new(alloc)),
+    }
 }
 
 /// The variables of a recording, bound, or why they aren't.

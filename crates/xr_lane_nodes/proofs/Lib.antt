@@ -8,3 +8,4 @@ pub mod SpanLists
 pub mod TableLanes
 pub mod Unions
 pub mod WorkedLanes
+pub use Rattle.xr_rests.proofs.RisingLists

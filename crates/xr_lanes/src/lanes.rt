@@ -1,6 +1,7 @@
 //! The lanes of a wave.
 
 mod asked;
+mod guessed;
 
 ghost use Rattle.std.specs.Prelude.{◌≡◌, ◌+◌, ◌-◌, ◌<◌, ◌≤◌, None, Some, false, true, IfOk, OnOk, length};
 ghost use Rattle.xr_cell.specs.Value.{is_unknown};

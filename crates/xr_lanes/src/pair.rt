@@ -22,7 +22,7 @@ use xr_lane_nodes::{Nodes, given};
 use xr_wave::{Pair, Wave};
 
 /// The lane of the empty filling.
-const EMPTY: u32 = 192;
+pub const EMPTY: u32 = 192;
 
 /// The token of the next place, where two lanes differ there and its sources are kept.
 pub fn pair_of(

@@ -12,3 +12,4 @@ pub mod Files
 pub mod Settling
 pub mod Apart
 pub mod Alike
+pub mod SameOptions

@@ -1,5 +1,6 @@
 -- What words that were read name.
-use Rattle.std.specs.Prelude.{◌≡◌, Bool, false, List, [], Option, codes, option_map, unwrap_or, IfSome}
+use Rattle.std.specs.Prelude.{◌≡◌, Bool, false, List, [], Option, None, codes, option_map, unwrap_or, IfSome}
+use Rattle.std.specs.Prelude.{if◌then◌else◌}
 use Rattle.std.specs.List.{AllByRecursion}
 use Rattle.std.specs.Str.{bytes_eq}
 use Rattle.clap.specs.Words.{first_value, found_of, matched_of, raw_values}
@@ -20,6 +21,10 @@ value_of line = value_in_matches line.matches
 
 abbrev pub files_of : Line → List Text
 files_of line = files_in line.matches
+
+-- The values of options alone: FILE has none.
+abbrev pub options_by : (Text → Option Text) → Text → Option Text
+options_by option name = if bytes_eq name (codes "FILE") then None else option name
 
 -- The line is in the set, and these are its values.
 pub record Reads (options : List Opt) (has_files : Bool) (words : List Text) (line : Line) : Type 0 where

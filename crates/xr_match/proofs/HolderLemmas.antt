@@ -1,20 +1,22 @@
 -- What holds a net is a bit of a variable of the recording.
-use Rattle.std.proofs.Common.{◌≡◌, ℕ, suc, ◌+◌, ◌<◌, ◌==◌, Bool, true, false, cond, List, [], ◌∷◌, Option, None, Some, length, get_or, refl, sym, ap, subst, ◌∙◌, arith, All, option_map, ◌≤◌, ◌^◌, slice_get}
-use Rattle.std.proofs.lemmas.Option.{get_or_from_slice_get}
-use Rattle.xr_match.specs.Binding.{FitsBound}
-use Rattle.xr_vcd.specs.declared.variable.Variable.{Variable}
+use Rattle.std.proofs.Common.{◌≡◌, ℕ, zero, suc, ◌+◌, ◌<◌, ◌==◌, Bool, true, false, cond, List, [], ◌∷◌, Option, None, Some, length, map, get_or, refl, sym, ap, subst, ◌∙◌, arith, All, option_map}
 use Rattle.std.specs.List.{position_from}
+use Rattle.std.proofs.lemmas.List.{length-map}
 use Rattle.xr_design.specs.Job.{driver_in}
 use Rattle.xr_design.specs.declared.design.Design.{Design}
-use Rattle.xr_design.specs.declared.stim.StartRule.{StartRule}
-use Rattle.xr_cell.specs.declared.value.Value.{Value}
-use Rattle.xr_cell.specs.declared.value.Value.TheVariants.{X}
-use Rattle.xr_vcd.specs.Recording.{Recording, IsRecording, IsVariable, width_at, width_of}
+use Rattle.xr_design.specs.declared.design.Driver.{Driver}
+use Rattle.xr_design.specs.declared.design.Driver.TheVariants.{Input, Undriven, Constant, Copy, Cell, Register}
+use Rattle.xr_vcd.specs.Recording.{Recording, width_at}
+use Rattle.xr_match.specs.Binding.{FitsBound}
 use Rattle.xr_match.specs.Bounds.{IsOf}
-use Rattle.xr_match.specs.Holding.{FitsHeld, Holds, IsHolder, holder_in, holder_of, or_next}
+use Rattle.xr_match.specs.Holding.{FitsHeld, HoldsBy, IsHolder, holder_in, holder_of, or_next}
+use Rattle.xr_match.specs.JobDesign.{copied_holder_of, holder_at, holder_by}
+use Rattle.xr_match.specs.Originals.{original_of, with_originals}
 use Rattle.xr_match.specs.StimOf as spec
 use Rattle.xr_match.specs.declared.binding.Bound.{Bound}
 use Rattle.xr_match.specs.declared.inputs.Holder.{Holder}
+use Rattle.xr_match.specs.declared.rule.UndrivenRule.{UndrivenRule}
+use Rattle.xr_match.specs.declared.rule.UndrivenRule.TheVariants.{Released, Recorded}
 
 found_by : (b : Bool) (i k n : ℕ) (rest : Option ℕ) → cond b (Some i) rest ≡ Some k → (rest ≡ Some k → k < (i + 1) + n) → k < i + suc n
 found_by true i k n rest h below = (let e : i ≡ k = cc in omega (arith, e))
@@ -56,29 +58,33 @@ held_of recording (b ∷ bs) net h all is =
     record { known = known; within = omega (arith, below, w, wide) }) in
     next_by recording (holder_in b.variable b.bits net) (holder_of bs net) h here (held_of recording bs net h (λ k d within. all (suc k) d (omega arith))) is
 
-pub are_holders : (design : Design) (recording : Recording) (bound : List Bound) (holders : List (Option Holder)) → Holds design bound holders → All (IsOf recording) bound → spec.AreHolders recording holders
-are_holders design recording bound holders holds all = record {
+-- so where nets without a driver are as recorded
+all_originals : (design : Design) (recording : Recording) (bound : List Bound) → All (IsOf recording) bound → (k : ℕ) (b : Bound) → k < length (map (with_originals design) bound) → IsOf recording (get_or (map (with_originals design) bound) k b)
+all_originals design recording [] all k b within = absurd (omega arith)
+all_originals design recording (first ∷ bound) all zero b within =
+    let own : IsOf recording first = all 0 first (omega arith) in
+    record { known = own.known; wide = length-map first.bits (original_of design) ∙ own.wide }
+all_originals design recording (first ∷ bound) all (suc k) b within = all_originals design recording bound (λ i d inside. all (suc i) d (omega arith)) k b (omega arith)
+
+by_driver : (recording : Recording) (d : Driver) (own copied : Option Holder) (h : Holder) → (own ≡ Some h → IsHolder recording h) → (copied ≡ Some h → IsHolder recording h) → holder_at d own copied ≡ Some h → IsHolder recording h
+by_driver recording Input own copied h first second is = first is
+by_driver recording Undriven own copied h first second is = second is
+by_driver recording (Constant bit) own copied h first second is = first is
+by_driver recording (Copy argument) own copied h first second is = first is
+by_driver recording (Cell table pins) own copied h first second is = first is
+by_driver recording (Register latching) own copied h first second is = first is
+
+held_by : (rule : UndrivenRule) (design : Design) (recording : Recording) (bound : List Bound) (net : ℕ) (h : Holder) → All (IsOf recording) bound → holder_by rule design bound net ≡ Some h → IsHolder recording h
+held_by Released design recording bound net h all is = held_of recording bound net h all is
+held_by Recorded design recording bound net h all is =
+    by_driver recording (driver_in design net) (holder_of bound net) (copied_holder_of design bound net) h (held_of recording bound net h all)
+    (held_of recording (map (with_originals design) bound) net h (all_originals design recording bound all)) is
+
+pub are_holders : (rule : UndrivenRule) (design : Design) (recording : Recording) (bound : List Bound) (holders : List (Option Holder)) → HoldsBy (holder_by rule design bound) design holders → All (IsOf recording) bound → spec.AreHolders recording holders
+are_holders rule design recording bound holders holds all = record {
   each = λ net h within is.
-      (let m = holds.as_many in let below : net < length design.nets = omega (arith, within, m) in held_of recording bound net h all (sym (holds.each net below) ∙ is));
+      (let m = holds.as_many in let below : net < length design.nets = omega (arith, within, m) in held_by rule design recording bound net h all (sym (holds.each net below) ∙ is));
 }
 
--- values by the list of holders are those by the bound variables
-pub input_rows : (design : Design) (recording : Recording) (bound : List Bound) (holders : List (Option Holder)) (moment : ℕ) (row : List Value) → Holds design bound holders
-    → spec.IsRow design (spec.value_by design recording holders moment) row → spec.IsRow design (spec.input_value design recording bound moment) row
-input_rows design recording bound holders moment row holds r = record { long = r.long; values = λ net within. r.values net within ∙ ap (λ (o : Option Holder). spec.input_by recording moment X o (driver_in design net)) (holds.each net within) }
-
-pub start_rows : (design : Design) (recording : Recording) (bound : List Bound) (holders : List (Option Holder)) (rule : StartRule) (row : List Value) → Holds design bound holders
-    → spec.IsRow design (spec.start_in design recording holders rule) row → spec.IsRow design (spec.start_value design recording bound rule) row
-start_rows design recording bound holders rule row holds r = record { long = r.long; values = λ net within. r.values net within ∙ ap (λ (o : Option Holder). spec.start_of recording o rule (driver_in design net)) (holds.each net within) }
-
-width_by : (recording : Recording) (variable : ℕ) (o : Option Variable) → slice_get recording.variables variable ≡ o → IsRecording recording → variable < length recording.variables → width_of o ≤ 2 ^ 20
-width_by recording variable None at is within = omega arith
-width_by recording variable (Some v) at is within = (subst (λ (u : Variable). IsVariable (length recording.scopes) u) (get_or_from_slice_get recording.variables variable v v at) (is.variables variable v within)).wide
-
-pub held_fit : (design : Design) (recording : Recording) (bound : List Bound) → All (FitsBound design) bound → All (IsOf recording) bound → IsRecording recording → All (FitsHeld design) bound
-held_fit design recording bound fits of is = λ k d within.
-    (let b = get_or bound k d in
-    let own : IsOf recording b = of k d within in
-    let wide = width_by recording b.variable (slice_get recording.variables b.variable) refl is own.known in
-    let w = own.wide in
-    record { nets = (fits k d within).nets; few = omega (arith, w, wide) })
+pub held_fit : (design : Design) (bound : List Bound) → All (FitsBound design) bound → All (FitsHeld design) bound
+held_fit design bound fits = λ k d within. (let b = fits k d within in record { nets = b.nets; few = b.few })

@@ -12,3 +12,6 @@ pub mod HolderLemmas
 pub mod Written
 pub mod Parts
 pub mod Stimuli
+pub mod Copying
+pub mod CopiedHolders
+pub mod JobDesigns

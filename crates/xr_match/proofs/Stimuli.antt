@@ -2,7 +2,7 @@
 use mathlib.Core.HLevel.{is_prop→PathP}
 use native.Mathlib.Bridge.{le_prop}
 use native.Mathlib.Nat.{ℕ_set}
-use Rattle.std.proofs.Common.{◌≡◌, ◌∙◌, ℕ, ◌<◌, ◌≤◌, ◌^◌, List, [], length, sym, arith, slice_index_or}
+use Rattle.std.proofs.Common.{◌≡◌, ◌∙◌, ℕ, ◌<◌, ◌≤◌, ◌^◌, List, [], Option, length, sym, arith, slice_index_or}
 use Rattle.std.proofs.lemmas.List.{ext_get_or}
 use Rattle.xr_cell.specs.declared.value.Value.{Value}
 use Rattle.xr_cell.specs.declared.value.Value.TheVariants.{X}
@@ -10,7 +10,7 @@ use Rattle.xr_design.specs.declared.design.Design.{Design}
 use Rattle.xr_design.specs.declared.stim.StartRule.{StartRule}
 use Rattle.xr_design.specs.declared.stim.Stim.{Stim}
 use Rattle.xr_match.specs.StimOf.{IsRow, IsStimOf, input_value, start_value}
-use Rattle.xr_match.specs.declared.binding.Bound.{Bound}
+use Rattle.xr_match.specs.declared.inputs.Holder.{Holder}
 use Rattle.xr_vcd.specs.Recording.{Recording}
 
 one_row : (design : Design) (value : ℕ → Value) (a b : List Value) → IsRow design value a → IsRow design value b → a ≡ b
@@ -35,17 +35,17 @@ one_stim_by a b times rounds inputs start starts = λ i. record {
   rows = is_prop→PathP (λ k. length (inputs k) ≡ length (times k)) (λ k. ℕ_set (length (inputs k)) (length (times k))) a.rows b.rows i;
 }
 
-module _ (design : Design) (recording : Recording) (bound : List Bound) (rounds : ℕ) (rule : StartRule) (a b : Stim)
-    (first : IsStimOf design recording bound rounds rule a) (second : IsStimOf design recording bound rounds rule b) where
+module _ (design : Design) (recording : Recording) (holder : ℕ → Option Holder) (rounds : ℕ) (rule : StartRule) (a b : Stim)
+    (first : IsStimOf design recording holder rounds rule a) (second : IsStimOf design recording holder rounds rule b) where
   same_inputs : a.inputs ≡ b.inputs
   same_inputs =
       let many = first.many in
       let others = second.many in
       ext_get_or [] a.inputs b.inputs (omega (arith, many, others))
       (λ moment within. (let inside : moment < length recording.times = omega (arith, many, within) in
-      one_row design (input_value design recording bound moment) (slice_index_or a.inputs moment []) (slice_index_or b.inputs moment [])
+      one_row design (input_value design recording holder moment) (slice_index_or a.inputs moment []) (slice_index_or b.inputs moment [])
       (first.rows moment inside) (second.rows moment inside)))
 
   pub same_stim : a ≡ b
   same_stim = one_stim_by a b (first.times ∙ sym second.times) (first.as_many ∙ sym second.as_many) same_inputs
-      (first.started ∙ sym second.started) (one_row design (start_value design recording bound rule) a.starts b.starts first.starts second.starts)
+      (first.started ∙ sym second.started) (one_row design (start_value design recording holder rule) a.starts b.starts first.starts second.starts)

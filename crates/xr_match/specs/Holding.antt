@@ -32,9 +32,17 @@ pub record IsUnbound (design : Design) (bound : List Bound) (net : ℕ) : Type 0
   pub free : holder_of bound net ≡ None
 
 -- for each net of the design what holds it
-pub record Holds (design : Design) (bound : List Bound) (holders : List (Option Holder)) : Type 0 where
+pub record HoldsBy (holder : ℕ → Option Holder) (design : Design) (holders : List (Option Holder)) : Type 0 where
   pub as_many : length holders ≡ length design.nets
-  pub each : (net : ℕ) → net < length design.nets → slice_index_or holders net None ≡ holder_of bound net
+  pub each : (net : ℕ) → net < length design.nets → slice_index_or holders net None ≡ holder net
+
+-- so by the first bound variable that has it
+abbrev pub Holds : Design → List Bound → List (Option Holder) → Type 0
+Holds design bound holders = HoldsBy (holder_of bound) design holders
+
+-- what a list has for a net
+abbrev pub held_in : List (Option Holder) → ℕ → Option Holder
+held_in holders net = slice_index_or holders net None
 
 -- A bound variable has at most 2^20 bits, each a net of the design.
 pub record FitsHeld (design : Design) (b : Bound) : Type 0 where

@@ -1,17 +1,26 @@
 -- Laws of bound bits and of stimuli, in the words of a reader.
-use Rattle.std.specs.Prelude.{◌≡◌, ℕ, true, List, [], ◌∷◌, ◌++◌, map, ◌⊎◌, All}
+use Rattle.std.specs.Prelude.{◌≡◌, ◌↔◌, ◌<◌, ℕ, true, List, [], ◌∷◌, ◌++◌, Option, length, map, ◌⊎◌, All}
 use Rattle.std.specs.List.{AllByRecursion}
+use Rattle.xr_design.specs.Design.{FitsDesign}
+use Rattle.xr_design.specs.Job.{driver_in}
+use Rattle.xr_design.specs.Order.{IsOrder}
 use Rattle.xr_design.specs.declared.design.Design.{Design}
+use Rattle.xr_design.specs.declared.design.Driver.TheVariants.{Undriven}
 use Rattle.xr_design.specs.declared.stim.StartRule.{StartRule}
 use Rattle.xr_design.specs.declared.stim.Stim.{Stim}
 use Rattle.xr_vcd.specs.Bytes.{without_range}
 use Rattle.xr_vcd.specs.Recording.{Recording, path_at}
 use Rattle.xr_vcd.specs.declared.variable.Variable.{Variable}
-use Rattle.xr_match.specs.Binding.{FitsBound}
+use Rattle.xr_match.specs.Binding.{FitsBinding, FitsBound}
 use Rattle.xr_match.specs.BoundBits.{IsBitOf, bound_bits}
+use Rattle.xr_match.specs.JobDesign.{job_design}
 use Rattle.xr_match.specs.Naming.{Texts, nets_of}
+use Rattle.xr_match.specs.Originals.{IsOrCopies, original_of}
 use Rattle.xr_match.specs.StimOf.{IsStimOf}
+use Rattle.xr_match.specs.declared.binding.Binding.{Binding}
 use Rattle.xr_match.specs.declared.binding.Bound.{Bound}
+use Rattle.xr_match.specs.declared.inputs.Holder.{Holder}
+use Rattle.xr_match.specs.declared.rule.UndrivenRule.{UndrivenRule}
 use Rattle.xr_match.specs.Telling.{bare, matched}
 use Rattle.xr_match.specs.declared.bits.Matched.TheVariants.{Bits}
 
@@ -36,7 +45,22 @@ BitsStandInOrder = (design : Design) (scope : Texts) (recording : Recording) (v 
 
 -- A recording whose variables are bound has one stimulus.
 abbrev pub OneStimulus : Type 0
-OneStimulus = (design : Design) (recording : Recording) (bound : List Bound) (rounds : ℕ) (rule : StartRule) (a b : Stim) → IsStimOf design recording bound rounds rule a → IsStimOf design recording bound rounds rule b → a ≡ b
+OneStimulus = (design : Design) (recording : Recording) (holder : ℕ → Option Holder) (rounds : ℕ) (rule : StartRule) (a b : Stim) → IsStimOf design recording holder rounds rule a → IsStimOf design recording holder rounds rule b → a ≡ b
+
+-- A net without a driver is the original of itself and of the nets that copy it, and of no other.
+abbrev pub OriginalsAreCopied : Type 0
+OriginalsAreCopied = (design : Design) (order : List ℕ) (own net : ℕ) → IsOrder (driver_in design) (length design.nets) order → own < length design.nets → driver_in design net ≡ Undriven
+    → (original_of design own ≡ net) ↔ IsOrCopies design own net
+
+-- The design of a job fits where the netlist's does, with the same order, and so does what is bound.
+pub record JobDesignFits (design made : Design) : Type 0 where
+  pub fits : FitsDesign design → FitsDesign made
+  pub ordered : (order : List ℕ) → IsOrder (driver_in design) (length design.nets) order → IsOrder (driver_in made) (length made.nets) order
+  pub bound : (binding : Binding) → FitsBinding design binding → FitsBinding made binding
+  pub as_many : length made.nets ≡ length design.nets
+
+abbrev pub JobDesignsFit : Type 0
+JobDesignsFit = (rule : UndrivenRule) (design : Design) (bound : List Bound) → JobDesignFits design (job_design rule design bound)
 
 -- Each bit that a walk gives is of one of the moments, and of a net of the design.
 abbrev pub BitsAreThere : Type 0

@@ -4,8 +4,10 @@ pub mod Bits
 pub mod BoundBits
 pub mod Bounds
 pub mod Holding
+pub mod JobDesign
 pub mod Keys
 pub mod Naming
+pub mod Originals
 pub mod Refusal
 pub mod Scopes
 pub mod StimOf

@@ -11,8 +11,7 @@ use Rattle.xr_design.specs.declared.stim.StartRule.{StartRule}
 use Rattle.xr_design.specs.declared.stim.StartRule.TheVariants.{Cold, Recorded}
 use Rattle.xr_design.specs.declared.stim.Stim.{Stim}
 use Rattle.xr_vcd.specs.Recording.{Recording, value_at}
-use Rattle.xr_match.specs.Holding.{IsHolder, holder_of}
-use Rattle.xr_match.specs.declared.binding.Bound.{Bound}
+use Rattle.xr_match.specs.Holding.{IsHolder, held_in}
 use Rattle.xr_match.specs.declared.inputs.Holder.{Holder}
 use Rattle.xr_match.specs.declared.stimulus.Held.{Held}
 
@@ -29,9 +28,9 @@ input_by recording moment otherwise holder (Copy argument) = otherwise
 input_by recording moment otherwise holder (Cell table pins) = otherwise
 input_by recording moment otherwise holder (Register latching) = otherwise
 
--- An input has in each moment the recorded value of the first bound variable that holds it; any other net has x.
-abbrev pub input_value : Design → Recording → List Bound → ℕ → ℕ → Value
-input_value design recording bound moment net = input_by recording moment X (holder_of bound net) (driver_in design net)
+-- An input has in each moment the recorded value of what holds it; any other net has x.
+abbrev pub input_value : Design → Recording → (ℕ → Option Holder) → ℕ → ℕ → Value
+input_value design recording holder moment net = input_by recording moment X (holder net) (driver_in design net)
 
 -- A register that starts cold starts as the design says; one that is recorded starts with its value at moment 0, z as x, and as
 -- the design says where no variable holds it.
@@ -48,22 +47,22 @@ start_of recording holder rule (Copy argument) = X
 start_of recording holder rule (Cell table pins) = X
 start_of recording holder rule (Register latching) = start_by recording holder latching.start rule
 
-abbrev pub start_value : Design → Recording → List Bound → StartRule → ℕ → Value
-start_value design recording bound rule net = start_of recording (holder_of bound net) rule (driver_in design net)
+abbrev pub start_value : Design → Recording → (ℕ → Option Holder) → StartRule → ℕ → Value
+start_value design recording holder rule net = start_of recording (holder net) rule (driver_in design net)
 
 -- a value for each net
 pub record IsRow (design : Design) (value : ℕ → Value) (row : List Value) : Type 0 where
   pub long : length row ≡ length design.nets
   pub values : (net : ℕ) → net < length design.nets → slice_index_or row net X ≡ value net
 
--- The moments are the recording's, each with a row of values of the inputs, and no row is beside them.
-pub record IsStimOf (design : Design) (recording : Recording) (bound : List Bound) (rounds : ℕ) (rule : StartRule) (stim : Stim) : Type 0 where
+-- The moments are the recording's, each with a row of values of the inputs by what holds each net, and no row is beside them.
+pub record IsStimOf (design : Design) (recording : Recording) (holder : ℕ → Option Holder) (rounds : ℕ) (rule : StartRule) (stim : Stim) : Type 0 where
   pub times : stim.times ≡ recording.times
   pub as_many : stim.rounds ≡ rounds
   pub started : stim.start ≡ rule
   pub many : length stim.inputs ≡ length recording.times
-  pub rows : (moment : ℕ) → moment < length recording.times → IsRow design (input_value design recording bound moment) (slice_index_or stim.inputs moment [])
-  pub starts : IsRow design (start_value design recording bound rule) stim.starts
+  pub rows : (moment : ℕ) → moment < length recording.times → IsRow design (input_value design recording holder moment) (slice_index_or stim.inputs moment [])
+  pub starts : IsRow design (start_value design recording holder rule) stim.starts
 
 -- What each net is held by is a bit of a variable of the recording.
 pub record AreHolders (recording : Recording) (holders : List (Option Holder)) : Type 0 where
@@ -71,10 +70,10 @@ pub record AreHolders (recording : Recording) (holders : List (Option Holder)) :
 
 -- the same values, by a list of what holds each net
 abbrev pub value_by : Design → Recording → List (Option Holder) → ℕ → ℕ → Value
-value_by design recording holders moment net = input_by recording moment X (slice_index_or holders net None) (driver_in design net)
+value_by design recording holders moment net = input_value design recording (held_in holders) moment net
 
 abbrev pub start_in : Design → Recording → List (Option Holder) → StartRule → ℕ → Value
-start_in design recording holders rule net = start_of recording (slice_index_or holders net None) rule (driver_in design net)
+start_in design recording holders rule net = start_value design recording (held_in holders) rule net
 
 abbrev pub input_held : ℕ → Holder → Driver → List Held
 input_held net holder Input = record { net = net; holder = holder } ∷ []

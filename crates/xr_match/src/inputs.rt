@@ -48,7 +48,7 @@ fn hold_bits(holders: &mut [Option<Holder>], variable: u32, bits: &[u32])
 }
 
 /// Gives a net to a bit of a variable, where no variable has it.
-fn hold(holders: &mut [Option<Holder>], net: u32, holder: Holder)
+pub fn hold(holders: &mut [Option<Holder>], net: u32, holder: Holder)
     requires { net < length holders.old }
     ensures long { length holders.new ≡ length holders.old }
     ensures each { GivesNet holders.old holders.new net holder }

@@ -1,4 +1,4 @@
-//! The laws of bound bits and of stimuli, each the contract of a function that does nothing.
+//! The laws of bound bits, of copies, of the designs of jobs and of stimuli, each the contract of a function that does nothing.
 
 ghost use Rattle.xr_match.specs.Laws as spec;
 
@@ -15,4 +15,14 @@ pub fn one_stimulus()
 /// Each bit that a walk gives is of one of the moments, and of a net of the design.
 pub fn bits_are_there()
     ensures { spec.BitsAreThere }
+{}
+
+/// A net without a driver is the original of itself and of the nets that copy it.
+pub fn originals_are_copied()
+    ensures { spec.OriginalsAreCopied }
+{}
+
+/// The design of a job fits where the netlist's does.
+pub fn job_designs_fit()
+    ensures { spec.JobDesignsFit }
 {}

@@ -1,18 +1,15 @@
-//! The stimulus of a recording whose variables are bound.
+//! The stimulus of a recording, by what holds each net.
 
 ghost use Rattle.std.specs.Prelude.{◌≡◌, ◌≢◌, ◌<◌, ◌≤◌, ◌^◌, ◌++◌, ℕ, [], ◌∷◌, All, OnOk, IfOk, IfSome, length, slice_index_or};
 ghost use Rattle.xr_cell.specs.declared.value.Value.TheVariants.{X};
 ghost use Rattle.xr_design.specs.Design.{FitsDesign};
 ghost use Rattle.xr_design.specs.Job.{driver_in};
 ghost use Rattle.xr_design.specs.Stim.{FitsStim};
-ghost use Rattle.xr_match.specs.Binding.{FitsBinding};
-ghost use Rattle.xr_match.specs.Bounds.{IsOf};
-ghost use Rattle.xr_match.specs.Holding.{IsHolder};
+ghost use Rattle.xr_match.specs.Holding.{IsHolder, held_in};
 ghost use Rattle.xr_match.specs.Refusal.{place_count};
 ghost use Rattle.xr_match.specs.StimOf as spec;
 
-use crate::binding::Binding;
-use crate::inputs::{Holder, holders_of};
+use crate::inputs::Holder;
 use std::alloc::Global;
 use xr_base::{Items, Memory};
 use xr_cell::Value;
@@ -27,30 +24,29 @@ pub struct Held {
     pub holder: Holder,
 }
 
-/// The stimulus of a recording whose variables are bound, for a replay of so many rounds: the recorded values of the inputs, and
-/// what the registers start with by this rule. Takes eight bytes for each value of an input that isn't that of the moment
-/// before, eight for each moment and for each net; while it runs 8 more for each variable and 12 for each net.
+/// The stimulus of a recording, by the bit that holds each net, for a replay of so many rounds: the recorded values of the
+/// inputs, and what the registers start with by this rule. Takes eight bytes for each value of an input that isn't that of
+/// the moment before, eight for each moment and for each net; while it runs 8 more for each variable.
 pub fn stim_of(
     alloc: Global,
     design: &Design,
     recording: &Recording,
-    bound: &Binding,
+    holders: &[Option<Holder>],
     rounds: u32,
     start: StartRule,
 ) -> Result<Stim, Memory>
     requires design { FitsDesign design.now }
-    requires fits { FitsBinding design.now bound.now }
-    requires variables { All (IsOf recording.now) bound.now.bound }
+    requires long { length holders.now ≡ length design.now.nets }
+    requires held { spec.AreHolders recording.now holders.now }
     requires round { 1 ≤ rounds }
     requires rounds { rounds ≤ 16 }
     requires places { place_count design.now recording.now rounds ≤ 2 ^ 40 }
-    ensures stim { IfOk result (spec.IsStimOf design.now recording.now bound.now.bound rounds start) }
+    ensures stim { IfOk result (spec.IsStimOf design.now recording.now (held_in holders.now) rounds start) }
     ensures fits { IfOk result (FitsStim design.now) }
 {
     let times = recording.times().to_vec(alloc)?;
-    let holders = holders_of(alloc, design, bound.bound.as_slice())?;
-    let inputs = rows_of(alloc, design, recording, holders.as_slice())?;
-    let starts = starts_of(alloc, design, recording, holders.as_slice(), start)?;
+    let inputs = rows_of(alloc, design, recording, holders)?;
+    let starts = starts_of(alloc, design, recording, holders, start)?;
     Ok(Stim {
         times: Items::from_vec(times),
         rounds,

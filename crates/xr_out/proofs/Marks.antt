@@ -24,7 +24,7 @@ use Rattle.xr_out.specs.Readers.{AreReadersOf, KeepLetters, KeepLettersIn, SameU
 use Rattle.xr_out.specs.Steps.{HasBits, HasMoments, HasStep}
 use Rattle.xr_out.specs.declared.readers.BitReaders.{BitReaders}
 use Rattle.xr_out.proofs.Grown.{rest_is}
-use Rattle.xr_out.proofs.Places.{last_within, step_before}
+use Rattle.xr_out.proofs.Places.{last_within}
 
 -- What stays from each step of a moment's rounds to the next stays over all of them.
 rounds_same : (f : ℕ → ℕ) (first rounds : ℕ) → ((round : ℕ) → round < rounds → f (first + round) ≡ f (first + round - 1)) → f (first + rounds - 1) ≡ f (first - 1)
@@ -127,17 +127,9 @@ later_lines history rounds bound (suc m) time later =
     let before : suc m - 1 ≡ m = omega arith in
     rw before refl
 
-pub marked_lines : (history : HistoryView) (rounds : ℕ) (bound : List Bound) (moment time step : ℕ) (text timed : List ℕ) → 0 < moment → 0 < rounds → step ≡ last_round rounds moment → timed ≡ text ++ time_line time → timed ++ changed_lines history step (step - rounds) 0 bound ≡ text ++ moment_lines history rounds bound moment time
-marked_lines history rounds bound moment time step text timed later some step_is put =
-    ap (λ (t : List ℕ). t ++ changed_lines history step (step - rounds) 0 bound) put
-    ∙ append_assoc text (time_line time) (changed_lines history step (step - rounds) 0 bound)
-    ∙ ap (λ (b : ℕ). text ++ (time_line time ++ changed_lines history step b 0 bound)) (sym (step_before moment rounds step (λ none. omega (arith, none, later)) some step_is))
-    ∙ ap (λ (s : ℕ). text ++ (time_line time ++ changed_lines history s (last_round rounds (moment - 1)) 0 bound)) step_is
-    ∙ ap (λ (lines : List ℕ). text ++ lines) (sym (later_lines history rounds bound moment time later))
-
--- The steps at which a later moment is looked at.
-pub marked_same : (history : HistoryView) (rounds : ℕ) (bound : List Bound) (moment step : ℕ) (due : List ℕ) → 0 < moment → 0 < rounds → step ≡ last_round rounds moment → SameUnlessDue history bound (last_round rounds moment) (last_round rounds (moment - 1)) due → SameUnlessDue history bound step (step - rounds) due
-marked_same history rounds bound moment step due later some step_is same =
-    let P : ℕ → Type 0 = λ s. SameUnlessDue history bound s (last_round rounds (moment - 1)) due in
-    let Q : ℕ → Type 0 = λ b. SameUnlessDue history bound step b due in
-    subst Q (step_before moment rounds step (λ none. omega (arith, none, later)) some step_is) (subst P (sym step_is) same)
+pub marked_lines : (history : HistoryView) (rounds : ℕ) (bound : List Bound) (moment time : ℕ) (text timed : List ℕ) → 0 < moment → timed ≡ text ++ time_line time → timed ++ changed_lines history (last_round rounds moment) (last_round rounds (moment - 1)) 0 bound ≡ text ++ moment_lines history rounds bound moment time
+marked_lines history rounds bound moment time text timed later put =
+    let lines = changed_lines history (last_round rounds moment) (last_round rounds (moment - 1)) 0 bound in
+    ap (λ (t : List ℕ). t ++ lines) put
+    ∙ append_assoc text (time_line time) lines
+    ∙ ap (λ (all : List ℕ). text ++ all) (sym (later_lines history rounds bound moment time later))

@@ -1,5 +1,5 @@
 -- Steps and places within a history.
-use Rattle.std.proofs.Common.{◌≡◌, ℕ, zero, suc, ◌-◌, ◌*◌, ◌<◌, ◌≤◌, ◌^◌, List, length, refl, sym, ◌∙◌, arith, All, subst}
+use Rattle.std.proofs.Common.{◌≡◌, ℕ, ◌-◌, ◌*◌, ◌<◌, ◌≤◌, ◌^◌, List, length, arith, All, subst}
 use Rattle.std.proofs.Math.Nat.{mul_comm, mul-le-mul_left}
 use Rattle.std.proofs.lemmas.Nat.{mul-add-lt}
 use Rattle.xr_design.specs.History.{HistoryView}
@@ -8,26 +8,13 @@ use Rattle.xr_design.specs.declared.stim.Stim.{Stim}
 use Rattle.xr_match.specs.Binding.{FitsBound}
 use Rattle.xr_match.specs.declared.binding.Bound.{Bound}
 use Rattle.xr_design.specs.Settled.{last_round}
+use Rattle.xr_out.specs.Rows.{HasEnds, MomentView}
 use Rattle.xr_out.specs.Steps.{HasBits, HasMoments, HasStep}
 use Rattle.xr_out.specs.Text.{HasSteps}
 
 -- the bits of a binding that fits are nets of the history
 pub has_bits : (design : Design) (bound : List Bound) (history : HistoryView) → All (FitsBound design) bound → history.nets ≡ length design.nets → All (HasBits history) bound
 has_bits design bound history h nets = λ k d lt. let b = h k d lt in record { some = b.some; all = λ i x l. rw nets (b.nets i x l) }
-
--- the last step of the moment before
-step_before_suc : (k rounds : ℕ) → 0 < rounds → last_round rounds k ≡ last_round rounds (suc k) - rounds
-step_before_suc k rounds some = omega arith
-
-pub step_before : (moment rounds step : ℕ) → ¬ (moment ≡ 0) → 0 < rounds → step ≡ last_round rounds moment → last_round rounds (moment - 1) ≡ step - rounds
-step_before zero rounds step some more is = absurd (some refl)
-step_before (suc k) rounds step some more is =
-    let here : suc k - 1 ≡ k = omega arith in
-    rw (here, is) (step_before_suc k rounds more)
-
-pub has_step_before : (history : HistoryView) (moment rounds step before : ℕ) → ((earlier : ℕ) → earlier ≤ moment → HasStep history (last_round rounds earlier)) → ¬ (moment ≡ 0) → 0 < rounds → step ≡ last_round rounds moment → before ≡ step - rounds → HasStep history before
-has_step_before history moment rounds step before h some more is b =
-    subst (HasStep history) (step_before moment rounds step some more is ∙ sym b) (h (moment - 1) (omega arith))
 
 -- The last round of a moment is one of the steps of all moments.
 pub last_within : (moments rounds moment : ℕ) → 0 < rounds → moment < moments → last_round rounds moment < moments * rounds
@@ -40,6 +27,13 @@ steps_small : (moments rounds : ℕ) → moments < 2 ^ 28 → rounds ≤ 16 → 
 steps_small moments rounds few short =
     let wide = mul-le-mul_left moments short in
     omega (arith, wide, few)
+
+-- The moments have the last steps of one of them and of the one before.
+pub has_ends : (view : MomentView) (moments : ℕ) → HasMoments view.history moments view.rounds → view.moment < moments → HasEnds view
+has_ends view moments has less = record {
+  here = has.last view.moment less;
+  before = has.last (view.moment - 1) (omega (arith, less));
+}
 
 -- A history of all steps of a stimulus has each step of its moments.
 pub has_moments : (design : Design) (stim : Stim) (history : HistoryView) → HasSteps design stim history → HasMoments history (length stim.times) stim.rounds

@@ -4,5 +4,6 @@ pub mod Declarations
 pub mod Laws
 pub mod Moments
 pub mod Readers
+pub mod Rows
 pub mod Steps
 pub mod Text

@@ -9,6 +9,7 @@ mod marked;
 mod moments;
 mod puts;
 mod readers;
+mod rows;
 mod text;
 
 pub use laws::texts_are_one;

@@ -1,12 +1,12 @@
 //! The bound variables that a moment may show otherwise than the one before.
 
-ghost use Rattle.std.specs.Prelude.{◌≡◌, ℕ, ◌-◌, ◌<◌, true, length};
+ghost use Rattle.std.specs.Prelude.{◌≡◌, ℕ, ◌-◌, ◌<◌, ◌^◌, true, length};
+ghost use Rattle.xr_design.specs.Settled as settled;
 ghost use Rattle.xr_out.specs.Readers.{FitsReaders, KeepLetters, KeepLettersIn};
 ghost use Rattle.xr_out.specs.Steps.{HasMoments, HasStep};
 ghost use Rattle.xr_replay.specs.Marks.{OnlyMore};
 ghost use Rattle.xr_replay_due.specs.Due.{HasRoomFor};
 
-use crate::moments::last_round;
 use crate::readers::BitReaders;
 use xr_design::{History, Stim};
 use xr_replay::mark_changes;
@@ -78,4 +78,13 @@ fn mark_written(readers: &BitReaders, history: &History, step: u32, due: &mut Du
         }
         None => false,
     }
+}
+
+/// The last step of a moment.
+fn last_round(rounds: u32, moment: u32) -> u32
+    requires rounds { 0 < rounds }
+    requires small { settled.last_round rounds moment < 2 ^ 32 }
+    ensures { result ≡ settled.last_round rounds moment }
+{
+    moment * rounds + (rounds - 1)
 }

@@ -1,65 +1,57 @@
 //! The moments of the text.
 
-ghost use Rattle.std.specs.Prelude.{◌≡◌, ◌≤◌, ◌<◌, ◌+◌, ◌-◌, ◌*◌, ◌^◌, ◌++◌, ℕ, All, List, OnOk, drop, length, map};
-ghost use Rattle.xr_design.specs.Settled as settled;
-ghost use Rattle.xr_match.specs.declared.binding.Bound.{Bound as bound_variable};
+ghost use Rattle.std.specs.Prelude.{◌≡◌, ◌<◌, ◌++◌, All, OnOk, map};
 ghost use Rattle.xr_out.specs.Moments as spec;
 ghost use Rattle.xr_out.specs.Readers.{SameUnlessDue};
-ghost use Rattle.xr_out.specs.Steps.{HasStep, HasBits, HasNets};
+ghost use Rattle.xr_out.specs.Rows.{HasEnds, end_before, moment_end};
+ghost use Rattle.xr_out.specs.Steps.{HasBits, HasNets, HasStep};
 
 use crate::code::put_code;
+use crate::rows::MomentRows;
 use xr_base::{Memory, put, put_number};
-use xr_design::{History, Place};
+use xr_design::HistoryRow;
 use xr_match::Bound;
 use xr_replay_due::Due;
 
-/// Puts a moment: at the first one every variable, at a later one each that differs from the moment before.
+/// Puts the moment at which the rows stand: at the first one every variable, at a later one each that differs from the
+/// moment before.
 pub fn put_moment(
     text: &mut Vec<u8>,
     bound: &[Bound],
-    history: &History,
-    rounds: u32,
-    moment: u32,
+    rows: &MomentRows<'_>,
     time: u64,
 ) -> Result<(), Memory>
-    requires rounds { 0 < rounds }
-    requires steps { (earlier : ℕ) → earlier ≤ moment → HasStep history.now (settled.last_round rounds earlier) }
-    requires bits { All (HasBits history.now) bound.now }
-    ensures { let lines = spec.moment_lines history.now rounds bound.now moment time in
+    requires ends { HasEnds rows.now }
+    requires bits { All (HasBits rows.now.history) bound.now }
+    ensures { let lines = spec.moment_lines rows.now.history rows.now.rounds bound.now rows.now.moment time in
         OnOk result (text.new.items ≡ text.old.items ++ lines) }
 {
     put_time(text, time)?;
-    let step = last_round(rounds, moment);
-    if moment == 0 {
-        put_dump(text, bound, history, step)
+    if rows.moment() == 0 {
+        put_dump(text, bound, rows.row())
     } else {
-        put_changed(text, bound, history, step, step - rounds)
+        put_changed(text, bound, rows)
     }
 }
 
-/// The same at a later moment, where each variable that isn't due shows what it did in the moment before. Costs the bits
-/// of those that are.
+/// The same at a later moment, where each variable that isn't due shows what it did in the moment before. Costs the
+/// bits of those that are.
 pub fn put_marked(
     text: &mut Vec<u8>,
     bound: &[Bound],
     due: &Due,
-    history: &History,
-    rounds: u32,
-    moment: u32,
+    rows: &MomentRows<'_>,
     time: u64,
 ) -> Result<(), Memory>
-    requires rounds { 0 < rounds }
-    requires later { 0 < moment }
-    requires steps { (earlier : ℕ) → earlier ≤ moment → HasStep history.now (settled.last_round rounds earlier) }
-    requires bits { All (HasBits history.now) bound.now }
-    requires same { let step = settled.last_round rounds moment in let before = settled.last_round rounds (moment - 1) in
-        SameUnlessDue history.now bound.now step before due.now }
-    ensures { let lines = spec.moment_lines history.now rounds bound.now moment time in
+    requires later { 0 < rows.now.moment }
+    requires ends { HasEnds rows.now }
+    requires bits { All (HasBits rows.now.history) bound.now }
+    requires same { SameUnlessDue rows.now.history bound.now (moment_end rows.now) (end_before rows.now) due.now }
+    ensures { let lines = spec.moment_lines rows.now.history rows.now.rounds bound.now rows.now.moment time in
         OnOk result (text.new.items ≡ text.old.items ++ lines) }
 {
     put_time(text, time)?;
-    let step = last_round(rounds, moment);
-    put_due(text, bound, due, history, step, step - rounds)
+    put_due(text, bound, due, rows)
 }
 
 fn put_time(text: &mut Vec<u8>, time: u64) -> Result<(), Memory>
@@ -70,63 +62,37 @@ fn put_time(text: &mut Vec<u8>, time: u64) -> Result<(), Memory>
     put(text, b"\n")
 }
 
-/// The last step of a moment.
-pub fn last_round(rounds: u32, moment: u32) -> u32
-    requires rounds { 0 < rounds }
-    requires small { settled.last_round rounds moment < 2 ^ 32 }
-    ensures { result ≡ settled.last_round rounds moment }
-{
-    moment * rounds + (rounds - 1)
-}
-
-fn put_dump(text: &mut Vec<u8>, bound: &[Bound], history: &History, step: u32) -> Result<(), Memory>
-    requires step { HasStep history.now step }
-    requires bits { All (HasBits history.now) bound.now }
-    ensures { OnOk result (text.new.items ≡ text.old.items ++ spec.dump_lines history.now step bound.now) }
+fn put_dump(text: &mut Vec<u8>, bound: &[Bound], row: &HistoryRow<'_>) -> Result<(), Memory>
+    requires step { HasStep row.now.history row.now.step }
+    requires bits { All (HasBits row.now.history) bound.now }
+    ensures { let lines = spec.dump_lines row.now.history row.now.step bound.now in
+        OnOk result (text.new.items ≡ text.old.items ++ lines) }
 {
     put(text, b"$dumpvars\n")?;
-    put_values(text, bound, history, step)?;
+    put_values(text, bound, row)?;
     put(text, b"$end\n")
 }
 
-fn put_values(
-    text: &mut Vec<u8>,
-    bound: &[Bound],
-    history: &History,
-    step: u32,
-) -> Result<(), Memory>
-    requires step { HasStep history.now step }
-    requires bits { All (HasBits history.now) bound.now }
-    ensures { OnOk result (text.new.items ≡ text.old.items ++ spec.value_lines history.now step 0 bound.now) }
+fn put_values(text: &mut Vec<u8>, bound: &[Bound], row: &HistoryRow<'_>) -> Result<(), Memory>
+    requires step { HasStep row.now.history row.now.step }
+    requires bits { All (HasBits row.now.history) bound.now }
+    ensures { let lines = spec.value_lines row.now.history row.now.step 0 bound.now in
+        OnOk result (text.new.items ≡ text.old.items ++ lines) }
 {
     'variables: for (number, variable) in bound.iter().enumerate() {
-        put_value(text, number, variable.bits.as_slice(), history, step)?;
+        put_value(text, number, variable.bits.as_slice(), row)?;
     }
     Ok(())
 }
 
-fn put_changed(
-    text: &mut Vec<u8>,
-    bound: &[Bound],
-    history: &History,
-    step: u32,
-    before: u32,
-) -> Result<(), Memory>
-    requires step { HasStep history.now step }
-    requires before { HasStep history.now before }
-    requires bits { All (HasBits history.now) bound.now }
-    ensures { let lines = spec.changed_lines history.now step before 0 bound.now in
+fn put_changed(text: &mut Vec<u8>, bound: &[Bound], rows: &MomentRows<'_>) -> Result<(), Memory>
+    requires ends { HasEnds rows.now }
+    requires bits { All (HasBits rows.now.history) bound.now }
+    ensures { let lines = spec.changed_lines rows.now.history (moment_end rows.now) (end_before rows.now) 0 bound.now in
         OnOk result (text.new.items ≡ text.old.items ++ lines) }
 {
     'variables: for (number, variable) in bound.iter().enumerate() {
-        put_change(
-            text,
-            number,
-            variable.bits.as_slice(),
-            history,
-            step,
-            before,
-        )?;
+        put_change(text, number, variable.bits.as_slice(), rows)?;
     }
     Ok(())
 }
@@ -136,27 +102,17 @@ fn put_due(
     text: &mut Vec<u8>,
     bound: &[Bound],
     due: &Due,
-    history: &History,
-    step: u32,
-    before: u32,
+    rows: &MomentRows<'_>,
 ) -> Result<(), Memory>
-    requires step { HasStep history.now step }
-    requires before { HasStep history.now before }
-    requires bits { All (HasBits history.now) bound.now }
-    requires same { SameUnlessDue history.now bound.now step before due.now }
-    ensures { let lines = spec.changed_lines history.now step before 0 bound.now in
+    requires ends { HasEnds rows.now }
+    requires bits { All (HasBits rows.now.history) bound.now }
+    requires same { SameUnlessDue rows.now.history bound.now (moment_end rows.now) (end_before rows.now) due.now }
+    ensures { let lines = spec.changed_lines rows.now.history (moment_end rows.now) (end_before rows.now) 0 bound.now in
         OnOk result (text.new.items ≡ text.old.items ++ lines) }
 {
     let mut number = due.first_from(0);
     'variables: while number < bound.len() {
-        put_change(
-            text,
-            number,
-            bound[number].bits.as_slice(),
-            history,
-            step,
-            before,
-        )?;
+        put_change(text, number, bound[number].bits.as_slice(), rows)?;
         number = due.first_from(number + 1);
     }
     Ok(())
@@ -167,43 +123,42 @@ fn put_change(
     text: &mut Vec<u8>,
     number: usize,
     nets: &[u32],
-    history: &History,
-    step: u32,
-    before: u32,
+    rows: &MomentRows<'_>,
 ) -> Result<(), Memory>
-    requires step { HasStep history.now step }
-    requires before { HasStep history.now before }
-    requires nets { HasNets history.now nets.now }
-    ensures { let lines = spec.change_line history.now step before number nets.now in
-        OnOk result (text.new.items ≡ text.old.items ++ lines) }
+    requires ends { HasEnds rows.now }
+    requires nets { HasNets rows.now.history nets.now }
+    ensures { let end = moment_end rows.now in
+        let line = spec.change_line rows.now.history end (end_before rows.now) number nets.now in
+        OnOk result (text.new.items ≡ text.old.items ++ line) }
 {
-    if is_same(nets, history, step, before) {
+    if is_same(nets, rows.row(), rows.before()) {
         return Ok(());
     }
-    put_value(text, number, nets, history, step)
+    put_value(text, number, nets, rows.row())
 }
 
-/// Whether each bit shows the same at two steps.
-fn is_same(bits: &[u32], history: &History, step: u32, before: u32) -> bool
-    requires step { HasStep history.now step }
-    requires before { HasStep history.now before }
-    requires bits { All (λ net. net < history.now.nets) bits.now }
-    ensures { result ≡ spec.are_same history.now step before bits.now }
+/// Whether each bit shows the same in two rows of a history.
+fn is_same(bits: &[u32], row: &HistoryRow<'_>, before: &HistoryRow<'_>) -> bool
+    requires one { before.now.history ≡ row.now.history }
+    requires step { HasStep row.now.history row.now.step }
+    requires before { HasStep row.now.history before.now.step }
+    requires bits { All (λ net. net < row.now.history.nets) bits.now }
+    ensures { result ≡ spec.are_same row.now.history row.now.step before.now.step bits.now }
 {
     'bits: for net in bits {
-        if letter_at(history, step, *net) != letter_at(history, before, *net) {
+        if letter_at(row, *net) != letter_at(before, *net) {
             return false;
         }
     }
     true
 }
 
-fn letter_at(history: &History, step: u32, net: u32) -> u8
-    requires step { HasStep history.now step }
-    requires net { net < history.now.nets }
-    ensures { result ≡ spec.letter_at history.now step net }
+fn letter_at(row: &HistoryRow<'_>, net: u32) -> u8
+    requires step { HasStep row.now.history row.now.step }
+    requires net { net < row.now.history.nets }
+    ensures { result ≡ spec.letter_at row.now.history row.now.step net }
 {
-    history.shown(Place { step, net }).letter()
+    row.shown(net).letter()
 }
 
 // value = digit code | "b" digit { digit } " " code
@@ -211,31 +166,32 @@ fn put_value(
     text: &mut Vec<u8>,
     number: usize,
     nets: &[u32],
-    history: &History,
-    step: u32,
+    row: &HistoryRow<'_>,
 ) -> Result<(), Memory>
-    requires step { HasStep history.now step }
-    requires nets { HasNets history.now nets.now }
-    ensures { OnOk result (text.new.items ≡ text.old.items ++ spec.value_line history.now step number nets.now) }
+    requires step { HasStep row.now.history row.now.step }
+    requires nets { HasNets row.now.history nets.now }
+    ensures { let line = spec.value_line row.now.history row.now.step number nets.now in
+        OnOk result (text.new.items ≡ text.old.items ++ line) }
 {
     if nets.len() == 1 {
-        put_letters(text, nets, history, step)?;
+        put_letters(text, nets, row)?;
     } else {
         put(text, b"b")?;
-        put_letters(text, nets, history, step)?;
+        put_letters(text, nets, row)?;
         put(text, b" ")?;
     }
     put_code(text, number)?;
     put(text, b"\n")
 }
 
-fn put_letters(text: &mut Vec<u8>, bits: &[u32], history: &History, step: u32) -> Result<(), Memory>
-    requires step { HasStep history.now step }
-    requires bits { All (λ net. net < history.now.nets) bits.now }
-    ensures { OnOk result (text.new.items ≡ text.old.items ++ map (spec.letter_at history.now step) bits.now) }
+fn put_letters(text: &mut Vec<u8>, bits: &[u32], row: &HistoryRow<'_>) -> Result<(), Memory>
+    requires step { HasStep row.now.history row.now.step }
+    requires bits { All (λ net. net < row.now.history.nets) bits.now }
+    ensures { let letters = map (spec.letter_at row.now.history row.now.step) bits.now in
+        OnOk result (text.new.items ≡ text.old.items ++ letters) }
 {
     'bits: for net in bits {
-        text.push(letter_at(history, step, *net))?;
+        text.push(letter_at(row, *net))?;
     }
     Ok(())
 }

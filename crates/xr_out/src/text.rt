@@ -1,6 +1,6 @@
 //! The text of the repaired recording.
 
-ghost use Rattle.std.specs.Prelude.{◌≡◌, ◌++◌, ◌<◌, ◌+◌, ◌*◌, All, OnOk, IfOk, length, slice_index};
+ghost use Rattle.std.specs.Prelude.{◌≡◌, ◌++◌, ◌<◌, All, OnOk, IfOk, length};
 ghost use Rattle.xr_match.specs.Binding.{FitsBinding};
 ghost use Rattle.xr_out.specs.Moments.{lines_from, moment_lines};
 ghost use Rattle.xr_out.specs.Readers.{AreReadersOf};
@@ -13,6 +13,7 @@ use crate::marked::mark_moment;
 use crate::moments::{put_marked, put_moment};
 use crate::puts::put_section;
 use crate::readers::BitReaders;
+use crate::rows::MomentRows;
 use std::alloc::Global;
 use xr_base::{Memory, put};
 use xr_design::{Bytes, Design, History, Stim};
@@ -21,10 +22,10 @@ use xr_replay_due::Due;
 
 /// The text of a recording with what the history shows: its variables, and at each moment the values at its last round.
 ///
-/// Takes the text's bytes, 8 for each net, or for each bound variable where there are more of these, and 4 for each bit
-/// of one; on the way 16 more for each. With more than 2^32 bits it answers `Memory`. Takes time linear in the text, in
-/// what is written in each moment and in the bits of the variables that have a written one; with more than 2^20 bound
-/// variables, in all bits at each moment.
+/// Takes the text's bytes, 2 for each net, 8 for each net, or for each bound variable where there are more of these,
+/// and 4 for each bit of one; on the way 16 more for each. With more than 2^32 bits it answers `Memory`. Takes time
+/// linear in the text, in what is written in each moment and in the bits of the variables that have a written one; with
+/// more than 2^20 bound variables, in all bits at each moment.
 #[tactic(auto, unfolding(crate::specs::Text::vcd_text))]
 pub fn vcd_text(
     alloc: Global,
@@ -71,12 +72,13 @@ fn put_moments(
 {
     match BitReaders::of(alloc, design, bound)? {
         Some(readers) => put_changes(alloc, text, bound, &readers, stim, history),
-        None => put_whole(text, bound.bound.as_slice(), stim, history),
+        None => put_whole(alloc, text, bound.bound.as_slice(), stim, history),
     }
 }
 
 /// The moments, each as a whole.
 fn put_whole(
+    alloc: Global,
     text: &mut Vec<u8>,
     bound: &[Bound],
     stim: &Stim,
@@ -87,8 +89,10 @@ fn put_whole(
     ensures { let lines = lines_from history.now stim.now.rounds bound.now 0 stim.now.times in
         OnOk result (text.new.items ≡ text.old.items ++ lines) }
 {
-    'moments: for (moment, time) in stim.times.as_slice().iter().enumerate() {
-        put_moment(text, bound, history, stim.rounds, moment as u32, *time)?;
+    let mut rows = MomentRows::first(alloc, history, stim.rounds)?;
+    'moments: for time in stim.times.as_slice() {
+        put_moment(text, bound, &rows, *time)?;
+        rows.next_moment();
     }
     Ok(())
 }
@@ -109,36 +113,38 @@ fn put_changes(
         OnOk result (text.new.items ≡ text.old.items ++ lines) }
 {
     let mut due = Due::none(alloc, readers.room)?;
-    'moments: for moment in 0..stim.times.as_slice().len() {
-        put_next(text, bound, readers, &mut due, stim, history, moment as u32)?;
+    let mut rows = MomentRows::first(alloc, history, stim.rounds)?;
+    'moments: for time in stim.times.as_slice() {
+        put_next(text, bound, readers, &mut due, stim, &rows, *time)?;
+        rows.next_moment();
     }
     Ok(())
 }
 
-/// Puts a moment by what is written in it; as a whole the first one, and one where the history doesn't tell.
+/// Puts the moment at which the rows stand by what is written in it; as a whole the first one, and one where the
+/// history doesn't tell.
 fn put_next(
     text: &mut Vec<u8>,
     bound: &Binding,
     readers: &BitReaders,
     due: &mut Due,
     stim: &Stim,
-    history: &History,
-    moment: u32,
+    rows: &MomentRows<'_>,
+    time: u64,
 ) -> Result<(), Memory>
-    requires readers { AreReadersOf history.now.nets bound.now readers.now }
-    requires moments { HasMoments history.now (length stim.now.times) stim.now.rounds }
-    requires bits { All (HasBits history.now) bound.now.bound }
-    requires moment { moment < length stim.now.times }
+    requires readers { AreReadersOf rows.now.history.nets bound.now readers.now }
+    requires rounds { rows.now.rounds ≡ stim.now.rounds }
+    requires moments { HasMoments rows.now.history (length stim.now.times) stim.now.rounds }
+    requires moment { rows.now.moment < length stim.now.times }
+    requires bits { All (HasBits rows.now.history) bound.now.bound }
     requires room { HasRoomFor due.old readers.now.room }
     ensures long { length due.new ≡ length due.old }
-    ensures lines { let time = slice_index stim.now.times moment in
-        let lines = moment_lines history.now stim.now.rounds bound.now.bound moment time in
+    ensures lines { let lines = moment_lines rows.now.history stim.now.rounds bound.now.bound rows.now.moment time in
         OnOk result (text.new.items ≡ text.old.items ++ lines) }
 {
-    let time = stim.times.as_slice()[moment as usize];
     let variables = bound.bound.as_slice();
-    if !mark_moment(readers, stim, history, moment, due) {
-        return put_moment(text, variables, history, stim.rounds, moment, time);
+    if !mark_moment(readers, stim, rows.history(), rows.moment(), due) {
+        return put_moment(text, variables, rows, time);
     }
-    put_marked(text, variables, due, history, stim.rounds, moment, time)
+    put_marked(text, variables, due, rows, time)
 }

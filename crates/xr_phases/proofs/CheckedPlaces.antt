@@ -7,7 +7,7 @@ use Rattle.xr_cert.specs.declared.refusal.CertFault.TheVariants.{BadEnum, BadLog
 use Rattle.xr_cert.specs.declared.refusal.CheckErr.TheVariants.{Optimistic as Objects, Refused as IsRefused}
 use Rattle.xr_cert.proofs.NamedPlaces.{missing_is_place, objection_is_place}
 use Rattle.xr_cert_text.specs.declared.cert.Cert.{Cert}
-use Rattle.xr_cond.specs.View.{ConditionView}
+use Rattle.xr_cert.specs.View.{ConditionView}
 use Rattle.xr_design.specs.Filling.{IsPlace}
 use Rattle.xr_design.specs.Handed.{IsReplay}
 use Rattle.xr_design.specs.History.{HistoryView}

@@ -1,15 +1,16 @@
 -- What the phases of a job found, or refuse, of the texts that the files hold.
-use Rattle.std.proofs.Common.{◌≡◌, ℕ, ◌≤◌, List, [], ◌∷◌, length, IsTrue, Bool, Result, Ok, Err, inl, inr, sym, subst}
+use Rattle.std.proofs.Common.{◌≡◌, ℕ, ◌≤◌, List, [], ◌∷◌, length, IsTrue, Bool, Result, Ok, Err, inl, inr, refl, sym, subst}
 use Rattle.xr_shelf.specs.Shelf.{Files}
 use Rattle.xr_run.specs.Phases.{Answer, ComesTo, IsRead, PassesAll, Phases, ◌>>=◌}
 use Rattle.xr_run.proofs.Exact.{err_same}
 use Rattle.xr_job.specs.Netlist.{NetlistComes}
+use Rattle.xr_job.specs.Recorded.{job_netlist}
 use Rattle.xr_job.specs.declared.netlist.Netlist.{Netlist as ANetlist}
 use Rattle.xr_job.specs.declared.recorded.Recorded.{Recorded}
 use Rattle.xr_words.specs.Words.{JobValues}
 use Rattle.xr_phases.specs.Texts.{netlist_held, recording_held, AreRefused, HasNetlist, IsJob}
 use Rattle.xr_phases.specs.Phases.{job_phases, parts}
-use Rattle.xr_phases.specs.Repair.{netlist_limit, recording_limit}
+use Rattle.xr_phases.specs.Repair.{netlist_limit, recording_limit, undriven_rule_of}
 use Rattle.xr_phases.specs.declared.cause.Refused.{Refused}
 use Rattle.xr_phases.specs.declared.cause.Refused.TheVariants.{LongNetlist, LongRecording, Netlist, Recording}
 use Rattle.xr_phases.specs.declared.parts.Parts.{Parts}
@@ -36,11 +37,12 @@ module _ (told : Bool) (files : Files) (t : IsTrue told) (w : JobValues) (next :
   job_found (inr (text, read, inr (n, has, inl first))) = absurd (no_answer answer LongRecording first.1)
   job_found (inr (text, read, inr (n, has, inr (recording, again, inl (e, refused, is))))) = absurd (no_answer answer (Recording e) is)
   job_found (inr (text, read, inr (n, has, inr (recording, again, inr (r, held, more))))) =
-      let job : IsJob w text recording n r = record { netlist_is = record { fits = read.fits; is = has }; fits = again.fits; is = held } in
+      let m = job_netlist (undriven_rule_of w.undriven) n r.binding.bound in
+      let job : IsJob w text recording m r = record { elaborated = n; netlist_is = record { fits = read.fits; is = has }; fits = again.fits; is = held; job_is = refl } in
       record {
-        n = n;
+        n = m;
         r = r;
-        job = subst (λ (l : List ℕ). IsJob w (netlist_held files w) l n r) (again.is t) (subst (λ (l : List ℕ). IsJob w l recording n r) (read.is t) job);
+        job = subst (λ (l : List ℕ). IsJob w (netlist_held files w) l m r) (again.is t) (subst (λ (l : List ℕ). IsJob w l recording m r) (read.is t) job);
         more = more;
       }
 
@@ -79,15 +81,18 @@ module _ (told : Bool) (files : Files) (t : IsTrue told) (w : JobValues) (next :
       (by_cause text recording (Recording e) is (AreRefused.recording_fails record { n = n; netlist_is = netlist_there w text n read.fits has; fits = again.fits; is = refused }))
   refused_by (inr (text, read, inr (n, has, inr (recording, again, inr (r, held, more))))) =
       at_both text recording read again
-      (AreRefused.job_fails record {
-        n = n;
+      (let m = job_netlist (undriven_rule_of w.undriven) n r.binding.bound in
+      AreRefused.job_fails record {
+        n = m;
         r = r;
-        job = record { netlist_is = netlist_there w text n read.fits has; fits = again.fits; is = held };
-        holds = after n r more;
+        job = record { elaborated = n; netlist_is = netlist_there w text n read.fits has; fits = again.fits; is = held; job_is = refl };
+        holds = after m r more;
       })
 
 -- ---- in order
 
 pub job_passes : (files : Files) (w : JobValues) (next : Parts → Phases Answer Refused) (n : ANetlist) (r : Recorded) → IsJob w (netlist_held files w) (recording_held files w) n r
     → PassesAll files (next (parts n r)) → PassesAll files (job_phases w >>= next)
-job_passes files w next n r is after = (is.netlist_is.fits, (n, is.netlist_is.is, (is.fits, (r, is.is, after))))
+job_passes files w next n r is after =
+    let there = subst (λ (x : ANetlist). PassesAll files (next (parts x r))) is.job_is after in
+    (is.netlist_is.fits, (is.elaborated, is.netlist_is.is, (is.fits, (r, is.is, there))))

@@ -1,4 +1,4 @@
--- Lemmas on the phases of commands.
+-- Lemmas on the phases of commands, and those on objections that commands cite.
 pub mod CheckedPlaces
 pub mod Faults
 pub mod CutTexts
@@ -19,3 +19,4 @@ pub mod SetTexts
 pub mod Statuses
 pub mod Unrefused
 pub mod Walks
+pub use Rattle.xr_objection.proofs.Objecting

@@ -7,7 +7,7 @@ use Rattle.xr_cert_text.specs.declared.cert.Entry.{Entry}
 use Rattle.xr_cert_text.specs.declared.cert.Entry.TheVariants.{Line, Turn}
 use Rattle.xr_cert_text.specs.declared.cert.Form.{Form}
 use Rattle.xr_cert_text.specs.declared.cert.Form.TheVariants.{Lines, Turns}
-use Rattle.xr_cond.specs.View.{ConditionView, IsConditionOf, current_list}
+use Rattle.xr_cert.specs.View.{ConditionView, IsConditionOf, current_list}
 use Rattle.xr_design.specs.Fits.{place_at}
 use Rattle.xr_design.specs.Job.{number_of}
 use Rattle.xr_design.specs.declared.place.Place.{Place}
@@ -15,9 +15,9 @@ use Rattle.xr_listing.specs.Conditions.{condition_line, conditions_text}
 use Rattle.xr_model.specs.declared.line.Line.{Line as ALine}
 use Rattle.xr_model.specs.declared.turn.Turn.{Turn as ATurn}
 use Rattle.xr_model.specs.declared.turn.TurnLine.{TurnLine}
-use Rattle.xr_turns.proofs.StatedTurns.{kept_within, stated_turns}
-use Rattle.xr_turns.specs.Conditions.{AreConditionsOf, gives_bit, settled_places}
-use Rattle.xr_turns.specs.TurnLines.{turn_lines, turns_in}
+use Rattle.xr_cert.proofs.StatedTurns.{kept_within, stated_turns}
+use Rattle.xr_cert.specs.Conditions.{AreConditionsOf, gives_bit, settled_places}
+use Rattle.xr_cert.specs.TurnLines.{turn_lines, turns_in}
 use Rattle.xr_wave.specs.Contents.{Contents, job}
 
 -- ---- one condition

@@ -26,24 +26,26 @@ use Rattle.xr_wave.specs.Contents.{Contents, nothing_written}
 use Rattle.xr_wave.specs.declared.advance.Optimistic.{Optimistic as FoundOtherwise}
 use Rattle.xr_fix.specs.Started.{IsStarted, Piece}
 use Rattle.xr_fix.specs.declared.refusal.StartFault.{StartFault}
+use Rattle.xr_match.specs.declared.binding.Binding.{Binding}
 use Rattle.xr_repair.specs.Repaired.{IsObjection}
 use Rattle.xr_objection.specs.Objections.{AreTheSame}
 use Rattle.xr_objection.proofs.Objecting.{fits_start, objections_object, place_reported, replayed_reported}
 use Rattle.xr_job.specs.Names.{net_name}
+use Rattle.xr_job.specs.Recorded.{RecordingComes, job_netlist}
 use Rattle.xr_job.specs.declared.netlist.Netlist.{Netlist as ANetlist}
 use Rattle.xr_job.specs.declared.netlist_refusal.NetlistRefusal.{NetlistRefusal}
 use Rattle.xr_job.specs.declared.recorded.Recorded.{Recorded}
 use Rattle.xr_job.proofs.OneNetlist.{one_outcome}
 use Rattle.xr_words.specs.Words.{JobValues}
 use Rattle.xr_phases.specs.Phases.{parts, scope_of}
-use Rattle.xr_phases.specs.Repair.{IsObjectionIn, is_undecided_body, is_undecided_line, rule_of}
+use Rattle.xr_phases.specs.Repair.{IsObjectionIn, is_undecided_body, is_undecided_line, rules_of, undriven_rule_of}
 use Rattle.xr_phases.specs.Texts.{AreRefused, FixFails, HasJob, IfOptimistic, IsFoundUnderSet, IsJob, IsObjected, IsObjectedSet, IsOneCause, IsOneObjection, IsOneOfWalks}
 use Rattle.xr_phases.specs.declared.cause.Objection.{Objection}
 use Rattle.xr_phases.specs.declared.cause.Refused.{Refused}
 use Rattle.xr_phases.specs.declared.cause.Refused.TheVariants.{Certificate, Code, Compare, LongCertificate, LongCnf, LongCode, LongLog, LongNetlist, LongRecording, Netlist, Optimistic, Proof, Recording, Start}
 use Rattle.xr_phases.proofs.Jobs.{replay_shown}
 use Rattle.xr_phases.proofs.OneStart.{one_started}
-use Rattle.xr_phases.proofs.OneStimulus.{one_stim}
+use Rattle.xr_phases.proofs.OneStimulus.{one_binding, one_stim}
 
 -- ---- lines without an undecided body
 
@@ -184,12 +186,25 @@ module _ (n : ANetlist) (stim : Stim) (c d : ℕ) (a b : Objection) (first : IsO
 
 module _ (w : JobValues) (netlist recording : List ℕ) (n m : ANetlist) (r s : Recorded)
     (first : IsJob w netlist recording n r) (second : IsJob w netlist recording m s) where
+  elaborated : first.elaborated ≡ second.elaborated
+  elaborated = netlists_same first.elaborated second.elaborated
+      (one_outcome netlist w.top (Ok first.elaborated) (Ok second.elaborated) first.netlist_is.is second.netlist_is.is)
+
+  comes : RecordingComes recording first.elaborated.design (scope_of w) w.rounds w.places (rules_of w) (Ok s)
+  comes = subst (λ (x : ANetlist). RecordingComes recording x.design (scope_of w) w.rounds w.places (rules_of w) (Ok s))
+      (sym elaborated) second.is
+
+  bounds : r.binding ≡ s.binding
+  bounds = one_binding recording first.elaborated.design (scope_of w) w.rounds w.places (rules_of w) r s first.is comes
+
   nets : n ≡ m
-  nets = netlists_same n m (one_outcome netlist w.top (Ok n) (Ok m) first.netlist_is.is second.netlist_is.is)
+  nets = first.job_is
+      ∙ ap (λ (x : ANetlist). job_netlist (undriven_rule_of w.undriven) x r.binding.bound) elaborated
+      ∙ ap (λ (b : Binding). job_netlist (undriven_rule_of w.undriven) second.elaborated b.bound) bounds
+      ∙ sym second.job_is
 
   stims : r.stim ≡ s.stim
-  stims = one_stim recording n.design (scope_of w) w.rounds w.places (rule_of w.start) r s first.is
-      (subst (λ (x : ANetlist). IsJob w netlist recording x s) (sym nets) second).is
+  stims = one_stim recording first.elaborated.design (scope_of w) w.rounds w.places (rules_of w) r s first.is comes
 
   -- What holds of the second design and stimulus holds of the first.
   back : (Holds : ANetlist → Stim → Type 0) → Holds m s.stim → Holds n r.stim

@@ -18,7 +18,7 @@ use Rattle.xr_cert_text.specs.declared.cert.Form.TheVariants.{Lines, Turns}
 use Rattle.xr_cert_text.specs.Pieces.{lines_in}
 use Rattle.xr_cert_text.specs.Text.{cert_lines}
 use Rattle.xr_cert_text.specs.Wrong.{AreViable, IsFirstWrong, IsTextOf, IsWrongAfter}
-use Rattle.xr_cond.specs.View.{ConditionView}
+use Rattle.xr_cert.specs.View.{ConditionView}
 use Rattle.xr_design.specs.Fits.{Fits}
 use Rattle.xr_design.specs.Handed.{IsReplay}
 use Rattle.xr_design.specs.History.{HistoryView}

@@ -3,19 +3,20 @@ use Rattle.std.proofs.Common.{◌≡◌, ◌∙◌, ℕ, List, length, Ok, Err, 
 use Rattle.xr_design.specs.Job.{driver_in}
 use Rattle.xr_design.specs.Order.{IsOrder}
 use Rattle.xr_design.specs.declared.design.Design.{Design}
-use Rattle.xr_design.specs.declared.stim.StartRule.{StartRule}
 use Rattle.xr_design.proofs.OrdersFit.{order_lists}
 use Rattle.xr_replay.specs.declared.differ.Differ.{Differ}
 use Rattle.xr_run.specs.Phases.{Answer, AreExact, IsOne, Phases, ◌>>=◌}
 use Rattle.xr_words.specs.Words.{JobValues}
 use Rattle.xr_job.specs.Compared.{job_for, refusal_for}
-use Rattle.xr_job.specs.Recorded.{RecordingComes}
+use Rattle.xr_job.specs.Recorded.{RecordingComes, job_netlist}
 use Rattle.xr_job.specs.declared.netlist.Netlist.{Netlist as ANetlist}
 use Rattle.xr_job.specs.declared.recorded.Recorded.{Recorded}
+use Rattle.xr_job.specs.declared.rules.Rules.{Rules}
+use Rattle.xr_job.proofs.JobNetlists.{job_netlist_ordered}
 use Rattle.xr_job.proofs.OneNetlist.{one_outcome}
 use Rattle.xr_job.proofs.OneRecording.{one_recording}
 use Rattle.xr_phases.specs.Phases.{job_phases, parts, scope_of}
-use Rattle.xr_phases.specs.Repair.{CompareComes, rule_of}
+use Rattle.xr_phases.specs.Repair.{CompareComes, rules_of, undriven_rule_of}
 use Rattle.xr_phases.specs.declared.cause.Refused.{Refused}
 use Rattle.xr_phases.specs.declared.parts.Parts.{Parts}
 use Rattle.xr_phases.proofs.Faults.{OrdersAll, no_first, one_fault}
@@ -24,14 +25,14 @@ use Rattle.xr_phases.proofs.OneStimulus.{one_binding, one_said, one_stim}
 same_recorded : (a b : Recorded) → a.recording ≡ b.recording → a.binding ≡ b.binding → a.stim ≡ b.stim → a ≡ b
 same_recorded a b said bound stim = λ i. record { recording = said i; binding = bound i; stim = stim i }
 
-pub one_recorded : (text : List ℕ) (design : Design) (scope : List (List ℕ)) (rounds most : ℕ) (start : StartRule)
-    → IsOne (RecordingComes text design scope rounds most start)
-one_recorded text design scope rounds most start (Ok a) (Ok b) first second =
-    ap Ok (same_recorded a b (one_said text design scope rounds most start a b first second) (one_binding text design scope rounds most start a b first second)
-    (one_stim text design scope rounds most start a b first second))
-one_recorded text design scope rounds most start (Ok a) (Err f) first second = absurd (one_recording text design scope rounds most start (Ok a) (Err f) first second)
-one_recorded text design scope rounds most start (Err e) (Ok b) first second = absurd (one_recording text design scope rounds most start (Err e) (Ok b) first second)
-one_recorded text design scope rounds most start (Err e) (Err f) first second = ap Err (one_recording text design scope rounds most start (Err e) (Err f) first second)
+pub one_recorded : (text : List ℕ) (design : Design) (scope : List (List ℕ)) (rounds most : ℕ) (rules : Rules)
+    → IsOne (RecordingComes text design scope rounds most rules)
+one_recorded text design scope rounds most rules (Ok a) (Ok b) first second =
+    ap Ok (same_recorded a b (one_said text design scope rounds most rules a b first second) (one_binding text design scope rounds most rules a b first second)
+    (one_stim text design scope rounds most rules a b first second))
+one_recorded text design scope rounds most rules (Ok a) (Err f) first second = absurd (one_recording text design scope rounds most rules (Ok a) (Err f) first second)
+one_recorded text design scope rounds most rules (Err e) (Ok b) first second = absurd (one_recording text design scope rounds most rules (Err e) (Ok b) first second)
+one_recorded text design scope rounds most rules (Err e) (Err f) first second = ap Err (one_recording text design scope rounds most rules (Err e) (Err f) first second)
 
 pub orders_of : (n : ANetlist) (r : Recorded) → IsOrder (driver_in n.design) (length n.design.nets) n.order → OrdersAll (job_for n r)
 orders_of n r ordered = record { ordering = order_lists (driver_in n.design) (length n.design.nets) n.order ordered; all = ordered.all }
@@ -49,6 +50,10 @@ pub job_exact : (w : JobValues) (next : Parts → Phases Answer Refused) → ((n
     → AreExact (job_phases w >>= next)
 job_exact w next after = λ text. (
   one_outcome text w.top,
-  λ n has recording.
-      (one_recorded recording n.design (scope_of w) w.rounds w.places (rule_of w.start), λ r held. after n r (orders_of n r has.ordered)),
+  λ n has recording. (
+    one_recorded recording n.design (scope_of w) w.rounds w.places (rules_of w),
+    λ r held. (
+        let job = job_netlist (undriven_rule_of w.undriven) n r.binding.bound in
+        after job r (orders_of job r (job_netlist_ordered (undriven_rule_of w.undriven) n r.binding.bound has.ordered))),
+  ),
 )

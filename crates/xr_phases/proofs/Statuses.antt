@@ -8,7 +8,7 @@ use Rattle.xr_run.proofs.Causes.{EachCause}
 use Rattle.xr_words.specs.Words.{JobValues}
 use Rattle.xr_job.specs.Compared.{IsRefusedReplay, refusal_for}
 use Rattle.xr_job.specs.Netlist.{IsRefusedNetlist}
-use Rattle.xr_job.specs.Recorded.{IsRefusedRecording}
+use Rattle.xr_job.specs.Recorded.{IsRefusedRecording, job_netlist}
 use Rattle.xr_job.specs.declared.compare_refusal.CompareRefusal.{CompareRefusal}
 use Rattle.xr_job.specs.declared.netlist.Netlist.{Netlist as ANetlist}
 use Rattle.xr_job.specs.declared.netlist_refusal.NetlistRefusal.{NetlistRefusal}
@@ -25,7 +25,7 @@ use Rattle.xr_cert.specs.declared.refusal.CheckErr.TheVariants.{Memory as OutOfM
 use Rattle.xr_code.specs.declared.fault.CodeFault.{CodeFault}
 use Rattle.xr_phases.specs.Certificate.{IsCauseOf, uncertified_by}
 use Rattle.xr_phases.specs.Phases.{job_phases, parts, scope_of}
-use Rattle.xr_phases.specs.Repair.{objection_of}
+use Rattle.xr_phases.specs.Repair.{objection_of, undriven_rule_of}
 use Rattle.xr_phases.specs.declared.cause.Objection.{Objection}
 use Rattle.xr_phases.specs.declared.cause.Refused.{Refused}
 use Rattle.xr_phases.specs.declared.cause.Refused.TheVariants.{Certificate, Code, Compare, LongCertificate, LongCnf, LongCode, LongLog, LongNetlist, LongRecording, Netlist, Optimistic, Proof, Recording, Start}
@@ -119,7 +119,7 @@ job_of_texts w next after = (
     of_netlist text w.top,
     λ n has. (
       of_long_recording,
-      λ recording. (of_recording recording n.design (scope_of w) w.rounds w.places, λ r held. after n r),
+      λ recording. (of_recording recording n.design (scope_of w) w.rounds w.places, λ r held. after (job_netlist (undriven_rule_of w.undriven) n r.binding.bound) r),
     ),
   ),
 )

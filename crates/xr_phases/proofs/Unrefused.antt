@@ -6,20 +6,23 @@ use Rattle.xr_cert_text.specs.Wrong.{IsTextOf}
 use Rattle.xr_cert_text.specs.declared.cert.Cert.{Cert}
 use Rattle.xr_cert_text.specs.declared.cert.Form.TheVariants.{Lines}
 use Rattle.xr_design.specs.History.{HistoryView}
+use Rattle.xr_design.specs.Job.{driver_in}
+use Rattle.xr_design.specs.Order.{IsOrder}
 use Rattle.xr_design.specs.declared.waveform.Written.{Written}
 use Rattle.xr_job.specs.Compared.{IsRefusedReplay}
-use Rattle.xr_job.specs.Recorded.{RecordingComes}
+use Rattle.xr_job.specs.Recorded.{RecordingComes, job_netlist}
 use Rattle.xr_job.specs.declared.compare_refusal.CompareRefusal.{CompareRefusal}
 use Rattle.xr_job.specs.declared.netlist.Netlist.{Netlist as ANetlist}
 use Rattle.xr_job.specs.declared.recorded.Recorded.{Recorded}
 use Rattle.xr_job.specs.declared.recording_refusal.RecordingRefusal.{RecordingRefusal}
+use Rattle.xr_job.proofs.JobNetlists.{job_netlist_ordered}
 use Rattle.xr_job.proofs.OneNetlist.{one_outcome}
 use Rattle.xr_run.proofs.Exact.{ok_err, ok_same}
 use Rattle.xr_words.specs.Words.{JobValues}
 use Rattle.xr_phases.specs.Certificate.{IsUncertified, IsWrong}
 use Rattle.xr_phases.specs.Code.{text_limit}
 use Rattle.xr_phases.specs.Phases.{parts, scope_of}
-use Rattle.xr_phases.specs.Repair.{AgreesThroughout, beginning, rule_of}
+use Rattle.xr_phases.specs.Repair.{AgreesThroughout, beginning, rules_of, undriven_rule_of}
 use Rattle.xr_phases.specs.Texts.{AreRefused, CheckFails, HasNetlist, IsJob, UpgradeFails}
 use Rattle.xr_phases.specs.declared.cause.Refused.{Refused}
 use Rattle.xr_phases.specs.declared.cause.Uncertified.{Uncertified}
@@ -30,14 +33,14 @@ use Rattle.xr_phases.proofs.OneJob.{one_compared, one_recorded, orders_of}
 module _ (w : JobValues) (netlist recording : List ℕ) (n : ANetlist) (r : Recorded) (is : IsJob w netlist recording n r) where
   -- ---- the texts stand for no other job, and are refused for nothing but what is refused of it
 
-  one_netlist : (m : ANetlist) → HasNetlist w netlist m → m ≡ n
-  one_netlist m has = ok_same m n (one_outcome netlist w.top (Ok m) (Ok n) has.is is.netlist_is.is)
+  one_netlist : (m : ANetlist) → HasNetlist w netlist m → m ≡ is.elaborated
+  one_netlist m has = ok_same m is.elaborated (one_outcome netlist w.top (Ok m) (Ok is.elaborated) has.is is.netlist_is.is)
 
   comes_there : (m : ANetlist) → HasNetlist w netlist m → (result : Result Recorded RecordingRefusal)
-      → RecordingComes recording m.design (scope_of w) w.rounds w.places (rule_of w.start) result → result ≡ Ok r
+      → RecordingComes recording m.design (scope_of w) w.rounds w.places (rules_of w) result → result ≡ Ok r
   comes_there m has result comes =
-      one_recorded recording n.design (scope_of w) w.rounds w.places (rule_of w.start) result (Ok r)
-      (subst (λ (x : ANetlist). RecordingComes recording x.design (scope_of w) w.rounds w.places (rule_of w.start) result)
+      one_recorded recording is.elaborated.design (scope_of w) w.rounds w.places (rules_of w) result (Ok r)
+      (subst (λ (x : ANetlist). RecordingComes recording x.design (scope_of w) w.rounds w.places (rules_of w) result)
       (one_netlist m has) comes) is.is
 
   job_unrefused : (After : Parts → Refused → Type 0) (cause : Refused) → (After (parts n r) cause → ⊥)
@@ -45,16 +48,24 @@ module _ (w : JobValues) (netlist recording : List ℕ) (n : ANetlist) (r : Reco
   job_unrefused After cause never (AreRefused.long_netlist long) =
       let fits = is.netlist_is.fits in absurd (omega (arith, long, fits))
   job_unrefused After cause never (AreRefused.netlist_fails {e} refused) =
-      ok_err n e (one_outcome netlist w.top (Ok n) (Err e) is.netlist_is.is refused.is)
+      ok_err is.elaborated e (one_outcome netlist w.top (Ok is.elaborated) (Err e) is.netlist_is.is refused.is)
   job_unrefused After cause never (AreRefused.long_recording too) =
       let long = too.long in let fits = is.fits in absurd (omega (arith, long, fits))
   job_unrefused After cause never (AreRefused.recording_fails {e} refused) =
       ok_err r e (sym (comes_there refused.n refused.netlist_is (Err e) refused.is))
   job_unrefused After cause never (AreRefused.job_fails has) =
-      let nets = one_netlist has.n has.job.netlist_is in
-      let recorded = ok_same has.r r (comes_there has.n has.job.netlist_is (Ok has.r) has.job.is) in
+      let elaborated = one_netlist has.job.elaborated has.job.netlist_is in
+      let recorded = ok_same has.r r (comes_there has.job.elaborated has.job.netlist_is (Ok has.r) has.job.is) in
+      let nets : has.n ≡ n = has.job.job_is
+      ∙ ap (λ (x : ANetlist). job_netlist (undriven_rule_of w.undriven) x has.r.binding.bound) elaborated
+      ∙ ap (λ (x : Recorded). job_netlist (undriven_rule_of w.undriven) is.elaborated x.binding.bound) recorded
+      ∙ sym is.job_is in
       never (subst (λ (x : Recorded). After (parts n x) cause) recorded
       (subst (λ (x : ANetlist). After (parts x has.r) cause) nets has.holds))
+
+  ordered : IsOrder (driver_in n.design) (length n.design.nets) n.order
+  ordered = subst (λ (x : ANetlist). IsOrder (driver_in x.design) (length x.design.nets) x.order) (sym is.job_is)
+      (job_netlist_ordered (undriven_rule_of w.undriven) is.elaborated r.binding.bound is.netlist_is.is.ordered)
 
   -- ---- a certificate that is accepted
 
@@ -63,7 +74,7 @@ module _ (w : JobValues) (netlist recording : List ℕ) (n : ANetlist) (r : Reco
       (accepted : IsAccepted (beginning conflicts n r history) cert waveform) where
     not_compared : (e : CompareRefusal) → IsRefusedReplay n r e → ⊥
     not_compared e refused =
-        ok_err tt e (one_compared n r (orders_of n r is.netlist_is.is.ordered) (Ok tt) (Err e) agrees.faultless refused)
+        ok_err tt e (one_compared n r (orders_of n r ordered) (Ok tt) (Err e) agrees.faultless refused)
 
     not_wrong : {cause : Uncertified} → IsWrong text cause → ⊥
     not_wrong {cause} wrong = stands_unwrong text cert wrong.at stands wrong.first

@@ -1,6 +1,6 @@
 -- What a certificate comes to for a job.
 use Rattle.std.specs.Prelude.{◌≡◌, ℕ, ◌/◌, ◌%◌, List, Result, Ok, Err, slice_index}
-use Rattle.xr_cond.specs.View.{ConditionView}
+use Rattle.xr_cert.specs.View.{ConditionView}
 use Rattle.xr_design.specs.Filling.{IsPlace}
 use Rattle.xr_design.specs.Handed.{IsReplay}
 use Rattle.xr_design.specs.History.{HistoryView}

@@ -1,4 +1,4 @@
--- Definitions of what the phases of commands come to.
+-- Definitions of what the phases of commands come to, and those of repairs that their clauses cite.
 pub mod Cause
 pub mod Repair
 pub mod Code
@@ -6,3 +6,4 @@ pub mod Certificate
 pub mod Sets
 pub mod Phases
 pub mod Texts
+pub use Rattle.xr_repair.specs.Repaired

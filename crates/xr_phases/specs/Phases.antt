@@ -7,17 +7,17 @@ use Rattle.xr_run.specs.Phases.{Phases, ◌>>=◌, reads, judges}
 use Rattle.xr_prove.specs.declared.fault.ProofFault.{ProofFault}
 use Rattle.xr_fix.specs.declared.refusal.StartFault.{StartFault}
 use Rattle.xr_job.specs.Netlist.{NetlistComes}
-use Rattle.xr_job.specs.Recorded.{RecordingComes}
+use Rattle.xr_job.specs.Recorded.{RecordingComes, job_netlist}
 use Rattle.xr_job.specs.declared.compare_refusal.CompareRefusal.{CompareRefusal}
 use Rattle.xr_job.specs.declared.netlist.Netlist.{Netlist as ANetlist}
 use Rattle.xr_job.specs.declared.netlist_refusal.NetlistRefusal.{NetlistRefusal}
 use Rattle.xr_job.specs.declared.recorded.Recorded.{Recorded}
 use Rattle.xr_job.specs.declared.recording_refusal.RecordingRefusal.{RecordingRefusal}
 use Rattle.xr_line.specs.Line.{pieces_of}
-use Rattle.xr_words.specs.Words.{JobValues, ReplayValues}
+use Rattle.xr_words.specs.Words.{JobValues}
 use Rattle.xr_phases.specs.Certificate.{CertificateComes}
 use Rattle.xr_phases.specs.Code.{CodeComes, code_in, text_limit}
-use Rattle.xr_phases.specs.Repair.{CompareComes, netlist_limit, recording_limit, rule_of}
+use Rattle.xr_phases.specs.Repair.{CompareComes, netlist_limit, recording_limit, rules_of, undriven_rule_of}
 use Rattle.xr_phases.specs.declared.cause.Objection.{Objection}
 use Rattle.xr_phases.specs.declared.cause.Refused.{Refused}
 use Rattle.xr_phases.specs.declared.cause.Refused.TheVariants.{LongNetlist, Netlist, LongRecording, Recording, Compare}
@@ -67,6 +67,10 @@ nothing_in _ = tt
 abbrev pub parts : ANetlist → Recorded → Parts
 parts n r = record { netlist = n; recorded = r }
 
+-- The job of a netlist and of what is recorded of it, by the rules of the words.
+abbrev pub job_parts : JobValues → ANetlist → Recorded → Parts
+job_parts w n r = parts (job_netlist (undriven_rule_of w.undriven) n r.binding.bound) r
+
 -- The names of the scope, from the outermost.
 abbrev pub scope_of : JobValues → List (List ℕ)
 scope_of w = pieces_of 46 w.scope
@@ -79,13 +83,13 @@ netlist_phases w = do
 abbrev pub recording_phases : JobValues → ANetlist → Phases Recorded Refused
 recording_phases w n = do
   text ← reads (w.recording ∷ []) recording_limit LongRecording
-  judges (RecordingComes text n.design (scope_of w) w.rounds w.places (rule_of w.start)) recording_cause
+  judges (RecordingComes text n.design (scope_of w) w.rounds w.places (rules_of w)) recording_cause
 
 abbrev pub job_phases : JobValues → Phases Parts Refused
 job_phases w = do
   n ← netlist_phases w
   r ← recording_phases w n
-  Phases.Finds (parts n r)
+  Phases.Finds (job_parts w n r)
 
 -- A job whose recording agrees with its replay.
 abbrev pub agreed_phases : JobValues → Phases Parts Refused
@@ -97,12 +101,22 @@ agreed_phases w = do
 abbrev pub agreed_job : Agreed → Parts
 agreed_job agreed = agreed.job
 
+-- And then what a command comes to.
+abbrev pub agreed_then : {A : Type 0} → JobValues → (Parts → Phases A Refused) → Phases A Refused
+agreed_then w after = agreed_phases w >>= after
+
+-- The same after the job alone.
+abbrev pub compared_then : {A : Type 0} → (Parts → Phases A Refused) → Parts → Phases A Refused
+compared_then after job = do
+  agreed ← judges (CompareComes job.netlist job.recorded) compare_cause
+  after job
+
 -- ---- a code, and a certificate
 
-abbrev pub code_phases : ReplayValues → Parts → Phases (List Event) Refused
-code_phases w job = do
-  text ← reads (w.code ∷ []) text_limit LongCode
-  judges (CodeComes (code_in job text (scope_of w.job))) code_cause
+abbrev pub code_phases : List ℕ → JobValues → Parts → Phases (List Event) Refused
+code_phases name w job = do
+  text ← reads (name ∷ []) text_limit LongCode
+  judges (CodeComes (code_in job text (scope_of w))) code_cause
 
 abbrev pub certificate_phases : List ℕ → Phases Cert Refused
 certificate_phases name = do

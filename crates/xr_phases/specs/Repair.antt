@@ -25,8 +25,14 @@ use Rattle.xr_job.specs.Recorded.{FitsRecordedWithin, place_limit}
 use Rattle.xr_job.specs.declared.compare_refusal.CompareRefusal.{CompareRefusal}
 use Rattle.xr_job.specs.declared.netlist.Netlist.{Netlist as ANetlist}
 use Rattle.xr_job.specs.declared.recorded.Recorded.{Recorded}
+use Rattle.xr_job.specs.declared.rules.Rules.{Rules}
+use Rattle.xr_match.specs.declared.rule.UndrivenRule.{UndrivenRule}
+use Rattle.xr_match.specs.declared.rule.UndrivenRule.TheVariants as rule
+use Rattle.xr_words.specs.Words.{JobValues}
 use Rattle.xr_words.specs.declared.words.Start.{Start}
 use Rattle.xr_words.specs.declared.words.Start.TheVariants as named
+use Rattle.xr_words.specs.declared.words.Undriven.{Undriven}
+use Rattle.xr_words.specs.declared.words.Undriven.TheVariants as undriven
 use Rattle.xr_phases.specs.declared.cause.Objection.{Objection}
 use Rattle.xr_phases.specs.declared.parts.Parts.{Parts}
 
@@ -46,6 +52,13 @@ LengthComes limit text (Err long) = limit < length text
 abbrev pub rule_of : Start → StartRule
 rule_of named.Cold = Cold
 rule_of named.Recorded = AsRecorded
+
+abbrev pub undriven_rule_of : Undriven → UndrivenRule
+undriven_rule_of undriven.Released = rule.Released
+undriven_rule_of undriven.Recorded = rule.Recorded
+
+abbrev pub rules_of : JobValues → Rules
+rules_of w = record { start = rule_of w.start; undriven = undriven_rule_of w.undriven }
 
 -- A design with its order fits, and so does what was recorded of it, with at most so many places.
 pub record FitsJobWithin (most : ℕ) (n : ANetlist) (r : Recorded) : Type 0 where

@@ -12,7 +12,7 @@ use Rattle.xr_fix.specs.Started.{IsFirstFault, IsStarted, Piece}
 use Rattle.xr_fix.specs.declared.refusal.StartFault.{StartFault}
 use Rattle.xr_job.specs.Compared.{IsRefusedReplay, job_for}
 use Rattle.xr_job.specs.Netlist.{NetlistComes}
-use Rattle.xr_job.specs.Recorded.{RecordingComes}
+use Rattle.xr_job.specs.Recorded.{RecordingComes, job_netlist}
 use Rattle.xr_job.specs.declared.compare_refusal.CompareRefusal.{CompareRefusal}
 use Rattle.xr_job.specs.declared.netlist.Netlist.{Netlist as ANetlist}
 use Rattle.xr_job.specs.declared.netlist_refusal.NetlistRefusal.{NetlistRefusal}
@@ -24,7 +24,8 @@ use Rattle.xr_words.specs.Words.{JobValues}
 use Rattle.xr_phases.specs.Certificate.{IsUncertified, IsWrong}
 use Rattle.xr_phases.specs.Code.{code_in, text_limit}
 use Rattle.xr_phases.specs.Phases.{parts, scope_of}
-use Rattle.xr_phases.specs.Repair.{IsObjectionIn, IsWalked, Walked, netlist_limit, recording_limit, rule_of}
+use Rattle.xr_phases.specs.Repair.{IsObjectionIn, IsWalked, Walked, netlist_limit, recording_limit, rules_of}
+use Rattle.xr_phases.specs.Repair.{undriven_rule_of}
 use Rattle.xr_phases.specs.declared.cause.Objection.{Objection}
 use Rattle.xr_phases.specs.declared.cause.Refused.{Refused}
 use Rattle.xr_phases.specs.declared.cause.Refused.TheVariants.{LongNetlist, Netlist, LongRecording, Recording}
@@ -46,11 +47,14 @@ pub record HasNetlist (w : JobValues) (netlist : List ℕ) (n : ANetlist) : Type
   pub fits : length netlist ≤ netlist_limit
   pub is : NetlistComes netlist w.top (Ok n)
 
--- Nor is the recording's, and it stands for this recording of the design, with its binding and its stimulus.
+-- Nor is the recording's, and it stands for this recording of the netlist's design, with its binding and its stimulus.
+-- The job has the design that the rules of the words make of the netlist's.
 pub record IsJob (w : JobValues) (netlist recording : List ℕ) (n : ANetlist) (r : Recorded) : Type 0 where
-  pub netlist_is : HasNetlist w netlist n
+  pub elaborated : ANetlist
+  pub netlist_is : HasNetlist w netlist elaborated
   pub fits : length recording ≤ recording_limit
-  pub is : RecordingComes recording n.design (scope_of w) w.rounds w.places (rule_of w.start) (Ok r)
+  pub is : RecordingComes recording elaborated.design (scope_of w) w.rounds w.places (rules_of w) (Ok r)
+  pub job_is : n ≡ job_netlist (undriven_rule_of w.undriven) elaborated r.binding.bound
 
 -- ---- refused
 
@@ -69,7 +73,7 @@ pub record IsRefusedRecording (w : JobValues) (netlist recording : List ℕ) (e 
   pub n : ANetlist
   pub netlist_is : HasNetlist w netlist n
   pub fits : length recording ≤ recording_limit
-  pub is : RecordingComes recording n.design (scope_of w) w.rounds w.places (rule_of w.start) (Err e)
+  pub is : RecordingComes recording n.design (scope_of w) w.rounds w.places (rules_of w) (Err e)
 
 -- The texts stand for a job, of which this holds.
 pub record HasJob (w : JobValues) (netlist recording : List ℕ) (Holds : ANetlist → Recorded → Type 0) : Type 0 where
@@ -160,8 +164,7 @@ pub data FixFails (conflicts : ℕ) (pieces : List Piece) (job : Parts) : Refuse
 
 -- ---- a place that is found otherwise
 
--- Without an undecided body among the lines before it, it is the one of these texts that is found so, whatever the
--- limit of the search.
+-- Without an undecided body in the lines before it, it is the one of these texts, whatever the limit of the search.
 abbrev pub IsOneFound : JobValues → List ℕ → List ℕ → (ℕ → Objection → ANetlist → Recorded → Type 0) → Objection
     → Type 0
 IsOneFound w netlist recording Finds objection = objection.undecided ≡ 0 → (conflicts : ℕ) (other : Objection)
@@ -170,8 +173,7 @@ IsOneFound w netlist recording Finds objection = objection.undecided ≡ 0 → (
 abbrev pub IsOneObjection : JobValues → List ℕ → List ℕ → Objection → Type 0
 IsOneObjection w netlist recording objection = IsOneFound w netlist recording IsObjected objection
 
--- `fix`: it is found under the recorded starts, and is the one there; or else it is found under the set ones, and is
--- the one there.
+-- `fix`: it is found under the recorded starts, and is the one there; or else so under the set ones.
 pub data IsOneOfWalks (conflicts : ℕ) (pieces : List Piece) (w : JobValues) (netlist recording : List ℕ)
     (objection : Objection) : Type 0 where
   of_recorded : HasJob w netlist recording (IsObjected conflicts objection)

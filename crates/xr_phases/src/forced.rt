@@ -6,7 +6,7 @@ ghost use Rattle.xr_design.specs.Design.{FitsDesign};
 ghost use Rattle.xr_design.specs.Force.{AreEvents};
 ghost use Rattle.xr_job.specs.Compared.{job_for};
 ghost use Rattle.xr_run.specs.Prepared.{Judged, Prepared};
-ghost use Rattle.xr_words.specs.Words.{replay_values};
+ghost use Rattle.xr_words.specs.Words.{job_values};
 ghost use Rattle.xr_phases.specs.Code.{CodeComes, code_in};
 ghost use Rattle.xr_phases.specs.Phases.{code_cause, code_phases, itself};
 ghost use Rattle.xr_phases.specs.Repair.{FitsPartsWithin};
@@ -19,25 +19,26 @@ use xr_code::{CodeErr, read_code};
 use xr_design::{Bytes, Forces};
 use xr_run::{Refusal, read_input};
 use xr_shelf::Shelf;
-use xr_words::ReplayWords;
+use xr_words::JobWords;
 
 /// The most bytes of a code or a certificate: more than any text in memory has.
 pub const TEXT_BYTES: usize = isize::MAX as usize;
 
-/// The forces that the code says which the words name.
+/// The forces that the code of a file says, of the job that the words name.
 pub fn forces_of<S: Shelf>(
     alloc: Global,
     shelf: &mut S,
-    words: &ReplayWords<'_>,
+    name: &str,
+    words: &JobWords<'_>,
     job: &Parts,
 ) -> Result<Forces, Refusal<Refused>>
-    requires { FitsPartsWithin words.now.job.places job.now }
-    ensures prepared { Prepared S.told (code_phases (replay_values words.now) job.now) itself
+    requires { FitsPartsWithin words.now.places job.now }
+    ensures prepared { Prepared S.told (code_phases name.now (job_values words.now) job.now) itself
         (S.view shelf.old) (S.view shelf.new) result }
     ensures events { IfOk result (AreEvents (job_for job.now.netlist job.now.recorded)) }
 {
-    let scope = names_of(alloc, words.job.scope)?;
-    let text = read_input(alloc, shelf, words.code, TEXT_BYTES, Refused::LongCode)?;
+    let scope = names_of(alloc, words.scope)?;
+    let text = read_input(alloc, shelf, name, TEXT_BYTES, Refused::LongCode)?;
     forces_in(alloc, job, text.as_slice(), scope.as_slice())
 }
 

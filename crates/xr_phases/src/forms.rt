@@ -9,10 +9,8 @@ ghost use Rattle.xr_phases.specs.Phases.{nothing_in, uncertified_cause};
 use crate::cause::{Refused, Uncertified};
 use std::alloc::Global;
 use xr_base::Memory;
-use xr_cert::{Cert, CertFault, Form};
-use xr_cond::Condition;
+use xr_cert::{Cert, CertFault, Condition, Form, conditions_of};
 use xr_run::Refusal;
-use xr_turns::conditions_of;
 use xr_wave::Wave;
 use xr_words::Form as FormWord;
 

@@ -4,11 +4,12 @@ ghost use Rattle.std.specs.Prelude.{◌≡◌, ◌≤◌, IfOk};
 ghost use Rattle.xr_design.specs.Handed.{IsReplay};
 ghost use Rattle.xr_job.specs.Compared.{job_for};
 ghost use Rattle.xr_job.specs.Netlist.{FitsNetlist};
-ghost use Rattle.xr_job.specs.Recorded.{FitsRecordedWithin};
+ghost use Rattle.xr_job.specs.Recorded.{FitsRecordedWithin, job_netlist};
 ghost use Rattle.xr_run.specs.Prepared.{Prepared};
 ghost use Rattle.xr_words.specs.Words.{job_values};
-ghost use Rattle.xr_phases.specs.Phases.{agreed_job, agreed_phases, itself, job_phases, netlist_phases, recording_phases};
-ghost use Rattle.xr_phases.specs.Repair.{FitsParts, FitsPartsWithin, rule_of};
+ghost use Rattle.xr_phases.specs.Phases.{agreed_job, agreed_phases, itself, job_phases, netlist_phases};
+ghost use Rattle.xr_phases.specs.Phases.{recording_phases};
+ghost use Rattle.xr_phases.specs.Repair.{FitsParts, FitsPartsWithin, rule_of, rules_of, undriven_rule_of};
 
 use crate::cause::Refused;
 use crate::judged::{compared, netlist_in, recorded_in};
@@ -16,10 +17,11 @@ use crate::parts::{Agreed, Parts};
 use crate::pieces::names_of;
 use std::alloc::Global;
 use xr_design::StartRule;
-use xr_job::{Netlist, Recorded};
+use xr_job::{Netlist, Recorded, Rules};
+use xr_match::UndrivenRule;
 use xr_run::{Refusal, read_input, read_inputs};
 use xr_shelf::Shelf;
-use xr_words::{JobWords, Start};
+use xr_words::{JobWords, Start, Undriven};
 
 /// The most bytes of a netlist.
 pub const NETLIST_BYTES: usize = 67_108_864;
@@ -27,8 +29,7 @@ pub const NETLIST_BYTES: usize = 67_108_864;
 /// The most bytes of a recording.
 pub const RECORDING_BYTES: usize = 268_435_456;
 
-/// The job that the words name, whose recording has to agree with its replay, and that replay. The job is one that is
-/// walked over.
+/// The job that the words name, one that is walked over, whose recording has to agree with its replay; and that replay.
 pub fn agreed_of<S: Shelf>(
     alloc: Global,
     shelf: &mut S,
@@ -57,8 +58,8 @@ pub fn job_of<S: Shelf>(
         (S.view shelf.old) (S.view shelf.new) result }
     ensures fits { IfOk result (FitsPartsWithin words.now.places) }
 {
-    let netlist = netlist_of(alloc, shelf, words)?;
-    let recorded = recorded_of(alloc, shelf, words, &netlist)?;
+    let mut netlist = netlist_of(alloc, shelf, words)?;
+    let recorded = recorded_of(alloc, shelf, words, &mut netlist)?;
     Ok(Parts { netlist, recorded })
 }
 
@@ -82,17 +83,20 @@ fn netlist_of<S: Shelf>(
     netlist_in(alloc, text.as_slice(), words.top)
 }
 
-/// The recording that the words name, of a design.
+/// The recording that the words name, of a netlist, which becomes the job's.
 fn recorded_of<S: Shelf>(
     alloc: Global,
     shelf: &mut S,
     words: &JobWords<'_>,
-    netlist: &Netlist,
+    netlist: &mut Netlist,
 ) -> Result<Recorded, Refusal<Refused>>
-    requires { FitsNetlist netlist.now }
-    ensures prepared { Prepared S.told (recording_phases (job_values words.now) netlist.now) itself
+    requires { FitsNetlist netlist.old }
+    ensures prepared { Prepared S.told (recording_phases (job_values words.now) netlist.old) itself
         (S.view shelf.old) (S.view shelf.new) result }
-    ensures fits { IfOk result (FitsRecordedWithin words.now.places netlist.now.design) }
+    ensures netlist { let rule = undriven_rule_of words.now.undriven in
+        IfOk result (λ r. netlist.new ≡ job_netlist rule netlist.old r.binding.bound) }
+    ensures fits { IfOk result (FitsRecordedWithin words.now.places netlist.new.design) }
+    ensures fits_netlist { IfOk result (λ _. FitsNetlist netlist.new) }
 {
     let scope = names_of(alloc, words.scope)?;
     let text = read_input(
@@ -109,16 +113,34 @@ fn recorded_of<S: Shelf>(
         scope.as_slice(),
         words.rounds,
         words.places,
-        rule_of(words.start),
+        rules_of(words),
     )
 }
 
-/// The rule that the words name.
-fn rule_of(start: Start) -> StartRule
+/// The rules that the words name.
+fn rules_of(words: &JobWords<'_>) -> Rules
+    ensures { result ≡ rules_of (job_values words.now) }
+{
+    Rules {
+        start: start_rule(words.start),
+        undriven: undriven_rule(words.undriven),
+    }
+}
+
+fn start_rule(start: Start) -> StartRule
     ensures { result ≡ rule_of start }
 {
     match start {
         Start::Cold => StartRule::Cold,
         Start::Recorded => StartRule::Recorded,
+    }
+}
+
+fn undriven_rule(undriven: Undriven) -> UndrivenRule
+    ensures { result ≡ undriven_rule_of undriven }
+{
+    match undriven {
+        Undriven::Released => UndrivenRule::Released,
+        Undriven::Recorded => UndrivenRule::Recorded,
     }
 }

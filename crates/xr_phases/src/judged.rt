@@ -4,16 +4,16 @@ ghost use Rattle.std.specs.Prelude.{◌≡◌, ◌<◌, ◌≤◌, ◌^◌, leng
 ghost use Rattle.xr_design.specs.Handed.{IsReplay};
 ghost use Rattle.xr_job.specs.Compared.{job_for};
 ghost use Rattle.xr_job.specs.Netlist.{FitsNetlist, NetlistComes};
-ghost use Rattle.xr_job.specs.Recorded.{FitsRecorded, FitsRecordedWithin, RecordingComes};
+ghost use Rattle.xr_job.specs.Recorded.{FitsRecorded, FitsRecordedWithin, RecordingComes, job_netlist};
 ghost use Rattle.xr_run.specs.Prepared.{Judged};
 ghost use Rattle.xr_phases.specs.Repair.{LengthComes, CompareComes};
 ghost use Rattle.xr_phases.specs.Phases.{compare_cause, itself, netlist_cause, nothing_in, recording_cause};
 
 use crate::cause::Refused;
 use std::alloc::Global;
-use xr_design::{Bytes, History, StartRule};
+use xr_design::{Bytes, History};
 use xr_job::{
-    CompareErr, Netlist, NetlistErr, Recorded, RecordingErr, read_netlist, read_recording,
+    CompareErr, Netlist, NetlistErr, Recorded, RecordingErr, Rules, read_netlist, read_recording,
     replay_and_compare,
 };
 use xr_run::Refusal;
@@ -42,27 +42,29 @@ pub fn netlist_in(alloc: Global, text: &[u8], top: &str) -> Result<Netlist, Refu
     }
 }
 
-/// What a text records of a design, for a replay of at most so many places.
+/// What a text records of a netlist, which becomes the job's, for a replay of at most so many places, by some rules.
 pub fn recorded_in(
     alloc: Global,
-    netlist: &Netlist,
+    netlist: &mut Netlist,
     text: &[u8],
     scope: &[Bytes],
     rounds: u32,
     most: u64,
-    start: StartRule,
+    rules: Rules,
 ) -> Result<Recorded, Refusal<Refused>>
     requires size { length text.now ≤ 2 ^ 28 }
-    requires fits { FitsNetlist netlist.now }
+    requires fits { FitsNetlist netlist.old }
     requires some { 0 < length scope.now }
     requires round { 1 ≤ rounds }
     requires rounds { rounds ≤ 16 }
     requires most { most ≤ 2 ^ 40 }
-    ensures judged { Judged (RecordingComes text.now netlist.now.design scope.now rounds most start)
+    ensures judged { Judged (RecordingComes text.now netlist.old.design scope.now rounds most rules)
         recording_cause itself result }
-    ensures fits { IfOk result (FitsRecordedWithin most netlist.now.design) }
+    ensures netlist { IfOk result (λ r. netlist.new ≡ job_netlist rules.undriven netlist.old r.binding.bound) }
+    ensures fits { IfOk result (FitsRecordedWithin most netlist.new.design) }
+    ensures fits_netlist { IfOk result (λ _. FitsNetlist netlist.new) }
 {
-    match read_recording(alloc, netlist, text, scope, rounds, most, start) {
+    match read_recording(alloc, netlist, text, scope, rounds, most, rules) {
         Ok(recorded) => Ok(recorded),
         Err(RecordingErr::Refused(cause)) => Err(Refusal::Text {
             cause: Refused::Recording(cause),

@@ -3,7 +3,7 @@
 use xr_design::History;
 use xr_job::{Netlist, Recorded};
 
-/// A design with its order, and a recording of it with its binding and its stimulus.
+/// The design of a job with its order, and a recording of it with its binding and its stimulus.
 #[derive(Drop)]
 pub struct Parts {
     pub netlist: Netlist,

@@ -44,8 +44,7 @@ pub fn wave_of<'b, O: Sink>(
     wave_under(alloc, netlist, &recorded.stim, history, conflicts, out)
 }
 
-/// The finished wave of a design under a stimulus, over its replay or a blank history. The sink is told how far the
-/// walk has come.
+/// The finished wave of a design under a stimulus, over its replay or a blank history. The sink hears how far it came.
 pub fn wave_under<'b, O: Sink>(
     alloc: Global,
     netlist: &'b Netlist,

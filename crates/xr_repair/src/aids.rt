@@ -8,11 +8,13 @@ use crate::answers::Answers;
 use std::alloc::Global;
 use xr_base::Memory;
 use xr_cone::Cones;
+use xr_guess::Guesser;
 
-/// What places depend on, and the answers of searches.
+/// What places depend on, guesses about them, and the answers of searches.
 #[derive(Drop)]
 pub struct Aids {
     pub cones: Cones,
+    pub guesser: Guesser,
     pub answers: Answers,
 }
 
@@ -23,6 +25,7 @@ impl Aids {
     {
         Ok(Aids {
             cones: Cones::new(alloc)?,
+            guesser: Guesser::new(alloc),
             answers: Answers::new(alloc),
         })
     }

@@ -1,5 +1,5 @@
-//! What the next place, a Line place, has under all fillings: by lanes, by an earlier place, by tables over few sources,
-//! or else by its cone.
+//! What the next place, a Line place, has under all fillings: by lanes, by an earlier place, by tables over few sources, by
+//! a guess that is tested, or else by its cone.
 
 ghost use Rattle.std.specs.Prelude.{◌<◌, ◌≤◌, IfOk, OnOk, length};
 ghost use Rattle.xr_along.specs.Along.{GoesAlong};
@@ -15,6 +15,7 @@ use crate::aids::Aids;
 use crate::earlier::find_by_log;
 use crate::fillings::try_fillings;
 use crate::found::Found;
+use crate::guessed::find_guessed;
 use crate::search::search;
 use std::alloc::Global;
 use xr_base::Memory;
@@ -42,7 +43,7 @@ pub fn find(alloc: Global, wave: &Wave<'_>, aids: &mut Aids) -> Result<Found, Me
     }
 }
 
-/// The same by an earlier place that rests on the same, or else by tables or its cone.
+/// The same by an earlier place that rests on the same, or else by tables, by a guess or by its cone.
 #[tactic(auto, using(crate::proofs::Searching::pair_accepted))]
 fn find_by_equal(alloc: Global, wave: &Wave<'_>, aids: &mut Aids) -> Result<Found, Memory>
     requires class { IsLineNext wave.now }
@@ -60,7 +61,7 @@ fn find_by_equal(alloc: Global, wave: &Wave<'_>, aids: &mut Aids) -> Result<Foun
     }
 }
 
-/// The same by the log of an earlier place that asks the same, or else by tables or its cone.
+/// The same by the log of an earlier place that asks the same, or else by tables, by a guess or by its cone.
 #[tactic(auto, using(crate::proofs::Searching::pair_accepted))]
 fn find_by_earlier(
     alloc: Global,
@@ -82,7 +83,8 @@ fn find_by_earlier(
     }
 }
 
-/// The same by the tables that nodes share, or else by its cone.
+/// The same by the tables that nodes share, or else by a guess or its cone. They come before it, since a guess
+/// reads a node again for each place, and tables once.
 #[tactic(auto, using(crate::proofs::Searching::pair_accepted))]
 fn find_by_tables(alloc: Global, wave: &Wave<'_>, aids: &mut Aids) -> Result<Found, Memory>
     requires class { IsLineNext wave.now }
@@ -94,8 +96,23 @@ fn find_by_tables(alloc: Global, wave: &Wave<'_>, aids: &mut Aids) -> Result<Fou
     match aids.cones.lanes.find_shared(alloc, wave)? {
         Shown::Pair(pair) => Ok(Found::Pair(pair)),
         Shown::Settled(settled) => Ok(Found::Settled(settled)),
-        Shown::Earlier(_) => find_by_cone(alloc, wave, aids),
-        Shown::Nothing => find_by_cone(alloc, wave, aids),
+        Shown::Earlier(_) => find_by_guess(alloc, wave, aids),
+        Shown::Nothing => find_by_guess(alloc, wave, aids),
+    }
+}
+
+/// The same by a guess, if a test shows that it is right, or else by its cone.
+#[tactic(auto, using(crate::proofs::Searching::pair_accepted))]
+fn find_by_guess(alloc: Global, wave: &Wave<'_>, aids: &mut Aids) -> Result<Found, Memory>
+    requires class { IsLineNext wave.now }
+    requires right { AreRightOf wave.now aids.old }
+    requires looked { IsLookedAt wave.now aids.old.cones.lanes }
+    ensures shown { IfOk result (IsShown wave.now) }
+    ensures right { OnOk result (AreRightOf wave.now aids.new) }
+{
+    match find_guessed(alloc, wave, &mut aids.cones, &mut aids.guesser)? {
+        Some(found) => Ok(found),
+        None => find_by_cone(alloc, wave, aids),
     }
 }
 

@@ -64,7 +64,7 @@ fn pair_of(
 }
 
 /// A log that refutes the query shows that every filling gives the next place the bit of the empty one.
-fn settled_by(wave: &Wave<'_>, cone: &Cone, query: &Cnf, proof: Refuted) -> Settled
+pub fn settled_by(wave: &Wave<'_>, cone: &Cone, query: &Cnf, proof: Refuted) -> Settled
     requires cone { IsNextCone wave.now cone.now.nodes }
     requires query { IsQueryOfNodes cone.now.nodes query.now }
     requires refutes { Refutes query.now.clauses proof }

@@ -17,7 +17,7 @@ use Rattle.xr_trim.specs.Reached.{AreReached, Reaches}
 use Rattle.xr_trim.specs.Copies.{copies, is_among, is_kept}
 use Rattle.xr_trim.specs.Trims.{Keeps, copy_of}
 use Rattle.xr_trim.proofs.Growing.{same_number, some_same}
-use Rattle.xr_trim.proofs.Numbers.{bytes_same, picked}
+use Rattle.xr_trim.proofs.Numbering.{bytes_same, picked}
 
 -- ---- a name and its first definition
 

@@ -21,4 +21,7 @@ mod trimmed;
 
 pub use fault::{TrimErr, TrimFault};
 pub use laws::texts_are_trimmed_one_way;
+pub use library::Numbers;
+pub use reader::Reader;
+pub use spelled::Spelled;
 pub use trimmed::trim;

@@ -68,9 +68,9 @@ impl<'t> Library<'t> {
     }
 }
 
-/// Names with the number of the first definition of each.
+/// Names, each with the first number that it was given.
 #[derive(Drop)]
-struct Numbers<'t> {
+pub struct Numbers<'t> {
     numbers: IndexMap<&'t [u8], usize>,
 }
 
@@ -88,7 +88,8 @@ impl<'t> Numbers<'t> {
     ghost use Rattle.std.specs.Map.{lookup};
     ghost use Rattle.xr_trim.specs.Library.{with_number};
 
-    fn new(alloc: Global) -> Numbers<'t>
+    /// No names. Takes no memory.
+    pub fn new(alloc: Global) -> Numbers<'t>
         ensures { result ≡ [] }
     {
         Numbers {
@@ -96,14 +97,15 @@ impl<'t> Numbers<'t> {
         }
     }
 
-    fn find(&self, name: &[u8]) -> Option<usize>
+    /// The number of a name. Takes no memory.
+    pub fn find(&self, name: &[u8]) -> Option<usize>
         ensures { result ≡ lookup (bytes_eq name.now) self.now }
     {
         self.numbers.get(name).copied()
     }
 
     /// A name more. One that is there keeps its number.
-    fn add(&mut self, name: &'t [u8], number: usize) -> Result<(), AllocError>
+    pub fn add(&mut self, name: &'t [u8], number: usize) -> Result<(), AllocError>
         ensures { OnOk result (self.new ≡ with_number name.now number self.old) }
     {
         if !self.numbers.contains_key(name) {

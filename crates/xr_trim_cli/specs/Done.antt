@@ -1,20 +1,28 @@
 -- What a run promises at status 0, and what it is refused for, where the shelf tells its bytes.
-use Rattle.std.specs.Prelude.{◌≡◌, ◌≢◌, ℕ, ◌<◌, List, length, IsTrue, Some}
+use Rattle.std.specs.Prelude.{◌≡◌, ◌≢◌, ℕ, ◌<◌, List, [], length, IsTrue, Some, Ok, Err}
 use Rattle.xr_shelf.specs.Shelf.{Files, View}
 use Rattle.xr_run.specs.Phases.{text_held}
 use Rattle.xr_run.specs.Rows.{Start}
 use Rattle.xr_trim.specs.Trims.{IsTrimmed, IsUntrimmed}
+use Rattle.xr_trim.specs.declared.fault.TrimFault.{TrimFault}
+use Rattle.xr_stub.specs.declared.fault.StubFault.{StubFault}
 use Rattle.xr_trim_cli.specs.Cause.{status_of}
-use Rattle.xr_trim_cli.specs.Phases.{text_limit}
+use Rattle.xr_trim_cli.specs.Phases.{StubsCome, text_limit}
 use Rattle.xr_trim_cli.specs.Words.{Means, TrimValues}
 use Rattle.xr_trim_cli.specs.declared.cause.Refused.{Refused}
-use Rattle.xr_trim_cli.specs.declared.cause.Refused.TheVariants.{Long, Text}
+use Rattle.xr_trim_cli.specs.declared.cause.Refused.TheVariants.{Long, Stub, Text}
 
--- The file that is written has the definitions that the top needs of the files that are read, joined, each byte for
--- byte and in order; no other file changed.
+-- What is kept of a text: the modules that are named get their stubs, and then each definition that the top needs
+-- stands byte for byte and in order.
+pub record IsKeptOf (w : TrimValues) (text out : List ℕ) : Type 0 where
+  pub stubbed : List ℕ
+  pub stubs : StubsCome w.stubs w.supplies text (Ok stubbed)
+  pub trimmed : IsTrimmed stubbed w.top out
+
+-- The file that is written has what is kept of the files that are read, joined; no other file changed.
 pub record IsKept (w : TrimValues) (old new : Files) : Type 0 where
   pub out : List ℕ
-  pub trimmed : IsTrimmed (text_held old w.files) w.top out
+  pub kept : IsKeptOf w (text_held old w.files) out
   pub written : new w.to ≡ Some out
   pub others : (name : List ℕ) → name ≢ w.to → new name ≡ old name
 
@@ -24,10 +32,21 @@ pub record Done (s : Start) (shelf : View) : Type 0 where
   pub means : Means s.line words
   pub kept : IsTrue s.shelf_told → IsKept words s.shelf.files shelf.files
 
--- The joined text is too long, or can't be trimmed.
-abbrev pub IsRefusedFor : List ℕ → List ℕ → Refused → Type 0
-IsRefusedFor text top Long = text_limit < length text
-IsRefusedFor text top (Text fault) = IsUntrimmed text top fault
+-- The joined text is too long; or it has no stubs; or with them it can't be trimmed.
+abbrev pub IsRefusedFor : TrimValues → List ℕ → Refused → Type 0
+IsRefusedFor w text Long = text_limit < length text
+IsRefusedFor w text (Stub fault) = StubsCome w.stubs w.supplies text (Err fault)
+IsRefusedFor w text (Text fault) =
+    (stubbed : List ℕ) × StubsCome w.stubs w.supplies text (Ok stubbed) × IsUntrimmed stubbed w.top fault
+
+-- The law: without stubs what is kept, and what a text is refused for, is of the text as it is.
+pub record WithoutStubs (w : TrimValues) (text : List ℕ) : Type 0 where
+  pub kept : (out : List ℕ) → IsKeptOf w text out → IsTrimmed text w.top out
+  pub untrimmed : (fault : TrimFault) → IsRefusedFor w text (Text fault) → IsUntrimmed text w.top fault
+  pub never : (fault : StubFault) → IsRefusedFor w text (Stub fault) → ⊥
+
+abbrev pub KeepsTexts : Type 0
+KeepsTexts = (w : TrimValues) (text : List ℕ) → w.stubs ≡ [] → WithoutStubs w text
 
 -- 5 and 11: the text is refused for a cause of that status.
 pub record RefusesText (s : Start) (status : ℕ) : Type 0 where
@@ -35,4 +54,4 @@ pub record RefusesText (s : Start) (status : ℕ) : Type 0 where
   pub means : Means s.line words
   pub cause : Refused
   pub status_is : status ≡ status_of cause
-  pub refused : IsTrue s.shelf_told → IsRefusedFor (text_held s.shelf.files words.files) words.top cause
+  pub refused : IsTrue s.shelf_told → IsRefusedFor words (text_held s.shelf.files words.files) cause

@@ -4,6 +4,7 @@ use crate::line::line_of;
 use std::alloc::Global;
 use xr_base::Memory;
 use xr_run::Cause;
+use xr_stub::StubFault;
 use xr_trim::TrimFault;
 
 /// Why a text is refused.
@@ -11,6 +12,8 @@ use xr_trim::TrimFault;
 pub enum Refused {
     /// The joined text has more than 1,073,741,824 bytes.
     Long,
+    /// The text has no stubs of the modules that are named.
+    Stub(StubFault),
     /// The text can't be trimmed.
     Text(TrimFault),
 }
@@ -25,6 +28,7 @@ impl Cause for Refused {
     fn status(&self) -> u8 {
         match self {
             Refused::Long => 11,
+            Refused::Stub(_) => 5,
             Refused::Text(_) => 5,
         }
     }

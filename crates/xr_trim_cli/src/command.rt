@@ -1,18 +1,20 @@
-//! The command: reads the files, and writes what the top needs of them.
+//! The command: reads the files, and writes what the top needs of them, with stubs of the modules that are named.
 
-ghost use Rattle.std.specs.Prelude.{◌≡◌, IfOk};
+ghost use Rattle.std.specs.Prelude.{◌≡◌, IfOk, IsSome};
 ghost use Rattle.xr_run.specs.Prepared.{Judged, Prepared, PreparedAlone, answer_of};
 ghost use Rattle.xr_trim.specs.Trims.{TrimComes};
-ghost use Rattle.xr_trim_cli.specs.Phases.{text_phases, trim_answer, trim_phases};
+ghost use Rattle.xr_trim_cli.specs.Phases.{StubsCome, kept_phases, text_phases, trim_answer, trim_phases};
 ghost use Rattle.xr_trim_cli.specs.Words.{trim_values};
-ghost use Rattle.xr_trim_cli.specs.declared.cause.Refused.TheVariants.{Text};
+ghost use Rattle.xr_trim_cli.specs.declared.cause.Refused.TheVariants.{Stub, Text};
 
 use crate::cause::Refused;
+use crate::names::names_of;
 use crate::trim_words::TrimWords;
 use std::alloc::Global;
 use xr_base::Memory;
 use xr_run::{Output, Prepare, Ready, Refusal, Report, read_inputs};
 use xr_shelf::{Shelf, Sink};
+use xr_stub::{StubErr, stub};
 use xr_trim::{TrimErr, trim};
 
 /// The most bytes of the joined text.
@@ -47,6 +49,50 @@ fn trimmed<'a>(
     text: &[u8],
 ) -> Result<Ready<'a>, Refusal<Refused>>
     ensures { PreparedAlone (text_phases (trim_values words.now) text.now) answer_of result }
+{
+    match words.stubs {
+        Some(_) => stubbed(alloc, words, text),
+        None => kept(alloc, words, text),
+    }
+}
+
+/// What it comes to with stubs.
+fn stubbed<'a>(
+    alloc: Global,
+    words: &TrimWords<'a>,
+    text: &[u8],
+) -> Result<Ready<'a>, Refusal<Refused>>
+    requires { IsSome words.now.stubs }
+    ensures { PreparedAlone (text_phases (trim_values words.now) text.now) answer_of result }
+{
+    let out = stubs_of(alloc, words, text)?;
+    kept(alloc, words, out.as_slice())
+}
+
+/// The text with the stubs.
+fn stubs_of(alloc: Global, words: &TrimWords<'_>, text: &[u8]) -> Result<Vec<u8>, Refusal<Refused>>
+    requires { IsSome words.now.stubs }
+    ensures { let w = trim_values words.now in
+        Judged (StubsCome w.stubs w.supplies text.now) Stub (λ out. out.items) result }
+{
+    let names = names_of(alloc, words.stubs)?;
+    let supplies = names_of(alloc, words.supplies)?;
+    match stub(alloc, text, names.as_slice(), supplies.as_slice()) {
+        Ok(out) => Ok(out),
+        Err(StubErr::Refused(fault)) => Err(Refusal::Text {
+            cause: Refused::Stub(fault),
+        }),
+        Err(StubErr::Memory) => Err(Refusal::Memory),
+    }
+}
+
+/// What the text with stubs comes to.
+fn kept<'a>(
+    alloc: Global,
+    words: &TrimWords<'a>,
+    text: &[u8],
+) -> Result<Ready<'a>, Refusal<Refused>>
+    ensures { PreparedAlone (kept_phases (trim_values words.now) text.now) answer_of result }
 {
     let out = kept_of(alloc, text, words.top.as_bytes())?;
     Ok(answered(alloc, words, out)?)

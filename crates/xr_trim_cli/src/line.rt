@@ -2,11 +2,12 @@
 
 ghost use Rattle.std.specs.Prelude.{◌≡◌, ◌++◌, IfOk, OnOk};
 ghost use Rattle.xr_base.specs.Text.{line};
-ghost use Rattle.xr_trim_cli.specs.Cause.{fault_text, placed_text, text_of};
+ghost use Rattle.xr_trim_cli.specs.Cause.{fault_text, placed_text, stub_fault_text, text_of};
 
 use crate::cause::Refused;
 use std::alloc::Global;
 use xr_base::{Memory, put, put_number};
+use xr_stub::StubFault;
 use xr_trim::TrimFault;
 
 /// The line of a refusal, with its newline.
@@ -24,7 +25,20 @@ fn put_text(alloc: Global, text: &mut Vec<u8>, refused: &Refused) -> Result<(), 
 {
     match refused {
         Refused::Long => put(text, b"refused: too large netlist"),
+        Refused::Stub(fault) => put_stub_fault(alloc, text, fault),
         Refused::Text(fault) => put_fault(alloc, text, fault),
+    }
+}
+
+fn put_stub_fault(alloc: Global, text: &mut Vec<u8>, fault: &StubFault) -> Result<(), Memory>
+    ensures { OnOk result (text.new.items ≡ text.old.items ++ stub_fault_text fault.now) }
+{
+    match fault {
+        StubFault::Text(fault) => put_fault(alloc, text, fault),
+        StubFault::Unexpected { at } => put_placed(text, *at, b"unexpected"),
+        StubFault::Range { at } => put_placed(text, *at, b"unknown range"),
+        StubFault::Supply { at } => put_placed(text, *at, b"inout"),
+        StubFault::Undirected { at } => put_placed(text, *at, b"no direction"),
     }
 }
 

@@ -9,6 +9,10 @@ pub struct TrimWords<'a> {
     pub top: &'a str,
     /// The file that is written.
     pub to: &'a str,
+    /// The modules that are stubbed, joined by commas.
+    pub stubs: Option<&'a str>,
+    /// The inout ports that are supplies, joined by commas.
+    pub supplies: Option<&'a str>,
     /// The files that are read, one or more.
     pub files: &'a [String],
     ghost some: { 0 < length files.now },

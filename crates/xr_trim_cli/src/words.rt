@@ -1,17 +1,20 @@
 //! The words of a command line.
 
-ghost use Rattle.std.specs.Prelude.{◌≡◌, ◌<◌, [], ◌∷◌, List, IfNone, IfOk, IfSome, length, map, string_bytes, true};
+ghost use Rattle.std.specs.Prelude.{◌≡◌, ◌<◌, ◌↔◌, [], ◌∷◌, List, IfNone, IfOk, IfSome, IsSome, IsTrue, length};
+ghost use Rattle.std.specs.Prelude.{map, string_bytes, true};
 ghost use Rattle.xr_line.specs.Tables.{plain};
 ghost use Rattle.xr_line.specs.Line.{Text, are_options};
 ghost use Rattle.xr_line.specs.Read.{value_of};
-ghost use Rattle.xr_trim_cli.specs.Words.{AreOutside, Gives, IsTrimLine, Means, MeansOnly, TrimValues, table, trim_values};
+ghost use Rattle.xr_trim_cli.specs.Words.{AreLists, AreOutside, Gives, IsTrimLine, Means, MeansOnly, TrimValues};
+ghost use Rattle.xr_trim_cli.specs.Words.{table, text_in, trim_values};
 
+use crate::names::are_names;
 use crate::trim_words::TrimWords;
 use std::alloc::Global;
 use xr_base::Memory;
 use xr_line::{Kind, Line, Opt, are_apart, files_in, read_line};
 
-static OPTIONS: [Opt<'static>; 2] = [
+static OPTIONS: [Opt<'static>; 4] = [
     Opt {
         name: "top",
         required: true,
@@ -21,6 +24,16 @@ static OPTIONS: [Opt<'static>; 2] = [
         name: "to",
         required: true,
         kind: Kind::Writes,
+    },
+    Opt {
+        name: "stub",
+        required: false,
+        kind: Kind::Name,
+    },
+    Opt {
+        name: "supply",
+        required: false,
+        kind: Kind::Name,
     },
 ];
 
@@ -54,7 +67,8 @@ fn words_in<'a>(words: &'a [String], line: &Line<'a>) -> Option<TrimWords<'a>>
     words_of(line, files_in(words, line))
 }
 
-/// What the options name together with the FILEs, none where one lacks, or where the file that is written is a FILE.
+/// What the options name together with the FILEs, none where one lacks, a list has an empty name, there are supplies
+/// without stubs, or the file that is written is a FILE.
 fn words_of<'a>(line: &Line<'a>, files: &'a [String]) -> Option<TrimWords<'a>>
     requires { 0 < length files.now }
     ensures files { IfSome result (λ w. (trim_values w).files ≡ map string_bytes files.now) }
@@ -64,8 +78,45 @@ fn words_of<'a>(line: &Line<'a>, files: &'a [String]) -> Option<TrimWords<'a>>
 {
     let top = line.get("top")?;
     let to = line.get("to")?;
+    let stubs = line.get("stub");
+    let supplies = line.get("supply");
+    if !are_lists(stubs, supplies) {
+        return None;
+    }
     if !are_apart(&[to], &[], files) {
         return None;
     }
-    Some(TrimWords { top, to, files })
+    Some(TrimWords {
+        top,
+        to,
+        stubs,
+        supplies,
+        files,
+    })
+}
+
+/// Whether lists have names alone, and there are supplies only where there are stubs.
+fn are_lists(stubs: Option<&str>, supplies: Option<&str>) -> bool
+    ensures { IsTrue result ↔ AreLists (text_in stubs.entry) (text_in supplies.entry) }
+{
+    all_three(
+        are_names(stubs),
+        are_names(supplies),
+        is_used(stubs, supplies),
+    )
+}
+
+fn is_used(stubs: Option<&str>, supplies: Option<&str>) -> bool
+    ensures { IsTrue result ↔ (IsSome (text_in supplies.entry) → IsSome (text_in stubs.entry)) }
+{
+    match supplies {
+        Some(_) => stubs.is_some(),
+        None => true,
+    }
+}
+
+fn all_three(first: bool, second: bool, third: bool) -> bool
+    ensures { IsTrue result ↔ (IsTrue first × IsTrue second × IsTrue third) }
+{
+    first && second && third
 }

@@ -12,7 +12,7 @@ use Rattle.xr_model.specs.Yields.{flipped_value}
 use Rattle.xr_model.specs.declared.class.ClassByNumber.{ClassByNumber}
 use Rattle.xr_model.specs.declared.class.ClassByNumber.TheVariants.{Local, Free, Carried, Line}
 use Rattle.xr_model.specs.declared.line.Line.{Line as ALine}
-use Rattle.xr_class.specs.Facts.{AgreesWith}
+use Rattle.xr_wave_bytes.specs.Facts.{AgreesWith}
 use Rattle.xr_wave_bytes.specs.Kept.{ValuesAgree}
 
 carried_value : (inverted : Bool) (mark : Mark) (v u : Value) → (mark ≡ Certain → v ≡ flipped_value inverted u)

@@ -1,5 +1,1 @@
-pub mod Commands
-pub mod Free
-pub mod Meanings
-pub mod OneMeaning
-pub mod ScopeNames
+pub mod OneJob

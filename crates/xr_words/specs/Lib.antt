@@ -1,4 +1,3 @@
--- Definitions of the command lines of the program.
+-- Definitions of the words of a job.
 pub mod Forms
-pub mod Free
 pub mod Words

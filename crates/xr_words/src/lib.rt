@@ -1,33 +1,16 @@
-//! The words of every command line of `xrepair`. Start at `read_words`, at `specs/Words.antt` for the set of lines, and
-//! at `specs/Forms.antt` for the options of each command. What a line of options is, and how one is read, is xr_line's.
+//! The words of a job, which commands share: its options, what they give, and the values that they stand for.
 //!
-//! `forms.rt` lists the commands and their options; a new command adds its rows there, and beside `repair.rt` a file
-//! that makes its typed words of the values.
+//! Start at `job_of`, at `specs/Words.antt` for what options give, and at `specs/Forms.antt` for the options as a
+//! table. `options.rt` declares each option that commands share, once, and `typed.rt` has values as numbers and choices.
+//! What a line of options is, and how one is read, is xr_line's; the words of a command are xr_cli's.
 #![tactic(auto)]
 
-mod audit;
-mod blame;
-mod check;
-mod export;
-mod fix;
-mod forms;
 mod job;
-mod laws;
-mod make;
-mod named;
-mod prove;
-mod read;
-mod repair;
-mod replay;
+mod options;
 mod typed;
-mod upgrade;
-mod usage;
 mod words;
 
-pub use laws::words_mean_one;
-pub use read::read_words;
-pub use usage::usage_of;
-pub use words::{
-    AuditWords, BlameWords, CheckWords, Command, ExportWords, FixWords, Form, JobWords, MakeWords,
-    ProveWords, RepairWords, ReplayWords, Start, UpgradeWords,
-};
+pub use job::{job_of, job_within};
+pub use options::{CONFLICTS, PLACES, RECORD, ROUNDS, SCOPE, START, TOP, UNDRIVEN};
+pub use typed::{conflicts_of, form_of, places_of};
+pub use words::{Form, JobWords, Start, Undriven};

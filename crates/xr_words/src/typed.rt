@@ -4,10 +4,11 @@ ghost use Rattle.std.specs.Prelude.{◌≡◌, ◌≤◌, ℕ, Some, IfSome, IfN
 ghost use Rattle.xr_line.specs.Read.{value_of};
 ghost use Rattle.xr_words.specs.declared.words.Form.{Form};
 ghost use Rattle.xr_words.specs.declared.words.Start.{Start};
-ghost use Rattle.xr_words.specs.Words.{IsCount, IsForm, IsStart};
+ghost use Rattle.xr_words.specs.declared.words.Undriven.{Undriven};
+ghost use Rattle.xr_words.specs.Words.{IsCount, IsForm, IsStart, IsUndriven};
 
-use crate::job::PLACES;
-use crate::words::{Form, Start};
+use crate::job::PLACE_LIMIT;
+use crate::words::{Form, Start, Undriven};
 use xr_line::{Line, number_in};
 
 /// The most clauses of a search, and how many there are where none are given.
@@ -36,7 +37,7 @@ pub fn places_of(line: &Line<'_>) -> Option<u64>
     ensures none { IfNone result ((count : ℕ)
         → IsCount (value_of line.now (codes "places")) 134217728 1099511627776 count → ⊥) }
 {
-    long_count_of(line.get("places"), PLACES, MOST_PLACES)
+    long_count_of(line.get("places"), PLACE_LIMIT, MOST_PLACES)
 }
 
 /// The number of an option that may be absent, from 1 to `most`.
@@ -96,6 +97,29 @@ fn start_in(text: &str) -> Option<Start>
     match text {
         "cold" => Some(Start::Cold),
         "recorded" => Some(Start::Recorded),
+        _ => None,
+    }
+}
+
+/// What an option says of nets without a driver; they are released where it is absent.
+pub fn undriven_of(text: Option<&str>) -> Option<Undriven>
+    ensures undriven { IfSome result (IsUndriven (option_map (λ s. s.now) text.entry)) }
+    ensures none { IfNone result ((undriven : Undriven)
+        → IsUndriven (option_map (λ s. s.now) text.entry) undriven → ⊥) }
+{
+    match text {
+        Some(text) => undriven_in(text),
+        None => Some(Undriven::Released),
+    }
+}
+
+fn undriven_in(text: &str) -> Option<Undriven>
+    ensures undriven { IfSome result (IsUndriven (Some text.now)) }
+    ensures none { IfNone result ((undriven : Undriven) → IsUndriven (Some text.now) undriven → ⊥) }
+{
+    match text {
+        "released" => Some(Undriven::Released),
+        "recorded" => Some(Undriven::Recorded),
         _ => None,
     }
 }

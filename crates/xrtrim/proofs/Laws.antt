@@ -14,7 +14,7 @@ use Rattle.xrtrim.specs.Reads.{read_by}
 
 -- The file that is written is none that is read.
 pub kept : AreKept commands read_by
-kept line w means = λ text out comes. one_more w.files _ [] means.gives.apart.1 (none_written w.files)
+kept line w means = λ text stubbed stubs out comes. one_more w.files _ [] means.gives.apart.1 (none_written w.files)
 
 -- Every file is read.
 surely : (w : TrimValues) (name : Text) (limit : ℕ) → limit ≡ 1073741824 → Contains (read_by w) name → ReadsSurely name limit (trim_phases w)

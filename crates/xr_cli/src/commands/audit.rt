@@ -1,25 +1,83 @@
 //! `audit`: reads a netlist and a recording of it, and prints the places that the replay knows otherwise.
 
-ghost use Rattle.xr_words.specs.Words.{audit_values};
-ghost use Rattle.xr_cli.specs.Phases.{audit_phases};
+ghost use Rattle.std.specs.Prelude.{◌≤◌};
 
 use crate::audited::audited;
 use std::alloc::Global;
-use xr_phases::{Refused, agreed_of};
-use xr_run::{Prepare, Ready, Refusal};
+use xr_line::{Line, Opt};
+use xr_phases::{AfterAgreed, Agreed, RECORDING_BYTES, Refused, prepare_agreed};
+use xr_run::{Ready, Refusal};
+use xr_set::{Form, Inputs, Run};
 use xr_shelf::{Shelf, Sink};
-use xr_words::AuditWords;
+use xr_words::{CONFLICTS, JobWords, conflicts_of, job_of, job_options};
 
-/// `audit` with its words.
-#[derive(Clone, Copy, Debug)]
+static OPTIONS: &[Opt<'static>] = job_options![CONFLICTS];
+
+/// The words of `audit`.
+#[derive(Clone, Copy, Debug, Drop)]
 pub struct Audit<'a> {
-    pub words: AuditWords<'a>,
+    pub job: JobWords<'a>,
+    /// The clauses of a search, 1 to 100,000.
+    pub conflicts: u32,
+    ghost few_places: { job.places ≤ 134217728 },
+    ghost some_clauses: { 1 ≤ conflicts },
+    ghost few_clauses: { conflicts ≤ 100000 },
 }
 
-impl<'a> Prepare for Audit<'a> {
+impl<'a> AfterAgreed for Audit<'a> {
+    ghost use Rattle.xr_words.specs.Words.{job_values};
+    ghost use Rattle.xr_cli.specs.Audit.{audit_values, walk_audited};
+
+    ghost job = { λ command. job_values command.job };
+
+    ghost after = { λ command. walk_audited (audit_values command) };
+
+    fn words(&self) -> &JobWords<'_> {
+        &self.job
+    }
+
+    fn go_on<S: Shelf, O: Sink>(
+        &self,
+        alloc: Global,
+        _shelf: &mut S,
+        agreed: &Agreed,
+        out: &mut O,
+    ) -> Result<Ready<'_>, Refusal<Refused>> {
+        audited(alloc, self, &agreed.job, &agreed.history, out)
+    }
+}
+
+impl<'a> Run<'a> for Audit<'a> {
+    ghost use Rattle.xr_cli.specs.Audit.{audit, audit_values};
+
     type Cause = Refused;
 
-    ghost phases = { λ command. audit_phases (audit_values command.words) };
+    ghost command = { audit };
+
+    ghost values = { audit_values };
+
+    fn form() -> Form<'a> {
+        Form {
+            word: "audit",
+            options: OPTIONS,
+            files: true,
+        }
+    }
+
+    fn of_line(line: &Line<'a>, files: &'a [String]) -> Option<Self> {
+        let job = job_of(line, files)?;
+        let conflicts = conflicts_of(line)?;
+        Some(Audit { job, conflicts })
+    }
+
+    fn inputs(&self) -> Inputs<'a> {
+        Inputs {
+            first: Some(self.job.recording),
+            second: None,
+            rest: self.job.netlists,
+            most: RECORDING_BYTES,
+        }
+    }
 
     fn prepare<S: Shelf, O: Sink>(
         &self,
@@ -27,7 +85,6 @@ impl<'a> Prepare for Audit<'a> {
         shelf: &mut S,
         out: &mut O,
     ) -> Result<Ready<'_>, Refusal<Refused>> {
-        let agreed = agreed_of(alloc, shelf, &self.words.job)?;
-        audited(alloc, &self.words, &agreed.job, &agreed.history, out)
+        prepare_agreed(self, alloc, shelf, out)
     }
 }

@@ -1,55 +1,94 @@
 //! `check`: reads a netlist, a recording of it and a certificate, and prints the report of what the certificate shows.
 
-ghost use Rattle.xr_words.specs.Words.{check_values};
-ghost use Rattle.xr_design.specs.Handed.{IsReplay};
-ghost use Rattle.xr_job.specs.Compared.{job_for};
-ghost use Rattle.xr_run.specs.Prepared.{Prepared, answer_of};
-ghost use Rattle.xr_cli.specs.Phases.{certified_phases, check_phases};
-ghost use Rattle.xr_phases.specs.Repair.{FitsParts};
+ghost use Rattle.std.specs.Prelude.{◌≤◌};
 
-use crate::checked::checked;
+use crate::checked::check_agreed;
 use std::alloc::Global;
-use xr_design::History;
-use xr_phases::{Parts, Refused, agreed_of, certificate_of};
-use xr_run::{Prepare, Ready, Refusal};
+use xr_line::{Kind, Line, Opt};
+use xr_phases::{AfterAgreed, Agreed, Refused, TEXT_BYTES, prepare_agreed};
+use xr_run::{Ready, Refusal};
+use xr_set::{Form, Inputs, Run};
 use xr_shelf::{Shelf, Sink};
-use xr_words::CheckWords;
+use xr_words::{CONFLICTS, JobWords, conflicts_of, job_of, job_options, needs};
 
-/// `check` with its words.
-#[derive(Clone, Copy, Debug)]
+static OPTIONS: &[Opt<'static>] = job_options![needs!("cert", Kind::Reads), CONFLICTS];
+
+/// The words of `check`.
+#[derive(Clone, Copy, Debug, Drop)]
 pub struct Check<'a> {
-    pub words: CheckWords<'a>,
+    pub job: JobWords<'a>,
+    /// The file of the certificate.
+    pub cert: &'a str,
+    /// The clauses of a log that leaves a place undecided, 1 to 100,000.
+    pub conflicts: u32,
+    ghost few_places: { job.places ≤ 134217728 },
+    ghost some_clauses: { 1 ≤ conflicts },
+    ghost few_clauses: { conflicts ≤ 100000 },
 }
 
-impl<'a> Prepare for Check<'a> {
+impl<'a> AfterAgreed for Check<'a> {
+    ghost use Rattle.xr_words.specs.Words.{job_values};
+    ghost use Rattle.xr_cli.specs.Check.{certified_phases, check_values};
+
+    ghost job = { λ command. job_values command.job };
+
+    ghost after = { λ command. certified_phases (check_values command) };
+
+    fn words(&self) -> &JobWords<'_> {
+        &self.job
+    }
+
+    fn go_on<S: Shelf, O: Sink>(
+        &self,
+        alloc: Global,
+        shelf: &mut S,
+        agreed: &Agreed,
+        _out: &mut O,
+    ) -> Result<Ready<'_>, Refusal<Refused>> {
+        check_agreed(alloc, shelf, self, &agreed.job, &agreed.history)
+    }
+}
+
+impl<'a> Run<'a> for Check<'a> {
+    ghost use Rattle.xr_cli.specs.Check.{check, check_values};
+
     type Cause = Refused;
 
-    ghost phases = { λ command. check_phases (check_values command.words) };
+    ghost command = { check };
+
+    ghost values = { check_values };
+
+    fn form() -> Form<'a> {
+        Form {
+            word: "check",
+            options: OPTIONS,
+            files: true,
+        }
+    }
+
+    fn of_line(line: &Line<'a>, files: &'a [String]) -> Option<Self> {
+        Some(Check {
+            job: job_of(line, files)?,
+            cert: line.get("cert")?,
+            conflicts: conflicts_of(line)?,
+        })
+    }
+
+    fn inputs(&self) -> Inputs<'a> {
+        Inputs {
+            first: Some(self.cert),
+            second: Some(self.job.recording),
+            rest: self.job.netlists,
+            most: TEXT_BYTES,
+        }
+    }
 
     fn prepare<S: Shelf, O: Sink>(
         &self,
         alloc: Global,
         shelf: &mut S,
-        _out: &mut O,
+        out: &mut O,
     ) -> Result<Ready<'_>, Refusal<Refused>> {
-        let agreed = agreed_of(alloc, shelf, &self.words.job)?;
-        check_agreed(alloc, shelf, &self.words, &agreed.job, &agreed.history)
+        prepare_agreed(self, alloc, shelf, out)
     }
-}
-
-/// The check of a certificate of a job whose recording agrees.
-fn check_agreed<'a, S: Shelf>(
-    alloc: Global,
-    shelf: &mut S,
-    words: &CheckWords<'a>,
-    job: &Parts,
-    history: &History,
-) -> Result<Ready<'a>, Refusal<Refused>>
-    requires fits { FitsParts job.now }
-    requires replay { IsReplay (job_for job.now.netlist job.now.recorded) history.now }
-    ensures { Prepared S.told (certified_phases (check_values words.now) job.now) answer_of
-        (S.view shelf.old) (S.view shelf.new) result }
-{
-    let cert = certificate_of(alloc, shelf, words.cert)?;
-    checked(alloc, words, job, history, cert)
 }

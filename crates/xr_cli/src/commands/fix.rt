@@ -1,25 +1,90 @@
 //! `fix`: reads a netlist and a recording of it, and prints which bits become known where unknown starts are set.
 
-ghost use Rattle.xr_words.specs.Words.{fix_values};
-ghost use Rattle.xr_cli.specs.Phases.{fix_phases};
+ghost use Rattle.std.specs.Prelude.{◌≤◌};
 
 use crate::fixed::fixed;
 use std::alloc::Global;
-use xr_phases::{Refused, agreed_of};
-use xr_run::{Prepare, Ready, Refusal};
+use xr_line::{Kind, Line, Opt};
+use xr_phases::{AfterAgreed, Agreed, RECORDING_BYTES, Refused, prepare_agreed};
+use xr_run::{Ready, Refusal};
+use xr_set::{Form, Inputs, Run};
 use xr_shelf::{Shelf, Sink};
-use xr_words::FixWords;
+use xr_words::{CONFLICTS, JobWords, conflicts_of, job_of, job_options, needs};
 
-/// `fix` with its words.
-#[derive(Clone, Copy, Debug)]
+static OPTIONS: &[Opt<'static>] = job_options![needs!("set", Kind::Sets), CONFLICTS];
+
+/// The words of `fix`.
+#[derive(Clone, Copy, Debug, Drop)]
 pub struct Fix<'a> {
-    pub words: FixWords<'a>,
+    pub job: JobWords<'a>,
+    /// The starts to be set: pieces joined by commas, each a name, `=`, and `0` or `1`.
+    pub sets: &'a str,
+    /// The clauses of a search, 1 to 100,000.
+    pub conflicts: u32,
+    ghost few_places: { job.places ≤ 134217728 },
+    ghost some_clauses: { 1 ≤ conflicts },
+    ghost few_clauses: { conflicts ≤ 100000 },
 }
 
-impl<'a> Prepare for Fix<'a> {
+impl<'a> AfterAgreed for Fix<'a> {
+    ghost use Rattle.xr_words.specs.Words.{job_values};
+    ghost use Rattle.xr_cli.specs.Fix.{fix_values, set_phases};
+
+    ghost job = { λ command. job_values command.job };
+
+    ghost after = { λ command. set_phases (fix_values command) };
+
+    fn words(&self) -> &JobWords<'_> {
+        &self.job
+    }
+
+    fn go_on<S: Shelf, O: Sink>(
+        &self,
+        alloc: Global,
+        _shelf: &mut S,
+        agreed: &Agreed,
+        out: &mut O,
+    ) -> Result<Ready<'_>, Refusal<Refused>> {
+        fixed(alloc, self, &agreed.job, &agreed.history, out)
+    }
+}
+
+impl<'a> Run<'a> for Fix<'a> {
+    ghost use Rattle.xr_cli.specs.Fix.{fix, fix_values};
+
     type Cause = Refused;
 
-    ghost phases = { λ command. fix_phases (fix_values command.words) };
+    ghost command = { fix };
+
+    ghost values = { fix_values };
+
+    fn form() -> Form<'a> {
+        Form {
+            word: "fix",
+            options: OPTIONS,
+            files: true,
+        }
+    }
+
+    fn of_line(line: &Line<'a>, files: &'a [String]) -> Option<Self> {
+        let job = job_of(line, files)?;
+        let sets = line.get("set")?;
+        let conflicts = conflicts_of(line)?;
+        Some(Fix {
+            job,
+            sets,
+            conflicts,
+        })
+    }
+
+    fn inputs(&self) -> Inputs<'a> {
+        Inputs {
+            first: Some(self.job.recording),
+            second: None,
+            rest: self.job.netlists,
+            most: RECORDING_BYTES,
+        }
+    }
 
     fn prepare<S: Shelf, O: Sink>(
         &self,
@@ -27,7 +92,6 @@ impl<'a> Prepare for Fix<'a> {
         shelf: &mut S,
         out: &mut O,
     ) -> Result<Ready<'_>, Refusal<Refused>> {
-        let agreed = agreed_of(alloc, shelf, &self.words.job)?;
-        fixed(alloc, &self.words, &agreed.job, &agreed.history, out)
+        prepare_agreed(self, alloc, shelf, out)
     }
 }

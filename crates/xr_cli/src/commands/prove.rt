@@ -1,26 +1,57 @@
 //! `prove`: reads a formula and a log, and prints how many clauses the log has where it refutes the formula.
 
-ghost use Rattle.xr_run.specs.Prepared.{Prepared, answer_of};
-ghost use Rattle.xr_words.specs.Words.{prove_values};
-ghost use Rattle.xr_cli.specs.Phases.{log_phases, prove_phases};
-
-use crate::proved::proved;
+use crate::proved::prove_cnf;
 use std::alloc::Global;
+use xr_line::{Kind, Line, Opt};
 use xr_phases::{Refused, TEXT_BYTES};
-use xr_run::{Prepare, Ready, Refusal, read_input};
+use xr_run::{Ready, Refusal, read_input};
+use xr_set::{Form, Inputs, Run};
 use xr_shelf::{Shelf, Sink};
-use xr_words::ProveWords;
+use xr_words::needs;
 
-/// `prove` with its words.
-#[derive(Clone, Copy, Debug)]
+static OPTIONS: &[Opt<'static>] = &[needs!("cnf", Kind::Reads), needs!("log", Kind::Reads)];
+
+/// The words of `prove`.
+#[derive(Clone, Copy, Debug, Drop)]
 pub struct Prove<'a> {
-    pub words: ProveWords<'a>,
+    /// The file of the formula.
+    pub cnf: &'a str,
+    /// The file of the log.
+    pub log: &'a str,
 }
 
-impl<'a> Prepare for Prove<'a> {
+impl<'a> Run<'a> for Prove<'a> {
+    ghost use Rattle.xr_cli.specs.Prove.{prove, prove_values};
+
     type Cause = Refused;
 
-    ghost phases = { λ command. prove_phases (prove_values command.words) };
+    ghost command = { prove };
+
+    ghost values = { prove_values };
+
+    fn form() -> Form<'a> {
+        Form {
+            word: "prove",
+            options: OPTIONS,
+            files: false,
+        }
+    }
+
+    fn of_line(line: &Line<'a>, _files: &'a [String]) -> Option<Self> {
+        Some(Prove {
+            cnf: line.get("cnf")?,
+            log: line.get("log")?,
+        })
+    }
+
+    fn inputs(&self) -> Inputs<'a> {
+        Inputs {
+            first: Some(self.cnf),
+            second: Some(self.log),
+            rest: &[],
+            most: TEXT_BYTES,
+        }
+    }
 
     fn prepare<S: Shelf, O: Sink>(
         &self,
@@ -28,21 +59,7 @@ impl<'a> Prepare for Prove<'a> {
         shelf: &mut S,
         _out: &mut O,
     ) -> Result<Ready<'_>, Refusal<Refused>> {
-        let cnf = read_input(alloc, shelf, self.words.cnf, TEXT_BYTES, Refused::LongCnf)?;
-        prove_cnf(alloc, shelf, &self.words, cnf.as_slice())
+        let cnf = read_input(alloc, shelf, self.cnf, TEXT_BYTES, Refused::LongCnf)?;
+        prove_cnf(alloc, shelf, self, cnf.as_slice())
     }
-}
-
-/// The check of the log against a formula's text.
-fn prove_cnf<'a, S: Shelf>(
-    alloc: Global,
-    shelf: &mut S,
-    words: &ProveWords<'a>,
-    cnf: &[u8],
-) -> Result<Ready<'a>, Refusal<Refused>>
-    ensures { Prepared S.told (log_phases (prove_values words.now) cnf.now) answer_of
-        (S.view shelf.old) (S.view shelf.new) result }
-{
-    let log = read_input(alloc, shelf, words.log, TEXT_BYTES, Refused::LongLog)?;
-    proved(alloc, cnf, log.as_slice())
 }

@@ -1,26 +1,119 @@
 //! `repair`: reads a netlist and a recording of it, and writes the repaired recording, the code that forces a simulator
 //! to show it, and its certificate.
 
-ghost use Rattle.xr_words.specs.Words.{repair_values};
-ghost use Rattle.xr_cli.specs.Phases.{repair_phases};
+ghost use Rattle.std.specs.Prelude.{◌↔◌, ◌≢◌, ◌≤◌, [], ◌∷◌, IsTrue, map, string_bytes};
+ghost use Rattle.xr_line.specs.Apart.{AreApart};
 
 use crate::repaired::repaired;
 use std::alloc::Global;
-use xr_phases::{Refused, agreed_of};
-use xr_run::{Prepare, Ready, Refusal};
+use xr_line::{Kind, Line, Opt, are_apart};
+use xr_phases::{AfterAgreed, Agreed, RECORDING_BYTES, Refused, prepare_agreed};
+use xr_run::{Ready, Refusal};
+use xr_set::{Form, Inputs, Run};
 use xr_shelf::{Shelf, Sink};
-use xr_words::RepairWords;
+use xr_words::{
+    CONFLICTS, Form as CertForm, JobWords, conflicts_of, form_of, job_of, job_options, needs, takes,
+};
 
-/// `repair` with its words.
-#[derive(Clone, Copy, Debug)]
+static OPTIONS: &[Opt<'static>] = job_options![
+    needs!("vcd", Kind::Writes),
+    needs!("code", Kind::Writes),
+    needs!("cert", Kind::Writes),
+    takes!("form", Kind::Number(1, 2)),
+    CONFLICTS
+];
+
+/// The words of `repair`.
+#[derive(Clone, Copy, Debug, Drop)]
 pub struct Repair<'a> {
-    pub words: RepairWords<'a>,
+    pub job: JobWords<'a>,
+    /// The file of the repaired recording.
+    pub vcd: &'a str,
+    /// The file of the force code.
+    pub code: &'a str,
+    /// The file of the certificate.
+    pub cert: &'a str,
+    /// The form of the certificate.
+    pub form: CertForm,
+    /// The clauses of a search, 1 to 100,000.
+    pub conflicts: u32,
+    ghost few_places: { job.places ≤ 134217728 },
+    ghost some_clauses: { 1 ≤ conflicts },
+    ghost few_clauses: { conflicts ≤ 100000 },
+    ghost code_apart: { code.now ≢ vcd.now },
+    ghost cert_apart: { cert.now ≢ vcd.now },
+    ghost cert_too: { cert.now ≢ code.now },
 }
 
-impl<'a> Prepare for Repair<'a> {
+impl<'a> AfterAgreed for Repair<'a> {
+    ghost use Rattle.xr_words.specs.Words.{job_values};
+    ghost use Rattle.xr_cli.specs.Repair.{repair_values, walk_phases};
+
+    ghost job = { λ command. job_values command.job };
+
+    ghost after = { λ command. walk_phases (repair_values command) };
+
+    fn words(&self) -> &JobWords<'_> {
+        &self.job
+    }
+
+    fn go_on<S: Shelf, O: Sink>(
+        &self,
+        alloc: Global,
+        _shelf: &mut S,
+        agreed: &Agreed,
+        out: &mut O,
+    ) -> Result<Ready<'_>, Refusal<Refused>> {
+        repaired(alloc, self, &agreed.job, &agreed.history, out)
+    }
+}
+
+impl<'a> Run<'a> for Repair<'a> {
+    ghost use Rattle.xr_cli.specs.Headline.{repair};
+    ghost use Rattle.xr_cli.specs.Repair.{repair_values};
+
     type Cause = Refused;
 
-    ghost phases = { λ command. repair_phases (repair_values command.words) };
+    ghost command = { repair };
+
+    ghost values = { repair_values };
+
+    fn form() -> Form<'a> {
+        Form {
+            word: "repair",
+            options: OPTIONS,
+            files: true,
+        }
+    }
+
+    fn of_line(line: &Line<'a>, files: &'a [String]) -> Option<Self> {
+        let job = job_of(line, files)?;
+        let vcd = line.get("vcd")?;
+        let code = line.get("code")?;
+        let cert = line.get("cert")?;
+        let form = form_of(line.get("form"))?;
+        let conflicts = conflicts_of(line)?;
+        if !is_apart(&job, vcd, code, cert) {
+            return None;
+        }
+        Some(Repair {
+            job,
+            vcd,
+            code,
+            cert,
+            form,
+            conflicts,
+        })
+    }
+
+    fn inputs(&self) -> Inputs<'a> {
+        Inputs {
+            first: Some(self.job.recording),
+            second: None,
+            rest: self.job.netlists,
+            most: RECORDING_BYTES,
+        }
+    }
 
     fn prepare<S: Shelf, O: Sink>(
         &self,
@@ -28,7 +121,13 @@ impl<'a> Prepare for Repair<'a> {
         shelf: &mut S,
         out: &mut O,
     ) -> Result<Ready<'_>, Refusal<Refused>> {
-        let agreed = agreed_of(alloc, shelf, &self.words.job)?;
-        repaired(alloc, &self.words, &agreed.job, &agreed.history, out)
+        prepare_agreed(self, alloc, shelf, out)
     }
+}
+
+fn is_apart(job: &JobWords<'_>, vcd: &str, code: &str, cert: &str) -> bool
+    ensures { IsTrue result ↔ AreApart (vcd.now ∷ code.now ∷ cert.now ∷ [])
+        (job.now.recording.now ∷ map string_bytes job.now.netlists.now) }
+{
+    are_apart(&[vcd, code, cert], &[job.recording], job.netlists)
 }

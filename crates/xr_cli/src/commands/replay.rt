@@ -1,28 +1,68 @@
-//! `replay`: reads a netlist, a recording of it and code that forces its nets, and writes what the replay under the
-//! code shows.
+//! `replay`: reads a netlist, a recording of it and code that forces its nets, and writes what the replay then shows.
 
-ghost use Rattle.xr_words.specs.Words.{replay_values};
-ghost use Rattle.xr_run.specs.Prepared.{Prepared, answer_of};
-ghost use Rattle.xr_cli.specs.Phases.{coded_phases, replay_phases};
-ghost use Rattle.xr_phases.specs.Repair.{FitsPartsWithin};
+ghost use Rattle.std.specs.Prelude.{◌↔◌, [], ◌∷◌, IsTrue, map, string_bytes};
+ghost use Rattle.xr_line.specs.Apart.{AreApart};
 
-use crate::replayed::replayed;
+use crate::replayed::replay_job;
 use std::alloc::Global;
-use xr_phases::{Parts, Refused, forces_of, job_of};
-use xr_run::{Prepare, Ready, Refusal};
+use xr_line::{Kind, Line, Opt, are_apart};
+use xr_phases::{Refused, TEXT_BYTES, job_of};
+use xr_run::{Ready, Refusal};
+use xr_set::{Form, Inputs, Run};
 use xr_shelf::{Shelf, Sink};
-use xr_words::ReplayWords;
+use xr_words::{JobWords, PLACES, job_options, job_within, needs, places_of};
 
-/// `replay` with its words.
-#[derive(Clone, Copy, Debug)]
+static OPTIONS: &[Opt<'static>] = job_options![
+    needs!("code", Kind::Reads),
+    needs!("vcd", Kind::Writes),
+    PLACES
+];
+
+/// The words of `replay`.
+#[derive(Clone, Copy, Debug, Drop)]
 pub struct Replay<'a> {
-    pub words: ReplayWords<'a>,
+    pub job: JobWords<'a>,
+    /// The file of the force code.
+    pub code: &'a str,
+    /// The file of the recording that is made.
+    pub vcd: &'a str,
 }
 
-impl<'a> Prepare for Replay<'a> {
+impl<'a> Run<'a> for Replay<'a> {
+    ghost use Rattle.xr_cli.specs.Replay.{replay, replay_values};
+
     type Cause = Refused;
 
-    ghost phases = { λ command. replay_phases (replay_values command.words) };
+    ghost command = { replay };
+
+    ghost values = { replay_values };
+
+    fn form() -> Form<'a> {
+        Form {
+            word: "replay",
+            options: OPTIONS,
+            files: true,
+        }
+    }
+
+    fn of_line(line: &Line<'a>, files: &'a [String]) -> Option<Self> {
+        let places = places_of(line)?;
+        let words = Replay {
+            job: job_within(line, files, places)?,
+            code: line.get("code")?,
+            vcd: line.get("vcd")?,
+        };
+        if is_apart(words) { Some(words) } else { None }
+    }
+
+    fn inputs(&self) -> Inputs<'a> {
+        Inputs {
+            first: Some(self.code),
+            second: Some(self.job.recording),
+            rest: self.job.netlists,
+            most: TEXT_BYTES,
+        }
+    }
 
     fn prepare<S: Shelf, O: Sink>(
         &self,
@@ -30,22 +70,15 @@ impl<'a> Prepare for Replay<'a> {
         shelf: &mut S,
         _out: &mut O,
     ) -> Result<Ready<'_>, Refusal<Refused>> {
-        let job = job_of(alloc, shelf, &self.words.job)?;
-        replay_job(alloc, shelf, &self.words, &job)
+        let job = job_of(alloc, shelf, &self.job)?;
+        replay_job(alloc, shelf, self, &job)
     }
 }
 
-/// The replay of a job under the code that the words name.
-fn replay_job<'a, S: Shelf>(
-    alloc: Global,
-    shelf: &mut S,
-    words: &ReplayWords<'a>,
-    job: &Parts,
-) -> Result<Ready<'a>, Refusal<Refused>>
-    requires { FitsPartsWithin words.now.job.places job.now }
-    ensures { Prepared S.told (coded_phases (replay_values words.now) job.now) answer_of
-        (S.view shelf.old) (S.view shelf.new) result }
+fn is_apart(words: Replay<'_>) -> bool
+    ensures { IsTrue result ↔ AreApart (words.entry.vcd.now ∷ [])
+        (words.entry.job.recording.now ∷ words.entry.code.now ∷ map string_bytes words.entry.job.netlists.now) }
 {
-    let forces = forces_of(alloc, shelf, words, job)?;
-    replayed(alloc, words, job, &forces)
+    let inputs = [words.job.recording, words.code];
+    are_apart(&[words.vcd], &inputs, words.job.netlists)
 }

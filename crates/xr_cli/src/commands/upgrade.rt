@@ -1,56 +1,112 @@
 //! `upgrade`: reads a netlist, a recording of it and a certificate of form 1, and writes the certificate of form 2 with
 //! the same lines.
 
-ghost use Rattle.xr_words.specs.Words.{upgrade_values};
-ghost use Rattle.xr_design.specs.Handed.{IsReplay};
-ghost use Rattle.xr_job.specs.Compared.{job_for};
-ghost use Rattle.xr_run.specs.Prepared.{Prepared, answer_of};
-ghost use Rattle.xr_cli.specs.Phases.{certified_upgrade, upgrade_phases};
-ghost use Rattle.xr_phases.specs.Repair.{FitsParts};
+ghost use Rattle.std.specs.Prelude.{◌↔◌, ◌≤◌, [], ◌∷◌, IsTrue, map, string_bytes};
+ghost use Rattle.xr_line.specs.Apart.{AreApart};
 
-use crate::upgraded::upgraded;
+use crate::upgraded::upgrade_agreed;
 use std::alloc::Global;
-use xr_design::History;
-use xr_phases::{Parts, Refused, agreed_of, certificate_of};
-use xr_run::{Prepare, Ready, Refusal};
+use xr_line::{Kind, Line, Opt, are_apart};
+use xr_phases::{AfterAgreed, Agreed, Refused, TEXT_BYTES, prepare_agreed};
+use xr_run::{Ready, Refusal};
+use xr_set::{Form, Inputs, Run};
 use xr_shelf::{Shelf, Sink};
-use xr_words::UpgradeWords;
+use xr_words::{CONFLICTS, JobWords, conflicts_of, job_of, job_options, needs};
 
-/// `upgrade` with its words.
-#[derive(Clone, Copy, Debug)]
+static OPTIONS: &[Opt<'static>] = job_options![
+    needs!("cert", Kind::Reads),
+    needs!("to", Kind::Writes),
+    CONFLICTS
+];
+
+/// The words of `upgrade`.
+#[derive(Clone, Copy, Debug, Drop)]
 pub struct Upgrade<'a> {
-    pub words: UpgradeWords<'a>,
+    pub job: JobWords<'a>,
+    /// The file of the certificate that is read.
+    pub cert: &'a str,
+    /// The file of the certificate that is written.
+    pub to: &'a str,
+    /// The clauses of a search, and of a log that leaves a place undecided, 1 to 100,000.
+    pub conflicts: u32,
+    ghost few_places: { job.places ≤ 134217728 },
+    ghost some_clauses: { 1 ≤ conflicts },
+    ghost few_clauses: { conflicts ≤ 100000 },
 }
 
-impl<'a> Prepare for Upgrade<'a> {
+impl<'a> AfterAgreed for Upgrade<'a> {
+    ghost use Rattle.xr_words.specs.Words.{job_values};
+    ghost use Rattle.xr_cli.specs.Upgrade.{certified_upgrade, upgrade_values};
+
+    ghost job = { λ command. job_values command.job };
+
+    ghost after = { λ command. certified_upgrade (upgrade_values command) };
+
+    fn words(&self) -> &JobWords<'_> {
+        &self.job
+    }
+
+    fn go_on<S: Shelf, O: Sink>(
+        &self,
+        alloc: Global,
+        shelf: &mut S,
+        agreed: &Agreed,
+        _out: &mut O,
+    ) -> Result<Ready<'_>, Refusal<Refused>> {
+        upgrade_agreed(alloc, shelf, self, &agreed.job, &agreed.history)
+    }
+}
+
+impl<'a> Run<'a> for Upgrade<'a> {
+    ghost use Rattle.xr_cli.specs.Upgrade.{upgrade, upgrade_values};
+
     type Cause = Refused;
 
-    ghost phases = { λ command. upgrade_phases (upgrade_values command.words) };
+    ghost command = { upgrade };
+
+    ghost values = { upgrade_values };
+
+    fn form() -> Form<'a> {
+        Form {
+            word: "upgrade",
+            options: OPTIONS,
+            files: true,
+        }
+    }
+
+    fn of_line(line: &Line<'a>, files: &'a [String]) -> Option<Self> {
+        let words = Upgrade {
+            job: job_of(line, files)?,
+            cert: line.get("cert")?,
+            to: line.get("to")?,
+            conflicts: conflicts_of(line)?,
+        };
+        if is_apart(words) { Some(words) } else { None }
+    }
+
+    fn inputs(&self) -> Inputs<'a> {
+        Inputs {
+            first: Some(self.cert),
+            second: Some(self.job.recording),
+            rest: self.job.netlists,
+            most: TEXT_BYTES,
+        }
+    }
 
     fn prepare<S: Shelf, O: Sink>(
         &self,
         alloc: Global,
         shelf: &mut S,
-        _out: &mut O,
+        out: &mut O,
     ) -> Result<Ready<'_>, Refusal<Refused>> {
-        let agreed = agreed_of(alloc, shelf, &self.words.job)?;
-        upgrade_agreed(alloc, shelf, &self.words, &agreed.job, &agreed.history)
+        prepare_agreed(self, alloc, shelf, out)
     }
 }
 
-/// The upgrade of a certificate of a job whose recording agrees.
-fn upgrade_agreed<'a, S: Shelf>(
-    alloc: Global,
-    shelf: &mut S,
-    words: &UpgradeWords<'a>,
-    job: &Parts,
-    history: &History,
-) -> Result<Ready<'a>, Refusal<Refused>>
-    requires fits { FitsParts job.now }
-    requires replay { IsReplay (job_for job.now.netlist job.now.recorded) history.now }
-    ensures { Prepared S.told (certified_upgrade (upgrade_values words.now) job.now) answer_of
-        (S.view shelf.old) (S.view shelf.new) result }
+fn is_apart(words: Upgrade<'_>) -> bool
+    ensures { IsTrue result ↔ AreApart (words.entry.to.now ∷ [])
+        (words.entry.job.recording.now ∷ words.entry.cert.now ∷ map string_bytes words.entry.job.netlists.now) }
 {
-    let cert = certificate_of(alloc, shelf, words.cert)?;
-    upgraded(alloc, words, job, history, cert)
+    let inputs = [words.job.recording, words.cert];
+    are_apart(&[words.to], &inputs, words.job.netlists)
 }

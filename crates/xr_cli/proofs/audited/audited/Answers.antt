@@ -1,5 +1,5 @@
 -- The wave over the blank history is found, and its audit beside the replay.
-use Rattle.xr_words.specs.Words.{audit_values}
+use Rattle.xr_cli.specs.Audit.{audit_values}
 use Rattle.xr_phases.proofs.Jobs.{fits_job}
 use Rattle.xr_cli.proofs.Auditing.{audit_found, is_audit}
 use Rattle.xr_cli.proofs.audited.audited.Goals as goal

@@ -1,11 +1,11 @@
 -- The wave is found, and what is listed of it.
-use Rattle.xr_words.specs.Words.{blame_values}
-use Rattle.xr_cli.proofs.Walk.{blame_found}
+use Rattle.xr_cli.specs.Blame.{BlameComes}
+use Rattle.xr_cli.proofs.Walk.{listed_found}
 use Rattle.xr_cli.proofs.blamed.blamed.Goals as goal
 
 pub returns-clause-prepared : goal.returns-clause-prepared
 returns-clause-prepared g c =
-    blame_found (blame_values c.args.words.now) c.args.job.now.netlist c.args.job.now.recorded
+    listed_found c.args.words.now.conflicts c.args.job.now.netlist c.args.job.now.recorded (BlameComes c.args.job.now.recorded.binding.bound)
     record { history = c.args.history.now; wave = c.in_ok-wave.wave; shown = c.in_ok-_shown._shown }
     c.in_ok-listed.field-0
     record {

@@ -3,10 +3,9 @@ use Rattle.std.proofs.Common.{◌∙◌, List, ap, subst, sym}
 use Rattle.std.specs.List.{AllByRecursion}
 use Rattle.xr_cond.specs.View.{ConditionView}
 use Rattle.xr_listing.specs.Conditions.{IsSomeCondition}
-use Rattle.xr_words.specs.Words.{check_values}
+use Rattle.xr_cli.specs.Check.{check_values, check_answer}
 use Rattle.xr_phases.specs.Certificate.{check_shows}
 use Rattle.xr_phases.proofs.CheckedPlaces.{certified_of_job}
-use Rattle.xr_cli.specs.Phases.{check_answer}
 use Rattle.xr_cli.proofs.Needing.{are_some}
 use Rattle.xr_cli.proofs.Walk.{check_found}
 use Rattle.xr_cli.proofs.checked.checked.Goals as goal

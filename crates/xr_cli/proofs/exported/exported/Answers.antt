@@ -1,11 +1,11 @@
 -- The wave is found, and its texts.
-use Rattle.xr_words.specs.Words.{export_values}
-use Rattle.xr_cli.proofs.Walk.{export_found}
+use Rattle.xr_cli.specs.Export.{ExportComes}
+use Rattle.xr_cli.proofs.Walk.{listed_found}
 use Rattle.xr_cli.proofs.exported.exported.Goals as goal
 
 pub returns-clause-prepared : goal.returns-clause-prepared
 returns-clause-prepared g c =
-    export_found (export_values c.args.words.now) c.args.job.now.netlist c.args.job.now.recorded
+    listed_found c.args.words.now.conflicts c.args.job.now.netlist c.args.job.now.recorded (ExportComes c.args.words.now.prefix.now)
     record { history = c.args.history.now; wave = c.in_ok-wave.wave; shown = c.in_ok-_shown._shown }
     c.in_ok-export_texts.field-0
     record {

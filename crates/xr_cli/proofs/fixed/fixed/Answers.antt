@@ -4,10 +4,9 @@ use Rattle.xr_design.specs.declared.stim.Stim.{Stim}
 use Rattle.xr_fix.specs.Started.{Piece}
 use Rattle.xr_run.specs.Prepared.{Judged, answer_of}
 use Rattle.xr_run.proofs.Then.{judged_then}
-use Rattle.xr_words.specs.Words.{fix_values}
+use Rattle.xr_cli.specs.Fix.{fix_values, walk_fixed}
 use Rattle.xr_phases.specs.Phases.{itself, start_cause}
 use Rattle.xr_phases.specs.Sets.{StartsCome, sets_of}
-use Rattle.xr_cli.specs.Phases.{walk_fixed}
 use Rattle.xr_cli.proofs.fixed.fixed.Goals as goal
 
 pub returns-clause-prepared : goal.returns-clause-prepared

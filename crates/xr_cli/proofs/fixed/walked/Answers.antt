@@ -1,11 +1,10 @@
 -- The first wave is found, and then the second walk.
 use Rattle.xr_run.specs.Prepared.{answer_of}
 use Rattle.xr_run.proofs.Then.{searched_then}
-use Rattle.xr_words.specs.Words.{fix_values}
+use Rattle.xr_cli.specs.Fix.{fix_values, walk_set}
 use Rattle.xr_phases.specs.Phases.{itself, walk_cause}
 use Rattle.xr_phases.specs.Repair.{ReplayWalkComes, Walked}
 use Rattle.xr_phases.proofs.Jobs.{circuit_fits, few_places}
-use Rattle.xr_cli.specs.Phases.{walk_set}
 use Rattle.xr_cli.proofs.fixed.walked.Goals as goal
 
 pub replay_wave-requires-clause-fits : goal.replay_wave-requires-clause-fits

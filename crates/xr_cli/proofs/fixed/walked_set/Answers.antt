@@ -3,10 +3,9 @@ use Rattle.std.proofs.Common.{Ok}
 use Rattle.xr_run.specs.Prepared.{answer_of}
 use Rattle.xr_run.specs.Phases.{Phases}
 use Rattle.xr_run.proofs.Then.{found_prepared, searched_then}
-use Rattle.xr_words.specs.Words.{fix_values}
+use Rattle.xr_cli.specs.Fix.{fix_values, fix_answer}
 use Rattle.xr_phases.specs.Phases.{itself, walk_cause}
 use Rattle.xr_phases.specs.Repair.{ReplayWalkComes, Walked}
-use Rattle.xr_cli.specs.Phases.{fix_answer}
 use Rattle.xr_cli.proofs.Restarts.{are_beside, bound_there, set_few, set_fits}
 use Rattle.xr_cli.proofs.fixed.walked_set.Goals as goal
 

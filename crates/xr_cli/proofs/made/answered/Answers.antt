@@ -1,5 +1,5 @@
 -- The forces are those of what the wave shows.
-use Rattle.xr_words.specs.Words.{make_values}
+use Rattle.xr_cli.specs.Make.{make_values}
 use Rattle.xr_cli.proofs.TextsOf.{made_texts}
 use Rattle.xr_cli.proofs.Walk.{forces_are}
 use Rattle.xr_cli.proofs.made.answered.Goals as goal

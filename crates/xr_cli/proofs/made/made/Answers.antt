@@ -2,10 +2,8 @@
 use Rattle.std.proofs.Common.{rules, ◌≡◌, ◌∙◌, ℕ, List, Ok, Err, subst}
 use Rattle.xr_job.specs.declared.netlist.Netlist.{Netlist as ANetlist}
 use Rattle.xr_run.specs.Prepared.{PreparedAlone, answer_of}
-use Rattle.xr_words.specs.Words.{make_values}
-use Rattle.xr_cli.specs.Made.{made_netlist}
+use Rattle.xr_cli.specs.Make.{make_values, made_netlist, netlist_made, with_recording}
 use Rattle.xr_phases.specs.Phases.{itself}
-use Rattle.xr_cli.specs.Phases.{netlist_made, with_recording}
 use Rattle.xr_cli.proofs.Making.{alone_out, alone_then}
 use Rattle.xr_cli.proofs.made.made.Goals as goal
 

@@ -1,9 +1,8 @@
 -- The recording agrees, and then the walk.
 use Rattle.xr_run.specs.Prepared.{answer_of}
 use Rattle.xr_run.proofs.Then.{judged_then}
-use Rattle.xr_words.specs.Words.{make_values}
+use Rattle.xr_cli.specs.Make.{make_values, walk_made}
 use Rattle.xr_phases.specs.Phases.{compare_cause, nothing_in}
-use Rattle.xr_cli.specs.Phases.{walk_made}
 use Rattle.xr_phases.specs.Repair.{CompareComes}
 use Rattle.xr_cli.proofs.made.repaired.Goals as goal
 

@@ -1,5 +1,5 @@
 -- The wave is found, and what is printed of it.
-use Rattle.xr_words.specs.Words.{make_values}
+use Rattle.xr_cli.specs.Make.{make_values}
 use Rattle.xr_cli.proofs.Walk.{made_found}
 use Rattle.xr_cli.proofs.made.walked.Goals as goal
 

@@ -1,8 +1,7 @@
 -- The recording is made, and then repaired.
 use Rattle.std.proofs.Common.{rules, ◌≡◌, Err}
 use Rattle.xr_run.specs.Prepared.{answer_of}
-use Rattle.xr_words.specs.Words.{make_values}
-use Rattle.xr_cli.specs.Phases.{bytes_in, recorded_made, recording_made}
+use Rattle.xr_cli.specs.Make.{make_values, bytes_in, recorded_made, recording_made}
 use Rattle.xr_cli.proofs.Making.{alone_out, alone_then}
 use Rattle.xr_cli.proofs.made.with_netlist.Goals as goal
 

@@ -1,16 +1,17 @@
--- A line of the set was run; or the words are none, or memory ran out before they were known.
-use Rattle.std.proofs.Common.{map, refl}
+-- A command of the set ran, or the words are outside of it.
+use Rattle.std.proofs.Common.{rules, map, ◌≡◌, ◌∷◌}
 use Rattle.std.specs.Prelude.{string_bytes}
-use Rattle.xr_run.specs.Ends.{RanWords}
+use Rattle.xr_run.specs.Rows.{start_of}
+use Rattle.xr_set.proofs.Runs.{of_set}
+use Rattle.xr_cli.specs.Commands.{command_of, reporting, word_of}
+use Rattle.xr_cli.proofs.Lawful.{apart}
 use Rattle.xr_cli.proofs.program.ended.Goals as goal
 
-pub returns-in-Ok-Some : goal.returns-in-Ok-Some
-returns-in-Ok-Some g c =
-    let means = rw c.in-Ok-Some.field-0-is at c.in-Ok-Some.ensures.set in c.run_words.ensures (map string_bytes c.args.words.now) means
-
-pub returns-in-Ok-None : goal.returns-in-Ok-None
-returns-in-Ok-None g c =
-    let outside = rw c.in-Ok-None.field-0-is at c.in-Ok-None.ensures.none in RanWords.ends_outside outside refl c.refuse_words.ensures
-
-pub returns-in-Err : goal.returns-in-Err
-returns-in-Err g c = RanWords.ends_without_words refl c.refuse_memory.ensures
+pub returns-in-Some : goal.returns-in-Some
+returns-in-Some g c =
+    let words = map string_bytes c.args.words.now in
+    let s = start_of c.args.words.now g.S.Shelf.told g.O.Sink.told (g.S.Shelf.view c.args.shelf.now) (g.O.Sink.view c.args.out.now) in
+    let name = c.in-Some.name in
+    let rest = map string_bytes c.in-Some.rest.now in
+    let is : words ≡ word_of name ∷ rest = search rules in
+    of_set command_of reporting apart s (g.S.Shelf.view c.run_named.new.shelf) (g.O.Sink.view c.run_named.new.out) c.run_named.result name rest is (c.run_named.ensures words)

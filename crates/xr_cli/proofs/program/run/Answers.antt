@@ -1,6 +1,9 @@
 -- What a run comes to, from its row.
 use Rattle.xr_run.specs.Rows.{start_of}
-use Rattle.xr_cli.proofs.Runs.{all_comes, done_says, refuses_texts, is_complete}
+use Rattle.xr_set.proofs.Runs.{all_comes, done_says, in_order_ends, refuses_texts}
+use Rattle.xr_phases.proofs.Statuses.{IsOfTexts, statuses}
+use Rattle.xr_cli.specs.Commands.{command_of, reporting}
+use Rattle.xr_cli.proofs.Lawful.{apart, lawful_of}
 use Rattle.xr_cli.proofs.program.run.Goals as goal
 
 pub returns : goal.returns
@@ -8,10 +11,10 @@ returns g c =
     let s = start_of c.args.words.now g.S.Shelf.told g.O.Sink.told (g.S.Shelf.view c.args.shelf.now) (g.O.Sink.view c.args.out.now) in
     let shelf = g.S.Shelf.view c.ended.new.shelf in
     let sink = g.O.Sink.view c.ended.new.out in
-    let all = all_comes s shelf sink c.ended.result c.ended.ensures in
+    let all = all_comes command_of reporting apart IsOfTexts statuses lawful_of s shelf sink c.ended.result c.ended.ensures in
     record {
       comes = all;
-      done = done_says s shelf sink c.ended.result all;
-      refused = refuses_texts s shelf sink c.ended.result all;
-      complete = is_complete s shelf sink c.ended.result all;
+      done = done_says command_of reporting apart IsOfTexts statuses lawful_of s shelf sink c.ended.result all;
+      refused = refuses_texts command_of reporting apart IsOfTexts statuses lawful_of s shelf sink c.ended.result all;
+      complete = in_order_ends command_of reporting apart IsOfTexts statuses lawful_of s shelf sink c.ended.result all;
     }

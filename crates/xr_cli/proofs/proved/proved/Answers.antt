@@ -5,7 +5,7 @@ use Rattle.xr_run.specs.Phases.{Phases}
 use Rattle.xr_run.specs.Prepared.{answer_of}
 use Rattle.xr_run.proofs.Then.{judged_out}
 use Rattle.xr_phases.specs.Phases.{itself, proof_cause}
-use Rattle.xr_cli.specs.Phases.{prove_answer}
+use Rattle.xr_cli.specs.Prove.{prove_answer}
 use Rattle.xr_cli.proofs.Walk.{proof_found}
 use Rattle.xr_cli.proofs.proved.proved.Goals as goal
 

@@ -1,5 +1,5 @@
 -- The wave is found, and its texts.
-use Rattle.xr_words.specs.Words.{repair_values}
+use Rattle.xr_cli.specs.Repair.{repair_values}
 use Rattle.xr_cli.proofs.Walk.{walk_found}
 use Rattle.xr_cli.proofs.repaired.repaired.Goals as goal
 

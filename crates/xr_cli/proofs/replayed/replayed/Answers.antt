@@ -1,5 +1,5 @@
 -- The replay is found, and its texts.
-use Rattle.xr_words.specs.Words.{replay_values}
+use Rattle.xr_cli.specs.Replay.{replay_values}
 use Rattle.xr_phases.proofs.Jobs.{circuit_fits}
 use Rattle.xr_cli.proofs.Walk.{replay_found}
 use Rattle.xr_cli.proofs.replayed.replayed.Goals as goal

@@ -2,7 +2,7 @@
 use Rattle.std.proofs.Common.{◌∙◌, subst, sym}
 use Rattle.std.specs.List.{AllByRecursion}
 use Rattle.xr_listing.specs.Conditions.{IsSomeCondition}
-use Rattle.xr_words.specs.Words.{repair_values}
+use Rattle.xr_cli.specs.Repair.{repair_values}
 use Rattle.xr_cli.proofs.Needing.{are_some}
 use Rattle.xr_cli.proofs.TextsOf.{wave_forces_written, wave_texts}
 use Rattle.xr_cli.proofs.Walk.{forces_are}

@@ -1,6 +1,6 @@
 -- The forces are those of what the wave shows.
 use Rattle.std.proofs.Common.{rules}
-use Rattle.xr_words.specs.Words.{upgrade_values}
+use Rattle.xr_cli.specs.Upgrade.{upgrade_values}
 use Rattle.xr_cli.proofs.TextsOf.{upgrade_texts}
 use Rattle.xr_cli.proofs.Walk.{forces_are}
 use Rattle.xr_cli.proofs.upgraded.texts_of.Goals as goal

@@ -1,10 +1,9 @@
 -- The certificate has no turns, and then it is upgraded.
 use Rattle.xr_run.specs.Prepared.{answer_of}
 use Rattle.xr_run.proofs.Then.{judged_then}
-use Rattle.xr_words.specs.Words.{upgrade_values}
+use Rattle.xr_cli.specs.Upgrade.{upgrade_values, checked_upgrade}
 use Rattle.xr_phases.specs.Certificate.{FormComes}
 use Rattle.xr_phases.specs.Phases.{nothing_in, uncertified_cause}
-use Rattle.xr_cli.specs.Phases.{checked_upgrade}
 use Rattle.xr_cli.proofs.upgraded.upgraded.Goals as goal
 
 pub returns : goal.returns

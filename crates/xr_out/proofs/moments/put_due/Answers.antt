@@ -2,6 +2,7 @@
 use Rattle.std.proofs.Common.{◌∙◌, ◌+◌, ◌++◌, ◌<◌, ◌≤◌, ℕ, List, rules, length, ap, arith, refl, sym}
 use Rattle.std.proofs.lemmas.List.{append-nil}
 use Rattle.xr_out.specs.Moments.{change_line, changed_lines}
+use Rattle.xr_out.specs.Rows.{end_before, moment_end}
 use Rattle.xr_out.proofs.Grown.{numbered_moved}
 use Rattle.xr_out.proofs.Marks.{lines_past, to_next}
 use Rattle.xr_out.proofs.moments.put_due.Goals as goal
@@ -9,18 +10,18 @@ use Rattle.xr_out.proofs.moments.put_due.Goals as goal
 pub variables-init : goal.variables-init
 variables-init c =
     let first = c.first_from-number in
-    ap (λ (l : List ℕ). c.args.text.now.items ++ l) (sym (to_next c.args.history.now c.args.step c.args.before c.args.bound.now c.args.due.now 0 first.result c.requires.same first.ensures.forward first.ensures.none))
+    ap (λ (l : List ℕ). c.args.text.now.items ++ l) (sym (to_next c.args.rows.now.history (moment_end c.args.rows.now) (end_before c.args.rows.now) c.args.bound.now c.args.due.now 0 first.result c.requires.same first.ensures.forward first.ensures.none))
 
 pub variables-preserved : goal.variables-preserved
 variables-preserved c =
-    let history = c.args.history.now in
+    let rows = c.args.rows.now in
     let bound = c.args.bound.now in
     let number = c.variables.number in
     let within : number < length bound = search rules in
     let next = c.first_from-number-in-variables in
     let text = c.put_change.new.text.items in
-    ap (λ (l : List ℕ). text ++ l) (sym (to_next history c.args.step c.args.before bound c.args.due.now (number + 1) next.result c.requires.same next.ensures.forward next.ensures.none))
-    ∙ numbered_moved bound number c.index-bound-number.result within c.index-bound-number.is (changed_lines history c.args.step c.args.before) (change_line history c.args.step c.args.before number c.index-bound-number.result.bits) _ _ _ refl c.variables.invariant
+    ap (λ (l : List ℕ). text ++ l) (sym (to_next rows.history (moment_end rows) (end_before rows) bound c.args.due.now (number + 1) next.result c.requires.same next.ensures.forward next.ensures.none))
+    ∙ numbered_moved bound number c.index-bound-number.result within c.index-bound-number.is (changed_lines rows.history (moment_end rows) (end_before rows)) (change_line rows.history (moment_end rows) (end_before rows) number c.index-bound-number.result.bits) _ _ _ refl c.variables.invariant
     (rw (c.as_slice.ensures, ← c.index-bound-number.is) at c.in_ok-put_change.ensures)
 
 pub returns : goal.returns
@@ -30,5 +31,5 @@ returns c =
     let end = c.variables-test.false in
     let past : length bound ≤ number = omega (arith, end) in
     let text = c.variables.text.items in
-    sym (ap (λ (l : List ℕ). text ++ l) (lines_past c.args.history.now c.args.step c.args.before bound number past) ∙ append-nil text)
+    sym (ap (λ (l : List ℕ). text ++ l) (lines_past c.args.rows.now.history (moment_end c.args.rows.now) (end_before c.args.rows.now) bound number past) ∙ append-nil text)
     ∙ c.variables.invariant

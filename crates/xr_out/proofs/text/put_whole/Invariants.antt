@@ -1,7 +1,11 @@
--- The lines so far and those of the moments that are left are all.
+-- The lines so far and those of the moments that are left are all, and the rows stand at the next one.
 use Rattle.std.proofs.Common.{◌≡◌, ◌++◌, drop}
 use Rattle.xr_out.specs.Moments.{lines_from}
+use Rattle.xr_out.specs.Rows.{moment_view}
 use Rattle.xr_out.proofs.text.put_whole.Given as goal
 
 abbrev pub invariant-moments : goal.invariant-moments
-invariant-moments l = l.text.items ++ lines_from l.history l.stim.rounds l.bound l.moment (drop l.moment l.stim.times) ≡ l.fn.text.items ++ lines_from l.history l.stim.rounds l.bound 0 l.stim.times
+invariant-moments l = record {
+  rows : l.rows ≡ moment_view l.history l.stim.rounds l.time-index;
+  lines : l.text.items ++ lines_from l.history l.stim.rounds l.bound l.time-index (drop l.time-index l.stim.times) ≡ l.fn.text.items ++ lines_from l.history l.stim.rounds l.bound 0 l.stim.times;
+}

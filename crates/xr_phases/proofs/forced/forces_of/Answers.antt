@@ -3,7 +3,7 @@ use Rattle.std.proofs.Common.{◌∙◌, ℕ, List, [], ◌∷◌, subst}
 use Rattle.xr_run.specs.Phases.{judges}
 use Rattle.xr_run.specs.Prepared.{Judged}
 use Rattle.xr_run.proofs.Then.{judged_prepared, read_then}
-use Rattle.xr_words.specs.Words.{replay_values}
+use Rattle.xr_words.specs.Words.{job_values}
 use Rattle.xr_phases.specs.Code.{CodeComes, code_in, text_limit}
 use Rattle.xr_phases.specs.Phases.{code_cause, itself, scope_of}
 use Rattle.xr_phases.specs.declared.cause.Refused.TheVariants.{LongCode}
@@ -19,7 +19,7 @@ forces_in-requires-clause-names g c = design_fits c.args.job.now.netlist c.args.
 pub returns-clause-prepared : goal.returns-clause-prepared
 returns-clause-prepared g c =
     let told = g.S.Shelf.told in
-    let w = replay_values c.args.words.now in
+    let w = job_values c.args.words.now in
     let job = c.args.job.now in
     let old = g.S.Shelf.view c.args.shelf.now in
     let new = g.S.Shelf.view c.read_input.new.shelf in
@@ -28,6 +28,6 @@ returns-clause-prepared g c =
     c.as_slice.ensures.value c.forces_in.ensures.judged in
     let b = subst (λ (s : List (List ℕ)). Judged (CodeComes (code_in job text.items s)) code_cause itself c.forces_in.result)
     (c.as_slice-2.ensures.value ∙ c.in_ok-scope.ensures.pieces) a in
-    read_then told (w.code ∷ []) text_limit LongCode (λ (l : List ℕ). judges (CodeComes (code_in job l (scope_of w.job))) code_cause) itself old new new
+    read_then told (c.args.name.now ∷ []) text_limit LongCode (λ (l : List ℕ). judges (CodeComes (code_in job l (scope_of w))) code_cause) itself old new new
     text c.forces_in.result c.in_ok-text.ensures
-    (judged_prepared told (CodeComes (code_in job text.items (scope_of w.job))) code_cause itself new c.forces_in.result b)
+    (judged_prepared told (CodeComes (code_in job text.items (scope_of w))) code_cause itself new c.forces_in.result b)

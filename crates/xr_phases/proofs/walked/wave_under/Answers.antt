@@ -1,7 +1,19 @@
--- What is found otherwise is a place of the job.
-use Rattle.std.proofs.Common.{refl}
+-- The walk began with nothing written, and what is found otherwise is a place of the job.
+use Rattle.std.proofs.Common.{◌∙◌, refl, subst}
+use Rattle.xr_along.specs.Along.{GoesAlong}
+use Rattle.xr_repair.specs.Repaired.{IsOfJob}
+use Rattle.xr_wave.specs.Contents.{Contents}
 use Rattle.xr_phases.proofs.FoundPlaces.{found_there}
 use Rattle.xr_phases.proofs.walked.wave_under.Goals as goal
+
+pub returns-in-Ok-clause-repaired : goal.returns-in-Ok-clause-repaired
+returns-in-Ok-clause-repaired g c =
+    let is = c.in-Ok.ensures.start ∙ c.in_ok-walk.ensures in record {
+      of_job = subst (λ (start : Contents). IsOfJob start c.into_wave.result) is c.into_wave.ensures.job;
+      along = subst (λ (start : Contents). GoesAlong start c.into_wave.result) is c.into_wave.ensures.along;
+      sound = c.into_wave.ensures.sound;
+      finished = c.into_wave.ensures.finished;
+    }
 
 pub objection_of-requires-clause-place : goal.objection_of-requires-clause-place
 objection_of-requires-clause-place g c =

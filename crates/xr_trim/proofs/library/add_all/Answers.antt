@@ -1,5 +1,5 @@
 -- One definition more.
-use Rattle.xr_trim.proofs.Numbers.{finds_more_at}
+use Rattle.xr_trim.proofs.Numbering.{finds_more_at}
 use Rattle.xr_trim.proofs.library.add_all.Goals as goal
 
 pub definitions-preserved : goal.definitions-preserved

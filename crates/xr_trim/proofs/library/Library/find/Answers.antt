@@ -1,7 +1,7 @@
 -- What is found is there.
 use Rattle.std.proofs.Common.{subst, IfSome, List, ℕ, ◌<◌, length}
 use Rattle.xr_trim.specs.Definition.{Defined}
-use Rattle.xr_trim.proofs.Numbers.{found_there}
+use Rattle.xr_trim.proofs.Numbering.{found_there}
 use Rattle.xr_trim.proofs.library.Library.find.Goals as goal
 
 pub returns-clause-there : goal.returns-clause-there

@@ -1,7 +1,7 @@
 -- The map means the list.
 use Rattle.std.proofs.Common.{◌∙◌, List, ℕ, sym, ap, bytes_eq}
 use Rattle.std.specs.Map.{lookup}
-use Rattle.xr_trim.proofs.Numbers.{found_is}
+use Rattle.xr_trim.proofs.Numbering.{found_is}
 use Rattle.xr_trim.proofs.library.Numbers.find.Goals as goal
 
 pub returns : goal.returns

@@ -1,0 +1,94 @@
+-- `export`: its words, its phases, and what it promises.
+use Rattle.std.specs.Prelude.{◌∷◌, ◌≡◌, Err, List, Ok, Option, Result, Some, [], codes, true, ℕ}
+use Rattle.xr_cert.specs.Step.{cert_of}
+use Rattle.xr_cert_text.specs.Text.{cert_text}
+use Rattle.xr_cli.specs.Free.{AreFree}
+use Rattle.xr_cli.specs.Headline.{Certifies, RepairedJob, wave_of_job}
+use Rattle.xr_cli.specs.Repair.{FailsAsRepair, IsRepairable, RepairValues}
+use Rattle.xr_cli.specs.declared.commands.export.Export.{Export}
+use Rattle.xr_export.specs.Export.{Exports}
+use Rattle.xr_line.specs.Line.{Text}
+use Rattle.xr_line.specs.Tables.{Prefix, needs}
+use Rattle.xr_phases.specs.Phases.{agreed_then, no_cause, walk_cause}
+use Rattle.xr_phases.specs.Repair.{WalkComes, recording_limit}
+use Rattle.xr_phases.specs.Texts.{netlist_held, recording_held}
+use Rattle.xr_phases.specs.declared.cause.Refused.{Refused}
+use Rattle.xr_phases.specs.declared.parts.Parts.{Parts}
+use Rattle.xr_run.specs.Phases.{◌>>=◌, Answer, Phases, searches}
+use Rattle.xr_set.specs.Command.{Command}
+use Rattle.xr_shelf.specs.Shelf.{Files}
+use Rattle.xr_wave.specs.Contents.{Contents}
+use Rattle.xr_words.specs.Words.{GivesJob, IsCount, JobValues, job_reads, job_values}
+use Rattle.xr_words.specs.declared.words.Form.TheVariants.{Lines}
+use Rattle.xr_words.specs.Forms as shared
+
+-- ---- words
+
+pub record ExportValues : Type 0 where
+  pub job : JobValues
+  pub prefix : Text
+  pub conflicts : ℕ
+
+-- These are those of `export`, and no file that is read has a name of those that may be written.
+pub record GivesExport (option : Text → Option Text) (v : ExportValues) : Type 0 where
+  pub job : GivesJob option v.job
+  pub prefix : option (codes "to") ≡ Some v.prefix
+  pub conflicts : IsCount (option (codes "conflicts")) 1000 100000 v.conflicts
+  pub free : AreFree v.prefix (v.job.recording ∷ v.job.netlists)
+
+abbrev pub export_values : Export → ExportValues
+export_values words = record { job = job_values words.job; prefix = words.prefix.now; conflicts = words.conflicts }
+
+-- ---- phases
+
+-- An export repairs as these words say, whose files aren't written.
+abbrev pub repair_for : ExportValues → RepairValues
+repair_for w = record { job = w.job; vcd = []; code = []; cert = []; form = Lines; conflicts = w.conflicts }
+
+-- The files of a wave are found; it comes to nothing else.
+abbrev pub ExportComes : List ℕ → Contents → Result Answer ⊥ → Type 0
+ExportComes prefix wave (Ok answer) = Exports prefix wave answer
+ExportComes prefix wave (Err none) = ⊥
+
+-- The certificate, the queries and the logs are written, and what is printed tells how many there are.
+abbrev pub walk_exported : ExportValues → Parts → Phases Answer Refused
+walk_exported w job = do
+  found ← searches (WalkComes w.conflicts job.netlist job.recorded) walk_cause
+  searches (ExportComes w.prefix found.wave) no_cause
+
+abbrev pub export_phases : ExportValues → Phases Answer Refused
+export_phases w = agreed_then w.job (walk_exported w)
+
+-- ---- promises
+
+-- The texts stand for a job that is repaired, so that:
+pub record Exported (w : ExportValues) (netlist recording : List ℕ) (answer : Answer) : Type 0 where
+  pub job : RepairedJob w.job w.conflicts netlist recording
+  -- The certificate of these lines is accepted for the job: they yield the waveform.
+  pub certifies : Certifies (repair_for w) job.n job.r job.replay job.waveform job.lines []
+      (cert_text (cert_of (wave_of_job job)))
+  -- It is written, and then for each line the query of its place in the waveform and the line's log; what is printed
+  -- tells how many there are.
+  pub exports : Exports w.prefix (wave_of_job job) answer
+
+-- The certificate, the queries and the logs are written of the texts that the files hold.
+abbrev pub SaysExport : Files → ExportValues → Answer → Type 0
+SaysExport files w answer = Exported w (netlist_held files w.job) (recording_held files w.job) answer
+
+-- ---- the command
+
+abbrev pub export : Command Refused
+export = record {
+  word = codes "export";
+  table = shared.job (needs (codes "to") Prefix ∷ shared.conflicts ∷ []);
+  has_files = true;
+  Values = ExportValues;
+  files = λ v. v.job.netlists;
+  Gives = GivesExport;
+  inputs = λ v. job_reads v.job;
+  most = recording_limit;
+  phases = export_phases;
+  InOrder = λ files v. IsRepairable v.job v.conflicts (netlist_held files v.job) (recording_held files v.job);
+  Says = SaysExport;
+  Fails = λ files v cause. FailsAsRepair v.job v.conflicts files cause;
+}

@@ -1,0 +1,76 @@
+//! The clauses that a search learns, and its log: those of them that no table says.
+
+use std::alloc::Global;
+use xr_base::Memory;
+use xr_circuit::{Literal, Span, Variable, item_at, narrow, set_item};
+
+/// Clauses by number, in the order in which they were learned, and the numbers of those that are logged. Takes 12 bytes a
+/// clause, and 4 a literal.
+#[derive(Drop)]
+pub(crate) struct Clauses {
+    literals: Vec<Literal>,
+    spans: Vec<Span>,
+    logged: Vec<u32>,
+}
+
+impl Clauses {
+    pub(crate) fn new(alloc: Global) -> Clauses {
+        Clauses {
+            literals: Vec::new(alloc),
+            spans: Vec::new(alloc),
+            logged: Vec::new(alloc),
+        }
+    }
+
+    pub(crate) fn clear(&mut self) {
+        self.literals.clear();
+        self.spans.clear();
+        self.logged.clear();
+    }
+
+    /// How many are logged.
+    pub(crate) fn logged(&self) -> usize {
+        self.logged.len()
+    }
+
+    /// The number of clause k of the log.
+    pub(crate) fn logged_at(&self, k: usize) -> u32 {
+        item_at(&self.logged, k, 0)
+    }
+
+    /// A clause is logged.
+    pub(crate) fn log(&mut self, clause: u32) -> Result<(), Memory> {
+        self.logged.push(clause)?;
+        Ok(())
+    }
+
+    pub(crate) fn add(&mut self, literals: &[Literal]) -> Result<u32, Memory> {
+        let number = narrow(self.spans.len());
+        let span = Span {
+            start: narrow(self.literals.len()),
+            count: narrow(literals.len()),
+        };
+        self.literals.extend_from_slice(literals)?;
+        self.spans.push(span)?;
+        Ok(number)
+    }
+
+    pub(crate) fn span(&self, clause: u32) -> Span {
+        item_at(&self.spans, clause as usize, Span::empty())
+    }
+
+    /// Literal k of a clause.
+    pub(crate) fn literal(&self, clause: u32, k: usize) -> Literal {
+        let other = Literal::new(Variable { number: 0 }, false);
+        item_at(&self.literals, self.span(clause).place(k), other)
+    }
+
+    /// Two literals of a clause change places.
+    pub(crate) fn swap(&mut self, clause: u32, i: usize, j: usize) {
+        let span = self.span(clause);
+        let first = self.literal(clause, i);
+        let second = self.literal(clause, j);
+        set_item(&mut self.literals, span.place(i), second);
+        set_item(&mut self.literals, span.place(j), first);
+    }
+}

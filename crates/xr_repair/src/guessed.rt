@@ -1,0 +1,163 @@
+//! What a guess about the next place shows of it, once it is tested: a filling is tried, and a log is checked.
+
+ghost use Rattle.std.specs.Prelude.{◌≡◌, ◌≤◌, ◌^◌, IfOk, IfSome, OnOk};
+ghost use Rattle.xr_cnf.specs.Query.{IsQueryOfNodes};
+ghost use Rattle.xr_cone.specs.Cones.{AreRightOf};
+ghost use Rattle.xr_cone_nodes.specs.Traced.{IsNextCone};
+ghost use Rattle.xr_lanes.specs.Lanes.{IsLookedAt};
+ghost use Rattle.xr_proof.specs.Log.{Fit};
+ghost use Rattle.xr_repair.specs.Step.{IsShown};
+ghost use Rattle.xr_wave.specs.Token.{IsLineNext};
+
+use crate::found::Found;
+use crate::search::settled_by;
+use std::alloc::Global;
+use xr_base::Memory;
+use xr_cnf::clauses;
+use xr_cone::{Cone, Cones};
+use xr_guess::{Guess, Guesser, NodeBit, given_by, log_of};
+use xr_lanes::Lanes;
+use xr_pair::try_lanes;
+use xr_proof::{Checker, Cnf, Log};
+use xr_wave::Wave;
+
+/// A guess ends after so many conflicts, or after a fifth of the clauses that a search may learn, if these are fewer.
+const MOST_CONFLICTS: u32 = 200;
+
+/// So many where the sources are few.
+const FEW_CONFLICTS: u32 = 30;
+
+const PART: u32 = 5;
+
+/// Up to this many sources a place is settled by all of their fillings, so a log is no better.
+const ENUMERATED: usize = 12;
+
+/// What a guess about the next place shows of it: none where there is no guess, or it is wrong.
+pub fn find_guessed(
+    alloc: Global,
+    wave: &Wave<'_>,
+    cones: &mut Cones,
+    guesser: &mut Guesser,
+) -> Result<Option<Found>, Memory>
+    requires class { IsLineNext wave.now }
+    requires right { AreRightOf wave.now cones.old }
+    requires looked { IsLookedAt wave.now cones.old.lanes }
+    ensures shown { IfOk result (λ found. IfSome found (IsShown wave.now)) }
+    ensures right { OnOk result (AreRightOf wave.now cones.new) }
+    ensures lanes { OnOk result (cones.new.lanes ≡ cones.old.lanes) }
+{
+    let few = cones.lanes.has_few_sources(ENUMERATED);
+    let conflicts = conflicts_for(few, wave.limit());
+    match guess_other(alloc, &cones.lanes, guesser, conflicts)? {
+        Guess::Filling(ones) => find_by_filling(alloc, wave, cones, &ones),
+        Guess::Log(learned) => {
+            if few {
+                return Ok(None);
+            }
+            find_by_clauses(alloc, wave, cones, &learned)
+        }
+        Guess::Nothing => Ok(None),
+    }
+}
+
+/// After how many conflicts a guess ends.
+fn conflicts_for(few: bool, limit: u32) -> u32 {
+    let most = if few { FEW_CONFLICTS } else { MOST_CONFLICTS };
+    most.min(limit / PART)
+}
+
+/// A guess about what gives the next place another bit than the empty filling does. Nothing of it is promised.
+fn guess_other(
+    alloc: Global,
+    lanes: &Lanes,
+    guesser: &mut Guesser,
+    conflicts: u32,
+) -> Result<Guess, Memory> {
+    match wanted(lanes) {
+        None => Ok(Guess::Nothing),
+        Some(node_bit) => match lanes.graph() {
+            None => Ok(Guess::Nothing),
+            Some(graph) => guesser.guess(alloc, graph, node_bit, conflicts),
+        },
+    }
+}
+
+/// The node of the next place with that bit.
+fn wanted(lanes: &Lanes) -> Option<NodeBit> {
+    let node = lanes.next_node()?;
+    let bit = lanes.empty_bit()?;
+    Some(NodeBit { node, bit: !bit })
+}
+
+/// What a filling shows of the next place, in which some nodes of the graph have 1: two fillings, if it gives that place
+/// another bit than the empty one.
+#[tactic(auto, using(crate::proofs::Searching::pair_accepted))]
+fn find_by_filling(
+    alloc: Global,
+    wave: &Wave<'_>,
+    cones: &mut Cones,
+    ones: &[u32],
+) -> Result<Option<Found>, Memory>
+    requires class { IsLineNext wave.now }
+    requires right { AreRightOf wave.now cones.old }
+    requires looked { IsLookedAt wave.now cones.old.lanes }
+    ensures shown { IfOk result (λ found. IfSome found (IsShown wave.now)) }
+    ensures right { OnOk result (AreRightOf wave.now cones.new) }
+    ensures lanes { OnOk result (cones.new.lanes ≡ cones.old.lanes) }
+{
+    let cone = cones.cone(alloc, wave)?;
+    let given = given_by(alloc, &cone, cones.lanes.positions(), ones)?;
+    match try_lanes(alloc, wave, &cone, given.as_slice())? {
+        Some(pair) => Ok(Some(Found::Pair(pair))),
+        None => Ok(None),
+    }
+}
+
+/// What clauses over nodes of the graph show of the next place, with the empty one after them: its bit, if they refute its
+/// query.
+fn find_by_clauses(
+    alloc: Global,
+    wave: &Wave<'_>,
+    cones: &mut Cones,
+    learned: &[Vec<NodeBit>],
+) -> Result<Option<Found>, Memory>
+    requires class { IsLineNext wave.now }
+    requires right { AreRightOf wave.now cones.old }
+    requires looked { IsLookedAt wave.now cones.old.lanes }
+    ensures shown { IfOk result (λ found. IfSome found (IsShown wave.now)) }
+    ensures right { OnOk result (AreRightOf wave.now cones.new) }
+    ensures lanes { OnOk result (cones.new.lanes ≡ cones.old.lanes) }
+{
+    let cone = cones.cone(alloc, wave)?;
+    let query = clauses(alloc, &cone)?;
+    match log_of(alloc, cones.lanes.positions(), query.vars, learned)? {
+        Some(log) => settled_if(alloc, wave, &cone, &query, log),
+        None => Ok(None),
+    }
+}
+
+/// The bit of the next place, if a log refutes its query.
+fn settled_if(
+    alloc: Global,
+    wave: &Wave<'_>,
+    cone: &Cone,
+    query: &Cnf,
+    log: Log,
+) -> Result<Option<Found>, Memory>
+    requires cone { IsNextCone wave.now cone.now.nodes }
+    requires query { IsQueryOfNodes cone.now.nodes query.now }
+    requires few { query.now.vars ≤ 2 ^ 27 }
+    requires fit { Fit query.now.vars log }
+    ensures { IfOk result (λ found. IfSome found (IsShown wave.now)) }
+{
+    let count = query
+        .clauses
+        .as_slice()
+        .len()
+        .saturating_add(log.as_slice().len());
+    let mut checker = Checker::with_room(alloc, query.vars, count, 0)?;
+    match checker.check(query, log) {
+        Ok(proof) => Ok(Some(Found::Settled(settled_by(wave, cone, query, proof)))),
+        Err(_) => Ok(None),
+    }
+}

@@ -1,0 +1,3 @@
+-- Definitions of a set of commands.
+pub mod Command
+pub mod Set

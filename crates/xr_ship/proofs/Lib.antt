@@ -1,5 +1,0 @@
--- Lemmas of xr_ship.
-pub mod Adding
-mod Exported
-mod Fetching
-pub mod Listing

@@ -1,2 +1,0 @@
--- Definitions of xr_ship.
-pub mod Reads

@@ -1,0 +1,2 @@
+-- Lemmas of xr_stub_read.
+pub mod Reading

@@ -1,0 +1,40 @@
+-- A job in order ends so; and what status 0 says of the calls that were noted.
+use Rattle.std.proofs.Common.{map, string_bytes, subst}
+use Rattle.xr_files.proofs.Shipped.{shipped, started}
+use Rattle.xr_files.specs.Seen.{shelf_seen}
+use Rattle.xr_files.specs.Sink.{sink_seen}
+use Rattle.xr_run.specs.Ends.{Comes}
+use Rattle.xr_run.specs.Rows.{Start}
+use Rattle.xr_cli.specs.Commands.{command_of, reporting}
+use Rattle.xr_set.specs.Set.{EndsInOrder, RefusesTexts, commands}
+use Rattle.xrepair.proofs.Listing.{kept}
+use Rattle.xrepair.specs.Reads.{read_by}
+use Rattle.xrepair.proofs.program.ship.Goals as goal
+
+pub returns-clause-refused : goal.returns-clause-refused
+returns-clause-refused g c = λ low high.
+    let left = c.run-status.new.shelf in
+    let new = c.new-shelf.ensures in
+    let begun = started (map string_bytes c.args.words.now) c.args.fetched.now (sink_seen c.args.out.now.faults c.args.out.now.took) _ c.new-shelf.result.fetched.now _ _ new.stage new.fetched new.reads new.writes in
+    subst (λ (s : Start). RefusesTexts command_of reporting s (shelf_seen left.stage left.fetched.now.texts left.read_faults left.write_faults) (sink_seen c.run-status.new.out.faults c.run-status.new.out.took) c.run-status.result)
+    begun (c.run-status.ensures.refused low high)
+
+pub returns-clause-complete : goal.returns-clause-complete
+returns-clause-complete g c =
+    let left = c.run-status.new.shelf in
+    let new = c.new-shelf.ensures in
+    let begun = started (map string_bytes c.args.words.now) c.args.fetched.now (sink_seen c.args.out.now.faults c.args.out.now.took) _ c.new-shelf.result.fetched.now _ _ new.stage new.fetched new.reads new.writes in
+    subst (λ (s : Start). EndsInOrder command_of reporting s (shelf_seen left.stage left.fetched.now.texts left.read_faults left.write_faults) (sink_seen c.run-status.new.out.faults c.run-status.new.out.took) c.run-status.result)
+    begun c.run-status.ensures.complete
+
+pub returns-clause-shipped : goal.returns-clause-shipped
+returns-clause-shipped g c = λ zero.
+    let line = map string_bytes c.args.words.now in
+    let fetched = c.args.fetched.now in
+    let before = sink_seen c.args.out.now.faults c.args.out.now.took in
+    let left = c.run-status.new.shelf in
+    let after = sink_seen c.run-status.new.out.faults c.run-status.new.out.took in
+    let new = c.new-shelf.ensures in
+    let begun = started line fetched before _ c.new-shelf.result.fetched.now _ _ new.stage new.fetched new.reads new.writes in
+    let comes = subst (λ (s : Start). Comes (commands command_of reporting) s (shelf_seen left.stage left.fetched.now.texts left.read_faults left.write_faults) after c.run-status.result) begun c.run-status.ensures.comes in
+    shipped (commands command_of reporting) read_by kept line fetched before left.stage left.fetched.now.texts left.read_faults left.write_faults after c.requires c.run-status.result comes zero

@@ -1,0 +1,2 @@
+-- Definitions of the program over real files.
+pub mod Reads
