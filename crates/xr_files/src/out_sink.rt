@@ -60,19 +60,3 @@ impl<'a, W: Write + Drop, R: Clock + Eprint> Sink for OutSink<'a, W, R> {
         self.progress.show(done, all);
     }
 }
-
-#[cfg(test)]
-mod tests {
-    use super::*;
-    use std::test::Fail;
-    use xr_shelf::print_all;
-
-    #[test]
-    fn prints_to_its_writer(rt: HostRuntime) -> Result<(), Fail> {
-        let mut out = OutSink::new(Vec::new(rt.alloc()), Progress::new(&rt, false));
-        assert!(rt; print_all(&mut out, b"unknown\n").is_ok());
-        assert_eq!(rt; out.writer.as_slice(), b"unknown\n".as_slice());
-        assert_eq!(rt; out.faults.count(), 0);
-        Ok(())
-    }
-}
