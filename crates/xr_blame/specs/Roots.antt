@@ -2,8 +2,8 @@
 use Rattle.std.specs.Prelude.{◌≡◌, ℕ, IfSome}
 use Rattle.xr_design.specs.declared.place.Place.{Place}
 use Rattle.xr_design.specs.Job.{number_of}
-use Rattle.xr_lanes.specs.Lanes.{LanesView}
-use Rattle.xr_lanes.specs.Roots.{HasNode, place_of}
+use Rattle.xr_cone.specs.Lanes.{LanesView}
+use Rattle.xr_cone.specs.Roots.{HasNode, place_of}
 use Rattle.xr_wave.specs.Contents.{Contents, job}
 use Rattle.xr_wave.specs.Pairs.{IsRootOf}
 use Rattle.xr_blame.specs.declared.roots.Root.{Root as ARoot}

@@ -5,7 +5,7 @@ ghost use Rattle.std.specs.Prelude.{◌≡◌, ◌≤◌, IfOk, IfSome, OnOk, le
 ghost use Rattle.xr_cone.specs.Cones.{AreRightOf};
 ghost use Rattle.xr_cone_nodes.specs.Traced.{IsConeOf};
 ghost use Rattle.xr_design.specs.Job.{number_of};
-ghost use Rattle.xr_lanes.specs.Lanes.{IsRightOf};
+ghost use Rattle.xr_cone.specs.Lanes.{IsRightOf};
 ghost use Rattle.xr_model.specs.declared.class.ClassByNumber.TheVariants as class;
 ghost use Rattle.xr_wave.specs.Contents.{IsWritten, class_in, job};
 ghost use Rattle.xr_wave.specs.Pairs.{IsRootOf, IsUnknown};
@@ -13,10 +13,9 @@ ghost use Rattle.xr_blame.specs.Roots.{IsNodeOf, IsRoot};
 
 use std::alloc::Global;
 use xr_base::Memory;
-use xr_cone::Cones;
+use xr_cone::{Cones, Lanes};
 use xr_cone_nodes::Cone;
 use xr_design::Place;
-use xr_lanes::Lanes;
 use xr_wave::Wave;
 
 /// A place, whether the way to it inverts, and its node, where lanes have one.

@@ -10,7 +10,7 @@ use Rattle.xr_model.specs.declared.line.Line.{Line as ALine}
 use Rattle.xr_wave.specs.Contents.{Contents, job, shown_in}
 use Rattle.xr_along.proofs.Fitted.{along_job, logs_along_fit}
 use Rattle.xr_along.specs.Along.{BodyFitsAt, LogsFit}
-use Rattle.xr_cond.specs.View.{ConditionView}
+use Rattle.xr_turns.specs.View.{ConditionView}
 use Rattle.xr_cert_text.specs.declared.cert.Cert.{Cert as ACert}
 use Rattle.xr_cert.specs.Checked.{HasNumbers, IsAccepted, IsChecked}
 use Rattle.xr_cert.specs.Entries.{lines_in}

@@ -8,7 +8,7 @@ use Rattle.xr_design.specs.Job.{Job, number_of}
 use Rattle.xr_model.specs.declared.line.Line.{Line as ALine}
 use Rattle.xr_model.specs.declared.turn.TurnLine.{TurnLine}
 use Rattle.xr_wave.specs.Contents.{Contents, job}
-use Rattle.xr_cond.specs.View.{ConditionView}
+use Rattle.xr_turns.specs.View.{ConditionView}
 use Rattle.xr_turns.specs.Conditions.{AreConditionsOf, IsFinishedAt, gives_bit, settled_places}
 use Rattle.xr_turns.specs.TurnLines.{AreAllTurnLines, turn_lines}
 use Rattle.xr_turns.proofs.StatedTurns.{states_turns}

@@ -7,7 +7,7 @@ use Rattle.xr_model.specs.declared.line.Line.{Line as ALine}
 use Rattle.xr_model.specs.declared.turn.TurnLine.{TurnLine}
 use Rattle.xr_wave.specs.Contents.{Contents, IsLimit, job}
 use Rattle.xr_along.proofs.Fitted.{along_job}
-use Rattle.xr_cond.specs.View.{ConditionView}
+use Rattle.xr_turns.specs.View.{ConditionView}
 use Rattle.xr_turns.specs.Conditions.{AreConditionsOf, gives_bit, settled_places}
 use Rattle.xr_turns.specs.TurnLines.{turn_lines}
 use Rattle.xr_cert_text.specs.Fits.{FitsEntry, FitsLine, FitsTurnLine}

@@ -18,11 +18,11 @@ use Rattle.xr_model.specs.Query.{is_variable}
 use Rattle.xr_model.specs.declared.turn.Turn.{Turn}
 use Rattle.xr_model.specs.declared.turn.Turn.TheVariants.{Dropped, Needed, Tried}
 use Rattle.xr_cone.specs.Boundary.{certain_boundary, certain_boundary_in, is_boundary}
-use Rattle.xr_cond.proofs.TurnChoices.{variable_listed}
-use Rattle.xr_cond.proofs.TurnsBefore.{boundary_is_low}
-use Rattle.xr_cond.specs.TurnQuery.{is_turn_variable, turn_variables}
-use Rattle.xr_cond.specs.Turns.{AreTurns, IsTurn, first_due, first_kept, kept_with}
-use Rattle.xr_cond.specs.View.{ConditionView, IsConditionOf, settled_bit}
+use Rattle.xr_turns.proofs.TurnChoices.{variable_listed}
+use Rattle.xr_turns.proofs.TurnsBefore.{boundary_is_low}
+use Rattle.xr_turns.specs.TurnQuery.{is_turn_variable, turn_variables}
+use Rattle.xr_turns.specs.Turns.{AreTurns, IsTurn, first_due, first_kept, kept_with}
+use Rattle.xr_turns.specs.View.{ConditionView, IsConditionOf, settled_bit}
 use Rattle.xr_turns.specs.TurnLines.{stated, turn_lines}
 use Rattle.xr_turns.proofs.StatedTurns.{states_turns}
 use Rattle.xr_wave.specs.Contents.{Contents, job}

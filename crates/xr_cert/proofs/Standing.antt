@@ -18,8 +18,8 @@ use Rattle.xr_along.specs.Accepted.{AcceptsLine}
 use Rattle.xr_along.specs.Along.{by_line}
 use Rattle.xr_along.specs.Along as walk
 use Rattle.xr_cone.specs.Known.{IsGrown}
-use Rattle.xr_cond.specs.View.{ConditionView, IsConditionOf}
-use Rattle.xr_cond.proofs.StayingConditions.{conditions_stay}
+use Rattle.xr_turns.specs.View.{ConditionView, IsConditionOf}
+use Rattle.xr_turns.proofs.StayingConditions.{conditions_stay}
 use Rattle.xr_turns.specs.Conditions.{AreConditionsOf, IsConditionAt, IsCertainLine, gives_bit, settled_places}
 use Rattle.xr_turns.specs.Laws.{StatesTurns}
 use Rattle.xr_turns.specs.TurnLines.{IsNoTurn, IsTaken, stated, turn_lines, turn_places}

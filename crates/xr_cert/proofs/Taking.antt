@@ -9,7 +9,7 @@ use Rattle.xr_wave.specs.Advance.{IsPlain}
 use Rattle.xr_wave.specs.Contents.{Contents, IsWave, job, next_number, next_seen}
 use Rattle.xr_wave.specs.Token.{IsLineNext}
 use Rattle.xr_along.specs.Accepted.{IsLater, NamesNext}
-use Rattle.xr_cond.specs.View.{ConditionView}
+use Rattle.xr_turns.specs.View.{ConditionView}
 use Rattle.xr_turns.specs.Conditions.{IsCertainLine, gives_bit}
 use Rattle.xr_cert_text.specs.declared.cert.Entry.{Entry}
 use Rattle.xr_cert_text.specs.declared.cert.Entry.TheVariants.{Line, Turn}

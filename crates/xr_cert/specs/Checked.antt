@@ -9,7 +9,7 @@ use Rattle.xr_model.specs.Stated.{body_at}
 use Rattle.xr_model.specs.Yields.{Yields}
 use Rattle.xr_model.specs.declared.line.Body.{Body}
 use Rattle.xr_wave.specs.Contents.{Contents, IsFinished, IsWave, job, shown_in}
-use Rattle.xr_cond.specs.View.{ConditionView}
+use Rattle.xr_turns.specs.View.{ConditionView}
 use Rattle.xr_cert_text.specs.declared.cert.Cert.{Cert}
 use Rattle.xr_cert_text.specs.declared.cert.Head.{Head}
 use Rattle.xr_along.specs.Along.{BodyFitsAt, GoesAlong}

@@ -5,7 +5,7 @@ use Rattle.xr_design.specs.declared.waveform.Written.{Written}
 use Rattle.xr_design.specs.Job.{Job, number_of}
 use Rattle.xr_model.specs.declared.line.Line.{Line as ALine}
 use Rattle.xr_model.specs.declared.turn.TurnLine.{TurnLine}
-use Rattle.xr_cond.specs.View.{ConditionView}
+use Rattle.xr_turns.specs.View.{ConditionView}
 use Rattle.xr_turns.specs.Conditions.{AreConditionsIn, gives_bit}
 use Rattle.xr_turns.specs.TurnLines.{AreAllTurnLines, turn_lines}
 use Rattle.xr_wave.specs.Contents.{Contents, job}

@@ -10,7 +10,7 @@ use Rattle.xr_cert_text.specs.declared.cert.Cert.{Cert as ACert}
 use Rattle.xr_cert_text.specs.Text.{cert_text}
 use Rattle.xr_cert_text.specs.Wrong.{IsTextOf}
 use Rattle.xr_cert.specs.Checked.{IsAccepted, IsChecked, IsRefusalOf}
-use Rattle.xr_cond.specs.View.{ConditionView}
+use Rattle.xr_turns.specs.View.{ConditionView}
 use Rattle.xr_cert_text.specs.declared.cert.Entry.{Entry}
 use Rattle.xr_cert_text.specs.declared.cert.Form.{Form}
 use Rattle.xr_cert.specs.Entries.{AreConditionsFor}

@@ -6,6 +6,6 @@ pub mod Step
 pub mod Standing
 pub mod Laws
 pub mod Words
-pub use Rattle.xr_cond.specs.View
+pub use Rattle.xr_turns.specs.View
 pub use Rattle.xr_turns.specs.Conditions
 pub use Rattle.xr_turns.specs.TurnLines

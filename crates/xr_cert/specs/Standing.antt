@@ -8,7 +8,7 @@ use Rattle.xr_wave.specs.Contents.{Contents, IsFinished, IsWave, job, next_seen,
 use Rattle.xr_wave.specs.Token.{IsLineNext, LineAgrees, with_line}
 use Rattle.xr_cone.specs.Cones.{AreRightOf}
 use Rattle.xr_cone.specs.declared.cones.Cones.{Cones}
-use Rattle.xr_cond.specs.View.{ConditionView}
+use Rattle.xr_turns.specs.View.{ConditionView}
 use Rattle.xr_turns.specs.Conditions.{IsConditionAt, gives_bit}
 use Rattle.xr_turns.specs.TurnLines.{turn_lines}
 use Rattle.xr_along.specs.Accepted.{AcceptsLine}

@@ -8,7 +8,7 @@ use Rattle.xr_wave.specs.Contents.{Contents, job, next_number}
 use Rattle.xr_wave.specs.Token.{HoldsNext, LineAgrees, with_line}
 use Rattle.xr_wave.specs.declared.token.How.{How}
 use Rattle.xr_wave.specs.declared.token.How.TheVariants.{Enumerated, Refuted}
-use Rattle.xr_cond.specs.View.{ConditionView}
+use Rattle.xr_turns.specs.View.{ConditionView}
 use Rattle.xr_along.specs.Accepted.{AcceptsLine, IsLater, NamesNext}
 use Rattle.xr_cert_text.specs.declared.cert.Cert.{Cert}
 use Rattle.xr_cert_text.specs.declared.cert.Entry.{Entry}

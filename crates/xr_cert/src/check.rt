@@ -14,8 +14,8 @@ use crate::walk::walk;
 use std::alloc::Global;
 use xr_base::Items;
 use xr_cert_text::{Cert, Head};
-use xr_cond::Condition;
 use xr_design::{Design, History, Order, Stim};
+use xr_turns::Condition;
 use xr_wave::Wave;
 
 /// A finished wave, and the conditions that a certificate of form 2 states: one for each certain Line place, in place

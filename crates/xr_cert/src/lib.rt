@@ -30,5 +30,4 @@ pub use laws::{
 pub use refusal::{CertErr, CertFault, CheckErr};
 pub use text::{read_cert, write_cert};
 pub use xr_cert_text::{Cert, Entry, Form, Head};
-pub use xr_cond::Condition;
-pub use xr_turns::conditions_of;
+pub use xr_turns::{Condition, conditions_of};

@@ -23,10 +23,10 @@ use crate::walked::Walked;
 use std::alloc::Global;
 use xr_base::Memory;
 use xr_cert_text::Form;
-use xr_cond::Condition;
 use xr_cone::{Cone, Cones};
 use xr_design::count_places;
 use xr_model::{Body, Line};
+use xr_turns::Condition;
 use xr_wave::Wave;
 
 /// Takes a line where the walk waits for one.

@@ -14,8 +14,8 @@ use std::alloc::Global;
 use xr_base::Memory;
 use xr_cert_read::{TextErr, read_text};
 use xr_cert_text::{Cert, Form, Head, put_beginning, put_end};
-use xr_cond::Condition;
 use xr_design::width_of;
+use xr_turns::Condition;
 use xr_wave::Wave;
 
 /// The text of a wave's certificate of a form: its lines, and behind each that gives a bit the turns of the next

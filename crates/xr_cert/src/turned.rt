@@ -11,10 +11,9 @@ use crate::refusal::{CertFault, CheckErr};
 use crate::walked::Walked;
 use std::alloc::Global;
 use xr_cert_text::Entry;
-use xr_cond::Condition;
 use xr_cone::Cones;
 use xr_design::Place;
-use xr_turns::{begin_at, take_turn};
+use xr_turns::{Condition, begin_at, take_turn};
 use xr_wave::Wave;
 
 /// Takes a line where a turn is due.

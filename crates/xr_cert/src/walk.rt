@@ -19,9 +19,9 @@ use crate::walked::Walked;
 use std::alloc::Global;
 use xr_base::Items;
 use xr_cert_text::{Entry, Form};
-use xr_cond::Condition;
 use xr_cone::Cones;
 use xr_design::count_places;
+use xr_turns::Condition;
 use xr_wave::Wave;
 
 /// Goes along the lines between, and to the end: the wave, and the conditions that turns make.

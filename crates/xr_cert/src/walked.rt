@@ -1,6 +1,6 @@
 //! Where a walk along the lines of a certificate stands.
 
-use xr_cond::Condition;
+use xr_turns::Condition;
 use xr_wave::Wave;
 
 /// The wave so far, the conditions of its certain places, none in form 1, and that of the last place while turns of it

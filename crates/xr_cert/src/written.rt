@@ -9,8 +9,8 @@ ghost use Rattle.xr_cert.specs.Entries.{entries_of};
 use crate::lines::gives_bit;
 use xr_base::Memory;
 use xr_cert_text::{put_line, put_turn};
-use xr_cond::Condition;
 use xr_model::Line;
+use xr_turns::Condition;
 
 /// Puts lines, and behind each that gives a bit the turns of the next condition; and how many lines of the text these
 /// are.

@@ -13,7 +13,7 @@ use Rattle.xr_job.specs.Compared.{job_for}
 use Rattle.xr_job.specs.declared.netlist.Netlist.{Netlist as ANetlist}
 use Rattle.xr_job.specs.declared.recorded.Recorded.{Recorded}
 use Rattle.xr_model.specs.Sound.{IsOptimistic}
-use Rattle.xr_phases.proofs.Objecting.{objections_object}
+use Rattle.xr_phases.proofs.AgreeingObjections.{objections_object}
 use Rattle.xr_run.specs.Prepared.{IsJudgedBy, PreparedAlone, answer_of}
 use Rattle.xr_run.specs.Phases.{Answer}
 use Rattle.xr_run.specs.declared.ready.Ready.{Ready}

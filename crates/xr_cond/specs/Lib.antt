@@ -1,4 +1,4 @@
--- Definitions of conditions and their turns, and of the boundaries of cones, which their clauses cite.
+-- Definitions of conditions and their turns, and of the boundaries and tracers of cones, which their clauses cite.
 pub mod Exchange
 pub mod First
 pub mod Condition
@@ -9,3 +9,4 @@ pub mod View
 pub mod Laws
 pub mod WorkedConditions
 pub use Rattle.xr_cone.specs.Boundary
+pub use Rattle.xr_cone.specs.Known

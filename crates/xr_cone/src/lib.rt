@@ -27,3 +27,4 @@ pub use tracer::Tracer;
 pub use tracing::{trace, trace_at};
 pub use xr_cone_choices::{Choice, minimal_choices};
 pub use xr_cone_nodes::{Cone, Node, NodeBody};
+pub use xr_lanes::{Lanes, Shown};

@@ -19,4 +19,4 @@ pub mod SetTexts
 pub mod Statuses
 pub mod Unrefused
 pub mod Walks
-pub use Rattle.xr_objection.proofs.Objecting
+pub use Rattle.xr_repair.proofs.AgreeingObjections

@@ -28,8 +28,8 @@ use Rattle.xr_fix.specs.Started.{IsStarted, Piece}
 use Rattle.xr_fix.specs.declared.refusal.StartFault.{StartFault}
 use Rattle.xr_match.specs.declared.binding.Binding.{Binding}
 use Rattle.xr_repair.specs.Repaired.{IsObjection}
-use Rattle.xr_objection.specs.Objections.{AreTheSame}
-use Rattle.xr_objection.proofs.Objecting.{fits_start, objections_object, place_reported, replayed_reported}
+use Rattle.xr_repair.specs.Objections.{AreTheSame}
+use Rattle.xr_repair.proofs.AgreeingObjections.{fits_start, objections_object, place_reported, replayed_reported}
 use Rattle.xr_job.specs.Names.{net_name}
 use Rattle.xr_job.specs.Recorded.{RecordingComes, job_netlist}
 use Rattle.xr_job.specs.declared.netlist.Netlist.{Netlist as ANetlist}

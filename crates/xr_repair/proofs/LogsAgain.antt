@@ -11,7 +11,7 @@ use Rattle.xr_along.specs.Along.{GoesAlong}
 use Rattle.xr_along.proofs.Fitted.{logs_along_fit}
 use Rattle.xr_cnf.specs.Same.{AsksSame}
 use Rattle.xr_cnf.proofs.SameCones.{same_law}
-use Rattle.xr_lanes.specs.Shown.{HasNextCone}
+use Rattle.xr_cone.specs.Shown.{HasNextCone}
 use Rattle.xr_wave.specs.Contents.{Contents, IsWave, job, next_number}
 use Rattle.xr_repair.specs.Walk.{start_of}
 

@@ -3,7 +3,7 @@
 ghost use Rattle.std.specs.Prelude.{IfOk, IfSome};
 ghost use Rattle.xr_along.specs.Accepted.{AcceptsBody, AcceptsLine};
 ghost use Rattle.xr_along.specs.Along.{GoesAlong};
-ghost use Rattle.xr_lanes.specs.Shown.{HasNextCone};
+ghost use Rattle.xr_cone.specs.Shown.{HasNextCone};
 ghost use Rattle.xr_model.specs.declared.line.Body.TheVariants.{Refuted, Undecided};
 ghost use Rattle.xr_repair.specs.Step.{IsShown};
 ghost use Rattle.xr_repair.specs.Walk.{start_of};

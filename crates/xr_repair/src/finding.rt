@@ -5,8 +5,8 @@ ghost use Rattle.std.specs.Prelude.{◌<◌, ◌≤◌, IfOk, OnOk, length};
 ghost use Rattle.xr_along.specs.Along.{GoesAlong};
 ghost use Rattle.xr_cone_nodes.specs.Traced.{IsNextCone};
 ghost use Rattle.xr_cone_nodes.specs.Nodes.{sources_of};
-ghost use Rattle.xr_lanes.specs.Lanes.{IsLookedAt};
-ghost use Rattle.xr_lanes.specs.Shown.{HasNextCone};
+ghost use Rattle.xr_cone.specs.Lanes.{IsLookedAt};
+ghost use Rattle.xr_cone.specs.Shown.{HasNextCone};
 ghost use Rattle.xr_repair.specs.Step.{IsShown};
 ghost use Rattle.xr_repair.specs.Walk.{AreRightOf, start_of};
 ghost use Rattle.xr_wave.specs.Token.{IsLineNext};
@@ -19,9 +19,8 @@ use crate::guessed::find_guessed;
 use crate::search::search;
 use std::alloc::Global;
 use xr_base::Memory;
-use xr_cone::Cone;
+use xr_cone::{Cone, Shown};
 use xr_enum::{Decided, decide};
-use xr_lanes::Shown;
 use xr_wave::Wave;
 
 /// Up to this many sources, every filling of them is tried.

@@ -1,4 +1,4 @@
--- Proofs about turns that are stated.
+-- Proofs about turns that are stated, and about conditions.
 pub mod ConditionLists
 pub mod Literals
 pub mod MissedTurns
@@ -6,3 +6,6 @@ pub mod SameQueries
 pub mod SettledLines
 pub mod StatedModels
 pub mod StatedTurns
+pub use Rattle.xr_cond.proofs.StayingConditions
+pub use Rattle.xr_cond.proofs.TurnChoices
+pub use Rattle.xr_cond.proofs.TurnsBefore

@@ -14,7 +14,7 @@ use Rattle.xr_design.specs.Waveform.{certain}
 use Rattle.xr_proof.specs.Assignment.{IsMet, IsModel, assigned}
 use Rattle.xr_proof.specs.Log.{AreFresh, Fit, Refutes}
 use Rattle.xr_proof.specs.declared.clause.Cnf.{Cnf}
-use Rattle.xr_cone.specs.Boundary.{certain_boundary_in}
+use Rattle.xr_cond.specs.Boundary.{certain_boundary_in}
 use Rattle.xr_cond.specs.Turns.{AreTurns, AreTurnsOf, IsTurn, due_after, first_due, first_kept, kept_after, kept_with}
 use Rattle.xr_cond.specs.TurnQuery.{IsTurnQuery}
 use Rattle.xr_cond.specs.View.{ConditionView, FindsNext, IsConditionOf, IsNextPlace, IsNextQuery, IsTurnIn, IsTurnQueryIn, IsTurned, next_in, settled_bit}

@@ -7,7 +7,7 @@ use Rattle.xr_design.specs.declared.place.Place.{Place}
 use Rattle.xr_design.specs.Fits.{place_at}
 use Rattle.xr_design.specs.Job.{Job}
 use Rattle.xr_design.specs.Waveform.{certain}
-use Rattle.xr_cone.specs.Boundary.{certain_boundary_in}
+use Rattle.xr_cond.specs.Boundary.{certain_boundary_in}
 use Rattle.xr_cond.specs.Turns.{AreTurns, AreTurnsOf, first_due, first_kept, kept_with}
 use Rattle.xr_cond.specs.View.{ConditionView, IsConditionOf, settled_bit}
 use Rattle.xr_model.specs.declared.turn.Turn.{Turn}

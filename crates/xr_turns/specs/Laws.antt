@@ -2,7 +2,7 @@
 use Rattle.std.specs.Prelude.{◌≡◌, ℕ, ◌+◌, List, length}
 use Rattle.xr_design.specs.declared.place.Place.{Place}
 use Rattle.xr_cond.specs.View.{ConditionView, IsConditionOf}
-use Rattle.xr_cone.specs.Known.{IsGrown}
+use Rattle.xr_cond.specs.Known.{IsGrown}
 use Rattle.xr_wave.specs.Contents.{Contents, IsWave, job}
 use Rattle.xr_turns.specs.Conditions.{AreConditionsOf}
 use Rattle.xr_turns.specs.TurnLines.{AreTurnLinesIn, turn_lines, turn_places}

@@ -6,7 +6,7 @@ use Rattle.xr_design.specs.Fits.{place_at}
 use Rattle.xr_design.specs.Job.{Job}
 use Rattle.xr_design.specs.Waveform.{certain}
 use Rattle.xr_design.specs.World.{decided}
-use Rattle.xr_cone.specs.Boundary.{certain_boundary}
+use Rattle.xr_cond.specs.Boundary.{certain_boundary}
 use Rattle.xr_cond.specs.Turns.{AreTurnsOf, first_due}
 use Rattle.xr_cond.specs.View.{ConditionView, IsConditionOf, IsTurnIn, IsTurned, next_in}
 use Rattle.xr_model.specs.declared.turn.Turn.{Turn}

@@ -1,14 +1,13 @@
 //! The conditions of all certain Line places of a wave.
 
 ghost use Rattle.std.specs.Prelude.{◌≡◌, IfOk, OnOk};
-ghost use Rattle.xr_cone.specs.Known.{IsRightOf};
+ghost use Rattle.xr_cond.specs.Known.{IsRightOf};
 ghost use Rattle.xr_turns.specs.Conditions.{AreConditionsIn, IsFinishedAt, IsCertainLine, gives_bit};
 
 use crate::begin::begin_at;
 use std::alloc::Global;
 use xr_base::Memory;
-use xr_cond::{Condition, finish};
-use xr_cone::Tracer;
+use xr_cond::{Condition, Tracer, finish};
 use xr_design::Place;
 use xr_model::Body;
 use xr_wave::Wave;

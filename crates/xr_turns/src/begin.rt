@@ -1,13 +1,12 @@
 //! The condition of a certain Line place of a wave, with which its turns begin.
 
 ghost use Rattle.std.specs.Prelude.{◌≡◌, [], IfOk, OnOk};
-ghost use Rattle.xr_cone.specs.Known.{IsRightOf};
+ghost use Rattle.xr_cond.specs.Known.{IsRightOf};
 ghost use Rattle.xr_turns.specs.Conditions.{IsConditionAt, IsCertainLine};
 
 use std::alloc::Global;
 use xr_base::Memory;
-use xr_cond::Condition;
-use xr_cone::Tracer;
+use xr_cond::{Condition, Tracer};
 use xr_design::Place;
 use xr_wave::Wave;
 

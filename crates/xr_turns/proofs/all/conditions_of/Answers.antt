@@ -1,6 +1,6 @@
 -- The condition of one line more, where it gives a bit.
 use Rattle.std.proofs.Common.{◌+◌, ◌∙◌, ap, subst, sym, take}
-use Rattle.xr_cone.specs.Known.{IsRightOf}
+use Rattle.xr_cond.specs.Known.{IsRightOf}
 use Rattle.xr_turns.specs.Conditions.{AreConditionsOf, settled_places}
 use Rattle.xr_turns.proofs.ConditionLists.{more_here, same_here, settled_here}
 use Rattle.xr_turns.proofs.all.conditions_of.Goals.{then-gives_bit+in_ok-finished_at+in_ok-push, else-gives_bit}

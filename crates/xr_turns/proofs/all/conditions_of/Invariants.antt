@@ -1,6 +1,6 @@
 -- The conditions of the lines so far.
 use Rattle.std.proofs.Common.{take}
-use Rattle.xr_cone.specs.Known.{IsRightOf}
+use Rattle.xr_cond.specs.Known.{IsRightOf}
 use Rattle.xr_turns.specs.Conditions.{AreConditionsOf, settled_places}
 use Rattle.xr_turns.proofs.all.conditions_of.Given as goal
 

@@ -26,7 +26,7 @@ use Rattle.xr_wave.specs.Advance.{IsPlain}
 use Rattle.xr_wave.specs.Contents.{Contents, IsWave, class_or_done, job, shown_in}
 use Rattle.xr_wave.specs.declared.advance.Optimistic.{Optimistic}
 use Rattle.xr_repair.specs.Repaired.{IsFound, IsObjection, IsOfJob, by_class, by_line}
-use Rattle.xr_objection.specs.Objections.{ObjectionsObject, ObjectionsAreExact, ObjectionsAreOne, WavesAreAlike, with_limit}
+use Rattle.xr_repair.specs.Objections.{ObjectionsObject, ObjectionsAreExact, ObjectionsAreOne, WavesAreAlike, with_limit}
 
 -- ---- what is found is said
 

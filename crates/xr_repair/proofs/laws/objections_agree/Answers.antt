@@ -1,6 +1,6 @@
 -- Each law stands in its lemma.
-use Rattle.xr_objection.proofs.Objecting.{objections_are_exact, objections_object, objections_agree, waves_are_alike}
-use Rattle.xr_objection.proofs.laws.objections_agree.Goals as goal
+use Rattle.xr_repair.proofs.AgreeingObjections.{objections_are_exact, objections_object, objections_agree, waves_are_alike}
+use Rattle.xr_repair.proofs.laws.objections_agree.Goals as goal
 
 pub returns-clause-objects : goal.returns-clause-objects
 returns-clause-objects c = objections_object

@@ -1,6 +1,6 @@
 //! Laws of objections. This function does nothing: what it ensures are laws, proved here once.
 
-ghost use Rattle.xr_objection.specs.Objections as spec;
+ghost use Rattle.xr_repair.specs.Objections as spec;
 
 /// What an objection tells is exact; two objections of one job and history, whose lines have no undecided body, tell the
 /// same, whatever their limits are; and a finished wave is the one for every history.

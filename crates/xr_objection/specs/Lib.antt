@@ -1,2 +1,0 @@
--- Definitions of laws of objections.
-pub mod Objections
