@@ -15,7 +15,7 @@ use xr_base::Items;
 use xr_cell::Value;
 use xr_design::{History, Place, spot_of};
 use xr_match::Binding;
-use xr_report::{bit_lines, head_lines};
+use xr_report::{ReportLines, bit_lines, head_lines};
 use xr_wave::Wave;
 use xr_world::fill;
 
@@ -143,7 +143,7 @@ fn check_report(
     requires finished { IsFinished wave.now }
     requires binding { FitsBinding wave.now.design binding.now }
 {
-    let bits = bit_lines(alloc, wave, binding)?;
+    let bits = bit_lines(alloc, wave, binding, ReportLines::All)?;
     assert_eq!(rt; bits.as_slice(), b"#0 a x unknown\n".as_slice());
     let head = head_lines(alloc, wave, 2)?;
     let want =

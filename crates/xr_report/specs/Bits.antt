@@ -1,5 +1,5 @@
 -- The lines of a report that tell what became of the recorded bits that are x or z.
-use Rattle.std.specs.Prelude.{ℕ, List, [], ◌∷◌, ◌++◌, codes, decimal, length, slice_index, if◌then◌else◌}
+use Rattle.std.specs.Prelude.{ℕ, ◌-◌, ◌==◌, Bool, true, not, ◌&&◌, ◌||◌, List, [], ◌∷◌, ◌++◌, bytes_eq, codes, decimal, length, slice_index, if◌then◌else◌}
 use Rattle.std.specs.List.{flat_map}
 use Rattle.xr_cell.specs.declared.value.Value.{Value}
 use Rattle.xr_cell.specs.Value.{is_unknown, letter_of}
@@ -14,6 +14,8 @@ use Rattle.xr_match.specs.BoundBits.{bound_bits}
 use Rattle.xr_match.specs.declared.binding.Binding.{Binding}
 use Rattle.xr_match.specs.declared.bound_bits.BoundBit.{BoundBit}
 use Rattle.xr_base.specs.Text.{line}
+use Rattle.xr_report.specs.declared.lines.ReportLines.{ReportLines}
+use Rattle.xr_report.specs.declared.lines.ReportLines.TheVariants as named
 use Rattle.xr_wave.specs.Contents.{Contents, job, written_of}
 
 -- What became of a bit: its value where that is certain.
@@ -40,11 +42,35 @@ told_line c time place =
 abbrev pub bit_line : Contents → ℕ → Place → List ℕ
 bit_line c time place = if is_unknown (recorded_in c place) then told_line c time place else []
 
--- The line of a bound bit, at the last round of its moment.
-abbrev pub bound_line : Contents → BoundBit → List ℕ
-bound_line c bit =
-    bit_line c (slice_index c.stim.times bit.moment) (record { step = last_step (job c) bit.moment; net = bit.net })
+-- A net's place at the last round of a moment.
+abbrev pub place_in : Contents → ℕ → ℕ → Place
+place_in c moment net = record { step = last_step (job c) moment; net = net }
+
+-- The line of a bound bit, there.
+abbrev pub told_bit : Contents → BoundBit → List ℕ
+told_bit c bit = bit_line c (slice_index c.stim.times bit.moment) (place_in c bit.moment bit.net)
+
+-- The same was recorded at two places, and the same became of it.
+abbrev pub is_told_again : Contents → Place → Place → Bool
+is_told_again c place other =
+    letter_of (recorded_in c place) == letter_of (recorded_in c other)
+    && bytes_eq (result_in c place) (result_in c other)
+
+-- A bit's moment is the first, or its recorded value or its result isn't what it was a moment before.
+abbrev pub is_told_anew : Contents → BoundBit → Bool
+is_told_anew c bit =
+    bit.moment == 0
+    || not (is_told_again c (place_in c bit.moment bit.net) (place_in c (bit.moment - 1) bit.net))
+
+-- A bit is told in each moment, or where it is told anew.
+abbrev pub is_told : Contents → ReportLines → BoundBit → Bool
+is_told c named.All bit = true
+is_told c named.Changes bit = is_told_anew c bit
+
+-- Its line where it is told.
+abbrev pub bound_line : Contents → ReportLines → BoundBit → List ℕ
+bound_line c lines bit = if is_told c lines bit then told_bit c bit else []
 
 -- The lines of all bound bits, in their order.
-unfoldable pub bit_lines : Contents → Binding → List ℕ
-bit_lines c binding = flat_map (bound_line c) (bound_bits (length c.stim.times) binding.bound)
+unfoldable pub bit_lines : Contents → Binding → ReportLines → List ℕ
+bit_lines c binding lines = flat_map (bound_line c lines) (bound_bits (length c.stim.times) binding.bound)

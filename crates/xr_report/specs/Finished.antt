@@ -1,6 +1,7 @@
--- Steps of which a wave has every place.
-use Rattle.std.specs.Prelude.{ℕ, ◌<◌, length}
+-- Steps of which a wave has every place, and rows of its history at them.
+use Rattle.std.specs.Prelude.{ℕ, ◌≡◌, ◌<◌, length}
 use Rattle.xr_design.specs.History.{HasPlace}
+use Rattle.xr_design.specs.Row.{RowView}
 use Rattle.xr_design.specs.Settled.{last_step}
 use Rattle.xr_wave.specs.Contents.{Contents, IsWritten, job}
 
@@ -12,3 +13,8 @@ pub record HasStep (c : Contents) (step : ℕ) : Type 0 where
 -- That holds of the last step of each moment.
 abbrev pub HasMoments : Contents → Type 0
 HasMoments c = (moment : ℕ) → moment < length c.stim.times → HasStep c (last_step (job c) moment)
+
+-- A row is that of the history at the last step of a moment.
+pub record IsRowOf (c : Contents) (moment : ℕ) (row : RowView) : Type 0 where
+  pub history : row.history ≡ c.history
+  pub step : row.step ≡ last_step (job c) moment

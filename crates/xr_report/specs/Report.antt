@@ -4,6 +4,7 @@ use Rattle.xr_design.specs.declared.force.Event.{Event}
 use Rattle.xr_match.specs.declared.binding.Binding.{Binding}
 use Rattle.xr_report.specs.Bits.{bit_lines}
 use Rattle.xr_report.specs.Head.{head_lines}
+use Rattle.xr_report.specs.declared.lines.ReportLines.{ReportLines}
 use Rattle.xr_wave.specs.Contents.{Contents}
 
 -- An event forces a net, or releases it.
@@ -14,6 +15,6 @@ is_force event = is_some event.value
 abbrev pub head_text : Contents → List Event → List ℕ
 head_text c forces = head_lines c (count_by is_force forces)
 
--- That, then the recorded bits that are x or z.
-unfoldable pub report_text : Contents → Binding → List Event → List ℕ
-report_text c binding forces = head_text c forces ++ bit_lines c binding
+-- That, then the recorded bits that are x or z, each in each moment or where it is told anew.
+unfoldable pub report_text : Contents → Binding → ReportLines → List Event → List ℕ
+report_text c binding lines forces = head_text c forces ++ bit_lines c binding lines

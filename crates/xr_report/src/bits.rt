@@ -1,40 +1,54 @@
 //! The lines of the recorded bits that are x or z.
 
-ghost use Rattle.std.specs.Prelude.{◌≡◌, ◌+◌, ◌-◌, ◌*◌, ◌<◌, ◌++◌, OnOk, IfOk, length};
+ghost use Rattle.std.specs.Prelude.{◌≡◌, ◌<◌, ◌++◌, OnOk, IfOk, length};
 ghost use Rattle.xr_match.specs.Binding.{FitsBinding};
 ghost use Rattle.xr_match.specs.BoundBits.{IsBitOf};
-ghost use Rattle.xr_design.specs.Settled as design;
-ghost use Rattle.xr_wave.specs.Contents.{IsFinished, job};
+ghost use Rattle.xr_wave.specs.Contents.{IsFinished};
 ghost use Rattle.xr_report.specs.Bits as spec;
-ghost use Rattle.xr_report.specs.Finished.{HasMoments, HasStep};
+ghost use Rattle.xr_report.specs.Finished.{HasMoments, HasStep, IsRowOf};
 
+use crate::lines::ReportLines;
 use crate::row::bring;
+use crate::told::{is_told, last_step, place_in};
 use std::alloc::Global;
 use xr_base::{Memory, put, put_number};
 use xr_cell::Value;
-use xr_design::{HistoryRow, Mark, Place, Stim};
+use xr_design::{HistoryRow, Mark, Place};
 use xr_match::{Binding, BoundBit, BoundBits};
 use xr_wave::Wave;
 
-/// The lines of a report, moment by moment: one for each bit of a bound variable whose recorded value is x or z, with
-/// what the wave has at the moment's last round. The recorded value is what the history shows there.
+/// The lines of a report, moment by moment: one for each bit of a bound variable whose recorded value is x or z, where
+/// it is told, with what the wave has at the moment's last round. The recorded value is what the history shows there.
 ///
-/// Takes the text's bytes, those of one name at a time, and a byte for each net; and time linear in the text, in the bits
-/// of all moments and in what the history writes.
+/// Takes the text's bytes, those of one name at a time, and two bytes for each net; and time linear in the text, in the
+/// bits of all moments and in what the history writes.
 #[tactic(auto, unfolding(crate::specs::Bits::bit_lines))]
-pub fn bit_lines(alloc: Global, wave: &Wave<'_>, bound: &Binding) -> Result<Vec<u8>, Memory>
+pub fn bit_lines(
+    alloc: Global,
+    wave: &Wave<'_>,
+    bound: &Binding,
+    lines: ReportLines,
+) -> Result<Vec<u8>, Memory>
     requires finished { IsFinished wave.now }
     requires binding { FitsBinding wave.now.design bound.now }
-    ensures { IfOk result (λ text. text.items ≡ spec.bit_lines wave.now bound.now) }
+    ensures { IfOk result (λ text. text.items ≡ spec.bit_lines wave.now bound.now lines) }
 {
     // With it comes the fact that the history has the places of the wave.
     let _count = wave.count();
     let mut text = Vec::new(alloc);
     let mut replayed = HistoryRow::first(alloc, wave.replayed())?;
+    let mut earlier = HistoryRow::first(alloc, wave.replayed())?;
     let mut bits = BoundBits::new(wave.stim(), bound.bound.as_slice());
     'bits: while let Some(bit) = bits.next() {
         bring(alloc, &mut replayed, last_step(wave.stim(), bit.moment))?;
-        put_bit(alloc, &mut text, wave, &replayed, bit)?;
+        bring(
+            alloc,
+            &mut earlier,
+            last_step(wave.stim(), bit.moment.saturating_sub(1)),
+        )?;
+        if is_told(wave, lines, &replayed, &earlier, bit) {
+            put_bit(alloc, &mut text, wave, &replayed, bit)?;
+        }
     }
     Ok(text)
 }
@@ -48,31 +62,18 @@ fn put_bit(
 ) -> Result<(), Memory>
     requires moments { HasMoments wave.now }
     requires bit { IsBitOf wave.now.design (length wave.now.stim.times) bit }
-    requires history { replayed.now.history ≡ wave.now.history }
-    requires step { replayed.now.step ≡ design.last_step (job wave.now) bit.moment }
-    ensures { OnOk result (text.new.items ≡ text.old.items ++ spec.bound_line wave.now bit) }
+    requires row { IsRowOf wave.now bit.moment replayed.now }
+    ensures { OnOk result (text.new.items ≡ text.old.items ++ spec.told_bit wave.now bit) }
 {
     let stim = wave.stim();
-    let place = Place {
-        step: last_step(stim, bit.moment),
-        net: bit.net,
-    };
     put_place(
         alloc,
         text,
         wave,
-        place,
+        place_in(stim, bit.moment, bit.net),
         stim.times.as_slice()[bit.moment as usize],
         replayed.shown(bit.net),
     )
-}
-
-/// The step of a moment's last round.
-fn last_step(stim: &Stim, moment: u32) -> u32
-    requires { moment < length stim.now.times }
-    ensures { result ≡ moment * stim.now.rounds + stim.now.rounds - 1 }
-{
-    moment * stim.rounds + (stim.rounds - 1)
 }
 
 fn put_place(

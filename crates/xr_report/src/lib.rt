@@ -5,12 +5,15 @@
 mod bits;
 mod counts;
 mod head;
+mod lines;
 mod puts;
 mod report;
 mod row;
+mod told;
 
 pub use bits::bit_lines;
 pub use counts::{Counts, counts_of};
 pub use head::head_lines;
+pub use lines::ReportLines;
 pub use report::{write_head, write_report};
 pub use row::bring;

@@ -7,6 +7,7 @@ ghost use Rattle.xr_wave.specs.Contents.{IsFinished};
 
 use crate::bits::bit_lines;
 use crate::head::head_lines;
+use crate::lines::ReportLines;
 use std::alloc::Global;
 use xr_base::{Memory, put};
 use xr_design::{Event, Forces};
@@ -14,21 +15,22 @@ use xr_match::Binding;
 use xr_wave::Wave;
 
 /// The whole report of a finished wave: its first three lines, with how many of the events force a net, then a line for
-/// each recorded bit that is x or z. Takes the text's bytes twice and a byte for each net, and time linear in the places
-/// and in the bits of all moments.
+/// each recorded bit that is x or z, where it is told. Takes the text's bytes twice and two bytes for each net, and
+/// time linear in the places and in the bits of all moments.
 #[tactic(auto, unfolding(crate::specs::Report::report_text))]
 pub fn write_report(
     alloc: Global,
     wave: &Wave<'_>,
     bound: &Binding,
+    lines: ReportLines,
     forces: &Forces,
 ) -> Result<Vec<u8>, Memory>
     requires finished { IsFinished wave.now }
     requires binding { FitsBinding wave.now.design bound.now }
-    ensures { IfOk result (λ text. text.items ≡ spec.report_text wave.now bound.now forces.now) }
+    ensures { IfOk result (λ text. text.items ≡ spec.report_text wave.now bound.now lines forces.now) }
 {
     let mut text = write_head(alloc, wave, forces)?;
-    let bits = bit_lines(alloc, wave, bound)?;
+    let bits = bit_lines(alloc, wave, bound, lines)?;
     put(&mut text, bits.as_slice())?;
     Ok(text)
 }

@@ -11,5 +11,8 @@ job own = needs (codes "record") Reads ∷ needs (codes "scope") Scope ∷ needs
 abbrev pub conflicts : Plain
 conflicts = takes (codes "conflicts") (Number 1 100000)
 
+abbrev pub report : Plain
+report = takes (codes "report") (Either (codes "all") (codes "changes"))
+
 abbrev pub places : Plain
 places = takes (codes "places") (Number 1 1099511627776)

@@ -64,5 +64,8 @@ pub const UNDRIVEN: Opt<'static> = takes!("undriven", Kind::Either("released", "
 /// The clauses of a search, 1,000 where it is absent.
 pub const CONFLICTS: Opt<'static> = takes!("conflicts", Kind::Number(1, 100_000));
 
+/// Which moments of a bit have a line in a report, `all` where it is absent.
+pub const REPORT: Opt<'static> = takes!("report", Kind::Either("all", "changes"));
+
 /// The most places, 2^27 where it is absent.
 pub const PLACES: Opt<'static> = takes!("places", Kind::Number(1, 1_099_511_627_776));

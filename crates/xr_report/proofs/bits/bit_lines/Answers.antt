@@ -22,7 +22,11 @@ bits-init c =
       within = subst (λ (bits : List BoundBit). AllByRecursion (IsBitOf wave.design (length wave.stim.times)) bits)
           (sym all) (bits_within wave.design (length wave.stim.times) bound c.requires.binding.each);
       history = ap (λ (row : RowView). row.history) c.in_ok-replayed.ensures ∙ c.replayed.ensures;
+      before = ap (λ (row : RowView). row.history) c.in_ok-earlier.ensures ∙ c.replayed-2.ensures;
     }
+
+pub is_told-requires-clause-moments : goal.is_told-requires-clause-moments
+is_told-requires-clause-moments c = moments_there c.args.wave.now c.count-count.ensures.wave c.requires.finished
 
 pub put_bit-requires-clause-moments : goal.put_bit-requires-clause-moments
 put_bit-requires-clause-moments c = moments_there c.args.wave.now c.count-count.ensures.wave c.requires.finished

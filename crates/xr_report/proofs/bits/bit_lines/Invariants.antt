@@ -1,4 +1,4 @@
--- The lines so far and those of the bits that are left are all, each bit that is left is there, and the row is that of the
+-- The lines so far and those of the bits that are left are all, each bit that is left is there, and the rows are of the
 -- history.
 use Rattle.std.proofs.Common.{◌≡◌, ◌++◌, length}
 use Rattle.std.specs.List.{AllByRecursion, flat_map}
@@ -8,10 +8,11 @@ use Rattle.xr_report.proofs.bits.bit_lines.Given as goal
 
 abbrev pub invariant-bits : goal.invariant-bits
 invariant-bits l = record {
-  lines : l.text.items ++ flat_map (bound_line l.wave) (left_of l.bits)
-      ≡ flat_map (bound_line l.wave) (bound_bits (length l.wave.stim.times) l.bound.bound);
+  lines : l.text.items ++ flat_map (bound_line l.wave l.lines) (left_of l.bits)
+      ≡ flat_map (bound_line l.wave l.lines) (bound_bits (length l.wave.stim.times) l.bound.bound);
   within : AllByRecursion (IsBitOf l.wave.design (length l.wave.stim.times)) (left_of l.bits);
   history : l.replayed.history ≡ l.wave.history;
+  before : l.earlier.history ≡ l.wave.history;
 }
 
 abbrev pub decreases-bits : goal.decreases-bits
