@@ -1,24 +1,41 @@
 //! The analysis of a conflict: the first unique implication point, from the reasons of the literals of the last level, back
 //! from those of the conflict; then local minimisation. Linear in the trail and in the reasons that it meets.
 
-use crate::search::Search;
+use crate::gates::Gate;
+use crate::implication::Implication;
+use crate::literal::{Literal, Variable};
+use crate::reason::Reason;
+use crate::solver::Solver;
+use crate::trail::{Level, Start};
 use xr_base::Memory;
-use xr_circuit::{Gate, Implication, Level, Literal, Reason, Start, Variable};
 
-impl Search {
-    /// Learns a clause from a conflict, goes back to where it forces its first literal, and makes that true; whether there
-    /// was such a clause.
-    pub(crate) fn learn(&mut self, conflict: Reason) -> Result<bool, Memory> {
+/// A clause that was learned, by number, and whether no table says it.
+#[derive(Clone, Copy, Debug)]
+pub(crate) struct Learned {
+    pub(crate) clause: u32,
+    pub(crate) is_new: bool,
+}
+
+impl Solver {
+    /// Learns a clause from a conflict, goes back to where it forces its first literal, and makes that true; none where
+    /// there is no such clause.
+    pub(crate) fn learn(&mut self, conflict: Reason) -> Result<Option<Learned>, Memory> {
         self.seen.forget();
         self.seen.push(Literal::new(Variable { number: 0 }, false))?;
         let Some(steps) = self.find_point(conflict)? else {
-            return Ok(false);
+            return Ok(None);
         };
         let left_out = self.minimize();
         let level = self.put_second();
         self.scores.grow();
         self.go_back(level);
-        self.add_learned(steps > 0 || left_out)
+        let clause = self.clauses.add(self.seen.clause())?;
+        if self.force_first(clause)? {
+            let is_new = steps > 0 || left_out;
+            Ok(Some(Learned { clause, is_new }))
+        } else {
+            Ok(None)
+        }
     }
 
     /// Puts the first unique implication point of the last level in the first place of the clause, and the literals of
@@ -188,18 +205,12 @@ impl Search {
         self.go_back(Level::base());
     }
 
-    /// The clause comes to those that were learned, and to the log where no table says it, with its watches, and its first
-    /// literal is true.
-    fn add_learned(&mut self, is_new: bool) -> Result<bool, Memory> {
-        let count = self.seen.clause().len();
-        let literals = self.seen.clause();
-        let clause = self.clauses.add(literals)?;
-        if is_new {
-            self.clauses.log(clause)?;
-        }
+    /// The clause of a number, which was learned last, gets its watches, and its first literal is true; whether that wasn't
+    /// false.
+    fn force_first(&mut self, clause: u32) -> Result<bool, Memory> {
         self.watches.add_clause()?;
         let first = self.seen.literal(0);
-        if count <= 1 {
+        if self.seen.clause().len() <= 1 {
             return self.trail.assign(first, Reason::Decision);
         }
         let second = self.seen.literal(1);

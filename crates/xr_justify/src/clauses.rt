@@ -1,16 +1,16 @@
-//! The clauses that a search learns, and its log: those of them that no table says.
+//! The clauses that a search learns.
 
+use crate::literal::{Literal, Variable};
+use crate::reads::{item_at, narrow, set_item};
+use crate::span::Span;
 use std::alloc::Global;
 use xr_base::Memory;
-use xr_circuit::{Literal, Span, Variable, item_at, narrow, set_item};
 
-/// Clauses by number, in the order in which they were learned, and the numbers of those that are logged. Takes 12 bytes a
-/// clause, and 4 a literal.
+/// Clauses by number, in the order in which they were learned. Takes 8 bytes a clause, and 4 a literal.
 #[derive(Drop)]
 pub(crate) struct Clauses {
     literals: Vec<Literal>,
     spans: Vec<Span>,
-    logged: Vec<u32>,
 }
 
 impl Clauses {
@@ -18,32 +18,15 @@ impl Clauses {
         Clauses {
             literals: Vec::new(alloc),
             spans: Vec::new(alloc),
-            logged: Vec::new(alloc),
         }
     }
 
     pub(crate) fn clear(&mut self) {
         self.literals.clear();
         self.spans.clear();
-        self.logged.clear();
     }
 
-    /// How many are logged.
-    pub(crate) fn logged(&self) -> usize {
-        self.logged.len()
-    }
-
-    /// The number of clause k of the log.
-    pub(crate) fn logged_at(&self, k: usize) -> u32 {
-        item_at(&self.logged, k, 0)
-    }
-
-    /// A clause is logged.
-    pub(crate) fn log(&mut self, clause: u32) -> Result<(), Memory> {
-        self.logged.push(clause)?;
-        Ok(())
-    }
-
+    /// One more, after the others.
     pub(crate) fn add(&mut self, literals: &[Literal]) -> Result<u32, Memory> {
         let number = narrow(self.spans.len());
         let span = Span {

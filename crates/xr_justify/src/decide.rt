@@ -1,8 +1,11 @@
 //! Decisions: the first node on the trail that its arguments don't force takes a bit of an argument.
 
-use crate::search::Search;
+use crate::gates::Gate;
+use crate::implication::Implication;
+use crate::literal::{Literal, Variable};
+use crate::reason::Reason;
+use crate::solver::Solver;
 use xr_base::Memory;
-use xr_circuit::{Gate, Implication, Literal, Reason, Variable};
 
 /// A literal with its score.
 #[derive(Clone, Copy, Debug)]
@@ -11,7 +14,7 @@ pub(crate) struct Candidate {
     score: u64,
 }
 
-impl Search {
+impl Solver {
     /// Takes the next decision, at a new level; whether there is one.
     pub(crate) fn decide(&mut self) -> Result<bool, Memory> {
         match self.pick() {

@@ -3,27 +3,46 @@
 //! clause of it is made. Decisions only justify: the first node with a bit that its arguments don't force takes a bit of an
 //! argument. Where none is left, the bits of the sources that have one give the node its bit, whatever the others have.
 //!
-//! Nothing of what it finds is promised: a caller tests a filling or a log before it counts, so a wrong one costs time
-//! alone. Promised is that each call ends and stays in its lists. A search ends after a number of conflicts; it is a
-//! function of the calls alone. Takes 5 bytes for each node of the circuit up to the highest that it met, and while it goes
-//! on some 100 for each node that it met and 16 for each argument that it read, and 4 for each literal that it learned.
+//! What it finds isn't promised: a caller tests a filling or a log before it counts, so a wrong one costs time alone.
+//! Promised is that each call ends and stays in its lists (what is past the end of one reads as nothing, and isn't written),
+//! and that a log has no more clauses than conflicts were allowed. A search is a function of the calls alone. Takes 5 bytes
+//! for each node of the circuit up to the highest that it met, and while it goes on some 100 for each node that it met and
+//! 16 for each argument that it read, and 4 for each literal that it learned.
 //!
-//! Start at `Search`. It asks for a node by `Step::Wanted`, and the caller reads that in. `propagate` finds what follows,
-//! `analyze` learns a clause from a conflict (the first unique implication point, with local minimisation), `decide` takes
-//! the next decision. The bits that nodes had last (`phases`) stay between searches. A node that has no bit yet isn't read,
-//! so what follows by its table is learned as a clause first; such a clause is left out of the log.
+//! Start at `Search`. It asks for a node by `Step::Wanted`, and the caller reads that in. What it knows is a `Solver`: the
+//! nodes that it met, as variables (`variables`), what those that were read read and by which table (`gates`, `readers`,
+//! `tables`), and the bits that they have, in the order in which they got them, each with its reason (`trail`). `propagate`
+//! finds what follows, `analyze` learns a clause from a conflict (the first unique implication point, with local
+//! minimisation), `decide` takes the next decision. The bits that nodes had last (`phases`) stay between searches. A node
+//! that has no bit yet isn't read, so what follows by its table is learned as a clause first; such a clause is left out of
+//! the log.
 #![tactic(auto)]
 
 mod analyze;
 mod clauses;
 mod decide;
+mod gates;
+mod implication;
+mod literal;
 mod phases;
 mod propagate;
+mod readers;
+mod reads;
+mod reason;
 mod restarts;
 mod scores;
 mod search;
 mod seen;
+mod solver;
+mod span;
+mod step;
+mod tables;
+mod trail;
+mod variables;
 mod watches;
 
-pub use search::{Search, Step};
-pub use xr_circuit::{Implication, NodeBit, Table};
+pub use implication::Implication;
+pub use literal::NodeBit;
+pub use search::Search;
+pub use step::Step;
+pub use tables::Table;

@@ -1,10 +1,14 @@
 //! Propagation: what follows from the bits on the trail by the tables of nodes and by learned clauses. Linear in the
 //! implications of the nodes that read a variable and in the clauses that watch its literals.
 
-use crate::search::Search;
+use crate::gates::Gate;
+use crate::implication::{Force, Known};
+use crate::literal::{Literal, Variable};
+use crate::reads::narrow;
+use crate::reason::Reason;
+use crate::solver::Solver;
 use crate::watches::Watch;
 use xr_base::Memory;
-use xr_circuit::{Force, Gate, Known, Literal, Reason, Variable, narrow};
 
 /// How propagation ends: nothing more follows, a node isn't read in yet, or there is a conflict: all literals of a reason
 /// are false.
@@ -23,7 +27,7 @@ pub(crate) enum Watched {
     Conflicts,
 }
 
-impl Search {
+impl Solver {
     /// Reads the trail to its end.
     pub(crate) fn propagate(&mut self) -> Result<Propagated, Memory> {
         'unread: for _ in 0..u64::MAX {

@@ -1,155 +1,87 @@
 //! A search: which bits give a node a bit.
 
-use crate::clauses::Clauses;
-use crate::phases::Phases;
+ghost use Rattle.std.specs.Prelude.{◌≡◌, ◌≤◌, IfOk, IfSome, OnOk, length};
+ghost use Rattle.xr_justify.specs.Search.{TablesFit, clauses_allowed, implications_in};
+ghost use Rattle.xr_justify.specs.Step.{HasAtMost};
+
+use crate::implication::Implication;
+use crate::literal::NodeBit;
 use crate::propagate::Propagated;
+use crate::reason::Reason;
 use crate::restarts::Restarts;
-use crate::scores::Scores;
-use crate::seen::Seen;
-use crate::watches::Watches;
+use crate::solver::Solver;
+use crate::step::Step;
+use crate::tables::Table;
 use std::alloc::Global;
 use xr_base::Memory;
-use xr_circuit::{
-    Gate, Gates, Implication, Literal, NodeBit, Readers, Reason, Span, Table, Tables, Trail,
-    Variable, Variables, narrow,
-};
-
-/// What a search comes to.
-#[derive(Clone, Copy, Debug)]
-pub enum Step {
-    /// It goes on once this node is read in by `give`.
-    Wanted(u32),
-    /// The bits of some sources (`sources`) give the node its bit.
-    Filling,
-    /// Nothing gives the node its bit: the clauses that were learned (`clause`), and after them the empty one, follow by
-    /// unit propagation from what the tables say and from that bit.
-    Log,
-    /// Neither was found in as many conflicts as were allowed.
-    Nothing,
-}
 
 /// A search. What it finds isn't promised. Tables that were added and the bits that nodes had last stay from one search to
 /// the next.
 #[derive(Drop)]
 pub struct Search {
-    pub(crate) tables: Tables,
-    pub(crate) phases: Phases,
-    pub(crate) variables: Variables,
-    pub(crate) gates: Gates,
-    pub(crate) readers: Readers,
-    pub(crate) trail: Trail,
-    pub(crate) clauses: Clauses,
-    pub(crate) watches: Watches,
-    pub(crate) scores: Scores,
-    pub(crate) seen: Seen,
-    restarts: Restarts,
+    solver: Solver,
+    /// The numbers of the clauses of the log: of those that were learned and that no table says. Takes 4 bytes for each.
+    log: Vec<u32>,
+    /// So many conflicts are left.
     left: u32,
+    restarts: Restarts,
 }
 
 impl Search {
     /// No search. Takes no memory.
-    pub fn new(alloc: Global) -> Search {
+    pub fn new(alloc: Global) -> Search
+        ensures { clauses_allowed result ≡ 0 }
+    {
         Search {
-            tables: Tables::new(alloc),
-            phases: Phases::new(alloc),
-            variables: Variables::new(alloc),
-            gates: Gates::new(alloc),
-            readers: Readers::new(alloc),
-            trail: Trail::new(alloc),
-            clauses: Clauses::new(alloc),
-            watches: Watches::new(alloc),
-            scores: Scores::new(alloc),
-            seen: Seen::new(alloc),
-            restarts: Restarts::new(),
+            solver: Solver::new(alloc),
+            log: Vec::new(alloc),
             left: 0,
+            restarts: Restarts::new(),
         }
     }
 
     /// A table comes in, by the minimal choices of bits for a node's arguments and the bits that they force: of at most 16
     /// arguments. Takes 8 bytes, and 6 for each implication.
-    pub fn add_table(&mut self, implications: &[Implication]) -> Result<Table, Memory> {
-        self.tables.add(implications)
+    pub fn add_table(&mut self, implications: &[Implication]) -> Result<Table, Memory>
+        ensures ok { TablesFit self.new → IfOk result (λ table. implications_in self.new table ≡ implications.now) }
+        ensures allowed { clauses_allowed self.new ≡ clauses_allowed self.old }
+    {
+        self.solver.tables.add(implications)
     }
 
     /// Begins a search for what gives a node a bit, which ends after a number of conflicts. Any earlier one is forgotten.
-    pub fn start(&mut self, wanted: NodeBit, conflicts: u32) -> Result<(), Memory> {
-        self.forget();
+    pub fn start(&mut self, wanted: NodeBit, conflicts: u32) -> Result<(), Memory>
+        ensures { clauses_allowed self.new ≡ conflicts }
+    {
+        self.log.clear();
         self.left = conflicts;
-        let variable = self.meet(wanted.node)?;
-        self.trail
-            .assign(Literal::new(variable, wanted.bit), Reason::Decision)?;
-        Ok(())
-    }
-
-    fn forget(&mut self) {
-        self.variables.clear();
-        self.gates.clear();
-        self.readers.clear();
-        self.trail.clear();
-        self.clauses.clear();
-        self.watches.clear();
-        self.scores.clear();
-        self.seen.clear();
         self.restarts = Restarts::new();
+        self.solver.start(wanted)
     }
 
-    /// A node that was wanted comes in: what it reads, its table, and whether its table has x. Takes 16 bytes for each node
-    /// that it reads, and some 100 for each of these that the search hasn't met.
+    /// A node that was wanted comes in: what it reads, its table, and whether its table has x, so that it is a source. Takes
+    /// 16 bytes for each node that it reads, and some 100 for each of these that the search hasn't met.
     pub fn give(
         &mut self,
         node: u32,
         arguments: &[u32],
         table: Table,
         has_x: bool,
-    ) -> Result<(), Memory> {
-        let gate = self.meet(node)?;
-        let arguments_span = Span {
-            start: self.gates.arguments(),
-            count: narrow(arguments.len()),
-        };
-        self.read_arguments(gate, arguments)?;
-        let read = Gate {
-            arguments: arguments_span,
-            implications: self.tables.span(table),
-            is_source: has_x,
-            is_read: true,
-        };
-        self.gates.set(gate, read);
-        Ok(())
+    ) -> Result<(), Memory>
+        ensures { clauses_allowed self.new ≡ clauses_allowed self.old }
+    {
+        self.solver.give(node, arguments, table, has_x)
     }
 
-    fn read_arguments(&mut self, gate: Variable, arguments: &[u32]) -> Result<(), Memory> {
-        'arguments: for argument in arguments {
-            let variable = self.meet(*argument)?;
-            self.gates.add_argument(variable)?;
-            self.readers.note(variable, gate)?;
-        }
-        Ok(())
-    }
-
-    /// The variable of a node, which it gets here if it has none.
-    fn meet(&mut self, node: u32) -> Result<Variable, Memory> {
-        match self.variables.find(node) {
-            Some(variable) => Ok(variable),
-            None => self.add(node),
-        }
-    }
-
-    fn add(&mut self, node: u32) -> Result<Variable, Memory> {
-        self.phases.meet(node)?;
-        self.gates.add()?;
-        self.readers.add()?;
-        self.trail.add()?;
-        self.watches.add()?;
-        self.scores.add()?;
-        self.seen.add()?;
-        self.variables.add(node)
-    }
-
-    /// Goes on until a node is wanted or the search has ended.
-    pub fn go_on(&mut self) -> Result<Step, Memory> {
+    /// Goes on until a node is wanted or the search has ended. Takes 4 bytes for each source with 1, or 8 for each literal of
+    /// the log.
+    #[tactic(auto, using(crate::proofs::StepLemmas::at_most_more))]
+    pub fn go_on(&mut self, alloc: Global) -> Result<Step, Memory>
+        ensures ends { IfOk result (HasAtMost (clauses_allowed self.old)) }
+        ensures allowed { OnOk result (clauses_allowed self.new ≤ clauses_allowed self.old) }
+    {
         'steps: for _ in 0..u64::MAX {
-            if let Some(step) = self.step()? {
+            if let Some(step) = self.step(alloc)? {
                 return Ok(step);
             }
         }
@@ -157,69 +89,57 @@ impl Search {
     }
 
     /// Propagates, and then learns from a conflict or takes a decision.
-    fn step(&mut self) -> Result<Option<Step>, Memory> {
-        match self.propagate()? {
+    fn step(&mut self, alloc: Global) -> Result<Option<Step>, Memory>
+        ensures ends { IfOk result (λ found. IfSome found (HasAtMost (clauses_allowed self.old))) }
+        ensures allowed { OnOk result (clauses_allowed self.new ≤ clauses_allowed self.old) }
+    {
+        match self.solver.propagate()? {
             Propagated::Wanted(node) => Ok(Some(Step::Wanted(node))),
-            Propagated::Conflict(reason) => self.take_conflict(reason),
+            Propagated::Conflict(reason) => self.take_conflict(alloc, reason),
             Propagated::All => {
-                if self.decide()? {
-                    Ok(None)
-                } else {
-                    Ok(Some(Step::Filling))
+                if self.solver.decide()? {
+                    return Ok(None);
                 }
+                let ones = self.solver.ones(alloc)?;
+                Ok(Some(Step::Filling(ones)))
             }
         }
     }
 
     /// Learns from a conflict, and goes back; unless it is one without a decision, or the last that is allowed.
-    fn take_conflict(&mut self, conflict: Reason) -> Result<Option<Step>, Memory> {
-        if self.trail.level().is_base() {
-            return Ok(Some(Step::Log));
+    fn take_conflict(&mut self, alloc: Global, conflict: Reason) -> Result<Option<Step>, Memory>
+        ensures ends { IfOk result (λ found. IfSome found (HasAtMost (clauses_allowed self.old))) }
+        ensures allowed { OnOk result (clauses_allowed self.new ≤ clauses_allowed self.old) }
+    {
+        if self.solver.trail.level().is_base() {
+            let log = self.clauses(alloc)?;
+            return Ok(Some(Step::Log(log)));
         }
         if self.left <= 1 {
             return Ok(Some(Step::Nothing));
         }
-        if !self.learn(conflict)? {
+        let Some(learned) = self.solver.learn(conflict)? else {
             return Ok(Some(Step::Nothing));
+        };
+        self.left = self.left - 1;
+        if learned.is_new {
+            self.log.push(learned.clause)?;
         }
-        self.left = self.left.saturating_sub(1);
         if self.restarts.is_due() {
-            self.restart();
+            self.solver.restart();
         }
         Ok(None)
     }
 
-    /// The bits of sources that the search came to, after `Step::Filling`. Takes 8 bytes for each.
-    pub fn sources(&self, alloc: Global) -> Result<Vec<NodeBit>, Memory> {
-        let mut sources = Vec::new(alloc);
-        'places: for place in 0..self.trail.len() {
-            let literal = self.trail.literal(place);
-            if self.gates.gate(literal.variable()).is_source {
-                sources.push(self.node_bit(literal))?;
-            }
+    /// The clauses of the log, in the order in which they were learned.
+    fn clauses(&self, alloc: Global) -> Result<Vec<Vec<NodeBit>>, Memory>
+        ensures { IfOk result (λ clauses. length clauses.items ≡ length self.now.log.items) }
+    {
+        let mut clauses = Vec::new(alloc);
+        'clauses: for k in 0..self.log.len() {
+            let clause = self.solver.clause(alloc, self.log[k])?;
+            clauses.push(clause)?;
         }
-        Ok(sources)
-    }
-
-    /// How many clauses it learned that no table says. Takes no memory.
-    pub fn clauses(&self) -> usize {
-        self.clauses.logged()
-    }
-
-    /// One of these, in the order in which it learned them: one of these nodes has this bit. Takes 8 bytes for each.
-    pub fn clause(&self, alloc: Global, k: usize) -> Result<Vec<NodeBit>, Memory> {
-        let number = self.clauses.logged_at(k);
-        let mut clause = Vec::new(alloc);
-        'literals: for place in 0..self.clauses.span(number).len() {
-            clause.push(self.node_bit(self.clauses.literal(number, place)))?;
-        }
-        Ok(clause)
-    }
-
-    fn node_bit(&self, literal: Literal) -> NodeBit {
-        NodeBit {
-            node: self.variables.node(literal.variable()),
-            bit: literal.bit(),
-        }
+        Ok(clauses)
     }
 }

@@ -1,8 +1,9 @@
 //! What the analysis of a conflict met, and the clause that it comes to.
 
+use crate::literal::{Literal, Variable};
+use crate::reads::{item_at, set_item};
 use std::alloc::Global;
 use xr_base::Memory;
-use xr_circuit::{Literal, Variable, item_at, set_item};
 
 /// For each variable whether it was met, those that were, and the literals of the clause. Takes 9 bytes a variable.
 #[derive(Drop)]

@@ -1,8 +1,9 @@
 //! Watches: each clause of two literals or more watches its first two, in linked lists by literal.
 
+use crate::literal::{Literal, Variable};
+use crate::reads::{item_at, set_item};
 use std::alloc::Global;
 use xr_base::Memory;
-use xr_circuit::{Literal, Variable, item_at, set_item};
 
 /// A watch by number: twice that of its clause, and 1 more for the second literal.
 #[derive(Clone, Copy, Debug)]

@@ -2,24 +2,24 @@
 
 /// So many items of a list, from one on.
 #[derive(Clone, Copy, Debug)]
-pub struct Span {
-    pub start: u32,
-    pub count: u32,
+pub(crate) struct Span {
+    pub(crate) start: u32,
+    pub(crate) count: u32,
 }
 
 impl Span {
     /// No items. Takes no memory.
-    pub fn empty() -> Span {
+    pub(crate) fn empty() -> Span {
         Span { start: 0, count: 0 }
     }
 
     /// How many items. Takes no memory.
-    pub fn len(self) -> usize {
+    pub(crate) fn len(self) -> usize {
         self.count as usize
     }
 
     /// Where item k stands in the list. Takes no memory.
-    pub fn place(self, k: usize) -> usize {
+    pub(crate) fn place(self, k: usize) -> usize {
         (self.start as usize).saturating_add(k)
     }
 }

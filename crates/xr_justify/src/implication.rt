@@ -11,7 +11,7 @@ pub struct Implication {
 
 /// What an implication makes of known bits.
 #[derive(Clone, Copy, Debug)]
-pub enum Force {
+pub(crate) enum Force {
     /// Nothing.
     Nothing,
     /// The node has its bit.
@@ -22,15 +22,15 @@ pub enum Force {
 
 /// The bits of a node's arguments that are known, by marks: argument k has the mark 2^k.
 #[derive(Clone, Copy, Debug)]
-pub struct Known {
-    pub care: u16,
-    pub bits: u16,
-    pub all: u16,
+pub(crate) struct Known {
+    pub(crate) care: u16,
+    pub(crate) bits: u16,
+    pub(crate) all: u16,
 }
 
 impl Known {
     /// No argument. Takes no memory.
-    pub fn none() -> Known {
+    pub(crate) fn none() -> Known {
         Known {
             care: 0,
             bits: 0,
@@ -39,7 +39,7 @@ impl Known {
     }
 
     /// With one more argument, by its mark and its bit, if that is known. Takes no memory.
-    pub fn with(self, mark: u16, value: Option<bool>) -> Known {
+    pub(crate) fn with(self, mark: u16, value: Option<bool>) -> Known {
         let all = self.all | mark;
         match value {
             None => Known { all, ..self },
@@ -57,14 +57,14 @@ impl Known {
     }
 
     /// Whether the bit of each argument is known. Takes no memory.
-    pub fn is_full(self) -> bool {
+    pub(crate) fn is_full(self) -> bool {
         self.care == self.all
     }
 }
 
 impl Implication {
     /// One that is never used: it chooses 16 arguments. Takes no memory.
-    pub fn none() -> Implication {
+    pub(crate) fn none() -> Implication {
         Implication {
             care: 0xffff,
             bits: 0,
@@ -73,17 +73,17 @@ impl Implication {
     }
 
     /// Whether an argument that is chosen has another bit. Takes no memory.
-    pub fn is_off(self, known: Known) -> bool {
+    pub(crate) fn is_off(self, known: Known) -> bool {
         (self.bits ^ known.bits) & self.care & known.care != 0
     }
 
     /// The marks of the arguments that are chosen and not known. Takes no memory.
-    pub fn open(self, known: Known) -> u16 {
+    pub(crate) fn open(self, known: Known) -> u16 {
         self.care & !known.care
     }
 
     /// Whether the argument of a mark is chosen, and its bit. Takes no memory.
-    pub fn chosen(self, mark: u16) -> Option<bool> {
+    pub(crate) fn chosen(self, mark: u16) -> Option<bool> {
         if self.care & mark == 0 {
             None
         } else {
@@ -92,7 +92,7 @@ impl Implication {
     }
 
     /// What follows from the known bits of the arguments and from the node's own. Takes no memory.
-    pub fn force(self, known: Known, own: Option<bool>) -> Force {
+    pub(crate) fn force(self, known: Known, own: Option<bool>) -> Force {
         if self.is_off(known) {
             return Force::Nothing;
         }

@@ -8,16 +8,16 @@ use xr_base::Memory;
 
 /// What a node reads, where its implications stand, and whether it is a source: it has bits that these don't force.
 #[derive(Clone, Copy, Debug)]
-pub struct Gate {
-    pub arguments: Span,
-    pub implications: Span,
-    pub is_source: bool,
-    pub is_read: bool,
+pub(crate) struct Gate {
+    pub(crate) arguments: Span,
+    pub(crate) implications: Span,
+    pub(crate) is_source: bool,
+    pub(crate) is_read: bool,
 }
 
 impl Gate {
     /// One that wasn't read. Takes no memory.
-    pub fn unread() -> Gate {
+    pub(crate) fn unread() -> Gate {
         Gate {
             arguments: Span::empty(),
             implications: Span::empty(),
@@ -29,14 +29,14 @@ impl Gate {
 
 /// Gates by variable, and what all of them read in one list. Takes 20 bytes a variable, and 4 an argument.
 #[derive(Drop)]
-pub struct Gates {
+pub(crate) struct Gates {
     gates: Vec<Gate>,
     arguments: Vec<Variable>,
 }
 
 impl Gates {
     /// No variables. Takes no memory.
-    pub fn new(alloc: Global) -> Gates {
+    pub(crate) fn new(alloc: Global) -> Gates {
         Gates {
             gates: Vec::new(alloc),
             arguments: Vec::new(alloc),
@@ -44,29 +44,29 @@ impl Gates {
     }
 
     /// No variables any more. Takes no memory.
-    pub fn clear(&mut self) {
+    pub(crate) fn clear(&mut self) {
         self.gates.clear();
         self.arguments.clear();
     }
 
     /// One more variable, whose node wasn't read.
-    pub fn add(&mut self) -> Result<(), Memory> {
+    pub(crate) fn add(&mut self) -> Result<(), Memory> {
         self.gates.push(Gate::unread())?;
         Ok(())
     }
 
     /// The gate of a variable. Takes no memory.
-    pub fn gate(&self, variable: Variable) -> Gate {
+    pub(crate) fn gate(&self, variable: Variable) -> Gate {
         item_at(&self.gates, variable.index(), Gate::unread())
     }
 
     /// The gate of a variable is this now. Takes no memory.
-    pub fn set(&mut self, variable: Variable, gate: Gate) {
+    pub(crate) fn set(&mut self, variable: Variable, gate: Gate) {
         set_item(&mut self.gates, variable.index(), gate);
     }
 
     /// Argument k of a gate. Takes no memory.
-    pub fn argument(&self, gate: Gate, k: usize) -> Variable {
+    pub(crate) fn argument(&self, gate: Gate, k: usize) -> Variable {
         item_at(
             &self.arguments,
             gate.arguments.place(k),
@@ -75,12 +75,12 @@ impl Gates {
     }
 
     /// How many arguments there are of all gates. Takes no memory.
-    pub fn arguments(&self) -> u32 {
+    pub(crate) fn arguments(&self) -> u32 {
         narrow(self.arguments.len())
     }
 
     /// One argument more, after those of all gates.
-    pub fn add_argument(&mut self, argument: Variable) -> Result<(), Memory> {
+    pub(crate) fn add_argument(&mut self, argument: Variable) -> Result<(), Memory> {
         self.arguments.push(argument)?;
         Ok(())
     }

@@ -7,21 +7,21 @@ use xr_base::Memory;
 
 /// A gate that reads a variable, and the entry of the next one.
 #[derive(Clone, Copy, Debug)]
-pub struct Reader {
-    pub gate: Variable,
-    pub next: Option<u32>,
+pub(crate) struct Reader {
+    pub(crate) gate: Variable,
+    pub(crate) next: Option<u32>,
 }
 
 /// The readers of each variable. Takes 8 bytes a variable, and 12 an entry.
 #[derive(Drop)]
-pub struct Readers {
+pub(crate) struct Readers {
     first: Vec<Option<u32>>,
     entries: Vec<Reader>,
 }
 
 impl Readers {
     /// No variables. Takes no memory.
-    pub fn new(alloc: Global) -> Readers {
+    pub(crate) fn new(alloc: Global) -> Readers {
         Readers {
             first: Vec::new(alloc),
             entries: Vec::new(alloc),
@@ -29,19 +29,19 @@ impl Readers {
     }
 
     /// No variables any more. Takes no memory.
-    pub fn clear(&mut self) {
+    pub(crate) fn clear(&mut self) {
         self.first.clear();
         self.entries.clear();
     }
 
     /// One more variable, which nothing reads.
-    pub fn add(&mut self) -> Result<(), Memory> {
+    pub(crate) fn add(&mut self) -> Result<(), Memory> {
         self.first.push(None)?;
         Ok(())
     }
 
     /// A gate reads a variable.
-    pub fn note(&mut self, variable: Variable, gate: Variable) -> Result<(), Memory> {
+    pub(crate) fn note(&mut self, variable: Variable, gate: Variable) -> Result<(), Memory> {
         let entry = narrow(self.entries.len());
         let next = self.first(variable);
         self.entries.push(Reader { gate, next })?;
@@ -50,17 +50,17 @@ impl Readers {
     }
 
     /// How many entries there are. Takes no memory.
-    pub fn len(&self) -> usize {
+    pub(crate) fn len(&self) -> usize {
         self.entries.len()
     }
 
     /// The first entry of a variable. Takes no memory.
-    pub fn first(&self, variable: Variable) -> Option<u32> {
+    pub(crate) fn first(&self, variable: Variable) -> Option<u32> {
         item_at(&self.first, variable.index(), None)
     }
 
     /// The reader of an entry. Takes no memory.
-    pub fn reader(&self, entry: u32) -> Reader {
+    pub(crate) fn reader(&self, entry: u32) -> Reader {
         let none = Reader {
             gate: Variable { number: 0 },
             next: None,

@@ -1,5 +1,8 @@
 //! The implications of tables, which stay between searches.
 
+ghost use Rattle.std.specs.Prelude.{◌≡◌, IfOk};
+ghost use Rattle.xr_justify.specs.Tables.{FitFourBytes, implications_of};
+
 use crate::implication::Implication;
 use crate::reads::{item_at, narrow};
 use crate::span::Span;
@@ -14,14 +17,14 @@ pub struct Table {
 
 /// Tables by number. Takes 8 bytes a table, and 6 an implication.
 #[derive(Drop)]
-pub struct Tables {
+pub(crate) struct Tables {
     implications: Vec<Implication>,
     spans: Vec<Span>,
 }
 
 impl Tables {
     /// No tables. Takes no memory.
-    pub fn new(alloc: Global) -> Tables {
+    pub(crate) fn new(alloc: Global) -> Tables {
         Tables {
             implications: Vec::new(alloc),
             spans: Vec::new(alloc),
@@ -29,7 +32,9 @@ impl Tables {
     }
 
     /// A table comes in, by what it says of at most 16 arguments.
-    pub fn add(&mut self, implications: &[Implication]) -> Result<Table, Memory> {
+    pub(crate) fn add(&mut self, implications: &[Implication]) -> Result<Table, Memory>
+        ensures { FitFourBytes self.new → IfOk result (λ table. implications_of self.new table ≡ implications.now) }
+    {
         let number = narrow(self.spans.len());
         let span = Span {
             start: narrow(self.implications.len()),
@@ -41,12 +46,12 @@ impl Tables {
     }
 
     /// Where the implications of a table stand. Takes no memory.
-    pub fn span(&self, table: Table) -> Span {
+    pub(crate) fn span(&self, table: Table) -> Span {
         item_at(&self.spans, table.number as usize, Span::empty())
     }
 
     /// The implication that stands at a place. Takes no memory.
-    pub fn implication(&self, place: usize) -> Implication {
+    pub(crate) fn implication(&self, place: usize) -> Implication {
         item_at(&self.implications, place, Implication::none())
     }
 }

@@ -8,14 +8,14 @@ use xr_base::Memory;
 /// The node of each variable, and for each node of the circuit 0 where the search hasn't met it, else one more than the
 /// number of its variable. Takes 4 bytes for each node up to the highest that was met.
 #[derive(Drop)]
-pub struct Variables {
+pub(crate) struct Variables {
     nodes: Vec<u32>,
     by_node: Vec<u32>,
 }
 
 impl Variables {
     /// No node is met. Takes no memory.
-    pub fn new(alloc: Global) -> Variables {
+    pub(crate) fn new(alloc: Global) -> Variables {
         Variables {
             nodes: Vec::new(alloc),
             by_node: Vec::new(alloc),
@@ -23,7 +23,7 @@ impl Variables {
     }
 
     /// No node is met any more. Takes no memory.
-    pub fn clear(&mut self) {
+    pub(crate) fn clear(&mut self) {
         'nodes: for k in 0..self.nodes.len() {
             let node = item_at(&self.nodes, k, 0);
             set_item(&mut self.by_node, node as usize, 0);
@@ -32,7 +32,7 @@ impl Variables {
     }
 
     /// The variable of a node, if the search met it. Takes no memory.
-    pub fn find(&self, node: u32) -> Option<Variable> {
+    pub(crate) fn find(&self, node: u32) -> Option<Variable> {
         match item_at(&self.by_node, node as usize, 0) {
             0 => None,
             code => Some(Variable { number: code - 1 }),
@@ -40,7 +40,7 @@ impl Variables {
     }
 
     /// A node that the search hasn't met gets a variable.
-    pub fn add(&mut self, node: u32) -> Result<Variable, Memory> {
+    pub(crate) fn add(&mut self, node: u32) -> Result<Variable, Memory> {
         let number = narrow(self.nodes.len());
         let place = node as usize;
         if place >= self.by_node.len() {
@@ -52,7 +52,7 @@ impl Variables {
     }
 
     /// The node of a variable. Takes no memory.
-    pub fn node(&self, variable: Variable) -> u32 {
+    pub(crate) fn node(&self, variable: Variable) -> u32 {
         item_at(&self.nodes, variable.index(), 0)
     }
 }

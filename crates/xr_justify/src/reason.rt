@@ -4,7 +4,7 @@ use crate::literal::Variable;
 
 /// A decision or a clause of one literal; an implication of a gate, by its place; or a learned clause, by number.
 #[derive(Clone, Copy, Debug)]
-pub enum Reason {
+pub(crate) enum Reason {
     Decision,
     Implication { gate: Variable, place: u32 },
     Clause(u32),

@@ -8,38 +8,38 @@ use xr_base::Memory;
 
 /// How many decisions came before. Bits of the base level need none.
 #[derive(Clone, Copy, Debug)]
-pub struct Level {
-    pub decisions: u32,
+pub(crate) struct Level {
+    pub(crate) decisions: u32,
 }
 
 impl Level {
     /// No decision. Takes no memory.
-    pub fn base() -> Level {
+    pub(crate) fn base() -> Level {
         Level { decisions: 0 }
     }
 
     /// Whether it is the base level. Takes no memory.
-    pub fn is_base(self) -> bool {
+    pub(crate) fn is_base(self) -> bool {
         self.decisions == 0
     }
 
     /// Whether more decisions came before. Takes no memory.
-    pub fn is_above(self, other: Level) -> bool {
+    pub(crate) fn is_above(self, other: Level) -> bool {
         self.decisions > other.decisions
     }
 }
 
 /// What a variable has.
 #[derive(Clone, Copy, Debug)]
-pub struct Assigned {
-    pub value: Option<bool>,
-    pub level: Level,
-    pub reason: Reason,
+pub(crate) struct Assigned {
+    pub(crate) value: Option<bool>,
+    pub(crate) level: Level,
+    pub(crate) reason: Reason,
 }
 
 impl Assigned {
     /// No bit. Takes no memory.
-    pub fn nothing() -> Assigned {
+    pub(crate) fn nothing() -> Assigned {
         Assigned {
             value: None,
             level: Level::base(),
@@ -50,7 +50,7 @@ impl Assigned {
 
 /// Where a level begins on the trail, and where the search for a decision stood.
 #[derive(Clone, Copy, Debug)]
-pub struct Start {
+pub(crate) struct Start {
     len: u32,
     cursor: u32,
 }
@@ -58,7 +58,7 @@ pub struct Start {
 /// The trail: literals in order, of which the first ones are read. All before the cursor are justified, or can't be. Takes
 /// 28 bytes a variable, and 8 a level.
 #[derive(Drop)]
-pub struct Trail {
+pub(crate) struct Trail {
     assigned: Vec<Assigned>,
     literals: Vec<Literal>,
     starts: Vec<Start>,
@@ -68,7 +68,7 @@ pub struct Trail {
 
 impl Trail {
     /// No variables. Takes no memory.
-    pub fn new(alloc: Global) -> Trail {
+    pub(crate) fn new(alloc: Global) -> Trail {
         Trail {
             assigned: Vec::new(alloc),
             literals: Vec::new(alloc),
@@ -79,7 +79,7 @@ impl Trail {
     }
 
     /// No variables any more. Takes no memory.
-    pub fn clear(&mut self) {
+    pub(crate) fn clear(&mut self) {
         self.assigned.clear();
         self.literals.clear();
         self.starts.clear();
@@ -88,23 +88,23 @@ impl Trail {
     }
 
     /// One more variable, without a bit.
-    pub fn add(&mut self) -> Result<(), Memory> {
+    pub(crate) fn add(&mut self) -> Result<(), Memory> {
         self.assigned.push(Assigned::nothing())?;
         Ok(())
     }
 
     /// What a variable has. Takes no memory.
-    pub fn assigned(&self, variable: Variable) -> Assigned {
+    pub(crate) fn assigned(&self, variable: Variable) -> Assigned {
         item_at(&self.assigned, variable.index(), Assigned::nothing())
     }
 
     /// The bit of a variable, if it has one. Takes no memory.
-    pub fn value(&self, variable: Variable) -> Option<bool> {
+    pub(crate) fn value(&self, variable: Variable) -> Option<bool> {
         self.assigned(variable).value
     }
 
     /// Whether the variable has the bit. Takes no memory.
-    pub fn is_true(&self, literal: Literal) -> bool {
+    pub(crate) fn is_true(&self, literal: Literal) -> bool {
         match self.value(literal.variable()) {
             None => false,
             Some(bit) => bit == literal.bit(),
@@ -112,12 +112,12 @@ impl Trail {
     }
 
     /// Whether the variable has the other bit. Takes no memory.
-    pub fn is_false(&self, literal: Literal) -> bool {
+    pub(crate) fn is_false(&self, literal: Literal) -> bool {
         self.is_true(literal.turned())
     }
 
     /// Makes a literal true, unless it is; whether it wasn't false.
-    pub fn assign(&mut self, literal: Literal, reason: Reason) -> Result<bool, Memory> {
+    pub(crate) fn assign(&mut self, literal: Literal, reason: Reason) -> Result<bool, Memory> {
         match self.value(literal.variable()) {
             Some(bit) => Ok(bit == literal.bit()),
             None => {
@@ -139,25 +139,25 @@ impl Trail {
     }
 
     /// The level of what comes next. Takes no memory.
-    pub fn level(&self) -> Level {
+    pub(crate) fn level(&self) -> Level {
         Level {
             decisions: narrow(self.starts.len()),
         }
     }
 
     /// How many literals there are. Takes no memory.
-    pub fn len(&self) -> usize {
+    pub(crate) fn len(&self) -> usize {
         self.literals.len()
     }
 
     /// The literal of a place on the trail. Takes no memory.
-    pub fn literal(&self, place: usize) -> Literal {
+    pub(crate) fn literal(&self, place: usize) -> Literal {
         let other = Literal::new(Variable { number: 0 }, false);
         item_at(&self.literals, place, other)
     }
 
     /// The first literal that isn't read. Takes no memory.
-    pub fn unread(&self) -> Option<Literal> {
+    pub(crate) fn unread(&self) -> Option<Literal> {
         if self.read < self.literals.len() {
             Some(self.literal(self.read))
         } else {
@@ -166,22 +166,22 @@ impl Trail {
     }
 
     /// One more is read. Takes no memory.
-    pub fn advance(&mut self) {
+    pub(crate) fn advance(&mut self) {
         self.read = self.read.saturating_add(1);
     }
 
     /// Where the search for a decision stands. Takes no memory.
-    pub fn cursor(&self) -> usize {
+    pub(crate) fn cursor(&self) -> usize {
         self.cursor
     }
 
     /// It stands there now. Takes no memory.
-    pub fn set_cursor(&mut self, place: usize) {
+    pub(crate) fn set_cursor(&mut self, place: usize) {
         self.cursor = place;
     }
 
     /// A new level begins.
-    pub fn open_level(&mut self) -> Result<(), Memory> {
+    pub(crate) fn open_level(&mut self) -> Result<(), Memory> {
         let start = Start {
             len: narrow(self.literals.len()),
             cursor: narrow(self.cursor),
@@ -192,7 +192,7 @@ impl Trail {
 
     /// Where the level after one begins, if there is one: to go back to that level, what comes from there on goes. Takes no
     /// memory.
-    pub fn end_of(&self, level: Level) -> Option<Start> {
+    pub(crate) fn end_of(&self, level: Level) -> Option<Start> {
         let place = level.decisions as usize;
         if place < self.starts.len() {
             Some(self.starts[place])
@@ -202,7 +202,7 @@ impl Trail {
     }
 
     /// The last literal goes, if it is past the start of a level. Takes no memory.
-    pub fn pop_past(&mut self, start: Start) -> Option<Literal> {
+    pub(crate) fn pop_past(&mut self, start: Start) -> Option<Literal> {
         if self.literals.len() <= start.len as usize {
             return None;
         }
@@ -216,7 +216,7 @@ impl Trail {
     }
 
     /// Only the levels up to one stay, whose literals are those that are left. Takes no memory.
-    pub fn close_levels(&mut self, level: Level, start: Start) {
+    pub(crate) fn close_levels(&mut self, level: Level, start: Start) {
         self.starts.truncate(level.decisions as usize);
         self.read = self.literals.len();
         self.cursor = start.cursor as usize;

@@ -1,0 +1,2 @@
+-- Lemmas on searches.
+pub mod StepLemmas
