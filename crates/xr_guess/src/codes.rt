@@ -1,6 +1,10 @@
 //! Codes of tables, and what a table says as implications.
 
+ghost use Rattle.std.specs.Prelude.{◌≡◌, IfOk, OnOk};
+ghost use Rattle.std.specs.List.{list_any};
+ghost use Rattle.xr_cell.specs.Value.{is_unknown};
 ghost use Rattle.xr_cone_choices.specs.Choices.{HasTable};
+ghost use Rattle.xr_guess.specs.Codes.{AddsChoices, AreImplications};
 
 use std::alloc::Global;
 use xr_base::Memory;
@@ -9,7 +13,7 @@ use xr_cone_choices::minimal_choices;
 use xr_justify::Implication;
 
 /// A number that equal tables share, and others hardly ever.
-pub fn code_of(values: &[Value]) -> u64 {
+pub(crate) fn code_of(values: &[Value]) -> u64 {
     let mut code = mixed(values.len() as u64);
     'values: for value in values {
         code = mixed(code ^ number_of(*value));
@@ -35,15 +39,18 @@ fn mixed(number: u64) -> u64 {
 }
 
 /// Whether a table has x.
-pub fn has_x(values: &[Value]) -> bool {
+pub(crate) fn has_x(values: &[Value]) -> bool
+    ensures { result ≡ list_any is_unknown values.now }
+{
     values
         .iter()
         .any(|value| matches!(*value, Value::X | Value::Z))
 }
 
 /// The minimal choices of a table, and the bits that they force. Takes 6 bytes for each, and what these take to be found.
-pub fn implications_of(alloc: Global, values: &[Value]) -> Result<Vec<Implication>, Memory>
+pub(crate) fn implications_of(alloc: Global, values: &[Value]) -> Result<Vec<Implication>, Memory>
     requires { HasTable values.now }
+    ensures { IfOk result (λ implications. AreImplications values.now implications.items) }
 {
     let mut implications = Vec::new(alloc);
     add_implications(alloc, &mut implications, values, false)?;
@@ -59,6 +66,7 @@ fn add_implications(
     forced: bool,
 ) -> Result<(), Memory>
     requires { HasTable values.now }
+    ensures { OnOk result (AddsChoices values.now forced implications.old.items implications.new.items) }
 {
     let choices = minimal_choices(alloc, values, forced)?;
     'choices: for choice in &choices {

@@ -2,7 +2,7 @@
 
 pub use xr_justify::NodeBit;
 
-/// A guess about a node and a bit.
+/// A guess about a node and a bit. Promised are the sources of a filling and the length of a log, and nothing else.
 #[derive(Debug, Drop)]
 pub enum Guess {
     /// The node has the bit where these sources, by their nodes, have 1 and all others 0.

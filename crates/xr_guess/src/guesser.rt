@@ -1,6 +1,12 @@
 //! Guesses about the nodes of a graph.
 
+ghost use Rattle.std.specs.Prelude.{◌≡◌, ◌↔◌, IfOk, IsTrue};
+ghost use Rattle.std.specs.List.{All};
+ghost use Rattle.std.specs.HashMap.{hash_map_len};
 ghost use Rattle.xr_cone_choices.specs.Choices.{HasTable};
+ghost use Rattle.xr_guess.specs.Guess.{IsGuess, IsSourceIn};
+ghost use Rattle.xr_justify.specs.Search.{clauses_allowed};
+ghost use Rattle.xr_justify.specs.Step.{HasAtMost};
 
 use crate::codes::{code_of, has_x, implications_of};
 use crate::guess::Guess;
@@ -25,48 +31,57 @@ pub struct Guesser {
 
 impl Guesser {
     /// No table is known. Takes no memory.
-    pub fn new(alloc: Global) -> Guesser {
+    pub fn new(alloc: Global) -> Guesser
+        ensures { hash_map_len result.tables ≡ 0 }
+    {
         Guesser {
             search: Search::new(alloc),
             tables: HashMap::new(alloc),
         }
     }
 
-    /// A guess about what gives a node a bit, by a search that ends after a number of conflicts. The guess takes 8 bytes for
-    /// each source and each literal that it lists.
+    /// A guess about what gives a node a bit, by a search that ends after a number of conflicts. The guess takes 4 bytes for
+    /// each source and 8 for each literal that it lists.
     pub fn guess(
         &mut self,
         alloc: Global,
         graph: &Graph,
         wanted: NodeBit,
         conflicts: u32,
-    ) -> Result<Guess, Memory> {
+    ) -> Result<Guess, Memory>
+        ensures { IfOk result (IsGuess graph.now conflicts) }
+    {
         if self.tables.len() >= MOST_TABLES {
             self.search = Search::new(alloc);
             self.tables = HashMap::new(alloc);
         }
         self.search.start(wanted, conflicts)?;
         match self.go_through(alloc, graph)? {
-            Step::Filling => self.filling(alloc),
-            Step::Log => self.log(alloc),
+            Step::Filling(ones) => Ok(Guess::Filling(sources_in(alloc, graph, &ones)?)),
+            Step::Log(clauses) => Ok(Guess::Log(clauses)),
             Step::Wanted(_) => Ok(Guess::Nothing),
             Step::Nothing => Ok(Guess::Nothing),
         }
     }
 
     /// Goes on to the end, and reads in each node that is wanted on the way.
-    fn go_through(&mut self, alloc: Global, graph: &Graph) -> Result<Step, Memory> {
+    #[tactic(auto, using(xr_justify::proofs::StepLemmas::at_most_more))]
+    fn go_through(&mut self, alloc: Global, graph: &Graph) -> Result<Step, Memory>
+        ensures { IfOk result (HasAtMost (clauses_allowed self.old.search)) }
+    {
         'nodes: for _ in 0..graph.len() {
-            match self.search.go_on()? {
+            match self.search.go_on(alloc)? {
                 Step::Wanted(node) => self.read(alloc, graph, node)?,
                 step => return Ok(step),
             }
         }
-        self.search.go_on()
+        self.search.go_on(alloc)
     }
 
     /// Reads in a node. One past the last of the graph reads nothing.
-    fn read(&mut self, alloc: Global, graph: &Graph, number: u32) -> Result<(), Memory> {
+    fn read(&mut self, alloc: Global, graph: &Graph, number: u32) -> Result<(), Memory>
+        ensures { clauses_allowed self.new.search ≡ clauses_allowed self.old.search }
+    {
         let place = number as usize;
         if place >= graph.len() {
             let table = self.search.add_table(&[])?;
@@ -81,6 +96,7 @@ impl Guesser {
     /// A table of the search, which comes in where it isn't known.
     fn table_of(&mut self, alloc: Global, values: &[Value]) -> Result<Table, Memory>
         requires { HasTable values.now }
+        ensures { clauses_allowed self.new.search ≡ clauses_allowed self.old.search }
     {
         let code = code_of(values);
         if let Some(table) = self.known(code) {
@@ -99,25 +115,24 @@ impl Guesser {
             None => None,
         }
     }
+}
 
-    /// The sources that have 1.
-    fn filling(&self, alloc: Global) -> Result<Guess, Memory> {
-        let sources = self.search.sources(alloc)?;
-        let mut ones = Vec::new(alloc);
-        'sources: for source in &sources {
-            if source.bit {
-                ones.push(source.node)?;
-            }
+/// Those of some nodes that are sources of a graph: all that a search lists are. Takes 4 bytes for each.
+fn sources_in(alloc: Global, graph: &Graph, nodes: &[u32]) -> Result<Vec<u32>, Memory>
+    ensures { IfOk result (λ sources. All (IsSourceIn graph.now) sources.items) }
+{
+    let mut sources = Vec::new(alloc);
+    'nodes: for node in nodes {
+        if is_source(graph, *node) {
+            sources.push(*node)?;
         }
-        Ok(Guess::Filling(ones))
     }
+    Ok(sources)
+}
 
-    /// The clauses that were learned.
-    fn log(&self, alloc: Global) -> Result<Guess, Memory> {
-        let mut log = Vec::new(alloc);
-        'clauses: for k in 0..self.search.clauses() {
-            log.push(self.search.clause(alloc, k)?)?;
-        }
-        Ok(Guess::Log(log))
-    }
+fn is_source(graph: &Graph, number: u32) -> bool
+    ensures { IsTrue result ↔ IsSourceIn graph.now number }
+{
+    let place = number as usize;
+    place < graph.len() && has_x(graph.node(place).values)
 }

@@ -1,0 +1,2 @@
+-- Lemmas on guesses.
+mod SourceBits

@@ -1,0 +1,4 @@
+-- Definitions of guesses.
+pub mod Codes
+pub mod Guess
+pub mod Renamed
