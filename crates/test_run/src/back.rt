@@ -72,7 +72,7 @@ fn replay_back(
     case: Case<'_>,
     repaired: &Run,
 ) -> Result<(), AllocError> {
-    let dropped = ["--vcd", "--cert", "--conflicts", "--form"];
+    let dropped = ["--vcd", "--cert", "--conflicts", "--form", "--report"];
     let words = words_instead(alloc, case.words(), "replay --vcd p.vcd", &dropped)?;
     let replayed = run_after(alloc, case, repaired, words.as_slice())?;
     compare_ended(alloc, report, case, "replay", replayed.status)?;

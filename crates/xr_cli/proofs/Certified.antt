@@ -20,6 +20,7 @@ use Rattle.xr_job.specs.declared.recorded.Recorded.{Recorded}
 use Rattle.xr_listing.specs.Conditions.{conditions_text}
 use Rattle.xr_model.specs.declared.line.Line.{Line as ALine}
 use Rattle.xr_report.specs.Report.{report_text}
+use Rattle.xr_report.specs.declared.lines.ReportLines.{ReportLines}
 use Rattle.xr_wave.specs.Contents.{Contents, IsFinished, IsWave}
 use Rattle.xr_cli.specs.Check.{CheckValues, Checks}
 use Rattle.xr_cli.specs.Upgrade.{UpgradeValues, Upgrades}
@@ -77,15 +78,15 @@ certified_job w conflicts n r cert wave conditions certified netlist recording j
 }
 
 -- The report with the lines of its conditions.
-printed_there : (c : Contents) (r : Recorded) (views : List ConditionView)
-    → whole_report c r.binding views ≡ report_text c r.binding (forces_in c) ++ needs_lines c (conditions_of views)
-printed_there c r views = ap (λ (text : List ℕ). report_text c r.binding (forces_in c) ++ text) (same_printed c views)
+printed_there : (c : Contents) (r : Recorded) (report : ReportLines) (views : List ConditionView)
+    → whole_report c r.binding report views ≡ report_text c r.binding report (forces_in c) ++ needs_lines c (conditions_of views)
+printed_there c r report views = ap (λ (text : List ℕ). report_text c r.binding report (forces_in c) ++ text) (same_printed c views)
 
 -- What a check promises.
 pub checks : (w : CheckValues) (n : ANetlist) (r : Recorded) (cert : Cert) (wave : Contents) (conditions : List ConditionView)
     → IsCertified w.conflicts (parts n r) cert wave conditions → (netlist recording text : List ℕ) → IsJob w.job netlist recording n r
     → IsAgreed (parts n r) → IsTextOf text cert
-    → Checks w netlist recording text (report_text wave r.binding (forces_in wave) ++ conditions_text wave conditions)
+    → Checks w netlist recording text (report_text wave r.binding w.lines (forces_in wave) ++ conditions_text wave conditions)
 checks w n r cert wave conditions certified netlist recording text job faultless stands =
     let there = conditions_there w.conflicts n r cert wave conditions certified in
     record {
@@ -101,9 +102,9 @@ checks w n r cert wave conditions certified netlist recording text job faultless
           ∙ same_entries (lines_in cert.entries) conditions;
       events = forces_of (job_for n r) (value_in wave.written);
       are = forces_exist (job_for n r) (value_in wave.written) (fits_job n r certified.fits);
-      report_is = ap (λ (c : Contents). report_text c r.binding (forces_in c) ++ conditions_text c conditions)
+      report_is = ap (λ (c : Contents). report_text c r.binding w.lines (forces_in c) ++ conditions_text c conditions)
           (wave_same w.conflicts n r cert wave conditions certified)
-          ∙ printed_there (TheWave w.conflicts n r cert wave conditions certified) r conditions;
+          ∙ printed_there (TheWave w.conflicts n r cert wave conditions certified) r w.lines conditions;
       needs = each_needs cert.form (TheWave w.conflicts n r cert wave conditions certified) conditions there;
     }
 
@@ -113,7 +114,7 @@ upgrades_there : (w : UpgradeValues) (n : ANetlist) (r : Recorded) (cert : Cert)
     → AreConditionsFor Turns (TheWave w.conflicts n r cert wave conditions certified) found → (netlist recording text : List ℕ)
     → IsJob w.job netlist recording n r → IsAgreed (parts n r) → IsTextOf text cert → cert.form ≡ Lines
     → Upgrades w netlist recording text (cert_text (cert_in Turns (TheWave w.conflicts n r cert wave conditions certified) found))
-    (whole_report (TheWave w.conflicts n r cert wave conditions certified) r.binding found)
+    (whole_report (TheWave w.conflicts n r cert wave conditions certified) r.binding w.lines found)
 upgrades_there w n r cert wave conditions certified found are netlist recording text job faultless stands form =
     let start = beginning w.conflicts n r wave.history in
     let there = TheWave w.conflicts n r cert wave conditions certified in
@@ -140,16 +141,16 @@ upgrades_there w n r cert wave conditions certified found are netlist recording 
       };
       events = forces_of (job_for n r) (value_in wave.written);
       are = forces_exist (job_for n r) (value_in wave.written) (fits_job n r certified.fits);
-      report_is = printed_there there r found;
+      report_is = printed_there there r w.lines found;
       needs = each_needs Turns there found are;
     }
 
 pub upgrades : (w : UpgradeValues) (n : ANetlist) (r : Recorded) (cert : Cert) (wave : Contents) (conditions : List ConditionView)
     → IsCertified w.conflicts (parts n r) cert wave conditions → (found : List ConditionView) → AreConditionsFor Turns wave found
     → (netlist recording text : List ℕ) → IsJob w.job netlist recording n r → IsAgreed (parts n r) → IsTextOf text cert → cert.form ≡ Lines
-    → Upgrades w netlist recording text (cert_text (cert_in Turns wave found)) (whole_report wave r.binding found)
+    → Upgrades w netlist recording text (cert_text (cert_in Turns wave found)) (whole_report wave r.binding w.lines found)
 upgrades w n r cert wave conditions certified found are netlist recording text job faultless stands form =
     let same = wave_same w.conflicts n r cert wave conditions certified in
-    subst (λ (c : Contents). Upgrades w netlist recording text (cert_text (cert_in Turns c found)) (whole_report c r.binding found)) (sym same)
+    subst (λ (c : Contents). Upgrades w netlist recording text (cert_text (cert_in Turns c found)) (whole_report c r.binding w.lines found)) (sym same)
     (upgrades_there w n r cert wave conditions certified found (subst (λ (c : Contents). AreConditionsFor Turns c found) same are)
     netlist recording text job faultless stands form)

@@ -4,6 +4,7 @@ use Rattle.std.specs.Prelude.{Contains}
 use Rattle.xr_cert_text.specs.Wrong.{IsTextOf}
 use Rattle.xr_cli.proofs.Certified.{checks}
 use Rattle.xr_cli.proofs.Inputs.{cert_sure, job_among, job_sure, later, own_in}
+use Rattle.xr_cli.proofs.OneLines.{one_lines}
 use Rattle.xr_cli.specs.Check.{CheckValues, Checks, GivesCheck, SaysCheck, check, check_answer, check_phases, certified_phases}
 use Rattle.xr_cli.specs.Repair.{forces_in}
 use Rattle.xr_line.specs.Line.{Text}
@@ -33,7 +34,8 @@ one_values option a b first second netlists =
     let job = one_job option a.job b.job first.job second.job netlists in
     let cert = some_same a.cert b.cert (option (codes "cert")) first.cert second.cert in
     let conflicts = one_count (option (codes "conflicts")) 1000 100000 a.conflicts b.conflicts first.conflicts second.conflicts in
-    λ i. record { job = job i; cert = cert i; conflicts = conflicts i }
+    let lines = one_lines (option (codes "report")) a.lines b.lines first.lines second.lines in
+    λ i. record { job = job i; cert = cert i; conflicts = conflicts i; lines = lines i }
 
 -- ---- what it finds
 
@@ -50,10 +52,10 @@ module _ (told : Bool) (files : Files) (t : IsTrue told) where
           let checked = checks w found.n found.r cert shows.wave is.conditions is.certified (netlist_held files w.job) (recording_held files w.job) (text_held files (w.cert ∷ []))
           found.job faultless (subst (λ (l : List ℕ). IsTextOf l cert) (read.is t) stands) in
           record {
-            report = report_text shows.wave found.r.binding (forces_in shows.wave) ++ shows.listing;
-            answer_is = answers_one answer (check_answer (parts found.n found.r) shows) same;
+            report = report_text shows.wave found.r.binding w.lines (forces_in shows.wave) ++ shows.listing;
+            answer_is = answers_one answer (check_answer w (parts found.n found.r) shows) same;
             checks = subst (λ (l : List ℕ). Checks w (netlist_held files w.job) (recording_held files w.job) (text_held files (w.cert ∷ []))
-                (report_text shows.wave found.r.binding (forces_in shows.wave) ++ l)) (sym is.listing_is) checked;
+                (report_text shows.wave found.r.binding w.lines (forces_in shows.wave) ++ l)) (sym is.listing_is) checked;
           }
 
 -- ---- what it refuses
@@ -70,7 +72,7 @@ module _ (told : Bool) (files : Files) (t : IsTrue told) (job : Parts) where
   check_fails w cause (inr (agreed, faultless, inr (text, read, inr (cert, stands, inl (refused, is, same))))) =
       subst (CheckFails w.conflicts (text_held files (w.cert ∷ [])) job) (sym (err_same {B = Answer} cause refused same))
       (CheckFails.unaccepted faultless cert (subst (λ (l : List ℕ). IsTextOf l cert) (read.is t) stands) is)
-  check_fails w cause (inr (agreed, faultless, inr (text, read, inr (cert, stands, inr (shows, is, same))))) = absurd (ok_err (check_answer job shows) cause (sym same))
+  check_fails w cause (inr (agreed, faultless, inr (text, read, inr (cert, stands, inr (shows, is, same))))) = absurd (ok_err (check_answer w job shows) cause (sym same))
 
 module _ (told : Bool) (files : Files) (t : IsTrue told) where
   check_refused : (w : CheckValues) (cause : Refused) → ComesTo told files (check_phases w) (Err cause)

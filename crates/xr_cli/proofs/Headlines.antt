@@ -304,7 +304,7 @@ module _ (w : RepairValues) (netlist recording : List ℕ) (is : Made w netlist 
 
     headline_there : AllByRecursion IsScopeName (scope_of w.job) → Headline w netlist recording (vcd_text is.n.design is.r.binding is.r.stim is.found.shown)
         (code_text is.n.design is.r.stim (scope_of w.job) (forces_in TheWave)) (cert_text (cert_in (form_of w.form) TheWave conditions))
-        (whole_report TheWave is.r.binding conditions)
+        (whole_report TheWave is.r.binding w.lines conditions)
     unfolding forces_so
     headline_there named = record {
       job = repaired_job;
@@ -316,7 +316,7 @@ module _ (w : RepairValues) (netlist recording : List ℕ) (is : Made w netlist 
       conditions = conditions_of conditions;
       conditions_are = have_conditions (form_of w.form) TheWave conditions are;
       certifies = certifies_so;
-      report_is = ap (λ (text : List ℕ). report_text TheWave is.r.binding events ++ text) (same_printed TheWave conditions);
+      report_is = ap (λ (text : List ℕ). report_text TheWave is.r.binding w.lines events ++ text) (same_printed TheWave conditions);
       needs = each_needs (form_of w.form) TheWave conditions are;
       known = λ moment b bit there. known_so (place_of_bit is.n is.r moment b bit) (within_at moment b bit there);
       unknown = λ moment b bit there. unknown_so (place_of_bit is.n is.r moment b bit) (within_at moment b bit there);
@@ -332,7 +332,7 @@ module _ (w : RepairValues) (netlist recording : List ℕ) (is : Made w netlist 
   pub headline : AllByRecursion IsScopeName (scope_of w.job) → (conditions : List ConditionView) → AreConditionsFor (form_of w.form) is.found.wave conditions
       → Headline w netlist recording (vcd_text is.n.design is.r.binding is.r.stim is.found.shown)
       (code_text is.n.design is.r.stim (scope_of w.job) (forces_in is.found.wave)) (cert_text (cert_in (form_of w.form) is.found.wave conditions))
-      (whole_report is.found.wave is.r.binding conditions)
+      (whole_report is.found.wave is.r.binding w.lines conditions)
   headline named conditions are = subst (λ (c : Contents). Headline w netlist recording (vcd_text is.n.design is.r.binding is.r.stim is.found.shown)
-      (code_text is.n.design is.r.stim (scope_of w.job) (forces_in c)) (cert_text (cert_in (form_of w.form) c conditions)) (whole_report c is.r.binding conditions))
+      (code_text is.n.design is.r.stim (scope_of w.job) (forces_in c)) (cert_text (cert_in (form_of w.form) c conditions)) (whole_report c is.r.binding w.lines conditions))
       (sym same) (headline_there conditions (subst (λ (c : Contents). AreConditionsFor (form_of w.form) c conditions) same are) named)

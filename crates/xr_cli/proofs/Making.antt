@@ -14,6 +14,7 @@ use Rattle.xr_job.specs.declared.netlist_refusal.NetlistRefusal.{NetlistRefusal}
 use Rattle.xr_job.proofs.OneNetlist.{one_outcome}
 use Rattle.xr_make.proofs.OneRecording.{one_recording}
 use Rattle.xr_report.specs.Report.{head_text}
+use Rattle.xr_report.specs.declared.lines.ReportLines.TheVariants as report
 use Rattle.xr_run.specs.Phases.{Answer, ComesTo, IsOne, Phases, ◌>>=◌}
 use Rattle.xr_run.specs.Prepared.{PreparedAlone}
 use Rattle.xr_run.specs.declared.refusal.Refusal.{Refusal}
@@ -67,7 +68,7 @@ made_is_one w a b first second =
 -- ---- what is found
 
 abbrev made_repair : RepairValues
-made_repair = record { job = made_job; vcd = []; code = []; cert = []; form = Lines; conflicts = made_conflicts }
+made_repair = record { job = made_job; vcd = []; code = []; cert = []; form = Lines; conflicts = made_conflicts; lines = report.All }
 
 makes : (w : MakeValues) (recording : List ℕ) (is : headlines.Made made_repair (made_netlist w) recording) → IsRecordingOf w is.n recording
     → Makes w (made_netlist w) recording (head_text is.found.wave (forces_in is.found.wave))

@@ -5,6 +5,7 @@ use Rattle.xr_cert.specs.Step.{cert_in}
 use Rattle.xr_cert_text.specs.Text.{cert_text}
 use Rattle.xr_cli.proofs.Headlines.{Made, headline}
 use Rattle.xr_cli.proofs.Inputs.{itself_in, job_among, job_sure}
+use Rattle.xr_cli.proofs.OneLines.{one_lines}
 use Rattle.xr_cli.specs.Headline.{SaysRepair, repair}
 use Rattle.xr_cli.specs.Repair.{FailsAsRepair, GivesRepair, IsRepairable, RepairValues, forces_in, repair_answer, repair_phases, whole_report, walk_phases}
 use Rattle.xr_code.specs.Written.{code_text}
@@ -39,7 +40,8 @@ one_repair option a b first second netlists =
     let cert = some_same a.cert b.cert (option (codes "cert")) first.cert second.cert in
     let conflicts = one_count (option (codes "conflicts")) 1000 100000 a.conflicts b.conflicts first.conflicts second.conflicts in
     let form = one_form (option (codes "form")) a.form b.form first.form second.form in
-    λ i. record { job = job i; vcd = vcd i; code = code i; cert = cert i; form = form i; conflicts = conflicts i }
+    let lines = one_lines (option (codes "report")) a.lines b.lines first.lines second.lines in
+    λ i. record { job = job i; vcd = vcd i; code = code i; cert = cert i; form = form i; conflicts = conflicts i; lines = lines i }
 
 -- ---- what it finds
 
@@ -58,7 +60,7 @@ module _ (told : Bool) (files : Files) (t : IsTrue told) where
             vcd = vcd_text found.n.design found.r.binding found.r.stim there.shown;
             code = code_text found.n.design found.r.stim (scope_of w.job) (forces_in there.wave);
             cert = cert_text (cert_in (form_of w.form) there.wave conditions);
-            report = whole_report there.wave found.r.binding conditions;
+            report = whole_report there.wave found.r.binding w.lines conditions;
             answer_is = answers_one answer (repair_answer w found.n found.r there conditions) same;
             headline = headline w (netlist_held files w.job) (recording_held files w.job) made named conditions are;
           }

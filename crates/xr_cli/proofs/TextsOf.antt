@@ -31,7 +31,7 @@ use Rattle.xr_wave.specs.Shown.{ShowsWave}
 use Rattle.xr_cli.specs.Make.{MakeValues, made_netlist, make_answer, make_with}
 use Rattle.xr_cli.specs.Repair.{RepairValues, HasTexts, answer_with, forces_in, whole_report}
 use Rattle.xr_cli.specs.Upgrade.{UpgradeValues, upgrade_answer}
-use Rattle.xr_cli.specs.Check.{check_answer}
+use Rattle.xr_cli.specs.Check.{CheckValues, check_answer}
 use Rattle.xr_phases.specs.Certificate.{check_shows, form_of}
 use Rattle.xr_phases.specs.Phases.{scope_of}
 use Rattle.xr_phases.specs.declared.parts.Parts.{Parts}
@@ -55,7 +55,7 @@ pub wave_texts : (w : RepairValues) (n : ANetlist) (r : Recorded) (wave : Conten
     (form : Form) (conditions listed : List ConditionView) → HasSmallTimes r.stim → ShowsWave wave shown → forces ≡ forces_in wave → scope ≡ scope_of w.job
     → vcd ≡ vcd_text n.design r.binding r.stim shown → code ≡ code_text n.design r.stim scope forces → form ≡ form_of w.form
     → AreConditionsFor form wave conditions → listed ≡ conditions → cert ≡ cert_text (cert_in form wave listed)
-    → report ≡ report_text wave r.binding forces ++ conditions_text wave listed → (result : Result Ready Memory)
+    → report ≡ report_text wave r.binding w.lines forces ++ conditions_text wave listed → (result : Result Ready Memory)
     → IfOk result (λ ready. answer_of ready ≡ answer_with w vcd code cert report) → IfOk result (λ ready. HasTexts w n r wave (answer_of ready))
 wave_texts w n r wave shown forces scope vcd code cert report form conditions listed times shows same named vcd_is code_is form_is are listed_is cert_is report_is (Err e) is = tt
 wave_texts w n r wave shown forces scope vcd code cert report form conditions listed times shows same named vcd_is code_is form_is are listed_is cert_is report_is (Ok ready) is = record {
@@ -73,25 +73,25 @@ wave_texts w n r wave shown forces scope vcd code cert report form conditions li
     cert_there : cert ≡ cert_text (cert_in (form_of w.form) wave conditions)
     cert_there = cert_is ∙ (λ t. cert_text (cert_in (form_is t) wave (listed_is t)))
 
-    report_there : report ≡ whole_report wave r.binding conditions
-    report_there = report_is ∙ (λ t. report_text wave r.binding (same t) ++ conditions_text wave (listed_is t))
+    report_there : report ≡ whole_report wave r.binding w.lines conditions
+    report_there = report_is ∙ (λ t. report_text wave r.binding w.lines (same t) ++ conditions_text wave (listed_is t))
 
 -- The answer of a check has the report of its wave, and the lines of its conditions.
-pub report_answer : (job : Parts) (wave : Contents) (conditions : List ConditionView) (forces : List Event) (report : List ℕ) (answer : Answer) → forces ≡ forces_in wave
-    → report ≡ report_text wave job.recorded.binding forces ++ conditions_text wave conditions → answer ≡ record { files = []; printed = report }
-    → answer ≡ check_answer job (check_shows wave conditions)
-report_answer job wave conditions forces report answer same is answered =
-    answered ∙ (λ t. record { files = []; printed = (is ∙ ap (λ (fs : List Event). report_text wave job.recorded.binding fs ++ conditions_text wave conditions) same) t })
+pub report_answer : (w : CheckValues) (job : Parts) (wave : Contents) (conditions : List ConditionView) (forces : List Event) (report : List ℕ) (answer : Answer) → forces ≡ forces_in wave
+    → report ≡ report_text wave job.recorded.binding w.lines forces ++ conditions_text wave conditions → answer ≡ record { files = []; printed = report }
+    → answer ≡ check_answer w job (check_shows wave conditions)
+report_answer w job wave conditions forces report answer same is answered =
+    answered ∙ (λ t. record { files = []; printed = (is ∙ ap (λ (fs : List Event). report_text wave job.recorded.binding w.lines fs ++ conditions_text wave conditions) same) t })
 
 -- The answer of an upgrade has the certificate of form 2, and that report.
 pub upgrade_texts : (w : UpgradeValues) (job : Parts) (wave : Contents) (conditions : List ConditionView) (forces : List Event) (cert report : List ℕ) (answer : Answer)
-    → forces ≡ forces_in wave → cert ≡ cert_text (cert_in Turns wave conditions) → report ≡ report_text wave job.recorded.binding forces ++ conditions_text wave conditions
+    → forces ≡ forces_in wave → cert ≡ cert_text (cert_in Turns wave conditions) → report ≡ report_text wave job.recorded.binding w.lines forces ++ conditions_text wave conditions
     → answer ≡ record { files = record { name = w.to; bytes = cert } ∷ []; printed = report } → answer ≡ upgrade_answer w job wave conditions
 upgrade_texts w job wave conditions forces cert report answer same cert_is is answered =
     answered
     ∙ (λ t. record {
       files = record { name = w.to; bytes = cert_is t } ∷ [];
-      printed = (is ∙ ap (λ (fs : List Event). report_text wave job.recorded.binding fs ++ conditions_text wave conditions) same) t;
+      printed = (is ∙ ap (λ (fs : List Event). report_text wave job.recorded.binding w.lines fs ++ conditions_text wave conditions) same) t;
     })
 
 -- The answer of a made job has its netlist, and the first lines of the report of its wave.

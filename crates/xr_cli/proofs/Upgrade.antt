@@ -7,6 +7,7 @@ use Rattle.xr_cert_text.specs.Wrong.{IsTextOf}
 use Rattle.xr_cert_text.specs.declared.cert.Form.TheVariants.{Turns}
 use Rattle.xr_cli.proofs.Certified.{upgrades}
 use Rattle.xr_cli.proofs.Inputs.{cert_sure, job_among, job_sure, later, own_in}
+use Rattle.xr_cli.proofs.OneLines.{one_lines}
 use Rattle.xr_cli.specs.Repair.{whole_report}
 use Rattle.xr_cli.specs.Upgrade.{GivesUpgrade, SaysUpgrade, UpgradeValues, upgrade, upgrade_answer, upgrade_phases, certified_upgrade}
 use Rattle.xr_line.specs.Line.{Text}
@@ -37,7 +38,8 @@ one_upgrade option a b first second netlists =
     let cert = some_same a.cert b.cert (option (codes "cert")) first.cert second.cert in
     let to = some_same a.to b.to (option (codes "to")) first.to second.to in
     let conflicts = one_count (option (codes "conflicts")) 1000 100000 a.conflicts b.conflicts first.conflicts second.conflicts in
-    λ i. record { job = job i; cert = cert i; to = to i; conflicts = conflicts i }
+    let lines = one_lines (option (codes "report")) a.lines b.lines first.lines second.lines in
+    λ i. record { job = job i; cert = cert i; to = to i; conflicts = conflicts i; lines = lines i }
 
 -- ---- what it finds
 
@@ -55,7 +57,7 @@ module _ (told : Bool) (files : Files) (t : IsTrue told) where
       go (inr (agreed, faultless, inr (text, read, inr (cert, stands, inr (plain, form, inr (shows, is, inr (conditions, are, same))))))) =
           record {
             upgraded = cert_text (cert_in Turns shows.wave conditions);
-            report = whole_report shows.wave found.r.binding conditions;
+            report = whole_report shows.wave found.r.binding w.lines conditions;
             answer_is = answers_one answer (upgrade_answer w (parts found.n found.r) shows.wave conditions) same;
             upgrades = upgrades w found.n found.r cert shows.wave is.conditions is.certified conditions are (netlist_held files w.job) (recording_held files w.job)
                 (text_held files (w.cert ∷ [])) found.job faultless (subst (λ (l : List ℕ). IsTextOf l cert) (read.is t) stands) form;

@@ -60,12 +60,12 @@ shown conflicts job cert wave conditions is = record { conditions = conditions; 
 
 -- A certified wave, with its report.
 pub check_found : (w : CheckValues) (job : Parts) (cert : Cert) (wave : Contents) (conditions : List ConditionView) (ready : Ready)
-    → IsCertified w.conflicts job cert wave conditions → answer_of ready ≡ check_answer job (check_shows wave conditions)
+    → IsCertified w.conflicts job cert wave conditions → answer_of ready ≡ check_answer w job (check_shows wave conditions)
     → PreparedAlone (checked_phases w job cert) answer_of (Ok ready)
 check_found w job cert wave conditions ready is same =
-    judged_then (CheckComes w.conflicts job cert) itself (λ (x : CheckShows). Phases.Finds (check_answer job x)) itself answer_of
+    judged_then (CheckComes w.conflicts job cert) itself (λ (x : CheckShows). Phases.Finds (check_answer w job x)) itself answer_of
     (check_shows wave conditions) (Ok ready) record { found = shown w.conflicts job cert wave conditions is; refused = tt }
-    (λ told v. found_prepared told answer_of (check_answer job (check_shows wave conditions)) v ready same)
+    (λ told v. found_prepared told answer_of (check_answer w job (check_shows wave conditions)) v ready same)
 
 -- A certified wave, with the certificate of form 2 of it and of conditions, and its report.
 pub upgrade_found : (w : UpgradeValues) (job : Parts) (cert : Cert) (wave : Contents) (conditions found : List ConditionView) (ready : Ready)

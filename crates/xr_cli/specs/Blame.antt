@@ -11,6 +11,7 @@ use Rattle.xr_phases.specs.Repair.{WalkComes, recording_limit}
 use Rattle.xr_phases.specs.Texts.{netlist_held, recording_held}
 use Rattle.xr_phases.specs.declared.cause.Refused.{Refused}
 use Rattle.xr_phases.specs.declared.parts.Parts.{Parts}
+use Rattle.xr_report.specs.declared.lines.ReportLines.TheVariants as report
 use Rattle.xr_run.specs.Phases.{◌>>=◌, Answer, Phases, searches}
 use Rattle.xr_set.specs.Command.{Command}
 use Rattle.xr_shelf.specs.Shelf.{Files}
@@ -37,7 +38,15 @@ blame_values words = record { job = job_values words.job; conflicts = words.conf
 
 -- `blame` repairs as these words say, whose files aren't written.
 abbrev pub repair_to_blame : BlameValues → RepairValues
-repair_to_blame w = record { job = w.job; vcd = []; code = []; cert = []; form = Lines; conflicts = w.conflicts }
+repair_to_blame w = record {
+  job = w.job;
+  vcd = [];
+  code = [];
+  cert = [];
+  form = Lines;
+  conflicts = w.conflicts;
+  lines = report.All;
+}
 
 -- No file is written, and what is printed tells what is to blame for the unknown bits of a wave.
 pub record ListsBlame (bound : List Bound) (wave : Contents) (answer : Answer) : Type 0 where

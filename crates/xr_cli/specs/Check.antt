@@ -6,6 +6,7 @@ use Rattle.xr_cert_text.specs.Wrong.{IsTextOf}
 use Rattle.xr_cert_text.specs.declared.cert.Cert.{Cert}
 use Rattle.xr_cli.specs.Conditions.{Condition, HaveConditions, entries_by, needs_lines}
 use Rattle.xr_cli.specs.Headline.{RepairedJob, circuit_of, value_in, wave_of_job}
+use Rattle.xr_cli.specs.Lines.{IsLines}
 use Rattle.xr_cli.specs.Needs.{EachNeeds}
 use Rattle.xr_cli.specs.Repair.{forces_in}
 use Rattle.xr_cli.specs.declared.commands.check.Check.{Check}
@@ -25,6 +26,7 @@ use Rattle.xr_phases.specs.Texts.{AreRefused, CheckFails, IsJob, netlist_held, r
 use Rattle.xr_phases.specs.declared.cause.Refused.{Refused}
 use Rattle.xr_phases.specs.declared.parts.Parts.{Parts}
 use Rattle.xr_report.specs.Report.{report_text}
+use Rattle.xr_report.specs.declared.lines.ReportLines.{ReportLines}
 use Rattle.xr_run.specs.Phases.{◌>>=◌, Answer, Phases, judges, text_held}
 use Rattle.xr_set.specs.Command.{Command}
 use Rattle.xr_shelf.specs.Shelf.{Files}
@@ -37,29 +39,36 @@ pub record CheckValues : Type 0 where
   pub job : JobValues
   pub cert : Text
   pub conflicts : ℕ
+  pub lines : ReportLines
 
 -- These are those of `check`, which writes no file.
 pub record GivesCheck (option : Text → Option Text) (v : CheckValues) : Type 0 where
   pub job : GivesJob option v.job
   pub cert : option (codes "cert") ≡ Some v.cert
   pub conflicts : IsCount (option (codes "conflicts")) 1000 100000 v.conflicts
+  pub lines : IsLines (option (codes "report")) v.lines
 
 abbrev pub check_values : Check → CheckValues
-check_values words = record { job = job_values words.job; cert = words.cert.now; conflicts = words.conflicts }
+check_values words = record {
+  job = job_values words.job;
+  cert = words.cert.now;
+  conflicts = words.conflicts;
+  lines = words.lines;
+}
 
 -- ---- phases
 
 -- No file is written, and the report of the wave is printed, with the lines of its conditions.
-abbrev pub check_answer : Parts → CheckShows → Answer
-check_answer job shows = record {
+abbrev pub check_answer : CheckValues → Parts → CheckShows → Answer
+check_answer w job shows = record {
   files = [];
-  printed = report_text shows.wave job.recorded.binding (forces_in shows.wave) ++ shows.listing;
+  printed = report_text shows.wave job.recorded.binding w.lines (forces_in shows.wave) ++ shows.listing;
 }
 
 abbrev pub checked_phases : CheckValues → Parts → Cert → Phases Answer Refused
 checked_phases w job cert = do
   shows ← judges (CheckComes w.conflicts job cert) itself
-  Phases.Finds (check_answer job shows)
+  Phases.Finds (check_answer w job shows)
 
 abbrev pub certified_phases : CheckValues → Parts → Phases Answer Refused
 certified_phases w job = do
@@ -89,7 +98,7 @@ pub record Checks (w : CheckValues) (netlist recording cert report : List ℕ) :
   pub events : List Event
   pub are : AreForcesOf (circuit_of job) (value_in job.waveform) events
   pub report_is : report
-      ≡ report_text (wave_of_job job) job.r.binding events ++ needs_lines (wave_of_job job) conditions
+      ≡ report_text (wave_of_job job) job.r.binding w.lines events ++ needs_lines (wave_of_job job) conditions
   -- Each of these places needs the places that its line lists.
   pub needs : EachNeeds (circuit_of job) job.waveform conditions
 
@@ -117,7 +126,7 @@ pub record IsCheckable (w : CheckValues) (netlist recording cert : List ℕ) : T
 abbrev pub check : Command Refused
 check = record {
   word = codes "check";
-  table = shared.job (needs (codes "cert") Reads ∷ shared.conflicts ∷ []);
+  table = shared.job (needs (codes "cert") Reads ∷ shared.conflicts ∷ shared.report ∷ []);
   has_files = true;
   Values = CheckValues;
   files = λ v. v.job.netlists;

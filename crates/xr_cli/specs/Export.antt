@@ -14,6 +14,7 @@ use Rattle.xr_phases.specs.Repair.{WalkComes, recording_limit}
 use Rattle.xr_phases.specs.Texts.{netlist_held, recording_held}
 use Rattle.xr_phases.specs.declared.cause.Refused.{Refused}
 use Rattle.xr_phases.specs.declared.parts.Parts.{Parts}
+use Rattle.xr_report.specs.declared.lines.ReportLines.TheVariants as report
 use Rattle.xr_run.specs.Phases.{◌>>=◌, Answer, Phases, searches}
 use Rattle.xr_set.specs.Command.{Command}
 use Rattle.xr_shelf.specs.Shelf.{Files}
@@ -43,7 +44,15 @@ export_values words = record { job = job_values words.job; prefix = words.prefix
 
 -- An export repairs as these words say, whose files aren't written.
 abbrev pub repair_for : ExportValues → RepairValues
-repair_for w = record { job = w.job; vcd = []; code = []; cert = []; form = Lines; conflicts = w.conflicts }
+repair_for w = record {
+  job = w.job;
+  vcd = [];
+  code = [];
+  cert = [];
+  form = Lines;
+  conflicts = w.conflicts;
+  lines = report.All;
+}
 
 -- The files of a wave are found; it comes to nothing else.
 abbrev pub ExportComes : List ℕ → Contents → Result Answer ⊥ → Type 0

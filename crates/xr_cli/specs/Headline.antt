@@ -143,9 +143,9 @@ pub record Headline (w : RepairValues) (netlist recording : List ℕ) (vcd code 
   pub conditions_are : HaveConditions (form_of w.form) (circuit_of job) w.conflicts job.waveform job.lines conditions
   -- The certificate X names the waveform: it is the one that its lines yield. It has the turns of the conditions.
   pub certifies : Certifies w job.n job.r job.replay job.waveform job.lines conditions cert
-  -- The report tells how many places have which end, and what became of each recorded bit that is x or z, and has the
-  -- lines of the conditions.
-  pub report_is : report ≡ report_text (wave_of_job job) job.r.binding forces.events
+  -- The report tells how many places have which end, and what became of each recorded bit that is x or z, in each
+  -- moment or where it is told anew, as the words ask; and it has the lines of the conditions.
+  pub report_is : report ≡ report_text (wave_of_job job) job.r.binding w.lines forces.events
       ++ needs_lines (wave_of_job job) conditions
   -- Each of these places needs the places that its line lists.
   pub needs : EachNeeds (circuit_of job) job.waveform conditions
@@ -185,7 +185,7 @@ abbrev pub repair : Command Refused
 repair = record {
   word = codes "repair";
   table = shared.job (needs (codes "vcd") Writes ∷ needs (codes "code") Writes ∷ needs (codes "cert") Writes
-      ∷ takes (codes "form") (Number 1 2) ∷ shared.conflicts ∷ []);
+      ∷ takes (codes "form") (Number 1 2) ∷ shared.conflicts ∷ shared.report ∷ []);
   has_files = true;
   Values = RepairValues;
   files = λ v. v.job.netlists;

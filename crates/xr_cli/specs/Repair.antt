@@ -3,6 +3,7 @@ use Rattle.std.specs.Prelude.{◌++◌, ◌∷◌, ◌≡◌, List, Option, Some
 use Rattle.xr_cert.specs.Entries.{AreConditionsFor}
 use Rattle.xr_cert.specs.Step.{cert_in}
 use Rattle.xr_cert_text.specs.Text.{cert_text}
+use Rattle.xr_cli.specs.Lines.{IsLines}
 use Rattle.xr_cli.specs.declared.commands.repair.Repair.{Repair}
 use Rattle.xr_code.specs.Laws.{HasSmallTimes}
 use Rattle.xr_code.specs.Written.{code_text}
@@ -29,6 +30,7 @@ use Rattle.xr_phases.specs.declared.parts.Parts.{Parts}
 use Rattle.xr_phases.specs.Repaired.{IsObjection}
 use Rattle.xr_replay.specs.Fault.{IsFaultless}
 use Rattle.xr_report.specs.Report.{report_text}
+use Rattle.xr_report.specs.declared.lines.ReportLines.{ReportLines}
 use Rattle.xr_run.specs.Phases.{◌>>=◌, Answer, Phases, searches}
 use Rattle.xr_shelf.specs.Shelf.{Files}
 use Rattle.xr_wave.specs.Contents.{Contents, job as wave_job}
@@ -46,6 +48,7 @@ pub record RepairValues : Type 0 where
   pub cert : Text
   pub form : Form
   pub conflicts : ℕ
+  pub lines : ReportLines
 
 -- These are those of `repair`, and each file that is written has a name of its own.
 pub record GivesRepair (option : Text → Option Text) (v : RepairValues) : Type 0 where
@@ -55,6 +58,7 @@ pub record GivesRepair (option : Text → Option Text) (v : RepairValues) : Type
   pub cert : option (codes "cert") ≡ Some v.cert
   pub form : IsForm (option (codes "form")) v.form
   pub conflicts : IsCount (option (codes "conflicts")) 1000 100000 v.conflicts
+  pub lines : IsLines (option (codes "report")) v.lines
   pub apart : AreApart (v.vcd ∷ v.code ∷ v.cert ∷ []) (v.job.recording ∷ v.job.netlists)
 
 abbrev pub repair_values : Repair → RepairValues
@@ -65,6 +69,7 @@ repair_values words = record {
   cert = words.cert.now;
   form = words.form;
   conflicts = words.conflicts;
+  lines = words.lines;
 }
 
 -- ---- phases
@@ -82,15 +87,16 @@ answer_with w vcd code cert report = record {
 }
 
 -- The report of a wave, and the lines of conditions.
-abbrev pub whole_report : Contents → Binding → List ConditionView → List ℕ
-whole_report wave binding conditions = report_text wave binding (forces_in wave) ++ conditions_text wave conditions
+abbrev pub whole_report : Contents → Binding → ReportLines → List ConditionView → List ℕ
+whole_report wave binding lines conditions =
+    report_text wave binding lines (forces_in wave) ++ conditions_text wave conditions
 
 -- V is the text of what the wave shows, C the code that forces it, X the certificate of the wave and of conditions.
 abbrev pub texts_answer : RepairValues → ANetlist → Recorded → Contents → HistoryView → List ConditionView → Answer
 texts_answer w n r wave shown conditions =
     answer_with w (vcd_text n.design r.binding r.stim shown)
     (code_text n.design r.stim (scope_of w.job) (forces_in wave))
-    (cert_text (cert_in (form_of w.form) wave conditions)) (whole_report wave r.binding conditions)
+    (cert_text (cert_in (form_of w.form) wave conditions)) (whole_report wave r.binding w.lines conditions)
 
 -- An answer is made so of a history that the wave shows, of times that are numbers of 64 bits, and of conditions of the
 -- wave, as the form asks for.

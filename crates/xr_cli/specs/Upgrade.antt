@@ -9,6 +9,7 @@ use Rattle.xr_cert_text.specs.declared.cert.Cert.{Cert}
 use Rattle.xr_cert_text.specs.declared.cert.Form.TheVariants.{Lines, Turns}
 use Rattle.xr_cli.specs.Conditions.{Condition, HaveConditions, cert_by, needs_lines}
 use Rattle.xr_cli.specs.Headline.{RepairedJob, circuit_of, value_in, wave_of, wave_of_job}
+use Rattle.xr_cli.specs.Lines.{IsLines}
 use Rattle.xr_cli.specs.Needs.{EachNeeds}
 use Rattle.xr_cli.specs.Repair.{whole_report}
 use Rattle.xr_cli.specs.declared.commands.upgrade.Upgrade.{Upgrade}
@@ -30,6 +31,7 @@ use Rattle.xr_phases.specs.Texts.{AreRefused, IsJob, UpgradeFails, netlist_held,
 use Rattle.xr_phases.specs.declared.cause.Refused.{Refused}
 use Rattle.xr_phases.specs.declared.parts.Parts.{Parts}
 use Rattle.xr_report.specs.Report.{report_text}
+use Rattle.xr_report.specs.declared.lines.ReportLines.{ReportLines}
 use Rattle.xr_run.specs.Phases.{◌>>=◌, Answer, Phases, judges, searches, text_held}
 use Rattle.xr_set.specs.Command.{Command}
 use Rattle.xr_shelf.specs.Shelf.{Files}
@@ -44,6 +46,7 @@ pub record UpgradeValues : Type 0 where
   pub cert : Text
   pub to : Text
   pub conflicts : ℕ
+  pub lines : ReportLines
 
 -- These are those of `upgrade`, and the file that is written has another name than each that is read.
 pub record GivesUpgrade (option : Text → Option Text) (v : UpgradeValues) : Type 0 where
@@ -51,6 +54,7 @@ pub record GivesUpgrade (option : Text → Option Text) (v : UpgradeValues) : Ty
   pub cert : option (codes "cert") ≡ Some v.cert
   pub to : option (codes "to") ≡ Some v.to
   pub conflicts : IsCount (option (codes "conflicts")) 1000 100000 v.conflicts
+  pub lines : IsLines (option (codes "report")) v.lines
   pub apart : AreApart (v.to ∷ []) (v.job.recording ∷ v.cert ∷ v.job.netlists)
 
 abbrev pub upgrade_values : Upgrade → UpgradeValues
@@ -59,6 +63,7 @@ upgrade_values words = record {
   cert = words.cert.now;
   to = words.to.now;
   conflicts = words.conflicts;
+  lines = words.lines;
 }
 
 -- ---- phases
@@ -67,7 +72,7 @@ upgrade_values words = record {
 abbrev pub upgrade_answer : UpgradeValues → Parts → Contents → List ConditionView → Answer
 upgrade_answer w job wave conditions = record {
   files = record { name = w.to; bytes = cert_text (cert_in Turns wave conditions) } ∷ [];
-  printed = whole_report wave job.recorded.binding conditions;
+  printed = whole_report wave job.recorded.binding w.lines conditions;
 }
 
 abbrev pub turned_phases : UpgradeValues → Parts → Contents → Phases Answer Refused
@@ -127,7 +132,7 @@ pub record Upgrades (w : UpgradeValues) (netlist recording cert text report : Li
   pub events : List Event
   pub are : AreForcesOf (circuit_of job) (value_in job.waveform) events
   pub report_is : report
-      ≡ report_text (wave_of_job job) job.r.binding events ++ needs_lines (wave_of_job job) conditions
+      ≡ report_text (wave_of_job job) job.r.binding w.lines events ++ needs_lines (wave_of_job job) conditions
   -- Each of these places needs the places that its line lists.
   pub needs : EachNeeds (circuit_of job) job.waveform conditions
 
@@ -158,7 +163,7 @@ pub record IsUpgradable (w : UpgradeValues) (netlist recording cert : List ℕ) 
 abbrev pub upgrade : Command Refused
 upgrade = record {
   word = codes "upgrade";
-  table = shared.job (needs (codes "cert") Reads ∷ needs (codes "to") Writes ∷ shared.conflicts ∷ []);
+  table = shared.job (needs (codes "cert") Reads ∷ needs (codes "to") Writes ∷ shared.conflicts ∷ shared.report ∷ []);
   has_files = true;
   Values = UpgradeValues;
   files = λ v. v.job.netlists;

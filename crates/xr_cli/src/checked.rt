@@ -54,12 +54,13 @@ fn checked<'a>(
 {
     let checked = certified_wave(alloc, job, history, cert, words.conflicts)?;
     let conditions = checked.conditions.as_slice();
-    Ok(report_of(alloc, job, &checked.wave, conditions)?)
+    Ok(report_of(alloc, words, job, &checked.wave, conditions)?)
 }
 
 /// The report of a finished wave of a job, with the lines of its conditions.
 fn report_of<'a>(
     alloc: Global,
+    words: &Check<'a>,
     job: &Parts,
     wave: &Wave<'_>,
     conditions: &[Condition],
@@ -67,10 +68,12 @@ fn report_of<'a>(
     requires fits { FitsParts job.now }
     requires wave { IsWaveOf job.now.netlist job.now.recorded wave.now }
     requires conditions { AllByRecursion (IsSomeCondition wave.now) conditions.now }
-    ensures { IfOk result (λ ready. answer_of ready ≡ check_answer job.now (check_shows wave.now conditions.now)) }
+    ensures { IfOk result (λ ready. answer_of ready
+        ≡ check_answer (check_values words.now) job.now (check_shows wave.now conditions.now)) }
 {
     let forces = forces_of(alloc, wave)?;
-    let report = report_with(alloc, wave, &job.recorded.binding, &forces, conditions)?;
+    let binding = &job.recorded.binding;
+    let report = report_with(alloc, wave, binding, words.lines, &forces, conditions)?;
     Ok(ready_with(alloc, Report::new(alloc, report)?))
 }
 

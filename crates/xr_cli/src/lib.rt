@@ -7,12 +7,13 @@
 //! `specs/Commands.antt`.
 //!
 //! What a command does goes by these files: `repaired.rt` and `texts.rt` (the walk over all places, and its texts),
-//! `report.rt` (the report, with the lines of conditions), `replayed.rt` (the replay under forces), `checked.rt` (the
-//! check of a certificate), `upgraded.rt` (its upgrade to form 2), `made.rt`, `made_texts.rt` and `gates.rt` (a made
-//! job and its walk), `exported.rt` and `proved.rt` (what goes to other solvers, and what comes back), `audited.rt`
-//! (the places that a replay knows otherwise), `blamed.rt` (what is to blame for unknown bits), `fixed.rt` and
-//! `restarted.rt` (what set starts make known). The phases that commands share, from files to a job and its walk, are xr_phases'; how
-//! files are read and written, and how a run ends, is xr_run's.
+//! `report.rt` and `lines.rt` (the report, with the lines of conditions, and which lines of bits it has), `replayed.rt`
+//! (the replay under forces), `checked.rt` (the check of a certificate), `upgraded.rt` (its upgrade to form 2),
+//! `made.rt`, `made_texts.rt` and `gates.rt` (a made job and its walk), `exported.rt` and `proved.rt` (what goes to
+//! other solvers, and what comes back), `audited.rt` (the places that a replay knows otherwise), `blamed.rt` (what is
+//! to blame for unknown bits), `fixed.rt` and `restarted.rt` (what set starts make known). The phases that commands
+//! share, from files to a job and its walk, are xr_phases'; how files are read and written, and how a run ends, is
+//! xr_run's.
 #![tactic(auto)]
 
 mod audited;
@@ -23,6 +24,7 @@ mod exported;
 mod fixed;
 mod gates;
 mod laws;
+mod lines;
 mod made;
 mod made_texts;
 mod names;

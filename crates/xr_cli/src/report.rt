@@ -13,7 +13,7 @@ use xr_cond::Condition;
 use xr_design::Forces;
 use xr_listing::put_conditions;
 use xr_match::Binding;
-use xr_report::write_report;
+use xr_report::{ReportLines, write_report};
 use xr_wave::Wave;
 
 /// The report of a finished wave, and behind it the lines of conditions of its places.
@@ -21,6 +21,7 @@ pub fn report_with(
     alloc: Global,
     wave: &Wave<'_>,
     binding: &Binding,
+    lines: ReportLines,
     forces: &Forces,
     conditions: &[Condition],
 ) -> Result<Vec<u8>, Memory>
@@ -28,9 +29,9 @@ pub fn report_with(
     requires binding { FitsBinding wave.now.design binding.now }
     requires conditions { AllByRecursion (IsSomeCondition wave.now) conditions.now }
     ensures { IfOk result (λ text. text.items
-        ≡ report_text wave.now binding.now forces.now ++ conditions_text wave.now conditions.now) }
+        ≡ report_text wave.now binding.now lines forces.now ++ conditions_text wave.now conditions.now) }
 {
-    let mut text = write_report(alloc, wave, binding, forces)?;
+    let mut text = write_report(alloc, wave, binding, lines, forces)?;
     put_conditions(alloc, &mut text, wave, conditions)?;
     Ok(text)
 }

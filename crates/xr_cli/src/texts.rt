@@ -52,7 +52,7 @@ pub fn texts_of<'a>(
     let conditions = conditions_for(alloc, form, wave)?;
     let listed = conditions.as_slice();
     let cert = write_cert(alloc, wave, form, listed)?;
-    let report = report_with(alloc, wave, binding, &forces, listed)?;
+    let report = report_with(alloc, wave, binding, words.lines, &forces, listed)?;
     ready_of(alloc, words, vcd, code, cert, report)
 }
 

@@ -91,7 +91,8 @@ fn texts_of<'a>(
 {
     let cert = write_cert(alloc, wave, Form::Turns, conditions)?;
     let forces = forces_of(alloc, wave)?;
-    let report = report_with(alloc, wave, &job.recorded.binding, &forces, conditions)?;
+    let binding = &job.recorded.binding;
+    let report = report_with(alloc, wave, binding, words.lines, &forces, conditions)?;
     let mut outputs = Vec::new(alloc);
     outputs.push(Output::new(alloc, words.to, cert)?)?;
     Ok(Ready {

@@ -3,15 +3,17 @@
 ghost use Rattle.std.specs.Prelude.{◌≤◌};
 
 use crate::checked::check_agreed;
+use crate::lines::lines_of;
 use std::alloc::Global;
 use xr_line::{Kind, Line, Opt};
 use xr_phases::{AfterAgreed, Agreed, Refused, TEXT_BYTES, prepare_agreed};
+use xr_report::ReportLines;
 use xr_run::{Ready, Refusal};
 use xr_set::{Form, Inputs, Run};
 use xr_shelf::{Shelf, Sink};
-use xr_words::{CONFLICTS, JobWords, conflicts_of, job_of, job_options, needs};
+use xr_words::{CONFLICTS, JobWords, REPORT, conflicts_of, job_of, job_options, needs};
 
-static OPTIONS: &[Opt<'static>] = job_options![needs!("cert", Kind::Reads), CONFLICTS];
+static OPTIONS: &[Opt<'static>] = job_options![needs!("cert", Kind::Reads), CONFLICTS, REPORT];
 
 /// The words of `check`.
 #[derive(Clone, Copy, Debug, Drop)]
@@ -21,6 +23,8 @@ pub struct Check<'a> {
     pub cert: &'a str,
     /// The clauses of a log that leaves a place undecided, 1 to 100,000.
     pub conflicts: u32,
+    /// The lines of bits in the report.
+    pub lines: ReportLines,
     ghost few_places: { job.places ≤ 134217728 },
     ghost some_clauses: { 1 ≤ conflicts },
     ghost few_clauses: { conflicts ≤ 100000 },
@@ -71,6 +75,7 @@ impl<'a> Run<'a> for Check<'a> {
             job: job_of(line, files)?,
             cert: line.get("cert")?,
             conflicts: conflicts_of(line)?,
+            lines: lines_of(line.get("report"))?,
         })
     }
 

@@ -4,15 +4,18 @@
 ghost use Rattle.std.specs.Prelude.{◌↔◌, ◌≢◌, ◌≤◌, [], ◌∷◌, IsTrue, map, string_bytes};
 ghost use Rattle.xr_line.specs.Apart.{AreApart};
 
+use crate::lines::lines_of;
 use crate::repaired::repaired;
 use std::alloc::Global;
 use xr_line::{Kind, Line, Opt, are_apart};
 use xr_phases::{AfterAgreed, Agreed, RECORDING_BYTES, Refused, prepare_agreed};
+use xr_report::ReportLines;
 use xr_run::{Ready, Refusal};
 use xr_set::{Form, Inputs, Run};
 use xr_shelf::{Shelf, Sink};
 use xr_words::{
-    CONFLICTS, Form as CertForm, JobWords, conflicts_of, form_of, job_of, job_options, needs, takes,
+    CONFLICTS, Form as CertForm, JobWords, REPORT, conflicts_of, form_of, job_of, job_options,
+    needs, takes,
 };
 
 static OPTIONS: &[Opt<'static>] = job_options![
@@ -20,7 +23,8 @@ static OPTIONS: &[Opt<'static>] = job_options![
     needs!("code", Kind::Writes),
     needs!("cert", Kind::Writes),
     takes!("form", Kind::Number(1, 2)),
-    CONFLICTS
+    CONFLICTS,
+    REPORT
 ];
 
 /// The words of `repair`.
@@ -37,6 +41,8 @@ pub struct Repair<'a> {
     pub form: CertForm,
     /// The clauses of a search, 1 to 100,000.
     pub conflicts: u32,
+    /// The lines of bits in the report.
+    pub lines: ReportLines,
     ghost few_places: { job.places ≤ 134217728 },
     ghost some_clauses: { 1 ≤ conflicts },
     ghost few_clauses: { conflicts ≤ 100000 },
@@ -93,6 +99,7 @@ impl<'a> Run<'a> for Repair<'a> {
         let cert = line.get("cert")?;
         let form = form_of(line.get("form"))?;
         let conflicts = conflicts_of(line)?;
+        let lines = lines_of(line.get("report"))?;
         if !is_apart(&job, vcd, code, cert) {
             return None;
         }
@@ -103,6 +110,7 @@ impl<'a> Run<'a> for Repair<'a> {
             cert,
             form,
             conflicts,
+            lines,
         })
     }
 

@@ -4,19 +4,22 @@
 ghost use Rattle.std.specs.Prelude.{◌↔◌, ◌≤◌, [], ◌∷◌, IsTrue, map, string_bytes};
 ghost use Rattle.xr_line.specs.Apart.{AreApart};
 
+use crate::lines::lines_of;
 use crate::upgraded::upgrade_agreed;
 use std::alloc::Global;
 use xr_line::{Kind, Line, Opt, are_apart};
 use xr_phases::{AfterAgreed, Agreed, Refused, TEXT_BYTES, prepare_agreed};
+use xr_report::ReportLines;
 use xr_run::{Ready, Refusal};
 use xr_set::{Form, Inputs, Run};
 use xr_shelf::{Shelf, Sink};
-use xr_words::{CONFLICTS, JobWords, conflicts_of, job_of, job_options, needs};
+use xr_words::{CONFLICTS, JobWords, REPORT, conflicts_of, job_of, job_options, needs};
 
 static OPTIONS: &[Opt<'static>] = job_options![
     needs!("cert", Kind::Reads),
     needs!("to", Kind::Writes),
-    CONFLICTS
+    CONFLICTS,
+    REPORT
 ];
 
 /// The words of `upgrade`.
@@ -29,6 +32,8 @@ pub struct Upgrade<'a> {
     pub to: &'a str,
     /// The clauses of a search, and of a log that leaves a place undecided, 1 to 100,000.
     pub conflicts: u32,
+    /// The lines of bits in the report.
+    pub lines: ReportLines,
     ghost few_places: { job.places ≤ 134217728 },
     ghost some_clauses: { 1 ≤ conflicts },
     ghost few_clauses: { conflicts ≤ 100000 },
@@ -80,6 +85,7 @@ impl<'a> Run<'a> for Upgrade<'a> {
             cert: line.get("cert")?,
             to: line.get("to")?,
             conflicts: conflicts_of(line)?,
+            lines: lines_of(line.get("report"))?,
         };
         if is_apart(words) { Some(words) } else { None }
     }

@@ -15,7 +15,7 @@ returns c =
     let checked = c.in_ok-checked.checked in
     check_found (check_values c.args.words.now) c.args.job.now c.args.cert checked.wave checked.conditions
     c.in_ok-report_of.field-0 c.in_ok-checked.ensures.certified
-    (c.in_ok-report_of.ensures ∙ ap (λ (views : List ConditionView). check_answer c.args.job.now (check_shows checked.wave views)) c.as_slice-conditions.ensures)
+    (c.in_ok-report_of.ensures ∙ ap (λ (views : List ConditionView). check_answer (check_values c.args.words.now) c.args.job.now (check_shows checked.wave views)) c.as_slice-conditions.ensures)
 
 pub report_of-requires-clause-wave : goal.report_of-requires-clause-wave
 report_of-requires-clause-wave c =
