@@ -29,7 +29,7 @@ use Rattle.xr_class.specs.Facts.{AgreeBefore, AgreesWith}
 use Rattle.xr_class.specs.Keeps.{nets_keep, net_keeps}
 
 -- A net that keeps has the certain value that it had.
-same_value : (x y : Value) → are_equal x y ≡ true → x ≡ y
+pub same_value : (x y : Value) → are_equal x y ≡ true → x ≡ y
 same_value Zero Zero equal = refl
 same_value One One equal = refl
 same_value Zero One equal = cc
@@ -41,7 +41,7 @@ same_value One Z equal = cc
 same_value X y equal = cc
 same_value Z y equal = cc
 
-as_it_is : (v : Value) → flipped_value false v ≡ v
+pub as_it_is : (v : Value) → flipped_value false v ≡ v
 as_it_is Zero = refl
 as_it_is One = refl
 as_it_is X = refl
@@ -56,7 +56,7 @@ agrees_on c (Carried from false) back v on agrees =
 agrees_on c (Carried from true) back v on agrees = let none = (and_parts (from == back) false on).1 in cc
 agrees_on c Line back v on agrees = cc
 
-kept_value : (j : Job) (c : ℕ → Value) (place step net : ℕ) → AgreeBefore j c place → at j step net < place
+pub kept_value : (j : Job) (c : ℕ → Value) (place step net : ℕ) → AgreeBefore j c place → at j step net < place
     → net_keeps j c step net ≡ true → c (at j step net) ≡ c (at j (step - 1) net)
 kept_value j c place step net agree less kept =
     let here : ℕ = at j step net in
@@ -98,7 +98,7 @@ moved_back : (j : Job) (bits : ℕ → Bool) → Moved j (λ k. bits (k + j.widt
 moved_back j bits s t net next = ap bits (more_one j.width s t (position_of j.order net) next)
 
 -- So pins have the values that they had.
-pins_moved : (j : Job) (c : ℕ → Value) (early late : ℕ → Bool) (s t : ℕ) (pins : List Pin) → s ≡ suc t
+pub pins_moved : (j : Job) (c : ℕ → Value) (early late : ℕ → Bool) (s t : ℕ) (pins : List Pin) → s ≡ suc t
     → Moved j early late → SameAt j c s t (net_pins pins)
     → pins_at j (as_values (assigned c late)) s pins ≡ pins_at j (as_values (assigned c early)) t pins
 pins_moved j c early late s t [] next moved same = refl
@@ -109,7 +109,7 @@ pins_moved j c early late s t (Bit bit ∷ pins) next moved same =
 pins_moved j c early late s t (Dead ∷ pins) next moved same =
     rw (pins_moved j c early late s t pins next moved same) refl
 
-values_moved : (j : Job) (c : ℕ → Value) (s t : ℕ) (pins : List Pin) → SameAt j c s t (net_pins pins)
+pub values_moved : (j : Job) (c : ℕ → Value) (s t : ℕ) (pins : List Pin) → SameAt j c s t (net_pins pins)
     → pins_at j c s pins ≡ pins_at j c t pins
 values_moved j c s t [] same = refl
 values_moved j c s t (Net net ∷ pins) same = rw (same.0, values_moved j c s t pins same.1) refl

@@ -218,7 +218,7 @@ copied_from j fits c facts place from v copies are v_is =
     let is = copies.from_is in
     let earlier = copies.earlier in
     let keeps_is : (facts from).keeps ≡ net_keeps j c step copies.net = ap (λ k. (facts k).keeps) is
-    ∙ ap (λ (f : Facts). f.keeps) (are (at j step copies.net) (omega (arith, is, earlier)))
+    ∙ (are (at j step copies.net) (omega (arith, is, earlier))).keeps
     ∙ keeps_at j fits c step copies.net copies.within in
     copied_is j c place copies.net v copies.driver (ap c (sym is) ∙ sym v_is)
     ∙ ap (λ k. copied_of v k (before j place) (at j step copies.net)) (sym keeps_is)

@@ -2,7 +2,7 @@
 use Rattle.std.proofs.Common.{◌≡◌, ℕ, zero, suc, ◌+◌, ◌-◌, ◌*◌, ◌<◌, ◌≤◌, ◌==◌, ◌&&◌, not, Bool, true, false, List, [], ◌∷◌, refl, sym, ap, ◌∙◌, arith, subst, if◌then◌else◌, ⊎_elim}
 use Rattle.std.specs.Prelude.{nat_lt}
 use Rattle.std.specs.List.{AllByRecursion}
-use Rattle.std.proofs.lemmas.Bool.{and_parts, lt-ltb, ne_eqb, eqb-true}
+use Rattle.std.proofs.lemmas.Bool.{and_parts, lt-ltb, ne_eqb, eqb-true, or_cases}
 use Rattle.xr_cell.specs.declared.value.Value.{Value}
 use Rattle.xr_cell.specs.declared.value.Value.TheVariants.{Zero, One, X, Z}
 use Rattle.xr_cell.specs.Value.{is_unknown}
@@ -27,7 +27,7 @@ use Rattle.xr_model.proofs.Assignments.{every_passes, passes_every}
 use Rattle.xr_model.proofs.CarryLaw.{net_at, step_at}
 use Rattle.xr_model.proofs.Classes.{ClassSays, all_at, class_says}
 use Rattle.xr_model.proofs.ClassFromClasses.{class_is}
-use Rattle.xr_class.specs.Facts.{AgreeBefore, AgreesWith, is_plain, plain_class}
+use Rattle.xr_class.specs.Facts.{AgreeBefore, AgreesWith, AreTold, Facts, facts_of, is_open, is_plain, plain_class}
 use Rattle.xr_class.specs.Keeps.{SeesTheSame, class_here, later_class, nets_keep, place_passes}
 use Rattle.xr_class.proofs.MovedRules.{OneBack, SameKinds, cell_moves, kept_values, kinds_moved, register_moves, rule_here}
 use Rattle.xr_class.proofs.Reached.{nets_back, nets_standing}
@@ -101,6 +101,14 @@ line_is Free is = cc
 line_is (Carried from inverted) is = cc
 line_is Line is = refl
 
+-- A place that is neither has none of the three.
+pub open_tests : (j : Job) → Fits j → (c : ℕ → Value) (place : ℕ) → place < places_of j
+    → is_plain (class_of j c place) ≡ false
+    → (is_local j c place false ≡ false) × (is_local j c place true ≡ false) × (is_free j c place ≡ false)
+open_tests j fits c place within none =
+    first_open (is_local j c place false) (is_local j c place true) (is_free j c place) (later_class j c place)
+    (ap is_plain (sym (class_is j fits c place within)) ∙ none)
+
 -- Where the place before is local or free, so is this one.
 pub steady_plain : (j : Job) → Fits j → (c : ℕ → Value) (place back : ℕ) → back < places_of j → SameKinds j c place back
     → AgreesWith c (class_of j c back) (c back) → is_plain (class_of j c back) ≡ true
@@ -162,6 +170,20 @@ carrying_known j fits c place table pins within driver on =
     (λ passes. (and_parts (not (step_of j place == 0) && nets_keep j c (step_of j place) (net_pins pins))
     (is_never_unknown j c place)
     (sym (ap (passes_on_of j c (class_of j c) place (step_of j place) (net_of j place)) driver) ∙ passes)).1)
+
+-- A class that is carried from the step before, or Line, is neither local nor free.
+pub carried_open : (class : ClassByNumber) (back : ℕ) → is_carried_on class back ≡ true → is_plain class ≡ false
+carried_open class back on = ap is_plain (carried_on class back on)
+
+pub line_is_open : (class : ClassByNumber) → is_line class ≡ true → is_plain class ≡ false
+line_is_open class is = ap is_plain (line_is class is)
+
+-- So a place that is told to be open is neither.
+pub open_told : (j : Job) (c : ℕ → Value) (place : ℕ) (told : Facts) → AreTold told (facts_of j c place)
+    → is_open told ≡ true → is_plain (class_of j c place) ≡ false
+open_told j c place told are is =
+    ⊎_elim (λ (h : told.carries ≡ true). carried_open (class_of j c place) (before j place) (are.carries h))
+    (λ (h : told.line ≡ true). line_is_open (class_of j c place) (are.line h)) (or_cases told.carries told.line is)
 
 -- The place of the same net a step before a spot at a later step.
 pub one_back : (j : Job) → Fits j → (place : ℕ) (spot : Spot) → IsSpot j place spot → 0 < spot.step
@@ -295,7 +317,7 @@ not_constant j c place Z gives zero_is one_is free = differ (sym (passes_every j
 stuck : (a b : Bool) (x y z : Value) → a ≡ false → b ≡ true → (if a then x else if b then y else z) ≡ y
 stuck a b x y z a_is b_is = rw (a_is, b_is) refl
 
-clock_certain : (j : Job) (c : ℕ → Value) (place s net : ℕ) (latching : Latching) (uncertain : Bool) → 0 < s
+pub clock_certain : (j : Job) (c : ℕ → Value) (place s net : ℕ) (latching : Latching) (uncertain : Bool) → 0 < s
     → step_of j place ≡ s → net_of j place ≡ net → j.driver net ≡ Register latching
     → is_local j c place false ≡ false → is_local j c place true ≡ false → is_free j c place ≡ false
     → has_uncertain_clock j c s latching ≡ uncertain → uncertain ≡ false
@@ -313,8 +335,7 @@ pub register_on : (j : Job) → Fits j → (c : ℕ → Value) (place : ℕ) (sp
 register_on j fits c place spot latching is driver within same kinds none =
     let low = same.later in
     let back = before j place in
-    let open_is = first_open (is_local j c back false) (is_local j c back true) (is_free j c back) (later_class j c back)
-    (ap is_plain (sym (class_is j fits c back within)) ∙ none) in
+    let open_is = open_tests j fits c back within none in
     let clock = clock_certain j c place spot.step spot.net latching (has_uncertain_clock j c spot.step latching)
     (omega (arith, low)) (sym is.step) (sym is.net) driver (kinds.local false ∙ open_is.0)
     (kinds.local true ∙ open_is.1) (kinds.free ∙ open_is.2) refl in

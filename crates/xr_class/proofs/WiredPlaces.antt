@@ -219,7 +219,7 @@ pub nets_keep_there : (j : Job) → Fits j → (c : ℕ → Value) (facts : ℕ 
 nets_keep_there j fits c facts place step first [] are is reach = refl
 nets_keep_there j fits c facts place step first (net ∷ nets) are is reach =
     let here : first + position_of j.order net ≡ at j step net = ap (λ f. f + position_of j.order net) is in
-    let one = ap (λ k. (facts k).keeps) here ∙ ap (λ (f : Facts). f.keeps) (are (at j step net) reach.0.has_it)
+    let one = ap (λ k. (facts k).keeps) here ∙ (are (at j step net) reach.0.has_it).keeps
     ∙ keeps_at j fits c step net reach.0.within in
     rw (one, nets_keep_there j fits c facts place step first nets are is reach.1) refl
 

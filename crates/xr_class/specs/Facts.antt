@@ -45,9 +45,20 @@ abbrev pub facts_of : Job → (ℕ → Value) → ℕ → Facts
 facts_of j certain place =
     facts_by (step_of j place) (before j place) (class_of j certain place) (certain place) (certain (before j place))
 
--- They are those of each place before a place.
+-- What is told of a place is true: of its class perhaps not all, and of its net whether it keeps there.
+pub record AreTold (told facts : Facts) : Type 0 where
+  pub carries : told.carries ≡ true → facts.carries ≡ true
+  pub plain : told.plain ≡ true → facts.plain ≡ true
+  pub line : told.line ≡ true → facts.line ≡ true
+  pub keeps : told.keeps ≡ facts.keeps
+
+-- So it is of each place before a place.
 abbrev pub AreFacts : Job → (ℕ → Value) → (ℕ → Facts) → ℕ → Type 0
-AreFacts j certain facts place = (k : ℕ) → k < place → facts k ≡ facts_of j certain k
+AreFacts j certain facts place = (k : ℕ) → k < place → AreTold (facts k) (facts_of j certain k)
+
+-- A place is told to be neither Local nor Free.
+abbrev pub is_open : Facts → Bool
+is_open facts = facts.carries || facts.line
 
 -- The nets of the places from a first one up to another keep there.
 abbrev pub AllKeep : (ℕ → Facts) → ℕ → ℕ → Type 0

@@ -128,7 +128,7 @@ fn cell_passes<E: Earlier>(
     passes_every(circuit, earlier, place, uncertain, Test::Known)
 }
 
-/// Whether the place of a cell reads its filling.
+/// Whether the place of a cell reads its filling. Takes no memory.
 pub fn cell_chooses(table: Table, pins: &[Pin]) -> bool
     ensures { result ≡ cell_chooses table pins.now }
 {

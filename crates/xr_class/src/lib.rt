@@ -25,5 +25,5 @@ pub use assigned::{Assigned, Numbered, rule_value};
 pub use classify::{class_at, kept_class};
 pub use earlier::Earlier;
 pub use every::passes_every;
-pub use keeps::{keeps_here, net_keeps, place_before};
+pub use keeps::{cell_chooses, keeps_here, net_keeps, place_before};
 pub use test::Test;

@@ -3,4 +3,5 @@ pub mod Byte
 pub mod Front
 pub mod View
 pub mod Kept
+pub mod Repeat
 pub use Rattle.xr_class.specs.Facts

@@ -13,13 +13,14 @@ ghost use Rattle.xr_class.specs.Wires.{AreWiresOf};
 ghost use Rattle.xr_wave_bytes.specs.Byte.{facts_in, facts_of_byte, written_of_byte};
 ghost use Rattle.xr_wave_bytes.specs.View.{next_class};
 ghost use Rattle.xr_wave_bytes.specs.Front.{StandsAt};
-ghost use Rattle.xr_wave_bytes.specs.Kept.{BytesTell, IsKept, SayTheSame, StepKeeps, ValuesAgree, facts_next};
+ghost use Rattle.xr_wave_bytes.specs.Kept.{BytesTell, IsKept, IsNextClass, SayTheSame, StepKeeps, ValuesAgree, facts_next};
+ghost use Rattle.xr_wave_bytes.specs.Repeat.{AreRepeated, IsStretch};
 
-use crate::byte::{byte_of, is_carried_on, is_line, is_plain, keeps, written_in};
+use crate::byte::{byte_of, is_carried_on, is_line, is_plain, keeps, repeated_byte, written_in};
 use crate::front::Front;
 use xr_cell::Value;
 use xr_class::{Earlier, class_at, keeps_here, place_before};
-use xr_design::{Circuit, Mark, Source, Written, count_places};
+use xr_design::{Circuit, Mark, Source, Written, count_places, width_of};
 use xr_model::ClassByNumber;
 use xr_wiring::Wiring;
 
@@ -126,7 +127,8 @@ pub fn push_place(
     requires fits { CircuitFits circuit.now }
     requires within { length bytes.old.items < places_of (job_in circuit.now) }
     requires room { places_of (job_in circuit.now) ≤ vec_capacity bytes.old }
-    requires kept { IsKept circuit.now bytes.old.items next }
+    requires kept { IsKept circuit.now bytes.old.items }
+    requires next { IsNextClass circuit.now bytes.old.items next }
     requires agrees { ValuesAgree (job_in circuit.now) (map written_of_byte bytes.old.items ++ written ∷ []) }
     ensures written { map written_of_byte bytes.new.items ≡ map written_of_byte bytes.old.items ++ written ∷ [] }
     ensures told { BytesTell (job_in circuit.now) bytes.new.items }
@@ -138,6 +140,23 @@ pub fn push_place(
     let byte = next_byte(circuit, bytes.as_slice(), next, written);
     if bytes.push(byte).is_err() {
         unreachable!()
+    }
+}
+
+/// Appends the bytes of so many places, each of which has what its net's place a step before has.
+pub fn repeat_places(circuit: &Circuit<'_>, bytes: &mut Vec<u8>, many: usize)
+    requires fits { CircuitFits circuit.now }
+    requires stretch { IsStretch (job_in circuit.now) (length bytes.old.items) many }
+    requires room { places_of (job_in circuit.now) ≤ vec_capacity bytes.old }
+    ensures bytes { AreRepeated (job_in circuit.now) bytes.old.items bytes.new.items many }
+    ensures room { places_of (job_in circuit.now) ≤ vec_capacity bytes.new }
+{
+    let first = bytes.len() - width_of(circuit);
+    'places: for place in first..first + many {
+        let byte = repeated_byte(bytes[place]);
+        if bytes.push(byte).is_err() {
+            unreachable!()
+        }
     }
 }
 
