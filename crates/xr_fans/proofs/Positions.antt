@@ -17,11 +17,14 @@ net_within j fits position within =
     omega (arith, all, below)
 
 -- The position of the net that stands at a position.
-pub position_there : (j : Job) → Fits j → (position : ℕ) → position < j.width → position_of j.order (slice_index j.order position) ≡ position
-position_there j fits position within = let all = fits.all in position_is j.order position fits.ordering (omega (arith, all, within))
+pub position_there : (j : Job) → Fits j → (position : ℕ) → position < j.width
+    → position_of j.order (slice_index j.order position) ≡ position
+position_there j fits position within = let all = fits.all in
+    position_is j.order position fits.ordering (omega (arith, all, within))
 
 -- The place of that net.
-pub at_there : (j : Job) → Fits j → (step position : ℕ) → position < j.width → at j step (slice_index j.order position) ≡ step * j.width + position
+pub at_there : (j : Job) → Fits j → (step position : ℕ) → position < j.width
+    → at j step (slice_index j.order position) ≡ step * j.width + position
 at_there j fits step position within = ap (λ (p : ℕ). step * j.width + p) (position_there j fits position within)
 
 -- What a driver reads, and what it looks back at, are nets of the job.
@@ -35,7 +38,8 @@ pub arguments_within : (j : Job) → Fits j → (position : ℕ) → position < 
 arguments_within j fits position within =
     stands_within j position (arguments_of_driver (driver_on j position)) (fits.arguments position within)
 
-looked_within_of : (j : Job) (driver : Driver) → FitsDriver j.udps j.width driver → AllByRecursion (λ net. net < j.width) (looked_at driver)
+looked_within_of : (j : Job) (driver : Driver) → FitsDriver j.udps j.width driver
+    → AllByRecursion (λ net. net < j.width) (looked_at driver)
 looked_within_of j Input fit = tt
 looked_within_of j Undriven fit = tt
 looked_within_of j (Constant bit) fit = tt
@@ -43,5 +47,8 @@ looked_within_of j (Copy argument) fit = tt
 looked_within_of j (Cell table pins) fit = tt
 looked_within_of j (Register latching) fit = fit.nets
 
-pub looked_within : (j : Job) → Fits j → (position : ℕ) → position < j.width → AllByRecursion (λ net. net < j.width) (looked_at (driver_on j position))
-looked_within j fits position within = looked_within_of j (driver_on j position) (fits.pins (slice_index j.order position) (net_within j fits position within))
+pub looked_within : (j : Job) → Fits j → (position : ℕ) → position < j.width
+    → AllByRecursion (λ net. net < j.width) (looked_at (driver_on j position))
+looked_within j fits position within =
+    looked_within_of j (driver_on j position) (fits.pins (slice_index j.order position)
+    (net_within j fits position within))

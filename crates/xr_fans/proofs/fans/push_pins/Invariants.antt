@@ -5,4 +5,5 @@ use Rattle.xr_fans.specs.Readings.{readings_of}
 use Rattle.xr_fans.proofs.fans.push_pins.Given as goal
 
 abbrev pub invariant-pins : goal.invariant-pins
-invariant-pins l = l.readings.items ≡ l.initial.readings.items ++ readings_of l.position (net_pins (take l.pin-index l.pins))
+invariant-pins l = l.readings.items ≡ l.initial.readings.items ++ readings_of l.position
+    (net_pins (take l.pin-index l.pins))

@@ -13,7 +13,10 @@ use Rattle.xr_fans.proofs.fans.register_readers.Goals as goal
 pub positions-preserved : goal.positions-preserved
 positions-preserved c =
     let j = job_in c.args.circuit.now in
-    c.in_ok-push_looked_at.ensures ∙ ap (λ (rs : List Reading). rs ++ readings_of c.positions.position (looked_at (driver_on (job_in c.args.circuit.now) c.positions.position))) c.positions.invariant ∙ sym (to_more j looked_at c.positions.position)
+    c.in_ok-push_looked_at.ensures
+    ∙ ap (λ (rs : List Reading). rs ++ readings_of c.positions.position
+    (looked_at (driver_on (job_in c.args.circuit.now) c.positions.position))) c.positions.invariant
+    ∙ sym (to_more j looked_at c.positions.position)
 
 pub new-requires-clause-few : goal.new-requires-clause-few
 new-requires-clause-few c =
@@ -23,7 +26,9 @@ new-requires-clause-few c =
     let last = c.positions.auto.position-end in
     let count = c.width_of-nets.ensures in
     let all : c.positions.position ≡ j.width = omega (arith, test, last, count) in
-    let whole : c.as_slice.result.now ≡ readings_to (job_in c.args.circuit.now) looked_at (job_in c.args.circuit.now).width = c.as_slice.ensures.value ∙ c.positions.invariant ∙ ap (readings_to (job_in c.args.circuit.now) looked_at) all in
+    let whole : c.as_slice.result.now ≡ readings_to (job_in c.args.circuit.now) looked_at
+    (job_in c.args.circuit.now).width = c.as_slice.ensures.value ∙ c.positions.invariant
+    ∙ ap (readings_to (job_in c.args.circuit.now) looked_at) all in
     let long = ap (λ (rs : List Reading). length rs) whole in
     let few = few_readings j looked_at j.width (omega arith) (looked_nets j fits (looked_within j fits)) in
     let nets = fits.few_nets in
@@ -37,7 +42,9 @@ new-requires-clause-within c =
     let last = c.positions.auto.position-end in
     let count = c.width_of-nets.ensures in
     let all : c.positions.position ≡ j.width = omega (arith, test, last, count) in
-    let whole : c.as_slice.result.now ≡ readings_to (job_in c.args.circuit.now) looked_at (job_in c.args.circuit.now).width = c.as_slice.ensures.value ∙ c.positions.invariant ∙ ap (readings_to (job_in c.args.circuit.now) looked_at) all in
+    let whole : c.as_slice.result.now ≡ readings_to (job_in c.args.circuit.now) looked_at
+    (job_in c.args.circuit.now).width = c.as_slice.ensures.value ∙ c.positions.invariant
+    ∙ ap (readings_to (job_in c.args.circuit.now) looked_at) all in
     let P = λ (rs : List Reading). AreWithin (job_in c.args.circuit.now).width rs in
     let Q = λ (n : ℕ). AreWithin n c.as_slice.result.now in
     subst Q (sym count) (subst P (sym whole) (readings_within j looked_at (looked_nets j fits (looked_within j fits))))
@@ -49,7 +56,10 @@ returns c =
     let last = c.positions.auto.position-end in
     let count = c.width_of-nets.ensures in
     let all : c.positions.position ≡ j.width = omega (arith, test, last, count) in
-    let whole : c.as_slice.result.now ≡ readings_to (job_in c.args.circuit.now) looked_at (job_in c.args.circuit.now).width = c.as_slice.ensures.value ∙ c.positions.invariant ∙ ap (readings_to (job_in c.args.circuit.now) looked_at) all in
+    let whole : c.as_slice.result.now ≡ readings_to (job_in c.args.circuit.now) looked_at
+    (job_in c.args.circuit.now).width = c.as_slice.ensures.value ∙ c.positions.invariant
+    ∙ ap (readings_to (job_in c.args.circuit.now) looked_at) all in
     let P = λ (rs : List Reading). HasReadings rs c.in_ok-new.field-0 in
     let Q = λ (n : ℕ). IsTable n c.in_ok-new.field-0 in
-    are_readers j looked_at c.in_ok-new.field-0 (subst Q count c.in_ok-new.ensures.table) (subst P whole c.in_ok-new.ensures.has)
+    are_readers j looked_at c.in_ok-new.field-0 (subst Q count c.in_ok-new.ensures.table)
+    (subst P whole c.in_ok-new.ensures.has)

@@ -16,13 +16,15 @@ returns-then-step-circuit-ne0-clause-inputs c = λ net low clear.
     ap (λ (m : ℕ). slice_index_or (slice_index_or c.args.circuit.now.stim.now.inputs m []) net X) same)
 
 pub changed-requires-clause-later : goal.changed-requires-clause-later
-changed-requires-clause-later c = later_moment c.args.step c.args.circuit.now.stim.now.rounds c.requires.later c.if-step-circuit-ne0.false
+changed-requires-clause-later c = later_moment c.args.step c.args.circuit.now.stim.now.rounds c.requires.later
+    c.if-step-circuit-ne0.false
 
 pub mark_changes-requires-clause-nets : goal.mark_changes-requires-clause-nets
 mark_changes-requires-clause-nets c =
     let moment = c.args.step / c.args.circuit.now.stim.now.rounds in
     let within : moment < length c.args.circuit.now.stim.now.inputs = grind (arith, common_steps) in
-    subst (λ (n : ℕ). AreInWidth n c.changed.result.now) (c.requires.fits.fits_stim.values moment within) c.changed.ensures.nets
+    subst (λ (n : ℕ). AreInWidth n c.changed.result.now) (c.requires.fits.fits_stim.values moment within)
+    c.changed.ensures.nets
 
 pub returns-clause-inputs : goal.returns-clause-inputs
 returns-clause-inputs c =
@@ -30,6 +32,8 @@ returns-clause-inputs c =
     let moment = c.args.step / rounds in
     let within : moment < length c.args.circuit.now.stim.now.inputs = grind (arith, common_steps) in
     let long = c.requires.fits.fits_stim.values moment within in
-    let earlier = moment_before c.args.step rounds c.requires.fits.fits_job.some_round c.requires.later c.if-step-circuit-ne0.false in
-    inputs_due (job_in c.args.circuit.now) c.args.step c.args.circuit.now.stim.now.inputs c.changed.result.now c.mark_changes.new.due
+    let earlier = moment_before c.args.step rounds c.requires.fits.fits_job.some_round c.requires.later
+    c.if-step-circuit-ne0.false in
+    inputs_due (job_in c.args.circuit.now) c.args.step c.args.circuit.now.stim.now.inputs c.changed.result.now
+    c.mark_changes.new.due
     (λ m net. refl) long earlier c.changed.ensures c.mark_changes.ensures.changes
