@@ -1,5 +1,6 @@
 -- Places whose arguments have the certain values of a step before: over all assignments their rule gives what it gave.
-use Rattle.std.proofs.Common.{◌≡◌, ℕ, suc, ◌+◌, ◌-◌, ◌*◌, ◌<◌, ◌==◌, ◌||◌, not, Bool, true, false, List, [], ◌∷◌, refl, sym, ap, ◌∙◌, arith, subst, if◌then◌else◌, ⊎_elim}
+use Rattle.std.proofs.Common.{◌≡◌, ℕ, suc, ◌+◌, ◌-◌, ◌*◌, ◌<◌, ◌==◌, ◌||◌, not, Bool, true, false, List, [], ◌∷◌, refl}
+use Rattle.std.proofs.Common.{sym, ap, ◌∙◌, arith, subst, if◌then◌else◌, ⊎_elim}
 use Rattle.std.specs.List.{AllByRecursion}
 use Rattle.std.proofs.lemmas.Bool.{and_parts, or_cases, eqb-true, ne_eqb}
 use Rattle.xr_cell.specs.declared.value.Value.{Value}
@@ -157,7 +158,8 @@ kinds_moved j c place back moves = record {
   never = every_moved j c place back (λ v. not (is_unknown v)) moves;
 }
 
-pub rule_here : (j : Job) (c : ℕ → Value) (bits : ℕ → Bool) (place step net : ℕ) (driver : Driver) → step_of j place ≡ step
+pub rule_here : (j : Job) (c : ℕ → Value) (bits : ℕ → Bool) (place step net : ℕ) (driver : Driver)
+    → step_of j place ≡ step
     → net_of j place ≡ net → j.driver net ≡ driver → rule j c bits place ≡ rule_of j c bits step net driver
 unfolding rule
 rule_here j c bits place step net driver step_is net_is is =
@@ -207,7 +209,8 @@ not_numeral s t is = (ne_eqb s 0 (λ e. omega (arith, is, e)), ne_eqb s 1 (λ e.
 -- A register that looks back at the certain values that it looked back at a step before.
 pub register_moves : (j : Job) (c : ℕ → Value) (place back s t u v net : ℕ) (latching : Latching)
     → OneBack j place back s t net → t ≡ suc u → u ≡ suc v → j.driver net ≡ Register latching
-    → c (at j t net) ≡ c (at j u net) → SameAt j c t u (net_pins latching.pins) → SameAt j c u v (net_pins latching.pins)
+    → c (at j t net) ≡ c (at j u net) → SameAt j c t u (net_pins latching.pins)
+    → SameAt j c u v (net_pins latching.pins)
     → RulesMove j c place back
 register_moves j c place back s t u v net latching one t_is u_is driver own new old early late moved =
     let s_is = one.next in
@@ -218,7 +221,8 @@ register_moves j c place back s t u v net latching one t_is u_is driver own new 
     ∙ looked_same j latching _ _ _ _ _ _ _ _ _ _ _ _ (values_moved j c u v latching.pins old)
     (values_moved j c t u latching.pins new) own (pins_moved j c early late u v latching.pins u_is moved old)
     (pins_moved j c early late t u latching.pins t_is moved new) kept
-    ∙ sym (looked_at j c (assigned c early) t u v net latching there.0 there.1 (omega (arith, t_is)) (omega (arith, t_is, u_is)))
+    ∙ sym (looked_at j c (assigned c early) t u v net latching there.0 there.1 (omega (arith, t_is))
+    (omega (arith, t_is, u_is)))
     ∙ sym (rule_here j c (assigned c early) back t net (Register latching) one.back_step one.back_net driver)
   where
     kept : bit_value (assigned c late (at j t net)) ≡ bit_value (assigned c early (at j u net))

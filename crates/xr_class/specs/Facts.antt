@@ -36,10 +36,12 @@ place_is_carried_on j certain place = is_carried_on (class_of j certain place) (
 abbrev pub facts : Bool → Bool → Bool → Bool → Facts
 facts carries plain line keeps = record { carries = carries; plain = plain; line = line; keeps = keeps }
 
--- They, by the step and the class of a place, the place before it, and the certain values of both; and those of a place.
+-- They, by the step and the class of a place, the place before it, and the certain values of both; and those of a
+-- place.
 abbrev pub facts_by : ℕ → ℕ → ClassByNumber → Value → Value → Facts
 facts_by step back class here value_back =
-    facts (is_carried_on class back) (is_plain class) (is_line class) (keeps_by step here value_back (is_carried_on class back))
+    facts (is_carried_on class back) (is_plain class) (is_line class)
+    (keeps_by step here value_back (is_carried_on class back))
 
 abbrev pub facts_of : Job → (ℕ → Value) → ℕ → Facts
 facts_of j certain place =
@@ -64,8 +66,8 @@ is_open facts = facts.carries || facts.line
 abbrev pub AllKeep : (ℕ → Facts) → ℕ → ℕ → Type 0
 AllKeep facts first place = (k : ℕ) → first ≤ k → k < place → (facts k).keeps ≡ true
 
--- The certain value of a place agrees with its class: a local place has its bit, a free one isn't certain, and a carried
--- one has the value of the place that it is carried from, inverted where the class says so.
+-- The certain value of a place agrees with its class: a local place has its bit, a free one isn't certain, and a
+-- carried one has the value of the place that it is carried from, inverted where the class says so.
 abbrev pub AgreesWith : (ℕ → Value) → ClassByNumber → Value → Type 0
 AgreesWith certain (Local bit) value = value ≡ bit_value bit
 AgreesWith certain Free value = value ≡ X

@@ -20,8 +20,8 @@ use xr_cell::Value;
 use xr_design::{Circuit, Pin, Source, Table, width_of};
 use xr_model::ClassByNumber;
 
-/// The class of a cell's place. Where its pins keep it gives at the step before what it gives here; so they do where all
-/// places before it in its step keep. Takes no memory.
+/// The class of a cell's place. Where its pins keep it gives at the step before what it gives here; so they do where
+/// all places before it in its step keep. Takes no memory.
 pub fn cell_class<E: Earlier>(
     circuit: &Circuit<'_>,
     earlier: &E,

@@ -15,12 +15,14 @@ use Rattle.xr_class.proofs.steady.cell_class.Goals as goal
 pub pins_keep-requires-clause-reach : goal.pins_keep-requires-clause-reach
 pins_keep-requires-clause-reach g c =
     cell_reach (job_in c.args.circuit.now) c.requires.fits.fits_job (g.E.Source.has c.args.earlier.now) c.args.place
-    c.args.position c.args.table c.args.pins.now c.requires.within c.requires.position c.requires.stands c.requires.certain
+    c.args.position c.args.table c.args.pins.now c.requires.within c.requires.position c.requires.stands
+    c.requires.certain
 
 pub pins_keep-requires-clause-keep : goal.pins_keep-requires-clause-keep
 pins_keep-requires-clause-keep g c =
     OnTrue_from c.args.all_keep _ (λ on.
-    all_pins_keep (job_in c.args.circuit.now) c.requires.fits.fits_job (g.E.Earlier.facts c.args.earlier.now) c.args.place
+    all_pins_keep (job_in c.args.circuit.now) c.requires.fits.fits_job (g.E.Earlier.facts c.args.earlier.now)
+    c.args.place
     c.args.position c.args.table c.args.pins.now c.requires.within c.requires.position c.requires.stands
     (OnTrue_at on c.requires.keep))
 
@@ -30,11 +32,14 @@ returns-then-is_plain g c =
     let certain = g.E.Source.reads c.args.earlier.now in
     let place = c.args.place in
     let more = more_width j.width c.width_of-width.result place c.width_of-width.ensures c.if-place-width.false in
-    let back = before_back j c.requires.fits.fits_job place c.width_of-width.result c.requires.within c.width_of-width.ensures
+    let back = before_back j c.requires.fits.fits_job place c.width_of-width.result c.requires.within
+    c.width_of-width.ensures
     c.if-place-width.false in
     let all = c.requires.within in
-    let steady = cell_steady j c.requires.fits.fits_job certain (g.E.Earlier.facts c.args.earlier.now) place c.args.position
-    c.args.table c.args.pins.now c.requires.within c.requires.position c.requires.stands c.requires.facts c.requires.agrees
+    let steady = cell_steady j c.requires.fits.fits_job certain (g.E.Earlier.facts c.args.earlier.now) place
+    c.args.position
+    c.args.table c.args.pins.now c.requires.within c.requires.position c.requires.stands c.requires.facts
+    c.requires.agrees
     more (sym c.pins_keep.ensures ∙ c.if-not-pins_keep.false) in
     let less = steady.less in
     let plain : is_plain (class_of j certain (before j place)) ≡ true =
@@ -50,11 +55,14 @@ returns-then-is_carried_on g c =
     let certain = g.E.Source.reads c.args.earlier.now in
     let place = c.args.place in
     let more = more_width j.width c.width_of-width.result place c.width_of-width.ensures c.if-place-width.false in
-    let back = before_back j c.requires.fits.fits_job place c.width_of-width.result c.requires.within c.width_of-width.ensures
+    let back = before_back j c.requires.fits.fits_job place c.width_of-width.result c.requires.within
+    c.width_of-width.ensures
     c.if-place-width.false in
     let all = c.requires.within in
-    let steady = cell_steady j c.requires.fits.fits_job certain (g.E.Earlier.facts c.args.earlier.now) place c.args.position
-    c.args.table c.args.pins.now c.requires.within c.requires.position c.requires.stands c.requires.facts c.requires.agrees
+    let steady = cell_steady j c.requires.fits.fits_job certain (g.E.Earlier.facts c.args.earlier.now) place
+    c.args.position
+    c.args.table c.args.pins.now c.requires.within c.requires.position c.requires.stands c.requires.facts
+    c.requires.agrees
     more (sym c.pins_keep.ensures ∙ c.if-not-pins_keep.false) in
     let less = steady.less in
     let on : place_is_carried_on j certain (before j place) ≡ true =
@@ -68,7 +76,8 @@ returns-then-is_carried_on g c =
     (omega (arith, less, all)) (ap j.driver (net_back j c.requires.fits.fits_job place c.requires.within more)
     ∙ here.driver) on in
     ap (λ k. Carried k false) back
-    ∙ steady_open j c.requires.fits.fits_job certain place (before j place) (omega (arith, less, all)) steady.kinds open_is
+    ∙ steady_open j c.requires.fits.fits_job certain place (before j place) (omega (arith, less, all)) steady.kinds
+    open_is
     (steady.passes known)
 
 never_chooses : (b : Bool) → not b ≡ true → b ≡ false
@@ -82,11 +91,13 @@ returns-then-is_passed_line g c =
     let facts = g.E.Earlier.facts c.args.earlier.now in
     let place = c.args.place in
     let more = more_width j.width c.width_of-width.result place c.width_of-width.ensures c.if-place-width.false in
-    let back = before_back j c.requires.fits.fits_job place c.width_of-width.result c.requires.within c.width_of-width.ensures
+    let back = before_back j c.requires.fits.fits_job place c.width_of-width.result c.requires.within
+    c.width_of-width.ensures
     c.if-place-width.false in
     let all = c.requires.within in
     let steady = cell_steady j c.requires.fits.fits_job certain facts place c.args.position
-    c.args.table c.args.pins.now c.requires.within c.requires.position c.requires.stands c.requires.facts c.requires.agrees
+    c.args.table c.args.pins.now c.requires.within c.requires.position c.requires.stands c.requires.facts
+    c.requires.agrees
     more (sym c.pins_keep.ensures ∙ c.if-not-pins_keep.false) in
     let less = steady.less in
     let both = and_parts (facts (before j place)).line (not (cell_chooses c.args.table c.args.pins.now))
@@ -98,5 +109,6 @@ returns-then-is_passed_line g c =
     cell_known j c.requires.fits.fits_job certain place c.args.table c.args.pins.now c.requires.within c.requires.stands
     (never_chooses (cell_chooses c.args.table c.args.pins.now) both.1) in
     ap (λ k. Carried k false) back
-    ∙ steady_open j c.requires.fits.fits_job certain place (before j place) (omega (arith, less, all)) steady.kinds open_is
+    ∙ steady_open j c.requires.fits.fits_job certain place (before j place) (omega (arith, less, all)) steady.kinds
+    open_is
     (steady.passes known)

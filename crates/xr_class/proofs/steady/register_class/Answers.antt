@@ -17,13 +17,15 @@ returns-then-is_plain g c =
     let certain = g.E.Source.reads c.args.earlier.now in
     let place = c.args.place in
     let same : PlaceSeesTheSame j certain place =
-    subst (λ b. OnTrue b (PlaceSeesTheSame j certain place)) c.if-not-sees_the_same.false c.sees_the_same.ensures.same in
+    subst (λ b. OnTrue b (PlaceSeesTheSame j certain place)) c.if-not-sees_the_same.false
+    c.sees_the_same.ensures.same in
     let more : j.width ≤ place =
     subst (λ b. OnTrue b (j.width ≤ place)) c.if-not-sees_the_same.false c.sees_the_same.ensures.later in
     let back : place - c.width_of.result ≡ before j place = ap (λ w. place - w) c.width_of.ensures
     ∙ before_later j c.requires.fits.fits_job place c.requires.within more in
     let all = c.requires.within in
-    let seen = register_seen j c.requires.fits.fits_job certain place c.args.pins.now c.requires.within c.requires.stands
+    let seen = register_seen j c.requires.fits.fits_job certain place c.args.pins.now c.requires.within
+    c.requires.stands
     c.requires.agrees same in
     let less = seen.less in
     let plain : is_plain (class_of j certain (before j place)) ≡ true =
@@ -39,13 +41,15 @@ returns-then-is_open g c =
     let certain = g.E.Source.reads c.args.earlier.now in
     let place = c.args.place in
     let same : PlaceSeesTheSame j certain place =
-    subst (λ b. OnTrue b (PlaceSeesTheSame j certain place)) c.if-not-sees_the_same.false c.sees_the_same.ensures.same in
+    subst (λ b. OnTrue b (PlaceSeesTheSame j certain place)) c.if-not-sees_the_same.false
+    c.sees_the_same.ensures.same in
     let more : j.width ≤ place =
     subst (λ b. OnTrue b (j.width ≤ place)) c.if-not-sees_the_same.false c.sees_the_same.ensures.later in
     let back : place - c.width_of.result ≡ before j place = ap (λ w. place - w) c.width_of.ensures
     ∙ before_later j c.requires.fits.fits_job place c.requires.within more in
     let all = c.requires.within in
-    let seen = register_seen j c.requires.fits.fits_job certain place c.args.pins.now c.requires.within c.requires.stands
+    let seen = register_seen j c.requires.fits.fits_job certain place c.args.pins.now c.requires.within
+    c.requires.stands
     c.requires.agrees same in
     let less = seen.less in
     let open_is : is_plain (class_of j certain (before j place)) ≡ false =
@@ -53,5 +57,6 @@ returns-then-is_open g c =
     (c.requires.facts (before j place) less) (sym (c.is_open.ensures
     ∙ ap (λ k. is_open (g.E.Earlier.facts c.args.earlier.now k)) back) ∙ c.if-is_open.true) in
     ap (λ k. Carried k false) back
-    ∙ steady_open j c.requires.fits.fits_job certain place (before j place) (omega (arith, less, all)) seen.kinds open_is
+    ∙ steady_open j c.requires.fits.fits_job certain place (before j place) (omega (arith, less, all)) seen.kinds
+    open_is
     (seen.passes open_is)
