@@ -1,5 +1,6 @@
 -- What is found at a place from which its class follows.
-use Rattle.std.proofs.Common.{◌≡◌, ℕ, ◌-◌, ◌<◌, ◌==◌, not, Bool, true, false, refl, sym, ap, ◌∙◌, arith, subst, if◌then◌else◌}
+use Rattle.std.proofs.Common.{◌≡◌, ℕ, ◌-◌, ◌<◌, ◌==◌, not, Bool, true, false, refl, sym, ap, ◌∙◌, arith, subst}
+use Rattle.std.proofs.Common.{if◌then◌else◌}
 use Rattle.xr_cell.specs.declared.value.Value.{Value}
 use Rattle.xr_cell.specs.declared.value.Value.TheVariants.{Zero, One, X, Z}
 use Rattle.xr_cell.specs.Value.{bit_value, is_unknown}
@@ -10,7 +11,8 @@ use Rattle.xr_design.specs.Rule.{arguments, rule, rule_of}
 use Rattle.xr_design.specs.World.{decided}
 use Rattle.xr_design.proofs.Rules.{rule_reads, spot}
 use Rattle.xr_model.specs.Assignment.{assigned}
-use Rattle.xr_model.specs.Class.{before, carried_or_line, class_of, is_bit, is_free, is_local, is_never_unknown, passes_on}
+use Rattle.xr_model.specs.Class.{before, carried_or_line, class_of, is_bit, is_free, is_local, is_never_unknown}
+use Rattle.xr_model.specs.Class.{passes_on}
 use Rattle.xr_model.specs.declared.class.ClassByNumber.{ClassByNumber}
 use Rattle.xr_model.specs.declared.class.ClassByNumber.TheVariants.{Local, Free, Carried}
 use Rattle.xr_model.proofs.Assignments.{every_passes, passes_every}
@@ -22,17 +24,20 @@ use Rattle.xr_class.proofs.MovedRules.{RulesMove, kinds_moved, rule_here as rule
 use Rattle.xr_quiet.specs.Laws.{SaysTheSame}
 
 -- The rule of a place, and that of its net's place a step before.
-pub rule_here : (j : Job) (c : ℕ → Value) (bits : ℕ → Bool) (place : ℕ) (driver : Driver) → j.driver (net_of j place) ≡ driver
+pub rule_here : (j : Job) (c : ℕ → Value) (bits : ℕ → Bool) (place : ℕ) (driver : Driver)
+    → j.driver (net_of j place) ≡ driver
     → rule j c bits place ≡ rule_of j c bits (step_of j place) (net_of j place) driver
 rule_here j c bits place driver is = rule_there j c bits place (step_of j place) (net_of j place) driver refl refl is
 
-pub rule_before : (j : Job) → Fits j → (c : ℕ → Value) (bits : ℕ → Bool) (place : ℕ) (driver : Driver) → place < places_of j
+pub rule_before : (j : Job) → Fits j → (c : ℕ → Value) (bits : ℕ → Bool) (place : ℕ) (driver : Driver)
+    → place < places_of j
     → j.driver (net_of j place) ≡ driver
     → rule j c bits (before j place) ≡ rule_of j c bits (step_of j place - 1) (net_of j place) driver
 rule_before j fits c bits place driver within is =
     let low = (spot j fits place within).net in
     rule_there j c bits (before j place) (step_of j place - 1) (net_of j place) driver
-    (step_at j fits (step_of j place - 1) (net_of j place) low) (net_at j fits (step_of j place - 1) (net_of j place) low) is
+    (step_at j fits (step_of j place - 1) (net_of j place) low) (net_at j fits (step_of j place - 1) (net_of j place)
+    low) is
 
 -- What a test of all assignments says of one.
 pub local_gives : (j : Job) (c : ℕ → Value) (place : ℕ) (bit : Bool) (bits : ℕ → Bool) → is_local j c place bit ≡ true
@@ -75,7 +80,8 @@ local_class : (j : Job) → Fits j → (c : ℕ → Value) (place : ℕ) (bit : 
     → is_local j c place bit ≡ true → class_of j c place ≡ Local bit
 local_class j fits c place bit within local =
     class_is j fits c place within ∙ first_local bit (is_local j c place false) (is_local j c place true) _
-    (λ h. zero_bit bit (sym (local_gives j c place bit (λ k. false) local) ∙ local_gives j c place false (λ k. false) h))
+    (λ h. zero_bit bit (sym (local_gives j c place bit (λ k. false) local)
+    ∙ local_gives j c place false (λ k. false) h))
     (λ e. ap (is_local j c place) (sym e) ∙ local) (λ e. ap (is_local j c place) (sym e) ∙ local)
 
 pub local_value : (j : Job) → Fits j → (c : ℕ → Value) (place k : ℕ) (bit : Bool) → place < places_of j → k < place
@@ -83,7 +89,8 @@ pub local_value : (j : Job) → Fits j → (c : ℕ → Value) (place k : ℕ) (
 local_value j fits c place k bit within less agree local =
     subst (λ class. AgreesWith c class (c k)) (local_class j fits c k bit (omega arith) local) (agree k less)
 
--- Where the place is local, its bit is certain in its net's place before; it isn't free; and else it passes its net's bit on.
+-- Where the place is local, its bit is certain in its net's place before; it isn't free; and else it passes its net's
+-- bit on.
 pub record Finding (j : Job) (c : ℕ → Value) (place : ℕ) : Type 0 where
   pub local : (bit : Bool) → is_local j c place bit ≡ true → c (before j place) ≡ bit_value bit
   pub free : is_free j c place ≡ true → ⊥
@@ -121,9 +128,11 @@ moved_local j fits c place within later agree moves bit local =
 -- A place whose rule, where all places that aren't certain have one bit, gives the value or the bit of its net's place
 -- before.
 abbrev pub GivesOwn : Job → (ℕ → Value) → ℕ → Type 0
-GivesOwn j c place = (bit : Bool) → rule j c (assigned c (λ k. bit)) place ≡ bit_value (decided (c (before j place)) bit)
+GivesOwn j c place = (bit : Bool)
+    → rule j c (assigned c (λ k. bit)) place ≡ bit_value (decided (c (before j place)) bit)
 
-value_of : (v : Value) (bit : Bool) → bit_value (decided v false) ≡ bit_value bit → bit_value (decided v true) ≡ bit_value bit
+value_of : (v : Value) (bit : Bool) → bit_value (decided v false) ≡ bit_value bit
+    → bit_value (decided v true) ≡ bit_value bit
     → v ≡ bit_value bit
 value_of Zero bit zero_is one_is = zero_is
 value_of One bit zero_is one_is = zero_is
@@ -136,7 +145,8 @@ pub bits_known : (bit : Bool) → is_unknown (bit_value bit) ≡ true → ⊥
 bits_known false is = cc
 bits_known true is = cc
 
-pub own_local : (j : Job) (c : ℕ → Value) (place : ℕ) → GivesOwn j c place → (bit : Bool) → is_local j c place bit ≡ true
+pub own_local : (j : Job) (c : ℕ → Value) (place : ℕ) → GivesOwn j c place → (bit : Bool)
+    → is_local j c place bit ≡ true
     → c (before j place) ≡ bit_value bit
 own_local j c place gives bit local = value_of (c (before j place)) bit
     (sym (gives false) ∙ local_gives j c place bit (λ k. false) local)
@@ -150,7 +160,8 @@ not_both : (b : Bool) → b ≡ true → not b ≡ true → ⊥
 not_both true is isnt = cc
 not_both false is isnt = cc
 
-pub never_free : (j : Job) (c : ℕ → Value) (place : ℕ) → is_never_unknown j c place ≡ true → is_free j c place ≡ true → ⊥
+pub never_free : (j : Job) (c : ℕ → Value) (place : ℕ) → is_never_unknown j c place ≡ true → is_free j c place ≡ true
+    → ⊥
 never_free j c place never free = not_both (is_unknown (rule j c (assigned c (λ k. false)) place))
     (free_gives j c place (λ k. false) free) (never_gives j c place (λ k. false) never)
 

@@ -1,6 +1,7 @@
--- A quiet place stays quiet over other certain values that agree up to its step, and other classes by which the nets that
--- keep still do.
-use Rattle.std.proofs.Common.{◌≡◌, ℕ, zero, suc, ◌+◌, ◌-◌, ◌*◌, ◌%◌, ◌<◌, ◌≤◌, ◌==◌, ◌&&◌, ◌||◌, not, Bool, true, false, List, [], ◌∷◌, refl, sym, ap, ◌∙◌, arith, subst}
+-- A quiet place stays quiet over other certain values that agree up to its step, and other classes by which the nets
+-- that keep still do.
+use Rattle.std.proofs.Common.{◌≡◌, ℕ, zero, suc, ◌+◌, ◌-◌, ◌*◌, ◌%◌, ◌<◌, ◌≤◌, ◌==◌, ◌&&◌, ◌||◌, not, Bool, true, false}
+use Rattle.std.proofs.Common.{List, [], ◌∷◌, refl, sym, ap, ◌∙◌, arith, subst}
 use Rattle.std.specs.List.{AllByRecursion, list_all}
 use Rattle.std.proofs.lemmas.Bool.{and_parts}
 use Rattle.xr_cell.specs.declared.value.Value.{Value}
@@ -62,7 +63,8 @@ row_end w step = omega arith
 
 quiet_along_of : (j : Job) → Fits j → (c d : ℕ → Value) (e g : ℕ → ClassByNumber) (place : ℕ) (driver : Driver)
     → place < places_of j → (step_of j place == 0) ≡ false → AgreeBelow c d (step_of j place * j.width)
-    → FitsDriver j.udps j.width driver → AllByRecursion (StillKeeps j c d e g (step_of j place)) (arguments_of_driver driver)
+    → FitsDriver j.udps j.width driver
+    → AllByRecursion (StillKeeps j c d e g (step_of j place)) (arguments_of_driver driver)
     → BackKeep j c d e g (step_of j place)
     → is_quiet_of j c e place (step_of j place) (net_of j place) driver ≡ true
     → is_quiet_of j d g place (step_of j place) (net_of j place) driver ≡ true
@@ -75,10 +77,12 @@ quiet_along_of j fits c d e g place (Cell table pins) within later agree driver 
     let step = step_of j place in
     let parts = and_parts (list_all (keeps j c e step) (net_pins pins)) (is_never_unknown j c (before j place)) quiet in
     let low = back_in_row j fits place within later in
-    let stands : before j place < places_of j = (let whole = (spot j fits place within).whole in omega (arith, low, whole)) in
+    let stands : before j place < places_of j = (let whole = (spot j fits place within).whole in
+    omega (arith, low, whole)) in
     both_tests (list_all (keeps j d g step) (net_pins pins)) (is_never_unknown j d (before j place))
     (all_still j c d e g step (net_pins pins) still parts.0)
-    (sym (never_unknown_same j fits c d (before j place) stands (λ k less. agree k (omega (arith, low, less)))) ∙ parts.1)
+    (sym (never_unknown_same j fits c d (before j place) stands (λ k less. agree k (omega (arith, low, less))))
+    ∙ parts.1)
 quiet_along_of j fits c d e g place (Register latching) within later agree driver still back quiet =
     let step = step_of j place in
     let parts = and_parts (not (step == 1) && list_all (keeps j c e (step - 1)) (net_pins latching.pins))
@@ -87,7 +91,8 @@ quiet_along_of j fits c d e g place (Register latching) within later agree drive
     let row : AgreeBelow c d (step * j.width + 0) = subst (AgreeBelow c d) (sym (row_end j.width step)) agree in
     let clock : has_uncertain_clock j c step latching ≡ has_uncertain_clock j d step latching =
     clock_reads j c d step latching
-    (agree_on c d (step * j.width + 0) (old_places j step latching.pins) row (old_below j fits step 0 latching driver later))
+    (agree_on c d (step * j.width + 0) (old_places j step latching.pins) row
+    (old_below j fits step 0 latching driver later))
     (agree_on c d (step * j.width + 0) (places_at j (step - 1) latching.pins) row
     (new_below j fits step 0 latching driver later)) in
     both_tests (not (step == 1) && list_all (keeps j d g (step - 1)) (net_pins latching.pins))
@@ -113,7 +118,8 @@ quiet_along j fits c d e g place within agree still back quiet =
     (is_quiet_of j c e place (step_of j place) (net_of j place) (j.driver (net_of j place))) quiet in
     both_tests (not (step_of j place == 0))
     (is_quiet_of j d g place (step_of j place) (net_of j place) (j.driver (net_of j place))) parts.0
-    (quiet_along_of j fits c d e g place (j.driver (net_of j place)) within (not_true (step_of j place == 0) parts.0) agree
+    (quiet_along_of j fits c d e g place (j.driver (net_of j place)) within (not_true (step_of j place == 0) parts.0)
+    agree
     s.driver still back parts.1)
 
 -- Where certain values agree before a place, the nets that keep there still do.
@@ -123,16 +129,19 @@ row_back w (suc t) position = let e : suc t - 1 ≡ t = omega arith in rw e (ome
 
 pub back_up : (j : Job) → Fits j → (place : ℕ) → place < places_of j → before j place ≤ place
 back_up j fits place within =
-    let itself : at j (step_of j place) (net_of j place) ≡ place = number_of_place_at j place fits.ordering fits.all within in
+    let itself : at j (step_of j place) (net_of j place) ≡ place =
+    number_of_place_at j place fits.ordering fits.all within in
     let back = row_back j.width (step_of j place) (position_of j.order (net_of j place)) in
     omega (arith, itself, back)
 
-same_keeps : (j : Job) (c d : ℕ → Value) (e g : ℕ → ClassByNumber) (step net : ℕ) → c (at j step net) ≡ d (at j step net)
+same_keeps : (j : Job) (c d : ℕ → Value) (e g : ℕ → ClassByNumber) (step net : ℕ)
+    → c (at j step net) ≡ d (at j step net)
     → c (at j (step - 1) net) ≡ d (at j (step - 1) net) → e (at j step net) ≡ g (at j step net)
     → keeps j c e step net ≡ keeps j d g step net
 same_keeps j c d e g step net here back class = rw (here, back, class) refl
 
-pub keeps_local : (j : Job) → Fits j → (c d : ℕ → Value) (first step net : ℕ) → first ≤ places_of j → AgreeBelow c d first
+pub keeps_local : (j : Job) → Fits j → (c d : ℕ → Value) (first step net : ℕ) → first ≤ places_of j
+    → AgreeBelow c d first
     → at j step net < first → keeps j c (class_of j c) step net ≡ keeps j d (class_of j d) step net
 keeps_local j fits c d first step net within agree less =
     let back = row_back j.width step (position_of j.order net) in
@@ -148,12 +157,14 @@ reads_still j fits c d e g place within still =
     let s = spot j fits place within in
     each (arguments_of_driver (j.driver (net_of j place))) s.before (earlier_here j fits place _ within s.before)
   where
-    each : (nets : List ℕ) → AllByRecursion (StandsBefore j (place % j.width)) nets → Earlier j place (step_of j place) nets
+    each : (nets : List ℕ) → AllByRecursion (StandsBefore j (place % j.width)) nets
+        → Earlier j place (step_of j place) nets
         → AllByRecursion (StillKeeps j c d e g (step_of j place)) nets
     each [] stands less = tt
     each (net ∷ nets) stands less = (still net stands.0.within less.0, each nets stands.1 less.1)
 
-pub back_low : (j : Job) → Fits j → (place net : ℕ) → place < places_of j → (step_of j place == 0) ≡ false → net < j.width
+pub back_low : (j : Job) → Fits j → (place net : ℕ) → place < places_of j → (step_of j place == 0) ≡ false
+    → net < j.width
     → at j (step_of j place - 1) net < step_of j place * j.width
 back_low j fits place net within later low =
     row_before j.width (step_of j place) (position_of j.order net) later (position_in j fits net low)
@@ -170,5 +181,6 @@ quiet_local j fits c d place within agree quiet =
     (reads_still j fits c d (class_of j c) (class_of j d) place within
     (λ net low less keep. sym (keeps_local j fits c d place (step_of j place) net (omega arith) agree less) ∙ keep))
     (λ net low keep. (let less = back_low j fits place net within later low in
-    sym (keeps_local j fits c d place (step_of j place - 1) net (omega arith) agree (omega (arith, less, whole))) ∙ keep))
+    sym (keeps_local j fits c d place (step_of j place - 1) net (omega arith) agree (omega (arith, less, whole)))
+    ∙ keep))
     quiet

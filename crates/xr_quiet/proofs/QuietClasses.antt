@@ -1,5 +1,6 @@
 -- The class of a quiet place says that it has what its net's place a step before has.
-use Rattle.std.proofs.Common.{◌≡◌, ℕ, zero, suc, ◌+◌, ◌-◌, ◌*◌, ◌/◌, ◌%◌, ◌<◌, ◌==◌, ◌&&◌, ◌||◌, not, Bool, true, false, List, [], ◌∷◌, refl, sym, ap, ◌∙◌, arith, subst, if◌then◌else◌}
+use Rattle.std.proofs.Common.{◌≡◌, ℕ, zero, suc, ◌+◌, ◌-◌, ◌*◌, ◌/◌, ◌%◌, ◌<◌, ◌==◌, ◌&&◌, ◌||◌, not, Bool, true, false}
+use Rattle.std.proofs.Common.{List, [], ◌∷◌, refl, sym, ap, ◌∙◌, arith, subst, if◌then◌else◌}
 use Rattle.std.specs.List.{AllByRecursion}
 use Rattle.std.proofs.lemmas.Bool.{and_parts, eq-eqb}
 use Rattle.std.proofs.lemmas.Nat.{div-mul-add}
@@ -18,7 +19,8 @@ use Rattle.xr_design.specs.Rule.{known_or, rule}
 use Rattle.xr_design.specs.World.{decided}
 use Rattle.xr_design.proofs.Rules.{spot}
 use Rattle.xr_model.specs.Assignment.{assigned}
-use Rattle.xr_model.specs.Class.{are_equal, before, class_of, is_carried_on, is_never_unknown, keeps, passes_on, passes_on_of}
+use Rattle.xr_model.specs.Class.{are_equal, before, class_of, is_carried_on, is_never_unknown, keeps, passes_on}
+use Rattle.xr_model.specs.Class.{passes_on_of}
 use Rattle.xr_model.specs.declared.class.ClassByNumber.{ClassByNumber}
 use Rattle.xr_model.specs.declared.class.ClassByNumber.TheVariants.{Local, Free, Carried, Line}
 use Rattle.xr_class.specs.Facts.{AgreeBefore, AgreesWith}
@@ -28,7 +30,8 @@ use Rattle.xr_design.proofs.Numbers.{number_of_place_at}
 use Rattle.xr_quiet.specs.Due.{is_first_round, is_quiet, is_quiet_of, is_recorded_same}
 use Rattle.xr_quiet.specs.Laws.{KeepsLaw, QuietLaw, SaysTheSame}
 use Rattle.xr_quiet.proofs.KeptValues.{earlier_here, kept_values}
-use Rattle.xr_quiet.proofs.Findings.{Finding, GivesOwn, found_same, gives_local, moved_local, never_free, no_passing, own_free, own_local, rule_before, rule_here, bits_known, free_gives}
+use Rattle.xr_quiet.proofs.Findings.{Finding, GivesOwn, found_same, gives_local, moved_local, never_free, no_passing}
+use Rattle.xr_quiet.proofs.Findings.{own_free, own_local, rule_before, rule_here, bits_known, free_gives}
 use Rattle.xr_quiet.proofs.RegisterFindings.{register_finding}
 use Rattle.xr_quiet.proofs.QuietTests.{quiet_tested}
 
@@ -50,7 +53,8 @@ constant_finding : (j : Job) → Fits j → (c : ℕ → Value) (place : ℕ) (b
 constant_finding j fits c place bit within later agree here there = record {
   local = moved_local j fits c place within later agree
       (λ early late moved. here (assigned c late) ∙ sym (there (assigned c early)));
-  free = λ free. bits_known bit (ap is_unknown (sym (here (assigned c (λ k. false)))) ∙ free_gives j c place (λ k. false) free);
+  free = λ free. bits_known bit (ap is_unknown (sym (here (assigned c (λ k. false))))
+      ∙ free_gives j c place (λ k. false) free);
   passes = no_passing j c place bit (gives_local j c place bit (λ bits. here (assigned c bits)));
 }
 
@@ -77,7 +81,8 @@ either_same false same u v quiet round recorded = round refl
 either_same true true u v quiet round recorded = sym (recorded refl)
 either_same true false u v quiet round recorded = cc
 
-recorded_before : (j : Job) → Fits j → (step net : ℕ) → not (is_first_round j step) || is_recorded_same j step net ≡ true
+recorded_before : (j : Job) → Fits j → (step net : ℕ) → not (is_first_round j step) || is_recorded_same j step net
+    ≡ true
     → j.recorded ((step - 1) / j.rounds) net ≡ j.recorded (step / j.rounds) net
 recorded_before j fits step net quiet =
     either_same (is_first_round j step) (is_recorded_same j step net) (j.recorded (step / j.rounds) net)
@@ -124,7 +129,8 @@ unknown_finding : (j : Job) (c : ℕ → Value) (place : ℕ) → j.driver (net_
 unknown_finding j c place driver quiet unknown =
     let step = step_of j place in
     let net = net_of j place in
-    let round : not (is_first_round j step) ≡ true = either_round (not (is_first_round j step)) (is_recorded_same j step net)
+    let round : not (is_first_round j step) ≡ true =
+    either_round (not (is_first_round j step)) (is_recorded_same j step net)
     quiet (unknown_same (j.recorded (step / j.rounds) net) (j.recorded ((step - 1) / j.rounds) net) unknown) in
     let gives : GivesOwn j c place = λ bit. rule_here j c (assigned c (λ k. bit)) place Input driver
     ∙ other_known (j.recorded (step / j.rounds) net) _ unknown
@@ -194,7 +200,8 @@ cell_moves j fits c place table pins within later agree driver kept = λ early l
     let stands : AllByRecursion (StandsBefore j (place % j.width)) (net_pins pins) =
     subst (λ (d : Driver). AllByRecursion (StandsBefore j (place % j.width)) (arguments_of_driver d)) driver
     (spot j fits place within).before in
-    let values = kept_values j c place step (net_pins pins) agree (earlier_here j fits place (net_pins pins) within stands)
+    let values = kept_values j c place step (net_pins pins) agree
+    (earlier_here j fits place (net_pins pins) within stands)
     kept in
     rule_here j c (assigned c late) place (Cell table pins) driver
     ∙ ap (table_of j.udps table) (pins_moved j c early late step (step - 1) pins (behind_is step later) moved values)
@@ -207,15 +214,19 @@ pub calm_cell : (j : Job) → Fits j → (c : ℕ → Value) (place : ℕ) (tabl
     → is_quiet_of j c (class_of j c) place (step_of j place) (net_of j place) (Cell table pins) ≡ true
     → is_never_unknown j c place ≡ true
 calm_cell j fits c place table pins within later agree driver quiet =
-    let parts = and_parts (nets_keep j c (step_of j place) (net_pins pins)) (is_never_unknown j c (before j place)) quiet in
-    (kinds_moved j c place (before j place) (cell_moves j fits c place table pins within later agree driver parts.0)).never
+    let parts = and_parts (nets_keep j c (step_of j place) (net_pins pins)) (is_never_unknown j c (before j place))
+    quiet in
+    (kinds_moved j c place (before j place) (cell_moves j fits c place table pins within later agree driver
+    parts.0)).never
     ∙ parts.1
 
 cell_finding : (j : Job) → Fits j → (c : ℕ → Value) (place : ℕ) (table : Table) (pins : List Pin) → place < places_of j
     → (step_of j place == 0) ≡ false → AgreeBefore j c place → j.driver (net_of j place) ≡ Cell table pins
-    → is_quiet_of j c (class_of j c) place (step_of j place) (net_of j place) (Cell table pins) ≡ true → Finding j c place
+    → is_quiet_of j c (class_of j c) place (step_of j place) (net_of j place) (Cell table pins) ≡ true
+    → Finding j c place
 cell_finding j fits c place table pins within later agree driver quiet =
-    let parts = and_parts (nets_keep j c (step_of j place) (net_pins pins)) (is_never_unknown j c (before j place)) quiet in
+    let parts = and_parts (nets_keep j c (step_of j place) (net_pins pins)) (is_never_unknown j c (before j place))
+    quiet in
     let never = calm_cell j fits c place table pins within later agree driver quiet in
     record {
       local = moved_local j fits c place within later agree
@@ -228,7 +239,8 @@ finding_of : (j : Job) → Fits j → (c : ℕ → Value) (place : ℕ) (driver 
     → (step_of j place == 0) ≡ false → AgreeBefore j c place → j.driver (net_of j place) ≡ driver
     → is_quiet_of j c (class_of j c) place (step_of j place) (net_of j place) driver ≡ true → Finding j c place
 finding_of j fits c place Input within later agree driver quiet =
-    input_finding j fits c place (j.recorded (step_of j place / j.rounds) (net_of j place)) within later agree driver quiet refl
+    input_finding j fits c place (j.recorded (step_of j place / j.rounds) (net_of j place)) within later agree driver
+    quiet refl
 finding_of j fits c place Undriven within later agree driver quiet = undriven_finding j c place driver quiet
 finding_of j fits c place (Constant bit) within later agree driver quiet =
     constant_finding j fits c place bit within later agree (λ bits. rule_here j c bits place (Constant bit) driver)
@@ -250,7 +262,8 @@ quiet_says j c place fits within agree quiet =
     let parts = and_parts (not (step_of j place == 0))
     (is_quiet_of j c (class_of j c) place (step_of j place) (net_of j place) (j.driver (net_of j place))) quiet in
     found_same j fits c place within
-    (finding_of j fits c place (j.driver (net_of j place)) within (not_true (step_of j place == 0) parts.0) agree refl parts.1)
+    (finding_of j fits c place (j.driver (net_of j place)) within (not_true (step_of j place == 0) parts.0) agree refl
+    parts.1)
 
 pub quiet_law : QuietLaw
 quiet_law j c place fits within agree rests =
@@ -295,6 +308,7 @@ keeps_law j c place fits within agree rests agrees =
     (is_quiet_of j c (class_of j c) place (step_of j place) (net_of j place) (j.driver (net_of j place))) quiet in
     record {
       value = both.0;
-      keeps = rw parts.0 (subst (λ k. are_equal (c k) (c (before j place)) || is_carried_on (class_of j c k) (before j place)
+      keeps = rw parts.0 (subst (λ k. are_equal (c k) (c (before j place)) || is_carried_on (class_of j c k)
+          (before j place)
           ≡ true) (sym (at_itself j fits place within)) both.1);
     }

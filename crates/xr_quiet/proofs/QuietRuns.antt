@@ -1,5 +1,6 @@
 -- Runs of quiet places are written one by one.
-use Rattle.std.proofs.Common.{◌≡◌, ◌⊎◌, ℕ, zero, suc, ◌+◌, ◌*◌, ◌%◌, ◌<◌, ◌≤◌, true, Contains, List, [], ◌∷◌, ◌++◌, length, length-append, refl, sym, ap, ◌∙◌, arith, subst, inl, inr, ⊎_elim}
+use Rattle.std.proofs.Common.{◌≡◌, ◌⊎◌, ℕ, zero, suc, ◌+◌, ◌*◌, ◌%◌, ◌<◌, ◌≤◌, true, Contains, List, [], ◌∷◌, ◌++◌}
+use Rattle.std.proofs.Common.{length, length-append, refl, sym, ap, ◌∙◌, arith, subst, inl, inr, ⊎_elim}
 use Rattle.std.proofs.lemmas.Bool.{cases_eq, cases_lt}
 use Rattle.std.proofs.Math.Nat.{mul-le-mul_right}
 use Rattle.std.proofs.lemmas.List.{append-nil}
@@ -59,7 +60,8 @@ steady_keeps j fits c step net low steady =
 
 steady_between : (j : Job) → Fits j → (c : ℕ → Value) (first next step position : ℕ) (nets : List ℕ)
     → ((place : ℕ) → first ≤ place → place < next → IsSteady j c place) → AllByRecursion (StandsBefore j position) nets
-    → AllByRecursion (λ net. first ≤ at j step net → at j step net < next → keeps j c (class_of j c) step net ≡ true) nets
+    → AllByRecursion (λ net. first ≤ at j step net → at j step net < next → keeps j c (class_of j c) step net ≡ true)
+    nets
 steady_between j fits c first next step position [] steady stands = tt
 steady_between j fits c first next step position (net ∷ nets) steady stands = (
   λ from less. steady_keeps j fits c step net stands.0.within (steady (at j step net) from less),
@@ -87,7 +89,8 @@ rests_next j fits limit shown waveform now lines many done less run so_far =
     here_law j (certain now) (n + done) fits within
     (along_law j (certain waveform) (certain now) n (n + done) (n + done) fits
     (record { within = within; behind = omega arith; in_step = row }) (omega arith) (omega arith) so_far.agree
-    (keeps_between j fits (certain now) n (n + done) (n + done) within so_far.steady) (run.rests (n + done) (omega arith) (omega arith)))
+    (keeps_between j fits (certain now) n (n + done) (n + done) within so_far.steady)
+    (run.rests (n + done) (omega arith) (omega arith)))
 
 -- One more place.
 next_holds : (j : Job) → Fits j → (limit : ℕ) (shown : ℕ → Value) (waveform now : List Written) (lines : List ALine)
@@ -130,7 +133,8 @@ one_more j fits limit shown waveform now lines many done less run so_far =
     (grown j limit fits shown now lines x [] so_far.holds
     (next_holds j fits limit shown waveform now lines many done less run so_far)) in
     let long : length after ≡ n + suc done = (let grows = length-append now (x ∷ []) in omega (arith, grows, was)) in
-    let rests : Rests j (certain after) (n + done) = rests_local j fits (certain now) (certain after) (n + done) within more
+    let rests : Rests j (certain after) (n + done) = rests_local j fits (certain now) (certain after) (n + done) within
+    more
     (rests_next j fits limit shown waveform now lines many done less run so_far) in
     let newest : IsSteady j (certain after) (n + done) = keeps_law j (certain after) (n + done) fits within
     (agrees_before j limit shown after lines holds.sound (n + done) (omega (arith, long)))
@@ -144,7 +148,8 @@ one_more j fits limit shown waveform now lines many done less run so_far =
           (λ (other : place ≡ n + done → ⊥). rests_local j fits (certain now) (certain after) place
           (omega (arith, other, low, within)) (λ k less. more k (omega (arith, less, low)))
           (so_far.rests place up (omega (arith, other, low)))) (cases_eq place (n + done));
-      steady = λ place up low. ⊎_elim (λ (same : place ≡ n + done). subst (IsSteady j (certain after)) (sym same) newest)
+      steady = λ place up low. ⊎_elim (λ (same : place ≡ n + done). subst (IsSteady j (certain after)) (sym same)
+          newest)
           (λ (other : place ≡ n + done → ⊥). steady_moved j fits (certain now) (certain after) place (n + done)
           (omega (arith, other, low)) (omega (arith, within)) more (so_far.steady place up (omega (arith, other, low))))
           (cases_eq place (n + done));
@@ -166,8 +171,10 @@ done_so_far j fits limit shown waveform lines many (suc done) up holds run =
     (done_so_far j fits limit shown waveform lines many done (omega arith) holds run)
 
 -- A quiet place of a sound waveform is calm.
-calm_there : (j : Job) → Fits j → (limit : ℕ) (shown : ℕ → Value) (waveform : List Written) (lines : List ALine) (place : ℕ)
-    → Holds j limit shown waveform lines → place < places_of j → place < length waveform → Rests j (certain waveform) place
+calm_there : (j : Job) → Fits j → (limit : ℕ) (shown : ℕ → Value) (waveform : List Written) (lines : List ALine)
+    (place : ℕ)
+    → Holds j limit shown waveform lines → place < places_of j → place < length waveform
+    → Rests j (certain waveform) place
     → is_calm j (certain waveform) place ≡ true
 calm_there j fits limit shown waveform lines place holds within less rests =
     calm_law j (certain waveform) place fits within
@@ -175,8 +182,10 @@ calm_there j fits limit shown waveform lines place holds within less rests =
     (sound_agrees j limit shown waveform lines holds.sound place less)
 
 -- Its class says that it has what its net's place a step before has.
-says_there : (j : Job) → Fits j → (limit : ℕ) (shown : ℕ → Value) (waveform : List Written) (lines : List ALine) (place : ℕ)
-    → Holds j limit shown waveform lines → place < places_of j → place < length waveform → Rests j (certain waveform) place
+says_there : (j : Job) → Fits j → (limit : ℕ) (shown : ℕ → Value) (waveform : List Written) (lines : List ALine)
+    (place : ℕ)
+    → Holds j limit shown waveform lines → place < places_of j → place < length waveform
+    → Rests j (certain waveform) place
     → SaysTheSame j (certain waveform) place (class_of j (certain waveform) place)
 says_there j fits limit shown waveform lines place holds within less rests =
     quiet_law j (certain waveform) place fits within
@@ -197,9 +206,11 @@ run_law j limit shown waveform lines many fits holds run =
           (omega (arith, low, long)) (whole.rests place up low);
       calm = λ place up low. calm_there j fits limit shown after lines place whole.holds (omega (arith, low, room))
           (omega (arith, low, long)) (whole.rests place up low);
-      ahead = λ place there more. along_law j (certain waveform) (certain after) (length waveform) (length waveform + many)
+      ahead = λ place there more. along_law j (certain waveform) (certain after) (length waveform)
+          (length waveform + many)
           place fits there (omega arith) more whole.agree
-          (keeps_between j fits (certain after) (length waveform) (length waveform + many) place there.within whole.steady);
+          (keeps_between j fits (certain after) (length waveform) (length waveform + many) place there.within
+          whole.steady);
     }
 
 -- Where one place is written.
@@ -211,7 +222,8 @@ same_place j fits place step net low is =
 next_between : (j : Job) → Fits j → (c : ℕ → Value) (first step position : ℕ) (nets : List ℕ)
     → keeps j c (class_of j c) (step_of j first) (net_of j first) ≡ true ⊎ (Contains nets (net_of j first) → ⊥)
     → AllByRecursion (StandsBefore j position) nets
-    → AllByRecursion (λ net. first ≤ at j step net → at j step net < first + 1 → keeps j c (class_of j c) step net ≡ true)
+    → AllByRecursion (λ net. first ≤ at j step net → at j step net < first + 1 → keeps j c (class_of j c) step net
+    ≡ true)
     nets
 next_between j fits c first step position [] either stands = tt
 next_between j fits c first step position (net ∷ nets) either stands = (

@@ -1,5 +1,6 @@
 -- A place whose net's place a step before is quiet is quiet, unless it is stirred.
-use Rattle.std.proofs.Common.{◌≡◌, ℕ, zero, suc, ◌-◌, ◌<◌, ◌==◌, ◌&&◌, ◌||◌, not, Bool, true, false, List, [], ◌∷◌, refl, sym, ap, ◌∙◌, arith, subst, ⊎_elim}
+use Rattle.std.proofs.Common.{◌≡◌, ℕ, zero, suc, ◌-◌, ◌<◌, ◌==◌, ◌&&◌, ◌||◌, not, Bool, true, false, List, [], ◌∷◌}
+use Rattle.std.proofs.Common.{refl, sym, ap, ◌∙◌, arith, subst, ⊎_elim}
 use Rattle.std.specs.List.{AllByRecursion, list_all}
 use Rattle.std.proofs.lemmas.Bool.{and_parts, eq-eqb, ne_eqb}
 use Rattle.xr_cell.specs.declared.value.Value.{Value}
@@ -29,7 +30,8 @@ use Rattle.xr_class.specs.Facts.{AgreeBefore}
 use Rattle.xr_class.specs.Keeps.{nets_keep}
 use Rattle.xr_class.proofs.MovedRules.{SameAt, values_moved}
 use Rattle.xr_quiet.specs.Due.{IsDue, IsStirred, driver_of}
-use Rattle.xr_quiet.specs.Ahead.{CalmLaw, CellLaw, IsAhead, IsCarriedOrLocal, IsStirredFrom, StaysLaw, is_calm, is_calm_of, taken_on}
+use Rattle.xr_quiet.specs.Ahead.{CalmLaw, CellLaw, IsAhead, IsCarriedOrLocal, IsStirredFrom, StaysLaw, is_calm}
+use Rattle.xr_quiet.specs.Ahead.{is_calm_of, taken_on}
 use Rattle.xr_quiet.specs.Laws.{Rests}
 use Rattle.xr_quiet.proofs.KeptValues.{Earlier, kept_values}
 use Rattle.xr_quiet.proofs.QuietAhead.{taken_keeps}
@@ -92,7 +94,11 @@ taken_all j c first step [] less all = refl
 taken_all j c first step (net ∷ nets) less all =
     let parts = and_parts (keeps j c (taken_on j (class_of j c) first) step net)
     (list_all (keeps j c (taken_on j (class_of j c) first) step) nets) all in
-    rw (sym (taken_keeps j c (class_of j c) first step net less.0) ∙ parts.0, taken_all j c first step nets less.1 parts.1) refl
+    rw (
+      sym (taken_keeps j c (class_of j c) first step net less.0) ∙ parts.0,
+      taken_all j c first step nets less.1
+          parts.1,
+    ) refl
 
 nets_in_row : (j : Job) → Fits j → (first place : ℕ) (nets : List ℕ) → IsAhead j first place
     → (step_of j place == 0) ≡ false → AllByRecursion (λ net. net < j.width) nets
@@ -104,7 +110,8 @@ nets_in_row j fits first place (net ∷ nets) ahead later low =
     (omega (arith, less, row), nets_in_row j fits first place nets ahead later low.1)
 
 -- What a place that is calm says of its driver.
-calm_said : (j : Job) (c : ℕ → Value) (place : ℕ) (driver : Driver) → driver_of j place ≡ driver → is_calm j c place ≡ true
+calm_said : (j : Job) (c : ℕ → Value) (place : ℕ) (driver : Driver) → driver_of j place ≡ driver
+    → is_calm j c place ≡ true
     → is_calm_of j c place (step_of j place) driver ≡ true
 calm_said j c place driver is calm = ap (is_calm_of j c place (step_of j place)) (sym is) ∙ calm
 
@@ -163,7 +170,8 @@ stays_law j c first place fits ahead agree some calm still (IsDue.unclocked latc
     ((no_clock j fits c first place latching ahead agree some calm still is).1 own)
 
 -- A quiet place is calm.
-calm_of : (j : Job) → Fits j → (c : ℕ → Value) (place : ℕ) (driver : Driver) → place < places_of j → AgreeBefore j c place
+calm_of : (j : Job) → Fits j → (c : ℕ → Value) (place : ℕ) (driver : Driver) → place < places_of j
+    → AgreeBefore j c place
     → Rests j c place → c place ≡ c (before j place) → driver_of j place ≡ driver
     → is_calm_of j c place (step_of j place) driver ≡ true
 calm_of j fits c place Input within agree rests same is = refl
@@ -203,12 +211,14 @@ local_calm j c place bit local = passes_every j c place (λ bits. not (is_unknow
 
 carried_calm : (j : Job) (c : ℕ → Value) (place from : ℕ) (inverted : Bool)
     → ClassSays j c (class_of j c) place (Carried from inverted)
-    → (passes_on j c (class_of j c) place ≡ true → is_never_unknown j c place ≡ true) → is_never_unknown j c place ≡ true
+    → (passes_on j c (class_of j c) place ≡ true → is_never_unknown j c place ≡ true)
+    → is_never_unknown j c place ≡ true
 carried_calm j c place from inverted says passes =
     ⊎_elim (λ h. passes h.0) (λ h. passes_every j c place (λ bits. not (is_unknown (rule j c bits place)))
     (λ bits. bit_known (rule j c (assigned c bits) place) (flipped inverted (assigned c bits from))
     (every_passes j c place (λ b. is_bit (rule j c b place) (flipped inverted (b from)))
-    (λ f g agree. (rw (rule_reads j c f g place agree, all_at (λ k. f k ≡ g k) (arguments j c place) from agree h.0) refl))
+    (λ f g agree. (rw (rule_reads j c f g place agree, all_at (λ k. f k ≡ g k) (arguments j c place) from agree h.0)
+    refl))
     (and_parts (is_unknown (c from))
     (for_every j c place (λ bits. is_bit (rule j c bits place) (flipped inverted (bits from)))) h.1).1 bits)))
     says

@@ -1,5 +1,6 @@
 -- The test of a quiet place.
-use Rattle.std.proofs.Common.{◌≡◌, ℕ, zero, suc, ◌-◌, ◌==◌, ◌&&◌, ◌||◌, not, Bool, true, false, List, [], ◌∷◌, refl, sym, ap, ◌∙◌, arith, Contains}
+use Rattle.std.proofs.Common.{◌≡◌, ℕ, zero, suc, ◌-◌, ◌==◌, ◌&&◌, ◌||◌, not, Bool, true, false, List, [], ◌∷◌, refl}
+use Rattle.std.proofs.Common.{sym, ap, ◌∙◌, arith, Contains}
 use Rattle.std.specs.List.{list_all}
 use Rattle.std.proofs.lemmas.Bool.{and_parts, eqb-true, eq-eqb, ne_eqb}
 use Rattle.xr_cell.specs.declared.value.Value.{Value}
@@ -11,7 +12,8 @@ use Rattle.xr_design.specs.Order.{net_pins}
 use Rattle.xr_design.specs.Register.{has_uncertain_clock}
 use Rattle.xr_model.specs.Class.{before, is_never_unknown, keeps}
 use Rattle.xr_model.specs.declared.class.ClassByNumber.{ClassByNumber}
-use Rattle.xr_quiet.specs.Due.{IsDue, IsQuiet, IsStirred, driver_of, is_first_round, is_quiet, is_quiet_of, is_recorded_same}
+use Rattle.xr_quiet.specs.Due.{IsDue, IsQuiet, IsStirred, driver_of, is_first_round, is_quiet, is_quiet_of}
+use Rattle.xr_quiet.specs.Due.{is_recorded_same}
 use Rattle.xr_quiet.specs.Laws.{TestLaw}
 use Rattle.xr_model.proofs.Classes.{in_front, behind}
 
@@ -55,19 +57,23 @@ differ : (b : Bool) → b ≡ true → b ≡ false → ⊥
 differ true is isnt = cc
 differ false is isnt = cc
 
-quiet_by : (j : Job) (c : ℕ → Value) (class : ℕ → ClassByNumber) (place : ℕ) (driver : Driver) → driver_of j place ≡ driver
+quiet_by : (j : Job) (c : ℕ → Value) (class : ℕ → ClassByNumber) (place : ℕ) (driver : Driver)
+    → driver_of j place ≡ driver
     → IsQuiet j c class place → is_quiet_of j c class place (step_of j place) (net_of j place) driver ≡ true
 quiet_by j c class place Input is quiet =
     one_of (not (is_first_round j (step_of j place))) (is_recorded_same j (step_of j place) (net_of j place))
-    (λ first same. quiet (IsDue.stirred (IsStirred.recorded is (turned (is_first_round j (step_of j place)) first) same)))
+    (λ first same. quiet (IsDue.stirred (IsStirred.recorded is (turned (is_first_round j (step_of j place)) first)
+    same)))
 quiet_by j c class place Undriven is quiet =
     no_other (is_first_round j (step_of j place)) (λ first. quiet (IsDue.stirred (IsStirred.undriven is first)))
 quiet_by j c class place (Constant bit) is quiet = refl
 quiet_by j c class place (Copy argument) is quiet =
-    no_test (keeps j c class (step_of j place) argument) (λ moves. quiet (IsDue.stirred (IsStirred.copied argument is moves)))
+    no_test (keeps j c class (step_of j place) argument)
+    (λ moves. quiet (IsDue.stirred (IsStirred.copied argument is moves)))
 quiet_by j c class place (Cell table pins) is quiet =
     both_tests (list_all (keeps j c class (step_of j place)) (net_pins pins)) (is_never_unknown j c (before j place))
-    (all_pass (keeps j c class (step_of j place)) (net_pins pins) (λ net at moves. quiet (IsDue.stirred (IsStirred.pin table pins net is at moves))))
+    (all_pass (keeps j c class (step_of j place)) (net_pins pins)
+    (λ net at moves. quiet (IsDue.stirred (IsStirred.pin table pins net is at moves))))
     (no_test (is_never_unknown j c (before j place)) (λ x. quiet (IsDue.restless table pins is x)))
 quiet_by j c class place (Register latching) is quiet =
     both_tests (not (step_of j place == 1) && list_all (keeps j c class (step_of j place - 1)) (net_pins latching.pins))
@@ -89,7 +95,8 @@ test_quiet j c class place quiet =
     (quiet_by j c class place (driver_of j place) refl quiet)
 
 -- What the test says of each driver.
-pub said : (j : Job) (c : ℕ → Value) (class : ℕ → ClassByNumber) (place : ℕ) (driver : Driver) → driver_of j place ≡ driver
+pub said : (j : Job) (c : ℕ → Value) (class : ℕ → ClassByNumber) (place : ℕ) (driver : Driver)
+    → driver_of j place ≡ driver
     → is_quiet j c class place ≡ true → is_quiet_of j c class place (step_of j place) (net_of j place) driver ≡ true
 said j c class place driver is test =
     ap (is_quiet_of j c class place (step_of j place) (net_of j place)) (sym is)

@@ -1,6 +1,7 @@
--- What is found at a quiet register: where all places that aren't certain have one bit, it looks back at the same values
--- twice, and keeps what it kept.
-use Rattle.std.proofs.Common.{◌≡◌, ℕ, zero, suc, ◌-◌, ◌<◌, ◌==◌, ◌&&◌, ◌||◌, not, Bool, true, false, List, [], ◌∷◌, refl, sym, ap, ◌∙◌, arith, subst, if◌then◌else◌}
+-- What is found at a quiet register: where all places that aren't certain have one bit, it looks back at the same
+-- values twice, and keeps what it kept.
+use Rattle.std.proofs.Common.{◌≡◌, ℕ, zero, suc, ◌-◌, ◌<◌, ◌==◌, ◌&&◌, ◌||◌, not, Bool, true, false, List, [], ◌∷◌}
+use Rattle.std.proofs.Common.{refl, sym, ap, ◌∙◌, arith, subst, if◌then◌else◌}
 use Rattle.std.specs.List.{AllByRecursion}
 use Rattle.std.proofs.lemmas.Bool.{and_parts, lt-ltb}
 use Rattle.xr_cell.specs.declared.value.Value.{Value}
@@ -32,7 +33,8 @@ use Rattle.xr_quiet.proofs.Findings.{Finding, GivesOwn, gives_local, no_passing,
 pub idle : (j : Job) (values : ℕ → Value) (kept : Value) (step : ℕ) (latching : Latching) → 1 < step
     → SameAt j values (step - 1) (step - 2) (net_pins latching.pins) → updated j values kept step latching ≡ kept
 idle j values kept step latching later same =
-    ap (λ old. next (primitive_of j.udps latching.udp) latching.clocks old (pins_at j values (step - 1) latching.pins) kept)
+    ap (λ old. next (primitive_of j.udps latching.udp) latching.clocks old (pins_at j values (step - 1) latching.pins)
+    kept)
     (old_later j values step latching.pins later ∙ sym (values_moved j values (step - 1) (step - 2) latching.pins same))
     ∙ next_idle (primitive_of j.udps latching.udp) latching.clocks (pins_at j values (step - 1) latching.pins) kept
 
@@ -66,7 +68,8 @@ clocked j c place latching driver later behind same certain_is = λ bit. (
     let step = step_of j place in
     rule_here j c (assigned c (λ k. bit)) place (Register latching) driver
     ∙ unless (step == 0) _ _ behind ∙ unless (has_uncertain_clock j c step latching) _ _ certain_is
-    ∙ idle j (as_values (assigned c (λ k. bit))) (bit_value (assigned c (λ k. bit) (before j place))) step latching later
+    ∙ idle j (as_values (assigned c (λ k. bit))) (bit_value (assigned c (λ k. bit) (before j place))) step latching
+    later
     (same_bits j c bit (step - 1) (step - 2) (net_pins latching.pins) same)
     )
 
@@ -126,7 +129,8 @@ by_clock j c place latching true driver later behind same kept clock known =
 
 pub register_finding : (j : Job) → Fits j → (c : ℕ → Value) (place : ℕ) (latching : Latching) → place < places_of j
     → (step_of j place == 0) ≡ false → AgreeBefore j c place → j.driver (net_of j place) ≡ Register latching
-    → is_quiet_of j c (class_of j c) place (step_of j place) (net_of j place) (Register latching) ≡ true → Finding j c place
+    → is_quiet_of j c (class_of j c) place (step_of j place) (net_of j place) (Register latching) ≡ true
+    → Finding j c place
 register_finding j fits c place latching within behind agree driver quiet =
     let step = step_of j place in
     let parts = and_parts (not (step == 1) && nets_keep j c (step - 1) (net_pins latching.pins))

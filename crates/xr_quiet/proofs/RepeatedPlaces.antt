@@ -37,7 +37,8 @@ says_written : (shown : ℕ → Value) (j : Job) (waveform : List Written) (plac
     → written_by (written_at waveform) class None (shown place) ≡ carried_on shown j waveform place
 unfolding certain
 says_written shown j waveform place (Local bit) says =
-    certain_same (written_at waveform (before j place)).mark (written_at waveform (before j place)).value (shown place) bit says
+    certain_same (written_at waveform (before j place)).mark (written_at waveform (before j place)).value (shown place)
+    bit says
 says_written shown j waveform place Free says = absurd says
 says_written shown j waveform place (Carried from inverted) says = rw (says.0, says.1) refl
 says_written shown j waveform place Line says = absurd says

@@ -1,5 +1,7 @@
 -- A step gone over by what is due in it.
-use Rattle.std.proofs.Common.{◌≡◌, ◌⊎◌, ℕ, zero, suc, ◌+◌, ◌-◌, ◌*◌, ◌%◌, ◌<◌, ◌≤◌, ◌==◌, ◌&&◌, ◌||◌, not, Bool, true, false, Contains, List, [], ◌∷◌, length, length-append, slice_index, refl, sym, ap, ◌∙◌, arith, subst, inl, inr, ⊎_elim}
+use Rattle.std.proofs.Common.{◌≡◌, ◌⊎◌, ℕ, zero, suc, ◌+◌, ◌-◌, ◌*◌, ◌%◌, ◌<◌, ◌≤◌, ◌==◌, ◌&&◌, ◌||◌, not, Bool, true}
+use Rattle.std.proofs.Common.{false, Contains, List, [], ◌∷◌, length, length-append, slice_index, refl, sym, ap, ◌∙◌}
+use Rattle.std.proofs.Common.{arith, subst, inl, inr, ⊎_elim}
 use Rattle.std.specs.List.{AllByRecursion}
 use Rattle.std.proofs.lemmas.Bool.{cases_eq, cases_lt, ne_eqb}
 use Rattle.std.proofs.lemmas.Nat.{div-mul-add, mod-mul-add}
@@ -26,7 +28,8 @@ use Rattle.xr_class.specs.Facts.{AgreeBefore}
 use Rattle.xr_quiet.specs.Due.{IsStirred, driver_of, is_first_round, is_recorded_same}
 use Rattle.xr_quiet.specs.Runs.{and_next, before_next, repeated}
 use Rattle.xr_fans.specs.Nets.{driver_on, looked_at, net_on}
-use Rattle.xr_quiet.specs.Sweep.{AreAhead, AreDue, BeginsLaw, IsRecordedOn, KeepsOn, NoneDueLaw, SkipLaw, StartLaw, VisitLaw, spot_at}
+use Rattle.xr_quiet.specs.Sweep.{AreAhead, AreDue, BeginsLaw, IsRecordedOn, KeepsOn, NoneDueLaw, SkipLaw, StartLaw}
+use Rattle.xr_quiet.specs.Sweep.{VisitLaw, spot_at}
 use Rattle.xr_quiet.proofs.QuietAhead.{ahead_keeps, taken_keeps}
 use Rattle.xr_quiet.proofs.QuietAlong.{keeps_local}
 use Rattle.xr_quiet.proofs.QuietRuns.{next_law, steady_keeps}
@@ -71,7 +74,8 @@ same_driver j step p driver low is = ap j.driver (sym (net_is j step p low)) ∙
 reads_within : (j : Job) → Fits j → (place net : ℕ) → place < places_of j
     → Contains (arguments_of_driver (driver_of j place)) net → net < j.width
 reads_within j fits place net within reads =
-    (all_at (StandsBefore j (place % j.width)) (arguments_of_driver (driver_of j place)) net (spot j fits place within).before
+    (all_at (StandsBefore j (place % j.width)) (arguments_of_driver (driver_of j place)) net
+    (spot j fits place within).before
     reads).within
 
 none_in : (net : ℕ) → Contains [] net → ⊥
@@ -84,7 +88,8 @@ looks_within j fits p net Undriven fit looks = absurd (none_in net looks)
 looks_within j fits p net (Constant bit) fit looks = absurd (none_in net looks)
 looks_within j fits p net (Copy argument) fit looks = absurd (none_in net looks)
 looks_within j fits p net (Cell table pins) fit looks = absurd (none_in net looks)
-looks_within j fits p net (Register latching) fit looks = all_at (λ net. net < j.width) (net_pins latching.pins) net fit.nets looks
+looks_within j fits p net (Register latching) fit looks =
+    all_at (λ net. net < j.width) (net_pins latching.pins) net fit.nets looks
 
 -- What a step begins with.
 kept_here : (j : Job) → Fits j → (c : ℕ → Value) (step p net : ℕ) → p < j.width → net < j.width
@@ -107,7 +112,8 @@ kept_back j fits c step p net low within kept =
 recorded_by : (first same : Bool) → (first ≡ false) ⊎ (same ≡ true) → first ≡ true → same ≡ false → ⊥
 recorded_by first same either is isnt = ⊎_elim (λ h. no_reason first is h) (λ h. no_reason same h isnt) either
 
-not_stirred : (j : Job) → Fits j → (c : ℕ → Value) (step p : ℕ) → spot_at j (step + 1) j.width ≤ places_of j → p < j.width
+not_stirred : (j : Job) → Fits j → (c : ℕ → Value) (step p : ℕ) → spot_at j (step + 1) j.width ≤ places_of j
+    → p < j.width
     → AllByRecursion (λ net. at j step net < spot_at j step j.width → keeps j c (class_of j c) step net ≡ true)
     (looked_at (driver_on j p))
     → IsRecordedOn j (step + 1) (net_on j p) (driver_on j p)
@@ -123,15 +129,18 @@ not_stirred j fits c step p room low still recorded (IsStirred.undriven is first
     no_reason (is_first_round j (step + 1)) (ap (is_first_round j) (sym (step_on j (step + 1) p low)) ∙ first)
     (subst (IsRecordedOn j (step + 1) (net_on j p)) (same_driver j (step + 1) p Undriven low is) recorded)
 not_stirred j fits c step p room low still recorded (IsStirred.copied net is moves) =
-    no_reason _ (kept_here j fits c step p net low (reads_within j fits (spot_at j (step + 1) p) net (omega (arith, room, low))
+    no_reason _ (kept_here j fits c step p net low (reads_within j fits (spot_at j (step + 1) p) net
+    (omega (arith, room, low))
     (subst (λ (d : Driver). Contains (arguments_of_driver d) net) (sym is) (in_front net [])))) moves
 not_stirred j fits c step p room low still recorded (IsStirred.pin table pins net is at moves) =
-    no_reason _ (kept_here j fits c step p net low (reads_within j fits (spot_at j (step + 1) p) net (omega (arith, room, low))
+    no_reason _ (kept_here j fits c step p net low (reads_within j fits (spot_at j (step + 1) p) net
+    (omega (arith, room, low))
     (subst (λ (d : Driver). Contains (arguments_of_driver d) net) (sym is) at))) moves
 not_stirred j fits c step p room low still recorded (IsStirred.looked latching net is looks moves) =
     let driver = same_driver j (step + 1) p (Register latching) low is in
     let within : net < j.width = looks_within j fits p net (Register latching)
-    (subst (λ (d : Driver). FitsDriver j.udps j.width d) is (spot j fits (spot_at j (step + 1) p) (omega (arith, room, low))).driver)
+    (subst (λ (d : Driver). FitsDriver j.udps j.width d) is
+    (spot j fits (spot_at j (step + 1) p) (omega (arith, room, low))).driver)
     looks in
     let here = position_in j fits net within in
     no_reason _ (kept_back j fits c step p net low within
@@ -143,7 +152,8 @@ not_stirred j fits c step p room low still recorded (IsStirred.looked latching n
 begins_due : (j : Job) → Fits j → (c : ℕ → Value) (step : ℕ) (ahead due : ℕ → Bool)
     → spot_at j (step + 1) j.width ≤ places_of j → AgreeBefore j c (spot_at j (step + 1) 0)
     → AreAhead j c step j.width ahead
-    → ((p : ℕ) → p < j.width → due p ≡ false → (ahead p ≡ false) × IsRecordedOn j (step + 1) (net_on j p) (driver_on j p))
+    → ((p : ℕ) → p < j.width → due p ≡ false → (ahead p ≡ false) × IsRecordedOn j (step + 1) (net_on j p)
+    (driver_on j p))
     → AreDue j c (step + 1) 0 due
 begins_due j fits c step ahead due room agree later more = record {
   rests = λ p up low none. (
@@ -181,7 +191,8 @@ begins_law j waveform step old_due ahead due new_ahead fits room agree gone more
     let next : length waveform ≡ spot_at j (step + 1) 0 = omega (arith, long) in
     record {
       length_is = next;
-      due_here = begins_due j fits (certain waveform) step ahead due room (subst (AgreeBefore j (certain waveform)) next agree)
+      due_here = begins_due j fits (certain waveform) step ahead due room
+          (subst (AgreeBefore j (certain waveform)) next agree)
           gone.due_later more;
       due_later = none_ahead j (certain waveform) (step + 1) new_ahead;
     }
@@ -243,7 +254,8 @@ looks_along j fits c d first next step (net ∷ nets) within agree still more = 
 )
 
 net_within : (j : Job) → Fits j → (p : ℕ) → p < j.width → net_on j p < j.width
-net_within j fits p low = let all = fits.all in let below = fits.ordering.below p (omega (arith, all, low)) in omega (arith, below, all)
+net_within j fits p low = let all = fits.all in let below = fits.ordering.below p (omega (arith, all, low)) in
+    omega (arith, below, all)
 
 -- The net of a place.
 net_there : (j : Job) → Fits j → (step p net : ℕ) → p < j.width → net < j.width → at j step net ≡ spot_at j step p
@@ -288,20 +300,24 @@ visit_law j waveform x step position due ahead new_due new_ahead fits low room g
       where
         either : (p : ℕ) → p < j.width → KeepsOn j after step position
             ⊎ (Contains (arguments_of_driver (driver_on j p)) (net_on j position) → ⊥)
-            → (keeps j (certain after) (class_of j (certain after)) (step_of j (length waveform)) (net_of j (length waveform)) ≡ true)
+            → (keeps j (certain after) (class_of j (certain after)) (step_of j (length waveform))
+            (net_of j (length waveform)) ≡ true)
             ⊎ (Contains (arguments_of_driver (driver_of j (spot_at j step p))) (net_of j (length waveform)) → ⊥)
         either p less which =
             let s : step_of j (length waveform) ≡ step = ap (step_of j) long ∙ step_on j step position low in
             let n : net_of j (length waveform) ≡ net_on j position = ap (net_of j) long ∙ net_is j step position low in
-            ⊎_elim (λ (kept : KeepsOn j after step position). inl (ap (λ t. keeps j (certain after) (class_of j (certain after)) t
+            ⊎_elim (λ (kept : KeepsOn j after step position).
+            inl (ap (λ t. keeps j (certain after) (class_of j (certain after)) t
             (net_of j (length waveform))) s ∙ ap (keeps j (certain after) (class_of j (certain after)) step) n ∙ kept))
             (λ (none : Contains (arguments_of_driver (driver_on j p)) (net_on j position) → ⊥). inr (λ reads. none
             (subst (Contains (arguments_of_driver (driver_on j p))) n
-            (subst (λ k. Contains (arguments_of_driver (j.driver k)) (net_of j (length waveform))) (net_is j step p less) reads))))
+            (subst (λ k. Contains (arguments_of_driver (j.driver k)) (net_of j (length waveform)))
+            (net_is j step p less) reads))))
             which
 
     calm : (p : ℕ) → p < position + 1 → new_ahead p ≡ false → is_calm j (certain after) (spot_at j step p) ≡ true
-    calm p less none = ⊎_elim (λ (same : p ≡ position). subst (λ q. is_calm j (certain after) (spot_at j step q) ≡ true) (sym same)
+    calm p less none = ⊎_elim (λ (same : p ≡ position). subst (λ q. is_calm j (certain after) (spot_at j step q) ≡ true)
+        (sym same)
         (visit.calm (subst (λ q. new_ahead q ≡ false) same none)))
         (λ (other : p ≡ position → ⊥). sym (calm_local j fits (certain waveform) (certain after) (spot_at j step p)
         (omega (arith, room, less, low, other)) (λ k h. agree k (omega (arith, h, long, less, other))))
@@ -314,13 +330,15 @@ visit_law j waveform x step position due ahead new_due new_ahead fits low room g
     still p less none =
         let both = visit.lookers p less none in
         let fit = fits.pins (net_on j p) (net_within j fits p less) in
-        looks_along j fits (certain waveform) (certain after) (spot_at j step position) (spot_at j step (position + 1)) step
+        looks_along j fits (certain waveform) (certain after) (spot_at j step position) (spot_at j step (position + 1))
+        step
         (looked_at (driver_on j p)) (omega (arith, room, low)) (λ k h. agree k (omega (arith, h, long)))
         (gone.due_later.still p less both.0)
         (λ net looks up below. (
         let there : net ≡ net_on j position = net_there j fits step position net low
         (looks_within j fits p net (driver_on j p) fit looks) (omega (arith, up, below)) in
-        ⊎_elim (λ (kept : KeepsOn j after step position). ap (keeps j (certain after) (class_of j (certain after)) step) there ∙ kept)
+        ⊎_elim (λ (kept : KeepsOn j after step position). ap (keeps j (certain after) (class_of j (certain after)) step)
+        there ∙ kept)
         (λ (none_looks : Contains (looked_at (driver_on j p)) (net_on j position) → ⊥).
         absurd (none_looks (subst (Contains (looked_at (driver_on j p))) there looks))) both.1))
 
@@ -352,7 +370,8 @@ none_due_law j shown waveform step position many due ahead fits some up room gon
     }
 
 -- A run is passed over.
-pub repeated_long : (j : Job) (waveform : List Written) (many : ℕ) → length (repeated j waveform many) ≡ length waveform + many
+pub repeated_long : (j : Job) (waveform : List Written) (many : ℕ)
+    → length (repeated j waveform many) ≡ length waveform + many
 unfolding repeated
 repeated_long j waveform zero = omega arith
 repeated_long j waveform (suc many) =
@@ -400,8 +419,10 @@ skip_law j limit shown waveform lines step position many due ahead fits up room 
         (gone.due_here.rests p (omega arith) less none)))
 
     calm : (p : ℕ) → p < position + many → ahead p ≡ false → is_calm j (certain after) (spot_at j step p) ≡ true
-    calm p less none = ⊎_elim (λ (h : p < position). sym (calm_local j fits (certain waveform) (certain after) (spot_at j step p)
-        (omega (arith, room, less, up)) (λ k low. agree k (omega (arith, low, long, h)))) ∙ gone.due_later.calm p h none)
+    calm p less none = ⊎_elim (λ (h : p < position). sym (calm_local j fits (certain waveform) (certain after)
+        (spot_at j step p)
+        (omega (arith, room, less, up)) (λ k low. agree k (omega (arith, low, long, h))))
+        ∙ gone.due_later.calm p h none)
         (λ (h : position ≤ p). run.calm (spot_at j step p) (omega (arith, long, h)) (omega (arith, long, less)))
         (cases_lt p position)
 
@@ -410,7 +431,8 @@ skip_law j limit shown waveform lines step position many due ahead fits up room 
         → keeps j (certain after) (class_of j (certain after)) step net ≡ true) (looked_at (driver_on j p))
     still p less none =
         let fit = fits.pins (net_on j p) (net_within j fits p less) in
-        looks_along j fits (certain waveform) (certain after) (spot_at j step position) (spot_at j step (position + many)) step
+        looks_along j fits (certain waveform) (certain after) (spot_at j step position)
+        (spot_at j step (position + many)) step
         (looked_at (driver_on j p)) (omega (arith, room, up)) (λ k h. agree k (omega (arith, h, long)))
         (gone.due_later.still p less none)
         (λ net looks from below. steady_keeps j fits (certain after) step net

@@ -1,5 +1,6 @@
 -- A place is calm where its class tells that it is.
-use Rattle.std.proofs.Common.{◌≡◌, ℕ, zero, suc, ◌<◌, ◌==◌, ◌||◌, not, Bool, true, false, List, refl, sym, ap, ◌∙◌, arith, subst}
+use Rattle.std.proofs.Common.{◌≡◌, ℕ, zero, suc, ◌<◌, ◌==◌, ◌||◌, not, Bool, true, false, List, refl, sym, ap, ◌∙◌}
+use Rattle.std.proofs.Common.{arith, subst}
 use Rattle.std.proofs.lemmas.Bool.{and_parts}
 use Rattle.xr_cell.specs.declared.value.Value.{Value}
 use Rattle.xr_cell.specs.Value.{bit_value, is_unknown}
@@ -61,12 +62,14 @@ either_left : (a b : Bool) → a ≡ true → a || b ≡ true
 either_left true b is = refl
 either_left false b is = cc
 
-clocked : (j : Job) → Fits j → (c : ℕ → Value) (place : ℕ) (latching : Latching) → place < places_of j → 0 < step_of j place
+clocked : (j : Job) → Fits j → (c : ℕ → Value) (place : ℕ) (latching : Latching) → place < places_of j
+    → 0 < step_of j place
     → driver_of j place ≡ Register latching → is_plain (class_of j c place) ≡ false
     → has_uncertain_clock j c (step_of j place) latching ≡ false
 clocked j fits c place latching within more driver none =
     let tests = open_tests j fits c place within none in
-    clock_certain j c place (step_of j place) (net_of j place) latching (has_uncertain_clock j c (step_of j place) latching)
+    clock_certain j c place (step_of j place) (net_of j place) latching
+    (has_uncertain_clock j c (step_of j place) latching)
     more refl refl driver tests.0 tests.1 tests.2 refl
 
 register_told : (j : Job) → Fits j → (c : ℕ → Value) (place : ℕ) (latching : Latching) (class : ClassByNumber)
@@ -98,7 +101,8 @@ told_of j fits c place (Register latching) within agrees is tells =
     let both = and_parts (not (step_of j place == 0)) (register_tells (class_of j c place)) tells in
     both_tests (not (step_of j place == 0))
     (not (has_uncertain_clock j c (step_of j place) latching) || not (is_unknown (c place))) both.0
-    (register_told j fits c place latching (class_of j c place) within (later (step_of j place) both.0) is refl agrees both.1)
+    (register_told j fits c place latching (class_of j c place) within (later (step_of j place) both.0) is refl agrees
+    both.1)
 
 pub told_law : ToldLaw
 told_law j c place fits within agrees tells = told_of j fits c place (driver_of j place) within agrees refl tells
