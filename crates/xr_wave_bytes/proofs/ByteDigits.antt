@@ -1,5 +1,6 @@
 -- A value and a mark are read back from the low digits of a byte.
-use Rattle.std.proofs.Common.{◌≡◌, ℕ, ◌+◌, ◌*◌, ◌/◌, ◌%◌, ◌≤◌, ◌==◌, Bool, true, false, refl, ap, ◌∙◌, arith, if◌then◌else◌}
+use Rattle.std.proofs.Common.{◌≡◌, ℕ, ◌+◌, ◌*◌, ◌/◌, ◌%◌, ◌≤◌, ◌==◌, Bool, true, false, refl, ap, ◌∙◌, arith}
+use Rattle.std.proofs.Common.{if◌then◌else◌}
 use Rattle.xr_cell.specs.declared.value.Value.{Value}
 use Rattle.xr_cell.specs.declared.value.Value.TheVariants.{Zero, One, X, Z}
 use Rattle.xr_design.specs.History.{two_bits, value_of_bits}
@@ -7,7 +8,8 @@ use Rattle.xr_design.specs.declared.waveform.Mark.{Mark}
 use Rattle.xr_design.specs.declared.waveform.Mark.TheVariants.{Certain, Unknown, Undecided}
 use Rattle.xr_design.specs.declared.waveform.Written.{Written}
 use Rattle.xr_class.specs.Facts.{facts}
-use Rattle.xr_wave_bytes.specs.Byte.{facts_of_byte, is_uncertain, mark_of_bits, repeated_byte, two_bits_of_mark, written_of_byte}
+use Rattle.xr_wave_bytes.specs.Byte.{facts_of_byte, is_uncertain, mark_of_bits, repeated_byte, two_bits_of_mark}
+use Rattle.xr_wave_bytes.specs.Byte.{written_of_byte}
 
 value_back : (v : Value) → value_of_bits (two_bits v) ≡ v
 value_back Zero = refl

@@ -24,7 +24,8 @@ front_whole j fits place front within is =
 
 -- The place behind it stands at the next position, or at the first of the next step.
 pub next_position : (j : Job) → Fits j → (place : ℕ) (front next : Front) → place < places_of j → IsAt j place front
-    → next.step ≡ front.step → next.position ≡ front.position + 1 → front.position + 1 < j.width → IsAt j (place + 1) next
+    → next.step ≡ front.step → next.position ≡ front.position + 1 → front.position + 1 < j.width
+    → IsAt j (place + 1) next
 next_position j fits place front next within is step position less =
     let whole = front_whole j fits place front within is in
     let more : place + 1 ≡ front.step * j.width + (front.position + 1) = omega (arith, whole) in
@@ -51,7 +52,8 @@ next_step j fits place front next within is step position full =
     }
 
 -- The place behind so many places of its step.
-pub after_position : (j : Job) → Fits j → (place many : ℕ) (front next : Front) → place < places_of j → IsAt j place front
+pub after_position : (j : Job) → Fits j → (place many : ℕ) (front next : Front) → place < places_of j
+    → IsAt j place front
     → next.step ≡ front.step → next.position ≡ front.position + many → front.position + many < j.width
     → IsAt j (place + many) next
 after_position j fits place many front next within is step position less =
@@ -59,7 +61,8 @@ after_position j fits place many front next within is step position less =
     let more : place + many ≡ front.step * j.width + (front.position + many) = omega (arith, whole) in
     record {
       step = step ∙ sym (ap (λ n. n / j.width) more ∙ div-mul-add front.step j.width (front.position + many) less);
-      position = position ∙ sym (ap (λ n. n % j.width) more ∙ mod-mul-add front.step j.width (front.position + many) less);
+      position = position ∙ sym (ap (λ n. n % j.width) more ∙ mod-mul-add front.step j.width (front.position + many)
+          less);
     }
 
 row_behind : (w t p place many : ℕ) → t * w + p ≡ place → p + many ≡ w → place + many ≡ (t + 1) * w + 0

@@ -1,5 +1,6 @@
 -- Bytes that say the facts of their places, as they grow.
-use Rattle.std.proofs.Common.{◌≡◌, ℕ, ◌+◌, ◌-◌, ◌%◌, ◌<◌, ◌≤◌, Bool, true, List, [], ◌∷◌, ◌++◌, length, map, refl, sym, ap, ◌∙◌, arith, subst, length-append, ⊎_elim}
+use Rattle.std.proofs.Common.{◌≡◌, ℕ, ◌+◌, ◌-◌, ◌%◌, ◌<◌, ◌≤◌, Bool, true, List, [], ◌∷◌, ◌++◌, length, map, refl, sym}
+use Rattle.std.proofs.Common.{ap, ◌∙◌, arith, subst, length-append, ⊎_elim}
 use Rattle.std.proofs.Math.ListN.{get_or-append}
 use Rattle.std.proofs.Math.Seq.{get_or-append_seam}
 use Rattle.std.proofs.lemmas.Bool.{cases_eq, cases_lt}
@@ -36,7 +37,8 @@ low j fits place within more =
 
 at_most : (j : Job) → Fits j → (place : ℕ) → place < places_of j → before j place ≤ place
 at_most j fits place within = ⊎_elim
-    (λ (less : place < j.width). below_first j.width place (before j place) less (before_first j fits place within less))
+    (λ (less : place < j.width). below_first j.width place (before j place) less
+    (before_first j fits place within less))
     (λ (more : j.width ≤ place). (let less = low j fits place within more in omega (arith, less)))
     (cases_lt place j.width)
 
@@ -168,13 +170,16 @@ four_same a b d e p q r s ap_is bq_is dr_is es_is = rw (ap_is, bq_is, dr_is, es_
 
 -- What is found of the class of the next place and of its value are its facts.
 pub facts_found : (step back : ℕ) (class : ClassByNumber) (here value_back : Value) (carries plain line keeps : Bool)
-    → carries ≡ is_carried_on class back → plain ≡ is_plain class → line ≡ is_line class → keeps ≡ keeps_by step here value_back carries
+    → carries ≡ is_carried_on class back → plain ≡ is_plain class → line ≡ is_line class
+    → keeps ≡ keeps_by step here value_back carries
     → facts carries plain line keeps ≡ facts_by step back class here value_back
 facts_found step back class here value_back carries plain line keeps carries_is plain_is line_is keeps_is =
-    four_same carries plain line keeps _ _ _ _ carries_is plain_is line_is (keeps_is ∙ ap (keeps_by step here value_back) carries_is)
+    four_same carries plain line keeps _ _ _ _ carries_is plain_is line_is (keeps_is
+    ∙ ap (keeps_by step here value_back) carries_is)
 
 pub same_pushed : (bytes : List ℕ) (byte : ℕ) (all : List ℕ) → all ≡ bytes ++ byte ∷ [] → SayTheSame bytes all
-same_pushed bytes byte all is = λ k less. ap (λ bs. facts_in bs k) is ∙ ap facts_of_byte (get_or-append bytes (byte ∷ []) 0 k less)
+same_pushed bytes byte all is = λ k less. ap (λ bs. facts_in bs k) is
+    ∙ ap facts_of_byte (get_or-append bytes (byte ∷ []) 0 k less)
 
 -- Where a place more is written in a step, those before it keep as they did.
 pub keep_pushed : (bytes all : List ℕ) (position next : ℕ) → length all ≡ length bytes + 1 → SayTheSame bytes all

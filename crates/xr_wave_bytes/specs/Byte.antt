@@ -6,8 +6,9 @@ use Rattle.xr_design.specs.declared.waveform.Written.{Written}
 use Rattle.xr_design.specs.History.{value_of_bits}
 use Rattle.xr_class.specs.Facts.{Facts, facts}
 
--- Its value is in the low two bits, its mark in the next two, and behind them a bit each says whether its class is Carried
--- from the step before as it is, whether it is Local or Free, whether its net keeps there, and whether it is Line.
+-- Its value is in the low two bits, its mark in the next two, and behind them a bit each says whether its class is
+-- Carried from the step before as it is, whether it is Local or Free, whether its net keeps there, and whether it is
+-- Line.
 abbrev pub mark_of_bits : ℕ → Mark
 mark_of_bits bits = if bits == 0 then Certain else if bits == 1 then Unknown else Undecided
 
@@ -28,8 +29,8 @@ is_uncertain Certain = false
 is_uncertain Unknown = true
 is_uncertain Undecided = true
 
--- The byte of a place that has what its net's place a step before has, whose byte is given. It says the same value and mark,
--- that its net keeps, and that it is Carried from there unless it is certain: then its class is left open.
+-- The byte of a place that has what its net's place a step before has, whose byte is given. It says the same value and
+-- mark, that its net keeps, and that it is Carried from there unless it is certain: then its class is left open.
 abbrev pub repeated_byte : ℕ → ℕ
 repeated_byte byte = byte % 16 + (if is_uncertain (written_of_byte byte).mark then 80 else 64)
 

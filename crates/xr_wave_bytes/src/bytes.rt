@@ -1,6 +1,6 @@
 //! The bytes of the places that are written, as what is known of them.
 
-ghost use Rattle.std.specs.Prelude.{◌≡◌, ℕ, ◌+◌, ◌-◌, ◌<◌, ◌≤◌, ◌++◌, ◌∷◌, [], IfSome, length, map, vec_capacity};
+ghost use Rattle.std.specs.Prelude.{◌≡◌, ℕ, ◌+◌, ◌-◌, ◌<◌, ◌≤◌, ◌==◌, ◌||◌, ◌++◌, ◌∷◌, [], IfSome, length, map, vec_capacity};
 ghost use Rattle.std.specs.Bool.{OnTrue};
 ghost use Rattle.xr_cell.specs.declared.value.Value.{Value as AnyValue};
 ghost use Rattle.xr_design.specs.Circuit.{job_in, CircuitFits};
@@ -13,8 +13,9 @@ ghost use Rattle.xr_class.specs.Wires.{AreWiresOf};
 ghost use Rattle.xr_wave_bytes.specs.Byte.{facts_in, facts_of_byte, written_of_byte};
 ghost use Rattle.xr_wave_bytes.specs.View.{next_class};
 ghost use Rattle.xr_wave_bytes.specs.Front.{StandsAt};
-ghost use Rattle.xr_wave_bytes.specs.Kept.{BytesTell, IsKept, IsNextClass, SayTheSame, StepKeeps, ValuesAgree, facts_next};
-ghost use Rattle.xr_wave_bytes.specs.Repeat.{AreRepeated, IsStretch};
+ghost use Rattle.xr_wave_bytes.specs.Kept.{BytesTell, IsKept, IsNextClass, SayTheSame, StepKeeps, ValuesAgree};
+ghost use Rattle.xr_wave_bytes.specs.Kept.{facts_next};
+ghost use Rattle.xr_wave_bytes.specs.Repeat.{AreRepeated, IsRepeatedAfter, IsStretch};
 
 use crate::byte::{byte_of, is_carried_on, is_line, is_plain, keeps, repeated_byte, written_in};
 use crate::front::Front;
@@ -117,6 +118,13 @@ pub fn keep_behind(bytes: &[u8], front: Front, before: bool) -> bool
     front.position == 0 || (before && keeps(bytes[bytes.len() - 1]))
 }
 
+/// The same where the places before the next one were written many at once: each of those keeps.
+pub fn keep_repeated(front: Front, before: bool) -> bool
+    ensures { result ≡ (before || front.position == 0) }
+{
+    before || front.position == 0
+}
+
 /// Appends the byte of the next place, whose class is given.
 pub fn push_place(
     circuit: &Circuit<'_>,
@@ -153,10 +161,20 @@ pub fn repeat_places(circuit: &Circuit<'_>, bytes: &mut Vec<u8>, many: usize)
 {
     let first = bytes.len() - width_of(circuit);
     'places: for place in first..first + many {
-        let byte = repeated_byte(bytes[place]);
-        if bytes.push(byte).is_err() {
-            unreachable!()
-        }
+        push_repeated(bytes, place);
+    }
+}
+
+/// Appends the byte of a place that has what the place of a number has, which is its net's a step before.
+fn push_repeated(bytes: &mut Vec<u8>, number: usize)
+    requires number { number < length bytes.old.items }
+    requires room { length bytes.old.items < vec_capacity bytes.old }
+    ensures bytes { IsRepeatedAfter bytes.old.items number bytes.new.items }
+    ensures room { vec_capacity bytes.old ≤ vec_capacity bytes.new }
+{
+    let byte = repeated_byte(bytes[number]);
+    if bytes.push(byte).is_err() {
+        unreachable!()
     }
 }
 

@@ -13,7 +13,7 @@ ghost use Rattle.xr_wave_bytes.specs.Repeat.{IsRepeatable};
 ghost use Rattle.xr_wave_bytes.specs.View.{HasMore, IsNumber, and_one, and_repeated, job, keeps_there, waveform_of};
 
 use crate::byte::{keeps, written_in};
-use crate::bytes::{Bytes, class_behind, keep_behind, push_place, repeat_places};
+use crate::bytes::{Bytes, class_behind, keep_behind, keep_repeated, push_place, repeat_places};
 use crate::front::{Front, first_front, front_after, front_behind, place_there};
 use std::alloc::Global;
 use std::marker::Model;
@@ -24,8 +24,8 @@ use xr_design::{Circuit, Place, Written, count_places};
 use xr_model::ClassByNumber;
 use xr_wiring::Wiring;
 
-/// What is written of the places of a circuit, in place order, and the class of the next one. Contracts see the circuit and
-/// the list of what is written.
+/// What is written of the places of a circuit, in place order, and the class of the next one. Contracts see the circuit
+/// and the list of what is written.
 #[derive(Debug, Drop)]
 pub struct Waveform<'a> {
     circuit: Circuit<'a>,
@@ -228,8 +228,9 @@ impl<'a> Waveform<'a> {
         let circuit = self.circuit;
         let front = front_after(&circuit, self.front, self.bytes.len(), many);
         repeat_places(&circuit, &mut self.bytes, many);
+        let all_keep = keep_repeated(front, self.all_keep);
         self.found = false;
-        self.all_keep = self.all_keep || front.position == 0;
         self.front = front;
+        self.all_keep = all_keep;
     }
 }

@@ -1,6 +1,5 @@
 -- The class of the next place is the one that is kept, or is found from the bytes.
-use Rattle.std.proofs.Common.{◌≡◌, ◌∙◌, List, ℕ, length, map, ap, sym, subst}
-use Rattle.std.proofs.lemmas.Bool.{OnTrue_at}
+use Rattle.std.proofs.Common.{◌≡◌, ◌∙◌, List, ℕ, map, ap, sym, subst}
 use Rattle.xr_design.specs.Circuit.{job_in}
 use Rattle.xr_wave_bytes.specs.Byte.{written_of_byte}
 use Rattle.xr_wave_bytes.specs.Kept.{BytesTell, ValuesAgree}
