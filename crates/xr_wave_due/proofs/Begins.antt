@@ -1,5 +1,6 @@
 -- A step begins.
-use Rattle.std.proofs.Common.{◌≡◌, ℕ, ◌+◌, ◌*◌, ◌%◌, ◌<◌, ◌≤◌, Bool, true, false, List, [], length, sym, ap, ◌∙◌, arith, subst}
+use Rattle.std.proofs.Common.{◌≡◌, ℕ, ◌+◌, ◌*◌, ◌%◌, ◌<◌, ◌≤◌, Bool, true, false, List, [], length, sym, ap, ◌∙◌, arith}
+use Rattle.std.proofs.Common.{subst}
 use Rattle.xr_cell.specs.declared.value.Value.{Value}
 use Rattle.xr_design.specs.declared.waveform.Written.{Written}
 use Rattle.xr_design.specs.Fits.{Fits}
@@ -19,7 +20,7 @@ use Rattle.xr_design.specs.Handed.{HasPlaces, shown_of}
 use Rattle.xr_design.specs.Row.{RowView, next_row}
 use Rattle.xr_design.proofs.Rules.{some_width}
 use Rattle.xr_fans.specs.Readings.{AreFans}
-use Rattle.xr_wave_due.proofs.Fronts.{step_room, walk_here}
+use Rattle.xr_wave_due.proofs.Fronts.{step_room, step_within, walk_here}
 
 -- What was due one step later is due, with what the recording stirs and with what the history shows otherwise.
 pub begun : (j : Job) → Fits j → (shown : ℕ → Value) (waveform : List Written) (step : ℕ) (old new : Walk)
@@ -55,6 +56,14 @@ started j shown walk tables all = record {
 next_row_is : (w step n : ℕ) → n ≡ step * w + w → n ≡ (step + 1) * w + 0
 next_row_is w step n is = omega (arith, is)
 
+-- There is one.
+pub more_steps : (j : Job) (shown : ℕ → Value) (waveform : List Written) (walk : Walk) (step : ℕ)
+    → length waveform < places_of j → IsWalkAt j shown waveform walk step j.width → step + 1 < j.moments * j.rounds
+more_steps j shown waveform walk step more at_it =
+    let n : ℕ = length waveform in
+    step_within j (step + 1) 0 n (some_width j.width (j.moments * j.rounds) n more)
+    (next_row_is j.width step n at_it.gone.length_is) more
+
 pub begun_walk : (j : Job) → Fits j → (waveform : List Written) (old new : Walk) (stirred : List ℕ)
     → length waveform < places_of j → HasTables j old → AgreeBefore j (certain waveform) (length waveform)
     → IsWalkAt j (shown_by j old) waveform old old.replayed.step j.width → new.fans ≡ old.fans
@@ -62,7 +71,8 @@ pub begun_walk : (j : Job) → Fits j → (waveform : List Written) (old new : W
     → HasRoomFor new.waiting.ahead j.width → OnlyMore old.waiting.ahead stirred
     → AreStirredDue j (old.replayed.step + 1) stirred → OnlyMore stirred new.waiting.due
     → ShowsOn j (shown_by j old) (old.replayed.step + 1) 0 new.waiting.due → IsWalk j waveform new
-begun_walk j fits waveform old new stirred more tables agree walk fans sources row due_room ahead_room more_ahead recorded
+begun_walk j fits waveform old new stirred more tables agree walk fans sources row due_room ahead_room more_ahead
+    recorded
     more_due shows =
     let n : ℕ = length waveform in
     let step : ℕ = old.replayed.step in

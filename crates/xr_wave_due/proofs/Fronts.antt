@@ -18,7 +18,8 @@ position_there w step position n low is = ap (λ k. k % w) is ∙ mod-mul-add st
 
 -- A walk up to a position of a step is one up to the next place.
 pub walk_here : (j : Job) (waveform : List Written) (walk : Walk) (position : ℕ) → HasTables j walk
-    → position < j.width → IsWalkAt j (shown_by j walk) waveform walk walk.replayed.step position → IsWalk j waveform walk
+    → position < j.width → IsWalkAt j (shown_by j walk) waveform walk walk.replayed.step position
+    → IsWalk j waveform walk
 walk_here j waveform walk position tables low at_it =
     let n : ℕ = length waveform in
     let long = at_it.gone.length_is in

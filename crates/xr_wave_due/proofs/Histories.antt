@@ -64,11 +64,13 @@ pub written_shows : (j : Job) → Fits j → (history : HistoryView) (step : ℕ
     → HasPlaces j history → 0 < step → step < j.moments * j.rounds → AreWritten history step changes
     → AreChangesDue j (length changes) changes due → ShowsOn j (shown_of j history) step 0 due
 written_shows j fits history step changes due places later within written marked = λ p from low none.
-    same_shown j fits history step p later low (written.others (net_on j p) (has_net j fits history step p places within low)
+    same_shown j fits history step p later low
+    (written.others (net_on j p) (has_net j fits history step p places within low)
     (unwritten_there j fits changes due p low marked none))
 
 -- Two blank steps show the same.
-pub blank_shows : (j : Job) → Fits j → (history : HistoryView) (step : ℕ) (due : List ℕ) → HasPlaces j history → 0 < step
+pub blank_shows : (j : Job) → Fits j → (history : HistoryView) (step : ℕ) (due : List ℕ) → HasPlaces j history
+    → 0 < step
     → step < j.moments * j.rounds → IsBlankAt history step → IsBlankAt history (step - 1)
     → ShowsOn j (shown_of j history) step 0 due
 blank_shows j fits history step due places later within here there = λ p from low none.

@@ -4,5 +4,5 @@ mod Visits
 mod Begins
 mod Skips
 mod Histories
-mod Sources
+mod ListedSources
 mod Marks

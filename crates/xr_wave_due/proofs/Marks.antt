@@ -1,5 +1,6 @@
 -- One position more is due.
-use Rattle.std.proofs.Common.{◌≡◌, ◌⊎◌, ℕ, zero, suc, ◌+◌, ◌==◌, ◌||◌, Bool, true, false, Contains, List, [], ◌∷◌, length, refl, sym, ◌∙◌, arith, subst, inl, inr, ⊎_elim}
+use Rattle.std.proofs.Common.{◌≡◌, ℕ, zero, suc, ◌+◌, ◌==◌, ◌||◌, Bool, true, false, Contains, List, [], ◌∷◌}
+use Rattle.std.proofs.Common.{length, refl, sym, ◌∙◌, arith, subst, inl, inr, ⊎_elim}
 use Rattle.std.specs.List.{list_any}
 use Rattle.std.proofs.lemmas.Bool.{cases_eq, eq-eqb}
 use Rattle.xr_fans.specs.Marks.{OnlyMore}
@@ -31,7 +32,8 @@ or_right true b is = refl
 gained : (xs : List ℕ) (p : ℕ) → Contains xs p → list_any (λ q. q == p) xs ≡ true
 gained [] p (k, less, is) = absurd (omega (arith, less))
 gained (x ∷ xs) p (zero, less, is) = rw (eq-eqb x p is) refl
-gained (x ∷ xs) p (suc k, less, is) = or_right (x == p) (list_any (λ q. q == p) xs) (gained xs p (k, omega (arith, less), is))
+gained (x ∷ xs) p (suc k, less, is) =
+    or_right (x == p) (list_any (λ q. q == p) xs) (gained xs p (k, omega (arith, less), is))
 
 clash : (b : Bool) → b ≡ true → b ≡ false → ⊥
 clash true is isnt = cc
@@ -42,7 +44,7 @@ pub gained_readers : (readers old new : List ℕ) → length new ≡ length old 
 gained_readers readers old new long gains = record {
   long = long;
   more = λ p none. (no_more (is_due old p) (list_any (λ q. q == p) readers) (sym (gains p) ∙ none)).0;
-  readers = λ p none. inr (λ reads. clash (list_any (λ q. q == p) readers) (gained readers p reads)
+  unread = λ p none. inr (λ reads. clash (list_any (λ q. q == p) readers) (gained readers p reads)
       (no_more (is_due old p) (list_any (λ q. q == p) readers) (sym (gains p) ∙ none)).1);
 }
 
@@ -50,7 +52,7 @@ pub kept_readers : (readers due : List ℕ) → AreReadersIn true readers due du
 kept_readers readers due = record {
   long = refl;
   more = λ p none. none;
-  readers = λ p none. inl refl;
+  unread = λ p none. inl refl;
 }
 
 -- A set that has more has the readers too.
@@ -59,5 +61,5 @@ pub readers_more : (keeps : Bool) (readers old mid new : List ℕ) → length ne
 readers_more keeps readers old mid new long more are = record {
   long = long ∙ are.long;
   more = λ p none. are.more p (clear_before mid new p more none);
-  readers = λ p none. are.readers p (clear_before mid new p more none);
+  unread = λ p none. are.unread p (clear_before mid new p more none);
 }

@@ -1,5 +1,6 @@
 -- Places of which none is due are passed over.
-use Rattle.std.proofs.Common.{◌≡◌, ℕ, zero, suc, ◌+◌, ◌*◌, ◌%◌, ◌<◌, ◌≤◌, ◌==◌, false, List, length, refl, sym, arith, subst}
+use Rattle.std.proofs.Common.{◌≡◌, ℕ, zero, suc, ◌+◌, ◌*◌, ◌%◌, ◌<◌, ◌≤◌, ◌==◌, false, List, length, refl, sym, arith}
+use Rattle.std.proofs.Common.{subst}
 use Rattle.xr_cell.specs.declared.value.Value.{Value}
 use Rattle.xr_design.specs.declared.waveform.Written.{Written}
 use Rattle.xr_design.specs.Fits.{Fits}
@@ -45,7 +46,8 @@ pub none_due : (j : Job) → Fits j → (shown : ℕ → Value) (waveform : List
 none_due j fits shown waveform walk step position zero within up room at_it none = no_run j fits shown waveform within
 none_due j fits shown waveform walk step position (suc many) within up room at_it none =
     none_due_law j shown waveform step position (suc many) (is_due walk.waiting.due) (is_due walk.waiting.ahead) fits
-    (omega arith) up room at_it.gone (λ p from less. (none p from less, at_it.shows p from (omega (arith, less, up)) (none p from less)))
+    (omega arith) up room at_it.gone
+    (λ p from less. (none p from less, at_it.shows p from (omega (arith, less, up)) (none p from less)))
 
 -- They can be written again, and are gone over.
 pub held_run : (j : Job) → Fits j → (shown : ℕ → Value) (waveform : List Written) (many : ℕ)
@@ -118,7 +120,8 @@ pub skipped_walk : (j : Job) → Fits j → (waveform : List Written) (walk : Wa
 skipped_walk j fits waveform walk many is more held up run =
     let n : ℕ = length waveform in
     let here = spot j fits n more in
-    subst (λ s. IsWalkAt j (shown_by j walk) (repeated j waveform many) walk s (n % j.width + many)) (sym (is.reads more))
+    subst (λ s. IsWalkAt j (shown_by j walk) (repeated j waveform many) walk s (n % j.width + many))
+    (sym (is.reads more))
     (skipped j fits (shown_by j walk) waveform walk (step_of j n) (n % j.width) many held up
     (step_room j (step_of j n) (n % j.width) n here.position (sym here.whole) more) (is.here more) run)
 

@@ -1,5 +1,6 @@
 -- The place at a position is written, and its net is visited.
-use Rattle.std.proofs.Common.{◌≡◌, ◌⊎◌, ℕ, ◌+◌, ◌%◌, ◌<◌, ◌≤◌, Bool, true, false, Contains, List, [], ◌∷◌, length, length-append, refl, sym, ap, ◌∙◌, arith, subst, inl, inr, ⊎_elim}
+use Rattle.std.proofs.Common.{◌≡◌, ◌⊎◌, ℕ, ◌+◌, ◌%◌, ◌<◌, ◌≤◌, Bool, true, false, Contains, List, [], ◌∷◌, length}
+use Rattle.std.proofs.Common.{length-append, refl, sym, ap, ◌∙◌, arith, subst, inl, inr, ⊎_elim}
 use Rattle.xr_cell.specs.declared.value.Value.{Value}
 use Rattle.xr_design.specs.declared.design.Driver.{Driver}
 use Rattle.xr_design.specs.declared.waveform.Written.{Written}
@@ -20,7 +21,8 @@ use Rattle.xr_quiet.proofs.Sweeps.{visit_law}
 use Rattle.xr_replay_due.specs.Due.{HasRoomFor, is_due}
 use Rattle.xr_replay_due.specs.Readers.{ReadersView, readers_of}
 use Rattle.xr_wave_due.specs.Sources.{AreSources}
-use Rattle.xr_wave_due.specs.Walk.{AreReadersIn, HasSameTables, HasTables, IsVisited, IsWalk, IsWalkAt, TellsCalm, shown_by}
+use Rattle.xr_wave_due.specs.Walk.{AreReadersIn, HasSameTables, HasTables, IsVisited, IsWalk, IsWalkAt, TellsCalm}
+use Rattle.xr_wave_due.specs.Walk.{shown_by}
 use Rattle.xr_wave_due.specs.declared.walk.Walk.{Walk}
 use Rattle.xr_class.specs.Facts.{AgreeBefore}
 use Rattle.xr_design.proofs.Rules.{spot}
@@ -52,7 +54,7 @@ not_reading j nets_by readers net keeps old new p are gains low none = (
   gains.more p none,
   ⊎_elim (λ (kept : keeps ≡ true). inl kept)
       (λ (no : Contains (readers_of readers net) p → ⊥).
-      inr (λ reads. no (reader_there j nets_by readers p net are low reads))) (gains.readers p none),
+      inr (λ reads. no (reader_there j nets_by readers p net are low reads))) (gains.unread p none),
 )
 
 pub visited : (j : Job) → Fits j → (shown : ℕ → Value) (waveform : List Written) (written : Written)
@@ -62,7 +64,8 @@ pub visited : (j : Job) → Fits j → (shown : ℕ → Value) (waveform : List 
     → (calm ≡ true → is_calm j (certain (and_next waveform written)) (spot_at j step position) ≡ true)
     → IsVisited net position keeps calm old new
     → IsWalkAt j shown (and_next waveform written) new step (position + 1)
-visited j fits shown waveform written step position net keeps calm old new tables low room walk net_is kept calmed visit =
+visited j fits shown waveform written step position net keeps calm old new tables low room walk net_is kept calmed
+    visit =
     record {
       gone = visit_law j waveform written step position (is_due old.waiting.due) (is_due old.waiting.ahead)
           (is_due new.waiting.due) (is_due new.waiting.ahead) fits low room walk.gone (record {
@@ -72,7 +75,7 @@ visited j fits shown waveform written step position net keeps calm old new table
             lookers = λ p less none. (let both = not_reading j looked_at old.fans.registers net keeps old.waiting.ahead
                 new.waiting.ahead p tables.fans.registers visit.ahead less none in
                 (both.0, by_net looked_at p both.1));
-            calm = λ none. calmed (visit.calm none);
+            calm = λ none. calmed (visit.itself none);
           });
       shows = λ p from less none. walk.shows p (omega (arith, from)) less (visit.due.more p none);
     }
@@ -111,9 +114,11 @@ pub visited_walk : (j : Job) → Fits j → (waveform : List Written) (written :
     → IsVisited net position keeps calm old new
     → IsWalkAt j (shown_by j new) (and_next waveform written) new new.replayed.step (position + 1)
 visited_walk j fits waveform written position net keeps calm old new tables low room walk net_is kept calmed visit =
-    subst (λ (row : RowView). IsWalkAt j (shown_of j row.history) (and_next waveform written) new row.step (position + 1))
+    subst (λ (row : RowView). IsWalkAt j (shown_of j row.history) (and_next waveform written) new row.step
+    (position + 1))
     (sym visit.same.replayed)
-    (visited j fits (shown_by j old) waveform written old.replayed.step position net keeps calm old new tables low room walk
+    (visited j fits (shown_by j old) waveform written old.replayed.step position net keeps calm old new tables low room
+    walk
     net_is kept calmed visit)
 
 -- The next place is written, and is visited by what is found of it.
@@ -122,7 +127,8 @@ tells_grown : (j : Job) → Fits j → (waveform : List Written) (written : Writ
 tells_grown j fits waveform written more tells =
     let n : ℕ = length waveform in
     subst (λ class. tells_calm_of (step_of j n) (driver_of j n) class ≡ true)
-    (class_local j fits (certain waveform) (certain (and_next waveform written)) n more (certain_grown waveform written))
+    (class_local j fits (certain waveform) (certain (and_next waveform written)) n more
+    (certain_grown waveform written))
     tells
 
 calm_grown : (j : Job) → Fits j → (waveform : List Written) (written : Written) → length waveform < places_of j

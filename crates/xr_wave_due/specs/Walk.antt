@@ -1,6 +1,7 @@
 -- What a walk knows of the places ahead of a waveform.
 use Rattle.std.specs.Prelude.{◌≡◌, ◌⊎◌, ℕ, ◌%◌, ◌<◌, Bool, true, false, Contains, List, length}
 use Rattle.xr_cell.specs.declared.value.Value.{Value}
+use Rattle.xr_design.specs.Fits.{Fits}
 use Rattle.xr_design.specs.Handed.{HasPlaces, shown_of}
 use Rattle.xr_design.specs.Job.{Job, places_of, step_of}
 use Rattle.xr_design.specs.Waveform.{certain}
@@ -48,8 +49,9 @@ pub record IsWalk (j : Job) (waveform : List Written) (walk : Walk) : Type 0 whe
 abbrev pub IsWalkOf : WaveformView → Walk → Type 0
 IsWalkOf v walk = IsWalk (view.job v) v.written walk
 
--- What is always true of a waveform that lines justify, whatever they are.
+-- What is always true of a waveform that lines justify, whatever they are, and its job fits.
 pub record IsHeld (j : Job) (shown : ℕ → Value) (waveform : List Written) : Type 0 where
+  pub fits : Fits j
   pub limit : ℕ
   pub lines : List ALine
   pub holds : Holds j limit shown waveform lines
@@ -70,7 +72,7 @@ TellsCalm j waveform place =
 pub record AreReadersIn (keeps : Bool) (readers old new : List ℕ) : Type 0 where
   pub long : length new ≡ length old
   pub more : (p : ℕ) → is_due new p ≡ false → is_due old p ≡ false
-  pub readers : (p : ℕ) → is_due new p ≡ false → (keeps ≡ true) ⊎ (Contains readers p → ⊥)
+  pub unread : (p : ℕ) → is_due new p ≡ false → (keeps ≡ true) ⊎ (Contains readers p → ⊥)
 
 -- A walk with other sets has the tables that it had, and reads the history where it did.
 pub record HasSameTables (old new : Walk) : Type 0 where
@@ -84,4 +86,4 @@ pub record IsVisited (net position : ℕ) (keeps calm : Bool) (old new : Walk) :
   pub same : HasSameTables old new
   pub due : AreReadersIn keeps (readers_of old.fans.cells net) old.waiting.due new.waiting.due
   pub ahead : AreReadersIn keeps (readers_of old.fans.registers net) old.waiting.ahead new.waiting.ahead
-  pub calm : is_due new.waiting.ahead position ≡ false → calm ≡ true
+  pub itself : is_due new.waiting.ahead position ≡ false → calm ≡ true

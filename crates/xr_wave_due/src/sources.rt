@@ -1,6 +1,6 @@
 //! The positions on which the recording acts: those of inputs, and of nets without a driver.
 
-ghost use Rattle.std.specs.Prelude.{◌≡◌, ◌*◌, ◌<◌, ◌≤◌, false, IfOk, IsFalse, OnOk, length};
+ghost use Rattle.std.specs.Prelude.{◌≡◌, ◌+◌, ◌*◌, ◌<◌, ◌≤◌, false, IfOk, IsFalse, OnOk, length};
 ghost use Rattle.xr_cell.specs.declared.value.Value.{Value as AnyValue};
 ghost use Rattle.xr_design.specs.Circuit.{CircuitFits, job_in};
 ghost use Rattle.xr_fans.specs.Marks.{OnlyMore};

@@ -16,7 +16,8 @@ ghost use Rattle.xr_replay_due.specs.Readers.{readers_of};
 ghost use Rattle.xr_wave_bytes.specs.Kept.{ValuesAgree};
 ghost use Rattle.xr_wave_bytes.specs.View as view;
 ghost use Rattle.xr_wave_bytes.specs.View.{HasMore, and_one, and_repeated};
-ghost use Rattle.xr_wave_due.specs.Walk.{AreReadersIn, HasTables, IsHeld, IsHeldFor, IsRunOf, IsVisited, IsWalk, IsWalkAt, IsWalkOf, TellsCalm, shown_by};
+ghost use Rattle.xr_wave_due.specs.Walk.{AreReadersIn, HasTables, IsHeld, IsHeldFor, IsRunOf, IsVisited, IsWalk};
+ghost use Rattle.xr_wave_due.specs.Walk.{IsWalkAt, IsWalkOf, TellsCalm, shown_by};
 
 use crate::begin::mark_history;
 use crate::calm::tells_calm;
@@ -38,8 +39,8 @@ pub struct Walk<'a> {
 }
 
 impl<'a> Walk<'a> {
-    /// That of a circuit of which nothing is written. Takes 17 bytes for each net and 4 for each pin, and on the way 16 more
-    /// for each pin.
+    /// That of a circuit of which nothing is written. Takes 18 bytes for each net, 4 more for one on which the recording
+    /// acts, and 4 for each pin; on the way 16 more for each pin.
     pub fn new(
         alloc: Global,
         circuit: &Circuit<'_>,
@@ -81,8 +82,8 @@ impl<'a> Walk<'a> {
         self.settle(waveform, position + 1);
     }
 
-    /// Passes over the places of the step up to the next one that is due, each of which is written as its net's place a step
-    /// before; says how many. Takes no memory.
+    /// Passes over the places of the step up to the next one that is due, each of which is written as its net's place a
+    /// step before; says how many. Takes no memory.
     pub fn skip(&mut self, waveform: &mut Waveform<'_>) -> usize
         requires next { HasMore waveform.old }
         requires held { IsHeldFor waveform.old self.old }
@@ -146,13 +147,13 @@ impl<'a> Walk<'a> {
     /// Begins the step behind one whose places are all written.
     fn begin(&mut self, waveform: &Waveform<'_>)
         requires next { HasMore waveform.now }
+        requires agrees { ValuesAgree (view.job waveform.now) waveform.now.written }
         requires tables { HasTables (view.job waveform.now) self.old }
         requires here { IsWalkAt (view.job waveform.now) (shown_by (view.job waveform.now) self.old)
             waveform.now.written self.old self.old.replayed.step (view.job waveform.now).width }
         ensures walk { IsWalkOf waveform.now self.new }
         ensures history { self.new.replayed.history ≡ self.old.replayed.history }
     {
-        let _count = waveform.count();
         let circuit = waveform.circuit();
         self.replayed.next_step();
         let step = self.replayed.step();
@@ -175,7 +176,6 @@ fn repeat(waveform: &mut Waveform<'_>, replayed: &HistoryRow<'_>, many: usize)
     if many == 0 {
         return;
     }
-    let _circuit = waveform.circuit();
     waveform.repeat(many);
 }
 

@@ -1,5 +1,4 @@
 -- Two blank steps show the same; else all is due.
-use Rattle.std.proofs.Common.{subst}
 use Rattle.xr_design.specs.Circuit.{job_in}
 use Rattle.xr_design.specs.Handed.{shown_of}
 use Rattle.xr_wave_due.proofs.Histories.{all_shows, blank_shows}

@@ -2,7 +2,7 @@
 use Rattle.std.proofs.Common.{◌∙◌, sym}
 use Rattle.xr_design.specs.Circuit.{job_in}
 use Rattle.xr_fans.specs.Nets.{driver_on, net_on}
-use Rattle.xr_wave_due.proofs.Sources.{all_stirred, unstirred}
+use Rattle.xr_wave_due.proofs.ListedSources.{all_stirred, unstirred}
 use Rattle.xr_wave_due.proofs.sources.mark_sources.Goals as goal
 
 pub returns-then-not-begins_moment-clause-stirred : goal.returns-then-not-begins_moment-clause-stirred

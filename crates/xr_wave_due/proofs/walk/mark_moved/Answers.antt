@@ -1,5 +1,5 @@
 -- Where the net keeps nothing is due for it; else its readers are.
-use Rattle.std.proofs.Common.{◌≡◌, Bool, true, false, sym, subst}
+use Rattle.std.proofs.Common.{Bool, sym, subst}
 use Rattle.xr_replay_due.specs.Readers.{readers_of}
 use Rattle.xr_wave_due.specs.Walk.{AreReadersIn}
 use Rattle.xr_wave_due.proofs.Marks.{gained_readers, kept_readers}

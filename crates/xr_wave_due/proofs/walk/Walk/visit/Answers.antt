@@ -16,5 +16,5 @@ returns c =
           (sym c.mark_restless.ensures.due) c.mark_moved.ensures.due;
       ahead = readers_more c.args.keeps (readers_of old.fans.registers c.args.net) old.waiting.ahead mid.ahead new.ahead
           c.mark_restless.ensures.long c.mark_restless.ensures.more c.mark_moved.ensures.ahead;
-      calm = c.mark_restless.ensures.calm;
+      itself = c.mark_restless.ensures.calm;
     }

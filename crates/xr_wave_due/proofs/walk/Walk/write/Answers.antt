@@ -1,5 +1,5 @@
 -- The place that is written is visited.
-use Rattle.std.proofs.Common.{◌≡◌, ℕ, ◌+◌, ◌-◌, ◌%◌, ◌++◌, ◌∷◌, [], length, length-append, ap, sym, subst, arith}
+use Rattle.std.proofs.Common.{◌≡◌, ℕ, ◌+◌, ◌-◌, ◌++◌, ◌∷◌, [], length, length-append, ap, sym, subst, arith}
 use Rattle.xr_design.specs.declared.place.Place.{Place}
 use Rattle.xr_design.specs.Fits.{Fits}
 use Rattle.xr_design.specs.Job.{net_of}
@@ -37,8 +37,10 @@ settle-requires-clause-here c =
     (subst (λ (w : WaveformView). keeps ≡ keeps_there (view.job w) w.written (c.count.result - 1)) c.push.ensures
     c.keeps-keeps.ensures) in
     let visit = subst (λ p. IsVisited net p keeps calm old new) c.position_behind-position.ensures c.visit.ensures in
-    let walk = written_walk j (subst Fits c.circuit-circuit.ensures.job c.circuit-circuit.ensures.fits.fits_job) v.written x
-    net keeps calm old new c.requires.next c.requires.walk net_is kept c.tells_next-calm.ensures c.requires.agrees visit in
+    let walk = written_walk j (subst Fits c.circuit-circuit.ensures.job c.circuit-circuit.ensures.fits.fits_job)
+    v.written x
+    net keeps calm old new c.requires.next c.requires.walk net_is kept c.tells_next-calm.ensures c.requires.agrees
+    visit in
     subst (λ (w : WaveformView). IsWalkAt (view.job w) (shown_by (view.job w) new) w.written new new.replayed.step
     (c.position_behind-position.result + 1)) (sym c.push.ensures)
     (subst (λ p. IsWalkAt j (shown_by j new) (v.written ++ x ∷ []) new new.replayed.step (p + 1))

@@ -1,8 +1,10 @@
 -- The positions on which the recording acts.
-use Rattle.std.proofs.Common.{◌≡◌, ◌⊎◌, ℕ, ◌+◌, ◌-◌, ◌<◌, Bool, true, false, Contains, List, [], ◌∷◌, ◌++◌, length, slice_index, length-append, refl, sym, ◌∙◌, arith, subst, inl, ⊎_elim}
+use Rattle.std.proofs.Common.{◌≡◌, ℕ, ◌+◌, ◌<◌, Bool, true, false, Contains, List, [], ◌∷◌, ◌++◌, length}
+use Rattle.std.proofs.Common.{slice_index, length-append, refl, sym, ◌∙◌, arith, subst, inl, ⊎_elim}
 use Rattle.std.proofs.Math.ListN.{get_or-append}
 use Rattle.std.proofs.Math.Seq.{get_or-append_seam}
 use Rattle.std.proofs.lemmas.Bool.{cases_eq}
+use Rattle.std.proofs.lemmas.List.{get_or_default}
 use Rattle.xr_design.specs.declared.design.Driver.{Driver}
 use Rattle.xr_design.specs.declared.design.Driver.TheVariants.{Cell, Constant, Copy, Input, Register, Undriven}
 use Rattle.xr_design.specs.Job.{Job}
@@ -19,14 +21,14 @@ in_longer : (xs : List ℕ) (y p : ℕ) → Contains xs p → Contains (xs ++ y 
 in_longer xs y p (k, less, is) = (
   k,
   (let long = length-append xs (y ∷ []) in omega (arith, long, less)),
-  get_or-append xs (y ∷ []) 0 k less ∙ is,
+  get_or-append xs (y ∷ []) p k less ∙ is,
 )
 
 at_last : (xs : List ℕ) (y : ℕ) → Contains (xs ++ y ∷ []) y
 at_last xs y = (
   length xs,
   (let long = length-append xs (y ∷ []) in omega (arith, long)),
-  get_or-append_seam xs y [] 0,
+  get_or-append_seam xs y [] y,
 )
 
 pub source_more : (j : Job) (end : ℕ) (sources : List ℕ) → end < j.width → AreSources j end sources
@@ -49,7 +51,8 @@ no_source : (b : Bool) → b ≡ false → b ≡ true → ⊥
 no_source true isnt is = cc
 no_source false isnt is = cc
 
-pub source_same : (j : Job) (end : ℕ) (sources : List ℕ) → is_source (driver_on j end) ≡ false → AreSources j end sources
+pub source_same : (j : Job) (end : ℕ) (sources : List ℕ) → is_source (driver_on j end) ≡ false
+    → AreSources j end sources
     → AreSources j (end + 1) sources
 source_same j end sources none are = record {
   within = are.within;
@@ -84,14 +87,15 @@ pub sources_more : (j : Job) (step : ℕ) (sources : List ℕ) (n : ℕ) (old ne
     → IsRecordedOn j step (net_on j (slice_index sources n)) (driver_on j (slice_index sources n)))
     → AreSourcesDue j step sources n old → AreSourcesDue j step sources (n + 1) new
 sources_more j step sources n old new more here due = λ i less none. ⊎_elim
-    (λ (same : i ≡ n). subst (λ k. IsRecordedOn j step (net_on j (slice_index sources k)) (driver_on j (slice_index sources k)))
+    (λ (same : i ≡ n). subst (λ k. IsRecordedOn j step (net_on j (slice_index sources k))
+    (driver_on j (slice_index sources k)))
     (sym same) (here (subst (λ k. is_due new (slice_index sources k) ≡ false) same none)))
     (λ (other : i ≡ n → ⊥). due i (omega (arith, less, other))
     (clear_before old new (slice_index sources i) more none)) (cases_eq i n)
 
 by_source : {P : Type 0} (b : Bool) → (b ≡ true → P) → (b ≡ false → P) → P
-by_source true yes no = yes refl
-by_source false yes no = no refl
+by_source true held lacks = held refl
+by_source false held lacks = lacks refl
 
 -- Once all sources are, so is every position.
 pub all_stirred : (j : Job) (step : ℕ) (sources due : List ℕ) → AreSources j j.width sources
@@ -101,8 +105,10 @@ all_stirred j step sources due are marked = λ p low none. by_source (is_source 
     (λ (isnt : is_source (driver_on j p) ≡ false). other_unstirred j step (net_on j p) (driver_on j p) isnt)
   where
     there : (p : ℕ) → is_due due p ≡ false → Contains sources p → IsRecordedOn j step (net_on j p) (driver_on j p)
-    there p none (k, less, is) = subst (λ q. IsRecordedOn j step (net_on j q) (driver_on j q)) is
-        (marked k less (subst (λ q. is_due due q ≡ false) (sym is) none))
+    there p none (k, less, is) =
+        let here : slice_index sources k ≡ p = get_or_default sources k 0 p less ∙ is in
+        subst (λ q. IsRecordedOn j step (net_on j q) (driver_on j q)) here
+        (marked k less (subst (λ q. is_due due q ≡ false) (sym here) none))
 
 -- At first there is none.
 pub no_sources : (j : Job) → AreSources j 0 []
