@@ -39,8 +39,8 @@ pub struct Walk<'a> {
 }
 
 impl<'a> Walk<'a> {
-    /// That of a circuit of which nothing is written. Takes 18 bytes for each net, 4 more for one on which the recording
-    /// acts, and 4 for each pin; on the way 16 more for each pin.
+    /// That of a circuit of which nothing is written. Takes 18 bytes for each net, 4 more for one on which the
+    /// recording acts, and 4 for each pin; on the way 16 more for each pin.
     pub fn new(
         alloc: Global,
         circuit: &Circuit<'_>,
