@@ -73,8 +73,8 @@ pub record IsLimit (limit : ℕ) : Type 0 where
   pub some : 0 < limit
   pub few : limit ≤ 100000
 
--- It is of a circuit that fits and has at most 2^27 places, a history of its job and a limit; it is sound, and its lines
--- yield it.
+-- It is of a circuit that fits and has at most 2^27 places, a history of its job and a limit; it is sound, and its
+-- lines yield it.
 pub record IsWave (c : Contents) : Type 0 where
   pub fits : PartsFit c.design c.order c.stim
   pub few : places_of (job c) ≤ 2 ^ 27
@@ -83,9 +83,9 @@ pub record IsWave (c : Contents) : Type 0 where
   pub holds : Holds (job c) c.limit (shown_in c) c.written c.lines
 
 -- The same of a wave beside which a walk knows what is due ahead.
-pub record IsWaveAt (c : Contents) (walk : Walk) : Type 0 where
+pub record IsWaveAt (c : Contents) (beside : Walk) : Type 0 where
   pub wave : IsWave c
-  pub walk : IsWalk (job c) c.written walk
+  pub walk : IsWalk (job c) c.written beside
 
 -- The number of the next place, and the class of a place.
 abbrev pub next_number : Contents → ℕ

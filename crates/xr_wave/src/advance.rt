@@ -5,7 +5,8 @@ ghost use Rattle.xr_design.specs.declared.waveform.Mark.TheVariants.{Certain};
 ghost use Rattle.xr_design.specs.Waveform.{written_at};
 ghost use Rattle.xr_model.specs.Sound.{IsOptimistic};
 ghost use Rattle.xr_model.specs.Yields.{carried_of, certain_bit, flipped_value};
-ghost use Rattle.xr_wave.specs.Advance.{Contradicts, GoesOn, IsAdvanced, IsObjected, IsPlain, Reports, plain_written, with_written};
+ghost use Rattle.xr_wave.specs.Advance.{Contradicts, GoesOn, IsAdvanced, IsObjected, IsPlain, Reports, plain_written};
+ghost use Rattle.xr_wave.specs.Advance.{with_written};
 ghost use Rattle.xr_wave.specs.Contents.{IsWave, next_number, next_seen, shown_in};
 ghost use Rattle.xr_wave.specs.Token.{HasNext};
 
@@ -78,7 +79,7 @@ impl<'a> Wave<'a> {
         'runs: while more {
             let (next, some) = wave.skip_run();
             wave = next;
-            more = some && has_next(&wave);
+            more = has_more(&wave, some);
         }
         wave.find_next()
     }
@@ -89,6 +90,14 @@ fn has_next(wave: &Wave<'_>) -> bool
     ensures { IsTrue result ↔ HasNext wave.now }
 {
     wave.count() < count_places(&wave.circuit())
+}
+
+/// Whether there is one, where the last run had any.
+fn has_more(wave: &Wave<'_>, some: bool) -> bool
+    ensures some { IsTrue result → IsTrue some }
+    ensures next { IsTrue result → HasNext wave.now }
+{
+    some && has_next(wave)
 }
 
 /// Whether the class of the next place says what it is.

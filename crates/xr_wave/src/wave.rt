@@ -12,7 +12,9 @@ ghost use Rattle.xr_model.specs.Growth.{NextHolds};
 ghost use Rattle.xr_model.specs.Sound.{Sound};
 ghost use Rattle.xr_model.specs.Yields.{Yields};
 ghost use Rattle.xr_wave.specs.Advance.{GoesOn, with_written};
-ghost use Rattle.xr_wave.specs.Contents.{FromWithin, IsLimit, IsReached, IsWave, IsWritten, arguments_in, class_in, job, next_number, next_place, next_seen, nothing_written, rule_in, shown_in, written_of};
+ghost use Rattle.xr_wave.specs.Contents.{FromWithin, IsLimit, IsReached, IsWave, IsWritten, arguments_in, class_in};
+ghost use Rattle.xr_wave.specs.Contents.{job, next_number, next_place, next_seen, nothing_written, rule_in, shown_in};
+ghost use Rattle.xr_wave.specs.Contents.{written_of};
 ghost use Rattle.xr_wave_bytes.specs.Kept.{ValuesAgree};
 ghost use Rattle.xr_wave_bytes.specs.View as view;
 ghost use Rattle.xr_wave_bytes.specs.View.{HasMore, and_one, and_repeated, next_class};
@@ -60,7 +62,8 @@ impl<'a> Model for Wave<'a> {
 
 impl<'a> Wave<'a> {
     /// A wave of which nothing is written. `limit` is how many clauses the log of a licence has, 1 to 100,000. Takes a
-    /// byte for each place, 34 bytes for each net, 12 to 28 for each pin, and on the way 16 more for each pin.
+    /// byte for each place, 34 bytes for each net, 4 more for one on which the recording acts, 12 to 28 for each pin,
+    /// and on the way 16 more for each pin.
     pub fn new(
         alloc: Global,
         design: &'a Design,
@@ -297,8 +300,8 @@ impl<'a> Wave<'a> {
         self
     }
 
-    /// Writes the places up to the next one that is due in the step, each as its net's place a step before; whether there
-    /// were any.
+    /// Writes the places up to the next one that is due in the step, each as its net's place a step before; whether
+    /// there were any.
     pub(crate) fn skip_run(mut self) -> (Wave<'a>, bool)
         requires { HasNext self }
         ensures goes { GoesOn self.entry result.0 }
@@ -347,7 +350,8 @@ impl<'a> Parts<'a> {
         self.walk.write(&mut self.waveform, written);
     }
 
-    /// Writes the places up to the next one that is due in the step, each as its net's place a step before; says how many.
+    /// Writes the places up to the next one that is due in the step, each as its net's place a step before; says how
+    /// many.
     fn skip(&mut self) -> usize
         requires next { HasMore self.old.waveform }
         requires held { IsHeldFor self.old.waveform self.old.walk }

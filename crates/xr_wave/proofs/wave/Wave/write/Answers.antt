@@ -23,7 +23,8 @@ push-requires-clause-walk c =
 pub push-requires-clause-agrees : goal.push-requires-clause-agrees
 push-requires-clause-agrees c =
     let x = c.args.written in
-    subst (λ parts. ValuesAgree (view.job parts.waveform) (parts.waveform.written ++ x ∷ [])) (sym c.deref_mut.ensures.value)
+    subst (λ parts. ValuesAgree (view.job parts.waveform) (parts.waveform.written ++ x ∷ []))
+    (sym c.deref_mut.ensures.value)
     (subst (λ (v : Contents). ValuesAgree (job v) (v.written ++ x ∷ [])) (sym c.self.view_is)
     (wave_agrees c.args.self x [] (subst IsWave c.self.view_is c.self.invariant.wave) c.requires.next))
 
@@ -35,7 +36,8 @@ invariant_of-self c =
     (sym c.self.view_is)
     (wave_grown c.args.self x [] (subst IsWave c.self.view_is c.self.invariant.wave) c.requires.next) in
     let written = subst (λ (lines : List ALine).
-    IsWave (contents_of (and_one own.waveform x) own.walk.replayed.history own.limit lines)) (append-nil own.lines.items)
+    IsWave (contents_of (and_one own.waveform x) own.walk.replayed.history own.limit lines))
+    (append-nil own.lines.items)
     grown in
     let parts = c.deref_mut.result.now in
     let new = c.push.new.self in

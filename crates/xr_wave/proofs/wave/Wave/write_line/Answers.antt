@@ -24,7 +24,8 @@ push-requires-2-clause-agrees c =
     (sym c.deref_mut.ensures.value) agrees in
     let second = subst (λ p. ValuesAgree (view.job p.waveform) (p.waveform.written ++ x ∷ []))
     (sym c.deref_mut-2.ensures.value) first in
-    subst (λ p. ValuesAgree (view.job p.waveform) (p.waveform.written ++ x ∷ [])) (sym c.deref_mut-3.ensures.value) second
+    subst (λ p. ValuesAgree (view.job p.waveform) (p.waveform.written ++ x ∷ [])) (sym c.deref_mut-3.ensures.value)
+    second
 
 pub push-requires-2-clause-walk : goal.push-requires-2-clause-walk
 push-requires-2-clause-walk c =
@@ -38,7 +39,11 @@ invariant_of-self-2 c =
     let x = c.args.written in
     let line = c.args.line in
     let right = subst IsWave c.self.view_is c.self.invariant.wave in
-    let grown = subst (λ (v : Contents). IsWave (record v { written = v.written ++ x ∷ []; lines = v.lines ++ line ∷ [] }))
+    let grown = subst (λ (v : Contents). IsWave (record v {
+      written = v.written ++ x ∷ [];
+      lines = v.lines ++ line
+          ∷ [];
+    }))
     (sym c.self.view_is)
     (wave_grown c.args.self x (line ∷ []) right
     (line_next c.args.self x line right c.requires.class c.requires.line c.requires.written c.requires.agrees)) in
@@ -56,4 +61,5 @@ invariant_of-self-2 c =
     let new = c.push-2.new.self in
     let pushed = c.push-2.ensures in
     wave_pushed (and_one parts.waveform x) new.waveform parts.walk new.walk parts.limit new.limit parts.lines.items
-    new.lines.items pushed.waveform pushed.history pushed.limit (ap (λ lines. lines.items) pushed.lines) third pushed.walk
+    new.lines.items pushed.waveform pushed.history pushed.limit (ap (λ lines. lines.items) pushed.lines) third
+    pushed.walk
