@@ -1,7 +1,7 @@
 -- Waves go on over runs of places that have what their nets' places a step before have.
 use Rattle.std.proofs.Common.{◌≡◌, ℕ, zero, suc, ◌+◌, ◌-◌, ◌<◌, ◌≤◌, Bool, true, false, Some, None, List, [], ◌∷◌}
 use Rattle.std.proofs.Common.{length}
-use Rattle.std.proofs.Common.{length-append, refl, sym, ap, arith, subst, if◌then◌else◌}
+use Rattle.std.proofs.Common.{◌∙◌, length-append, refl, sym, ap, arith, subst, if◌then◌else◌}
 use Rattle.std.specs.Prelude.{nat_lt}
 use Rattle.std.proofs.lemmas.Bool.{lt-ltb}
 use Rattle.xr_design.specs.declared.waveform.Written.{Written}
@@ -18,6 +18,7 @@ use Rattle.xr_model.specs.declared.line.Line.{Line as ALine}
 use Rattle.xr_wave_bytes.specs.View.{WaveformView}
 use Rattle.xr_wave.specs.Contents.{Contents, IsWave, class_in, class_or_done, contents_of, job, next_number, next_seen}
 use Rattle.xr_wave.specs.Contents.{shown_in}
+use Rattle.xr_wave.proofs.WaveGrowth.{plain_within}
 
 -- A class that needs no line says what its place is.
 no_line : (class : ClassByNumber) (j : Job) (limit : ℕ) (waveform : List Written) → NextLines j limit waveform [] class
@@ -125,3 +126,15 @@ fewer_left start c false false goes grows any next =
     let longer = goes_longer goes in
     let same = ap places_of (goes_in_job goes) in
     omega (arith, longer, same, next)
+
+-- So does a place that its class says, and a run behind it.
+pub fewer_behind : (start mid c : Contents) → IsPlain (next_seen start) → mid ≡ with_written start (plain_written start)
+    → GoesOn mid c
+    → places_of (job c) - length c.written < places_of (job start) - length start.written
+fewer_behind start mid c plain is goes =
+    let next = plain_within start plain in
+    let longer = goes_longer goes in
+    let grown : length mid.written ≡ length start.written + 1 =
+    ap (λ (v : Contents). length v.written) is ∙ length-append start.written (plain_written start ∷ []) in
+    let same : places_of (job c) ≡ places_of (job start) = ap places_of (goes_in_job goes ∙ ap job is) in
+    omega (arith, next, longer, grown, same)

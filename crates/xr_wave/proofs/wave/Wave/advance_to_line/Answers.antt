@@ -4,14 +4,19 @@ use Rattle.std.specs.Prelude.{Err, Result}
 use Rattle.xr_wave.specs.declared.advance.Optimistic.{Optimistic}
 use Rattle.xr_wave.specs.Advance.{GoesOn, IsObjected, more}
 use Rattle.xr_wave.specs.Contents.{Contents}
-use Rattle.xr_wave.proofs.GoingRuns.{goes_goes}
+use Rattle.xr_wave.proofs.GoingRuns.{fewer_behind, goes_goes}
 use Rattle.xr_wave.proofs.wave.Wave.advance_to_line.Goals as goal
 
 pub places-preserved : goal.places-preserved
 places-preserved c =
     goes_goes (subst (GoesOn c.args.self) (sym c.in_ok-written.ensures.ok)
     (more c.places.invariant (c.is_plain_next.ensures.plain.0 c.places-test.true)
-    (λ otherwise. let not = c.in_ok-written.ensures.optimistic.1 otherwise in cc))) c.skip-wave-2.ensures
+    (λ otherwise. let not = c.in_ok-written.ensures.optimistic.1 otherwise in cc))) c.skip-wave-in-places.ensures
+
+pub places-smaller : goal.places-smaller
+places-smaller c =
+    fewer_behind c.places.wave _ _ (c.is_plain_next.ensures.plain.0 c.places-test.true) c.in_ok-written.ensures.ok
+    c.skip-wave-in-places.ensures
 
 pub returns-in_err-written-clause-reported : goal.returns-in_err-written-clause-reported
 returns-in_err-written-clause-reported c =

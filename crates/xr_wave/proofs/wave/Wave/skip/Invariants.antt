@@ -1,5 +1,5 @@
 -- The wave goes on; where another run is looked for, there is a next place.
-use Rattle.std.proofs.Common.{◌+◌, ◌-◌, Bool, ℕ, length, if◌then◌else◌}
+use Rattle.std.proofs.Common.{◌+◌, ◌-◌, length, if◌then◌else◌}
 use Rattle.std.specs.Prelude.{IsTrue}
 use Rattle.xr_design.specs.Job.{places_of}
 use Rattle.xr_wave.specs.Advance.{GoesOn}

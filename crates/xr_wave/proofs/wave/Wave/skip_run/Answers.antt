@@ -1,11 +1,10 @@
 -- The wave goes on over a run, and stays a wave.
-use Rattle.std.proofs.Common.{◌≡◌, ℕ, ◌+◌, ◌∙◌, ◌<◌, List, length, ap, sym, subst, arith}
+use Rattle.std.proofs.Common.{◌≡◌, ℕ, ◌∙◌, ◌<◌, length, ap, sym, subst, arith}
 use Rattle.std.proofs.lemmas.Bool.{ltb-true}
-use Rattle.xr_model.specs.declared.line.Line.{Line as ALine}
-use Rattle.xr_quiet.specs.Runs.{IsRun, repeated}
+use Rattle.xr_quiet.specs.Runs.{repeated}
 use Rattle.xr_quiet.proofs.Sweeps.{repeated_long}
 use Rattle.xr_wave.specs.Advance.{GoesOn}
-use Rattle.xr_wave.specs.Contents.{Contents, IsWave, contents_of, job, shown_in}
+use Rattle.xr_wave.specs.Contents.{Contents, IsWave, contents_of}
 use Rattle.xr_wave.specs.Token.{HasNext}
 use Rattle.xr_wave_bytes.specs.View as view
 use Rattle.xr_wave_bytes.specs.View.{HasMore, WaveformView, and_repeated}
@@ -14,17 +13,17 @@ use Rattle.xr_wave.proofs.GoingRuns.{goes_pushed, run_goes, run_wave}
 use Rattle.xr_wave.proofs.WalkedWaves.{wave_pushed}
 use Rattle.xr_wave.proofs.wave.Wave.skip_run.Goals as goal
 
-pub skip-requires-clause-next : goal.skip-requires-clause-next
-skip-requires-clause-next c =
+pub skip-many-requires-clause-next : goal.skip-many-requires-clause-next
+skip-many-requires-clause-next c =
     subst (λ parts. HasMore parts.waveform) (sym c.deref_mut.ensures.value)
     (subst HasNext (sym c.self.view_is) c.requires)
 
-pub skip-requires-clause-walk : goal.skip-requires-clause-walk
-skip-requires-clause-walk c =
+pub skip-many-requires-clause-walk : goal.skip-many-requires-clause-walk
+skip-many-requires-clause-walk c =
     subst (λ parts. IsWalkOf parts.waveform parts.walk) (sym c.deref_mut.ensures.value) c.self.invariant.walk
 
-pub skip-requires-clause-held : goal.skip-requires-clause-held
-skip-requires-clause-held c =
+pub skip-many-requires-clause-held : goal.skip-many-requires-clause-held
+skip-many-requires-clause-held c =
     subst (λ parts. IsHeldFor parts.waveform parts.walk) (sym c.deref_mut.ensures.value) (record {
       fits = c.self.invariant.wave.fits.fits_job;
       limit = c.self.inside.parts.value.limit;

@@ -1,5 +1,5 @@
 -- The wave stays a wave.
-use Rattle.std.proofs.Common.{◌≡◌, List, ◌++◌, ◌∷◌, [], length, ap, sym, subst, append-nil}
+use Rattle.std.proofs.Common.{List, ◌++◌, ◌∷◌, [], ap, sym, subst, append-nil}
 use Rattle.xr_model.specs.declared.line.Line.{Line as ALine}
 use Rattle.xr_wave.specs.Contents.{Contents, IsWave, contents_of, job}
 use Rattle.xr_wave.specs.Token.{HasNext}
