@@ -11,4 +11,5 @@ pub fn quiet_by_hand()
     ensures restless { worked.RestlessIsDue }
     ensures moments { worked.MomentsAreDue }
     ensures second { worked.SecondIsDue }
+    ensures held { worked.HeldIsDue }
 {}
