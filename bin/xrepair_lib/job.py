@@ -8,7 +8,6 @@ import time
 
 HERE = os.path.dirname(os.path.dirname(os.path.realpath(__file__)))
 MARKER = "written-by-xrepair-quick"  # the file that lists what was written into a folder
-JOB_OPTIONS = ("rounds", "conflicts", "start", "levels", "undriven")  # of commands with a job; replay has no conflicts
 
 
 class Refused(Exception):
@@ -113,7 +112,7 @@ class Job:
         """The job with another value of an option."""
         return dataclasses.replace(self, options=tuple({**dict(self.options), name: value}.items()))
 
-    def words(self, options=JOB_OPTIONS):
+    def words(self, options=("rounds", "conflicts", "start", "undriven")):
         """The words that all commands have in common, the options of these names among them."""
         given = [word for name, value in self.options if name in options for word in (f"--{name}", value)]
         return ["--record", self.record, "--scope", self.scope, "--top", self.top, *given, *self.files]

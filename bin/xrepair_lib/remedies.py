@@ -93,14 +93,7 @@ def conflicts(number):
     return more
 
 
-def levels(run, job, answer):
-    """Where the simulator knows too much: with levels that hold, by which registers reset others in every world."""
-    if answer.status != 10 or job.option("levels", None):
-        return None, ""
-    return job.given("levels", "hold"), "an active set or reset and an open latch hold their register (--levels hold)"
-
-
-TRIED = (trim, settle, start, rounds(8), rounds(16), conflicts(10_000), conflicts(100_000), levels)
+TRIED = (trim, settle, start, rounds(8), rounds(16), conflicts(10_000), conflicts(100_000))
 
 
 def moves_alone(run, job):

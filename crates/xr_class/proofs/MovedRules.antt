@@ -6,7 +6,6 @@ use Rattle.std.proofs.lemmas.Bool.{and_parts, or_cases, eqb-true, ne_eqb}
 use Rattle.xr_cell.specs.declared.value.Value.{Value}
 use Rattle.xr_cell.specs.declared.value.Value.TheVariants.{Zero, One, X, Z}
 use Rattle.xr_cell.specs.Value.{bit_value, is_unknown}
-use Rattle.xr_cell.specs.Hold.{hold}
 use Rattle.xr_cell.specs.Next.{next}
 use Rattle.xr_design.specs.declared.design.Driver.{Driver}
 use Rattle.xr_design.specs.declared.design.Driver.TheVariants.{Cell, Register}
@@ -19,7 +18,7 @@ use Rattle.xr_design.specs.Job.{Job, at, net_of, primitive_of, step_of}
 use Rattle.xr_design.specs.Order.{net_pins, position_of}
 use Rattle.xr_design.specs.Register.{has_unknown_clock, pins_at}
 use Rattle.xr_design.specs.Replay.{table_of}
-use Rattle.xr_design.specs.Rule.{as_values, held_or, register_rule, rule, rule_of}
+use Rattle.xr_design.specs.Rule.{as_values, register_rule, rule, rule_of}
 use Rattle.xr_design.proofs.Rules.{rule_reads}
 use Rattle.xr_model.specs.Assignment.{assigned, for_every}
 use Rattle.xr_model.specs.Class.{are_equal, is_carried_on, class_of, is_bit, is_free, is_local, is_never_unknown}
@@ -184,18 +183,12 @@ cell_moves j c place back s t net table pins one driver same early late moved =
     ∙ ap (table_of j.udps table) (pins_moved j c early late s t pins one.next moved same)
     ∙ sym (rule_here j c (assigned c early) back t net (Cell table pins) one.back_step one.back_net driver)
 
--- What a register makes of values at its pins, and of its own.
-abbrev made : Job → Latching → List Value → List Value → Value → Value
-made j latching old new kept =
-    held_or j.levels (hold (primitive_of j.udps latching.udp) new)
-    (next (primitive_of j.udps latching.udp) latching.clocks old new kept)
-
 -- What a register gives, by the certain values of where it looks back, and by the bits there.
 abbrev looked : Job → Latching → List Value → List Value → Value → List Value → List Value → Value → Value
 looked j latching old new kept old_bits new_bits kept_bit =
     if has_unknown_clock latching.clocks old || has_unknown_clock latching.clocks new
-    then made j latching old new kept
-    else made j latching old_bits new_bits kept_bit
+    then next (primitive_of j.udps latching.udp) latching.clocks old new kept
+    else next (primitive_of j.udps latching.udp) latching.clocks old_bits new_bits kept_bit
 
 looked_at : (j : Job) (c : ℕ → Value) (bits : ℕ → Bool) (s new old net : ℕ) (latching : Latching) → (s == 0) ≡ false
     → (s == 1) ≡ false → s - 1 ≡ new → s - 2 ≡ old

@@ -15,11 +15,11 @@ use Rattle.xr_design.specs.declared.design.Table.{Table}
 use Rattle.xr_design.specs.Fits.{Fits, FitsDriver, FitsTable}
 use Rattle.xr_design.specs.Job.{Job, at, net_of, places_of, step_of}
 use Rattle.xr_design.specs.Order.{net_pins, position_of}
-use Rattle.xr_design.specs.Register.{has_uncertain_clock, pins_at, two_back}
+use Rattle.xr_design.specs.Register.{has_uncertain_clock, pins_at, two_back, updated}
 use Rattle.xr_design.specs.Replay.{table_of}
-use Rattle.xr_design.specs.Rule.{as_values, old_places, places_at, places_back, register_rule, remade, rule, rule_of}
+use Rattle.xr_design.specs.Rule.{as_values, old_places, places_at, places_back, register_rule, rule, rule_of}
 use Rattle.xr_design.specs.World.{decided}
-use Rattle.xr_design.proofs.Rules.{AgreeOn, remade_reads, spot}
+use Rattle.xr_design.proofs.Rules.{AgreeOn, spot, updated_reads}
 use Rattle.xr_design.proofs.TwoBack.{back_either}
 use Rattle.xr_model.specs.Assignment.{assigned}
 use Rattle.xr_wiring.specs.Wired.{placed}
@@ -148,14 +148,14 @@ rule_register j c bits place latching driver = ap (rule_of j c bits (step_of j p
 pub register_settled : (j : Job) (c : ℕ → Value) (place : ℕ) (latching : Latching) → 0 < step_of j place
     → j.driver (net_of j place) ≡ Register latching → SeesKnown j c (step_of j place) (net_of j place) latching
     → class_here j c place
-    ≡ plain_class (remade j c (c (at j (step_of j place - 1) (net_of j place))) (step_of j place) latching)
+    ≡ plain_class (updated j c (c (at j (step_of j place - 1) (net_of j place))) (step_of j place) latching)
 register_settled j c place latching later driver sees = class_given j c place _ (λ bits. (
     let step = step_of j place in
     let own = at j (step - 1) (net_of j place) in
     rule_register j c (assigned c bits) place latching driver
-    ∙ either_way (step == 0) (has_uncertain_clock j c step latching) _ (remade j c (c own) step latching) _
+    ∙ either_way (step == 0) (has_uncertain_clock j c step latching) _ (updated j c (c own) step latching) _
     (ne_eqb step 0 (λ e. omega (arith, e, later)))
-    (remade_reads j (as_values (assigned c bits)) c (bit_value (assigned c bits own)) (c own) step latching
+    (updated_reads j (as_values (assigned c bits)) c (bit_value (assigned c bits own)) (c own) step latching
     (back_agree j (as_values (assigned c bits)) c step latching.pins later
     (places_stand j c bits (step - 2) latching.pins sees.old))
     (places_stand j c bits (step - 1) latching.pins sees.new)

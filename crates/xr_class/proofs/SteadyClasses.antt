@@ -16,9 +16,8 @@ use Rattle.xr_design.specs.Circuit.{IsSpot, Reach}
 use Rattle.xr_design.specs.Fits.{Fits, Standing}
 use Rattle.xr_design.specs.Job.{Job, at, net_of, places_of, step_of}
 use Rattle.xr_design.specs.Order.{net_pins, position_of}
-use Rattle.xr_design.specs.Register.{had_uncertain_clock, has_uncertain_clock}
-use Rattle.xr_design.specs.Rule.{arguments, remade, rule}
-use Rattle.xr_design.proofs.LevelRule.{clock_never}
+use Rattle.xr_design.specs.Register.{has_uncertain_clock, updated}
+use Rattle.xr_design.specs.Rule.{arguments, rule}
 use Rattle.xr_design.proofs.Rules.{back_two, position_in, rule_reads}
 use Rattle.xr_model.specs.Assignment.{assigned, for_every}
 use Rattle.xr_model.specs.Class.{before, carried_or_line, is_carried_on, class_of, flipped, is_bit, is_carrier, is_free}
@@ -332,7 +331,7 @@ pub clock_certain : (j : Job) (c : ℕ → Value) (place s net : ℕ) (latching 
     → has_uncertain_clock j c s latching ≡ uncertain → uncertain ≡ false
 clock_certain j c place s net latching false later step_is net_is driver zero_is one_is free is = refl
 clock_certain j c place s net latching true later step_is net_is driver zero_is one_is free is =
-    absurd (not_constant j c place (remade j c (c (at j (s - 1) net)) s latching)
+    absurd (not_constant j c place (updated j c (c (at j (s - 1) net)) s latching)
     (λ bits. rule_here j c bits place s net (Register latching) step_is net_is driver
     ∙ stuck (s == 0) (has_uncertain_clock j c s latching) _ _ _ (ne_eqb s 0 (λ e. omega (arith, e, later))) is)
     zero_is one_is free)
@@ -345,16 +344,10 @@ register_on j fits c place spot latching is driver within same kinds none =
     let low = same.later in
     let back = before j place in
     let open_is = open_tests j fits c back within none in
-    let here = clock_certain j c place spot.step spot.net latching (has_uncertain_clock j c spot.step latching)
+    let clock = clock_certain j c place spot.step spot.net latching (has_uncertain_clock j c spot.step latching)
     (omega (arith, low)) (sym is.step) (sym is.net) driver (kinds.local false ∙ open_is.0)
     (kinds.local true ∙ open_is.1) (kinds.free ∙ open_is.2) refl in
-    let one = one_back j fits place spot is (omega (arith, low)) in
-    let earlier = clock_certain j c back (spot.step - 1) spot.net latching
-    (has_uncertain_clock j c (spot.step - 1) latching) (omega (arith, low)) one.back_step one.back_net driver
-    open_is.0 open_is.1 open_is.2 refl in
-    let clock : had_uncertain_clock j c spot.step latching ≡ false =
-    clock_never j c spot.step latching here earlier in
     ap (passes_on_of j c (class_of j c) place (step_of j place) (net_of j place)) (ap j.driver (sym is.net) ∙ driver)
-    ∙ ap (λ s. nat_lt 1 s && not (had_uncertain_clock j c s latching) && nets_keep j c (s - 1) (net_pins latching.pins))
+    ∙ ap (λ s. nat_lt 1 s && not (has_uncertain_clock j c s latching) && nets_keep j c (s - 1) (net_pins latching.pins))
     (sym is.step)
     ∙ (rw (lt-ltb 1 spot.step (omega (arith, low)), clock, same.new) refl)

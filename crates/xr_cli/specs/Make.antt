@@ -38,7 +38,6 @@ use Rattle.xr_set.specs.Command.{Command}
 use Rattle.xr_wave.specs.Contents.{Contents}
 use Rattle.xr_wave.specs.declared.advance.Optimistic.{Optimistic as Found}
 use Rattle.xr_words.specs.Words.{JobValues}
-use Rattle.xr_words.specs.declared.words.Levels.TheVariants.{Change}
 use Rattle.xr_words.specs.declared.words.Start.TheVariants.{Cold}
 use Rattle.xr_words.specs.declared.words.Undriven.TheVariants.{Released}
 
@@ -73,8 +72,7 @@ make_values words = record {
 
 -- ---- the made job
 
--- Its texts, read from no file, are of the module `made`, in a scope of that name, with four rounds, a cold start, and
--- levels that decide registers by change.
+-- Its texts, read from no file, are of the module `made`, in a scope of that name, with four rounds and a cold start.
 abbrev pub made_job : JobValues
 made_job = record {
   recording = [];
@@ -83,7 +81,6 @@ made_job = record {
   rounds = 4;
   places = place_limit;
   start = Cold;
-  levels = Change;
   undriven = Released;
   netlists = [];
 }

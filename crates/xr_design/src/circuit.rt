@@ -78,7 +78,7 @@ impl Circuit<'_> {
         if step > 1 {
             return Some(step - 2);
         }
-        match self.stim.rules.start {
+        match self.stim.start {
             StartRule::Cold => None,
             StartRule::Recorded => Some(0),
         }

@@ -40,7 +40,7 @@ pub fn with_starts(
         times: Items::from_vec(times),
         rounds: stim.rounds,
         inputs,
-        rules: stim.rules,
+        start: stim.start,
         starts: Items::from_vec(starts),
     })
 }

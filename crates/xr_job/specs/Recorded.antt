@@ -41,7 +41,7 @@ place_limit = 2 ^ 27
 abbrev pub IsJobStim : Design → Recording → Binding → ℕ → Rules → Stim → Type 0
 IsJobStim design recording binding rounds rules stim =
     IsStimOf (job_design rules.undriven design binding.bound) recording (holder_by rules.undriven design binding.bound)
-    rounds rules.registers stim
+    rounds rules.start stim
 
 -- The text says a recording, its variables are bound for at most so many places, and this is the stimulus that they
 -- give by the rules.

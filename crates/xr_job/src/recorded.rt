@@ -96,7 +96,7 @@ fn find_recording(
         &recording,
         holders.as_slice(),
         rounds,
-        rules.registers,
+        rules.start,
     )?;
     Ok(Recorded {
         recording,

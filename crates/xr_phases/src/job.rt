@@ -9,15 +9,14 @@ ghost use Rattle.xr_run.specs.Prepared.{Prepared};
 ghost use Rattle.xr_words.specs.Words.{job_values};
 ghost use Rattle.xr_phases.specs.Phases.{agreed_job, agreed_phases, itself, job_phases, netlist_phases};
 ghost use Rattle.xr_phases.specs.Phases.{recording_phases};
-ghost use Rattle.xr_phases.specs.Repair.{FitsParts, FitsPartsWithin, levels_of, register_rules_of, rule_of, rules_of};
-ghost use Rattle.xr_phases.specs.Repair.{undriven_rule_of};
+ghost use Rattle.xr_phases.specs.Repair.{FitsParts, FitsPartsWithin, rule_of, rules_of, undriven_rule_of};
 
 use crate::cause::Refused;
 use crate::judged::{compared, netlist_in, recorded_in};
 use crate::parts::{Agreed, Parts};
 use crate::pieces::names_of;
 use std::alloc::Global;
-use xr_design::{Levels, RegisterRules, StartRule};
+use xr_design::StartRule;
 use xr_job::{Netlist, Recorded, Rules};
 use xr_match::UndrivenRule;
 use xr_run::{Refusal, read_input, read_inputs};
@@ -123,26 +122,8 @@ fn rules_of(words: &JobWords<'_>) -> Rules
     ensures { result ≡ rules_of (job_values words.now) }
 {
     Rules {
-        registers: register_rules(words),
-        undriven: undriven_rule(words.undriven),
-    }
-}
-
-fn register_rules(words: &JobWords<'_>) -> RegisterRules
-    ensures { result ≡ register_rules_of (job_values words.now) }
-{
-    RegisterRules {
         start: start_rule(words.start),
-        levels: level_rule(words.levels),
-    }
-}
-
-fn level_rule(levels: xr_words::Levels) -> Levels
-    ensures { result ≡ levels_of levels }
-{
-    match levels {
-        xr_words::Levels::Change => Levels::Change,
-        xr_words::Levels::Hold => Levels::Hold,
+        undriven: undriven_rule(words.undriven),
     }
 }
 

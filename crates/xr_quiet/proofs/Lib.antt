@@ -1,7 +1,6 @@
 -- Proofs of the laws of quiet places.
 pub mod KeptValues
 pub mod Findings
-pub mod HeldFindings
 pub mod RegisterFindings
 pub mod QuietClasses
 pub mod QuietTests

@@ -11,16 +11,14 @@ use Rattle.xr_design.specs.declared.design.Driver.TheVariants.{Input, Undriven, 
 use Rattle.xr_design.specs.Fits.{Fits, FitsDriver, StandsBefore}
 use Rattle.xr_design.specs.Job.{Job, at, net_of, places_of, step_of}
 use Rattle.xr_design.specs.Order.{arguments_of_driver, net_pins, position_of}
-use Rattle.xr_design.specs.Register.{had_uncertain_clock, has_uncertain_clock}
-use Rattle.xr_design.specs.declared.stim.Levels.{Levels}
-use Rattle.xr_design.proofs.LevelRule.{had_same}
+use Rattle.xr_design.specs.Register.{has_uncertain_clock}
 use Rattle.xr_design.specs.Rule.{old_places, places_at}
 use Rattle.xr_design.proofs.Numbers.{number_of_place_at}
 use Rattle.xr_design.proofs.Rules.{AgreeBelow, agree_on, clock_reads, new_below, old_below, position_in, spot}
 use Rattle.xr_model.specs.Class.{before, class_of, is_never_unknown, keeps}
 use Rattle.xr_model.specs.declared.class.ClassByNumber.{ClassByNumber}
 use Rattle.xr_model.proofs.ClassesBefore.{class_local, never_unknown_same}
-use Rattle.xr_quiet.specs.Due.{is_clocked, is_quiet, is_quiet_of}
+use Rattle.xr_quiet.specs.Due.{is_quiet, is_quiet_of}
 use Rattle.xr_quiet.proofs.KeptValues.{Earlier, earlier_here}
 use Rattle.xr_quiet.proofs.QuietTests.{both_tests}
 
@@ -57,14 +55,8 @@ back_in_row j fits place within later =
     row_before j.width (step_of j place) (position_of j.order (net_of j place)) later
     (position_in j fits (net_of j place) (spot j fits place within).net)
 
-own_clock : (levels : Levels) (a b p q u v : Bool) → a ≡ b → p ≡ q → u ≡ v → is_clocked levels a p u ≡ true
-    → is_clocked levels b q v ≡ true
-own_clock levels a b p q u v ab pq uv is = rw (← ab, ← pq, ← uv) is
-
-after_one : (step : ℕ) → (step == 0) ≡ false → not (step == 1) ≡ true → 1 < step
-after_one zero later more = cc
-after_one (suc zero) later more = cc
-after_one (suc (suc step)) later more = omega arith
+own_clock : (a b u v : Bool) → a ≡ b → u ≡ v → not a || not u ≡ true → not b || not v ≡ true
+own_clock a b u v ab uv is = rw (← ab, ← uv) is
 
 row_end : (w step : ℕ) → step * w + 0 ≡ step * w
 row_end w step = omega arith
@@ -94,8 +86,7 @@ quiet_along_of j fits c d e g place (Cell table pins) within later agree driver 
 quiet_along_of j fits c d e g place (Register latching) within later agree driver still back quiet =
     let step = step_of j place in
     let parts = and_parts (not (step == 1) && list_all (keeps j c e (step - 1)) (net_pins latching.pins))
-    (is_clocked j.levels (has_uncertain_clock j c step latching) (had_uncertain_clock j c step latching)
-    (is_unknown (c (before j place)))) quiet in
+    (not (has_uncertain_clock j c step latching) || not (is_unknown (c (before j place)))) quiet in
     let first = and_parts (not (step == 1)) (list_all (keeps j c e (step - 1)) (net_pins latching.pins)) parts.0 in
     let row : AgreeBelow c d (step * j.width + 0) = subst (AgreeBelow c d) (sym (row_end j.width step)) agree in
     let clock : has_uncertain_clock j c step latching ≡ has_uncertain_clock j d step latching =
@@ -105,15 +96,12 @@ quiet_along_of j fits c d e g place (Register latching) within later agree drive
     (agree_on c d (step * j.width + 0) (places_at j (step - 1) latching.pins) row
     (new_below j fits step 0 latching driver later)) in
     both_tests (not (step == 1) && list_all (keeps j d g (step - 1)) (net_pins latching.pins))
-    (is_clocked j.levels (has_uncertain_clock j d step latching) (had_uncertain_clock j d step latching)
-    (is_unknown (d (before j place))))
+    (not (has_uncertain_clock j d step latching) || not (is_unknown (d (before j place))))
     (both_tests (not (step == 1)) (list_all (keeps j d g (step - 1)) (net_pins latching.pins)) first.0
     (all_still j c d e g (step - 1) (net_pins latching.pins)
     (back_still j c d e g step (net_pins latching.pins) back driver.nets) first.1))
-    (own_clock j.levels (has_uncertain_clock j c step latching) (has_uncertain_clock j d step latching)
-    (had_uncertain_clock j c step latching) (had_uncertain_clock j d step latching) (is_unknown (c (before j place)))
-    (is_unknown (d (before j place))) clock
-    (had_same j fits c d step 0 latching driver (after_one step later first.0) row)
+    (own_clock (has_uncertain_clock j c step latching) (has_uncertain_clock j d step latching)
+    (is_unknown (c (before j place))) (is_unknown (d (before j place))) clock
     (ap is_unknown (agree (before j place) (back_in_row j fits place within later))) parts.1)
 
 not_true : (b : Bool) → not b ≡ true → b ≡ false

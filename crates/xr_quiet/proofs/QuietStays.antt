@@ -11,15 +11,12 @@ use Rattle.xr_design.specs.declared.design.Driver.TheVariants.{Cell, Constant, C
 use Rattle.xr_design.specs.declared.design.Latching.{Latching}
 use Rattle.xr_design.specs.declared.design.Pin.{Pin}
 use Rattle.xr_design.specs.declared.design.Table.{Table}
-use Rattle.xr_design.specs.declared.stim.Levels.{Levels}
-use Rattle.xr_design.specs.declared.stim.Levels.TheVariants.{Change, Hold}
 use Rattle.xr_design.specs.Fits.{Fits, FitsDriver}
 use Rattle.xr_design.specs.Job.{Job, net_of, places_of, step_of}
 use Rattle.xr_design.specs.Order.{net_pins}
-use Rattle.xr_design.specs.Register.{had_uncertain_clock, has_uncertain_clock, has_unknown_clock, old_pins, pins_at}
+use Rattle.xr_design.specs.Register.{has_uncertain_clock, has_unknown_clock, old_pins, pins_at}
 use Rattle.xr_design.specs.Rule.{arguments, rule}
 use Rattle.xr_design.proofs.Rules.{rule_reads, spot}
-use Rattle.xr_design.proofs.LevelRule.{clock_never}
 use Rattle.xr_design.proofs.TwoBack.{old_later}
 use Rattle.xr_model.specs.Assignment.{assigned, for_every}
 use Rattle.xr_model.specs.Class.{before, class_of, flipped, is_bit, is_never_unknown, keeps, passes_on, passes_on_of}
@@ -32,7 +29,7 @@ use Rattle.xr_model.proofs.Classes.{ClassSays, all_at, class_says}
 use Rattle.xr_class.specs.Facts.{AgreeBefore}
 use Rattle.xr_class.specs.Keeps.{nets_keep}
 use Rattle.xr_class.proofs.MovedRules.{SameAt, values_moved}
-use Rattle.xr_quiet.specs.Due.{IsDue, IsStirred, driver_of, is_clocked}
+use Rattle.xr_quiet.specs.Due.{IsDue, IsStirred, driver_of}
 use Rattle.xr_quiet.specs.Ahead.{CalmLaw, CellLaw, IsAhead, IsCarriedOrLocal, IsStirredFrom, StaysLaw, is_calm}
 use Rattle.xr_quiet.specs.Ahead.{is_calm_of, taken_on}
 use Rattle.xr_quiet.specs.Laws.{Rests}
@@ -40,7 +37,7 @@ use Rattle.xr_quiet.proofs.KeptValues.{Earlier, kept_values}
 use Rattle.xr_quiet.proofs.QuietAhead.{taken_keeps}
 use Rattle.xr_quiet.proofs.QuietAlong.{back_low}
 use Rattle.xr_quiet.proofs.QuietClasses.{calm_cell, keeps_law}
-use Rattle.xr_quiet.proofs.QuietTests.{all_pass, both_tests, had_one, quiet_later, quiet_tested, said}
+use Rattle.xr_quiet.proofs.QuietTests.{all_pass, both_tests, quiet_later, quiet_tested, said}
 
 -- Where the place before stands.
 record Before (j : Job) (place : ℕ) : Type 0 where
@@ -85,29 +82,10 @@ clocks_stay j c s t latching more next same certain_is =
     (ap (has_unknown_clock latching.clocks) (old_later j c s latching.pins more) ∙ back)
     (ap (has_unknown_clock latching.clocks) (values_moved j c (s - 1) (s - 2) latching.pins same) ∙ back)
 
-not_true : (b : Bool) → not b ≡ true → b ≡ false
-not_true false h = refl
-not_true true h = cc
-
--- What a test of its clocks says of them.
-pub unknown_clocked : (levels : Levels) (a b : Bool) → is_clocked levels a a b ≡ true → b ≡ true → a ≡ false
-unknown_clocked Change a b test unknown = known_or_clocked a b test unknown
-  where
-    known_or_clocked : (a b : Bool) → not a || not b ≡ true → b ≡ true → a ≡ false
-    known_or_clocked false b either unknown = refl
-    known_or_clocked true true either unknown = cc
-    known_or_clocked true false either unknown = cc
-unknown_clocked Hold a b test unknown = not_true a test
-
-held_clocked : (levels : Levels) (a b : Bool) → is_clocked levels a a b ≡ true → levels ≡ Hold → a ≡ false
-held_clocked Change a b test holds = cc
-held_clocked Hold a b test holds = not_true a test
-
-clocked_on : (levels : Levels) (a had u v : Bool) → (a ≡ true → had ≡ true) → v ≡ u → is_clocked levels a had u ≡ true
-    → is_clocked levels a a v ≡ true
-clocked_on Change a had u v more same test = ap (λ w. not a || not w) same ∙ test
-clocked_on Hold false had u v more same test = refl
-clocked_on Hold true had u v more same test = ap not (sym (more refl)) ∙ test
+known_or_clocked : (a b : Bool) → not a || not b ≡ true → b ≡ true → a ≡ false
+known_or_clocked false b either unknown = refl
+known_or_clocked true true either unknown = cc
+known_or_clocked true false either unknown = cc
 
 -- A register.
 taken_all : (j : Job) (c : ℕ → Value) (first step : ℕ) (nets : List ℕ) → Earlier j first step nets
@@ -150,7 +128,6 @@ no_clock : (j : Job) → Fits j → (c : ℕ → Value) (first place : ℕ) (lat
     → (IsStirredFrom j c first place → ⊥) → driver_of j place ≡ Register latching
     → (1 < step_of j place) × (is_unknown (c (before j place)) ≡ true
     → has_uncertain_clock j c (step_of j place) latching ≡ false)
-    × (j.levels ≡ Hold → had_uncertain_clock j c (step_of j place) latching ≡ false)
 no_clock j fits c first place latching ahead agree some calm still driver =
     let within = ahead.within in
     let s = step_of j place in
@@ -159,8 +136,7 @@ no_clock j fits c first place latching ahead agree some calm still driver =
     let later : (s == 0) ≡ false = ne_eqb s 0 some in
     let there : driver_of j back ≡ Register latching = ap j.driver stands.net ∙ driver in
     let parts = and_parts (not (step_of j back == 0))
-    (is_clocked j.levels (has_uncertain_clock j c (step_of j back) latching)
-    (has_uncertain_clock j c (step_of j back) latching) (is_unknown (c back)))
+    (not (has_uncertain_clock j c (step_of j back) latching) || not (is_unknown (c back)))
     (calm_said j c back (Register latching) there calm) in
     let more : 1 < s = after_one s some (ap (λ t. not (t == 0)) (sym stands.step) ∙ parts.0) in
     let two : s - 1 - 1 ≡ s - 2 = omega arith in
@@ -176,12 +152,7 @@ no_clock j fits c first place latching ahead agree some calm still driver =
     (kept_values j c first (s - 1) (net_pins latching.pins) agree low kept) in (
       more,
       λ unknown. clocks_stay j c s (step_of j back) latching more stands.step same
-          (unknown_clocked j.levels (has_uncertain_clock j c (step_of j back) latching) (is_unknown (c back)) parts.1
-          unknown),
-      λ holds. (let there = held_clocked j.levels (has_uncertain_clock j c (step_of j back) latching)
-          (is_unknown (c back)) parts.1 holds in
-          clock_never j c s latching (clocks_stay j c s (step_of j back) latching more stands.step same there)
-          (ap (λ k. has_uncertain_clock j c k latching) (sym stands.step) ∙ there)),
+          (known_or_clocked (has_uncertain_clock j c (step_of j back) latching) (is_unknown (c back)) parts.1 unknown),
     )
 
 pub stays_law : StaysLaw
@@ -197,9 +168,6 @@ stays_law j c first place fits ahead agree some calm still (IsDue.restless table
 stays_law j c first place fits ahead agree some calm still (IsDue.unclocked latching is clock own) =
     not_false (has_uncertain_clock j c (step_of j place) latching) clock
     ((no_clock j fits c first place latching ahead agree some calm still is).1 own)
-stays_law j c first place fits ahead agree some calm still (IsDue.held latching is holds clock) =
-    not_false (had_uncertain_clock j c (step_of j place) latching) clock
-    ((no_clock j fits c first place latching ahead agree some calm still is).2 holds)
 
 -- A quiet place is calm.
 calm_of : (j : Job) → Fits j → (c : ℕ → Value) (place : ℕ) (driver : Driver) → place < places_of j
@@ -217,14 +185,10 @@ calm_of j fits c place (Register latching) within agree rests same is =
     let s = step_of j place in
     let later = quiet_later j c (class_of j c) place rests in
     let clock = (and_parts (not (s == 1) && nets_keep j c (s - 1) (net_pins latching.pins))
-    (is_clocked j.levels (has_uncertain_clock j c s latching) (had_uncertain_clock j c s latching)
-    (is_unknown (c (before j place))))
+    (not (has_uncertain_clock j c s latching) || not (is_unknown (c (before j place))))
     (said j c (class_of j c) place (Register latching) is ((quiet_tested j c (class_of j c) place).1 rests))).1 in
-    both_tests (not (s == 0))
-    (is_clocked j.levels (has_uncertain_clock j c s latching) (has_uncertain_clock j c s latching)
-    (is_unknown (c place))) (ap not later)
-    (clocked_on j.levels (has_uncertain_clock j c s latching) (had_uncertain_clock j c s latching)
-    (is_unknown (c (before j place))) (is_unknown (c place)) (had_one j c s latching) (ap is_unknown same) clock)
+    both_tests (not (s == 0)) (not (has_uncertain_clock j c s latching) || not (is_unknown (c place))) (ap not later)
+    (ap (λ v. not (has_uncertain_clock j c s latching) || not (is_unknown v)) same ∙ clock)
 
 pub calm_law : CalmLaw
 calm_law j c place fits within agree rests agrees =

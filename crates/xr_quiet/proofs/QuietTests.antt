@@ -7,15 +7,12 @@ use Rattle.xr_cell.specs.declared.value.Value.{Value}
 use Rattle.xr_cell.specs.Value.{is_unknown}
 use Rattle.xr_design.specs.declared.design.Driver.{Driver}
 use Rattle.xr_design.specs.declared.design.Driver.TheVariants.{Input, Undriven, Constant, Copy, Cell, Register}
-use Rattle.xr_design.specs.declared.stim.Levels.{Levels}
-use Rattle.xr_design.specs.declared.stim.Levels.TheVariants.{Change, Hold}
 use Rattle.xr_design.specs.Job.{Job, net_of, step_of}
 use Rattle.xr_design.specs.Order.{net_pins}
-use Rattle.xr_design.specs.Register.{also_before, had_uncertain_clock, has_uncertain_clock}
-use Rattle.xr_design.specs.declared.design.Latching.{Latching}
+use Rattle.xr_design.specs.Register.{has_uncertain_clock}
 use Rattle.xr_model.specs.Class.{before, is_never_unknown, keeps}
 use Rattle.xr_model.specs.declared.class.ClassByNumber.{ClassByNumber}
-use Rattle.xr_quiet.specs.Due.{IsDue, IsQuiet, IsStirred, driver_of, is_clocked, is_first_round, is_quiet, is_quiet_of}
+use Rattle.xr_quiet.specs.Due.{IsDue, IsQuiet, IsStirred, driver_of, is_first_round, is_quiet, is_quiet_of}
 use Rattle.xr_quiet.specs.Due.{is_recorded_same}
 use Rattle.xr_quiet.specs.Laws.{TestLaw}
 use Rattle.xr_model.proofs.Classes.{in_front, behind}
@@ -60,37 +57,6 @@ differ : (b : Bool) → b ≡ true → b ≡ false → ⊥
 differ true is isnt = cc
 differ false is isnt = cc
 
-clocked_test : (levels : Levels) (uncertain had unknown : Bool) → (uncertain ≡ true → unknown ≡ true → ⊥)
-    → (levels ≡ Hold → had ≡ true → ⊥) → is_clocked levels uncertain had unknown ≡ true
-clocked_test Change uncertain had unknown free held =
-    one_of (not uncertain) (not unknown) (λ a b. free (turned uncertain a) (turned unknown b))
-clocked_test Hold uncertain had unknown free held = no_other had (held refl)
-
-not_test : (b : Bool) → b ≡ true → not b ≡ true → ⊥
-not_test true is isnt = cc
-not_test false is isnt = cc
-
-neither : (a b : Bool) → a || b ≡ true → (a ≡ true → ⊥) → b ≡ false → ⊥
-neither true b either none other = none refl
-neither false b either none other = cc
-
-pub unclocked_test : (levels : Levels) (uncertain had unknown : Bool) → (uncertain ≡ true → had ≡ true)
-    → is_clocked levels uncertain had unknown ≡ true → uncertain ≡ true → unknown ≡ true → ⊥
-unclocked_test Change uncertain had unknown more test clock own =
-    neither (not uncertain) (not unknown) test (not_test uncertain clock) (ap not own)
-unclocked_test Hold uncertain had unknown more test clock own = not_test had (more clock) test
-
-pub held_test : (levels : Levels) (uncertain had unknown : Bool) → is_clocked levels uncertain had unknown ≡ true
-    → levels ≡ Hold → had ≡ true → ⊥
-held_test Change uncertain had unknown test holds clock = cc
-held_test Hold uncertain had unknown test holds clock = not_test had clock test
-
--- Where its clock is uncertain it had an uncertain one.
-pub had_one : (j : Job) (c : ℕ → Value) (step : ℕ) (latching : Latching) → has_uncertain_clock j c step latching ≡ true
-    → had_uncertain_clock j c step latching ≡ true
-had_one j c step latching here =
-    ap (λ b. b || also_before j.levels (has_uncertain_clock j c (step - 1) latching)) here
-
 quiet_by : (j : Job) (c : ℕ → Value) (class : ℕ → ClassByNumber) (place : ℕ) (driver : Driver)
     → driver_of j place ≡ driver
     → IsQuiet j c class place → is_quiet_of j c class place (step_of j place) (net_of j place) driver ≡ true
@@ -111,16 +77,14 @@ quiet_by j c class place (Cell table pins) is quiet =
     (no_test (is_never_unknown j c (before j place)) (λ x. quiet (IsDue.restless table pins is x)))
 quiet_by j c class place (Register latching) is quiet =
     both_tests (not (step_of j place == 1) && list_all (keeps j c class (step_of j place - 1)) (net_pins latching.pins))
-    (is_clocked j.levels (has_uncertain_clock j c (step_of j place) latching)
-    (had_uncertain_clock j c (step_of j place) latching) (is_unknown (c (before j place))))
+    (not (has_uncertain_clock j c (step_of j place) latching) || not (is_unknown (c (before j place))))
     (both_tests (not (step_of j place == 1)) (list_all (keeps j c class (step_of j place - 1)) (net_pins latching.pins))
     (no_other (step_of j place == 1) (λ one. quiet (IsDue.second latching is (eqb-true (step_of j place) 1 one))))
     (all_pass (keeps j c class (step_of j place - 1)) (net_pins latching.pins)
     (λ net at moves. quiet (IsDue.stirred (IsStirred.looked latching net is at moves)))))
-    (clocked_test j.levels (has_uncertain_clock j c (step_of j place) latching)
-    (had_uncertain_clock j c (step_of j place) latching) (is_unknown (c (before j place)))
-    (λ clock own. quiet (IsDue.unclocked latching is clock own))
-    (λ holds clock. quiet (IsDue.held latching is holds clock)))
+    (one_of (not (has_uncertain_clock j c (step_of j place) latching)) (not (is_unknown (c (before j place))))
+    (λ clock own. quiet (IsDue.unclocked latching is (turned (has_uncertain_clock j c (step_of j place) latching) clock)
+    (turned (is_unknown (c (before j place))) own))))
 
 test_quiet : (j : Job) (c : ℕ → Value) (class : ℕ → ClassByNumber) (place : ℕ) → IsQuiet j c class place
     → is_quiet j c class place ≡ true
@@ -138,6 +102,14 @@ said j c class place driver is test =
     ap (is_quiet_of j c class place (step_of j place) (net_of j place)) (sym is)
     ∙ (and_parts (not (step_of j place == 0))
     (is_quiet_of j c class place (step_of j place) (net_of j place) (driver_of j place)) test).1
+
+not_test : (b : Bool) → b ≡ true → not b ≡ true → ⊥
+not_test true is isnt = cc
+not_test false is isnt = cc
+
+neither : (a b : Bool) → a || b ≡ true → (a ≡ true → ⊥) → b ≡ false → ⊥
+neither true b either none other = none refl
+neither false b either none other = cc
 
 -- Where it passes nothing is stirred, and the place isn't due.
 stirred_test : (j : Job) (c : ℕ → Value) (class : ℕ → ClassByNumber) (place : ℕ) → is_quiet j c class place ≡ true
@@ -157,8 +129,8 @@ stirred_test j c class place test (IsStirred.pin table pins net is at moves) =
 stirred_test j c class place test (IsStirred.looked latching net is at moves) =
     let s = step_of j place in
     let parts = and_parts (not (s == 1) && list_all (keeps j c class (s - 1)) (net_pins latching.pins))
-    (is_clocked j.levels (has_uncertain_clock j c s latching) (had_uncertain_clock j c s latching)
-    (is_unknown (c (before j place)))) (said j c class place (Register latching) is test) in
+    (not (has_uncertain_clock j c s latching) || not (is_unknown (c (before j place))))
+    (said j c class place (Register latching) is test) in
     differ (keeps j c class (s - 1) net)
     (one_passes (keeps j c class (s - 1)) (net_pins latching.pins) net
     (and_parts (not (s == 1)) (list_all (keeps j c class (s - 1)) (net_pins latching.pins)) parts.0).1 at) moves
@@ -171,8 +143,8 @@ quiet_test j c class place test (IsDue.first none) =
 quiet_test j c class place test (IsDue.second latching is one) =
     let s = step_of j place in
     let parts = and_parts (not (s == 1) && list_all (keeps j c class (s - 1)) (net_pins latching.pins))
-    (is_clocked j.levels (has_uncertain_clock j c s latching) (had_uncertain_clock j c s latching)
-    (is_unknown (c (before j place)))) (said j c class place (Register latching) is test) in
+    (not (has_uncertain_clock j c s latching) || not (is_unknown (c (before j place))))
+    (said j c class place (Register latching) is test) in
     not_test (s == 1) (eq-eqb s 1 one)
     (and_parts (not (s == 1)) (list_all (keeps j c class (s - 1)) (net_pins latching.pins)) parts.0).0
 quiet_test j c class place test (IsDue.restless table pins is x) =
@@ -182,17 +154,10 @@ quiet_test j c class place test (IsDue.restless table pins is x) =
 quiet_test j c class place test (IsDue.unclocked latching is clock own) =
     let s = step_of j place in
     let parts = and_parts (not (s == 1) && list_all (keeps j c class (s - 1)) (net_pins latching.pins))
-    (is_clocked j.levels (has_uncertain_clock j c s latching) (had_uncertain_clock j c s latching)
-    (is_unknown (c (before j place)))) (said j c class place (Register latching) is test) in
-    unclocked_test j.levels (has_uncertain_clock j c s latching) (had_uncertain_clock j c s latching)
-    (is_unknown (c (before j place))) (had_one j c s latching) parts.1 clock own
-quiet_test j c class place test (IsDue.held latching is holds clock) =
-    let s = step_of j place in
-    let parts = and_parts (not (s == 1) && list_all (keeps j c class (s - 1)) (net_pins latching.pins))
-    (is_clocked j.levels (has_uncertain_clock j c s latching) (had_uncertain_clock j c s latching)
-    (is_unknown (c (before j place)))) (said j c class place (Register latching) is test) in
-    held_test j.levels (has_uncertain_clock j c s latching) (had_uncertain_clock j c s latching)
-    (is_unknown (c (before j place))) parts.1 holds clock
+    (not (has_uncertain_clock j c s latching) || not (is_unknown (c (before j place))))
+    (said j c class place (Register latching) is test) in
+    neither (not (has_uncertain_clock j c s latching)) (not (is_unknown (c (before j place)))) parts.1
+    (not_test (has_uncertain_clock j c s latching) clock) (ap not own)
 quiet_test j c class place test (IsDue.stirred by) = stirred_test j c class place test by
 
 pub quiet_tested : TestLaw

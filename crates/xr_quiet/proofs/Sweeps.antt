@@ -14,7 +14,6 @@ use Rattle.xr_design.specs.Fits.{Fits, FitsDriver, StandsBefore}
 use Rattle.xr_design.specs.Job.{Job, at, net_of, places_of, step_of}
 use Rattle.xr_design.specs.Order.{arguments_of_driver, net_pins}
 use Rattle.xr_design.specs.Register.{has_uncertain_clock}
-use Rattle.xr_design.specs.declared.stim.Levels.{Levels}
 use Rattle.xr_design.specs.Rule.{old_places, places_at}
 use Rattle.xr_design.specs.Waveform.{certain}
 use Rattle.xr_design.proofs.OrderLemmas.{position_is}
@@ -26,7 +25,7 @@ use Rattle.xr_model.proofs.Classes.{all_at, behind, in_front}
 use Rattle.xr_model.proofs.FactsBefore.{certain_grown}
 use Rattle.xr_quiet.specs.Ahead.{IsAhead, IsStirredFrom, RestsFrom, is_calm, is_calm_of, taken_on}
 use Rattle.xr_class.specs.Facts.{AgreeBefore}
-use Rattle.xr_quiet.specs.Due.{IsStirred, driver_of, is_clocked, is_first_round, is_recorded_same}
+use Rattle.xr_quiet.specs.Due.{IsStirred, driver_of, is_first_round, is_recorded_same}
 use Rattle.xr_quiet.specs.Runs.{and_next, before_next, repeated}
 use Rattle.xr_fans.specs.Nets.{driver_on, looked_at, net_on}
 use Rattle.xr_quiet.specs.Sweep.{AreAhead, AreDue, BeginsLaw, IsRecordedOn, KeepsOn, NoneDueLaw, SkipLaw, StartLaw}
@@ -207,8 +206,8 @@ not_true : (b : Bool) → not b ≡ true → b ≡ false
 not_true false h = refl
 not_true true h = cc
 
-clock_or : (levels : Levels) (a b u v : Bool) → a ≡ b → u ≡ v → is_clocked levels a a u ≡ is_clocked levels b b v
-clock_or levels a b u v ab uv = rw (ab, uv) refl
+clock_or : (a b u v : Bool) → a ≡ b → u ≡ v → not a || not u ≡ not b || not v
+clock_or a b u v ab uv = rw (ab, uv) refl
 
 calm_same : (j : Job) → Fits j → (c d : ℕ → Value) (place : ℕ) (driver : Driver) → place < places_of j
     → AgreeBelow c d (place + 1) → FitsDriver j.udps j.width driver
@@ -225,8 +224,7 @@ calm_same j fits c d place (Register latching) within agree fit =
     guarded (not (step == 0)) _ _ (λ h. (
     let later = not_true (step == 0) h in
     let here : AgreeBelow c d (step * j.width + place % j.width) = λ k less. agree k (omega (arith, less, whole)) in
-    clock_or j.levels (has_uncertain_clock j c step latching) (has_uncertain_clock j d step latching)
-    (is_unknown (c place))
+    clock_or (has_uncertain_clock j c step latching) (has_uncertain_clock j d step latching) (is_unknown (c place))
     (is_unknown (d place))
     (clock_reads j c d step latching
     (agree_on c d (step * j.width + place % j.width) (old_places j step latching.pins) here

@@ -9,8 +9,6 @@ use Rattle.xr_design.specs.declared.design.Driver.TheVariants.{Cell, Constant, C
 use Rattle.xr_design.specs.declared.design.Latching.{Latching}
 use Rattle.xr_design.specs.declared.design.Pin.{Pin}
 use Rattle.xr_design.specs.declared.design.Table.{Table}
-use Rattle.xr_design.specs.declared.stim.Levels.{Levels}
-use Rattle.xr_design.specs.declared.stim.Levels.TheVariants.{Change, Hold}
 use Rattle.xr_design.specs.Fits.{Fits}
 use Rattle.xr_design.specs.Job.{Job, net_of, places_of, step_of}
 use Rattle.xr_design.specs.Register.{has_uncertain_clock}
@@ -21,9 +19,8 @@ use Rattle.xr_class.specs.Facts.{AgreesWith, is_plain}
 use Rattle.xr_class.specs.Keeps.{cell_chooses}
 use Rattle.xr_class.proofs.MixedClasses.{never_unknown}
 use Rattle.xr_class.proofs.SteadyClasses.{clock_certain, open_tests}
-use Rattle.xr_quiet.specs.Ahead.{IsCarriedOrLocal, ToldLaw, by_change, cell_tells, is_calm_of, register_tells}
-use Rattle.xr_quiet.specs.Ahead.{tells_calm_of}
-use Rattle.xr_quiet.specs.Due.{driver_of, is_clocked}
+use Rattle.xr_quiet.specs.Ahead.{IsCarriedOrLocal, ToldLaw, cell_tells, is_calm_of, register_tells, tells_calm_of}
+use Rattle.xr_quiet.specs.Due.{driver_of}
 use Rattle.xr_quiet.proofs.QuietStays.{cell_law}
 use Rattle.xr_quiet.proofs.QuietTests.{both_tests}
 
@@ -75,35 +72,24 @@ clocked j fits c place latching within more driver none =
     (has_uncertain_clock j c (step_of j place) latching)
     more refl refl driver tests.0 tests.1 tests.2 refl
 
-certain_told : (levels : Levels) (uncertain unknown : Bool) → uncertain ≡ false
-    → is_clocked levels uncertain uncertain unknown ≡ true
-certain_told Change uncertain unknown none = either_left (not uncertain) (not unknown) (ap not none)
-certain_told Hold uncertain unknown none = ap not none
-
-local_told : (levels : Levels) (uncertain unknown : Bool) → by_change levels ≡ true → not unknown ≡ true
-    → is_clocked levels uncertain uncertain unknown ≡ true
-local_told Change uncertain unknown tells known = either_right (not uncertain) (not unknown) known
-local_told Hold uncertain unknown tells known = cc
-
-register_told : (j : Job) → Fits j → (c : ℕ → Value) (place : ℕ) (latching : Latching) (levels : Levels)
-    (class : ClassByNumber) → place < places_of j → 0 < step_of j place → driver_of j place ≡ Register latching
-    → class_of j c place ≡ class → AgreesWith c class (c place) → register_tells levels class ≡ true
-    → is_clocked levels (has_uncertain_clock j c (step_of j place) latching)
-    (has_uncertain_clock j c (step_of j place) latching) (is_unknown (c place)) ≡ true
-register_told j fits c place latching levels (Local bit) within more driver is agrees tells =
-    local_told levels (has_uncertain_clock j c (step_of j place) latching) (is_unknown (c place)) tells
+register_told : (j : Job) → Fits j → (c : ℕ → Value) (place : ℕ) (latching : Latching) (class : ClassByNumber)
+    → place < places_of j → 0 < step_of j place → driver_of j place ≡ Register latching → class_of j c place ≡ class
+    → AgreesWith c class (c place) → register_tells class ≡ true
+    → not (has_uncertain_clock j c (step_of j place) latching) || not (is_unknown (c place)) ≡ true
+register_told j fits c place latching (Local bit) within more driver is agrees tells =
+    either_right (not (has_uncertain_clock j c (step_of j place) latching)) (not (is_unknown (c place)))
     (bit_known (c place) bit agrees)
-register_told j fits c place latching levels Free within more driver is agrees tells = cc
-register_told j fits c place latching levels (Carried from inverted) within more driver is agrees tells =
-    certain_told levels (has_uncertain_clock j c (step_of j place) latching) (is_unknown (c place))
-    (clocked j fits c place latching within more driver (ap is_plain is))
-register_told j fits c place latching levels Line within more driver is agrees tells =
-    certain_told levels (has_uncertain_clock j c (step_of j place) latching) (is_unknown (c place))
-    (clocked j fits c place latching within more driver (ap is_plain is))
+register_told j fits c place latching Free within more driver is agrees tells = cc
+register_told j fits c place latching (Carried from inverted) within more driver is agrees tells =
+    either_left (not (has_uncertain_clock j c (step_of j place) latching)) (not (is_unknown (c place)))
+    (ap not (clocked j fits c place latching within more driver (ap is_plain is)))
+register_told j fits c place latching Line within more driver is agrees tells =
+    either_left (not (has_uncertain_clock j c (step_of j place) latching)) (not (is_unknown (c place)))
+    (ap not (clocked j fits c place latching within more driver (ap is_plain is)))
 
 told_of : (j : Job) → Fits j → (c : ℕ → Value) (place : ℕ) (driver : Driver) → place < places_of j
     → AgreesWith c (class_of j c place) (c place) → driver_of j place ≡ driver
-    → tells_calm_of j.levels (step_of j place) driver (class_of j c place) ≡ true
+    → tells_calm_of (step_of j place) driver (class_of j c place) ≡ true
     → is_calm_of j c place (step_of j place) driver ≡ true
 told_of j fits c place Input within agrees is tells = refl
 told_of j fits c place Undriven within agrees is tells = refl
@@ -112,12 +98,11 @@ told_of j fits c place (Copy argument) within agrees is tells = refl
 told_of j fits c place (Cell table pins) within agrees is tells =
     cell_told j fits c place table pins (class_of j c place) within is refl tells
 told_of j fits c place (Register latching) within agrees is tells =
-    let both = and_parts (not (step_of j place == 0)) (register_tells j.levels (class_of j c place)) tells in
+    let both = and_parts (not (step_of j place == 0)) (register_tells (class_of j c place)) tells in
     both_tests (not (step_of j place == 0))
-    (is_clocked j.levels (has_uncertain_clock j c (step_of j place) latching)
-    (has_uncertain_clock j c (step_of j place) latching) (is_unknown (c place))) both.0
-    (register_told j fits c place latching j.levels (class_of j c place) within (later (step_of j place) both.0) is refl
-    agrees both.1)
+    (not (has_uncertain_clock j c (step_of j place) latching) || not (is_unknown (c place))) both.0
+    (register_told j fits c place latching (class_of j c place) within (later (step_of j place) both.0) is refl agrees
+    both.1)
 
 pub told_law : ToldLaw
 told_law j c place fits within agrees tells = told_of j fits c place (driver_of j place) within agrees refl tells

@@ -4,6 +4,7 @@ use Rattle.std.specs.Prelude.{◌≡◌, ℕ, ◌*◌, ◌<◌, ◌≤◌, ◌==
 use Rattle.std.specs.Prelude.{if◌then◌else◌}
 use Rattle.std.specs.List.{AllByRecursion}
 use Rattle.xr_cell.specs.declared.value.Value.{Value}
+use Rattle.xr_cell.specs.Value.{is_unknown}
 use Rattle.xr_design.specs.declared.design.Driver.{Driver}
 use Rattle.xr_design.specs.declared.design.Driver.TheVariants.{Cell, Constant, Copy, Input, Register, Undriven}
 use Rattle.xr_design.specs.declared.design.Pin.{Pin}
@@ -11,16 +12,13 @@ use Rattle.xr_design.specs.declared.design.Table.{Table}
 use Rattle.xr_design.specs.Fits.{Fits}
 use Rattle.xr_design.specs.Job.{Job, at, places_of, step_of}
 use Rattle.xr_design.specs.Order.{arguments_of_driver}
-use Rattle.xr_cell.specs.Value.{is_unknown}
-use Rattle.xr_design.specs.declared.stim.Levels.{Levels}
-use Rattle.xr_design.specs.declared.stim.Levels.TheVariants.{Change, Hold}
 use Rattle.xr_design.specs.Register.{has_uncertain_clock}
 use Rattle.xr_model.specs.Class.{before, class_of, is_never_unknown, keeps}
 use Rattle.xr_model.specs.declared.class.ClassByNumber.{ClassByNumber}
 use Rattle.xr_model.specs.declared.class.ClassByNumber.TheVariants.{Carried, Free, Line, Local}
 use Rattle.xr_class.specs.Facts.{AgreeBefore, AgreesWith}
 use Rattle.xr_class.specs.Keeps.{cell_chooses}
-use Rattle.xr_quiet.specs.Due.{IsQuiet, IsStirred, driver_of, is_clocked}
+use Rattle.xr_quiet.specs.Due.{IsQuiet, IsStirred, driver_of}
 use Rattle.xr_quiet.specs.Laws.{Rests}
 
 -- The classes of the places before a first one, and as if each place from there on were carried from its net's place a
@@ -47,8 +45,8 @@ HereLaw = (j : Job) (certain : ℕ → Value) (place : ℕ) → Fits j → place
     → Rests j certain place
 
 -- A place leaves its net's next one nothing to be due for but what stirs it: a cell's rule gives x for no assignment,
--- and a register is behind the first step and has its clock pins certain where it looks back, or, where levels decide
--- it by change, its own place is certain.
+-- and a register is behind the first step and has its clock pins certain where it looks back, or its own place is
+-- certain.
 abbrev pub is_calm_of : Job → (ℕ → Value) → ℕ → ℕ → Driver → Bool
 is_calm_of j certain place step Input = true
 is_calm_of j certain place step Undriven = true
@@ -56,8 +54,7 @@ is_calm_of j certain place step (Constant bit) = true
 is_calm_of j certain place step (Copy argument) = true
 is_calm_of j certain place step (Cell table pins) = is_never_unknown j certain place
 is_calm_of j certain place step (Register latching) =
-    not (step == 0) && is_clocked j.levels (has_uncertain_clock j certain step latching)
-    (has_uncertain_clock j certain step latching) (is_unknown (certain place))
+    not (step == 0) && (not (has_uncertain_clock j certain step latching) || not (is_unknown (certain place)))
 
 abbrev pub is_calm : Job → (ℕ → Value) → ℕ → Bool
 is_calm j certain place = is_calm_of j certain place (step_of j place) (driver_of j place)
@@ -89,35 +86,31 @@ CellLaw = (j : Job) (certain : ℕ → Value) (place : ℕ) (table : Table) (pin
     → is_calm j certain place ≡ true
 
 -- So its class tells: of a cell's place, as well where it is Line and the cell reads no filling; and of a register's,
--- behind the first step, where it isn't free, nor local where levels hold it.
+-- behind the first step, where it isn't free.
 abbrev pub cell_tells : Table → List Pin → ClassByNumber → Bool
 cell_tells table pins (Local bit) = true
 cell_tells table pins Free = false
 cell_tells table pins (Carried from inverted) = true
 cell_tells table pins Line = not (cell_chooses table pins)
 
-abbrev pub by_change : Levels → Bool
-by_change Change = true
-by_change Hold = false
+abbrev pub register_tells : ClassByNumber → Bool
+register_tells (Local bit) = true
+register_tells Free = false
+register_tells (Carried from inverted) = true
+register_tells Line = true
 
-abbrev pub register_tells : Levels → ClassByNumber → Bool
-register_tells levels (Local bit) = by_change levels
-register_tells levels Free = false
-register_tells levels (Carried from inverted) = true
-register_tells levels Line = true
-
-abbrev pub tells_calm_of : Levels → ℕ → Driver → ClassByNumber → Bool
-tells_calm_of levels step Input class = true
-tells_calm_of levels step Undriven class = true
-tells_calm_of levels step (Constant bit) class = true
-tells_calm_of levels step (Copy argument) class = true
-tells_calm_of levels step (Cell table pins) class = cell_tells table pins class
-tells_calm_of levels step (Register latching) class = not (step == 0) && register_tells levels class
+abbrev pub tells_calm_of : ℕ → Driver → ClassByNumber → Bool
+tells_calm_of step Input class = true
+tells_calm_of step Undriven class = true
+tells_calm_of step (Constant bit) class = true
+tells_calm_of step (Copy argument) class = true
+tells_calm_of step (Cell table pins) class = cell_tells table pins class
+tells_calm_of step (Register latching) class = not (step == 0) && register_tells class
 
 abbrev pub ToldLaw : Type 0
 ToldLaw = (j : Job) (certain : ℕ → Value) (place : ℕ) → Fits j → place < places_of j
     → AgreesWith certain (class_of j certain place) (certain place)
-    → tells_calm_of j.levels (step_of j place) (driver_of j place) (class_of j certain place) ≡ true
+    → tells_calm_of (step_of j place) (driver_of j place) (class_of j certain place) ≡ true
     → is_calm j certain place ≡ true
 
 -- Of the nets that a place's driver reads in its step, those whose places stand between a first place and a next keep.

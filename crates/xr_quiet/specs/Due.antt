@@ -10,10 +10,8 @@ use Rattle.xr_design.specs.declared.design.Latching.{Latching}
 use Rattle.xr_design.specs.declared.design.Pin.{Pin}
 use Rattle.xr_design.specs.declared.design.Table.{Table}
 use Rattle.xr_design.specs.Job.{Job, net_of, step_of}
-use Rattle.xr_design.specs.declared.stim.Levels.{Levels}
-use Rattle.xr_design.specs.declared.stim.Levels.TheVariants.{Change, Hold}
 use Rattle.xr_design.specs.Order.{net_pins}
-use Rattle.xr_design.specs.Register.{had_uncertain_clock, has_uncertain_clock}
+use Rattle.xr_design.specs.Register.{has_uncertain_clock}
 use Rattle.xr_model.specs.Class.{are_equal, before, is_never_unknown, keeps}
 use Rattle.xr_model.specs.declared.class.ClassByNumber.{ClassByNumber}
 
@@ -66,19 +64,9 @@ pub data IsDue (j : Job) (certain : ℕ → Value) (class : ℕ → ClassByNumbe
   unclocked : (latching : Latching) → driver_of j place ≡ Register latching
       → has_uncertain_clock j certain (step_of j place) latching ≡ true
       → is_unknown (certain (before j place)) ≡ true → IsDue j certain class place
-  -- Where levels hold registers, also where a clock pin isn't certain there, or wasn't where it looked back a step
-  -- before: its pins may hold it now as they didn't then.
-  held : (latching : Latching) → driver_of j place ≡ Register latching → j.levels ≡ Hold
-      → had_uncertain_clock j certain (step_of j place) latching ≡ true → IsDue j certain class place
 
 abbrev pub IsQuiet : Job → (ℕ → Value) → (ℕ → ClassByNumber) → ℕ → Type 0
 IsQuiet j certain class place = IsDue j certain class place → ⊥
-
--- A register goes on: where levels decide it by change, its clock isn't uncertain or its own place is certain; where
--- they hold it, it didn't have an uncertain clock.
-abbrev pub is_clocked : Levels → Bool → Bool → Bool → Bool
-is_clocked Change uncertain had unknown = not uncertain || not unknown
-is_clocked Hold uncertain had unknown = not had
 
 -- The same as a test.
 abbrev pub is_quiet_of : Job → (ℕ → Value) → (ℕ → ClassByNumber) → ℕ → ℕ → ℕ → Driver → Bool
@@ -90,8 +78,7 @@ is_quiet_of j certain class place step net (Cell table pins) =
     list_all (keeps j certain class step) (net_pins pins) && is_never_unknown j certain (before j place)
 is_quiet_of j certain class place step net (Register latching) =
     not (step == 1) && list_all (keeps j certain class (step - 1)) (net_pins latching.pins)
-    && is_clocked j.levels (has_uncertain_clock j certain step latching) (had_uncertain_clock j certain step latching)
-    (is_unknown (certain (before j place)))
+    && (not (has_uncertain_clock j certain step latching) || not (is_unknown (certain (before j place))))
 
 abbrev pub is_quiet : Job → (ℕ → Value) → (ℕ → ClassByNumber) → ℕ → Bool
 is_quiet j certain class place =

@@ -1,5 +1,5 @@
--- The laws of quiet places, which the functions of src/laws.rt ensure. Each holds for all rules by which registers
--- go.
+-- The laws of quiet places, which the functions of src/laws.rt ensure. Each holds for both rules by which registers
+-- start.
 use Rattle.std.specs.Prelude.{◌≡◌, ℕ, ◌<◌, ◌↔◌, true, false, List, [], length}
 use Rattle.xr_cell.specs.declared.value.Value.{Value}
 use Rattle.xr_cell.specs.Value.{bit_value, is_unknown}

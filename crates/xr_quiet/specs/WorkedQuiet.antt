@@ -7,17 +7,15 @@ use Rattle.xr_design.specs.declared.design.Driver.{Driver}
 use Rattle.xr_design.specs.declared.design.Driver.TheVariants.{Cell, Copy, Input, Register, Undriven}
 use Rattle.xr_design.specs.declared.design.Pin.TheVariants.{Bit, Dead, Net}
 use Rattle.xr_design.specs.declared.design.Table.TheVariants.{Gate}
-use Rattle.xr_design.specs.declared.stim.Levels.TheVariants.{Change}
 use Rattle.xr_design.specs.declared.stim.StartRule.TheVariants.{Cold}
 use Rattle.xr_design.specs.Job.{Job}
 use Rattle.xr_cell.specs.Table.{Table as Primitive}
 use Rattle.xr_model.specs.Class.{class_in}
 use Rattle.xr_model.specs.Places.{places_where}
 use Rattle.xr_model.specs.WorkedClasses.{AreClasses}
-use Rattle.xr_model.specs.WorkedRegisters.{clocked, dff, dff0, holding, latch, reset_classes, reset_values}
-use Rattle.xr_model.specs.WorkedRegisters.{unknown_reset}
+use Rattle.xr_model.specs.WorkedRegisters.{clocked, dff, dff0, latch}
 use Rattle.xr_model.specs.declared.class.ClassByNumber.{ClassByNumber}
-use Rattle.xr_model.specs.declared.class.ClassByNumber.TheVariants.{Carried, Free, Line, Local}
+use Rattle.xr_model.specs.declared.class.ClassByNumber.TheVariants.{Carried, Free, Local}
 use Rattle.xr_quiet.specs.Due.{is_quiet}
 
 -- The first places of a job, where these are their certain values, have these classes, and these of them are quiet.
@@ -63,7 +61,6 @@ over udps drivers input rounds moments = record {
   moments = moments;
   recorded = λ moment net. input;
   start_rule = Cold;
-  levels = Change;
   start = λ net. X;
 }
 
@@ -95,10 +92,3 @@ SecondIsDue = AreQuiet
     (over (latch ∷ []) (Register (record { udp = 0; pins = Bit true ∷ Bit false ∷ []; clocks = 0; start = X })
     ∷ []) X 4 1)
     (X ∷ One ∷ One ∷ []) (Free ∷ Local true ∷ Local true ∷ []) (false ∷ false ∷ true ∷ [])
-
--- With levels that hold: after an uncertain clock a register with an unknown reset looks back at step 4 at what it
--- looked back at before, but it may be held now as it wasn't then.
-abbrev pub HeldIsDue : Type 0
-HeldIsDue = AreQuiet (holding unknown_reset) reset_values (reset_classes Line)
-    (false ∷ false ∷ false ∷ true ∷ true ∷ false ∷ false ∷ false ∷ false ∷ true ∷ true ∷ false ∷ false ∷ true ∷ false
-    ∷ [])

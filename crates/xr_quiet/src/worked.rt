@@ -11,5 +11,4 @@ pub fn quiet_by_hand()
     ensures restless { worked.RestlessIsDue }
     ensures moments { worked.MomentsAreDue }
     ensures second { worked.SecondIsDue }
-    ensures held { worked.HeldIsDue }
 {}

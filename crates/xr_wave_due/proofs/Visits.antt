@@ -126,7 +126,7 @@ tells_grown : (j : Job) → Fits j → (waveform : List Written) (written : Writ
     → TellsCalm j waveform (length waveform) → TellsCalm j (and_next waveform written) (length waveform)
 tells_grown j fits waveform written more tells =
     let n : ℕ = length waveform in
-    subst (λ class. tells_calm_of j.levels (step_of j n) (driver_of j n) class ≡ true)
+    subst (λ class. tells_calm_of (step_of j n) (driver_of j n) class ≡ true)
     (class_local j fits (certain waveform) (certain (and_next waveform written)) n more
     (certain_grown waveform written))
     tells
@@ -170,12 +170,11 @@ some_class j waveform class more is = some_same class (class_of j (certain wavef
 
 pub tells_found : (j : Job) (waveform : List Written) (class : ClassByNumber) (place : Place) (driver : Driver)
     → length waveform < places_of j → Some class ≡ next_class j waveform → place ≡ place_at j (length waveform)
-    → driver ≡ j.driver place.net → tells_calm_of j.levels place.step driver class ≡ true
+    → driver ≡ j.driver place.net → tells_calm_of place.step driver class ≡ true
     → TellsCalm j waveform (length waveform)
 tells_found j waveform class place driver more class_is place_is driver_is tells =
     let n : ℕ = length waveform in
-    subst (λ k. tells_calm_of j.levels (step_of j n) (driver_of j n) k ≡ true)
-    (some_class j waveform class more class_is)
-    (subst (λ d. tells_calm_of j.levels (step_of j n) d class ≡ true)
+    subst (λ k. tells_calm_of (step_of j n) (driver_of j n) k ≡ true) (some_class j waveform class more class_is)
+    (subst (λ d. tells_calm_of (step_of j n) d class ≡ true)
     (driver_is ∙ ap (λ (p : Place). j.driver p.net) place_is)
-    (subst (λ (p : Place). tells_calm_of j.levels p.step driver class ≡ true) place_is tells))
+    (subst (λ (p : Place). tells_calm_of p.step driver class ≡ true) place_is tells))

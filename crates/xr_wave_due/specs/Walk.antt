@@ -66,7 +66,7 @@ IsRunOf v walk many = IsRun (view.job v) (shown_by (view.job v) walk) v.written 
 -- The class of a place tells that it is calm.
 abbrev pub TellsCalm : Job → List Written → ℕ → Type 0
 TellsCalm j waveform place =
-    tells_calm_of j.levels (step_of j place) (driver_of j place) (class_of j (certain waveform) place) ≡ true
+    tells_calm_of (step_of j place) (driver_of j place) (class_of j (certain waveform) place) ≡ true
 
 -- A set has lost no position, and the readers of a net are in it, unless the net keeps.
 pub record AreReadersIn (keeps : Bool) (readers old new : List ℕ) : Type 0 where

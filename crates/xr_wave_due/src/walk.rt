@@ -188,7 +188,6 @@ fn tells_next(waveform: &Waveform<'_>, place: Place) -> bool
     let circuit = waveform.circuit();
     match waveform.next_class() {
         Some(class) => tells_calm(
-            circuit.stim.rules.levels,
             place.step as usize,
             driver_at(&circuit, place.net as usize),
             class,

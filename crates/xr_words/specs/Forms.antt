@@ -6,7 +6,6 @@ use Rattle.xr_line.specs.Tables.{Plain, Reads, Module, Scope, Number, Either, ne
 abbrev pub job : List Plain → List Plain
 job own = needs (codes "record") Reads ∷ needs (codes "scope") Scope ∷ needs (codes "top") Module ∷ (own
     ++ takes (codes "rounds") (Number 1 16) ∷ takes (codes "start") (Either (codes "cold") (codes "recorded"))
-    ∷ takes (codes "levels") (Either (codes "change") (codes "hold"))
     ∷ takes (codes "undriven") (Either (codes "released") (codes "recorded")) ∷ [])
 
 abbrev pub conflicts : Plain

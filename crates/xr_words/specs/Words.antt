@@ -3,8 +3,6 @@ use Rattle.std.specs.Prelude.{◌≡◌, ◌∷◌, ℕ, ◌≤◌, List, Option
 use Rattle.xr_words.specs.declared.words.Form.{Form}
 use Rattle.xr_words.specs.declared.words.Form.TheVariants.{Lines, Turns}
 use Rattle.xr_words.specs.declared.words.JobWords.{JobWords}
-use Rattle.xr_words.specs.declared.words.Levels.{Levels}
-use Rattle.xr_words.specs.declared.words.Levels.TheVariants.{Change, Hold}
 use Rattle.xr_words.specs.declared.words.Start.{Start}
 use Rattle.xr_words.specs.declared.words.Start.TheVariants.{Cold, Recorded}
 use Rattle.xr_words.specs.declared.words.Undriven.{Undriven}
@@ -26,15 +24,6 @@ start_word Recorded = codes "recorded"
 abbrev pub IsStart : Option Text → Start → Type 0
 IsStart None start = start ≡ Cold
 IsStart (Some text) start = text ≡ start_word start
-
-abbrev pub levels_word : Levels → Text
-levels_word Change = codes "change"
-levels_word Hold = codes "hold"
-
--- When levels decide registers, by change where nothing is said.
-abbrev pub AreLevels : Option Text → Levels → Type 0
-AreLevels None levels = levels ≡ Change
-AreLevels (Some text) levels = text ≡ levels_word levels
 
 abbrev pub undriven_word : Undriven → Text
 undriven_word named.Released = codes "released"
@@ -63,7 +52,6 @@ pub record JobValues : Type 0 where
   pub rounds : ℕ
   pub places : ℕ
   pub start : Start
-  pub levels : Levels
   pub undriven : Undriven
   pub netlists : List Text
 
@@ -76,7 +64,6 @@ pub record GivesOptions (option : Text → Option Text) (job : JobValues) : Type
   pub top : option (codes "top") ≡ Some job.top
   pub rounds : IsCount (option (codes "rounds")) 4 16 job.rounds
   pub start : IsStart (option (codes "start")) job.start
-  pub levels : AreLevels (option (codes "levels")) job.levels
   pub undriven : IsUndriven (option (codes "undriven")) job.undriven
 
 -- So they are, and the job is one that is walked over: it has at most 2^27 places.
@@ -94,7 +81,6 @@ job_values words = record {
   rounds = words.rounds;
   places = words.places;
   start = words.start;
-  levels = words.levels;
   undriven = words.undriven;
   netlists = map string_bytes words.netlists.now;
 }

@@ -4,7 +4,7 @@ ghost use Rattle.std.specs.Prelude.{◌≡◌, ◌<◌, ◌≤◌, IfSome, IfNon
 ghost use Rattle.xr_line.specs.Read.{options_by, value_of};
 ghost use Rattle.xr_words.specs.Words.{GivesJob, GivesOptions, JobValues, job_values};
 
-use crate::typed::{count_of, levels_of, start_of, undriven_of};
+use crate::typed::{count_of, start_of, undriven_of};
 use crate::words::JobWords;
 use xr_line::Line;
 
@@ -45,7 +45,6 @@ pub fn job_within<'a>(line: &Line<'a>, files: &'a [String], places: u64) -> Opti
         rounds: count_of(line.get("rounds"), ROUNDS, MOST_ROUNDS)?,
         places,
         start: start_of(line.get("start"))?,
-        levels: levels_of(line.get("levels"))?,
         undriven: undriven_of(line.get("undriven"))?,
         netlists: files,
     })

@@ -38,7 +38,6 @@ macro_rules! job_options {
             $($own,)*
             $crate::ROUNDS,
             $crate::START,
-            $crate::LEVELS,
             $crate::UNDRIVEN,
         ]
     };
@@ -58,9 +57,6 @@ pub const ROUNDS: Opt<'static> = takes!("rounds", Kind::Number(1, 16));
 
 /// What registers hold before the first step, `cold` where it is absent.
 pub const START: Opt<'static> = takes!("start", Kind::Either("cold", "recorded"));
-
-/// When levels decide registers, `change` where it is absent.
-pub const LEVELS: Opt<'static> = takes!("levels", Kind::Either("change", "hold"));
 
 /// What nets without a driver have, `released` where it is absent.
 pub const UNDRIVEN: Opt<'static> = takes!("undriven", Kind::Either("released", "recorded"));

@@ -3,13 +3,12 @@
 ghost use Rattle.std.specs.Prelude.{◌≡◌, ◌≤◌, ℕ, Some, IfSome, IfNone, codes, option_map};
 ghost use Rattle.xr_line.specs.Read.{value_of};
 ghost use Rattle.xr_words.specs.declared.words.Form.{Form};
-ghost use Rattle.xr_words.specs.declared.words.Levels.{Levels};
 ghost use Rattle.xr_words.specs.declared.words.Start.{Start};
 ghost use Rattle.xr_words.specs.declared.words.Undriven.{Undriven};
-ghost use Rattle.xr_words.specs.Words.{AreLevels, IsCount, IsForm, IsStart, IsUndriven};
+ghost use Rattle.xr_words.specs.Words.{IsCount, IsForm, IsStart, IsUndriven};
 
 use crate::job::PLACE_LIMIT;
-use crate::words::{Form, Levels, Start, Undriven};
+use crate::words::{Form, Start, Undriven};
 use xr_line::{Line, number_in};
 
 /// The most clauses of a search, and how many there are where none are given.
@@ -98,28 +97,6 @@ fn start_in(text: &str) -> Option<Start>
     match text {
         "cold" => Some(Start::Cold),
         "recorded" => Some(Start::Recorded),
-        _ => None,
-    }
-}
-
-/// When levels decide registers as an option says, by change where it is absent.
-pub fn levels_of(text: Option<&str>) -> Option<Levels>
-    ensures levels { IfSome result (AreLevels (option_map (λ s. s.now) text.entry)) }
-    ensures none { IfNone result ((levels : Levels) → AreLevels (option_map (λ s. s.now) text.entry) levels → ⊥) }
-{
-    match text {
-        Some(text) => levels_in(text),
-        None => Some(Levels::Change),
-    }
-}
-
-fn levels_in(text: &str) -> Option<Levels>
-    ensures levels { IfSome result (AreLevels (Some text.now)) }
-    ensures none { IfNone result ((levels : Levels) → AreLevels (Some text.now) levels → ⊥) }
-{
-    match text {
-        "change" => Some(Levels::Change),
-        "hold" => Some(Levels::Hold),
         _ => None,
     }
 }

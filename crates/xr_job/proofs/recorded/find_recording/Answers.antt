@@ -62,18 +62,18 @@ returns-clause-recorded c =
     let n = c.args.netlist.now in
     let new = c.give_inputs.new.netlist in
     let rule = c.args.rules.undriven in
-    let registers = c.args.rules.registers in
+    let start = c.args.rules.start in
     let r = c.in_ok-recording.recording in
     let bound = c.in_ok-binding.binding.bound in
     let holders = c.in_ok-holders.holders.items in
     let stim = c.in_ok-stim.stim in
     let put : new ≡ netlist_by rule holders n = c.give_inputs.ensures ∙ ap (λ (h : List (Option Holder)). netlist_by rule h n) c.as_slice.ensures.value in
-    let is : IsStimOf new.design r (held_in holders) c.args.rounds registers stim =
-    subst (λ (h : List (Option Holder)). IsStimOf new.design r (held_in h) c.args.rounds registers stim) c.as_slice-2.ensures.value c.in_ok-stim.ensures.stim in
+    let is : IsStimOf new.design r (held_in holders) c.args.rounds start stim =
+    subst (λ (h : List (Option Holder)). IsStimOf new.design r (held_in h) c.args.rounds start stim) c.as_slice-2.ensures.value c.in_ok-stim.ensures.stim in
     record {
       says = search rules;
       bound = c.in_ok-binding.ensures.bound.is;
-      stim = stim_is rule n new bound holders c.in_ok-holders.ensures.holds put r c.args.rounds registers stim is;
+      stim = stim_is rule n new bound holders c.in_ok-holders.ensures.holds put r c.args.rounds start stim is;
     }
 
 pub returns-clause-netlist : goal.returns-clause-netlist
@@ -110,6 +110,6 @@ returns-clause-fits c =
       times = sym is.times;
       binding = subst (λ (d : Design). FitsBinding d binding) (sym (design_is rule n new binding.bound holders holds put)) (made.bound binding bound.fits);
       variables = bound.variables;
-      few = few_places n.design new.design c.in_ok-recording.recording (held_in c.as_slice-2.result.now) c.args.rounds c.args.most c.args.rules.registers c.in_ok-stim.stim
+      few = few_places n.design new.design c.in_ok-recording.recording (held_in c.as_slice-2.result.now) c.args.rounds c.args.most c.args.rules.start c.in_ok-stim.stim
           (as_many_nets rule n new binding.bound holders holds put) is places.places;
     }
