@@ -2,15 +2,15 @@
 mod EarlierPlaces
 mod EndClasses
 mod FewNets
-pub mod MixedClasses
-pub mod MovedRules
+mod MixedClasses
+mod MovedRules
 mod PassingTests
 mod QuickClasses
 mod RisingPlaces
-pub mod SteadyClasses
+mod SteadyClasses
 pub mod StepBefore
 mod Reached
-pub mod WiredPlaces
+mod WiredPlaces
 mod WiredSteady
 mod WiredRegisters
 mod SettledWires

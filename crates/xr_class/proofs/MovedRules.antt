@@ -1,6 +1,5 @@
 -- Places whose arguments have the certain values of a step before: over all assignments their rule gives what it gave.
-use Rattle.std.proofs.Common.{◌≡◌, ℕ, suc, ◌+◌, ◌-◌, ◌*◌, ◌<◌, ◌==◌, ◌||◌, not, Bool, true, false, List, [], ◌∷◌, refl}
-use Rattle.std.proofs.Common.{sym, ap, ◌∙◌, arith, subst, if◌then◌else◌, ⊎_elim}
+use Rattle.std.proofs.Common.{◌≡◌, ℕ, suc, ◌+◌, ◌-◌, ◌*◌, ◌<◌, ◌==◌, ◌||◌, not, Bool, true, false, List, [], ◌∷◌, refl, sym, ap, ◌∙◌, arith, subst, if◌then◌else◌, ⊎_elim}
 use Rattle.std.specs.List.{AllByRecursion}
 use Rattle.std.proofs.lemmas.Bool.{and_parts, or_cases, eqb-true, ne_eqb}
 use Rattle.xr_cell.specs.declared.value.Value.{Value}
@@ -30,7 +29,7 @@ use Rattle.xr_class.specs.Facts.{AgreeBefore, AgreesWith}
 use Rattle.xr_class.specs.Keeps.{nets_keep, net_keeps}
 
 -- A net that keeps has the certain value that it had.
-pub same_value : (x y : Value) → are_equal x y ≡ true → x ≡ y
+same_value : (x y : Value) → are_equal x y ≡ true → x ≡ y
 same_value Zero Zero equal = refl
 same_value One One equal = refl
 same_value Zero One equal = cc
@@ -42,7 +41,7 @@ same_value One Z equal = cc
 same_value X y equal = cc
 same_value Z y equal = cc
 
-pub as_it_is : (v : Value) → flipped_value false v ≡ v
+as_it_is : (v : Value) → flipped_value false v ≡ v
 as_it_is Zero = refl
 as_it_is One = refl
 as_it_is X = refl
@@ -57,7 +56,7 @@ agrees_on c (Carried from false) back v on agrees =
 agrees_on c (Carried from true) back v on agrees = let none = (and_parts (from == back) false on).1 in cc
 agrees_on c Line back v on agrees = cc
 
-pub kept_value : (j : Job) (c : ℕ → Value) (place step net : ℕ) → AgreeBefore j c place → at j step net < place
+kept_value : (j : Job) (c : ℕ → Value) (place step net : ℕ) → AgreeBefore j c place → at j step net < place
     → net_keeps j c step net ≡ true → c (at j step net) ≡ c (at j (step - 1) net)
 kept_value j c place step net agree less kept =
     let here : ℕ = at j step net in
@@ -99,7 +98,7 @@ moved_back : (j : Job) (bits : ℕ → Bool) → Moved j (λ k. bits (k + j.widt
 moved_back j bits s t net next = ap bits (more_one j.width s t (position_of j.order net) next)
 
 -- So pins have the values that they had.
-pub pins_moved : (j : Job) (c : ℕ → Value) (early late : ℕ → Bool) (s t : ℕ) (pins : List Pin) → s ≡ suc t
+pins_moved : (j : Job) (c : ℕ → Value) (early late : ℕ → Bool) (s t : ℕ) (pins : List Pin) → s ≡ suc t
     → Moved j early late → SameAt j c s t (net_pins pins)
     → pins_at j (as_values (assigned c late)) s pins ≡ pins_at j (as_values (assigned c early)) t pins
 pins_moved j c early late s t [] next moved same = refl
@@ -110,7 +109,7 @@ pins_moved j c early late s t (Bit bit ∷ pins) next moved same =
 pins_moved j c early late s t (Dead ∷ pins) next moved same =
     rw (pins_moved j c early late s t pins next moved same) refl
 
-pub values_moved : (j : Job) (c : ℕ → Value) (s t : ℕ) (pins : List Pin) → SameAt j c s t (net_pins pins)
+values_moved : (j : Job) (c : ℕ → Value) (s t : ℕ) (pins : List Pin) → SameAt j c s t (net_pins pins)
     → pins_at j c s pins ≡ pins_at j c t pins
 values_moved j c s t [] same = refl
 values_moved j c s t (Net net ∷ pins) same = rw (same.0, values_moved j c s t pins same.1) refl
@@ -158,8 +157,7 @@ kinds_moved j c place back moves = record {
   never = every_moved j c place back (λ v. not (is_unknown v)) moves;
 }
 
-pub rule_here : (j : Job) (c : ℕ → Value) (bits : ℕ → Bool) (place step net : ℕ) (driver : Driver)
-    → step_of j place ≡ step
+pub rule_here : (j : Job) (c : ℕ → Value) (bits : ℕ → Bool) (place step net : ℕ) (driver : Driver) → step_of j place ≡ step
     → net_of j place ≡ net → j.driver net ≡ driver → rule j c bits place ≡ rule_of j c bits step net driver
 unfolding rule
 rule_here j c bits place step net driver step_is net_is is =
@@ -209,8 +207,7 @@ not_numeral s t is = (ne_eqb s 0 (λ e. omega (arith, is, e)), ne_eqb s 1 (λ e.
 -- A register that looks back at the certain values that it looked back at a step before.
 pub register_moves : (j : Job) (c : ℕ → Value) (place back s t u v net : ℕ) (latching : Latching)
     → OneBack j place back s t net → t ≡ suc u → u ≡ suc v → j.driver net ≡ Register latching
-    → c (at j t net) ≡ c (at j u net) → SameAt j c t u (net_pins latching.pins)
-    → SameAt j c u v (net_pins latching.pins)
+    → c (at j t net) ≡ c (at j u net) → SameAt j c t u (net_pins latching.pins) → SameAt j c u v (net_pins latching.pins)
     → RulesMove j c place back
 register_moves j c place back s t u v net latching one t_is u_is driver own new old early late moved =
     let s_is = one.next in
@@ -221,8 +218,7 @@ register_moves j c place back s t u v net latching one t_is u_is driver own new 
     ∙ looked_same j latching _ _ _ _ _ _ _ _ _ _ _ _ (values_moved j c u v latching.pins old)
     (values_moved j c t u latching.pins new) own (pins_moved j c early late u v latching.pins u_is moved old)
     (pins_moved j c early late t u latching.pins t_is moved new) kept
-    ∙ sym (looked_at j c (assigned c early) t u v net latching there.0 there.1 (omega (arith, t_is))
-    (omega (arith, t_is, u_is)))
+    ∙ sym (looked_at j c (assigned c early) t u v net latching there.0 there.1 (omega (arith, t_is)) (omega (arith, t_is, u_is)))
     ∙ sym (rule_here j c (assigned c early) back t net (Register latching) one.back_step one.back_net driver)
   where
     kept : bit_value (assigned c late (at j t net)) ≡ bit_value (assigned c early (at j u net))

@@ -1,6 +1,5 @@
 -- Places all of whose arguments are certain: their drivers make of these what their rules make for every assignment.
-use Rattle.std.proofs.Common.{◌≡◌, ℕ, ◌+◌, ◌-◌, ◌*◌, ◌%◌, ◌<◌, ◌≤◌, ◌==◌, not, Bool, true, false, None, Some, ⊎_elim}
-use Rattle.std.proofs.Common.{List, [], ◌∷◌, length, map, refl, sym, ap, ◌∙◌, arith, subst, if◌then◌else◌}
+use Rattle.std.proofs.Common.{◌≡◌, ℕ, ◌+◌, ◌-◌, ◌*◌, ◌%◌, ◌<◌, ◌≤◌, ◌==◌, not, Bool, true, false, None, Some, ⊎_elim, List, [], ◌∷◌, length, map, refl, sym, ap, ◌∙◌, arith, subst, if◌then◌else◌}
 use Rattle.std.specs.List.{list_all}
 use Rattle.std.proofs.lemmas.Bool.{and_parts, ne_eqb}
 use Rattle.std.proofs.lemmas.List.{length-map}
@@ -27,8 +26,7 @@ use Rattle.xr_wiring.proofs.Jobs.{table_few}
 use Rattle.xr_class.specs.Facts.{plain_class}
 use Rattle.xr_class.specs.Keeps.{class_here}
 use Rattle.xr_wiring.specs.declared.wiring.Kind.TheVariants as kind
-use Rattle.xr_class.specs.Wires.{PlaceSeesKnown, SeesKnown, Stands, StandsCell, nets_known, positions_known}
-use Rattle.xr_class.specs.Wires.{values_there}
+use Rattle.xr_class.specs.Wires.{PlaceSeesKnown, SeesKnown, Stands, StandsCell, nets_known, positions_known, values_there}
 use Rattle.xr_class.proofs.QuickClasses.{class_given}
 use Rattle.xr_class.proofs.SteadyClasses.{back_at}
 use Rattle.xr_class.proofs.WiredPlaces.{cell_here, first_here, is_spot, nets_placed, register_here, spot_here}
@@ -81,8 +79,7 @@ known_placed j c step first pins own are is =
     ap (list_all (λ position. not (is_unknown (c (first + position))))) (ap net_pins are ∙ nets_placed j.order own)
     ∙ each (net_pins own)
   where
-    each : (nets : List ℕ) → list_all (λ position. not (is_unknown (c (first + position))))
-        (map (position_of j.order) nets)
+    each : (nets : List ℕ) → list_all (λ position. not (is_unknown (c (first + position)))) (map (position_of j.order) nets)
         ≡ nets_known j c step nets
     each [] = refl
     each (net ∷ nets) = rw (ap (λ f. c (f + position_of j.order net)) is, each nets) refl

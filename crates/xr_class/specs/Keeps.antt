@@ -12,8 +12,7 @@ use Rattle.xr_design.specs.Job.{Job, at}
 use Rattle.xr_design.specs.Order.{net_pins}
 use Rattle.xr_design.specs.Register.{has_uncertain_clock}
 use Rattle.xr_design.specs.Rule.{arguments}
-use Rattle.xr_model.specs.Class.{before, carried_or_line, class_by, class_of, is_free, is_local, is_never_unknown}
-use Rattle.xr_model.specs.Class.{keeps, passes_on, passes_on_of}
+use Rattle.xr_model.specs.Class.{before, carried_or_line, class_by, class_of, is_free, is_local, is_never_unknown, keeps, passes_on, passes_on_of}
 use Rattle.xr_model.specs.declared.class.ClassByNumber.{ClassByNumber}
 use Rattle.xr_model.specs.declared.class.ClassByNumber.TheVariants.{Carried}
 

@@ -12,8 +12,7 @@ ghost use Rattle.xr_model.specs.Class.{are_equal, before, class_of, is_never_unk
 ghost use Rattle.xr_design.specs.declared.design.Driver.TheVariants.{Cell};
 ghost use Rattle.xr_class.specs.Arguments.{uncertain_places};
 ghost use Rattle.xr_class.specs.Facts.{AreFacts, keeps_since};
-ghost use Rattle.xr_class.specs.Keeps.{cell_chooses, cell_passes, driver_passes, net_keeps, nets_keep, place_passes};
-ghost use Rattle.xr_class.specs.Keeps.{register_passes};
+ghost use Rattle.xr_class.specs.Keeps.{cell_chooses, cell_passes, driver_passes, net_keeps, nets_keep, place_passes, register_passes};
 
 use crate::earlier::Earlier;
 use crate::every::passes_every;
@@ -129,7 +128,7 @@ fn cell_passes<E: Earlier>(
     passes_every(circuit, earlier, place, uncertain, Test::Known)
 }
 
-/// Whether the place of a cell reads its filling. Takes no memory.
+/// Whether the place of a cell reads its filling.
 pub fn cell_chooses(table: Table, pins: &[Pin]) -> bool
     ensures { result ≡ cell_chooses table pins.now }
 {

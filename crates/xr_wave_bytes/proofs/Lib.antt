@@ -3,4 +3,3 @@ mod ByteDigits
 mod Fronts
 mod KeptBytes
 mod NextSaid
-mod RepeatedBytes

@@ -33,5 +33,4 @@ returns-in-Register g c =
     ∙ ap (λ v. updated j certain v c.spot_of-spot.result.step latching) (c.value-kept.ensures ∙ ap certain back)
     ∙ ap (λ t. updated j certain (certain (before j place)) t latching) c.spot_of-spot.ensures.step)
     ∙ sym (register_settled j certain place latching
-    (later_step j.width (step_of j place) (place % j.width) place s.whole s.position more) driver
-    (known latching driver))
+    (later_step j.width (step_of j place) (place % j.width) place s.whole s.position more) driver (known latching driver))

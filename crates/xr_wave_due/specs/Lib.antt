@@ -1,3 +1,0 @@
--- Definitions of walks over a waveform by what is due.
-pub mod Sources
-pub mod Walk
