@@ -8,6 +8,7 @@ import time
 
 HERE = os.path.dirname(os.path.dirname(os.path.realpath(__file__)))
 MARKER = "written-by-xrepair-quick"  # the file that lists what was written into a folder
+JOB_OPTIONS = ("rounds", "places", "conflicts", "start", "levels", "undriven")  # of commands with a job; replay has no conflicts
 
 
 class Refused(Exception):
@@ -112,7 +113,7 @@ class Job:
         """The job with another value of an option."""
         return dataclasses.replace(self, options=tuple({**dict(self.options), name: value}.items()))
 
-    def words(self, options=("rounds", "conflicts", "start", "undriven")):
+    def words(self, options=JOB_OPTIONS):
         """The words that all commands have in common, the options of these names among them."""
         given = [word for name, value in self.options if name in options for word in (f"--{name}", value)]
         return ["--record", self.record, "--scope", self.scope, "--top", self.top, *given, *self.files]

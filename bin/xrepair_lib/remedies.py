@@ -10,7 +10,8 @@ from xrepair_lib.texts import declarations, due, plain, scopes_of, upto_end, wor
 
 MOMENTS = 200_000  # as many moments are looked at for changes that no input made
 CHEAP = 60  # seconds: what took longer isn't tried again with other words
-PLACES = 1 << 27  # the most places of a run
+PLACES = 1 << 27  # the most places of a run without --places
+ROOM = 1 << 31  # bytes: up to so many places, a byte each, a run is tried
 BLOCKS = 5  # the most blocks that are listed
 RACED = 8  # the most lines of what the script raced says
 PHASES = {5: 1, 6: 1, 7: 2, 11: 2, 8: 3, 9: 3, 10: 4, 0: 5}  # how far a run came that ended with this status
@@ -18,6 +19,7 @@ DIFFERS = re.compile(
     r"refused: (disagrees|unsettled|optimistic) #(\d+) (?:round \d+ )?(.+) (?:recorded|kept|replayed) (\S) (?:replayed|next|found) (\S)"
 )
 UNDECIDED = re.compile(r" undecided (\d+)$")
+TOO_LARGE = re.compile(r"too large places (\d+)$")
 
 
 def progress(answer):
@@ -93,7 +95,22 @@ def conflicts(number):
     return more
 
 
-TRIED = (trim, settle, start, rounds(8), rounds(16), conflicts(10_000), conflicts(100_000))
+def levels(run, job, answer):
+    """Where the simulator knows too much: with levels that hold, by which registers reset others in every world."""
+    if answer.status != 10 or job.option("levels", None):
+        return None, ""
+    return job.given("levels", "hold"), "an active set or reset and an open latch hold their register (--levels hold)"
+
+
+def places(run, job, answer):
+    """Where there are more places than without the word, and a byte for each is little memory."""
+    found = TOO_LARGE.search(answer.line)
+    if answer.status != 11 or not found or job.option("places", None) or int(found[1]) > ROOM:
+        return None, ""
+    return job.given("places", found[1]), f"there are {found[1]} places, a byte of memory each (--places {found[1]})"
+
+
+TRIED = (places, trim, settle, start, rounds(8), rounds(16), conflicts(10_000), conflicts(100_000), levels)
 
 
 def moves_alone(run, job):
@@ -239,8 +256,9 @@ def unsettled(*_):
 
 
 def optimistic(run, job, _):
-    """What `audit` says of the places that the simulator knows and that not every filling gives."""
-    answer = run.xrepair("audit", job, "audit.txt")
+    """What `audit` says of the places that the simulator knows and that not every filling gives, with levels that hold."""
+    held = job if job.option("levels", None) else job.given("levels", "hold")
+    answer = run.xrepair("audit", held, "audit.txt")
     counted = re.match(r"audit places \d+ listed (\d+)", answer.line)
     if answer.status or not counted:
         yield f"audit ended with status {answer.status}: {answer.line}"
@@ -251,16 +269,19 @@ def optimistic(run, job, _):
     for _, number, _, row, _, count in sorted(rows, key=lambda it: -int(it[5]))[:5]:
         name = run.primitive(job, int(number))
         yield f"- {name or 'primitive ' + number}, row {row}: {count} places"
-    yield "a register that other registers reset does this: keep the clock x until the reset has gone through,"
-    yield "or give its primitive an `initial`"
+    if held.option("levels", None) == "change":
+        yield "a register that other registers reset does this: --levels hold may help"
+    else:
+        yield "such a row gives a value at an x where 0 and 1 don't both give it"
 
 
 def too_large(run, job, answer):
-    places = re.search(r"too large places (\d+)", answer.line)
-    if places:
+    found = TOO_LARGE.search(answer.line)
+    if found:
         with open(job.record, "rb") as file:
             moments = sum(1 for word in words_of(file) if word[:1] == b"#" and word[1:].isdigit())
-        each = max(moments * PLACES // int(places[1]) * 9 // 10, 2)
+        each = max(moments * PLACES // int(found[1]) * 9 // 10, 2)
+        yield f"give it --places {found[1]}, where there is a byte of memory for each place, or"
         yield f"cut the recording in time: {shown(script('cut', run.me))} --moments {each} {job.record}"
         yield "and repair each window, all but the first with --start recorded"
     elif "recording" in answer.line:

@@ -127,7 +127,7 @@ def record(job, design, top, words):
     os.remove(job + ".vvp")
     os.replace("test.vcd", job + ".vcd")
     nets, moments, changes, unknown = sizes(job + ".vcd")
-    words = f"--record {job}.vcd --scope tb.dut --top {top} --rounds {ROUNDS}"
+    words = f"--record {job}.vcd --scope tb.dut --top {top} --rounds {ROUNDS} --places {1 << 40}"
     print(f"xrepair replay {words} --code none.v --vcd p.vcd {design}.v\n"
           f"xrepair repair {words} --vcd o.vcd --code o.v --cert o.xc {design}.v\n"
           f"  {nets} nets, {moments} moments, {nets * moments * ROUNDS} places; {changes} changes, {unknown} bits x, "

@@ -149,7 +149,7 @@ fn put_accepted(alloc: Global, out: &mut Vec<u8>, wave: &Wave<'_>) -> Result<(),
     put(out, b"\n")
 }
 
-fn put_count(out: &mut Vec<u8>, words: &[u8], count: u32) -> Result<(), Memory> {
+fn put_count(out: &mut Vec<u8>, words: &[u8], count: u64) -> Result<(), Memory> {
     put(out, words)?;
-    put_number(out, u64::from(count))
+    put_number(out, count)
 }

@@ -10,7 +10,7 @@ use crate::checked::{put_checked, put_own};
 use std::alloc::Global;
 use xr_base::{Memory, put};
 use xr_cert::{Cert, CheckErr, Checked, Form, check_cert};
-use xr_design::{Bytes, History, StartRule};
+use xr_design::{Bytes, History, Levels, RegisterRules, StartRule};
 use xr_job::{Netlist, PLACES, Recorded, Rules, read_netlist, read_recording, replay_and_compare};
 use xr_match::UndrivenRule;
 use xr_repair::{RepairErr, repair};
@@ -106,7 +106,10 @@ fn recorded_of(
     let scope = [Bytes::from_vec(Vec::from_slice(alloc, b"dut")?)];
     let rounds = texts.rounds.clamp(1, 16);
     let rules = Rules {
-        start: StartRule::Cold,
+        registers: RegisterRules {
+            start: StartRule::Cold,
+            levels: Levels::Change,
+        },
         undriven: UndrivenRule::Released,
     };
     Ok(read_recording(alloc, netlist, text, &scope, rounds, PLACES, rules).ok())

@@ -14,7 +14,7 @@ use crate::words::{names_of, text_of};
 use std::alloc::Global;
 use test_cases::{Part, Report};
 use xr_base::Memory;
-use xr_design::{Bytes, StartRule};
+use xr_design::{Bytes, Levels, RegisterRules, StartRule};
 use xr_job::{Netlist, PLACES, Recorded, Rules, read_netlist, read_recording};
 use xr_match::UndrivenRule;
 
@@ -66,7 +66,10 @@ fn recorded_of(
         rounds,
         PLACES,
         Rules {
-            start: StartRule::Cold,
+            registers: RegisterRules {
+                start: StartRule::Cold,
+                levels: Levels::Change,
+            },
             undriven: UndrivenRule::Released,
         },
     )

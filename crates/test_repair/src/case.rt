@@ -9,10 +9,10 @@ use crate::words::{first_word, is_word, number_of, text_of};
 use std::alloc::{AllocError, Global};
 use test_cases::{Part, PartKind, Parts, Report, Section};
 use xr_base::Memory;
-use xr_design::StartRule;
+use xr_design::{Levels, RegisterRules, StartRule};
 
-/// The texts of a job, the lines of its forces, how many rounds a moment has, how many clauses a log, and how registers
-/// start.
+/// The texts of a job, the lines of its forces, how many rounds a moment has, how many clauses a log, and by which
+/// rules registers go.
 #[derive(Drop)]
 pub struct Texts {
     pub netlist: Vec<u8>,
@@ -20,7 +20,7 @@ pub struct Texts {
     pub forced: Vec<u8>,
     pub rounds: u32,
     pub conflicts: u32,
-    pub start: StartRule,
+    pub rules: RegisterRules,
 }
 
 impl Texts {
@@ -31,7 +31,10 @@ impl Texts {
             forced: Vec::new(alloc),
             rounds: 4,
             conflicts: 1000,
-            start: StartRule::Cold,
+            rules: RegisterRules {
+                start: StartRule::Cold,
+                levels: Levels::Change,
+            },
         }
     }
 
@@ -65,7 +68,8 @@ impl Texts {
         match setting_of(word) {
             Setting::Rounds => self.rounds = number_of(rest).clamp(1, 16) as u32,
             Setting::Conflicts => self.conflicts = number_of(rest).clamp(1, 100_000) as u32,
-            Setting::Start => self.start = StartRule::Recorded,
+            Setting::Start => self.rules.start = StartRule::Recorded,
+            Setting::Levels => self.rules.levels = Levels::Hold,
             Setting::Chain => put_chain(alloc, &mut self.netlist, rest)?,
             Setting::Drawn => self.take_drawn(alloc, rest)?,
             Setting::Force => self.take_force(words)?,
@@ -113,6 +117,7 @@ enum Setting {
     Rounds,
     Conflicts,
     Start,
+    Levels,
     Chain,
     Drawn,
     Force,
@@ -123,6 +128,7 @@ fn setting_of(word: &str) -> Setting {
         "rounds" => Setting::Rounds,
         "conflicts" => Setting::Conflicts,
         "start" => Setting::Start,
+        "levels" => Setting::Levels,
         "chain" => Setting::Chain,
         "made" => Setting::Drawn,
         _ => Setting::Force,

@@ -69,10 +69,10 @@ fn put_answer(alloc: Global, out: &mut String, wave: &Wave<'_>, line: &str) -> R
 
 fn put_counts(alloc: Global, out: &mut String, wave: &Wave<'_>) -> Result<(), Memory> {
     let counts = counts_of(alloc, wave)?;
-    put_number(out, "counts known ", u64::from(counts.known), "")?;
-    put_number(out, " repaired ", u64::from(counts.repaired), "")?;
-    put_number(out, " unknown ", u64::from(counts.unknown), "")?;
-    put_number(out, " undecided ", u64::from(counts.undecided), "")
+    put_number(out, "counts known ", counts.known, "")?;
+    put_number(out, " repaired ", counts.repaired, "")?;
+    put_number(out, " unknown ", counts.unknown, "")?;
+    put_number(out, " undecided ", counts.undecided, "")
 }
 
 /// Puts what is found of the place that words name.

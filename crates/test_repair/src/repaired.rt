@@ -114,7 +114,7 @@ pub fn recorded_of(
     let scope = [Bytes::from_vec(Vec::from_slice(alloc, b"dut")?)];
     let rounds = texts.rounds.clamp(1, 16);
     let rules = Rules {
-        start: texts.start,
+        registers: texts.rules,
         undriven: UndrivenRule::Released,
     };
     Ok(read_recording(alloc, netlist, text, &scope, rounds, PLACES, rules).ok())

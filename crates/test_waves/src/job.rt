@@ -10,7 +10,7 @@ use std::alloc::Global;
 use std::test::Fail;
 use xr_base::Items;
 use xr_cell::Value;
-use xr_design::{Bytes, Forces, History, StartRule};
+use xr_design::{Bytes, Forces, History, Levels, RegisterRules, StartRule};
 use xr_job::{
     CompareRefusal, Netlist, PLACES, Recorded, Rules, put_compare_line, read_netlist,
     read_recording, replay_and_compare,
@@ -120,7 +120,10 @@ fn recorded_in(alloc: Global, netlist: &mut Netlist, recording: &[u8]) -> Result
         1,
         PLACES,
         Rules {
-            start: StartRule::Cold,
+            registers: RegisterRules {
+                start: StartRule::Cold,
+                levels: Levels::Change,
+            },
             undriven: UndrivenRule::Released,
         },
     )?;

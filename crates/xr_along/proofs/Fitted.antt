@@ -1,11 +1,10 @@
 -- Ways along lines, and the logs of the lines that were taken.
-use Rattle.std.proofs.Common.{◌≡◌, ⊎_elim, ℕ, ◌+◌, ◌<◌, ◌≤◌, ◌==◌, Bool, true, false, Option, Some, None, if◌then◌else◌, List, [], ◌∷◌, ◌++◌, length, refl, sym, subst, ap, ◌∙◌, arith}
+use Rattle.std.proofs.Common.{◌≡◌, ⊎_elim, ℕ, ◌<◌, ◌≤◌, ◌==◌, Bool, true, false, Option, Some, None, if◌then◌else◌}
+use Rattle.std.proofs.Common.{List, [], ◌∷◌, ◌++◌, length, refl, sym, subst, ap, ◌∙◌, arith}
 use Rattle.std.specs.Prelude.{nat_lt}
 use Rattle.std.proofs.lemmas.Bool.{cases_eq, ltb-true, ne_eqb}
 use Rattle.std.proofs.lemmas.List.{length-append}
-use Rattle.xr_cell.specs.declared.value.Value.{Value}
 use Rattle.xr_design.proofs.Numbers.{number_of_place_at}
-use Rattle.xr_design.proofs.Rules.{AgreeBelow}
 use Rattle.xr_design.specs.declared.waveform.Written.{Written}
 use Rattle.xr_design.specs.Fits.{Fits}
 use Rattle.xr_design.specs.Job.{Job, number_of, places_of}
@@ -32,7 +31,8 @@ use Rattle.xr_along.specs.Along as walk
 pub along : (a b c : Contents) → GoesAlong a b → GoesAlong b c → GoesAlong a c
 along a b c first walk.stays = first
 along a b c first (by_class {c = d} goes plain agrees) = by_class (along a b d first goes) plain agrees
-along a b c first (by_line {c = d} goes line next accepts agrees) = by_line (along a b d first goes) line next accepts agrees
+along a b c first (by_line {c = d} goes line next accepts agrees) =
+    by_line (along a b d first goes) line next accepts agrees
 
 -- Places whose class says what they are need no line.
 pub goes_along : {a b : Contents} → GoesOn a b → GoesAlong a b
@@ -51,14 +51,17 @@ plain_not_line j Free plain is = absurd cc
 plain_not_line j (Carried from inverted) plain is = absurd cc
 plain_not_line j Line plain is = absurd plain
 
-plain_found_by : (j : Job) (less : Bool) (class : ClassByNumber) → IsPlain (class_or_done j (if less then Some class else None))
+plain_found_by : (j : Job) (less : Bool) (class : ClassByNumber)
+    → IsPlain (class_or_done j (if less then Some class else None))
     → (less ≡ true) × (class ≡ Line → ⊥)
 plain_found_by j true class plain = (refl, plain_not_line j class plain)
 plain_found_by j false class plain = absurd plain
 
-pub next_plain_is : (c : Contents) → IsPlain (next_seen c) → HasNext c × (class_of (job c) (certain c.written) (next_number c) ≡ Line → ⊥)
+pub next_plain_is : (c : Contents) → IsPlain (next_seen c) → HasNext c
+    × (class_of (job c) (certain c.written) (next_number c) ≡ Line → ⊥)
 next_plain_is c plain =
-    let found = plain_found_by (job c) (nat_lt (length c.written) (places_of (job c))) (class_of (job c) (certain c.written) (length c.written)) plain in
+    let found = plain_found_by (job c) (nat_lt (length c.written) (places_of (job c)))
+    (class_of (job c) (certain c.written) (length c.written)) plain in
     (ltb-true (length c.written) (places_of (job c)) found.0, found.1)
 
 -- The variables of a place rest on the places before it alone.
@@ -82,7 +85,8 @@ none_other : (j : Job) (l : ALine) (place : ℕ) → (number_of j l.place ≡ pl
 none_other j l place other = rw (ne_eqb (number_of j l.place) place other) refl
 
 fits_moved : (c : Contents) (v w : List Written) (place : ℕ) (body : Body)
-    → variables (job c) (certain v) place ≡ variables (job c) (certain w) place → BodyFitsAt c v place body → BodyFitsAt c w place body
+    → variables (job c) (certain v) place ≡ variables (job c) (certain w) place → BodyFitsAt c v place body
+    → BodyFitsAt c w place body
 fits_moved c v w place (Enumerated bit) same fits = fits
 fits_moved c v w place (Refuted bit log) same fits = subst (λ (vs : List ℕ). NamesVariables (length vs) log) same fits
 fits_moved c v w place (Pair zero one) same fits = fits
@@ -100,7 +104,8 @@ record IsFitted (c : Contents) : Type 0 where
   none : (place : ℕ) → length c.written ≤ place → body_at (job c) c.lines place ≡ None
 
 -- One place more.
-grown_fits : (c : Contents) (w : Written) (place : ℕ) (body : Body) → Fits (job c) → HasNext c → place ≤ length c.written
+grown_fits : (c : Contents) (w : Written) (place : ℕ) (body : Body) → Fits (job c) → HasNext c
+    → place ≤ length c.written
     → BodyFitsAt c c.written place body → BodyFitsAt c (c.written ++ w ∷ []) place body
 grown_fits c w place body fits next low here =
     fits_moved c c.written (c.written ++ w ∷ []) place body
@@ -127,12 +132,14 @@ fitted_line c l fits accepts fitted =
     let w = written_by_line c l in
     let next = accepts.line_holds.within in
     let long = length-append c.written (w ∷ []) in
-    let number : number_of j l.place ≡ n = ap (number_of j) accepts.line_holds.place_is ∙ number_of_place_at j n fits.ordering fits.all next in
+    let number : number_of j l.place ≡ n = ap (number_of j) accepts.line_holds.place_is
+    ∙ number_of_place_at j n fits.ordering fits.all next in
     record {
       logs = λ place body less found.
           ⊎_elim (λ (same : place ≡ n).
           (let here : body_at j (c.lines ++ l ∷ []) place ≡ Some l.body =
-          none_front j c.lines (l ∷ []) place (fitted.none place (omega (arith, same))) ∙ body_one j l place (number ∙ sym same) in
+          none_front j c.lines (l ∷ []) place (fitted.none place (omega (arith, same)))
+          ∙ body_one j l place (number ∙ sym same) in
           let body_is : l.body ≡ body = same_body l.body body (sym here ∙ found) in
           grown_fits c w place body fits next (omega (arith, same))
           (subst (λ b. BodyFitsAt c c.written place b) body_is
@@ -154,10 +161,12 @@ fitted_nothing start written lines = record {
   none = λ place past. ap (λ ls. body_at (job start) ls place) lines;
 }
 
-fitted_along : (start c : Contents) → GoesAlong start c → Fits (job start) → start.written ≡ [] → start.lines ≡ [] → IsFitted c
+fitted_along : (start c : Contents) → GoesAlong start c → Fits (job start) → start.written ≡ [] → start.lines ≡ []
+    → IsFitted c
 fitted_along start c walk.stays fits written lines = fitted_nothing start written lines
 fitted_along start c (by_class {c = d} goes plain agrees) fits written lines =
-    fitted_class d (plain_written d) (subst Fits (sym (along_job goes)) fits) (next_plain_is d plain).0 (fitted_along start d goes fits written lines)
+    fitted_class d (plain_written d) (subst Fits (sym (along_job goes)) fits) (next_plain_is d plain).0
+    (fitted_along start d goes fits written lines)
 fitted_along start c (by_line {c = d} goes l next accepts agrees) fits written lines =
     fitted_line d l (subst Fits (sym (along_job goes)) fits) accepts (fitted_along start d goes fits written lines)
 

@@ -32,7 +32,8 @@ pub goes_wave : {a b : Contents} → GoesOn a b → IsWave a → IsWave b
 goes_wave stays wave = wave
 goes_wave (more {c = c} goes plain agrees) wave =
     let is : IsWave c = goes_wave goes wave in
-    subst (λ lines. IsWave (record c { written = c.written ++ plain_written c ∷ []; lines = lines })) (append-nil c.lines)
+    subst (λ lines. IsWave (record c { written = c.written ++ plain_written c ∷ []; lines = lines }))
+    (append-nil c.lines)
     (record {
       fits = is.fits;
       few = is.few;

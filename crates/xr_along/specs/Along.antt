@@ -25,9 +25,11 @@ pub data GoesAlong (start : Contents) : Contents → Type 0 where
 -- A log of a waveform's line names variables of the query of its place alone.
 abbrev pub BodyFitsAt : Contents → List Written → ℕ → Body → Type 0
 BodyFitsAt start waveform place (Enumerated bit) = Unit {0}
-BodyFitsAt start waveform place (Refuted bit log) = NamesVariables (length (variables (job start) (certain waveform) place)) log
+BodyFitsAt start waveform place (Refuted bit log) =
+    NamesVariables (length (variables (job start) (certain waveform) place)) log
 BodyFitsAt start waveform place (Pair zero one) = Unit {0}
-BodyFitsAt start waveform place (Undecided log) = NamesVariables (length (variables (job start) (certain waveform) place)) log
+BodyFitsAt start waveform place (Undecided log) =
+    NamesVariables (length (variables (job start) (certain waveform) place)) log
 
 -- So do all logs of a wave.
 abbrev pub LogsFit : Contents → Type 0
@@ -36,4 +38,5 @@ LogsFit c = (place : ℕ) (body : Body) → place < length c.written → body_at
 
 -- They do where it went along lines from nothing.
 abbrev pub LogsAlongFit : Type 0
-LogsAlongFit = (start c : Contents) → GoesAlong start c → Fits (job start) → start.written ≡ [] → start.lines ≡ [] → LogsFit c
+LogsAlongFit = (start c : Contents) → GoesAlong start c → Fits (job start) → start.written ≡ [] → start.lines ≡ []
+    → LogsFit c

@@ -5,3 +5,4 @@ pub mod Found
 pub mod First
 pub mod Groups
 pub mod Counted
+pub mod Seen

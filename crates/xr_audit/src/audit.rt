@@ -1,6 +1,6 @@
 //! What an audit tells of the places of a wave.
 
-ghost use Rattle.std.specs.Prelude.{◌≡◌, ◌≤◌, IfOk};
+ghost use Rattle.std.specs.Prelude.{◌≡◌, ◌+◌, ◌<◌, ◌≤◌, ◌^◌, IfOk, OnOk};
 ghost use Rattle.std.specs.List.{AllByRecursion};
 ghost use Rattle.xr_design.specs.Job.{places_of};
 ghost use Rattle.xr_report.specs.Counts.{one_if};
@@ -8,15 +8,15 @@ ghost use Rattle.xr_wave.specs.Contents.{job};
 ghost use Rattle.xr_audit.specs.First.{MeetFirst};
 ghost use Rattle.xr_audit.specs.Found as spec;
 ghost use Rattle.xr_audit.specs.Groups.{AreGroups};
-ghost use Rattle.xr_audit.specs.Listed.{IsAudit};
+ghost use Rattle.xr_audit.specs.Listed.{IsAudit, is_listed, is_open};
+ghost use Rattle.xr_audit.specs.Seen.{AreSeen, BeginsStep, StandsInRow};
 
 use crate::found::{Found, add_listed};
 use crate::groups::{Group, groups_of};
-use crate::suspects::{is_listed_as, is_open};
+use crate::suspects::{leaves_open, lists};
 use std::alloc::Global;
 use xr_base::Memory;
-use xr_design::{History, HistoryRow};
-use xr_report::bring;
+use xr_design::{History, HistoryRow, Place, Written, width_of};
 use xr_wave::Wave;
 
 /// What an audit tells.
@@ -52,9 +52,8 @@ pub fn audit_of(alloc: Global, wave: &Wave<'_>, replayed: &History) -> Result<Au
     // What is told is at places of the job.
     ensures places { IfOk result (λ audit. AllByRecursion (spec.HasPlace (job wave.now)) audit.listed.items) }
 {
-    let listed = list_places(alloc, wave, replayed)?;
+    let Seen { listed, unsure } = see_places(alloc, wave, replayed)?;
     let groups = groups_of(alloc, &wave.circuit(), listed.as_slice())?;
-    let unsure = count_open(wave, replayed);
     Ok(Audit {
         listed,
         groups,
@@ -62,37 +61,103 @@ pub fn audit_of(alloc: Global, wave: &Wave<'_>, replayed: &History) -> Result<Au
     })
 }
 
-fn list_places(alloc: Global, wave: &Wave<'_>, replayed: &History) -> Result<Vec<Found>, Memory>
-    requires { IsAudit wave.now replayed.now }
-    ensures listed { IfOk result (λ listed. spec.AreFound wave.now replayed.now
-        (spec.listed_below wave.now replayed.now (places_of (job wave.now))) listed.items) }
-    ensures driven { IfOk result (λ listed. AllByRecursion (spec.IsDriven (job wave.now)) listed.items) }
-    ensures first { IfOk result (λ listed. MeetFirst wave.now replayed.now listed.items) }
-    ensures places { IfOk result (λ listed. AllByRecursion (spec.HasPlace (job wave.now)) listed.items) }
-{
-    let circuit = wave.circuit();
-    let mut listed = Vec::new(alloc);
-    let mut row = HistoryRow::first(alloc, replayed)?;
-    'places: for number in 0..wave.count() {
-        let place = circuit.place_of(number);
-        bring(alloc, &mut row, place.step)?;
-        if is_listed_as(wave, replayed, place, row.shown(place.net)) {
-            add_listed(alloc, &mut listed, wave, replayed, place)?;
-        }
-    }
-    Ok(listed)
+/// What was seen so far.
+#[derive(Debug, Drop)]
+struct Seen {
+    /// The listed places, in place order.
+    listed: Vec<Found>,
+    /// How many places are open.
+    unsure: u64,
 }
 
-fn count_open(wave: &Wave<'_>, replayed: &History) -> u64
+/// Looks at all places, step by step.
+fn see_places(alloc: Global, wave: &Wave<'_>, replayed: &History) -> Result<Seen, Memory>
     requires { IsAudit wave.now replayed.now }
-    ensures { result ≡ spec.open_below wave.now replayed.now (places_of (job wave.now)) }
+    ensures listed { IfOk result (λ seen. spec.AreFound wave.now replayed.now
+        (spec.listed_below wave.now replayed.now (places_of (job wave.now))) seen.listed.items) }
+    ensures driven { IfOk result (λ seen. AllByRecursion (spec.IsDriven (job wave.now)) seen.listed.items) }
+    ensures first { IfOk result (λ seen. MeetFirst wave.now replayed.now seen.listed.items) }
+    ensures places { IfOk result (λ seen. AllByRecursion (spec.HasPlace (job wave.now)) seen.listed.items) }
+    ensures unsure { IfOk result (λ seen. seen.unsure
+        ≡ spec.open_below wave.now replayed.now (places_of (job wave.now))) }
+{
+    let count = wave.count();
+    let width = width_of(&wave.circuit());
+    let mut row = HistoryRow::first(alloc, replayed)?;
+    let mut seen = Seen {
+        listed: Vec::new(alloc),
+        unsure: 0,
+    };
+    let mut first = 0;
+    'steps: while first < count {
+        see_step(alloc, &mut seen, wave, &row, first)?;
+        first += width;
+        row.next_step();
+    }
+    Ok(seen)
+}
+
+/// Looks at the places of the step of a row, of which the first one has the number.
+fn see_step(
+    alloc: Global,
+    seen: &mut Seen,
+    wave: &Wave<'_>,
+    row: &HistoryRow<'_>,
+    first: usize,
+) -> Result<(), Memory>
+    requires step { BeginsStep wave.now row.now first }
+    requires before { AreSeen wave.now row.now.history first seen.old.listed.items seen.old.unsure }
+    ensures { let behind = first + (job wave.now).width in
+        OnOk result (AreSeen wave.now row.now.history behind seen.new.listed.items seen.new.unsure) }
 {
     let circuit = wave.circuit();
-    let mut unsure: u64 = 0;
-    'places: for number in 0..wave.count() {
-        unsure += one_if(is_open(wave, replayed, circuit.place_of(number)));
+    let step = row.step() as u32;
+    'positions: for position in 0..width_of(&circuit) {
+        let net = circuit.order.net(position as u32);
+        let written = wave.written(first + position);
+        see_place(alloc, seen, wave, row, Place { step, net }, written)?;
     }
-    unsure
+    Ok(())
+}
+
+/// Looks at a place. One that is neither listed nor open costs no look-up by its number.
+fn see_place(
+    alloc: Global,
+    seen: &mut Seen,
+    wave: &Wave<'_>,
+    row: &HistoryRow<'_>,
+    place: Place,
+    written: Written,
+) -> Result<(), Memory>
+    requires place { StandsInRow wave.now row.now place written }
+    requires few { seen.old.unsure < 2 ^ 40 }
+    ensures listed { OnOk result (spec.Adds wave.now row.now.history seen.old.listed.items
+        (spec.listed_if (is_listed wave.now row.now.history place) place) seen.new.listed.items) }
+    ensures unsure { OnOk result
+        (seen.new.unsure ≡ seen.old.unsure + one_if (is_open wave.now row.now.history place)) }
+{
+    add_seen(alloc, &mut seen.listed, wave, row, place, written)?;
+    seen.unsure += one_if(leaves_open(written.mark, row.shown(place.net)));
+    Ok(())
+}
+
+fn add_seen(
+    alloc: Global,
+    listed: &mut Vec<Found>,
+    wave: &Wave<'_>,
+    row: &HistoryRow<'_>,
+    place: Place,
+    written: Written,
+) -> Result<(), Memory>
+    requires { StandsInRow wave.now row.now place written }
+    ensures { OnOk result (spec.Adds wave.now row.now.history listed.old.items
+        (spec.listed_if (is_listed wave.now row.now.history place) place) listed.new.items) }
+{
+    if lists(written.mark, written.value, row.shown(place.net)) {
+        add_listed(alloc, listed, wave, row.history(), place)
+    } else {
+        Ok(())
+    }
 }
 
 fn one_if(passes: bool) -> u64

@@ -120,24 +120,13 @@ pub fn is_listed(wave: &Wave<'_>, replayed: &History, place: Place) -> bool
     requires net { place.net < (job wave.now).width }
     ensures { result ≡ spec.is_listed wave.now replayed.now place }
 {
-    is_listed_as(wave, replayed, place, replayed.shown(place))
-}
-
-/// The same of a place whose value in the replay is in hand.
-pub fn is_listed_as(wave: &Wave<'_>, _replayed: &History, place: Place, shown: Value) -> bool
-    requires audit { spec.IsAudit wave.now _replayed.now }
-    requires step { place.step < (job wave.now).moments * (job wave.now).rounds }
-    requires net { place.net < (job wave.now).width }
-    requires shown { shown ≡ spec.replayed_at _replayed.now place }
-    ensures { result ≡ spec.is_listed wave.now _replayed.now place }
-{
     // With it comes the fact that the job fits.
     let _count = wave.count();
-    lists(wave.mark(place), wave.value(place), shown)
+    lists(wave.mark(place), wave.value(place), replayed.shown(place))
 }
 
 /// Whether the replay knows a place that is undecided.
-pub fn is_open(wave: &Wave<'_>, replayed: &History, place: Place) -> bool
+fn is_open(wave: &Wave<'_>, replayed: &History, place: Place) -> bool
     requires audit { spec.IsAudit wave.now replayed.now }
     requires step { place.step < (job wave.now).moments * (job wave.now).rounds }
     requires net { place.net < (job wave.now).width }
@@ -152,12 +141,24 @@ pub fn is_open(wave: &Wave<'_>, replayed: &History, place: Place) -> bool
     }
 }
 
-fn lists(mark: Mark, value: Value, replayed: Value) -> bool
+/// Whether the replay's value is known, at a place that is certain with another one, or unknown. Takes no memory.
+pub fn lists(mark: Mark, value: Value, replayed: Value) -> bool
     ensures { result ≡ spec.lists mark value replayed }
 {
     match mark {
         Mark::Certain => replayed.is_known() && value != replayed,
         Mark::Unknown => replayed.is_known(),
         Mark::Undecided => false,
+    }
+}
+
+/// Whether it is known, at a place that is undecided. Takes no memory.
+pub fn leaves_open(mark: Mark, replayed: Value) -> bool
+    ensures { result ≡ spec.leaves_open mark replayed }
+{
+    match mark {
+        Mark::Certain => false,
+        Mark::Unknown => false,
+        Mark::Undecided => replayed.is_known(),
     }
 }

@@ -1,6 +1,5 @@
 -- The lines of a wave that went along lines have words.
 use Rattle.std.proofs.Common.{◌≡◌, ◌≢◌, ℕ, zero, suc, ◌*◌, ◌^◌, ◌<◌, ◌≤◌, Bool, true, false, if◌then◌else◌, List, [], ◌∷◌, ◌++◌, length, refl, sym, subst, ap, ◌∙◌, arith}
-use Rattle.std.proofs.Math.Nat.{le-mul_of_pos_right, mul_comm}
 use Rattle.std.specs.Prelude.{ℤ, pos, nat_abs}
 use Rattle.std.specs.List.{All, AllByRecursion}
 use Rattle.std.proofs.lemmas.List.{length-append, length-map}
@@ -9,7 +8,7 @@ use Rattle.xr_design.proofs.Numbers.{is_place_at}
 use Rattle.xr_design.specs.declared.place.Place.{Place}
 use Rattle.xr_design.specs.Filling.{IsPlace}
 use Rattle.xr_design.specs.Fits.{Fits, place_at}
-use Rattle.xr_design.specs.Job.{Job, places_of}
+use Rattle.xr_design.specs.Job.{Job}
 use Rattle.xr_design.specs.Waveform.{certain}
 use Rattle.xr_model.specs.Class.{class_of}
 use Rattle.xr_model.specs.Places.{places_where}
@@ -27,18 +26,15 @@ use Rattle.xr_along.specs.Along.{GoesAlong, by_class, by_line}
 use Rattle.xr_along.specs.Along as walk
 use Rattle.xr_cert_text.specs.Fits.{FitsBody, FitsLine, FitsLiteral, FitsLog, FitsPlace}
 
--- Places of the job,
-pub place_fits : (j : Job) → Fits j → places_of j ≤ 2 ^ 27 → (place : Place) → IsPlace j place → FitsPlace place
+-- Places of a job of at most 2^32 steps,
+pub place_fits : (j : Job) → Fits j → j.moments * j.rounds ≤ 2 ^ 32 → (place : Place) → IsPlace j place → FitsPlace place
 place_fits j fits most place is =
     let step = is.step in
     let net = is.net in
     let nets = fits.few_nets in
-    let wide : j.moments * j.rounds ≤ (j.moments * j.rounds) * j.width = le-mul_of_pos_right (j.moments * j.rounds)
-    (omega (arith, net)) in
-    let few : (j.moments * j.rounds) * j.width ≤ 2 ^ 27 = rw (mul_comm (j.moments * j.rounds) j.width) most in
-    record { step = omega (arith, step, wide, few); net = omega (arith, net, nets) }
+    record { step = omega (arith, step, most); net = omega (arith, net, nets) }
 
-filling_fits : (j : Job) → Fits j → places_of j ≤ 2 ^ 27 → (places : List Place) → AllByRecursion (IsPlace j) places
+filling_fits : (j : Job) → Fits j → j.moments * j.rounds ≤ 2 ^ 32 → (places : List Place) → AllByRecursion (IsPlace j) places
     → AllByRecursion FitsPlace places
 filling_fits j fits most [] all = tt
 filling_fits j fits most (place ∷ places) all =
@@ -69,7 +65,7 @@ pub log_fits : (count : ℕ) (log : List (List ℤ)) → count < 2 ^ 31 → 0 < 
 log_fits count log few some names = record { some = some; literals = clauses_fit count log few names.no_zero names.fit }
 
 -- A body that is accepted at the next place has words.
-body_fits : (c : Contents) → Fits (job c) → places_of (job c) ≤ 2 ^ 27 → IsLimit c.limit → (body : Body)
+body_fits : (c : Contents) → Fits (job c) → (job c).moments * (job c).rounds ≤ 2 ^ 32 → IsLimit c.limit → (body : Body)
     → HoldsNext c body → BodyFits c body → FitsBody body
 body_fits c fits most limited (Enumerated bit) holds names = tt
 body_fits c fits most limited (Refuted bit log) holds names =
@@ -88,7 +84,7 @@ body_fits c fits most limited (Undecided log) holds names =
     let some = limited.some in
     log_fits (variables_next c) log (omega (arith, few, vars)) (omega (arith, long, some)) names
 
-line_fits : (c : Contents) → Fits (job c) → places_of (job c) ≤ 2 ^ 27 → IsLimit c.limit → (line : ALine)
+line_fits : (c : Contents) → Fits (job c) → (job c).moments * (job c).rounds ≤ 2 ^ 32 → IsLimit c.limit → (line : ALine)
     → AcceptsLine c line → FitsLine line
 line_fits c fits most limited line accepts =
     let next = accepts.line_holds.within in
@@ -109,18 +105,19 @@ fits_more : (lines : List ALine) (line : ALine) → AllByRecursion FitsLine line
 fits_more [] line all last = (last, tt)
 fits_more (l ∷ lines) line all last = (all.0, fits_more lines line all.1 last)
 
-pub lines_fit : (start c : Contents) → GoesAlong start c → Fits (job start) → places_of (job start) ≤ 2 ^ 27
-    → IsLimit start.limit → start.lines ≡ [] → AllByRecursion FitsLine c.lines
+pub lines_fit : (start c : Contents) → GoesAlong start c → Fits (job start)
+    → (job start).moments * (job start).rounds ≤ 2 ^ 32 → IsLimit start.limit → start.lines ≡ [] → AllByRecursion FitsLine c.lines
 lines_fit start c walk.stays fits most limited none = subst (AllByRecursion FitsLine) (sym none) tt
 lines_fit start c (by_class {c = d} goes plain agrees) fits most limited none =
     lines_fit start d goes fits most limited none
 lines_fit start c (by_line {c = d} goes line next accepts agrees) fits most limited none =
     fits_more d.lines line (lines_fit start d goes fits most limited none)
     (line_fits d (subst Fits (sym (along_job goes)) fits)
-    (subst (λ (j : Job). places_of j ≤ 2 ^ 27) (sym (along_job goes)) most) (subst IsLimit (sym (along_limit goes)) limited) line accepts)
+    (subst (λ (j : Job). j.moments * j.rounds ≤ 2 ^ 32) (sym (along_job goes)) most)
+    (subst IsLimit (sym (along_limit goes)) limited) line accepts)
 
 -- There are no more lines than places.
-pub picked_few : (test : ℕ → Bool) (n : ℕ) → length (places_where test n) ≤ n
+picked_few : (test : ℕ → Bool) (n : ℕ) → length (places_where test n) ≤ n
 picked_few test zero = omega arith
 picked_few test (suc n) =
     let few = picked_few test n in
@@ -128,7 +125,7 @@ picked_few test (suc n) =
     elim (test n) as (λ t. length (if t then places_where test n ++ n ∷ [] else places_where test n) ≤ suc n)
     [ true ↦ omega (arith, few, long) | false ↦ omega (arith, few) ]
 
-pub few_lines : (c : Contents) → IsWave c → length c.lines ≤ 2 ^ 27
+pub few_lines : (c : Contents) → IsWave c → length c.lines ≤ 2 ^ 40
 few_lines c wave =
     let numbers = line_places (job c) (certain c.written) (length c.written) in
     let long = sym (length-map c.lines (λ (line : ALine). line.place)) ∙ (ap length wave.holds.yields.places

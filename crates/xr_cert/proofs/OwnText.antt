@@ -1,8 +1,9 @@
 -- The certificate of a wave that went along lines from nothing has a text.
 use Rattle.std.proofs.Common.{ℕ, ◌*◌, ◌^◌, ◌≤◌, true, false, if◌then◌else◌, List, [], ◌∷◌, ◌++◌, length, length-append, refl, sym, subst, arith}
 use Rattle.std.specs.List.{AllByRecursion}
+use Rattle.xr_design.proofs.Numbers.{few_steps}
 use Rattle.xr_design.specs.Fits.{Fits}
-use Rattle.xr_design.specs.Job.{Job, number_of, places_of}
+use Rattle.xr_design.specs.Job.{Job, number_of}
 use Rattle.xr_model.specs.declared.line.Line.{Line as ALine}
 use Rattle.xr_model.specs.declared.turn.TurnLine.{TurnLine}
 use Rattle.xr_wave.specs.Contents.{Contents, IsLimit, job}
@@ -89,7 +90,7 @@ entries_few Turns c views are = turns_few c c.lines views are
 pub own_text_stands : OwnTextStands
 own_text_stands form start c conditions none goes wave are =
     let fits : Fits (job start) = subst Fits (along_job goes) wave.fits.fits_job in
-    let most : places_of (job start) ≤ 2 ^ 27 = subst (λ (j : Job). places_of j ≤ 2 ^ 27) (along_job goes) wave.few in
+    let most : (job start).moments * (job start).rounds ≤ 2 ^ 32 = few_steps start.stim in
     let limited : IsLimit start.limit = subst IsLimit (along_limit goes) wave.limited in
     let rounds = c.stim.few_rounds in
     let moments = c.stim.few_moments in

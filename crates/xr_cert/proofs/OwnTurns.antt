@@ -1,11 +1,11 @@
 -- The turns of a condition have words, and there are at most 64.
-use Rattle.std.proofs.Common.{◌≡◌, ℕ, ◌+◌, ◌^◌, ◌<◌, ◌≤◌, Bool, true, false, if◌then◌else◌, List, [], ◌∷◌, ◌++◌, length, map, refl, sym, subst, arith}
+use Rattle.std.proofs.Common.{◌≡◌, ℕ, ◌+◌, ◌*◌, ◌^◌, ◌<◌, ◌≤◌, Bool, true, false, if◌then◌else◌, List, [], ◌∷◌, ◌++◌, length, map, refl, sym, subst, arith}
 use Rattle.std.specs.Prelude.{nat_lt}
 use Rattle.std.specs.List.{AllByRecursion}
 use Rattle.std.proofs.lemmas.Bool.{or_left}
 use Rattle.std.proofs.lemmas.Bool.Decides.{nat_tests}
 use Rattle.xr_cell.specs.declared.value.Value.{Value}
-use Rattle.xr_design.proofs.Numbers.{is_place_at}
+use Rattle.xr_design.proofs.Numbers.{few_steps, is_place_at}
 use Rattle.xr_design.specs.declared.place.Place.{Place}
 use Rattle.xr_design.specs.Fits.{Fits, place_at}
 use Rattle.xr_design.specs.Job.{Job, places_of}
@@ -27,18 +27,11 @@ use Rattle.xr_turns.specs.TurnLines.{stated, turn_lines}
 use Rattle.xr_turns.proofs.StatedTurns.{states_turns}
 use Rattle.xr_wave.specs.Contents.{Contents, job}
 use Rattle.xr_cert_text.specs.Fits.{FitsPlace, FitsTurn, FitsTurnLine}
-use Rattle.xr_cert.proofs.OwnLines.{log_fits, picked_few, place_fits}
+use Rattle.xr_cert.proofs.OwnLines.{log_fits, place_fits}
 
--- The turn query of a place that isn't carried has some variables, and not too many.
-module _ (j : Job) (fits : Fits j) (most : places_of j ≤ 2 ^ 27) (c : ℕ → Value) (root : ℕ)
-    (within : root < places_of j)
+-- The turn query of a place that isn't carried has some variables.
+module _ (j : Job) (fits : Fits j) (c : ℕ → Value) (root : ℕ) (within : root < places_of j)
     (free : is_carried (class_of j c root) ≡ false) where
-  few_variables : length (turn_variables j c root) ≤ 2 ^ 27
-  unfolding turn_variables
-  few_variables =
-      let few = picked_few (is_turn_variable j c root) (root + 1) in
-      omega (arith, few, within, most)
-
   is_own : is_turn_variable j c root root ≡ true
   is_own = or_left (is_variable j c root root) (is_boundary j c root root)
       (rw (cone_self j fits c root within, free) refl)
@@ -49,18 +42,18 @@ module _ (j : Job) (fits : Fits j) (most : places_of j ≤ 2 ^ 27) (c : ℕ → 
   turn_fits : (value : Bool) (limit : ℕ) (listed : List ℕ) (turn : Turn) → 0 < limit
       → IsTurn j c root value limit listed turn → FitsTurn turn
   turn_fits value limit listed (Dropped log) some is =
-      let vars = is.is_query.vars in
+      let few = is.query.few in
       let ends = is.finds.1.ends.1 in
-      log_fits is.query.vars log (omega (arith, vars, few_variables)) (omega (arith, ends))
+      log_fits is.query.vars log (omega (arith, few)) (omega (arith, ends))
       (record { fit = is.finds.0.fit; no_zero = is.finds.0.no_zero })
   turn_fits value limit listed (Needed model) some is =
       let vars = is.is_query.vars in
       let count = is.finds.count in
       omega (arith, vars, count, some_variables)
   turn_fits value limit listed (Tried log) some is =
-      let vars = is.is_query.vars in
+      let few = is.query.few in
       let long = is.finds.2 in
-      log_fits is.query.vars log (omega (arith, vars, few_variables)) (omega (arith, long, some))
+      log_fits is.query.vars log (omega (arith, few)) (omega (arith, long, some))
       (record { fit = is.finds.0.fit; no_zero = is.finds.0.no_zero })
 
   turns_fit : (value : Bool) (limit : ℕ) (kept due : List ℕ) (turns : List Turn) → 0 < limit
@@ -73,7 +66,7 @@ module _ (j : Job) (fits : Fits j) (most : places_of j ≤ 2 ^ 27) (c : ℕ → 
   )
 
 -- Its boundary places are those of the job.
-places_fit : (j : Job) → Fits j → places_of j ≤ 2 ^ 27 → (numbers : List ℕ)
+places_fit : (j : Job) → Fits j → j.moments * j.rounds ≤ 2 ^ 32 → (numbers : List ℕ)
     → AllByRecursion (λ k. k < places_of j) numbers
     → AllByRecursion FitsPlace (map (place_at j) numbers)
 places_fit j fits most [] all = tt
@@ -82,7 +75,7 @@ places_fit j fits most (k ∷ numbers) all = (
   places_fit j fits most numbers all.1,
 )
 
-boundary_fits : (j : Job) → Fits j → places_of j ≤ 2 ^ 27 → (c : ℕ → Value) (root : ℕ) → root < places_of j
+boundary_fits : (j : Job) → Fits j → j.moments * j.rounds ≤ 2 ^ 32 → (c : ℕ → Value) (root : ℕ) → root < places_of j
     → AllByRecursion FitsPlace (map (place_at j) (certain_boundary j c root))
 boundary_fits j fits most c root within =
     places_fit j fits most (certain_boundary j c root)
@@ -107,8 +100,8 @@ turn_lines_fit c root view is =
     let b : List ℕ = certain_boundary_in c root in
     stated_fit view.boundary view.turns
     (subst (AllByRecursion FitsPlace) (sym is.boundary)
-    (boundary_fits j fits is.wave.few (certain c.written) root is.has.within))
-    (turns_fit j fits is.wave.few (certain c.written) root is.has.within is.has.free (settled_bit c root) c.limit
+    (boundary_fits j fits (few_steps c.stim) (certain c.written) root is.has.within))
+    (turns_fit j fits (certain c.written) root is.has.within is.has.free (settled_bit c root) c.limit
     (first_kept b) (first_due b)
     view.turns is.wave.limited.some is.turns)
 

@@ -1,10 +1,10 @@
 //! The check of a certificate.
 
-ghost use Rattle.std.specs.Prelude.{◌≡◌, ◌≤◌, ◌^◌, ◌↔◌, IfErr, IfOk, IsTrue, List, MatchResult};
+ghost use Rattle.std.specs.Prelude.{◌≡◌, ◌↔◌, IfErr, IfOk, IsTrue, List, MatchResult};
 ghost use Rattle.xr_design.specs.declared.waveform.Written.{Written};
 ghost use Rattle.xr_design.specs.Circuit.{PartsFit};
 ghost use Rattle.xr_design.specs.Handed.{IsHandedIn};
-ghost use Rattle.xr_design.specs.Job.{job_of, places_of};
+ghost use Rattle.xr_design.specs.Job.{job_of};
 ghost use Rattle.xr_wave.specs.Contents.{IsLimit, nothing_written};
 ghost use Rattle.xr_cert.specs.declared.refusal.CheckErr.TheVariants.{Memory as OutOfMemory};
 ghost use Rattle.xr_cert.specs.Checked.{AreNumbers, IsAccepted, IsChecked, IsRefusalOf};
@@ -39,7 +39,6 @@ pub fn check_cert<'a>(
     limit: u32,
 ) -> Result<Checked<'a>, CheckErr>
     requires fits { PartsFit design.now order.now stim.now }
-    requires few { places_of (job_of design.now order.now stim.now) ≤ 2 ^ 27 }
     requires handed { IsHandedIn (job_of design.now order.now stim.now) replayed.now }
     requires limit { IsLimit limit }
     ensures checked { let start = nothing_written design.now order.now stim.now replayed.now limit in
@@ -66,7 +65,6 @@ fn checked_wave<'a>(
     limit: u32,
 ) -> Result<Checked<'a>, CheckErr>
     requires fits { PartsFit design.now order.now stim.now }
-    requires few { places_of (job_of design.now order.now stim.now) ≤ 2 ^ 27 }
     requires handed { IsHandedIn (job_of design.now order.now stim.now) replayed.now }
     requires limit { IsLimit limit }
     ensures checked { let start = nothing_written design.now order.now stim.now replayed.now limit in

@@ -1,5 +1,6 @@
 -- What the first and the last choice of bits say of the class of a place.
-use Rattle.std.proofs.Common.{◌≡◌, ℕ, ◌+◌, ◌-◌, ◌^◌, ◌<◌, ◌==◌, ◌&&◌, Bool, true, false, None, Some, List, [], ◌∷◌, length, not, refl, sym, ap, ◌∙◌, arith, subst, if◌then◌else◌, inl, inr, ◌⊎◌, ⊎_elim}
+use Rattle.std.proofs.Common.{◌≡◌, ℕ, ◌+◌, ◌-◌, ◌^◌, ◌<◌, ◌==◌, ◌&&◌, Bool, true, false, None, Some, List, [], ◌∷◌}
+use Rattle.std.proofs.Common.{length, not, refl, sym, ap, ◌∙◌, arith, subst, if◌then◌else◌, inl, inr, ◌⊎◌, ⊎_elim}
 use Rattle.std.specs.Prelude.{Contains}
 use Rattle.std.specs.List.{AllByRecursion}
 use Rattle.std.proofs.Math.Nat.{pow-suc}

@@ -1,5 +1,6 @@
 -- Few pins have few nets.
-use Rattle.std.proofs.Common.{◌≡◌, ℕ, ◌+◌, ◌-◌, ◌*◌, ◌≤◌, ◌^◌, Bool, cond, not, List, [], ◌∷◌, length, count_by, refl, arith}
+use Rattle.std.proofs.Common.{◌≡◌, ℕ, ◌+◌, ◌-◌, ◌*◌, ◌≤◌, ◌^◌, Bool, cond, not, List, [], ◌∷◌, length, count_by, refl}
+use Rattle.std.proofs.Common.{arith}
 use Rattle.std.proofs.lemmas.List.{length-map}
 use Rattle.std.proofs.lemmas.List.Recursion.{is_count_by}
 use Rattle.std.proofs.Math.Nat.{mul-le-mul_right}
@@ -51,4 +52,5 @@ pub places_long : (j : Job) (step : ℕ) (pins : List Pin) → length (places_at
 places_long j step pins = length-map (net_pins pins) (at j step)
 
 pub room_back : (w step back : ℕ) → step * w + w ≤ 2 ^ 40 → (step - back) * w + w ≤ 2 ^ 40
-room_back w step back small = let low : (step - back) * w ≤ step * w = mul-le-mul_right w (omega arith) in omega (arith, low, small)
+room_back w step back small = let low : (step - back) * w ≤ step * w = mul-le-mul_right w (omega arith) in
+    omega (arith, low, small)

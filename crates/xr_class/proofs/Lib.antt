@@ -2,15 +2,15 @@
 mod EarlierPlaces
 mod EndClasses
 mod FewNets
-mod MixedClasses
-mod MovedRules
+pub mod MixedClasses
+pub mod MovedRules
 mod PassingTests
 mod QuickClasses
 mod RisingPlaces
-mod SteadyClasses
+pub mod SteadyClasses
 pub mod StepBefore
 mod Reached
-mod WiredPlaces
+pub mod WiredPlaces
 mod WiredSteady
 mod WiredRegisters
 mod SettledWires

@@ -1,10 +1,12 @@
 -- Places whose arguments have the certain values of a step before: over all assignments their rule gives what it gave.
-use Rattle.std.proofs.Common.{◌≡◌, ℕ, suc, ◌+◌, ◌-◌, ◌*◌, ◌<◌, ◌==◌, ◌||◌, not, Bool, true, false, List, [], ◌∷◌, refl, sym, ap, ◌∙◌, arith, subst, if◌then◌else◌, ⊎_elim}
+use Rattle.std.proofs.Common.{◌≡◌, ℕ, suc, ◌+◌, ◌-◌, ◌*◌, ◌<◌, ◌==◌, ◌||◌, not, Bool, true, false, List, [], ◌∷◌, refl}
+use Rattle.std.proofs.Common.{sym, ap, ◌∙◌, arith, subst, if◌then◌else◌, ⊎_elim}
 use Rattle.std.specs.List.{AllByRecursion}
 use Rattle.std.proofs.lemmas.Bool.{and_parts, or_cases, eqb-true, ne_eqb}
 use Rattle.xr_cell.specs.declared.value.Value.{Value}
 use Rattle.xr_cell.specs.declared.value.Value.TheVariants.{Zero, One, X, Z}
 use Rattle.xr_cell.specs.Value.{bit_value, is_unknown}
+use Rattle.xr_cell.specs.Hold.{hold}
 use Rattle.xr_cell.specs.Next.{next}
 use Rattle.xr_design.specs.declared.design.Driver.{Driver}
 use Rattle.xr_design.specs.declared.design.Driver.TheVariants.{Cell, Register}
@@ -17,7 +19,7 @@ use Rattle.xr_design.specs.Job.{Job, at, net_of, primitive_of, step_of}
 use Rattle.xr_design.specs.Order.{net_pins, position_of}
 use Rattle.xr_design.specs.Register.{has_unknown_clock, pins_at}
 use Rattle.xr_design.specs.Replay.{table_of}
-use Rattle.xr_design.specs.Rule.{as_values, register_rule, rule, rule_of}
+use Rattle.xr_design.specs.Rule.{as_values, held_or, register_rule, rule, rule_of}
 use Rattle.xr_design.proofs.Rules.{rule_reads}
 use Rattle.xr_model.specs.Assignment.{assigned, for_every}
 use Rattle.xr_model.specs.Class.{are_equal, is_carried_on, class_of, is_bit, is_free, is_local, is_never_unknown}
@@ -29,7 +31,7 @@ use Rattle.xr_class.specs.Facts.{AgreeBefore, AgreesWith}
 use Rattle.xr_class.specs.Keeps.{nets_keep, net_keeps}
 
 -- A net that keeps has the certain value that it had.
-same_value : (x y : Value) → are_equal x y ≡ true → x ≡ y
+pub same_value : (x y : Value) → are_equal x y ≡ true → x ≡ y
 same_value Zero Zero equal = refl
 same_value One One equal = refl
 same_value Zero One equal = cc
@@ -41,7 +43,7 @@ same_value One Z equal = cc
 same_value X y equal = cc
 same_value Z y equal = cc
 
-as_it_is : (v : Value) → flipped_value false v ≡ v
+pub as_it_is : (v : Value) → flipped_value false v ≡ v
 as_it_is Zero = refl
 as_it_is One = refl
 as_it_is X = refl
@@ -56,7 +58,7 @@ agrees_on c (Carried from false) back v on agrees =
 agrees_on c (Carried from true) back v on agrees = let none = (and_parts (from == back) false on).1 in cc
 agrees_on c Line back v on agrees = cc
 
-kept_value : (j : Job) (c : ℕ → Value) (place step net : ℕ) → AgreeBefore j c place → at j step net < place
+pub kept_value : (j : Job) (c : ℕ → Value) (place step net : ℕ) → AgreeBefore j c place → at j step net < place
     → net_keeps j c step net ≡ true → c (at j step net) ≡ c (at j (step - 1) net)
 kept_value j c place step net agree less kept =
     let here : ℕ = at j step net in
@@ -98,7 +100,7 @@ moved_back : (j : Job) (bits : ℕ → Bool) → Moved j (λ k. bits (k + j.widt
 moved_back j bits s t net next = ap bits (more_one j.width s t (position_of j.order net) next)
 
 -- So pins have the values that they had.
-pins_moved : (j : Job) (c : ℕ → Value) (early late : ℕ → Bool) (s t : ℕ) (pins : List Pin) → s ≡ suc t
+pub pins_moved : (j : Job) (c : ℕ → Value) (early late : ℕ → Bool) (s t : ℕ) (pins : List Pin) → s ≡ suc t
     → Moved j early late → SameAt j c s t (net_pins pins)
     → pins_at j (as_values (assigned c late)) s pins ≡ pins_at j (as_values (assigned c early)) t pins
 pins_moved j c early late s t [] next moved same = refl
@@ -109,7 +111,7 @@ pins_moved j c early late s t (Bit bit ∷ pins) next moved same =
 pins_moved j c early late s t (Dead ∷ pins) next moved same =
     rw (pins_moved j c early late s t pins next moved same) refl
 
-values_moved : (j : Job) (c : ℕ → Value) (s t : ℕ) (pins : List Pin) → SameAt j c s t (net_pins pins)
+pub values_moved : (j : Job) (c : ℕ → Value) (s t : ℕ) (pins : List Pin) → SameAt j c s t (net_pins pins)
     → pins_at j c s pins ≡ pins_at j c t pins
 values_moved j c s t [] same = refl
 values_moved j c s t (Net net ∷ pins) same = rw (same.0, values_moved j c s t pins same.1) refl
@@ -157,7 +159,8 @@ kinds_moved j c place back moves = record {
   never = every_moved j c place back (λ v. not (is_unknown v)) moves;
 }
 
-pub rule_here : (j : Job) (c : ℕ → Value) (bits : ℕ → Bool) (place step net : ℕ) (driver : Driver) → step_of j place ≡ step
+pub rule_here : (j : Job) (c : ℕ → Value) (bits : ℕ → Bool) (place step net : ℕ) (driver : Driver)
+    → step_of j place ≡ step
     → net_of j place ≡ net → j.driver net ≡ driver → rule j c bits place ≡ rule_of j c bits step net driver
 unfolding rule
 rule_here j c bits place step net driver step_is net_is is =
@@ -181,12 +184,18 @@ cell_moves j c place back s t net table pins one driver same early late moved =
     ∙ ap (table_of j.udps table) (pins_moved j c early late s t pins one.next moved same)
     ∙ sym (rule_here j c (assigned c early) back t net (Cell table pins) one.back_step one.back_net driver)
 
+-- What a register makes of values at its pins, and of its own.
+abbrev made : Job → Latching → List Value → List Value → Value → Value
+made j latching old new kept =
+    held_or j.levels (hold (primitive_of j.udps latching.udp) new)
+    (next (primitive_of j.udps latching.udp) latching.clocks old new kept)
+
 -- What a register gives, by the certain values of where it looks back, and by the bits there.
 abbrev looked : Job → Latching → List Value → List Value → Value → List Value → List Value → Value → Value
 looked j latching old new kept old_bits new_bits kept_bit =
     if has_unknown_clock latching.clocks old || has_unknown_clock latching.clocks new
-    then next (primitive_of j.udps latching.udp) latching.clocks old new kept
-    else next (primitive_of j.udps latching.udp) latching.clocks old_bits new_bits kept_bit
+    then made j latching old new kept
+    else made j latching old_bits new_bits kept_bit
 
 looked_at : (j : Job) (c : ℕ → Value) (bits : ℕ → Bool) (s new old net : ℕ) (latching : Latching) → (s == 0) ≡ false
     → (s == 1) ≡ false → s - 1 ≡ new → s - 2 ≡ old
@@ -207,7 +216,8 @@ not_numeral s t is = (ne_eqb s 0 (λ e. omega (arith, is, e)), ne_eqb s 1 (λ e.
 -- A register that looks back at the certain values that it looked back at a step before.
 pub register_moves : (j : Job) (c : ℕ → Value) (place back s t u v net : ℕ) (latching : Latching)
     → OneBack j place back s t net → t ≡ suc u → u ≡ suc v → j.driver net ≡ Register latching
-    → c (at j t net) ≡ c (at j u net) → SameAt j c t u (net_pins latching.pins) → SameAt j c u v (net_pins latching.pins)
+    → c (at j t net) ≡ c (at j u net) → SameAt j c t u (net_pins latching.pins)
+    → SameAt j c u v (net_pins latching.pins)
     → RulesMove j c place back
 register_moves j c place back s t u v net latching one t_is u_is driver own new old early late moved =
     let s_is = one.next in
@@ -218,7 +228,8 @@ register_moves j c place back s t u v net latching one t_is u_is driver own new 
     ∙ looked_same j latching _ _ _ _ _ _ _ _ _ _ _ _ (values_moved j c u v latching.pins old)
     (values_moved j c t u latching.pins new) own (pins_moved j c early late u v latching.pins u_is moved old)
     (pins_moved j c early late t u latching.pins t_is moved new) kept
-    ∙ sym (looked_at j c (assigned c early) t u v net latching there.0 there.1 (omega (arith, t_is)) (omega (arith, t_is, u_is)))
+    ∙ sym (looked_at j c (assigned c early) t u v net latching there.0 there.1 (omega (arith, t_is))
+    (omega (arith, t_is, u_is)))
     ∙ sym (rule_here j c (assigned c early) back t net (Register latching) one.back_step one.back_net driver)
   where
     kept : bit_value (assigned c late (at j t net)) ≡ bit_value (assigned c early (at j u net))

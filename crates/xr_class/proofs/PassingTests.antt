@@ -50,9 +50,11 @@ numbered j fits c place within bits = among_all _ (arguments j c place)
     chosen : (k : ℕ) → among (arguments j c place) k ≡ true → is_unknown (c k) ≡ true
         → masked us (mask_of us bits) k ≡ bits k
     chosen k inside unknown =
-        let less : k < place = all_among (λ i. i < place) (arguments j c place) k (arguments_below j fits c place within) inside in
+        let less : k < place = all_among (λ i. i < place) (arguments j c place) k
+        (arguments_below j fits c place within) inside in
         all_among (λ i. masked us (mask_of us bits) i ≡ bits i) us k (masked_agrees us bits)
-        (picked_in (is_uncertain j c place) place k less (and_from (among (arguments j c place) k) (is_unknown (c k)) inside unknown))
+        (picked_in (is_uncertain j c place) place k less (and_from (among (arguments j c place) k) (is_unknown (c k))
+        inside unknown))
 
 -- What passes for each number passes for every assignment.
 pub numbers_pass : (j : Job) → Fits j → (c : ℕ → Value) (place : ℕ) (test : Test) → place < places_of j

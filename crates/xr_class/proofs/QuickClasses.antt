@@ -1,5 +1,6 @@
 -- The class of a copy, and of a place whose arguments are all certain.
-use Rattle.std.proofs.Common.{◌≡◌, ℕ, ◌/◌, ◌<◌, Bool, true, false, [], ◌∷◌, refl, sym, ap, ◌∙◌, arith, if◌then◌else◌, subst}
+use Rattle.std.proofs.Common.{◌≡◌, ℕ, ◌/◌, ◌<◌, Bool, true, false, [], ◌∷◌, refl, sym, ap, ◌∙◌, arith, if◌then◌else◌}
+use Rattle.std.proofs.Common.{subst}
 use Rattle.std.proofs.lemmas.Bool.{eq-eqb}
 use Rattle.xr_cell.specs.declared.value.Value.{Value}
 use Rattle.xr_cell.specs.declared.value.Value.TheVariants.{Zero, One, X, Z}
@@ -10,7 +11,8 @@ use Rattle.xr_design.specs.Job.{Job, at, net_of, places_of, step_of}
 use Rattle.xr_design.specs.Rule.{arguments, arguments_of, born, known_or, rule, rule_of}
 use Rattle.xr_design.specs.World.{decided}
 use Rattle.xr_model.specs.Assignment.{assigned, for_every}
-use Rattle.xr_model.specs.Class.{before, carried_or_line, class_of, is_bit, is_carrier, is_free, is_local, keeps, passes_on, passes_on_of}
+use Rattle.xr_model.specs.Class.{before, carried_or_line, class_of, is_bit, is_carrier, is_free, is_local, keeps}
+use Rattle.xr_model.specs.Class.{passes_on, passes_on_of}
 use Rattle.xr_model.specs.Mask.{masked}
 use Rattle.xr_model.specs.declared.class.ClassByNumber.{ClassByNumber}
 use Rattle.xr_model.specs.declared.class.ClassByNumber.TheVariants.{Local, Free, Carried, Line}
@@ -218,7 +220,7 @@ copied_from j fits c facts place from v copies are v_is =
     let is = copies.from_is in
     let earlier = copies.earlier in
     let keeps_is : (facts from).keeps ≡ net_keeps j c step copies.net = ap (λ k. (facts k).keeps) is
-    ∙ ap (λ (f : Facts). f.keeps) (are (at j step copies.net) (omega (arith, is, earlier)))
+    ∙ (are (at j step copies.net) (omega (arith, is, earlier))).keeps
     ∙ keeps_at j fits c step copies.net copies.within in
     copied_is j c place copies.net v copies.driver (ap c (sym is) ∙ sym v_is)
     ∙ ap (λ k. copied_of v k (before j place) (at j step copies.net)) (sym keeps_is)

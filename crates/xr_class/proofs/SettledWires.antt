@@ -1,5 +1,6 @@
 -- Places all of whose arguments are certain: their drivers make of these what their rules make for every assignment.
-use Rattle.std.proofs.Common.{◌≡◌, ℕ, ◌+◌, ◌-◌, ◌*◌, ◌%◌, ◌<◌, ◌≤◌, ◌==◌, not, Bool, true, false, None, Some, ⊎_elim, List, [], ◌∷◌, length, map, refl, sym, ap, ◌∙◌, arith, subst, if◌then◌else◌}
+use Rattle.std.proofs.Common.{◌≡◌, ℕ, ◌+◌, ◌-◌, ◌*◌, ◌%◌, ◌<◌, ◌≤◌, ◌==◌, not, Bool, true, false, None, Some, ⊎_elim}
+use Rattle.std.proofs.Common.{List, [], ◌∷◌, length, map, refl, sym, ap, ◌∙◌, arith, subst, if◌then◌else◌}
 use Rattle.std.specs.List.{list_all}
 use Rattle.std.proofs.lemmas.Bool.{and_parts, ne_eqb}
 use Rattle.std.proofs.lemmas.List.{length-map}
@@ -14,11 +15,11 @@ use Rattle.xr_design.specs.declared.design.Table.{Table}
 use Rattle.xr_design.specs.Fits.{Fits, FitsDriver, FitsTable}
 use Rattle.xr_design.specs.Job.{Job, at, net_of, places_of, step_of}
 use Rattle.xr_design.specs.Order.{net_pins, position_of}
-use Rattle.xr_design.specs.Register.{has_uncertain_clock, pins_at, two_back, updated}
+use Rattle.xr_design.specs.Register.{has_uncertain_clock, pins_at, two_back}
 use Rattle.xr_design.specs.Replay.{table_of}
-use Rattle.xr_design.specs.Rule.{as_values, old_places, places_at, places_back, register_rule, rule, rule_of}
+use Rattle.xr_design.specs.Rule.{as_values, old_places, places_at, places_back, register_rule, remade, rule, rule_of}
 use Rattle.xr_design.specs.World.{decided}
-use Rattle.xr_design.proofs.Rules.{AgreeOn, spot, updated_reads}
+use Rattle.xr_design.proofs.Rules.{AgreeOn, remade_reads, spot}
 use Rattle.xr_design.proofs.TwoBack.{back_either}
 use Rattle.xr_model.specs.Assignment.{assigned}
 use Rattle.xr_wiring.specs.Wired.{placed}
@@ -26,7 +27,8 @@ use Rattle.xr_wiring.proofs.Jobs.{table_few}
 use Rattle.xr_class.specs.Facts.{plain_class}
 use Rattle.xr_class.specs.Keeps.{class_here}
 use Rattle.xr_wiring.specs.declared.wiring.Kind.TheVariants as kind
-use Rattle.xr_class.specs.Wires.{PlaceSeesKnown, SeesKnown, Stands, StandsCell, nets_known, positions_known, values_there}
+use Rattle.xr_class.specs.Wires.{PlaceSeesKnown, SeesKnown, Stands, StandsCell, nets_known, positions_known}
+use Rattle.xr_class.specs.Wires.{values_there}
 use Rattle.xr_class.proofs.QuickClasses.{class_given}
 use Rattle.xr_class.proofs.SteadyClasses.{back_at}
 use Rattle.xr_class.proofs.WiredPlaces.{cell_here, first_here, is_spot, nets_placed, register_here, spot_here}
@@ -79,7 +81,8 @@ known_placed j c step first pins own are is =
     ap (list_all (λ position. not (is_unknown (c (first + position))))) (ap net_pins are ∙ nets_placed j.order own)
     ∙ each (net_pins own)
   where
-    each : (nets : List ℕ) → list_all (λ position. not (is_unknown (c (first + position)))) (map (position_of j.order) nets)
+    each : (nets : List ℕ) → list_all (λ position. not (is_unknown (c (first + position))))
+        (map (position_of j.order) nets)
         ≡ nets_known j c step nets
     each [] = refl
     each (net ∷ nets) = rw (ap (λ f. c (f + position_of j.order net)) is, each nets) refl
@@ -145,14 +148,14 @@ rule_register j c bits place latching driver = ap (rule_of j c bits (step_of j p
 pub register_settled : (j : Job) (c : ℕ → Value) (place : ℕ) (latching : Latching) → 0 < step_of j place
     → j.driver (net_of j place) ≡ Register latching → SeesKnown j c (step_of j place) (net_of j place) latching
     → class_here j c place
-    ≡ plain_class (updated j c (c (at j (step_of j place - 1) (net_of j place))) (step_of j place) latching)
+    ≡ plain_class (remade j c (c (at j (step_of j place - 1) (net_of j place))) (step_of j place) latching)
 register_settled j c place latching later driver sees = class_given j c place _ (λ bits. (
     let step = step_of j place in
     let own = at j (step - 1) (net_of j place) in
     rule_register j c (assigned c bits) place latching driver
-    ∙ either_way (step == 0) (has_uncertain_clock j c step latching) _ (updated j c (c own) step latching) _
+    ∙ either_way (step == 0) (has_uncertain_clock j c step latching) _ (remade j c (c own) step latching) _
     (ne_eqb step 0 (λ e. omega (arith, e, later)))
-    (updated_reads j (as_values (assigned c bits)) c (bit_value (assigned c bits own)) (c own) step latching
+    (remade_reads j (as_values (assigned c bits)) c (bit_value (assigned c bits own)) (c own) step latching
     (back_agree j (as_values (assigned c bits)) c step latching.pins later
     (places_stand j c bits (step - 2) latching.pins sees.old))
     (places_stand j c bits (step - 1) latching.pins sees.new)

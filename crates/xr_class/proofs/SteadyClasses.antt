@@ -1,8 +1,9 @@
 -- The class of a place whose rule gives what it gave for its net's place at the step before.
-use Rattle.std.proofs.Common.{◌≡◌, ℕ, zero, suc, ◌+◌, ◌-◌, ◌*◌, ◌<◌, ◌≤◌, ◌==◌, ◌&&◌, not, Bool, true, false, List, [], ◌∷◌, refl, sym, ap, ◌∙◌, arith, subst, if◌then◌else◌, ⊎_elim}
+use Rattle.std.proofs.Common.{◌≡◌, ℕ, zero, suc, ◌+◌, ◌-◌, ◌*◌, ◌<◌, ◌≤◌, ◌==◌, ◌&&◌, not, Bool, true, false, List, []}
+use Rattle.std.proofs.Common.{◌∷◌, refl, sym, ap, ◌∙◌, arith, subst, if◌then◌else◌, ⊎_elim}
 use Rattle.std.specs.Prelude.{nat_lt}
 use Rattle.std.specs.List.{AllByRecursion}
-use Rattle.std.proofs.lemmas.Bool.{and_parts, lt-ltb, ne_eqb, eqb-true}
+use Rattle.std.proofs.lemmas.Bool.{and_parts, lt-ltb, ne_eqb, eqb-true, or_cases}
 use Rattle.xr_cell.specs.declared.value.Value.{Value}
 use Rattle.xr_cell.specs.declared.value.Value.TheVariants.{Zero, One, X, Z}
 use Rattle.xr_cell.specs.Value.{is_unknown}
@@ -15,11 +16,13 @@ use Rattle.xr_design.specs.Circuit.{IsSpot, Reach}
 use Rattle.xr_design.specs.Fits.{Fits, Standing}
 use Rattle.xr_design.specs.Job.{Job, at, net_of, places_of, step_of}
 use Rattle.xr_design.specs.Order.{net_pins, position_of}
-use Rattle.xr_design.specs.Register.{has_uncertain_clock, updated}
-use Rattle.xr_design.specs.Rule.{arguments, rule}
+use Rattle.xr_design.specs.Register.{had_uncertain_clock, has_uncertain_clock}
+use Rattle.xr_design.specs.Rule.{arguments, remade, rule}
+use Rattle.xr_design.proofs.LevelRule.{clock_never}
 use Rattle.xr_design.proofs.Rules.{back_two, position_in, rule_reads}
 use Rattle.xr_model.specs.Assignment.{assigned, for_every}
-use Rattle.xr_model.specs.Class.{before, carried_or_line, is_carried_on, class_of, flipped, is_bit, is_carrier, is_free, is_local, is_never_unknown, passes_on, passes_on_of}
+use Rattle.xr_model.specs.Class.{before, carried_or_line, is_carried_on, class_of, flipped, is_bit, is_carrier, is_free}
+use Rattle.xr_model.specs.Class.{is_local, is_never_unknown, passes_on, passes_on_of}
 use Rattle.xr_model.specs.Yields.{is_line}
 use Rattle.xr_model.specs.declared.class.ClassByNumber.{ClassByNumber}
 use Rattle.xr_model.specs.declared.class.ClassByNumber.TheVariants.{Local, Free, Carried, Line}
@@ -27,9 +30,10 @@ use Rattle.xr_model.proofs.Assignments.{every_passes, passes_every}
 use Rattle.xr_model.proofs.CarryLaw.{net_at, step_at}
 use Rattle.xr_model.proofs.Classes.{ClassSays, all_at, class_says}
 use Rattle.xr_model.proofs.ClassFromClasses.{class_is}
-use Rattle.xr_class.specs.Facts.{AgreeBefore, AgreesWith, is_plain, plain_class}
+use Rattle.xr_class.specs.Facts.{AgreeBefore, AgreesWith, AreTold, Facts, facts_of, is_open, is_plain, plain_class}
 use Rattle.xr_class.specs.Keeps.{SeesTheSame, class_here, later_class, nets_keep, place_passes}
-use Rattle.xr_class.proofs.MovedRules.{OneBack, SameKinds, cell_moves, kept_values, kinds_moved, register_moves, rule_here}
+use Rattle.xr_class.proofs.MovedRules.{OneBack, SameKinds, cell_moves, kept_values, kinds_moved, register_moves}
+use Rattle.xr_class.proofs.MovedRules.{rule_here}
 use Rattle.xr_class.proofs.Reached.{nets_back, nets_standing}
 use Rattle.xr_class.proofs.StepBefore.{before_later, one_back as one_less}
 
@@ -101,6 +105,14 @@ line_is Free is = cc
 line_is (Carried from inverted) is = cc
 line_is Line is = refl
 
+-- A place that is neither has none of the three.
+pub open_tests : (j : Job) → Fits j → (c : ℕ → Value) (place : ℕ) → place < places_of j
+    → is_plain (class_of j c place) ≡ false
+    → (is_local j c place false ≡ false) × (is_local j c place true ≡ false) × (is_free j c place ≡ false)
+open_tests j fits c place within none =
+    first_open (is_local j c place false) (is_local j c place true) (is_free j c place) (later_class j c place)
+    (ap is_plain (sym (class_is j fits c place within)) ∙ none)
+
 -- Where the place before is local or free, so is this one.
 pub steady_plain : (j : Job) → Fits j → (c : ℕ → Value) (place back : ℕ) → back < places_of j → SameKinds j c place back
     → AgreesWith c (class_of j c back) (c back) → is_plain (class_of j c back) ≡ true
@@ -130,14 +142,16 @@ bit_known One bit is = refl
 bit_known X bit is = cc
 bit_known Z bit is = cc
 
-copy_known : (j : Job) (c : ℕ → Value) (place from : ℕ) (inverted : Bool) → ClassSays j c (class_of j c) place (Carried from inverted)
+copy_known : (j : Job) (c : ℕ → Value) (place from : ℕ) (inverted : Bool)
+    → ClassSays j c (class_of j c) place (Carried from inverted)
     → ((passes_on j c (class_of j c) place ≡ true) → is_never_unknown j c place ≡ true)
     → is_never_unknown j c place ≡ true
 copy_known j c place from inverted says passes =
     ⊎_elim (λ h. passes h.0) (λ h. passes_every j c place (λ bits. not (is_unknown (rule j c bits place)))
     (λ bits. bit_known (rule j c (assigned c bits) place) (flipped inverted (assigned c bits from))
     (every_passes j c place (λ b. is_bit (rule j c b place) (flipped inverted (b from)))
-    (λ f g agree. (rw (rule_reads j c f g place agree, all_at (λ k. f k ≡ g k) (arguments j c place) from agree h.0) refl))
+    (λ f g agree. (rw (rule_reads j c f g place agree, all_at (λ k. f k ≡ g k) (arguments j c place) from agree h.0)
+    refl))
     (and_parts (is_unknown (c from))
     (for_every j c place (λ bits. is_bit (rule j c bits place) (flipped inverted (bits from)))) h.1).1 bits)))
     says
@@ -162,6 +176,20 @@ carrying_known j fits c place table pins within driver on =
     (λ passes. (and_parts (not (step_of j place == 0) && nets_keep j c (step_of j place) (net_pins pins))
     (is_never_unknown j c place)
     (sym (ap (passes_on_of j c (class_of j c) place (step_of j place) (net_of j place)) driver) ∙ passes)).1)
+
+-- A class that is carried from the step before, or Line, is neither local nor free.
+pub carried_open : (class : ClassByNumber) (back : ℕ) → is_carried_on class back ≡ true → is_plain class ≡ false
+carried_open class back on = ap is_plain (carried_on class back on)
+
+pub line_is_open : (class : ClassByNumber) → is_line class ≡ true → is_plain class ≡ false
+line_is_open class is = ap is_plain (line_is class is)
+
+-- So a place that is told to be open is neither.
+pub open_told : (j : Job) (c : ℕ → Value) (place : ℕ) (told : Facts) → AreTold told (facts_of j c place)
+    → is_open told ≡ true → is_plain (class_of j c place) ≡ false
+open_told j c place told are is =
+    ⊎_elim (λ (h : told.carries ≡ true). carried_open (class_of j c place) (before j place) (are.carries h))
+    (λ (h : told.line ≡ true). line_is_open (class_of j c place) (are.line h)) (or_cases told.carries told.line is)
 
 -- The place of the same net a step before a spot at a later step.
 pub one_back : (j : Job) → Fits j → (place : ℕ) (spot : Spot) → IsSpot j place spot → 0 < spot.step
@@ -222,7 +250,8 @@ two_back_at j fits place width spot is width_is later =
 
 -- A cell whose pins keep.
 pub cell_kinds : (j : Job) → Fits j → (c : ℕ → Value) (place : ℕ) (spot : Spot) (table : Table) (pins : List Pin)
-    → IsSpot j place spot → 0 < spot.step → j.driver spot.net ≡ Cell table pins → Standing j spot.position (net_pins pins)
+    → IsSpot j place spot → 0 < spot.step → j.driver spot.net ≡ Cell table pins
+    → Standing j spot.position (net_pins pins)
     → AgreeBefore j c place → nets_keep j c spot.step (net_pins pins) ≡ true → SameKinds j c place (before j place)
 cell_kinds j fits c place spot table pins is later driver stands agree keep =
     let one = one_back j fits place spot is later in
@@ -272,7 +301,8 @@ pub register_kinds : (j : Job) → Fits j → (c : ℕ → Value) (place : ℕ) 
 register_kinds j fits c place spot latching is driver within agree same =
     let low = same.later in
     let later : 0 < spot.step = omega (arith, low) in
-    register_kinds_at j c place (before j place) spot.step (spot.step - 1) (spot.step - 2) (spot.step - 3) spot.net latching
+    register_kinds_at j c place (before j place) spot.step (spot.step - 1) (spot.step - 2) (spot.step - 3) spot.net
+    latching
     (one_back j fits place spot is later) (omega (arith, low)) (omega (arith, low)) driver agree
     (nets_back j fits place spot (net_pins latching.pins) is later within)
     (nets_two_back j fits place spot (net_pins latching.pins) is later within) same.own same.new same.old
@@ -284,7 +314,8 @@ differ e = cc
 not_constant : (j : Job) (c : ℕ → Value) (place : ℕ) (v : Value) → ((bits : ℕ → Bool) → rule j c bits place ≡ v)
     → is_local j c place false ≡ false → is_local j c place true ≡ false → is_free j c place ≡ false → ⊥
 not_constant j c place Zero gives zero_is one_is free = differ (sym (passes_every j c place
-    (λ bits. is_bit (rule j c bits place) false) (λ bits. ap (λ v. is_bit v false) (gives (assigned c bits)))) ∙ zero_is)
+    (λ bits. is_bit (rule j c bits place) false) (λ bits. ap (λ v. is_bit v false) (gives (assigned c bits))))
+    ∙ zero_is)
 not_constant j c place One gives zero_is one_is free = differ (sym (passes_every j c place
     (λ bits. is_bit (rule j c bits place) true) (λ bits. ap (λ v. is_bit v true) (gives (assigned c bits)))) ∙ one_is)
 not_constant j c place X gives zero_is one_is free = differ (sym (passes_every j c place
@@ -295,13 +326,13 @@ not_constant j c place Z gives zero_is one_is free = differ (sym (passes_every j
 stuck : (a b : Bool) (x y z : Value) → a ≡ false → b ≡ true → (if a then x else if b then y else z) ≡ y
 stuck a b x y z a_is b_is = rw (a_is, b_is) refl
 
-clock_certain : (j : Job) (c : ℕ → Value) (place s net : ℕ) (latching : Latching) (uncertain : Bool) → 0 < s
+pub clock_certain : (j : Job) (c : ℕ → Value) (place s net : ℕ) (latching : Latching) (uncertain : Bool) → 0 < s
     → step_of j place ≡ s → net_of j place ≡ net → j.driver net ≡ Register latching
     → is_local j c place false ≡ false → is_local j c place true ≡ false → is_free j c place ≡ false
     → has_uncertain_clock j c s latching ≡ uncertain → uncertain ≡ false
 clock_certain j c place s net latching false later step_is net_is driver zero_is one_is free is = refl
 clock_certain j c place s net latching true later step_is net_is driver zero_is one_is free is =
-    absurd (not_constant j c place (updated j c (c (at j (s - 1) net)) s latching)
+    absurd (not_constant j c place (remade j c (c (at j (s - 1) net)) s latching)
     (λ bits. rule_here j c bits place s net (Register latching) step_is net_is driver
     ∙ stuck (s == 0) (has_uncertain_clock j c s latching) _ _ _ (ne_eqb s 0 (λ e. omega (arith, e, later))) is)
     zero_is one_is free)
@@ -313,11 +344,17 @@ pub register_on : (j : Job) → Fits j → (c : ℕ → Value) (place : ℕ) (sp
 register_on j fits c place spot latching is driver within same kinds none =
     let low = same.later in
     let back = before j place in
-    let open_is = first_open (is_local j c back false) (is_local j c back true) (is_free j c back) (later_class j c back)
-    (ap is_plain (sym (class_is j fits c back within)) ∙ none) in
-    let clock = clock_certain j c place spot.step spot.net latching (has_uncertain_clock j c spot.step latching)
+    let open_is = open_tests j fits c back within none in
+    let here = clock_certain j c place spot.step spot.net latching (has_uncertain_clock j c spot.step latching)
     (omega (arith, low)) (sym is.step) (sym is.net) driver (kinds.local false ∙ open_is.0)
     (kinds.local true ∙ open_is.1) (kinds.free ∙ open_is.2) refl in
+    let one = one_back j fits place spot is (omega (arith, low)) in
+    let earlier = clock_certain j c back (spot.step - 1) spot.net latching
+    (has_uncertain_clock j c (spot.step - 1) latching) (omega (arith, low)) one.back_step one.back_net driver
+    open_is.0 open_is.1 open_is.2 refl in
+    let clock : had_uncertain_clock j c spot.step latching ≡ false =
+    clock_never j c spot.step latching here earlier in
     ap (passes_on_of j c (class_of j c) place (step_of j place) (net_of j place)) (ap j.driver (sym is.net) ∙ driver)
-    ∙ ap (λ s. nat_lt 1 s && not (has_uncertain_clock j c s latching) && nets_keep j c (s - 1) (net_pins latching.pins)) (sym is.step)
+    ∙ ap (λ s. nat_lt 1 s && not (had_uncertain_clock j c s latching) && nets_keep j c (s - 1) (net_pins latching.pins))
+    (sym is.step)
     ∙ (rw (lt-ltb 1 spot.step (omega (arith, low)), clock, same.new) refl)

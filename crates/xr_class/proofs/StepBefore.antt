@@ -1,5 +1,6 @@
 -- A place, and the one of its net a step before.
-use Rattle.std.proofs.Common.{◌≡◌, ℕ, zero, suc, ◌+◌, ◌-◌, ◌*◌, ◌%◌, ◌<◌, ◌≤◌, ◌||◌, Bool, false, refl, sym, ap, ◌∙◌, arith}
+use Rattle.std.proofs.Common.{◌≡◌, ℕ, zero, suc, ◌+◌, ◌-◌, ◌*◌, ◌%◌, ◌<◌, ◌≤◌, ◌||◌, Bool, false, refl, sym, ap, ◌∙◌}
+use Rattle.std.proofs.Common.{arith}
 use Rattle.std.proofs.lemmas.Bool.{ne_eqb}
 use Rattle.xr_cell.specs.declared.value.Value.{Value}
 use Rattle.xr_design.specs.Fits.{Fits}
@@ -79,7 +80,8 @@ keeps_later j fits place here back on within more =
     let s = spot j fits place within in
     let low = s.position in
     let whole = s.whole in
-    rw (ne_eqb (step_of j place) 0 (λ e. not_first j.width (step_of j place) (place % j.width) place whole low more e)) refl
+    rw (ne_eqb (step_of j place) 0 (λ e. not_first j.width (step_of j place) (place % j.width) place whole low more e))
+    refl
 
 pub keeps_first : (j : Job) → Fits j → (place : ℕ) (here back : Value) (on : Bool) → place < places_of j
     → place < j.width → false ≡ keeps_by (step_of j place) here back on

@@ -1,5 +1,6 @@
 -- What stands at a place, by its wiring: the nets that it reads by their positions, and where these keep.
-use Rattle.std.proofs.Common.{◌≡◌, ℕ, zero, suc, ◌+◌, ◌-◌, ◌*◌, ◌%◌, ◌<◌, ◌≤◌, ◌^◌, Bool, List, [], ◌∷◌, length, map, refl, sym, ap, ◌∙◌, arith, subst}
+use Rattle.std.proofs.Common.{◌≡◌, ℕ, zero, suc, ◌+◌, ◌-◌, ◌*◌, ◌%◌, ◌<◌, ◌≤◌, ◌^◌, Bool, List, [], ◌∷◌, length, map}
+use Rattle.std.proofs.Common.{refl, sym, ap, ◌∙◌, arith, subst}
 use Rattle.std.specs.List.{AllByRecursion, list_all}
 use Rattle.std.proofs.lemmas.List.{get_or-map, length-map}
 use Rattle.std.proofs.Math.Nat.{div-lt_iff_lt-mul}
@@ -219,7 +220,7 @@ pub nets_keep_there : (j : Job) → Fits j → (c : ℕ → Value) (facts : ℕ 
 nets_keep_there j fits c facts place step first [] are is reach = refl
 nets_keep_there j fits c facts place step first (net ∷ nets) are is reach =
     let here : first + position_of j.order net ≡ at j step net = ap (λ f. f + position_of j.order net) is in
-    let one = ap (λ k. (facts k).keeps) here ∙ ap (λ (f : Facts). f.keeps) (are (at j step net) reach.0.has_it)
+    let one = ap (λ k. (facts k).keeps) here ∙ (are (at j step net) reach.0.has_it).keeps
     ∙ keeps_at j fits c step net reach.0.within in
     rw (one, nets_keep_there j fits c facts place step first nets are is reach.1) refl
 
@@ -232,7 +233,8 @@ pins_reach j has place step first pins own are is few all reach =
     subst (AllByRecursion (Reaches has first)) (sym (ap net_pins are ∙ nets_placed j.order own))
     (nets_reach j has place step first (net_pins own) is few all reach)
 
-pub pins_keep_there : (j : Job) → Fits j → (c : ℕ → Value) (facts : ℕ → Facts) (place step first : ℕ) (pins own : List Pin)
+pub pins_keep_there : (j : Job) → Fits j
+    → (c : ℕ → Value) (facts : ℕ → Facts) (place step first : ℕ) (pins own : List Pin)
     → pins ≡ map (placed j.order) own → AreFacts j c facts place → first ≡ step * j.width
     → AllByRecursion (Reach j (λ k. k < place) step) (net_pins own)
     → positions_keep facts first pins ≡ nets_keep j c step (net_pins own)

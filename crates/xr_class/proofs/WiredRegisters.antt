@@ -16,7 +16,8 @@ use Rattle.xr_class.specs.Keeps.{SeesTheSame, place_passes}
 use Rattle.xr_class.specs.Wires.{PlaceSeesTheSame, Reaches, Stands, positions_keep}
 use Rattle.xr_class.proofs.MovedRules.{SameKinds}
 use Rattle.xr_class.proofs.SteadyClasses.{back_at, before_less, register_kinds, register_on, two_back_at}
-use Rattle.xr_class.proofs.WiredPlaces.{first_back, first_here, is_spot, pins_keep_there, pins_reach, register_here, spot_here, steps_back}
+use Rattle.xr_class.proofs.WiredPlaces.{first_back, first_here, is_spot, pins_keep_there, pins_reach, register_here}
+use Rattle.xr_class.proofs.WiredPlaces.{spot_here, steps_back}
 use Rattle.xr_class.proofs.WiredSteady.{register_back, register_nets}
 
 -- The step is the third or a later one.
@@ -88,7 +89,8 @@ pub same_there : (j : Job) → Fits j → (c : ℕ → Value) (facts : ℕ → F
     → AreFacts j c facts place → 3 ≤ step_of j place → c (place - width) ≡ c (place - width - width)
     → positions_keep facts (place - position - width) pins ≡ true
     → positions_keep facts (place - position - width - width) pins ≡ true → PlaceSeesTheSame j c place
-same_there j fits c facts place position width pins within is stands width_is are more own new old = λ latching driver. (
+same_there j fits c facts place position width pins within is stands width_is are more own new old =
+    λ latching driver. (
     let here = register_here j place pins stands in
     let back = register_back j fits place here.0 within here.1 (omega (arith, more)) in
     let seen : SeesTheSame j c (step_of j place) (net_of j place) here.0 = record {
@@ -99,7 +101,8 @@ same_there j fits c facts place position width pins within is stands width_is ar
       old = sym (pins_keep_there j fits c facts place (step_of j place - 2) (place - position - width - width) pins
           here.0.pins here.2 are (first_two_back j fits place position width within is width_is) back.1) ∙ old;
     } in
-    subst (SeesTheSame j c (step_of j place) (net_of j place)) (same_latching here.0 latching (sym here.1 ∙ driver)) seen
+    subst (SeesTheSame j c (step_of j place) (net_of j place)) (same_latching here.0 latching (sym here.1 ∙ driver))
+    seen
     )
 
 -- What such a place has.
@@ -122,6 +125,7 @@ register_seen j fits c place pins within stands agree sees =
     record {
       less = less;
       kinds = kinds;
-      passes = λ none. register_on j fits c place (spot_here j place) here.0 at_spot here.1 (omega (arith, less, within))
+      passes = λ none. register_on j fits c place (spot_here j place) here.0 at_spot here.1
+          (omega (arith, less, within))
           same kinds none;
     }

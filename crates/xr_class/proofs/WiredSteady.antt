@@ -1,5 +1,6 @@
 -- Places whose pins keep, by their wires.
-use Rattle.std.proofs.Common.{◌≡◌, ℕ, ◌+◌, ◌-◌, ◌%◌, ◌<◌, ◌≤◌, true, false, List, [], ◌∷◌, refl, sym, ap, ◌∙◌, arith, subst}
+use Rattle.std.proofs.Common.{◌≡◌, ℕ, ◌+◌, ◌-◌, ◌%◌, ◌<◌, ◌≤◌, true, false, List, [], ◌∷◌, refl, sym, ap, ◌∙◌, arith}
+use Rattle.std.proofs.Common.{subst}
 use Rattle.std.specs.List.{AllByRecursion, list_all}
 use Rattle.xr_cell.specs.declared.value.Value.{Value}
 use Rattle.xr_design.specs.declared.design.Driver.{Driver}
@@ -20,7 +21,8 @@ use Rattle.xr_class.proofs.MixedClasses.{never_unknown}
 use Rattle.xr_class.proofs.MovedRules.{SameKinds}
 use Rattle.xr_class.proofs.Reached.{nets_back, nets_standing}
 use Rattle.xr_class.proofs.SteadyClasses.{before_less, cell_kinds, cell_on, nets_two_back, one_back}
-use Rattle.xr_class.proofs.WiredPlaces.{cell_here, chooses_placed, first_here, is_spot, later_step, pins_keep_there, pins_reach, spot_here}
+use Rattle.xr_class.proofs.WiredPlaces.{cell_here, chooses_placed, first_here, is_spot, later_step, pins_keep_there}
+use Rattle.xr_class.proofs.WiredPlaces.{pins_reach, spot_here}
 
 -- The pins of a cell stand before its place.
 cell_stands : (j : Job) → Fits j → (place : ℕ) (table : Table) (own : List Pin) → place < places_of j
@@ -71,18 +73,21 @@ cell_steady j fits c facts place position table pins within is stands are agree 
     let at_spot = is_spot j fits place within in
     let later = later_step j.width (step_of j place) (place % j.width) place s.whole s.position more in
     let standing : Standing j (spot_here j place).position (net_pins here.own) =
-    subst (λ (d : Driver). AllByRecursion (StandsBefore j (place % j.width)) (arguments_of_driver d)) here.driver s.before in
+    subst (λ (d : Driver). AllByRecursion (StandsBefore j (place % j.width)) (arguments_of_driver d)) here.driver
+    s.before in
     let own_keep : nets_keep j c (step_of j place) (net_pins here.own) ≡ true =
     sym (pins_keep_there j fits c facts place (step_of j place) (place - position) pins here.own here.pins_are are
     (first_here j fits place position within is) (cell_stands j fits place table here.own within here.driver)) ∙ keep in
     record {
       less = before_less j fits place (spot_here j place) at_spot later;
-      kinds = cell_kinds j fits c place (spot_here j place) table here.own at_spot later here.driver standing agree own_keep;
+      kinds = cell_kinds j fits c place (spot_here j place) table here.own at_spot later here.driver standing agree
+          own_keep;
       passes = λ known. cell_on j c place (spot_here j place) table here.own at_spot later here.driver own_keep known;
     }
 
 -- A cell that doesn't choose, and one whose place a step before carries on, is never unknown.
-pub cell_known : (j : Job) → Fits j → (c : ℕ → Value) (place : ℕ) (table : Table) (pins : List Pin) → place < places_of j
+pub cell_known : (j : Job) → Fits j → (c : ℕ → Value) (place : ℕ) (table : Table) (pins : List Pin)
+    → place < places_of j
     → StandsCell j place table pins → cell_chooses table pins ≡ false → is_never_unknown j c place ≡ true
 cell_known j fits c place table pins within stands never =
     let here = cell_here j place table pins stands in

@@ -36,25 +36,38 @@ place_is_carried_on j certain place = is_carried_on (class_of j certain place) (
 abbrev pub facts : Bool → Bool → Bool → Bool → Facts
 facts carries plain line keeps = record { carries = carries; plain = plain; line = line; keeps = keeps }
 
--- They, by the step and the class of a place, the place before it, and the certain values of both; and those of a place.
+-- They, by the step and the class of a place, the place before it, and the certain values of both; and those of a
+-- place.
 abbrev pub facts_by : ℕ → ℕ → ClassByNumber → Value → Value → Facts
 facts_by step back class here value_back =
-    facts (is_carried_on class back) (is_plain class) (is_line class) (keeps_by step here value_back (is_carried_on class back))
+    facts (is_carried_on class back) (is_plain class) (is_line class)
+    (keeps_by step here value_back (is_carried_on class back))
 
 abbrev pub facts_of : Job → (ℕ → Value) → ℕ → Facts
 facts_of j certain place =
     facts_by (step_of j place) (before j place) (class_of j certain place) (certain place) (certain (before j place))
 
--- They are those of each place before a place.
+-- What is told of a place is true: of its class perhaps not all, and of its net whether it keeps there.
+pub record AreTold (told facts : Facts) : Type 0 where
+  pub carries : told.carries ≡ true → facts.carries ≡ true
+  pub plain : told.plain ≡ true → facts.plain ≡ true
+  pub line : told.line ≡ true → facts.line ≡ true
+  pub keeps : told.keeps ≡ facts.keeps
+
+-- So it is of each place before a place.
 abbrev pub AreFacts : Job → (ℕ → Value) → (ℕ → Facts) → ℕ → Type 0
-AreFacts j certain facts place = (k : ℕ) → k < place → facts k ≡ facts_of j certain k
+AreFacts j certain facts place = (k : ℕ) → k < place → AreTold (facts k) (facts_of j certain k)
+
+-- A place is told to be neither Local nor Free.
+abbrev pub is_open : Facts → Bool
+is_open facts = facts.carries || facts.line
 
 -- The nets of the places from a first one up to another keep there.
 abbrev pub AllKeep : (ℕ → Facts) → ℕ → ℕ → Type 0
 AllKeep facts first place = (k : ℕ) → first ≤ k → k < place → (facts k).keeps ≡ true
 
--- The certain value of a place agrees with its class: a local place has its bit, a free one isn't certain, and a carried
--- one has the value of the place that it is carried from, inverted where the class says so.
+-- The certain value of a place agrees with its class: a local place has its bit, a free one isn't certain, and a
+-- carried one has the value of the place that it is carried from, inverted where the class says so.
 abbrev pub AgreesWith : (ℕ → Value) → ClassByNumber → Value → Type 0
 AgreesWith certain (Local bit) value = value ≡ bit_value bit
 AgreesWith certain Free value = value ≡ X

@@ -10,9 +10,10 @@ use Rattle.xr_design.specs.declared.design.Table.TheVariants.{Gate, Udp}
 use Rattle.xr_design.specs.Fits.{is_dead}
 use Rattle.xr_design.specs.Job.{Job, at}
 use Rattle.xr_design.specs.Order.{net_pins}
-use Rattle.xr_design.specs.Register.{has_uncertain_clock}
+use Rattle.xr_design.specs.Register.{had_uncertain_clock}
 use Rattle.xr_design.specs.Rule.{arguments}
-use Rattle.xr_model.specs.Class.{before, carried_or_line, class_by, class_of, is_free, is_local, is_never_unknown, keeps, passes_on, passes_on_of}
+use Rattle.xr_model.specs.Class.{before, carried_or_line, class_by, class_of, is_free, is_local, is_never_unknown}
+use Rattle.xr_model.specs.Class.{keeps, passes_on, passes_on_of}
 use Rattle.xr_model.specs.declared.class.ClassByNumber.{ClassByNumber}
 use Rattle.xr_model.specs.declared.class.ClassByNumber.TheVariants.{Carried}
 
@@ -33,7 +34,7 @@ cell_passes j certain place step pins =
 
 abbrev pub register_passes : Job → (ℕ → Value) → ℕ → Latching → Bool
 register_passes j certain step latching =
-    nat_lt 1 step && not (has_uncertain_clock j certain step latching)
+    nat_lt 1 step && not (had_uncertain_clock j certain step latching)
     && nets_keep j certain (step - 1) (net_pins latching.pins)
 
 abbrev pub place_passes : Job → (ℕ → Value) → ℕ → Bool

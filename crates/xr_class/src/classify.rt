@@ -55,7 +55,8 @@ pub fn class_at<E: Earlier>(
     }
 }
 
-/// The class of a place of which facts are kept, as of those before it. Takes no memory.
+/// The class of a place of which facts are kept, as of those before it: found anew where they leave it open. Takes no
+/// memory.
 pub fn kept_class<E: Earlier>(
     circuit: &Circuit<'_>,
     wiring: &Wiring,

@@ -5,21 +5,21 @@ ghost use Rattle.xr_class.specs.Facts.{Facts};
 
 use xr_design::Source;
 
-/// The certain values of earlier places, and four facts of each.
+/// The certain values of earlier places, and what is told of each: of its class perhaps not all.
 pub trait Earlier: Source {
     ghost facts: { Self → ℕ → Facts };
 
-    /// Whether the class of the place of a number is Carried from the step before, as it is.
+    /// Whether the class of the place of a number is told to be Carried from the step before, as it is.
     fn is_carried_on(&self, place: usize) -> bool
         requires { Self.has self.now place }
         ensures { result ≡ (facts self.now place).carries };
 
-    /// Whether it is Local or Free.
+    /// Whether it is told to be Local or Free.
     fn is_plain(&self, place: usize) -> bool
         requires { Self.has self.now place }
         ensures { result ≡ (facts self.now place).plain };
 
-    /// Whether it is Line.
+    /// Whether it is told to be Line.
     fn is_line(&self, place: usize) -> bool
         requires { Self.has self.now place }
         ensures { result ≡ (facts self.now place).line };

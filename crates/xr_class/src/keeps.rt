@@ -7,12 +7,13 @@ ghost use Rattle.xr_design.specs.Circuit.{job_in, CircuitFits, IsSpot, Reach};
 ghost use Rattle.xr_design.specs.Fits.{FitsDriver, FitsRegister, Standing, is_dead};
 ghost use Rattle.xr_design.specs.Job.{at, places_of, step_of};
 ghost use Rattle.xr_design.specs.Order.{arguments_of_driver, net_pins};
-ghost use Rattle.xr_design.specs.Register.{has_uncertain_clock};
+ghost use Rattle.xr_design.specs.Register.{had_uncertain_clock};
 ghost use Rattle.xr_model.specs.Class.{are_equal, before, class_of, is_never_unknown, keeps, passes_on, passes_on_of};
 ghost use Rattle.xr_design.specs.declared.design.Driver.TheVariants.{Cell};
 ghost use Rattle.xr_class.specs.Arguments.{uncertain_places};
 ghost use Rattle.xr_class.specs.Facts.{AreFacts, keeps_since};
-ghost use Rattle.xr_class.specs.Keeps.{cell_chooses, cell_passes, driver_passes, net_keeps, nets_keep, place_passes, register_passes};
+ghost use Rattle.xr_class.specs.Keeps.{cell_chooses, cell_passes, driver_passes, net_keeps, nets_keep, place_passes};
+ghost use Rattle.xr_class.specs.Keeps.{register_passes};
 
 use crate::earlier::Earlier;
 use crate::every::passes_every;
@@ -20,7 +21,7 @@ use crate::ruled::number_at;
 use crate::test::Test;
 use xr_cell::Value;
 use xr_design::{
-    Circuit, Driver, Latching, Pin, Source, Spot, Table, clock_is_uncertain, driver_at,
+    Circuit, Driver, Latching, Pin, Source, Spot, Table, clock_was_uncertain, driver_at,
     recorded_at, spot_of, width_of,
 };
 
@@ -128,7 +129,7 @@ fn cell_passes<E: Earlier>(
     passes_every(circuit, earlier, place, uncertain, Test::Known)
 }
 
-/// Whether the place of a cell reads its filling.
+/// Whether the place of a cell reads its filling. Takes no memory.
 pub fn cell_chooses(table: Table, pins: &[Pin]) -> bool
     ensures { result ≡ cell_chooses table pins.now }
 {
@@ -165,7 +166,7 @@ fn register_passes<E: Earlier>(
     if spot.step <= 1 {
         return false;
     }
-    if clock_is_uncertain(circuit, earlier, spot.step, latching) {
+    if clock_was_uncertain(circuit, earlier, spot.step, latching) {
         return false;
     }
     pins_keep(

@@ -20,7 +20,7 @@ use crate::quick::plain_class;
 use crate::tried::tried_class;
 use xr_cell::Value;
 use xr_design::{
-    Circuit, Driver, Pin, Source, Table, driver_at, spot_of, table_value, updated_value, width_of,
+    Circuit, Driver, Pin, Source, Table, driver_at, remade_value, spot_of, table_value, width_of,
 };
 use xr_model::ClassByNumber;
 
@@ -73,7 +73,7 @@ pub fn moved_register<E: Earlier>(
     let spot = spot_of(circuit, place);
     match driver_at(circuit, spot.net) {
         Driver::Register(latching) => {
-            plain_class(updated_value(circuit, earlier, kept, spot.step, latching))
+            plain_class(remade_value(circuit, earlier, kept, spot.step, latching))
         }
         _ => tried_class(circuit, earlier, place),
     }

@@ -7,7 +7,8 @@ ghost use Rattle.xr_design.specs.Circuit.{job_in, CircuitFits, IsSpot};
 ghost use Rattle.xr_design.specs.Fits.{FitsDriver, FitsRegister};
 ghost use Rattle.xr_design.specs.Job.{at, places_of};
 ghost use Rattle.xr_design.specs.Order.{net_pins, arguments_of_driver};
-ghost use Rattle.xr_design.specs.Rule.{arguments, arguments_of, born_arguments, places_at, old_places, register_arguments};
+ghost use Rattle.xr_design.specs.Rule.{arguments, arguments_of, born_arguments, places_at, old_places};
+ghost use Rattle.xr_design.specs.Rule.{register_arguments};
 ghost use Rattle.xr_class.specs.Arguments.{looked_places};
 
 use crate::arguments::ArgumentsByNumber;

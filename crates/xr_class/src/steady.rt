@@ -1,6 +1,6 @@
 //! The class of a place whose arguments are as they were a step before: that of its net's place there.
 
-ghost use Rattle.std.specs.Prelude.{◌≡◌, ℕ, ◌-◌, ◌%◌, ◌<◌, ◌≤◌, true};
+ghost use Rattle.std.specs.Prelude.{◌≡◌, ℕ, ◌-◌, ◌%◌, ◌<◌, ◌≤◌, ◌&&◌, not, true};
 ghost use Rattle.std.specs.Bool.{OnTrue};
 ghost use Rattle.std.specs.List.{AllByRecursion};
 ghost use Rattle.xr_cell.specs.declared.value.Value.{Value as AnyValue};
@@ -8,21 +8,20 @@ ghost use Rattle.xr_design.specs.Circuit.{job_in, CircuitFits};
 ghost use Rattle.xr_design.specs.Job.{places_of};
 ghost use Rattle.xr_design.specs.Order.{net_pins};
 ghost use Rattle.xr_wiring.specs.declared.wiring.Kind.TheVariants as kind;
-ghost use Rattle.xr_class.specs.Facts.{AgreeBefore, AllKeep, AreFacts};
-ghost use Rattle.xr_class.specs.Keeps.{class_here};
+ghost use Rattle.xr_class.specs.Facts.{AgreeBefore, AllKeep, AreFacts, is_open as is_told_open};
+ghost use Rattle.xr_class.specs.Keeps.{cell_chooses as chooses, class_here};
 ghost use Rattle.xr_class.specs.Wires.{PlaceSeesTheSame, Reaches, Stands, StandsCell, positions_keep};
 
 use crate::earlier::Earlier;
 use crate::keeps::cell_chooses;
 use crate::moved::{moved_cell, moved_register};
 use crate::quick::plain_class;
-use crate::tried::tried_class;
 use xr_cell::Value;
 use xr_design::{Circuit, Pin, Source, Table, width_of};
 use xr_model::ClassByNumber;
 
-/// The class of a cell's place. Where its pins keep it gives at the step before what it gives here; so they do where all
-/// places before it in its step keep. Takes no memory.
+/// The class of a cell's place. Where its pins keep it gives at the step before what it gives here; so they do where
+/// all places before it in its step keep. Takes no memory.
 pub fn cell_class<E: Earlier>(
     circuit: &Circuit<'_>,
     earlier: &E,
@@ -52,13 +51,21 @@ pub fn cell_class<E: Earlier>(
     let back = place - width;
     if earlier.is_plain(back) {
         plain_class(earlier.value(back))
-    } else if !cell_chooses(table, pins) {
-        ClassByNumber::Carried(back, false)
     } else if earlier.is_carried_on(back) {
         ClassByNumber::Carried(back, false)
+    } else if is_passed_line(earlier, back, table, pins) {
+        ClassByNumber::Carried(back, false)
     } else {
-        tried_class(circuit, earlier, place)
+        moved_cell(circuit, earlier, place, position, table, pins)
     }
+}
+
+/// Whether a cell's place is told to be Line, and the cell reads no filling.
+fn is_passed_line<E: Earlier>(earlier: &E, place: usize, table: Table, pins: &[Pin]) -> bool
+    requires { E.has earlier.now place }
+    ensures { result ≡ ((E.facts earlier.now place).line && not (chooses table pins.now)) }
+{
+    earlier.is_line(place) && !cell_chooses(table, pins)
 }
 
 /// Whether the nets of a cell's pins all keep at its step, where that may be known already.
@@ -93,9 +100,19 @@ pub fn register_class<E: Earlier>(
     let back = place - width_of(circuit);
     if earlier.is_plain(back) {
         plain_class(earlier.value(back))
-    } else {
+    } else if is_open(earlier, back) {
         ClassByNumber::Carried(back, false)
+    } else {
+        moved_register(circuit, earlier, place, position, pins)
     }
+}
+
+/// Whether a place is told to be neither Local nor Free.
+fn is_open<E: Earlier>(earlier: &E, place: usize) -> bool
+    requires { E.has earlier.now place }
+    ensures { result ≡ is_told_open (E.facts earlier.now place) }
+{
+    earlier.is_carried_on(place) || earlier.is_line(place)
 }
 
 /// Whether a register looks back at what it looked back at a step before.

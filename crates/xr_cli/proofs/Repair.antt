@@ -119,7 +119,7 @@ lawful_repair = record {
         ),
       ));
   says = λ told rest files w answer t line comes. repair_says told files t w answer
-      (value_fits repair rest w line (codes "scope") w.job.scope line.gives.job.options.scope (needs (codes "scope") Scope) refl)
+      (value_fits repair rest w line (codes "scope") w.job.scope line.gives.job.scope (needs (codes "scope") Scope) refl)
       (job_found told files t w.job (compared_then (walk_phases w)) answer comes);
   fails = λ told files w cause t comes. as_repair w.job w.conflicts files cause
       (refused_by told files t w.job (compared_then (walk_phases w)) (RepairFails w.conflicts) cause (λ n r. repair_fails told files t (parts n r) w cause) comes);

@@ -21,13 +21,12 @@ use Rattle.xr_run.specs.Phases.{Answer, AreExact, ComesTo, text_held}
 use Rattle.xr_run.specs.Reading.{ReadsSurely}
 use Rattle.xr_set.proofs.Lawful.{IsLawful}
 use Rattle.xr_shelf.specs.Shelf.{Files}
-use Rattle.xr_words.proofs.OneJob.{one_count, one_job_within, some_same}
+use Rattle.xr_words.proofs.OneJob.{one_job, some_same}
 use Rattle.xr_words.specs.Words.{job_reads}
 
 one_replay : (option : Text → Option Text) (a b : ReplayValues) → GivesReplay option a → GivesReplay option b → a.job.netlists ≡ b.job.netlists → a ≡ b
 one_replay option a b first second netlists =
-    let places = one_count (option (codes "places")) 134217728 1099511627776 a.job.places b.job.places first.places second.places in
-    let job = one_job_within option a.job b.job first.options second.options places netlists in
+    let job = one_job option a.job b.job first.job second.job netlists in
     let code = some_same a.code b.code (option (codes "code")) first.code second.code in
     let vcd = some_same a.vcd b.vcd (option (codes "vcd")) first.vcd second.vcd in
     λ i. record { job = job i; code = code i; vcd = vcd i }

@@ -1,8 +1,7 @@
 -- A job under set starts fits, and its wave stands beside that under the recorded ones.
-use Rattle.std.proofs.Common.{◌≡◌, ◌∙◌, ℕ, ◌*◌, ◌^◌, ◌≤◌, List, length, sym, ap, subst}
+use Rattle.std.proofs.Common.{◌∙◌, ℕ, ◌≤◌, List, length, sym, ap, subst}
 use Rattle.xr_design.specs.Circuit.{PartsFit}
 use Rattle.xr_design.specs.History.{HistoryView}
-use Rattle.xr_design.specs.Job.{job_of, places_of}
 use Rattle.xr_design.specs.Stim.{FitsStim}
 use Rattle.xr_design.specs.declared.design.Design.{Design}
 use Rattle.xr_design.specs.declared.stim.Stim.{Stim}
@@ -14,7 +13,6 @@ use Rattle.xr_laws.specs.Starts.{DifferInStarts}
 use Rattle.xr_match.specs.Binding.{FitsBinding}
 use Rattle.xr_wave.specs.Contents.{Contents}
 use Rattle.xr_phases.specs.Repair.{FitsJob, IsRepairedBy}
-use Rattle.xr_phases.proofs.Jobs.{few_places}
 
 pub set_fits : (n : ANetlist) (r : Recorded) (stim : Stim) → FitsJob n r → FitsStim n.design stim → DifferInStarts r.stim stim → PartsFit n.design n.order stim
 set_fits n r stim fits fits_stim others = record {
@@ -22,13 +20,6 @@ set_fits n r stim fits fits_stim others = record {
       (subst (λ (k : ℕ). 1 ≤ k) (sym others.rounds) fits.recorded.some_round) (subst (λ (k : ℕ). k ≤ 16) (sym others.rounds) fits.recorded.few_rounds);
   fits_stim = fits_stim;
 }
-
--- As many places as under the recorded starts.
-pub set_few : (n : ANetlist) (r : Recorded) (stim : Stim) → FitsJob n r → DifferInStarts r.stim stim → places_of (job_of n.design n.order stim) ≤ 2 ^ 27
-set_few n r stim fits others =
-    let times : length stim.times * stim.rounds ≡ length r.stim.times * stim.rounds = ap (λ (l : List ℕ). length l * stim.rounds) others.times in
-    let rounds : length r.stim.times * stim.rounds ≡ length r.stim.times * r.stim.rounds = ap (λ (k : ℕ). length r.stim.times * k) others.rounds in
-    subst (λ (k : ℕ). length n.design.nets * k ≤ 2 ^ 27) (sym (times ∙ rounds)) (few_places n r fits)
 
 pub are_beside : (conflicts : ℕ) (n : ANetlist) (old new : Stim) (h i : HistoryView) (before after : Contents) → DifferInStarts old new
     → IsRepairedBy conflicts n old h before → IsRepairedBy conflicts n new i after → AreBeside before after

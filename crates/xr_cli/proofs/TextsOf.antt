@@ -35,7 +35,7 @@ use Rattle.xr_cli.specs.Check.{CheckValues, check_answer}
 use Rattle.xr_phases.specs.Certificate.{check_shows, form_of}
 use Rattle.xr_phases.specs.Phases.{scope_of}
 use Rattle.xr_phases.specs.declared.parts.Parts.{Parts}
-use Rattle.xr_phases.specs.Repair.{FitsJob, FitsJobWithin, IsWaveOf}
+use Rattle.xr_phases.specs.Repair.{FitsJob, IsWaveOf}
 use Rattle.xr_phases.proofs.Jobs.{fits_job}
 use Rattle.xr_forces.proofs.Forced.{are_events}
 use Rattle.xr_design.specs.Handed.{HasPlaces}
@@ -103,7 +103,7 @@ made_texts w netlist recording head wave forces made same is (Ok ready) answered
     answered ∙ (λ t. make_with w (made t) recording ((is ∙ ap (head_text wave) same) t))
 
 -- A history with the job's places has each step.
-pub has_steps : {most : ℕ} → (n : ANetlist) (r : Recorded) (history : HistoryView) → FitsJobWithin most n r → HasPlaces (job_for n r) history → HasSteps n.design r.stim history
+pub has_steps : (n : ANetlist) (r : Recorded) (history : HistoryView) → FitsJob n r → HasPlaces (job_for n r) history → HasSteps n.design r.stim history
 has_steps n r history fits places =
     let all = places.all in
     let few = fits.recorded.stim.places in

@@ -38,6 +38,7 @@ use Rattle.xr_set.specs.Command.{Command}
 use Rattle.xr_wave.specs.Contents.{Contents}
 use Rattle.xr_wave.specs.declared.advance.Optimistic.{Optimistic as Found}
 use Rattle.xr_words.specs.Words.{JobValues}
+use Rattle.xr_words.specs.declared.words.Levels.TheVariants.{Change}
 use Rattle.xr_words.specs.declared.words.Start.TheVariants.{Cold}
 use Rattle.xr_words.specs.declared.words.Undriven.TheVariants.{Released}
 
@@ -72,7 +73,8 @@ make_values words = record {
 
 -- ---- the made job
 
--- Its texts, read from no file, are of the module `made`, in a scope of that name, with four rounds and a cold start.
+-- Its texts, read from no file, are of the module `made`, in a scope of that name, with four rounds, a cold start, and
+-- levels that decide registers by change.
 abbrev pub made_job : JobValues
 made_job = record {
   recording = [];
@@ -81,6 +83,7 @@ made_job = record {
   rounds = 4;
   places = place_limit;
   start = Cold;
+  levels = Change;
   undriven = Released;
   netlists = [];
 }

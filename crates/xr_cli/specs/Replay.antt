@@ -18,7 +18,7 @@ use Rattle.xr_phases.specs.declared.parts.Parts.{Parts}
 use Rattle.xr_run.specs.Phases.{◌>>=◌, Answer, Phases, searches, text_held}
 use Rattle.xr_set.specs.Command.{Command}
 use Rattle.xr_shelf.specs.Shelf.{Files}
-use Rattle.xr_words.specs.Words.{GivesOptions, IsCount, JobValues, job_reads, job_values}
+use Rattle.xr_words.specs.Words.{GivesJob, JobValues, job_reads, job_values}
 use Rattle.xr_words.specs.Forms as shared
 
 -- ---- words
@@ -28,11 +28,9 @@ pub record ReplayValues : Type 0 where
   pub code : Text
   pub vcd : Text
 
--- These are those of `replay`, which names the most places of its job, and the file that is written has another name
--- than each that is read.
+-- These are those of `replay`, and the file that is written has another name than each that is read.
 pub record GivesReplay (option : Text → Option Text) (v : ReplayValues) : Type 0 where
-  pub options : GivesOptions option v.job
-  pub places : IsCount (option (codes "places")) 134217728 1099511627776 v.job.places
+  pub job : GivesJob option v.job
   pub code : option (codes "code") ≡ Some v.code
   pub vcd : option (codes "vcd") ≡ Some v.vcd
   pub apart : AreApart (v.vcd ∷ []) (v.job.recording ∷ v.code ∷ v.job.netlists)
@@ -105,7 +103,7 @@ pub record IsReplayable (w : ReplayValues) (netlist recording code : List ℕ) :
 abbrev pub replay : Command Refused
 replay = record {
   word = codes "replay";
-  table = shared.job (needs (codes "code") Reads ∷ needs (codes "vcd") Writes ∷ shared.places ∷ []);
+  table = shared.job (needs (codes "code") Reads ∷ needs (codes "vcd") Writes ∷ []);
   has_files = true;
   Values = ReplayValues;
   files = λ v. v.job.netlists;

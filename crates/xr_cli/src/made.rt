@@ -18,7 +18,7 @@ use crate::made_texts::MadeTexts;
 use std::alloc::Global;
 use xr_base::Memory;
 use xr_code::read_times;
-use xr_design::{History, StartRule};
+use xr_design::{History, Levels, RegisterRules, StartRule};
 use xr_forces::forces_of;
 use xr_job::{Netlist, PLACES, Recorded, Rules};
 use xr_make::{made_netlist, made_recording};
@@ -147,7 +147,10 @@ fn recorded_of(
         ROUNDS,
         PLACES,
         Rules {
-            start: StartRule::Cold,
+            registers: RegisterRules {
+                start: StartRule::Cold,
+                levels: Levels::Change,
+            },
             undriven: UndrivenRule::Released,
         },
     )

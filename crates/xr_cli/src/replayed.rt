@@ -7,7 +7,7 @@ ghost use Rattle.xr_job.specs.Compared.{job_for};
 ghost use Rattle.xr_run.specs.Prepared.{Prepared, PreparedAlone, answer_of};
 ghost use Rattle.xr_cli.specs.Replay.{coded_phases, forced_phases, replay_answer, replay_values};
 ghost use Rattle.xr_phases.specs.Code.{moments_line};
-ghost use Rattle.xr_phases.specs.Repair.{FitsPartsWithin};
+ghost use Rattle.xr_phases.specs.Repair.{FitsParts};
 
 use crate::commands::replay::Replay;
 use std::alloc::Global;
@@ -26,7 +26,7 @@ pub fn replay_job<'a, S: Shelf>(
     words: &Replay<'a>,
     job: &Parts,
 ) -> Result<Ready<'a>, Refusal<Refused>>
-    requires { FitsPartsWithin words.now.job.places job.now }
+    requires { FitsParts job.now }
     ensures { Prepared S.told (coded_phases (replay_values words.now) job.now) answer_of
         (S.view shelf.old) (S.view shelf.new) result }
 {
@@ -41,7 +41,7 @@ fn replayed<'a>(
     job: &Parts,
     forces: &Forces,
 ) -> Result<Ready<'a>, Refusal<Refused>>
-    requires fits { FitsPartsWithin words.now.job.places job.now }
+    requires fits { FitsParts job.now }
     requires forces { AreEvents (job_for job.now.netlist job.now.recorded) forces.now }
     ensures { PreparedAlone (forced_phases (replay_values words.now) job.now forces.now) answer_of result }
 {
@@ -63,7 +63,7 @@ fn texts_of<'a>(
     job: &Parts,
     history: &History,
 ) -> Result<Ready<'a>, Memory>
-    requires fits { FitsPartsWithin words.now.job.places job.now }
+    requires fits { FitsParts job.now }
     requires places { HasPlaces (job_for job.now.netlist job.now.recorded) history.now }
     ensures { IfOk result (λ ready. answer_of ready ≡ replay_answer (replay_values words.now) job.now history.now) }
 {

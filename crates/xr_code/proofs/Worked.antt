@@ -7,6 +7,7 @@ use Rattle.xr_design.specs.declared.design.Design.{Design}
 use Rattle.xr_design.specs.declared.design.Driver.TheVariants.{Input}
 use Rattle.xr_design.specs.declared.design.Net.{Net}
 use Rattle.xr_design.specs.declared.force.Event.{Event}
+use Rattle.xr_design.specs.declared.stim.Levels.TheVariants.{Change}
 use Rattle.xr_design.specs.declared.stim.StartRule.TheVariants.{Cold}
 use Rattle.xr_design.specs.declared.stim.Stim.{Stim}
 use Rattle.xr_text.specs.Scan.{left, wire}
@@ -26,13 +27,13 @@ abbrev net : List ℕ → Net
 net name = record { path = record { parts = record { text = name; escaped = false } ∷ []; bit = None }; driver = Input }
 
 abbrev one_moment : Stim
-one_moment = record { times = 0 ∷ []; rounds = 4; inputs = [] ∷ []; start = Cold; starts = []; some_moment = lit< tt; few_moments = lit< tt; some_round = lit< tt; few_rounds = lit≤ tt; rows = refl }
+one_moment = record { times = 0 ∷ []; rounds = 4; inputs = [] ∷ []; rules = record { start = Cold; levels = Change }; starts = []; some_moment = lit< tt; few_moments = lit< tt; some_round = lit< tt; few_rounds = lit≤ tt; rows = refl }
 
 abbrev two_moments : Stim
-two_moments = record { times = 0 ∷ 10 ∷ []; rounds = 4; inputs = [] ∷ [] ∷ []; start = Cold; starts = []; some_moment = lit< tt; few_moments = lit< tt; some_round = lit< tt; few_rounds = lit≤ tt; rows = refl }
+two_moments = record { times = 0 ∷ 10 ∷ []; rounds = 4; inputs = [] ∷ [] ∷ []; rules = record { start = Cold; levels = Change }; starts = []; some_moment = lit< tt; few_moments = lit< tt; some_round = lit< tt; few_rounds = lit≤ tt; rows = refl }
 
 abbrev three_moments : Stim
-three_moments = record { times = 0 ∷ 10 ∷ 20 ∷ []; rounds = 4; inputs = [] ∷ [] ∷ [] ∷ []; start = Cold; starts = []; some_moment = lit< tt; few_moments = lit< tt; some_round = lit< tt; few_rounds = lit≤ tt; rows = refl }
+three_moments = record { times = 0 ∷ 10 ∷ 20 ∷ []; rounds = 4; inputs = [] ∷ [] ∷ [] ∷ []; rules = record { start = Cold; levels = Change }; starts = []; some_moment = lit< tt; few_moments = lit< tt; some_round = lit< tt; few_rounds = lit≤ tt; rows = refl }
 
 abbrev event : ℕ → ℕ → Option Value → Event
 event step net value = record { step = step; net = net; value = value }

@@ -1,5 +1,5 @@
 -- The places of a cone and of its boundary, and the bodies of their nodes.
-use Rattle.std.proofs.Common.{◌≡◌, ℕ, zero, suc, ◌+◌, ◌<◌, ◌≤◌, ◌^◌, Bool, true, false, List, [], ◌∷◌, ◌++◌, if◌then◌else◌, length, map, refl, sym, ap, ◌∙◌, arith, subst, ⊎_elim, inl, inr, slice_index, length-append}
+use Rattle.std.proofs.Common.{◌≡◌, ℕ, ◌+◌, ◌<◌, ◌≤◌, ◌^◌, Bool, true, false, List, [], ◌∷◌, length, map, refl, sym, ap, ◌∙◌, arith, subst, ⊎_elim, inl, inr, slice_index}
 use Rattle.std.specs.List.{AllByRecursion}
 use Rattle.std.specs.List.Sorted.{IsStrictlyIncreasing}
 use Rattle.std.proofs.lemmas.Bool.{cases_Bool, cases_eq, cases_lt}
@@ -14,7 +14,7 @@ use Rattle.xr_design.specs.Waveform.{certain}
 use Rattle.xr_design.proofs.Numbers.{is_place_at, number_of_place_at}
 use Rattle.xr_model.specs.Cone.{essentials, in_cone, is_carried, supports_by}
 use Rattle.xr_model.specs.Laws.{InReach}
-use Rattle.xr_model.specs.Places.{among, places_where}
+use Rattle.xr_model.specs.Places.{among}
 use Rattle.xr_model.specs.declared.class.ClassByNumber.TheVariants as class
 use Rattle.xr_model.proofs.Cones.{cone_closed}
 use Rattle.xr_model.proofs.PlacesWhere.{among_all, among_itself, in_picked, or_left, picked_in, picked_rises}
@@ -25,15 +25,6 @@ use Rattle.xr_cone_nodes.specs.declared.node.NodeBody.{NodeBody as Body}
 use Rattle.xr_cone_nodes.specs.declared.node.NodeBody.TheVariants.{Carried, Rule}
 use Rattle.xr_cond.specs.TurnNodes.{AreAround, AreWholeValues, IsBodyFor}
 use Rattle.xr_cond.proofs.TurnChoices.{argument_near}
-
--- As many numbers as there are below a bound at most.
-picked_few : (test : ℕ → Bool) (n : ℕ) → length (places_where test n) ≤ n
-picked_few test zero = omega arith
-picked_few test (suc n) =
-    let ih = picked_few test n in
-    let long = length-append (places_where test n) (n ∷ []) in
-    elim (test n) as (λ t. length (if t then places_where test n ++ n ∷ [] else places_where test n) ≤ suc n)
-    [ true ↦ omega (arith, ih, long) | false ↦ omega (arith, ih) ]
 
 -- A lesser number of a list that ascends stands earlier.
 pub earlier : (xs : List ℕ) (p q : ℕ) → IsStrictlyIncreasing xs → p < length xs → q < length xs
@@ -70,12 +61,7 @@ module _ (c : Contents) (root : ℕ) (places inside : List ℕ) (around : AreAro
       (picked_rises (in_cone (job c) (certain c.written) root) (root + 1))
 
   pub places_few : length places ≤ 2 ^ 27
-  places_few =
-      let few = picked_few (is_near (job c) (certain c.written) root) (root + 1) in
-      let same = ap length around.places_are in
-      let within = around.reach.within in
-      let all = around.wave.few in
-      omega (arith, few, same, within, all)
+  places_few = around.few
 
   near_is : (k : ℕ) → among places k ≡ true
       → (k < root + 1) × (is_near (job c) (certain c.written) root k ≡ true)

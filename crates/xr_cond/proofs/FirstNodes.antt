@@ -1,5 +1,5 @@
 -- The nodes, places and numbers with which a condition begins.
-use Rattle.std.proofs.Common.{◌≡◌, ℕ, zero, suc, ◌+◌, ◌-◌, ◌<◌, Bool, true, false, List, [], ◌∷◌, ◌++◌, if◌then◌else◌, length, length-append, map, refl, sym, ap, ◌∙◌, add-one, arith, subst, slice_index_or}
+use Rattle.std.proofs.Common.{◌≡◌, ℕ, zero, suc, ◌+◌, ◌-◌, ◌<◌, ◌≤◌, ◌^◌, Bool, true, false, List, [], ◌∷◌, ◌++◌, if◌then◌else◌, length, length-append, map, refl, sym, ap, ◌∙◌, add-one, arith, subst, slice_index_or}
 use Rattle.std.specs.Prelude.{nat_lt}
 use Rattle.std.specs.List.{AllByRecursion}
 use Rattle.std.proofs.Math.Seq.{get_or-append_seam}
@@ -47,13 +47,14 @@ module _ (c : Contents) (root : ℕ) (cone : List Node) (of : IsConeOfCertain c 
   listed_places listed are = subst (AllByRecursion (IsPlace (job c))) (sym are)
       (all_places (job c) fits (certain_boundary_in c root) boundary_within)
 
-  pub around_of : (places inside : List ℕ) → places ≡ near_in c root → inside ≡ cone_in c root
+  pub around_of : (places inside : List ℕ) → places ≡ near_in c root → length places ≤ 2 ^ 27 → inside ≡ cone_in c root
       → AreAround c root places inside
-  around_of places inside places_are inside_are = record {
+  around_of places inside places_are few inside_are = record {
     wave = of.whole.wave;
     reach = of.whole.reach;
     free = of.whole.free;
     places_are = places_are;
+    few = few;
     inside_are = inside_are;
   }
 
@@ -63,11 +64,11 @@ module _ (c : Contents) (root : ℕ) (cone : List Node) (of : IsConeOfCertain c 
       ∙ numbers_of_places (job c) (certain_boundary_in c root) fits.ordering fits.all boundary_within
 
   pub has_turn_nodes : (listed : List Place) (places inside numbers : List ℕ) (nodes : List Node)
-      → listed ≡ map (place_at (job c)) (certain_boundary_in c root) → places ≡ near_in c root → inside ≡ cone_in c root
-      → AreNodesAround c places inside nodes → numbers ≡ map (number_of (job c)) listed
+      → listed ≡ map (place_at (job c)) (certain_boundary_in c root) → places ≡ near_in c root → length places ≤ 2 ^ 27
+      → inside ≡ cone_in c root → AreNodesAround c places inside nodes → numbers ≡ map (number_of (job c)) listed
       → HasTurnNodes c root places nodes numbers
-  has_turn_nodes listed places inside numbers nodes listed_are places_are inside_are are made = record {
-    are = are root (around_of places inside places_are inside_are);
+  has_turn_nodes listed places inside numbers nodes listed_are places_are few inside_are are made = record {
+    are = are root (around_of places inside places_are few inside_are);
     has = of.has;
     places_are = places_are;
     numbers_are = made ∙ numbers_back listed listed_are;

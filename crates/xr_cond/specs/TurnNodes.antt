@@ -1,5 +1,5 @@
 -- The nodes of a turn query: the places of a cone and of its boundary, by their positions in place order.
-use Rattle.std.specs.Prelude.{◌≡◌, ℕ, ◌<◌, ◌^◌, ◌⊎◌, Bool, true, false, List, [], ◌∷◌, length, map, slice_index, slice_index_or, take}
+use Rattle.std.specs.Prelude.{◌≡◌, ℕ, ◌<◌, ◌≤◌, ◌^◌, ◌⊎◌, Bool, true, false, List, [], ◌∷◌, length, map, slice_index, slice_index_or, take}
 use Rattle.std.specs.List.{AllByRecursion}
 use Rattle.xr_cell.specs.declared.value.Value.{Value}
 use Rattle.xr_cell.specs.declared.value.Value.TheVariants.{X}
@@ -60,12 +60,13 @@ pub record AreTurnNodes (c : Contents) (root : ℕ) (nodes : List Node) : Type 0
       → IsTurnBody (job c) (certain c.written) root (near_in c root) (slice_index (near_in c root) position)
       (body_at nodes position)
 
--- Numbers are those of the places near a place of a wave, and of its cone alone.
+-- Numbers are those of the places near a place of a wave, at most 2^27, and of its cone alone.
 pub record AreAround (c : Contents) (root : ℕ) (places inside : List ℕ) : Type 0 where
   pub wave : IsWave c
   pub reach : InReach (job c) c.written root
   pub free : is_carried (class_in c root) ≡ false
   pub places_are : places ≡ near_in c root
+  pub few : length places ≤ 2 ^ 27
   pub inside_are : inside ≡ cone_in c root
 
 abbrev pub IsAround : Contents → List ℕ → List ℕ → Type 0

@@ -10,6 +10,7 @@ use Rattle.xr_design.specs.declared.design.Driver.{Driver}
 use Rattle.xr_design.specs.declared.design.Driver.TheVariants.{Input, Undriven, Cell}
 use Rattle.xr_design.specs.declared.design.Table.TheVariants.{Gate}
 use Rattle.xr_design.specs.declared.design.Pin.TheVariants.{Net}
+use Rattle.xr_design.specs.declared.stim.Levels.TheVariants.{Change}
 use Rattle.xr_design.specs.declared.stim.StartRule.TheVariants.{Cold}
 use Rattle.xr_design.specs.Job.{Job}
 use Rattle.xr_model.specs.Cone.{cone}
@@ -31,6 +32,7 @@ design first second = record {
   moments = 1;
   recorded = λ moment net. slice_index_or (X ∷ Zero ∷ []) net X;
   start_rule = Cold;
+  levels = Change;
   start = λ net. X;
 }
 

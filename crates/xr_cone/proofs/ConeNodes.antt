@@ -1,11 +1,11 @@
 -- Nodes that are made of the places of a cone, the least first.
-use Rattle.std.proofs.Common.{◌≡◌, ℕ, zero, suc, ◌+◌, ◌<◌, ◌≤◌, ◌^◌, ◌==◌, Bool, true, false, Result, Ok, Err, IfOk, List, [], ◌∷◌, ◌++◌, length, map, reverse, slice_index, if◌then◌else◌, refl, sym, ap, ◌∙◌, subst, arith, ◌⊎◌, inl, inr, ⊎_elim, append_assoc, length-append}
+use Rattle.std.proofs.Common.{◌≡◌, ℕ, ◌+◌, ◌<◌, ◌≤◌, ◌^◌, ◌==◌, true, Result, Ok, Err, IfOk, List, [], ◌∷◌, ◌++◌, length, map, reverse, slice_index, refl, sym, ap, ◌∙◌, subst, arith, ◌⊎◌, inl, inr, ⊎_elim, append_assoc, length-append}
 use Rattle.std.specs.List.{AllByRecursion}
 use Rattle.std.specs.List.Sorted.{IsStrictlyIncreasing}
 use Rattle.std.proofs.Math.ListN.{get_or-append}
 use Rattle.std.proofs.Math.Seq.{get_or-append_seam}
 use Rattle.std.proofs.lemmas.Bool.{cases_eq, eq-eqb}
-use Rattle.std.proofs.lemmas.List.{append-nil, length-map, map-append, reverse-append}
+use Rattle.std.proofs.lemmas.List.{append-nil, length-map, length-reverse, map-append, reverse-append}
 use Rattle.xr_cell.specs.declared.value.Value.{Value}
 use Rattle.xr_design.specs.declared.place.Place.{Place}
 use Rattle.xr_design.specs.declared.waveform.Written.{Written}
@@ -15,7 +15,7 @@ use Rattle.xr_design.specs.Waveform.{certain}
 use Rattle.xr_model.specs.Cone.{cone, in_cone, is_carried, supports}
 use Rattle.xr_model.specs.Laws.{InReach}
 use Rattle.xr_model.specs.Node.{IsBody}
-use Rattle.xr_model.specs.Places.{among, places_where}
+use Rattle.xr_model.specs.Places.{among}
 use Rattle.xr_model.specs.declared.class.ClassByNumber.TheVariants as class
 use Rattle.xr_model.proofs.Cones.{cone_closed, cone_self, cone_within, supports_below}
 use Rattle.xr_model.proofs.PlacesWhere.{all_among, among_all, contains_among, in_picked, or_left, or_right, picked_in, picked_rises}
@@ -71,22 +71,20 @@ next_rises j c root places next left is =
     front_increases places (next ∷ reverse left)
     (subst IsStrictlyIncreasing (sym is.parts) (cone_rises j c root))
 
-few_picked : (test : ℕ → Bool) (n : ℕ) → length (places_where test n) ≤ n
-few_picked test zero = omega arith
-few_picked test (suc n) = one (test n) (few_picked test n)
-  where
-    one : (b : Bool) → length (places_where test n) ≤ n
-        → length (if b then places_where test n ++ n ∷ [] else places_where test n) ≤ suc n
-    one true up = let long = length-append (places_where test n) (n ∷ []) in omega (arith, long, up)
-    one false up = omega (arith, up)
+-- A cone has as many places as were traced.
+pub few_traced : (j : Job) (c : ℕ → Value) (root : ℕ) (traced : List ℕ) → AreTraced j c root traced
+    → length traced ≤ 2 ^ 27 → length (cone j c root) ≤ 2 ^ 27
+few_traced j c root traced are few =
+    let same = ap length are in
+    let long = length-reverse traced in
+    omega (arith, same, long, few)
 
-pub next_few : (j : Job) → places_of j ≤ 2 ^ 27 → (c : ℕ → Value) (root : ℕ) (places : List ℕ) (next : ℕ) (left : List ℕ)
-    → root < places_of j → IsNext j c root places next left → length places < 2 ^ 27
-next_few j most c root places next left within is =
-    let few = few_picked (in_cone j c root) (root + 1) in
+pub next_few : (j : Job) (c : ℕ → Value) (root : ℕ) (places : List ℕ) (next : ℕ) (left : List ℕ)
+    → length (cone j c root) ≤ 2 ^ 27 → IsNext j c root places next left → length places < 2 ^ 27
+next_few j c root places next left few is =
     let whole = ap length is.parts in
     let long = length-append places (next ∷ reverse left) in
-    omega (arith, few, most, whole, long, within)
+    omega (arith, few, whole, long)
 
 in_here : (xs : List ℕ) (p : ℕ) (ys : List ℕ) → among (xs ++ p ∷ ys) p ≡ true
 in_here [] p ys = or_left (p == p) (among ys p) (eq-eqb p p refl)
@@ -271,8 +269,9 @@ made_more j fits c root places all rest left next nodes every place traced body 
 -- Where none is left, the nodes are the cone.
 pub made_ends : (c : Contents) (root : ℕ) (places rest : List ℕ) (nodes : List Node) → IsWave c
     → InReach (job c) c.written root → class_in c root ≡ class.Line
+    → length (cone (job c) (certain c.written) root) ≤ 2 ^ 27
     → IsMade (job c) (certain c.written) root places rest nodes → rest ≡ [] → IsWholeCone c root nodes
-made_ends c root places rest nodes wave reach line made none = record {
+made_ends c root places rest nodes wave reach line most made none = record {
   wave = wave;
   are_nodes = record { some = some; few = few; each = made.stands };
   reach = reach;
@@ -300,10 +299,7 @@ made_ends c root places rest nodes wave reach line made none = record {
         let less = there.1 in omega (arith, less, same))
 
     few : length nodes ≤ 2 ^ 27
-    few = (let up = few_picked (in_cone j known root) (root + 1) in
-        let within = reach.within in
-        let most = wave.few in
-        omega (arith, up, within, most, same))
+    few = (let all_few : length (cone j known root) ≤ 2 ^ 27 = most in omega (arith, all_few, same))
 
 pub ends_ok : {T E : Type 0} (nodes_in : T → List Node) (P : List Node → Type 0) (result : Result T E)
     (nodes : List Node) → IfOk result (λ cone. nodes_in cone ≡ nodes) → P nodes → IfOk result (λ cone. P (nodes_in cone))

@@ -1,11 +1,12 @@
 //! The places of a cone, from its root downwards.
 
-ghost use Rattle.std.specs.Prelude.{IfOk, OnOk};
+ghost use Rattle.std.specs.Prelude.{◌≤◌, ◌^◌, IfOk, OnOk, length};
 ghost use Rattle.xr_reached.specs.Reached.{AddsAll};
 ghost use Rattle.xr_rests.specs.InWave.{AreTracedIn, IsInReach};
 ghost use Rattle.xr_cone.specs.Known.{IsRightOf};
 ghost use Rattle.xr_rests.specs.Traced.{supports_in};
 
+use crate::positions::check_few;
 use crate::tracer::Tracer;
 use std::alloc::Global;
 use xr_base::Memory;
@@ -24,6 +25,7 @@ pub fn trace_places(
     requires reach { IsInReach wave.now root }
     requires right { IsRightOf wave.now tracer.old }
     ensures traced { IfOk result (λ traced. AreTracedIn wave.now root traced.items) }
+    ensures few { IfOk result (λ traced. length traced.items ≤ 2 ^ 27) }
     ensures right { OnOk result (IsRightOf wave.now tracer.new) }
 {
     let _circuit = wave.circuit();
@@ -35,6 +37,7 @@ pub fn trace_places(
         tracer.insert_supports(&mut reached, place)?;
         traced.push(place)?;
     }
+    check_few(traced.len())?;
     Ok(traced)
 }
 

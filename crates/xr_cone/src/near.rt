@@ -8,17 +8,19 @@ ghost use Rattle.xr_cone.specs.Boundary.{AreInside, AreNear, IsSomeCone};
 
 use crate::descent::insert_all;
 use crate::outside::{falling_boundary, numbers_of, taken_of};
-use crate::positions::{position_of, positions_of};
+use crate::positions::{check_few, position_of, positions_of};
 use std::alloc::Global;
 use xr_base::Memory;
 use xr_cone_nodes::{Cone, Positions};
 use xr_reached::Reached;
 use xr_wave::Wave;
 
-/// The numbers of the places of a cone and of its boundary, in place order. Takes memory as `boundary` does.
+/// The numbers of the places of a cone and of its boundary, in place order, where they are at most 2^27. Takes memory as
+/// `boundary` does.
 pub fn near_places(alloc: Global, wave: &Wave<'_>, cone: &Cone) -> Result<Vec<usize>, Memory>
     requires { IsSomeCone wave.now cone.now.nodes }
-    ensures { IfOk result (λ numbers. AreNear wave.now cone.now.nodes numbers.items) }
+    ensures near { IfOk result (λ numbers. AreNear wave.now cone.now.nodes numbers.items) }
+    ensures few { IfOk result (λ numbers. length numbers.items ≤ 2 ^ 27) }
 {
     let inside = cone_places(alloc, wave, cone)?;
     let beside = falling_boundary(alloc, wave, cone)?;
@@ -27,6 +29,7 @@ pub fn near_places(alloc: Global, wave: &Wave<'_>, cone: &Cone) -> Result<Vec<us
     insert_all(&mut reached, beside.as_slice())?;
     let mut near = taken_of(alloc, reached)?;
     near.reverse();
+    check_few(near.len())?;
     Ok(near)
 }
 

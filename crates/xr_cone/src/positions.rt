@@ -1,6 +1,6 @@
 //! What a place rests on, by the positions of places in a list that ascends.
 
-ghost use Rattle.std.specs.Prelude.{◌≡◌, ℕ, ◌<◌, ◌≤◌, ◌^◌, true, length, map, slice_index, IfOk};
+ghost use Rattle.std.specs.Prelude.{◌≡◌, ℕ, ◌<◌, ◌≤◌, ◌^◌, true, length, map, slice_index, IfOk, OnOk};
 ghost use Rattle.std.specs.List.{AllByRecursion};
 ghost use Rattle.std.specs.List.Sorted.{IsStrictlyIncreasing};
 ghost use Rattle.xr_model.specs.Places.{among};
@@ -12,6 +12,19 @@ use std::alloc::Global;
 use xr_base::Memory;
 use xr_cone_nodes::{NodeBody, Positions, Values};
 use xr_rests::TracedBody;
+
+/// How many nodes a cone has at most.
+const MOST_NODES: usize = 134_217_728;
+
+/// Whether places are few enough for the nodes of a cone.
+pub fn check_few(count: usize) -> Result<(), Memory>
+    ensures { OnOk result (count ≤ 2 ^ 27) }
+{
+    if count > MOST_NODES {
+        return Err(Memory);
+    }
+    Ok(())
+}
 
 /// What a place rests on, where that is among some places. Each is looked for first where it is hinted that it stands.
 pub fn place_body(

@@ -5,6 +5,7 @@ pub mod Follows
 pub mod Gates
 pub mod Handed
 mod HistoryLemmas
+pub mod LevelRule
 pub mod Numbers
 pub mod OrderLemmas
 pub mod OrdersFit

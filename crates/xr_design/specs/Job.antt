@@ -9,12 +9,13 @@ use Rattle.xr_design.specs.declared.design.Driver.TheVariants.{Undriven}
 use Rattle.xr_design.specs.declared.design.Design.{Design}
 use Rattle.xr_design.specs.declared.design.Net.{Net}
 use Rattle.xr_design.specs.declared.place.Place.{Place}
+use Rattle.xr_design.specs.declared.stim.Levels.{Levels}
 use Rattle.xr_design.specs.declared.stim.StartRule.{StartRule}
 use Rattle.xr_design.specs.declared.stim.Stim.{Stim}
 
 -- How many nets there are, the driver of each, the primitives, the order of the nets within a step, the rounds of a
--- moment, the number of moments, the recorded value of an input in a moment, the rule by which registers start, and the
--- value that each starts with.
+-- moment, the number of moments, the recorded value of an input in a moment, the rule by which registers start, when
+-- levels decide them, and the value that each starts with.
 pub record Job : Type 0 where
   pub width : ℕ
   pub driver : ℕ → Driver
@@ -24,6 +25,7 @@ pub record Job : Type 0 where
   pub moments : ℕ
   pub recorded : ℕ → ℕ → Value
   pub start_rule : StartRule
+  pub levels : Levels
   pub start : ℕ → Value
 
 abbrev pub driver_in : Design → ℕ → Driver
@@ -38,7 +40,8 @@ job_of design order stim = record {
   rounds = stim.rounds;
   moments = length stim.times;
   recorded = λ moment net. slice_index_or (slice_index_or stim.inputs moment []) net X;
-  start_rule = stim.start;
+  start_rule = stim.rules.start;
+  levels = stim.rules.levels;
   start = λ net. slice_index_or stim.starts net X;
 }
 

@@ -1,12 +1,16 @@
 -- What a register sees of its pins, and what it makes of them. The replay, the rule and the settled test share this.
-use Rattle.std.specs.Prelude.{ℕ, ◌-◌, ◌==◌, ◌&&◌, ◌||◌, Bool, Option, None, Some, List, map, slice_index_or, length, if◌then◌else◌}
+use Rattle.std.specs.Prelude.{ℕ, ◌-◌, ◌==◌, ◌&&◌, ◌||◌, Bool, false, Option, None, Some, List, map, slice_index_or}
+use Rattle.std.specs.Prelude.{length, if◌then◌else◌}
 use Rattle.std.specs.Int.{bit_at}
 use Rattle.xr_cell.specs.Below.{any_below}
 use Rattle.xr_cell.specs.declared.value.Value.{Value}
 use Rattle.xr_cell.specs.declared.value.Value.TheVariants.{X}
 use Rattle.xr_cell.specs.Value.{bit_value, is_unknown}
+use Rattle.xr_cell.specs.Hold.{hold}
 use Rattle.xr_cell.specs.Next.{next}
 use Rattle.xr_design.specs.Job.{Job, at, primitive_of}
+use Rattle.xr_design.specs.declared.stim.Levels.{Levels}
+use Rattle.xr_design.specs.declared.stim.Levels.TheVariants.{Change, Hold}
 use Rattle.xr_design.specs.declared.stim.StartRule.{StartRule}
 use Rattle.xr_design.specs.declared.stim.StartRule.TheVariants.{Cold, Recorded}
 use Rattle.xr_design.specs.declared.design.Pin.{Pin}
@@ -53,6 +57,10 @@ abbrev pub updated : Job → (ℕ → Value) → Value → ℕ → Latching → 
 updated j values kept step latching =
     next (primitive_of j.udps latching.udp) latching.clocks (old_pins j values step latching.pins) (new_pins j values step latching.pins) kept
 
+-- The bit at which its pins one step back hold it whatever its state is, else x.
+abbrev pub hold_at : Job → (ℕ → Value) → ℕ → Latching → Value
+hold_at j values step latching = hold (primitive_of j.udps latching.udp) (new_pins j values step latching.pins)
+
 -- One of the clock pins is x or z.
 abbrev pub has_unknown_clock : ℕ → List Value → Bool
 has_unknown_clock clocks values = any_below (length values) (λ pin. (bit_at clocks pin == 1) && is_unknown (slice_index_or values pin X))
@@ -62,3 +70,13 @@ has_unknown_clock clocks values = any_below (length values) (λ pin. (bit_at clo
 abbrev pub has_uncertain_clock : Job → (ℕ → Value) → ℕ → Latching → Bool
 has_uncertain_clock j certain step latching =
     has_unknown_clock latching.clocks (old_pins j certain step latching.pins) || has_unknown_clock latching.clocks (new_pins j certain step latching.pins)
+
+-- The same, and where levels hold registers also where it looked back one step before (at step 2, before step 0).
+abbrev pub also_before : Levels → Bool → Bool
+also_before Change before = false
+also_before Hold before = before
+
+abbrev pub had_uncertain_clock : Job → (ℕ → Value) → ℕ → Latching → Bool
+had_uncertain_clock j certain step latching =
+    has_uncertain_clock j certain step latching
+    || also_before j.levels (has_uncertain_clock j certain (step - 1) latching)

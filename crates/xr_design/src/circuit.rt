@@ -78,7 +78,7 @@ impl Circuit<'_> {
         if step > 1 {
             return Some(step - 2);
         }
-        match self.stim.start {
+        match self.stim.rules.start {
             StartRule::Cold => None,
             StartRule::Recorded => Some(0),
         }

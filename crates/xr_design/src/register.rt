@@ -1,6 +1,6 @@
 //! What a register makes of the pins that it looks back at.
 
-ghost use Rattle.std.specs.Prelude.{◌≡◌, ℕ, ◌+◌, ◌*◌, ◌<◌, ◌≤◌, ◌==◌, ◌&&◌, ◌^◌, length, take};
+ghost use Rattle.std.specs.Prelude.{◌≡◌, ℕ, ◌+◌, ◌-◌, ◌*◌, ◌<◌, ◌≤◌, ◌==◌, ◌&&◌, ◌^◌, length, take};
 ghost use Rattle.std.specs.Int.{bit_at};
 ghost use Rattle.xr_cell.specs.Value.{is_unknown};
 ghost use Rattle.xr_cell.specs.declared.value.Value.{Value as AnyValue};
@@ -8,11 +8,13 @@ ghost use Rattle.xr_cell.specs.Next.{next};
 ghost use Rattle.xr_design.specs.Circuit.{job_in, CircuitFits};
 ghost use Rattle.xr_design.specs.Fits.{FitsRegister, FitsPrimitive};
 ghost use Rattle.xr_design.specs.Job.{primitive_of};
-ghost use Rattle.xr_design.specs.Register.{old_pins, new_pins, updated, has_unknown_clock, has_uncertain_clock};
+ghost use Rattle.xr_design.specs.Register.{old_pins, new_pins, updated, hold_at, has_unknown_clock};
+ghost use Rattle.xr_design.specs.Register.{has_uncertain_clock, had_uncertain_clock};
 
 use crate::circuit::Circuit;
 use crate::design::{Latching, Pin};
 use crate::reads::{Source, pin_values};
+use crate::stim::Levels;
 use xr_cell::{Udp, Value};
 
 /// The values at the pins two steps before, in the first places: before step 0 as the start rule says.
@@ -84,6 +86,25 @@ fn udp_of<'a>(circuit: &Circuit<'a>, latching: &Latching) -> &'a Udp
     &circuit.design.udps.as_slice()[latching.udp as usize]
 }
 
+/// The bit at which the pins one step back hold a register whatever its state is, else x. Takes no memory.
+pub fn hold_value<S: Source>(
+    circuit: &Circuit<'_>,
+    source: &S,
+    step: usize,
+    latching: &Latching,
+) -> Value
+    requires fits { CircuitFits circuit.now }
+    requires register { FitsRegister (job_in circuit.now).udps (job_in circuit.now).width latching.now }
+    requires later { 0 < step }
+    requires has { (place : ℕ) → place < step * (job_in circuit.now).width → S.has source.now place }
+    requires small { step * (job_in circuit.now).width ≤ 2 ^ 40 }
+    ensures { result ≡ hold_at (job_in circuit.now) (S.reads source.now) step latching.now }
+{
+    let new = new_values(circuit, source, step, latching);
+    let count = latching.pins.as_slice().len();
+    udp_of(circuit, latching).hold(&new[..count])
+}
+
 /// Whether a clock pin isn't certain where the register looks back at it. Takes no memory.
 pub fn clock_is_uncertain<S: Source>(
     circuit: &Circuit<'_>,
@@ -104,6 +125,46 @@ pub fn clock_is_uncertain<S: Source>(
     let old_unknown = clock_is_unknown(latching.clocks, &old[..count]);
     let new_unknown = clock_is_unknown(latching.clocks, &new[..count]);
     old_unknown || new_unknown
+}
+
+/// The same, and where levels hold registers also where it looked back one step before. Takes no memory.
+pub fn clock_was_uncertain<S: Source>(
+    circuit: &Circuit<'_>,
+    certain: &S,
+    step: usize,
+    latching: &Latching,
+) -> bool
+    requires fits { CircuitFits circuit.now }
+    requires register { FitsRegister (job_in circuit.now).udps (job_in circuit.now).width latching.now }
+    requires later { 1 < step }
+    requires has { (place : ℕ) → place < step * (job_in circuit.now).width → S.has certain.now place }
+    requires small { step * (job_in circuit.now).width ≤ 2 ^ 40 }
+    ensures { result ≡ had_uncertain_clock (job_in circuit.now) (S.reads certain.now) step latching.now }
+{
+    let here = clock_is_uncertain(circuit, certain, step, latching);
+    match circuit.stim.rules.levels {
+        Levels::Change => here,
+        Levels::Hold => {
+            let before = clock_before_is_uncertain(circuit, certain, step, latching);
+            here || before
+        }
+    }
+}
+
+fn clock_before_is_uncertain<S: Source>(
+    circuit: &Circuit<'_>,
+    certain: &S,
+    step: usize,
+    latching: &Latching,
+) -> bool
+    requires fits { CircuitFits circuit.now }
+    requires register { FitsRegister (job_in circuit.now).udps (job_in circuit.now).width latching.now }
+    requires later { 1 < step }
+    requires has { (place : ℕ) → place < step * (job_in circuit.now).width → S.has certain.now place }
+    requires small { step * (job_in circuit.now).width ≤ 2 ^ 40 }
+    ensures { result ≡ has_uncertain_clock (job_in circuit.now) (S.reads certain.now) (step - 1) latching.now }
+{
+    clock_is_uncertain(circuit, certain, step - 1, latching)
 }
 
 fn clock_is_unknown(clocks: u16, values: &[Value]) -> bool

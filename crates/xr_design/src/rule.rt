@@ -7,13 +7,14 @@ ghost use Rattle.xr_design.specs.Fits.{Standing, FitsDriver, FitsRegister, FitsT
 ghost use Rattle.xr_design.specs.Job.{places_of};
 ghost use Rattle.xr_design.specs.Order.{arguments_of_driver};
 ghost use Rattle.xr_design.specs.Replay.{table_of};
-ghost use Rattle.xr_design.specs.Rule.{born, known_or, register_rule, rule, rule_of};
+ghost use Rattle.xr_design.specs.Rule.{born, known_or, register_rule, remade, rule, rule_of};
 
 use crate::circuit::{Circuit, Spot, driver_at, recorded_at, spot_of, start_at};
 use crate::design::{Driver, Latching, Table};
 use crate::driven::cell_value;
 use crate::reads::{AsValues, BitSource, Source, net_value};
-use crate::register::{clock_is_uncertain, updated_value};
+use crate::register::{clock_is_uncertain, hold_value, updated_value};
+use crate::stim::Levels;
 use xr_cell::{Value, gate_value};
 
 /// What the certain values and the bits of the places before a place make of it. Takes no memory.
@@ -135,9 +136,31 @@ fn register_value<C: Source, B: BitSource>(
         start_at(circuit, spot.net)
     } else if clock_is_uncertain(circuit, certain, spot.step, latching) {
         let kept = net_value(circuit, certain, spot.step - 1, spot.net as u32);
-        updated_value(circuit, certain, kept, spot.step, latching)
+        remade_value(circuit, certain, kept, spot.step, latching)
     } else {
         let kept = net_value(circuit, &values, spot.step - 1, spot.net as u32);
-        updated_value(circuit, &values, kept, spot.step, latching)
+        remade_value(circuit, &values, kept, spot.step, latching)
+    }
+}
+
+/// What a register makes at a later step of the values at its pins and of its own one step back. Takes no memory.
+pub fn remade_value<S: Source>(
+    circuit: &Circuit<'_>,
+    source: &S,
+    kept: Value,
+    step: usize,
+    latching: &Latching,
+) -> Value
+    requires fits { CircuitFits circuit.now }
+    requires register { FitsRegister (job_in circuit.now).udps (job_in circuit.now).width latching.now }
+    requires later { 0 < step }
+    requires has { (place : ℕ) → place < step * (job_in circuit.now).width → S.has source.now place }
+    requires small { step * (job_in circuit.now).width ≤ 2 ^ 40 }
+    ensures { result ≡ remade (job_in circuit.now) (S.reads source.now) kept step latching.now }
+{
+    let updated = updated_value(circuit, source, kept, step, latching);
+    match circuit.stim.rules.levels {
+        Levels::Change => updated,
+        Levels::Hold => value_known_or(hold_value(circuit, source, step, latching), updated),
     }
 }

@@ -75,7 +75,7 @@ pub record AreBeside (before after : Contents) : Type 0 where
 -- In the second wave some unknown starts are set, under recorded starts; in the first every clock pin of every
 -- register is certain at every step, and in the second nothing is undecided.
 pub record OnlyChooses (before after : Contents) : Type 0 where
-  pub recorded : before.stim.start ≡ Recorded
+  pub recorded : before.stim.rules.start ≡ Recorded
   pub sets : SetsUnknown before.design before.stim after.stim
   pub clocks : AreClocksCertain (job before) before.written
   pub decided : IsDecided after.written

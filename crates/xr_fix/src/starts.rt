@@ -40,7 +40,7 @@ pub fn with_starts(
         times: Items::from_vec(times),
         rounds: stim.rounds,
         inputs,
-        start: stim.start,
+        rules: stim.rules,
         starts: Items::from_vec(starts),
     })
 }

@@ -111,13 +111,6 @@ latest_old j f n p t (suc s) low at few = ⊎_elim (λ less. here (latest_old j 
         ∙ (latest_top f w n p s (omega (arith, place, row, low)) ∙ ap f back)
         ∙ sym (upper n w None (f (n - w)) (omega (arith, place, row)))
 
--- Where a place and its net stand.
-step_there : (j : Job) (step position : ℕ) → position < j.width → step_of j (step * j.width + position) ≡ step
-step_there j step position within = div-mul-add step j.width position within
-
-net_there : (j : Job) (step position : ℕ) → position < j.width → net_of j (step * j.width + position) ≡ slice_index j.order position
-net_there j step position within = ap (slice_index j.order) (mod-mul-add step j.width position within)
-
 -- What the events that are seen say, when a place has an event or none.
 with_change : (j : Job) (events : List Event) (was force : Option Value) (place step net : ℕ) → (is_up_to step net (event_of j place force) ≡ true → forced_at events step net ≡ was) → forced_at (events ++ unless_same was force (event_of j place force)) step net ≡ cond (is_up_to step net (event_of j place force)) force (forced_at events step net)
 with_change j events was force place step net known = ⊎_elim (λ same. kept same) (λ other. changed other) (cases_Bool (is_same_force was force))

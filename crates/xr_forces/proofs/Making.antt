@@ -1,5 +1,5 @@
 -- Forces of values as they are made, place by place.
-use Rattle.std.proofs.Common.{◌≡◌, ℕ, zero, suc, ◌+◌, ◌-◌, ◌*◌, ◌/◌, ◌%◌, ◌<◌, ◌≤◌, ◌==◌, Bool, true, false, Option, None, List, [], ◌∷◌, ◌++◌, map, set, slice_index, slice_index_or, refl, sym, ap, ◌∙◌, arith, subst, if◌then◌else◌}
+use Rattle.std.proofs.Common.{◌≡◌, ℕ, zero, suc, ◌+◌, ◌-◌, ◌*◌, ◌/◌, ◌%◌, ◌<◌, ◌≤◌, ◌==◌, Bool, true, false, Option, None, List, ◌++◌, set, slice_index, slice_index_or, refl, sym, ap, ◌∙◌, arith, subst, if◌then◌else◌}
 use Rattle.std.proofs.lemmas.Nat.{div-add-mod', mod-mul-add}
 use Rattle.std.proofs.Math.Nat.{mod-lt, mul-le-mul_right}
 use Rattle.std.specs.List.{AllByRecursion}
@@ -9,17 +9,15 @@ use Rattle.xr_design.specs.Circuit.{IsSpot}
 use Rattle.xr_design.specs.Fits.{Fits, FitsDriver, StandsBefore}
 use Rattle.xr_design.specs.Job.{Job, at, net_of, places_of, step_of}
 use Rattle.xr_design.specs.Order.{arguments_of_driver, net_pins, position_of}
-use Rattle.xr_design.specs.Register.{pin_of}
 use Rattle.xr_design.specs.Replay.{Held, blank, driven, kept, register_kept, seen, table_of}
 use Rattle.xr_design.specs.declared.circuit.Spot.{Spot}
 use Rattle.xr_design.specs.declared.design.Driver.{Driver}
 use Rattle.xr_design.specs.declared.design.Driver.TheVariants.{Input, Undriven, Constant, Copy, Cell, Register}
 use Rattle.xr_design.specs.declared.design.Latching.{Latching}
-use Rattle.xr_design.specs.declared.design.Pin.{Pin}
-use Rattle.xr_design.specs.declared.design.Pin.TheVariants.{Net, Bit, Dead}
 use Rattle.xr_design.specs.declared.force.Event.{Event}
 use Rattle.xr_design.proofs.OrderLemmas.{position_is}
 use Rattle.xr_design.proofs.Rules.{agree_on, new_below, old_below, some_width, spot, updated_reads}
+use Rattle.xr_replay.proofs.Replays.{pins_same}
 use Rattle.xr_forces.specs.Changes.{change_at, changes, forced_before, unless_same}
 use Rattle.xr_forces.specs.ForcesOf.{AreForcesOf, forcing, given_of, held_as, needed, showing}
 use Rattle.xr_forces.specs.Made.{AreForcesTo, event_at}
@@ -38,12 +36,6 @@ shows j values n k less = ap (λ (held : Held). held.shown) (showing_held j valu
 -- Places show values as a function of places does.
 abbrev ShowBelow : (ℕ → Held) → (ℕ → Value) → ℕ → Type 0
 ShowBelow f values n = (k : ℕ) → k < n → (f k).shown ≡ values k
-
-pub pins_same : (f g : ℕ → Value) (pins : List Pin) → AllByRecursion (λ net. f net ≡ g net) (net_pins pins) → map (pin_of f) pins ≡ map (pin_of g) pins
-pins_same f g [] agree = refl
-pins_same f g (Net net ∷ pins) agree = rw (agree.0, pins_same f g pins agree.1) refl
-pins_same f g (Bit bit ∷ pins) agree = rw (pins_same f g pins agree) refl
-pins_same f g (Dead ∷ pins) agree = rw (pins_same f g pins agree) refl
 
 unless_first : (first : Bool) (start x y : Value) → (first ≡ false → x ≡ y) → (if first then start else x) ≡ (if first then start else y)
 unless_first true start x y same = refl

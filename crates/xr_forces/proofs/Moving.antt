@@ -7,17 +7,15 @@ use Rattle.xr_design.specs.Fits.{Fits}
 use Rattle.xr_design.specs.Job.{Job}
 use Rattle.xr_design.specs.Order.{arguments_of_driver, position_of}
 use Rattle.xr_design.proofs.Rules.{position_in}
-use Rattle.xr_replay.specs.Marks.{AreInputsDue, OnlyMore}
-use Rattle.xr_replay.specs.Readings.{AreReaders}
-use Rattle.xr_replay.specs.Still.{looked_at}
-use Rattle.xr_replay.specs.Sweep.{driver_on}
-use Rattle.xr_replay.proofs.Marking.{clear_before}
+use Rattle.xr_fans.specs.Nets.{driver_on, looked_at}
+use Rattle.xr_fans.specs.Readings.{AreReaders}
+use Rattle.xr_fans.specs.Marks.{AreInputsDue, OnlyMore}
+use Rattle.xr_fans.proofs.Positions.{arguments_within, at_there, looked_within, net_within, position_there}
+use Rattle.xr_fans.proofs.Marking.{clear_before}
 use Rattle.xr_replay.proofs.Places.{net_there}
 use Rattle.xr_replay.proofs.Quiet.{all_two}
-use Rattle.xr_replay.proofs.Repeats.{at_there, position_there}
 use Rattle.xr_replay.proofs.Replays.{all_by}
-use Rattle.xr_replay.proofs.Sweeps.{AreMarked, are_marked, arguments_within, looked_within}
-use Rattle.xr_replay.proofs.Writing.{net_within}
+use Rattle.xr_replay.proofs.Sweeps.{AreMarked, are_marked}
 use Rattle.xr_replay_due.specs.Due.{AreAllDue, GainsAll, HasRoomFor, KeepsOthers, is_due}
 use Rattle.xr_replay_due.specs.Readers.{ReadersView, readers_of}
 use Rattle.xr_forces.specs.Made.{GivenUnlessDue}

@@ -12,15 +12,15 @@ use Rattle.xr_design.specs.Replay.{driven, register_kept, seen, table_of}
 use Rattle.xr_design.specs.declared.design.Driver.{Driver}
 use Rattle.xr_design.specs.declared.design.Driver.TheVariants.{Input, Undriven, Constant, Copy, Cell, Register}
 use Rattle.xr_design.specs.declared.design.Latching.{Latching}
-use Rattle.xr_replay.specs.Still.{looked_at}
-use Rattle.xr_replay.specs.Sweep.{driver_on}
+use Rattle.xr_fans.specs.Nets.{driver_on, looked_at}
+use Rattle.xr_fans.proofs.Positions.{at_there}
 use Rattle.xr_replay.proofs.Quiet.{later_kept}
-use Rattle.xr_replay.proofs.Repeats.{at_there}
+use Rattle.xr_replay.proofs.Replays.{pins_same}
 use Rattle.xr_replay.proofs.Writing.{net_at, place_within, step_there}
 use Rattle.xr_forces.specs.ForcesOf.{forcing, given_of, needed}
 use Rattle.xr_forces.specs.Made.{Rests}
 use Rattle.xr_forces.specs.Still.{IsStill, looked_on, watched}
-use Rattle.xr_forces.proofs.Making.{given_is, pins_same}
+use Rattle.xr_forces.proofs.Making.{given_is}
 use Rattle.xr_forces.proofs.Rows.{later_step}
 
 -- the values at pins, from values that were still

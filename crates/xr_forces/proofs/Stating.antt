@@ -8,10 +8,10 @@ use Rattle.xr_design.specs.Force.{forced_by}
 use Rattle.xr_design.specs.Job.{Job}
 use Rattle.xr_design.specs.Order.{position_of}
 use Rattle.xr_design.specs.declared.force.Event.{Event}
+use Rattle.xr_fans.proofs.Positions.{net_within, position_there}
 use Rattle.xr_replay.specs.Forced.{ChangesOnlyBy, HasForced, event_at}
 use Rattle.xr_replay.specs.Marks.{AreEventsDue}
-use Rattle.xr_replay.proofs.Repeats.{position_there}
-use Rattle.xr_replay.proofs.Writing.{net_at, net_within, step_there}
+use Rattle.xr_replay.proofs.Writing.{net_at, step_there}
 use Rattle.xr_replay_due.specs.Due.{is_due}
 use Rattle.xr_forces.specs.Changes.{change_at, forced_before, unless_same}
 use Rattle.xr_forces.specs.Made.{AreChangesTo, HasChangesTo, RestButFor, StatedUnlessDue}

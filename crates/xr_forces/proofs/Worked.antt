@@ -16,6 +16,7 @@ use Rattle.xr_design.specs.declared.design.Driver.TheVariants.{Input, Cell, Regi
 use Rattle.xr_design.specs.declared.design.Pin.TheVariants.{Net}
 use Rattle.xr_design.specs.declared.design.Table.TheVariants.{Gate}
 use Rattle.xr_design.specs.declared.force.Event.{Event}
+use Rattle.xr_design.specs.declared.stim.Levels.TheVariants.{Change}
 use Rattle.xr_design.specs.declared.stim.StartRule.TheVariants.{Cold}
 use Rattle.xr_forces.specs.Changes.{changes, changes_by}
 use Rattle.xr_forces.specs.ForcesOf.{forces_of, forcing, given_of, showing}
@@ -40,6 +41,7 @@ mux d0 = record {
   moments = 1;
   recorded = λ moment net. slice_index_or (d0 ∷ One ∷ X ∷ []) net X;
   start_rule = Cold;
+  levels = Change;
   start = λ net. X;
 }
 
@@ -84,6 +86,7 @@ hold = record {
   moments = 3;
   recorded = λ moment net. if net == 0 then slice_index_or (Zero ∷ X ∷ Zero ∷ []) moment X else One;
   start_rule = Cold;
+  levels = Change;
   start = λ net. Zero;
 }
 

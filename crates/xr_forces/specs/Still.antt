@@ -5,9 +5,8 @@ use Rattle.std.specs.List.{AllByRecursion}
 use Rattle.xr_cell.specs.declared.value.Value.{Value}
 use Rattle.xr_design.specs.Job.{Job, at}
 use Rattle.xr_design.specs.Order.{arguments_of_driver, position_of}
-use Rattle.xr_replay.specs.Marks.{OnlyMore}
-use Rattle.xr_replay.specs.Still.{looked_at}
-use Rattle.xr_replay.specs.Sweep.{driver_on}
+use Rattle.xr_fans.specs.Nets.{driver_on, looked_at}
+use Rattle.xr_fans.specs.Marks.{OnlyMore}
 use Rattle.xr_replay_due.specs.Due.{HasRoomFor, is_due}
 
 -- A net has at a step the value that it had one step before.

@@ -3,13 +3,14 @@
 ghost use Rattle.std.specs.Prelude.{◌≡◌, ℕ, ◌+◌, ◌*◌, ◌<◌};
 ghost use Rattle.xr_design.specs.Circuit.{job_in, CircuitFits};
 ghost use Rattle.xr_design.specs.Job.{places_of};
+ghost use Rattle.xr_fans.specs.Marks.{OnlyMore};
+ghost use Rattle.xr_fans.specs.Readings.{AreFans};
 ghost use Rattle.xr_forces.specs.Still.{AreMarkedTo, IsMarked, looked_on, watched};
-ghost use Rattle.xr_replay.specs.Marks.{OnlyMore};
-ghost use Rattle.xr_replay.specs.Readings.{AreFans};
 ghost use Rattle.xr_replay_due.specs.Due.{HasRoomFor};
 
 use xr_design::{Circuit, Source, width_of};
-use xr_replay::{Fans, Waiting, is_same, mark_readers};
+use xr_fans::{Fans, Waiting, mark_readers};
+use xr_replay::is_same;
 
 /// The nets become due that have another value at a step than one step before, and the copies and cells that read them;
 /// the registers that look back at them do one step later. Takes no memory.

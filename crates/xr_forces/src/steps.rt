@@ -6,10 +6,10 @@
 ghost use Rattle.std.specs.Prelude.{◌≡◌, ℕ, ◌+◌, ◌*◌, ◌<◌, IfOk, OnOk};
 ghost use Rattle.xr_design.specs.Circuit.{job_in, CircuitFits};
 ghost use Rattle.xr_design.specs.Job.{places_of};
+ghost use Rattle.xr_fans.specs.Readings.{AreFans};
 ghost use Rattle.xr_forces.specs.ForcesOf as spec;
 ghost use Rattle.xr_forces.specs.Made.{AreForcesTo, GivenUnlessDue};
 ghost use Rattle.xr_forces.specs.Still.{AreAwaited};
-ghost use Rattle.xr_replay.specs.Readings.{AreFans};
 ghost use Rattle.xr_replay_due.specs.Due.{HasRoomFor};
 
 use crate::given::put_place;
@@ -18,7 +18,7 @@ use std::alloc::Global;
 use xr_base::Memory;
 use xr_cell::Value;
 use xr_design::{Circuit, Event, Forces, Source, width_of};
-use xr_replay::{Fans, Waiting, mark_inputs};
+use xr_fans::{Fans, Waiting, mark_inputs};
 use xr_replay_due::Due;
 
 /// The forces under which the replay of a circuit shows these values, and no more. Takes the events, and some 30 bytes

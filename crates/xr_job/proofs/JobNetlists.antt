@@ -3,7 +3,7 @@ use Rattle.std.proofs.Common.{◌≡◌, ◌∙◌, ℕ, ◌<◌, List, Option, 
 use Rattle.xr_design.specs.Job.{driver_in}
 use Rattle.xr_design.specs.Order.{IsOrder}
 use Rattle.xr_design.specs.declared.design.Design.{Design}
-use Rattle.xr_design.specs.declared.stim.StartRule.{StartRule}
+use Rattle.xr_design.specs.declared.stim.RegisterRules.{RegisterRules}
 use Rattle.xr_design.specs.declared.stim.Stim.{Stim}
 use Rattle.xr_match.specs.Holding.{HoldsBy, held_in}
 use Rattle.xr_match.specs.JobDesign.{holder_by, job_design, with_inputs}
@@ -61,9 +61,9 @@ module _ (rule : UndrivenRule) (n new : Netlist) (bound : List Bound) (holders :
   pub new_fits : FitsNetlist n → FitsNetlist new
   new_fits fits = subst FitsNetlist (sym is_job) (job_netlist_fits rule n bound fits)
 
-  pub stim_is : (recording : Recording) (rounds : ℕ) (start : StartRule) (stim : Stim) → IsStimOf new.design recording (held_in holders) rounds start stim
-      → IsStimOf (job_design rule n.design bound) recording (holder_by rule n.design bound) rounds start stim
-  stim_is recording rounds start stim is =
-      subst (λ (d : Design). IsStimOf d recording (holder_by rule n.design bound) rounds start stim) design_is
-      (stim_same new.design recording (held_in holders) (holder_by rule n.design bound) rounds start stim
+  pub stim_is : (recording : Recording) (rounds : ℕ) (rules : RegisterRules) (stim : Stim) → IsStimOf new.design recording (held_in holders) rounds rules stim
+      → IsStimOf (job_design rule n.design bound) recording (holder_by rule n.design bound) rounds rules stim
+  stim_is recording rounds rules stim is =
+      subst (λ (d : Design). IsStimOf d recording (holder_by rule n.design bound) rounds rules stim) design_is
+      (stim_same new.design recording (held_in holders) (holder_by rule n.design bound) rounds rules stim
       (λ net within. holds.each net (subst (λ (k : ℕ). net < k) as_many_nets within)) is)

@@ -1,7 +1,6 @@
 -- Proofs of the answers to texts and of the laws that a text comes to one outcome.
 pub mod Appends
 pub mod Comparing
-pub mod FewPlaces
 pub mod OneLoop
 pub mod OneNetlist
 pub mod OneRecording

@@ -1,6 +1,6 @@
 -- What a recording's text comes to for a design: a recording whose variables are bound, and the stimulus that they
 -- give; or the first refusal.
-use Rattle.std.specs.Prelude.{◌≡◌, ℕ, ◌*◌, ◌^◌, ◌<◌, ◌≤◌, List, Option, Some, Result, Ok, Err, length, All}
+use Rattle.std.specs.Prelude.{◌≡◌, ℕ, ◌^◌, ◌<◌, ◌≤◌, List, Option, Some, Result, Ok, Err, length, All}
 use Rattle.xr_vcd.specs.Faults.{FirstFault, Says}
 use Rattle.xr_vcd.specs.Recording.{Recording}
 use Rattle.xr_vcd.specs.RecordingFault.{fault_of}
@@ -33,7 +33,7 @@ use Rattle.xr_job.specs.declared.recording_refusal.RecordingRefusal.TheVariants.
 use Rattle.xr_job.specs.declared.recording_refusal.RecordingRefusal.TheVariants.{MissingInput, TooLarge}
 use Rattle.xr_job.specs.declared.rules.Rules.{Rules}
 
--- The most places of a job that is walked over: nets by moments by rounds.
+-- The most places of a job where nothing else is said: nets by moments by rounds.
 abbrev pub place_limit : ℕ
 place_limit = 2 ^ 27
 
@@ -41,7 +41,7 @@ place_limit = 2 ^ 27
 abbrev pub IsJobStim : Design → Recording → Binding → ℕ → Rules → Stim → Type 0
 IsJobStim design recording binding rounds rules stim =
     IsStimOf (job_design rules.undriven design binding.bound) recording (holder_by rules.undriven design binding.bound)
-    rounds rules.start stim
+    rounds rules.registers stim
 
 -- The text says a recording, its variables are bound for at most so many places, and this is the stimulus that they
 -- give by the rules.
@@ -146,19 +146,14 @@ pub record IsBoundTo (design : Design) (recording : Recording) (scope : Texts) (
   pub fits : FitsBinding design binding
   pub variables : All (IsOf recording) binding.bound
 
--- What was recorded of a design fits it, with at most so many places.
-pub record FitsRecordedWithin (most : ℕ) (design : Design) (r : Recorded) : Type 0 where
+-- What was recorded of a design fits it.
+pub record FitsRecorded (design : Design) (r : Recorded) : Type 0 where
   pub stim : FitsStim design r.stim
   pub some_round : 1 ≤ r.stim.rounds
   pub few_rounds : r.stim.rounds ≤ 16
   pub times : r.recording.times ≡ r.stim.times
   pub binding : FitsBinding design r.binding
   pub variables : All (IsOf r.recording) r.binding.bound
-  pub few : length design.nets * (length r.stim.times * r.stim.rounds) ≤ most
-
--- With few enough places to be walked over.
-abbrev pub FitsRecorded : Design → Recorded → Type 0
-FitsRecorded design r = FitsRecordedWithin place_limit design r
 
 -- What a cause numbers is there.
 abbrev pub IsNamed : Design → Recording → Texts → BindErr → Type 0

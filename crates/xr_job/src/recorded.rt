@@ -16,7 +16,7 @@ use xr_design::{Bytes, Design, Stim};
 use xr_match::{BindErr, Binding, Holder, UndrivenRule, bind, holders_by, stim_of, with_inputs};
 use xr_vcd::{Recording, read_vcd};
 
-/// The most places of a job that is walked over: nets by moments by rounds.
+/// The most places of a job where nothing else is said: nets by moments by rounds.
 pub const PLACES: u64 = 1 << 27;
 
 /// A recording of a design, its variables bound to the design's nets, and the stimulus that they give.
@@ -51,7 +51,7 @@ pub fn read_recording(
     ensures refused { IfErr result (spec.IfRecordingRefused
         (spec.IsRefusedRecording text.now netlist.old.design scope.now rounds most)) }
     ensures exact { spec.IsRecordingAnswer text.now netlist.old.design scope.now rounds most rules result }
-    ensures fits { IfOk result (spec.FitsRecordedWithin most netlist.new.design) }
+    ensures fits { IfOk result (spec.FitsRecorded netlist.new.design) }
     ensures fits_netlist { IfOk result (λ _. FitsNetlist netlist.new) }
 {
     find_recording(alloc, netlist, text, scope, rounds, most, rules)
@@ -77,7 +77,7 @@ fn find_recording(
         netlist.new ≡ spec.job_netlist rules.undriven netlist.old r.binding.bound) }
     ensures refused { IfErr result (spec.IfRecordingRefused
         (spec.IsRefusedRecording text.now netlist.old.design scope.now rounds most)) }
-    ensures fits { IfOk result (spec.FitsRecordedWithin most netlist.new.design) }
+    ensures fits { IfOk result (spec.FitsRecorded netlist.new.design) }
     ensures fits_netlist { IfOk result (λ _. FitsNetlist netlist.new) }
 {
     let recording = read_vcd(alloc, text)?;
@@ -96,7 +96,7 @@ fn find_recording(
         &recording,
         holders.as_slice(),
         rounds,
-        rules.start,
+        rules.registers,
     )?;
     Ok(Recorded {
         recording,

@@ -1,11 +1,11 @@
 //! The rules of a job.
 
-use xr_design::StartRule;
+use xr_design::RegisterRules;
 use xr_match::UndrivenRule;
 
-/// By which rules a job is made of a netlist and a recording: how registers start, and what nets without a driver have.
+/// By which rules a job is made of a netlist and a recording: how registers go, and what nets without a driver have.
 #[derive(Clone, Copy, Debug, PartialEq, Eq, Hash)]
 pub struct Rules {
-    pub start: StartRule,
+    pub registers: RegisterRules,
     pub undriven: UndrivenRule,
 }

@@ -1,5 +1,6 @@
 -- Lemmas on nodes and literals.
 pub mod ArgumentRoots
+pub mod KeptLiterals
 pub mod LiteralBits
 pub mod LiteralSources
 pub mod NearPlaces

@@ -35,7 +35,7 @@ use Rattle.xr_lane_nodes.specs.declared.literal.Covered.{Covered}
 use Rattle.xr_lane_nodes.proofs.NearPlaces.{essential_argument, near_argument}
 
 -- A certain place has its bit in each lane.
-unknown_not : {P : Type 0} (bit : Bool) → is_unknown (bit_value bit) ≡ true → P
+pub unknown_not : {P : Type 0} (bit : Bool) → is_unknown (bit_value bit) ≡ true → P
 unknown_not false e = cc
 unknown_not true e = cc
 

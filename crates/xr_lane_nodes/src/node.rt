@@ -27,7 +27,7 @@ use xr_wave::Wave;
 /// ones, and for the graph the roots of its essential arguments and its table over these.
 #[derive(Debug, Drop)]
 pub struct Made {
-    pub place: u32,
+    pub place: usize,
     pub lane_bits: LaneBits,
     pub sources: Option<Vec<u32>>,
     pub sharing: Option<usize>,
@@ -88,7 +88,7 @@ fn make_ruled(
         None => None,
     };
     Ok(Made {
-        place: place as u32,
+        place,
         lane_bits,
         sources,
         sharing,
@@ -116,7 +116,7 @@ fn rule_lanes(
     table_lanes(covered, arguments, values, own)
 }
 
-/// Its sources, if they are kept.
+/// Its sources, if they are kept: those of a place whose number takes more than 4 bytes aren't.
 fn rule_sources(
     alloc: Global,
     wave: &Wave<'_>,
@@ -131,6 +131,9 @@ fn rule_sources(
     ensures { IfOk result (λ found. IfSome found (λ list. AreSourcesIn wave.now place list.items)) }
 {
     let _circuit = wave.circuit();
+    if place > u32::MAX as usize {
+        return Ok(None);
+    }
     if covered.nodes.is_full() {
         return Ok(None);
     }
@@ -188,7 +191,7 @@ fn root_at(covered: Covered<'_>, place: usize) -> NodeRoot
     }
 }
 
-/// A node comes in that is made; its number is given back. Takes 40 bytes, and where it shares no list 8 bytes and 4 a
+/// A node comes in that is made; its number is given back. Takes 48 bytes, and where it shares no list 8 bytes and 4 a
 /// source.
 pub fn put_node(nodes: &mut Nodes, made: Made) -> Result<usize, Memory>
     requires { IfSome made.sharing (λ node. node < length nodes.old) }
@@ -212,7 +215,7 @@ pub fn put_node(nodes: &mut Nodes, made: Made) -> Result<usize, Memory>
 
 fn put_listed(
     nodes: &mut Nodes,
-    place: u32,
+    place: usize,
     lane_bits: LaneBits,
     sources: Option<Vec<u32>>,
 ) -> Result<(), Memory>

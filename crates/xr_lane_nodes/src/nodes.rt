@@ -10,21 +10,21 @@ use std::mem::size_of;
 use xr_base::Memory;
 use xr_cone_nodes::LaneBits;
 
-/// A place, its bits in the lanes, and which of the lists has its sources: 40 bytes.
+/// A place, its bits in the lanes, and which of the lists has its sources: 48 bytes.
 #[derive(Clone, Copy, Debug)]
 pub struct Node {
     lane_bits: LaneBits,
-    place: u32,
+    place: usize,
     list: ListNumber,
 }
 
-const _: () = prove!(size_of::<Node>() == 40);
+const _: () = prove!(size_of::<Node>() == 48);
 
-/// How many nodes there are at most: more than a job has places.
+/// How many nodes there are at most, so that a literal has 4 bytes.
 const MOST_NODES: usize = 0x8000_0000;
 
 /// Nodes by number, of which the first has 0 in each lane. A node may share its list of sources with an earlier one.
-/// Contracts see for each node the place, the lanes and the list. Takes 40 bytes a node, and for each list that isn't
+/// Contracts see for each node the place, the lanes and the list. Takes 48 bytes a node, and for each list that isn't
 /// shared 8 bytes and 4 a source.
 #[derive(Debug, Drop)]
 pub struct Nodes {
@@ -44,7 +44,7 @@ impl Model for Nodes {
 }
 
 impl Nodes {
-    /// The node with 0 in each lane. Takes 40 bytes.
+    /// The node with 0 in each lane. Takes 48 bytes.
     pub fn new(alloc: Global) -> Result<Nodes, Memory>
         ensures { IfOk result (λ nodes. nodes ≡ zero_node ∷ []) }
     {
@@ -79,7 +79,7 @@ impl Nodes {
         requires { node < length self.now }
         ensures { result ≡ (node_at self.now node).place }
     {
-        self.nodes[node].place as usize
+        self.nodes[node].place
     }
 
     /// The bits of a node in the lanes. Takes no memory.
@@ -103,7 +103,7 @@ impl Nodes {
     }
 
     /// A node comes in, whose sources aren't kept.
-    pub(crate) fn push_unlisted(&mut self, place: u32, lane_bits: LaneBits) -> Result<(), Memory>
+    pub(crate) fn push_unlisted(&mut self, place: usize, lane_bits: LaneBits) -> Result<(), Memory>
         ensures { OnOk result (self.new ≡ with_node self.old place lane_bits None) }
     {
         let node = Node {
@@ -117,7 +117,7 @@ impl Nodes {
     /// A node comes in that shares the list of another.
     pub(crate) fn push_shared(
         &mut self,
-        place: u32,
+        place: usize,
         lane_bits: LaneBits,
         other: usize,
     ) -> Result<(), Memory>
@@ -136,7 +136,7 @@ impl Nodes {
     /// A node comes in with its sources.
     pub(crate) fn push_listed(
         &mut self,
-        place: u32,
+        place: usize,
         lane_bits: LaneBits,
         sources: &[u32],
     ) -> Result<(), Memory>

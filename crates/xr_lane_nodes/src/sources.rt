@@ -63,7 +63,7 @@ fn with_first(
 
 /// A place after others, if it is a source.
 pub fn with_own(sources: Vec<u32>, place: usize, is_source: bool) -> Result<Vec<u32>, Memory>
-    requires { place < 2 ^ 27 }
+    requires { place < 2 ^ 32 }
     ensures { IfOk result (λ all. all.items ≡ sources.items ++ (if is_source then place ∷ [] else [])) }
 {
     let mut all = sources;

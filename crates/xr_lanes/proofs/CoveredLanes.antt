@@ -13,6 +13,8 @@ use Rattle.xr_lane_nodes.specs.Nodes.{numbers_of}
 use Rattle.xr_lane_nodes.specs.Covered.{IsCovered, covered_literal}
 use Rattle.xr_lane_nodes.specs.Literal.{LiteralView, no_literal, turned}
 use Rattle.xr_lane_nodes.specs.declared.literal.Covered.{Covered}
+use Rattle.xr_wave.specs.Kept.{keeps_there}
+use Rattle.xr_lane_nodes.proofs.KeptLiterals.{IsKeptFrom, kept_literal}
 use Rattle.xr_lane_nodes.proofs.NearPlaces.{near_carried}
 use Rattle.xr_lane_nodes.proofs.LiteralBits.{carried_literal, covered_near}
 use Rattle.xr_lanes.specs.Lanes.{IsNextNode, IsRightOf, Keeps, LanesView, count_of, looked, looked_count}
@@ -122,3 +124,43 @@ forgets_right c lanes n kept right = record {
 
     count : count_of lanes ≡ lanes.first + n + length (drop n lanes.literals)
     count = omega (arith, long, kept)
+
+-- A place that keeps has the literal of its net's place a step before, which is covered.
+kept_at : (c : Contents) (lanes : LanesView) (place : ℕ) → IsWave c → place < length c.written
+    → keeps_there (job c) c.written place ≡ true → IsKeptFrom c lanes.nodes place
+kept_at c lanes place wave less keeps = kept_literal c lanes.nodes place wave less keeps
+
+pub kept_covered : (c : Contents) (lanes : LanesView) (covered : Covered) (place width : ℕ) → IsWave c
+    → IsRightOf c lanes → place ≡ count_of lanes → place < length c.written
+    → keeps_there (job c) c.written place ≡ true → width ≡ (job c).width → IsOf covered lanes
+    → IsCovered covered (place - width)
+kept_covered c lanes covered place width wave right is less keeps width_is of =
+    let kept = kept_at c lanes place wave less keeps in
+    let back = kept.back in
+    let some = kept.some in
+    covered_near (job c) (certain c.written) covered place (place - width) (covered_before c lanes covered place right is of)
+    (omega (arith, back, some, width_is)) (omega (arith, back, some, width_is))
+
+pub kept_next : (c : Contents) (old lanes : LanesView) (covered : Covered) (place width : ℕ) (literal : LiteralView)
+    → lanes ≡ old → IsWave c → IsRightOf c old → place ≡ count_of old → place < length c.written
+    → keeps_there (job c) c.written place ≡ true → width ≡ (job c).width → IsOf covered old
+    → literal ≡ covered_literal covered (place - width)
+    → IsRightOf c (record {
+      nodes = lanes.nodes;
+      first = lanes.first;
+      literals = lanes.literals ++ literal ∷ [];
+      next = None;
+      graph = lanes.graph;
+      shared = lanes.shared;
+    })
+kept_next c old lanes covered place width literal same wave right is less keeps width_is of literal_is =
+    let t = kept_covered c old covered place width wave right is less keeps width_is of in
+    let before = covered_before c old covered place right is of in
+    let there : IsLiteralIn c covered.nodes.now (covered_literal covered (place - width)) (place - width) =
+    before.each (place - width) t.first t.below in
+    let earlier : IsLiteralIn c old.nodes literal (place - (job c).width) =
+    subst (λ ns. IsLiteralIn c ns literal (place - (job c).width)) of.nodes
+    (subst (λ w. IsLiteralIn c covered.nodes.now literal (place - w)) width_is
+    (subst (λ l. IsLiteralIn c covered.nodes.now l (place - width)) (sym literal_is) there)) in
+    rw same (covered_more c old literal right (subst (λ k. k < length c.written) is less)
+    (subst (IsLiteralIn c old.nodes literal) is ((kept_at c old place wave less keeps).literal literal earlier)))

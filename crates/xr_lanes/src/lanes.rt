@@ -7,7 +7,8 @@ ghost use Rattle.std.specs.Prelude.{◌≡◌, ◌+◌, ◌-◌, ◌<◌, ◌≤
 ghost use Rattle.xr_cell.specs.Value.{is_unknown};
 ghost use Rattle.xr_design.specs.Waveform.{certain};
 ghost use Rattle.xr_model.specs.Cone.{is_carried};
-ghost use Rattle.xr_wave.specs.Contents.{class_in, next_number};
+ghost use Rattle.xr_wave.specs.Contents.{class_in, job, next_number};
+ghost use Rattle.xr_wave.specs.Kept.{AllKeepFrom, keeps_there};
 ghost use Rattle.xr_wave.specs.Token.{HasNext};
 ghost use Rattle.xr_lane_nodes.specs.InWave.{IsInReach, IsLiteralIn};
 ghost use Rattle.xr_lane_nodes.specs.Literal.{constant};
@@ -60,7 +61,7 @@ impl Model for Lanes {
       shared = lanes.shared;
     } };
 
-    ghost invariant = { λ lanes. lanes.first + length lanes.literals.items ≤ 2 ^ 27 };
+    ghost invariant = { λ lanes. lanes.first + length lanes.literals.items ≤ 2 ^ 40 };
 }
 
 impl Lanes {
@@ -107,9 +108,60 @@ impl Lanes {
         ensures count { OnOk result (count_of self.new ≡ count) }
     {
         'places: while self.count() < count {
-            self.cover_one(alloc, wave)?;
+            self.cover_some(alloc, wave, count)?;
             self.forget_old(alloc, wave)?;
         }
+        Ok(())
+    }
+
+    /// Covers some places more, up to a count: those of a step that keep, where the first one does, or that one alone.
+    fn cover_some(&mut self, alloc: Global, wave: &Wave<'_>, count: usize) -> Result<(), Memory>
+        requires right { IsRightOf wave.now self.old }
+        requires more { count_of self.old < count }
+        requires written { count ≤ length wave.now.written }
+        ensures right { OnOk result (IsRightOf wave.now self.new) }
+        ensures more { OnOk result (count_of self.old < count_of self.new) }
+        ensures within { OnOk result (count_of self.new ≤ count) }
+    {
+        let circuit = wave.circuit();
+        let place = self.count();
+        let end = count.min(place + width_of(&circuit));
+        let kept = wave.kept_up_to(place, end);
+        if kept > place {
+            self.repeat(wave, kept)
+        } else {
+            self.cover_one(alloc, wave)
+        }
+    }
+
+    /// Covers the places up to an end, which keep: each has the literal of its net's place a step before.
+    fn repeat(&mut self, wave: &Wave<'_>, end: usize) -> Result<(), Memory>
+        requires right { IsRightOf wave.now self.old }
+        requires from { count_of self.old ≤ end }
+        requires written { end ≤ length wave.now.written }
+        requires keep { AllKeepFrom (job wave.now) wave.now.written (count_of self.old) end }
+        ensures right { OnOk result (IsRightOf wave.now self.new) }
+        ensures count { OnOk result (count_of self.new ≡ end) }
+    {
+        'places: for place in self.count()..end {
+            self.repeat_one(wave, place)?;
+        }
+        Ok(())
+    }
+
+    /// Covers one written place more, which keeps.
+    fn repeat_one(&mut self, wave: &Wave<'_>, place: usize) -> Result<(), Memory>
+        requires right { IsRightOf wave.now self.old }
+        requires place { place ≡ count_of self.old }
+        requires more { place < length wave.now.written }
+        requires keeps { keeps_there (job wave.now) wave.now.written place ≡ true }
+        ensures right { OnOk result (IsRightOf wave.now self.new) }
+        ensures one { OnOk result (count_of self.new ≡ count_of self.old + 1) }
+    {
+        let circuit = wave.circuit();
+        let literal = literal_at(self.covered(), place - width_of(&circuit));
+        self.literals.push(literal)?;
+        self.next = None;
         Ok(())
     }
 

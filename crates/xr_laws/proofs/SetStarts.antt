@@ -67,7 +67,7 @@ starts_fit j start fits sets = record {
 }
 
 pub jobs_with_starts : JobsWithStarts
-jobs_with_starts design order a b same = rw (same.times, same.rounds, same.inputs, same.start) refl
+jobs_with_starts design order a b same = rw (same.times, same.rounds, same.inputs, same.rules) refl
 
 -- ---- the filling
 

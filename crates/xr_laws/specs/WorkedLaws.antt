@@ -6,6 +6,7 @@ use Rattle.xr_cell.specs.declared.value.Value.TheVariants.{Zero, One, X, Z}
 use Rattle.xr_design.specs.Job.{Job}
 use Rattle.xr_design.specs.declared.design.Driver.TheVariants.{Register}
 use Rattle.xr_design.specs.declared.place.Place.{Place}
+use Rattle.xr_design.specs.declared.stim.Levels.TheVariants.{Change}
 use Rattle.xr_design.specs.declared.stim.StartRule.TheVariants.{Recorded}
 use Rattle.xr_design.specs.declared.waveform.Mark.TheVariants.{Certain, Unknown}
 use Rattle.xr_design.specs.declared.waveform.Written.{Written}
@@ -56,6 +57,7 @@ one_register = record {
   moments = 1;
   recorded = λ moment net. X;
   start_rule = Recorded;
+  levels = Change;
   start = λ net. X;
 }
 

@@ -80,9 +80,12 @@ fn put_counts(text: &mut Vec<u8>, gained: usize, lost: usize, undecided: u64) ->
 fn undecided_of(alloc: Global, before: &Wave<'_>, after: &Wave<'_>) -> Result<u64, Memory>
     ensures { IfOk result (λ count. count ≡ spec.undecided_of before.now after.now) }
 {
+    // With them comes the fact that neither has too many places to be counted.
+    let _count = before.count();
+    let _other = after.count();
     let first = counts_of(alloc, before)?.undecided;
     let second = counts_of(alloc, after)?.undecided;
-    Ok(u64::from(first) + u64::from(second))
+    Ok(first + second)
 }
 
 /// The lines of items, in their order.

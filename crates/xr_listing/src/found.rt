@@ -29,7 +29,7 @@ pub fn put_audit_head(
     put_counted(text, b"audit places ", wave.count() as u64)?;
     put_counted(text, b" listed ", listed as u64)?;
     put_counted(text, b" open ", unsure)?;
-    put_counted(text, b" undecided ", u64::from(undecided))?;
+    put_counted(text, b" undecided ", undecided)?;
     put(text, b"\n")
 }
 

@@ -24,6 +24,6 @@ pub fn put_head(
     put(text, b" sources ")?;
     put_number(text, sources as u64)?;
     put(text, b" undecided ")?;
-    put_number(text, u64::from(undecided))?;
+    put_number(text, undecided)?;
     put(text, b"\n")
 }

@@ -63,7 +63,8 @@ module _ (design : Design) (number gates : ℕ) (a b : Stim) (first : IsMadeStim
     rounds = rounds_same i;
     moments = length (times_same i);
     recorded = λ moment net. slice_index_or (slice_index_or (inputs_same i) moment []) net X;
-    start_rule = (first.rule ∙ sym second.rule) i;
+    start_rule = ((first.rules ∙ sym second.rules) i).start;
+    levels = ((first.rules ∙ sym second.rules) i).levels;
     start = λ net. slice_index_or (starts_same i) net X;
   }
 

@@ -7,6 +7,8 @@ use Rattle.xr_design.specs.Job.{driver_in}
 use Rattle.xr_design.specs.declared.design.Design.{Design}
 use Rattle.xr_design.specs.declared.design.Driver.{Driver}
 use Rattle.xr_design.specs.declared.design.Driver.TheVariants.{Input, Undriven, Constant, Copy, Cell, Register}
+use Rattle.xr_design.specs.declared.stim.Levels.TheVariants.{Change}
+use Rattle.xr_design.specs.declared.stim.RegisterRules.{RegisterRules}
 use Rattle.xr_design.specs.declared.stim.StartRule.TheVariants.{Cold}
 use Rattle.xr_design.specs.declared.stim.Stim.{Stim}
 use Rattle.xr_match.specs.StimOf.{IsRow}
@@ -67,12 +69,15 @@ own_start (Register latching) = latching.start
 abbrev pub made_start : Design → ℕ → Value
 made_start design net = own_start (driver_in design net)
 
+abbrev pub made_rules : RegisterRules
+made_rules = record { start = Cold; levels = Change }
+
 -- The stimulus has 16 moments of 4 rounds, and registers start cold: each as its primitive says, and before step 0 each
 -- of its pins is x.
 pub record IsMadeStim (design : Design) (number gates : ℕ) (stim : Stim) : Type 0 where
   pub times : stim.times ≡ times_of 16
   pub rounds : stim.rounds ≡ 4
-  pub rule : stim.start ≡ Cold
+  pub rules : stim.rules ≡ made_rules
   pub many : length stim.inputs ≡ 16
   pub inputs : (moment : ℕ) → moment < 16
       → IsRow design (made_value number gates moment) (slice_index_or stim.inputs moment [])

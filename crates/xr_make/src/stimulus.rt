@@ -15,7 +15,7 @@ use crate::pool::REGISTERS;
 use std::alloc::Global;
 use xr_base::{Items, Memory};
 use xr_cell::Value;
-use xr_design::{Design, Driver, StartRule, Stim};
+use xr_design::{Design, Driver, Levels, RegisterRules, StartRule, Stim};
 use xr_inputs::Inputs;
 
 /// How many moments there are.
@@ -39,7 +39,10 @@ pub fn made_stim(alloc: Global, design: &Design, number: u64, gates: u32) -> Res
         times: Items::from_vec(times),
         rounds: ROUNDS,
         inputs,
-        start: StartRule::Cold,
+        rules: RegisterRules {
+            start: StartRule::Cold,
+            levels: Levels::Change,
+        },
         starts: Items::from_vec(starts),
     })
 }

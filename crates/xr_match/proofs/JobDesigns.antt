@@ -13,7 +13,7 @@ use Rattle.xr_design.specs.declared.design.Net.{Net}
 use Rattle.xr_design.specs.declared.name.Name.{Name}
 use Rattle.xr_design.specs.declared.design.Driver.{Driver}
 use Rattle.xr_design.specs.declared.design.Driver.TheVariants.{Input, Undriven, Constant, Copy, Cell, Register}
-use Rattle.xr_design.specs.declared.stim.StartRule.{StartRule}
+use Rattle.xr_design.specs.declared.stim.RegisterRules.{RegisterRules}
 use Rattle.xr_design.specs.declared.stim.Stim.{Stim}
 use Rattle.xr_vcd.specs.Recording.{Recording}
 use Rattle.xr_match.specs.Binding.{FitsBinding, FitsBound}
@@ -195,12 +195,12 @@ inputs_same f g design same =
     λ i. record { nets = nets i; udps = design.udps }
 
 -- So are stimuli.
-pub stim_same : (design : Design) (recording : Recording) (f g : ℕ → Option Holder) (rounds : ℕ) (rule : StartRule) (stim : Stim) → ((net : ℕ) → net < length design.nets → f net ≡ g net)
-    → IsStimOf design recording f rounds rule stim → IsStimOf design recording g rounds rule stim
-stim_same design recording f g rounds rule stim same is = record {
+pub stim_same : (design : Design) (recording : Recording) (f g : ℕ → Option Holder) (rounds : ℕ) (rules : RegisterRules) (stim : Stim) → ((net : ℕ) → net < length design.nets → f net ≡ g net)
+    → IsStimOf design recording f rounds rules stim → IsStimOf design recording g rounds rules stim
+stim_same design recording f g rounds rules stim same is = record {
   times = is.times;
   as_many = is.as_many;
-  started = is.started;
+  ruled = is.ruled;
   many = is.many;
   rows = λ moment within. (let row = is.rows moment within in record {
     long = row.long;
@@ -208,7 +208,7 @@ stim_same design recording f g rounds rule stim same is = record {
   });
   starts = (let row = is.starts in record {
     long = row.long;
-    values = λ net inside. row.values net inside ∙ ap (λ (o : Option Holder). start_of recording o rule (driver_in design net)) (same net inside);
+    values = λ net inside. row.values net inside ∙ ap (λ (o : Option Holder). start_of recording o rules.start (driver_in design net)) (same net inside);
   });
 }
 

@@ -7,7 +7,7 @@ use Rattle.std.proofs.lemmas.List.{ext_get_or}
 use Rattle.xr_cell.specs.declared.value.Value.{Value}
 use Rattle.xr_cell.specs.declared.value.Value.TheVariants.{X}
 use Rattle.xr_design.specs.declared.design.Design.{Design}
-use Rattle.xr_design.specs.declared.stim.StartRule.{StartRule}
+use Rattle.xr_design.specs.declared.stim.RegisterRules.{RegisterRules}
 use Rattle.xr_design.specs.declared.stim.Stim.{Stim}
 use Rattle.xr_match.specs.StimOf.{IsRow, IsStimOf, input_value, start_value}
 use Rattle.xr_match.specs.declared.inputs.Holder.{Holder}
@@ -21,12 +21,12 @@ one_row design value a b first second =
     (λ net within. first.values net (omega (arith, long, within)) ∙ sym (second.values net (omega (arith, long, within))))
 
 -- Stimuli with the same data are the same: what is always true of one has one proof.
-one_stim_by : (a b : Stim) → a.times ≡ b.times → a.rounds ≡ b.rounds → a.inputs ≡ b.inputs → a.start ≡ b.start → a.starts ≡ b.starts → a ≡ b
-one_stim_by a b times rounds inputs start starts = λ i. record {
+one_stim_by : (a b : Stim) → a.times ≡ b.times → a.rounds ≡ b.rounds → a.inputs ≡ b.inputs → a.rules ≡ b.rules → a.starts ≡ b.starts → a ≡ b
+one_stim_by a b times rounds inputs rules starts = λ i. record {
   times = times i;
   rounds = rounds i;
   inputs = inputs i;
-  start = start i;
+  rules = rules i;
   starts = starts i;
   some_moment = is_prop→PathP (λ k. 0 < length (times k)) (λ k. le_prop) a.some_moment b.some_moment i;
   few_moments = is_prop→PathP (λ k. length (times k) < 2 ^ 28) (λ k. le_prop) a.few_moments b.few_moments i;
@@ -35,8 +35,8 @@ one_stim_by a b times rounds inputs start starts = λ i. record {
   rows = is_prop→PathP (λ k. length (inputs k) ≡ length (times k)) (λ k. ℕ_set (length (inputs k)) (length (times k))) a.rows b.rows i;
 }
 
-module _ (design : Design) (recording : Recording) (holder : ℕ → Option Holder) (rounds : ℕ) (rule : StartRule) (a b : Stim)
-    (first : IsStimOf design recording holder rounds rule a) (second : IsStimOf design recording holder rounds rule b) where
+module _ (design : Design) (recording : Recording) (holder : ℕ → Option Holder) (rounds : ℕ) (rules : RegisterRules) (a b : Stim)
+    (first : IsStimOf design recording holder rounds rules a) (second : IsStimOf design recording holder rounds rules b) where
   same_inputs : a.inputs ≡ b.inputs
   same_inputs =
       let many = first.many in
@@ -48,4 +48,4 @@ module _ (design : Design) (recording : Recording) (holder : ℕ → Option Hold
 
   pub same_stim : a ≡ b
   same_stim = one_stim_by a b (first.times ∙ sym second.times) (first.as_many ∙ sym second.as_many) same_inputs
-      (first.started ∙ sym second.started) (one_row design (start_value design recording holder rule) a.starts b.starts first.starts second.starts)
+      (first.ruled ∙ sym second.ruled) (one_row design (start_value design recording holder rules.start) a.starts b.starts first.starts second.starts)

@@ -6,7 +6,7 @@ use Rattle.xr_design.specs.Job.{driver_in}
 use Rattle.xr_design.specs.Order.{IsOrder}
 use Rattle.xr_design.specs.declared.design.Design.{Design}
 use Rattle.xr_design.specs.declared.design.Driver.TheVariants.{Undriven}
-use Rattle.xr_design.specs.declared.stim.StartRule.{StartRule}
+use Rattle.xr_design.specs.declared.stim.RegisterRules.{RegisterRules}
 use Rattle.xr_design.specs.declared.stim.Stim.{Stim}
 use Rattle.xr_vcd.specs.Bytes.{without_range}
 use Rattle.xr_vcd.specs.Recording.{Recording, path_at}
@@ -45,7 +45,7 @@ BitsStandInOrder = (design : Design) (scope : Texts) (recording : Recording) (v 
 
 -- A recording whose variables are bound has one stimulus.
 abbrev pub OneStimulus : Type 0
-OneStimulus = (design : Design) (recording : Recording) (holder : ℕ → Option Holder) (rounds : ℕ) (rule : StartRule) (a b : Stim) → IsStimOf design recording holder rounds rule a → IsStimOf design recording holder rounds rule b → a ≡ b
+OneStimulus = (design : Design) (recording : Recording) (holder : ℕ → Option Holder) (rounds : ℕ) (rules : RegisterRules) (a b : Stim) → IsStimOf design recording holder rounds rules a → IsStimOf design recording holder rounds rules b → a ≡ b
 
 -- A net without a driver is the original of itself and of the nets that copy it, and of no other.
 abbrev pub OriginalsAreCopied : Type 0

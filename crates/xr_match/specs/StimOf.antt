@@ -7,6 +7,7 @@ use Rattle.xr_design.specs.Job.{driver_in}
 use Rattle.xr_design.specs.declared.design.Design.{Design}
 use Rattle.xr_design.specs.declared.design.Driver.{Driver}
 use Rattle.xr_design.specs.declared.design.Driver.TheVariants.{Input, Undriven, Constant, Copy, Cell, Register}
+use Rattle.xr_design.specs.declared.stim.RegisterRules.{RegisterRules}
 use Rattle.xr_design.specs.declared.stim.StartRule.{StartRule}
 use Rattle.xr_design.specs.declared.stim.StartRule.TheVariants.{Cold, Recorded}
 use Rattle.xr_design.specs.declared.stim.Stim.{Stim}
@@ -56,13 +57,13 @@ pub record IsRow (design : Design) (value : ℕ → Value) (row : List Value) : 
   pub values : (net : ℕ) → net < length design.nets → slice_index_or row net X ≡ value net
 
 -- The moments are the recording's, each with a row of values of the inputs by what holds each net, and no row is beside them.
-pub record IsStimOf (design : Design) (recording : Recording) (holder : ℕ → Option Holder) (rounds : ℕ) (rule : StartRule) (stim : Stim) : Type 0 where
+pub record IsStimOf (design : Design) (recording : Recording) (holder : ℕ → Option Holder) (rounds : ℕ) (rules : RegisterRules) (stim : Stim) : Type 0 where
   pub times : stim.times ≡ recording.times
   pub as_many : stim.rounds ≡ rounds
-  pub started : stim.start ≡ rule
+  pub ruled : stim.rules ≡ rules
   pub many : length stim.inputs ≡ length recording.times
   pub rows : (moment : ℕ) → moment < length recording.times → IsRow design (input_value design recording holder moment) (slice_index_or stim.inputs moment [])
-  pub starts : IsRow design (start_value design recording holder rule) stim.starts
+  pub starts : IsRow design (start_value design recording holder rules.start) stim.starts
 
 -- What each net is held by is a bit of a variable of the recording.
 pub record AreHolders (recording : Recording) (holders : List (Option Holder)) : Type 0 where

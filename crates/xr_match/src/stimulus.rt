@@ -13,7 +13,7 @@ use crate::inputs::Holder;
 use std::alloc::Global;
 use xr_base::{Items, Memory};
 use xr_cell::Value;
-use xr_design::{Design, Driver, StartRule, Stim};
+use xr_design::{Design, Driver, RegisterRules, StartRule, Stim};
 use xr_inputs::{Inputs, InputsWriter};
 use xr_vcd::{Cursor, Recording};
 
@@ -24,16 +24,16 @@ pub struct Held {
     pub holder: Holder,
 }
 
-/// The stimulus of a recording, by the bit that holds each net, for a replay of so many rounds: the recorded values of the
-/// inputs, and what the registers start with by this rule. Takes eight bytes for each value of an input that isn't that of
-/// the moment before, eight for each moment and for each net; while it runs 8 more for each variable.
+/// The stimulus of a recording, by the bit that holds each net, for a replay of so many rounds: the recorded values of
+/// the inputs, and what the registers start with by these rules. Takes eight bytes for each value of an input that
+/// isn't that of the moment before, eight for each moment and for each net; while it runs 8 more for each variable.
 pub fn stim_of(
     alloc: Global,
     design: &Design,
     recording: &Recording,
     holders: &[Option<Holder>],
     rounds: u32,
-    start: StartRule,
+    rules: RegisterRules,
 ) -> Result<Stim, Memory>
     requires design { FitsDesign design.now }
     requires long { length holders.now ≡ length design.now.nets }
@@ -41,17 +41,17 @@ pub fn stim_of(
     requires round { 1 ≤ rounds }
     requires rounds { rounds ≤ 16 }
     requires places { place_count design.now recording.now rounds ≤ 2 ^ 40 }
-    ensures stim { IfOk result (spec.IsStimOf design.now recording.now (held_in holders.now) rounds start) }
+    ensures stim { IfOk result (spec.IsStimOf design.now recording.now (held_in holders.now) rounds rules) }
     ensures fits { IfOk result (FitsStim design.now) }
 {
     let times = recording.times().to_vec(alloc)?;
     let inputs = rows_of(alloc, design, recording, holders)?;
-    let starts = starts_of(alloc, design, recording, holders, start)?;
+    let starts = starts_of(alloc, design, recording, holders, rules.start)?;
     Ok(Stim {
         times: Items::from_vec(times),
         rounds,
         inputs,
-        start,
+        rules,
         starts: Items::from_vec(starts),
     })
 }

@@ -4,11 +4,11 @@ use Rattle.std.specs.Prelude.{nat_lt}
 use Rattle.std.specs.List.{AllByRecursion, list_all, Contains}
 use Rattle.std.proofs.lemmas.Nat.{div-mul-add, mod-mul-add}
 use Rattle.std.proofs.lemmas.Bool.{and_parts, or_cases}
-use Rattle.std.proofs.lemmas.Bool.{eqb-true, ltb-true}
+use Rattle.std.proofs.lemmas.Bool.{eqb-true, ltb-true, ne_eqb}
 use Rattle.std.proofs.lemmas.Grind.{common_steps}
 use Rattle.xr_cell.specs.declared.value.Value.{Value}
 use Rattle.xr_cell.specs.declared.value.Value.TheVariants.{Zero, One, X, Z}
-use Rattle.xr_cell.specs.Next.{next}
+use Rattle.xr_cell.specs.Hold.{hold}
 use Rattle.xr_cell.specs.Value.{IsKnown, bit_value, is_unknown}
 use Rattle.xr_design.specs.declared.design.Pin.{Pin}
 use Rattle.xr_design.specs.declared.design.Pin.TheVariants.{Net, Bit, Dead}
@@ -17,10 +17,12 @@ use Rattle.xr_design.specs.declared.design.Driver.TheVariants.{Input, Undriven, 
 use Rattle.xr_design.specs.Job.{Job, at, step_of, net_of, places_of, primitive_of}
 use Rattle.xr_design.specs.Order.{net_pins, position_of, arguments_of_driver}
 use Rattle.xr_design.specs.Fits.{Fits, FitsDriver, StandsBefore}
-use Rattle.xr_design.specs.Register.{pins_at, old_pins, updated, has_uncertain_clock}
+use Rattle.xr_design.specs.declared.stim.Levels.TheVariants.{Hold}
+use Rattle.xr_design.specs.Register.{pins_at, old_pins, updated, hold_at, has_uncertain_clock, had_uncertain_clock}
 use Rattle.xr_design.specs.Replay.{table_of}
-use Rattle.xr_design.specs.Rule.{rule, rule_of, arguments, as_values, known_or}
+use Rattle.xr_design.specs.Rule.{rule, rule_of, arguments, as_values, held_or, known_or, remade}
 use Rattle.xr_design.specs.World.{decided}
+use Rattle.xr_design.proofs.LevelRule.{clock_before, clock_now, remade_idle}
 use Rattle.xr_design.proofs.TwoBack.{old_later}
 use Rattle.xr_design.proofs.OrderLemmas.{net_at_position}
 use Rattle.xr_design.proofs.Rules.{AgreeOn, rule_reads, arguments_below, spot, position_in, back_one, later_round}
@@ -31,7 +33,6 @@ use Rattle.xr_model.specs.declared.class.ClassByNumber.{ClassByNumber}
 use Rattle.xr_model.specs.declared.class.ClassByNumber.TheVariants.{Local, Free, Carried, Line}
 use Rattle.xr_model.proofs.Assignments.{every_passes}
 use Rattle.xr_model.proofs.Classes.{ClassSays, class_says, class_rule, classes_prefix, bit_is, all_at}
-use Rattle.xr_cell.proofs.Nexts.{next_idle}
 
 -- Bits of a world up to and with a place, below which the certain places have their values.
 pub record TrueWorld (j : Job) (c : ℕ → Value) (f w : ℕ → Bool) (place : ℕ) : Type 0 where
@@ -313,11 +314,12 @@ passes_world_of j fits c f w class place (Register latching) seen carries is dri
     let step = step_of j place in
     let net = net_of j place in
     let pins = latching.pins in
-    let parts = and_parts (nat_lt 1 step && not (has_uncertain_clock j c step latching))
+    let parts = and_parts (nat_lt 1 step && not (had_uncertain_clock j c step latching))
     (list_all (keeps j c class (step - 1)) (net_pins pins)) passes in
-    let first = and_parts (nat_lt 1 step) (not (has_uncertain_clock j c step latching)) parts.0 in
+    let first = and_parts (nat_lt 1 step) (not (had_uncertain_clock j c step latching)) parts.0 in
     let behind = behind_one step (ltb-true 1 step first.0) in
-    let clocked : has_uncertain_clock j c step latching ≡ false = off (has_uncertain_clock j c step latching) first.1 in
+    let never : had_uncertain_clock j c step latching ≡ false = off (had_uncertain_clock j c step latching) first.1 in
+    let clocked : has_uncertain_clock j c step latching ≡ false = clock_now j c step latching never in
     let earlier : AllByRecursion (λ net. (net < j.width) × (at j (step - 1) net < place)) (net_pins pins) = nets_along _
     _ (net_pins pins) (λ k low. (
       low,
@@ -328,15 +330,26 @@ passes_world_of j fits c f w class place (Register latching) seen carries is dri
     c f w class place (step - 1) pins seen carries earlier parts.1 in
     let old : old_pins j (as_values w) step pins ≡ pins_at j (as_values w) (step - 1) pins = old_later
     j (as_values w) step pins (ltb-true 1 step first.0) ∙ ap (λ k. pins_at j (as_values w) k pins) (sym behind.2) ∙ sym same in
-    let idle : updated j (as_values w) (bit_value (w (before j place))) step latching ≡ bit_value (w (before j place)) =
-    ap (λ values. next (primitive_of j.udps latching.udp) latching.clocks values
-    (pins_at j (as_values w) (step - 1) pins) (bit_value (w (before j place)))) old
-    ∙ next_idle (primitive_of j.udps latching.udp) latching.clocks (pins_at j (as_values w) (step - 1) pins)
-    (bit_value (w (before j place))) in
+    let back = back_of j fits place seen.within behind.0 in
+    let held : j.levels ≡ Hold → w (before j place) ≡ decided (held_or Hold (hold_at j (as_values w) step latching)
+    (updated j (as_values w) (bit_value (w (at j (step - 1 - 1) net))) (step - 1) latching)) (f (before j place)) =
+    λ holds. (seen.world (before j place) (omega (arith, back)) ∙ ap (λ v. decided v (f (before j place)))
+    (rule_at j fits c w (step - 1) net (Register latching) s.net is
+    ∙ unless (step - 1 == 0) (j.start net) _ (later_before step (ltb-true 1 step first.0))
+    ∙ unless (has_uncertain_clock j c (step - 1) latching) _ _ (clock_before j c step latching holds never)
+    ∙ ap (λ l. held_or l (hold_at j (as_values w) (step - 1) latching) (updated j (as_values w)
+    (bit_value (w (at j (step - 1 - 1) net))) (step - 1) latching)) holds
+    ∙ ap (λ values. held_or Hold (hold (primitive_of j.udps latching.udp) values) (updated j (as_values w)
+    (bit_value (w (at j (step - 1 - 1) net))) (step - 1) latching)) (sym same))) in
+    let idle : remade j (as_values w) (bit_value (w (before j place))) step latching ≡ bit_value (w (before j place)) =
+    remade_idle j (as_values w) (w (before j place)) (f (before j place)) _ step latching old held in
     gives_at j c f w place place (w (before j place)) seen (omega arith)
     (rule_here j c w place (Register latching) is ∙ unless (step == 0) (j.start net) _ behind.0
     ∙ unless (has_uncertain_clock j c step latching) _ _ clocked ∙ idle)
   where
+    later_before : (step : ℕ) → 1 < step → (step - 1 == 0) ≡ false
+    later_before step h = ne_eqb (step - 1) 0 (λ e. omega (arith, e, h))
+
     off : (b : Bool) → not b ≡ true → b ≡ false
     off false h = refl
     off true h = cc

@@ -10,10 +10,11 @@ use Rattle.xr_design.specs.declared.design.Driver.TheVariants.{Input, Undriven, 
 use Rattle.xr_design.specs.Job.{Job, at, step_of, net_of, places_of}
 use Rattle.xr_design.specs.Order.{net_pins, position_of, arguments_of_driver}
 use Rattle.xr_design.specs.Fits.{Fits, FitsDriver, StandsBefore}
-use Rattle.xr_design.specs.Register.{has_uncertain_clock}
-use Rattle.xr_design.specs.Rule.{rule, arguments, old_places, places_at}
+use Rattle.xr_design.specs.Register.{had_uncertain_clock}
+use Rattle.xr_design.specs.Rule.{rule, arguments}
 use Rattle.xr_design.specs.World.{decided}
-use Rattle.xr_design.proofs.Rules.{AgreeBelow, rule_local, arguments_below, arguments_certain, spot, position_in, back_one, clock_reads, agree_on, old_below, new_below}
+use Rattle.xr_design.proofs.LevelRule.{had_same}
+use Rattle.xr_design.proofs.Rules.{AgreeBelow, rule_local, arguments_below, arguments_certain, spot, position_in, back_one}
 use Rattle.xr_model.specs.Assignment.{assigned, for_every}
 use Rattle.xr_model.specs.Class.{is_bit, flipped, is_local, is_free, is_never_unknown, is_carrier, keeps, passes_on_of, carried_or_line, class_by, class_in, classes, class_of}
 use Rattle.xr_model.specs.declared.class.ClassByNumber.{ClassByNumber}
@@ -119,13 +120,9 @@ passes_same j fits c d class place (Register latching) within agree driver stand
     let p = place % j.width in
     let pins = latching.pins in
     let here : AgreeBelow c d (step * j.width + p) = subst (AgreeBelow c d) (sym whole) agree in
-    let clock : nat_lt 1 step ≡ true → not (has_uncertain_clock j c step latching) ≡ not
-    (has_uncertain_clock j d step latching) =
-    λ h. (let behind = behind_one step (ltb-true 1 step h) in
-    ap not (clock_reads j c d step latching (agree_on c d (step * j.width + p) (old_places j step pins) here
-    (old_below j fits step p latching driver behind.0))
-    (agree_on c d (step * j.width + p) (places_at j (step - 1) pins) here
-    (new_below j fits step p latching driver behind.0)))) in
+    let clock : nat_lt 1 step ≡ true → not (had_uncertain_clock j c step latching) ≡ not
+    (had_uncertain_clock j d step latching) =
+    λ h. (ap not (had_same j fits c d step p latching driver (ltb-true 1 step h) here)) in
     let keep : nat_lt 1 step ≡ true → list_all (keeps j c class (step - 1)) (net_pins pins) ≡ list_all
     (keeps j d class (step - 1)) (net_pins pins) =
     λ h. (let behind = behind_one step (ltb-true 1 step h) in

@@ -12,7 +12,7 @@ use Rattle.xr_design.specs.declared.design.Driver.TheVariants.{Input, Undriven, 
 use Rattle.xr_design.specs.Job.{Job, step_of, net_of, places_of}
 use Rattle.xr_design.specs.Order.{net_pins}
 use Rattle.xr_design.specs.Fits.{Fits}
-use Rattle.xr_design.specs.Register.{has_uncertain_clock}
+use Rattle.xr_design.specs.Register.{had_uncertain_clock}
 use Rattle.xr_design.specs.Rule.{arguments}
 use Rattle.xr_design.proofs.Prefix.{prefix}
 use Rattle.xr_design.proofs.Rules.{AgreeBelow, arguments_below}
@@ -38,8 +38,8 @@ passes_later j c class place step net (Cell table pins) passes =
     (and_parts (not (step == 0) && list_all (keeps j c class step) (net_pins pins)) (is_never_unknown j c place)
     passes).0).0
 passes_later j c class place step net (Register latching) passes =
-    (behind_one step (ltb-true 1 step (and_parts (nat_lt 1 step) (not (has_uncertain_clock j c step latching))
-    (and_parts (nat_lt 1 step && not (has_uncertain_clock j c step latching))
+    (behind_one step (ltb-true 1 step (and_parts (nat_lt 1 step) (not (had_uncertain_clock j c step latching))
+    (and_parts (nat_lt 1 step && not (had_uncertain_clock j c step latching))
     (list_all (keeps j c class (step - 1)) (net_pins latching.pins)) passes).0).0)).0
 
 -- A place is carried from an earlier one.

@@ -2,10 +2,11 @@
 use Rattle.std.proofs.Common.{refl}
 use Rattle.xr_cell.specs.Table.{change}
 use Rattle.xr_cell.specs.Symbol.{fits, is_edge}
+use Rattle.xr_cell.specs.Hold.{hold, level_output}
 use Rattle.xr_cell.specs.Next.{next}
 use Rattle.xr_design.specs.Rule.{rule, arguments}
 use Rattle.xr_model.specs.Assignment.{for_every}
-use Rattle.xr_model.specs.WorkedRegisters.{DffRises, Dff0Rises, LatchOpens, LatchCarries, Dff0Unknown, DffpUnknown, ColdConstant, ColdConstantRule, RecordedConstant, RecordedCarries, ColdBegins, RoundsRise, ScanSteps, ScanResets}
+use Rattle.xr_model.specs.WorkedRegisters.{DffRises, Dff0Rises, LatchOpens, LatchCarries, Dff0Unknown, DffpUnknown, ColdConstant, ColdConstantRule, RecordedConstant, RecordedCarries, ColdBegins, RoundsRise, ScanSteps, ScanResets, OpenCarries, OpenHolds, ResetCarries, ResetHolds}
 
 pub dff_rises : DffRises
 unfolding rule arguments for_every next change fits is_edge
@@ -62,3 +63,19 @@ scan_steps = refl
 pub scan_resets : ScanResets
 unfolding rule arguments for_every next change fits is_edge
 scan_resets = refl
+
+pub open_carries : OpenCarries
+unfolding rule arguments for_every next change fits is_edge
+open_carries = refl
+
+pub open_holds : OpenHolds
+unfolding rule arguments for_every next change fits is_edge hold level_output
+open_holds = refl
+
+pub reset_carries : ResetCarries
+unfolding rule arguments for_every next change fits is_edge
+reset_carries = refl
+
+pub reset_holds : ResetHolds
+unfolding rule arguments for_every next change fits is_edge hold level_output
+reset_holds = refl

@@ -8,7 +8,7 @@ use Rattle.xr_design.specs.declared.design.Driver.{Driver}
 use Rattle.xr_design.specs.declared.design.Driver.TheVariants.{Input, Undriven, Constant, Copy, Cell, Register}
 use Rattle.xr_design.specs.Job.{Job, at, step_of, net_of}
 use Rattle.xr_design.specs.Order.{net_pins}
-use Rattle.xr_design.specs.Register.{has_uncertain_clock}
+use Rattle.xr_design.specs.Register.{had_uncertain_clock}
 use Rattle.xr_design.specs.Rule.{rule, arguments}
 use Rattle.xr_design.specs.Fits.{place_at}
 use Rattle.xr_model.specs.Assignment.{for_every}
@@ -66,7 +66,8 @@ keeps j certain class step net =
 
 -- A place at a later step passes its net's bit on: an input that isn't recorded known, and a net without a driver, at a
 -- later round; a copy whose argument keeps; a cell whose net pins all keep and whose rule gives x for no assignment; a
--- register behind step 1 whose clock pins are certain where it looks back and whose net pins all keep one step before.
+-- register behind step 1 whose clock pins are certain where it looks back, with levels that hold also where it looked
+-- back one step before, and whose net pins all keep one step before.
 abbrev pub passes_on_of : Job → (ℕ → Value) → (ℕ → ClassByNumber) → ℕ → ℕ → ℕ → Driver → Bool
 passes_on_of j certain class place step net Input =
     not (step % j.rounds == 0) && is_unknown (j.recorded (step / j.rounds) net)
@@ -76,7 +77,7 @@ passes_on_of j certain class place step net (Copy argument) = keeps j certain cl
 passes_on_of j certain class place step net (Cell table pins) =
     not (step == 0) && list_all (keeps j certain class step) (net_pins pins) && is_never_unknown j certain place
 passes_on_of j certain class place step net (Register latching) =
-    nat_lt 1 step && not (has_uncertain_clock j certain step latching)
+    nat_lt 1 step && not (had_uncertain_clock j certain step latching)
     && list_all (keeps j certain class (step - 1)) (net_pins latching.pins)
 
 abbrev pub passes_on : Job → (ℕ → Value) → (ℕ → ClassByNumber) → ℕ → Bool

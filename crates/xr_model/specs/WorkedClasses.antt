@@ -7,6 +7,7 @@ use Rattle.xr_design.specs.declared.design.Driver.{Driver}
 use Rattle.xr_design.specs.declared.design.Driver.TheVariants.{Input, Undriven, Constant, Copy, Cell}
 use Rattle.xr_design.specs.declared.design.Table.TheVariants.{Gate}
 use Rattle.xr_design.specs.declared.design.Pin.TheVariants.{Net}
+use Rattle.xr_design.specs.declared.stim.Levels.TheVariants.{Change}
 use Rattle.xr_design.specs.declared.stim.StartRule.TheVariants.{Cold}
 use Rattle.xr_design.specs.Job.{Job}
 use Rattle.xr_model.specs.Places.{places_where}
@@ -37,6 +38,7 @@ job = record {
   moments = 1;
   recorded = λ moment net. X;
   start_rule = Cold;
+  levels = Change;
   start = λ net. X;
 }
 

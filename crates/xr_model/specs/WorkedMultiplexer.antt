@@ -8,6 +8,7 @@ use Rattle.xr_design.specs.declared.design.Driver.{Driver}
 use Rattle.xr_design.specs.declared.design.Driver.TheVariants.{Input, Undriven, Cell}
 use Rattle.xr_design.specs.declared.design.Table.TheVariants.{Gate}
 use Rattle.xr_design.specs.declared.design.Pin.TheVariants.{Net}
+use Rattle.xr_design.specs.declared.stim.Levels.TheVariants.{Change}
 use Rattle.xr_design.specs.declared.stim.StartRule.TheVariants.{Cold}
 use Rattle.xr_design.specs.Job.{Job}
 use Rattle.xr_proof.specs.declared.clause.Cnf.{Cnf}
@@ -30,6 +31,7 @@ mux = record {
   moments = 1;
   recorded = λ moment net. slice_index_or (One ∷ One ∷ X ∷ []) net X;
   start_rule = Cold;
+  levels = Change;
   start = λ net. X;
 }
 

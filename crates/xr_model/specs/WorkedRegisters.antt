@@ -12,6 +12,7 @@ use Rattle.xr_design.specs.declared.design.Driver.TheVariants.{Input, Register}
 use Rattle.xr_design.specs.declared.design.Latching.{Latching}
 use Rattle.xr_design.specs.declared.design.Pin.{Pin}
 use Rattle.xr_design.specs.declared.design.Pin.TheVariants.{Net, Bit, Dead}
+use Rattle.xr_design.specs.declared.stim.Levels.TheVariants.{Change, Hold}
 use Rattle.xr_design.specs.declared.stim.StartRule.{StartRule}
 use Rattle.xr_design.specs.declared.stim.StartRule.TheVariants.{Cold, Recorded}
 use Rattle.xr_design.specs.Job.{Job}
@@ -80,6 +81,7 @@ registered primitive clock clocks start rounds input ck = record {
   moments = length ck;
   recorded = λ moment net. if net == 0 then input else slice_index_or ck moment X;
   start_rule = start;
+  levels = Change;
   start = λ net. primitive.start;
 }
 
@@ -181,6 +183,51 @@ RoundsRise = AreClasses (clocked dff Cold 4 (Zero ∷ One ∷ []))
     ∷ Local true ∷ Local false ∷ Carried 8 false ∷ Local true ∷ Local true ∷ Carried 11 false
     ∷ Local true ∷ Local true ∷ Local true ∷ [])
 
+-- The same job with levels that hold registers.
+abbrev pub holding : Job → Job
+holding j = record j { levels = Hold }
+
+-- A latch that is open from the start, with one round a moment. Where registers start as recorded no pin ever changes,
+-- so that it carries its start; with levels that hold it takes the data.
+abbrev pub opened : Job
+opened = registered latch (Net 1) 0 Recorded 1 One (Zero ∷ Zero ∷ [])
+
+abbrev pub OpenCarries : Type 0
+OpenCarries = AreClasses opened (One ∷ Zero ∷ X ∷ One ∷ Zero ∷ X ∷ [])
+    (Local true ∷ Local false ∷ Free ∷ Local true ∷ Local false ∷ Carried 2 false ∷ [])
+
+abbrev pub OpenHolds : Type 0
+OpenHolds = AreClasses (holding opened) (One ∷ Zero ∷ X ∷ One ∷ Zero ∷ One ∷ [])
+    (Local true ∷ Local false ∷ Free ∷ Local true ∷ Local false ∷ Local true ∷ [])
+
+-- A register that is reset while its first pin is 0, and takes 1 at the edge of ck.
+-- 0 ? : ? : 0; 1 r : ? : 1; 1 n : ? : -; * ? : ? : -
+abbrev pub reset_rows : List RawRow
+reset_rows = row (letters 48 63) 48 ∷ row (letters 49 114) 49 ∷ row (letters 49 110) 45 ∷ row (letters 42 63) 45 ∷ []
+
+abbrev pub resettable : Primitive
+resettable = record { sequential = true; inputs = 2; rows = reset_rows; start = X }
+
+-- With two rounds a moment, ck x and then 1, and a reset that is x, a new unknown in each moment. The register begins
+-- anew at step 3, where ck is uncertain two steps back. Its pins are the same at steps 2 and 3, so that at step 4 it is
+-- carried; with levels that hold it is a line there, since the unknown reset may have held it at step 3.
+abbrev pub unknown_reset : Job
+unknown_reset = registered resettable (Net 1) 2 Cold 2 X (X ∷ One ∷ One ∷ [])
+
+abbrev pub reset_values : List Value
+reset_values = X ∷ X ∷ X ∷ X ∷ X ∷ X ∷ X ∷ One ∷ X ∷ X ∷ One ∷ X ∷ X ∷ One ∷ X ∷ []
+
+abbrev pub reset_classes : ClassByNumber → List ClassByNumber
+reset_classes last =
+    Free ∷ Free ∷ Free ∷ Carried 0 false ∷ Carried 1 false ∷ Free ∷ Free ∷ Local true ∷ Free
+    ∷ Carried 6 false ∷ Local true ∷ Free ∷ Free ∷ Local true ∷ last ∷ []
+
+abbrev pub ResetCarries : Type 0
+ResetCarries = AreClasses unknown_reset reset_values (reset_classes (Carried 11 false))
+
+abbrev pub ResetHolds : Type 0
+ResetHolds = AreClasses (holding unknown_reset) reset_values (reset_classes Line)
+
 -- A scan register over the nets ck, d, si, se, rn and sn, its last pin dead. In place order: these, and q.
 abbrev pub scan_row : ℕ → ℕ → ℕ → ℕ → ℕ → ℕ → ℕ → ℕ → RawRow
 scan_row ck d si se rn sn nt output =
@@ -224,6 +271,7 @@ scanned = record {
   moments = 4;
   recorded = scan_input;
   start_rule = Cold;
+  levels = Change;
   start = λ net. X;
 }
 

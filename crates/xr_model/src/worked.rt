@@ -30,6 +30,15 @@ pub fn registers_by_hand()
     ensures four_rounds { registers.RoundsRise }
 {}
 
+/// A latch that is open from the start, and a register with an unknown reset after an uncertain clock: by levels that
+/// decide when a pin changes, and by levels that hold.
+pub fn levels_by_hand()
+    ensures open_carries { registers.OpenCarries }
+    ensures open_holds { registers.OpenHolds }
+    ensures reset_carries { registers.ResetCarries }
+    ensures reset_holds { registers.ResetHolds }
+{}
+
 /// The multiplexer with an unknown select and equal data: its cone, and the clauses of its query.
 pub fn multiplexer_by_hand()
     ensures classes { multiplexer.MuxClasses }

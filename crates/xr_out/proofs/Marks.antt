@@ -12,10 +12,10 @@ use Rattle.xr_ledger.specs.Change.{change_position, nth_change}
 use Rattle.xr_ledger.specs.declared.change.Change.{Change}
 use Rattle.xr_match.specs.declared.binding.Binding.{Binding}
 use Rattle.xr_match.specs.declared.binding.Bound.{Bound}
-use Rattle.xr_replay.proofs.Marking.{clear_before}
+use Rattle.xr_fans.specs.Marks.{OnlyMore}
+use Rattle.xr_fans.proofs.Marking.{clear_before}
 use Rattle.xr_replay.proofs.Watching.{last_before}
 use Rattle.xr_replay.specs.Fault.{bound_at, no_variable}
-use Rattle.xr_replay.specs.Marks.{OnlyMore}
 use Rattle.xr_replay.specs.Watched.{AreDueTo}
 use Rattle.xr_replay_due.specs.Due.{NoneBetween, is_due}
 use Rattle.xr_replay_due.specs.Readers.{ReadersView, readers_of}

@@ -2,9 +2,9 @@
 
 ghost use Rattle.std.specs.Prelude.{◌≡◌, ℕ, ◌-◌, ◌<◌, ◌^◌, true, length};
 ghost use Rattle.xr_design.specs.Settled as settled;
+ghost use Rattle.xr_fans.specs.Marks.{OnlyMore};
 ghost use Rattle.xr_out.specs.Readers.{FitsReaders, KeepLetters, KeepLettersIn};
 ghost use Rattle.xr_out.specs.Steps.{HasMoments, HasStep};
-ghost use Rattle.xr_replay.specs.Marks.{OnlyMore};
 ghost use Rattle.xr_replay_due.specs.Due.{HasRoomFor};
 
 use crate::readers::BitReaders;

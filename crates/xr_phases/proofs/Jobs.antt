@@ -1,7 +1,7 @@
 -- Facts of a job that fits: its circuit, its places, and what its replay shows.
-use Rattle.std.proofs.Common.{◌≡◌, ◌∙◌, ℕ, ◌+◌, ◌*◌, ◌^◌, ◌<◌, ◌≤◌, ap, arith}
+use Rattle.std.proofs.Common.{◌≡◌, ◌∙◌, ℕ, ◌+◌, ◌*◌, ◌<◌, ◌≤◌, ap, arith}
 use Rattle.std.proofs.lemmas.Nat.{mul-add-lt}
-use Rattle.std.proofs.Math.Nat.{le_trans, mul-le-mul_right}
+use Rattle.std.proofs.Math.Nat.{mul-le-mul_right}
 use Rattle.xr_design.specs.Circuit.{PartsFit}
 use Rattle.xr_design.specs.Design.{FitsDesign}
 use Rattle.xr_design.specs.Filling.{IsPlace}
@@ -17,40 +17,21 @@ use Rattle.xr_design.proofs.OrderLemmas.{position_within}
 use Rattle.xr_design.proofs.OrdersFit.{job_fits}
 use Rattle.xr_design.proofs.Replays.{replay_prefix}
 use Rattle.xr_job.specs.Compared.{job_for}
-use Rattle.xr_job.specs.Recorded.{place_limit}
 use Rattle.xr_job.specs.declared.netlist.Netlist.{Netlist as ANetlist}
 use Rattle.xr_job.specs.declared.recorded.Recorded.{Recorded}
-use Rattle.xr_phases.specs.Repair.{FitsJobWithin}
+use Rattle.xr_phases.specs.Repair.{FitsJob}
 
 -- ---- a job that fits
 
-pub fits_job : {most : ℕ} → (n : ANetlist) (r : Recorded) → FitsJobWithin most n r → Fits (job_for n r)
+pub fits_job : (n : ANetlist) (r : Recorded) → FitsJob n r → Fits (job_for n r)
 fits_job n r fits =
     job_fits n.design n.order r.stim fits.netlist.design fits.netlist.order fits.recorded.stim fits.recorded.some_round fits.recorded.few_rounds
 
-pub circuit_fits : {most : ℕ} → (n : ANetlist) (r : Recorded) → FitsJobWithin most n r → PartsFit n.design n.order r.stim
+pub circuit_fits : (n : ANetlist) (r : Recorded) → FitsJob n r → PartsFit n.design n.order r.stim
 circuit_fits n r fits = record { fits_job = fits_job n r fits; fits_stim = fits.recorded.stim }
 
-pub design_fits : {most : ℕ} → (n : ANetlist) (r : Recorded) → FitsJobWithin most n r → FitsDesign n.design
+pub design_fits : (n : ANetlist) (r : Recorded) → FitsJob n r → FitsDesign n.design
 design_fits n r fits = fits.netlist.design
-
--- A job with few enough places can be walked over.
-pub walked_within : {most : ℕ} → (n : ANetlist) (r : Recorded) → most ≤ place_limit → FitsJobWithin most n r → FitsJobWithin place_limit n r
-walked_within n r least fits = record {
-  netlist = fits.netlist;
-  recorded = record {
-    stim = fits.recorded.stim;
-    some_round = fits.recorded.some_round;
-    few_rounds = fits.recorded.few_rounds;
-    times = fits.recorded.times;
-    binding = fits.recorded.binding;
-    variables = fits.recorded.variables;
-    few = le_trans fits.recorded.few least;
-  };
-}
-
-pub few_places : (n : ANetlist) (r : Recorded) → FitsJobWithin place_limit n r → places_of (job_for n r) ≤ 2 ^ 27
-few_places n r fits = fits.recorded.few
 
 module _ (j : Job) (fits : Fits j) where
   pub place_there : (number : ℕ) → number < places_of j → IsPlace j (place_at j number)

@@ -36,12 +36,12 @@ module _ (design : Design) (starts : List Value) (pieces : List Piece) where
   none_first a fine first = no_fault a (sym (fine first.at first.within) ∙ first.is)
 
 -- Stimuli with the same data are the same: what is always true of one has one proof.
-same_stim : (a b : Stim) → a.times ≡ b.times → a.rounds ≡ b.rounds → a.inputs ≡ b.inputs → a.start ≡ b.start → a.starts ≡ b.starts → a ≡ b
-same_stim a b times rounds inputs start starts = λ i. record {
+same_stim : (a b : Stim) → a.times ≡ b.times → a.rounds ≡ b.rounds → a.inputs ≡ b.inputs → a.rules ≡ b.rules → a.starts ≡ b.starts → a ≡ b
+same_stim a b times rounds inputs rules starts = λ i. record {
   times = times i;
   rounds = rounds i;
   inputs = inputs i;
-  start = start i;
+  rules = rules i;
   starts = starts i;
   some_moment = is_prop→PathP (λ k. 0 < length (times k)) (λ k. le_prop) a.some_moment b.some_moment i;
   few_moments = is_prop→PathP (λ k. length (times k) < 2 ^ 28) (λ k. le_prop) a.few_moments b.few_moments i;
@@ -55,9 +55,9 @@ one_stim design old pieces a b first second =
     let times = first.others.times ∙ sym second.others.times in
     let rounds = first.others.rounds ∙ sym second.others.rounds in
     let inputs = first.others.inputs ∙ sym second.others.inputs in
-    let start = first.others.start ∙ sym second.others.start in
+    let rules = first.others.rules ∙ sym second.others.rules in
     let starts = first.starts ∙ sym second.starts in
-    same_stim a b times rounds inputs start starts
+    same_stim a b times rounds inputs rules starts
 
 pub one_started : (n : ANetlist) (stim : Stim) (pieces : List Piece) → IsOne (StartsCome n stim pieces)
 one_started n stim pieces (Ok a) (Ok b) first second = ap Ok (one_stim n.design stim pieces a b first second)

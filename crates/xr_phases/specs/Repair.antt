@@ -5,6 +5,9 @@ use Rattle.xr_design.specs.Circuit.{PartsFit}
 use Rattle.xr_design.specs.Handed.{IsReplay}
 use Rattle.xr_design.specs.History.{HistoryView}
 use Rattle.xr_design.specs.Job.{job_of}
+use Rattle.xr_design.specs.declared.stim.Levels.{Levels}
+use Rattle.xr_design.specs.declared.stim.Levels.TheVariants.{Change, Hold}
+use Rattle.xr_design.specs.declared.stim.RegisterRules.{RegisterRules}
 use Rattle.xr_design.specs.declared.stim.StartRule.{StartRule}
 use Rattle.xr_design.specs.declared.stim.Stim.{Stim}
 use Rattle.xr_design.specs.declared.stim.StartRule.TheVariants.{Cold, Recorded as AsRecorded}
@@ -21,7 +24,7 @@ use Rattle.xr_repair.specs.Repaired.{IsObjection, IsOfJob}
 use Rattle.xr_job.specs.Compared.{IsRefusedReplay, job_for}
 use Rattle.xr_job.specs.Names.{net_name}
 use Rattle.xr_job.specs.Netlist.{FitsNetlist}
-use Rattle.xr_job.specs.Recorded.{FitsRecordedWithin, place_limit}
+use Rattle.xr_job.specs.Recorded.{FitsRecorded}
 use Rattle.xr_job.specs.declared.compare_refusal.CompareRefusal.{CompareRefusal}
 use Rattle.xr_job.specs.declared.netlist.Netlist.{Netlist as ANetlist}
 use Rattle.xr_job.specs.declared.recorded.Recorded.{Recorded}
@@ -29,6 +32,8 @@ use Rattle.xr_job.specs.declared.rules.Rules.{Rules}
 use Rattle.xr_match.specs.declared.rule.UndrivenRule.{UndrivenRule}
 use Rattle.xr_match.specs.declared.rule.UndrivenRule.TheVariants as rule
 use Rattle.xr_words.specs.Words.{JobValues}
+use Rattle.xr_words.specs.declared.words.Levels.{Levels as NamedLevels}
+use Rattle.xr_words.specs.declared.words.Levels.TheVariants as levels
 use Rattle.xr_words.specs.declared.words.Start.{Start}
 use Rattle.xr_words.specs.declared.words.Start.TheVariants as named
 use Rattle.xr_words.specs.declared.words.Undriven.{Undriven}
@@ -48,32 +53,32 @@ abbrev pub LengthComes : ℕ → List ℕ → Result (Unit {0}) (Unit {0}) → T
 LengthComes limit text (Ok short) = length text ≤ limit
 LengthComes limit text (Err long) = limit < length text
 
--- The rule that the words name.
+-- The rules that the words name.
 abbrev pub rule_of : Start → StartRule
 rule_of named.Cold = Cold
 rule_of named.Recorded = AsRecorded
+
+abbrev pub levels_of : NamedLevels → Levels
+levels_of levels.Change = Change
+levels_of levels.Hold = Hold
+
+abbrev pub register_rules_of : JobValues → RegisterRules
+register_rules_of w = record { start = rule_of w.start; levels = levels_of w.levels }
 
 abbrev pub undriven_rule_of : Undriven → UndrivenRule
 undriven_rule_of undriven.Released = rule.Released
 undriven_rule_of undriven.Recorded = rule.Recorded
 
 abbrev pub rules_of : JobValues → Rules
-rules_of w = record { start = rule_of w.start; undriven = undriven_rule_of w.undriven }
+rules_of w = record { registers = register_rules_of w; undriven = undriven_rule_of w.undriven }
 
--- A design with its order fits, and so does what was recorded of it, with at most so many places.
-pub record FitsJobWithin (most : ℕ) (n : ANetlist) (r : Recorded) : Type 0 where
+-- A design with its order fits, and so does what was recorded of it.
+pub record FitsJob (n : ANetlist) (r : Recorded) : Type 0 where
   pub netlist : FitsNetlist n
-  pub recorded : FitsRecordedWithin most n.design r
-
-abbrev pub FitsPartsWithin : ℕ → Parts → Type 0
-FitsPartsWithin most job = FitsJobWithin most job.netlist job.recorded
-
--- It fits, with few enough places to be walked over.
-abbrev pub FitsJob : ANetlist → Recorded → Type 0
-FitsJob n r = FitsJobWithin place_limit n r
+  pub recorded : FitsRecorded n.design r
 
 abbrev pub FitsParts : Parts → Type 0
-FitsParts job = FitsPartsWithin place_limit job
+FitsParts job = FitsJob job.netlist job.recorded
 
 -- A history is the replay of the job, each moment is settled, and the recording agrees in it.
 pub record AgreesThroughout (n : ANetlist) (r : Recorded) (history : HistoryView) : Type 0 where

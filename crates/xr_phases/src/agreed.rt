@@ -1,6 +1,6 @@
 //! A command whose job is read and compared before all else, as most are: then comes its own part.
 
-ghost use Rattle.std.specs.Prelude.{◌≡◌, ◌≤◌};
+ghost use Rattle.std.specs.Prelude.{◌≡◌};
 ghost use Rattle.xr_design.specs.Handed.{IsReplay};
 ghost use Rattle.xr_job.specs.Compared.{job_for};
 ghost use Rattle.xr_run.specs.Phases.{Answer, Phases};
@@ -27,10 +27,9 @@ pub trait AfterAgreed {
     /// Its phases after the job agreed.
     ghost after: { Self → Parts → Phases Answer Refused };
 
-    /// The words of its job, which is one that is walked over.
+    /// The words of its job.
     fn words(&self) -> &JobWords<'_>
-        ensures job { job_values result.now ≡ job self.now }
-        ensures few { result.now.places ≤ 134217728 };
+        ensures { job_values result.now ≡ job self.now };
 
     /// Goes through its phases after the job agreed.
     fn go_on<S: Shelf, O: Sink>(

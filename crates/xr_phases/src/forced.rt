@@ -9,7 +9,7 @@ ghost use Rattle.xr_run.specs.Prepared.{Judged, Prepared};
 ghost use Rattle.xr_words.specs.Words.{job_values};
 ghost use Rattle.xr_phases.specs.Code.{CodeComes, code_in};
 ghost use Rattle.xr_phases.specs.Phases.{code_cause, code_phases, itself};
-ghost use Rattle.xr_phases.specs.Repair.{FitsPartsWithin};
+ghost use Rattle.xr_phases.specs.Repair.{FitsParts};
 
 use crate::cause::Refused;
 use crate::parts::Parts;
@@ -32,7 +32,7 @@ pub fn forces_of<S: Shelf>(
     words: &JobWords<'_>,
     job: &Parts,
 ) -> Result<Forces, Refusal<Refused>>
-    requires { FitsPartsWithin words.now.places job.now }
+    requires { FitsParts job.now }
     ensures prepared { Prepared S.told (code_phases name.now (job_values words.now) job.now) itself
         (S.view shelf.old) (S.view shelf.new) result }
     ensures events { IfOk result (AreEvents (job_for job.now.netlist job.now.recorded)) }

@@ -1,22 +1,23 @@
 //! The netlist and the recording that the words of a command name.
 
-ghost use Rattle.std.specs.Prelude.{◌≡◌, ◌≤◌, IfOk};
+ghost use Rattle.std.specs.Prelude.{◌≡◌, IfOk};
 ghost use Rattle.xr_design.specs.Handed.{IsReplay};
 ghost use Rattle.xr_job.specs.Compared.{job_for};
 ghost use Rattle.xr_job.specs.Netlist.{FitsNetlist};
-ghost use Rattle.xr_job.specs.Recorded.{FitsRecordedWithin, job_netlist};
+ghost use Rattle.xr_job.specs.Recorded.{FitsRecorded, job_netlist};
 ghost use Rattle.xr_run.specs.Prepared.{Prepared};
 ghost use Rattle.xr_words.specs.Words.{job_values};
 ghost use Rattle.xr_phases.specs.Phases.{agreed_job, agreed_phases, itself, job_phases, netlist_phases};
 ghost use Rattle.xr_phases.specs.Phases.{recording_phases};
-ghost use Rattle.xr_phases.specs.Repair.{FitsParts, FitsPartsWithin, rule_of, rules_of, undriven_rule_of};
+ghost use Rattle.xr_phases.specs.Repair.{FitsParts, levels_of, register_rules_of, rule_of, rules_of};
+ghost use Rattle.xr_phases.specs.Repair.{undriven_rule_of};
 
 use crate::cause::Refused;
 use crate::judged::{compared, netlist_in, recorded_in};
 use crate::parts::{Agreed, Parts};
 use crate::pieces::names_of;
 use std::alloc::Global;
-use xr_design::StartRule;
+use xr_design::{Levels, RegisterRules, StartRule};
 use xr_job::{Netlist, Recorded, Rules};
 use xr_match::UndrivenRule;
 use xr_run::{Refusal, read_input, read_inputs};
@@ -29,13 +30,12 @@ pub const NETLIST_BYTES: usize = 67_108_864;
 /// The most bytes of a recording.
 pub const RECORDING_BYTES: usize = 268_435_456;
 
-/// The job that the words name, one that is walked over, whose recording has to agree with its replay; and that replay.
+/// The job that the words name, whose recording has to agree with its replay; and that replay.
 pub fn agreed_of<S: Shelf>(
     alloc: Global,
     shelf: &mut S,
     words: &JobWords<'_>,
 ) -> Result<Agreed, Refusal<Refused>>
-    requires { words.now.places ≤ 134217728 }
     ensures prepared { Prepared S.told (agreed_phases (job_values words.now)) agreed_job
         (S.view shelf.old) (S.view shelf.new) result }
     ensures fits { IfOk result (λ agreed. FitsParts agreed.job) }
@@ -56,7 +56,7 @@ pub fn job_of<S: Shelf>(
 ) -> Result<Parts, Refusal<Refused>>
     ensures prepared { Prepared S.told (job_phases (job_values words.now)) itself
         (S.view shelf.old) (S.view shelf.new) result }
-    ensures fits { IfOk result (FitsPartsWithin words.now.places) }
+    ensures fits { IfOk result FitsParts }
 {
     let mut netlist = netlist_of(alloc, shelf, words)?;
     let recorded = recorded_of(alloc, shelf, words, &mut netlist)?;
@@ -95,7 +95,7 @@ fn recorded_of<S: Shelf>(
         (S.view shelf.old) (S.view shelf.new) result }
     ensures netlist { let rule = undriven_rule_of words.now.undriven in
         IfOk result (λ r. netlist.new ≡ job_netlist rule netlist.old r.binding.bound) }
-    ensures fits { IfOk result (FitsRecordedWithin words.now.places netlist.new.design) }
+    ensures fits { IfOk result (FitsRecorded netlist.new.design) }
     ensures fits_netlist { IfOk result (λ _. FitsNetlist netlist.new) }
 {
     let scope = names_of(alloc, words.scope)?;
@@ -122,8 +122,26 @@ fn rules_of(words: &JobWords<'_>) -> Rules
     ensures { result ≡ rules_of (job_values words.now) }
 {
     Rules {
-        start: start_rule(words.start),
+        registers: register_rules(words),
         undriven: undriven_rule(words.undriven),
+    }
+}
+
+fn register_rules(words: &JobWords<'_>) -> RegisterRules
+    ensures { result ≡ register_rules_of (job_values words.now) }
+{
+    RegisterRules {
+        start: start_rule(words.start),
+        levels: level_rule(words.levels),
+    }
+}
+
+fn level_rule(levels: xr_words::Levels) -> Levels
+    ensures { result ≡ levels_of levels }
+{
+    match levels {
+        xr_words::Levels::Change => Levels::Change,
+        xr_words::Levels::Hold => Levels::Hold,
     }
 }
 

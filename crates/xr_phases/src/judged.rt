@@ -4,7 +4,7 @@ ghost use Rattle.std.specs.Prelude.{◌≡◌, ◌<◌, ◌≤◌, ◌^◌, leng
 ghost use Rattle.xr_design.specs.Handed.{IsReplay};
 ghost use Rattle.xr_job.specs.Compared.{job_for};
 ghost use Rattle.xr_job.specs.Netlist.{FitsNetlist, NetlistComes};
-ghost use Rattle.xr_job.specs.Recorded.{FitsRecorded, FitsRecordedWithin, RecordingComes, job_netlist};
+ghost use Rattle.xr_job.specs.Recorded.{FitsRecorded, RecordingComes, job_netlist};
 ghost use Rattle.xr_run.specs.Prepared.{Judged};
 ghost use Rattle.xr_phases.specs.Repair.{LengthComes, CompareComes};
 ghost use Rattle.xr_phases.specs.Phases.{compare_cause, itself, netlist_cause, nothing_in, recording_cause};
@@ -61,7 +61,7 @@ pub fn recorded_in(
     ensures judged { Judged (RecordingComes text.now netlist.old.design scope.now rounds most rules)
         recording_cause itself result }
     ensures netlist { IfOk result (λ r. netlist.new ≡ job_netlist rules.undriven netlist.old r.binding.bound) }
-    ensures fits { IfOk result (FitsRecordedWithin most netlist.new.design) }
+    ensures fits { IfOk result (FitsRecorded netlist.new.design) }
     ensures fits_netlist { IfOk result (λ _. FitsNetlist netlist.new) }
 {
     match read_recording(alloc, netlist, text, scope, rounds, most, rules) {

@@ -1,9 +1,9 @@
 //! The walk over the places of a job, piece by piece.
 
-ghost use Rattle.std.specs.Prelude.{◌≡◌, ◌≤◌, ◌^◌, IfErr, IfOk};
+ghost use Rattle.std.specs.Prelude.{◌≡◌, IfErr, IfOk};
 ghost use Rattle.xr_design.specs.Circuit.{PartsFit};
 ghost use Rattle.xr_design.specs.Handed.{IsHandedIn, IsReplay};
-ghost use Rattle.xr_design.specs.Job.{job_of, places_of};
+ghost use Rattle.xr_design.specs.Job.{job_of};
 ghost use Rattle.xr_job.specs.Compared.{job_for};
 ghost use Rattle.xr_repair.specs.Step.{RefusedStep};
 ghost use Rattle.xr_repair.specs.Walk.{left_of};
@@ -54,7 +54,6 @@ pub fn wave_under<'b, O: Sink>(
     out: &mut O,
 ) -> Result<Wave<'b>, Refusal<Refused>>
     requires fits { PartsFit netlist.now.design netlist.now.order stim.now }
-    requires few { places_of (job_of netlist.now.design netlist.now.order stim.now) ≤ 2 ^ 27 }
     requires handed { IsHandedIn (job_of netlist.now.design netlist.now.order stim.now) history.now }
     requires conflicts { IsLimit conflicts }
     ensures repaired { IfOk result (IsRepairedBy conflicts netlist.now stim.now history.now) }
@@ -88,7 +87,6 @@ pub fn replay_wave<'b, O: Sink>(
     out: &mut O,
 ) -> Result<Wave<'b>, Refusal<Refused>>
     requires fits { PartsFit netlist.now.design netlist.now.order stim.now }
-    requires few { places_of (job_of netlist.now.design netlist.now.order stim.now) ≤ 2 ^ 27 }
     requires replay { IsReplay (job_of netlist.now.design netlist.now.order stim.now) history.now }
     requires conflicts { IsLimit conflicts }
     ensures repaired { IfOk result (IsRepairedBy conflicts netlist.now stim.now history.now) }

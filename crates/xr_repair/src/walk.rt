@@ -1,9 +1,9 @@
 //! The walk over the places, in pieces.
 
-ghost use Rattle.std.specs.Prelude.{◌≡◌, ℕ, ◌<◌, ◌≤◌, ◌==◌, ◌^◌, ◌⊎◌, IfOk, IfErr, IsFalse, IsTrue, length};
+ghost use Rattle.std.specs.Prelude.{◌≡◌, ℕ, ◌<◌, ◌≤◌, ◌==◌, ◌⊎◌, IfOk, IfErr, IsFalse, IsTrue, length};
 ghost use Rattle.xr_design.specs.Circuit.{PartsFit};
 ghost use Rattle.xr_design.specs.Handed.{IsHandedIn};
-ghost use Rattle.xr_design.specs.Job.{job_of, places_of};
+ghost use Rattle.xr_design.specs.Job.{job_of};
 ghost use Rattle.xr_repair.specs.Repaired.{IsOfJob, IsOnlyOne};
 ghost use Rattle.xr_repair.specs.Step.{IsFurther, IsNextOf, RefusedStep};
 ghost use Rattle.xr_repair.specs.Walk.{AreRightOf, HasLessLeft, all_of, count_of, left_of, start_of};
@@ -37,7 +37,6 @@ pub fn repair<'a>(
     limit: u32,
 ) -> Result<Wave<'a>, RepairErr>
     requires fits { PartsFit design.now order.now stim.now }
-    requires few { places_of (job_of design.now order.now stim.now) ≤ 2 ^ 27 }
     requires handed { IsHandedIn (job_of design.now order.now stim.now) replayed.now }
     requires limit { IsLimit limit }
     ensures job { let start = nothing_written design.now order.now stim.now replayed.now limit in
@@ -86,7 +85,6 @@ impl<'a> Walk<'a> {
         limit: u32,
     ) -> Result<Walk<'a>, Memory>
         requires fits { PartsFit design.now order.now stim.now }
-        requires few { places_of (job_of design.now order.now stim.now) ≤ 2 ^ 27 }
         requires handed { IsHandedIn (job_of design.now order.now stim.now) replayed.now }
         requires limit { IsLimit limit }
         ensures { let start = nothing_written design.now order.now stim.now replayed.now limit in

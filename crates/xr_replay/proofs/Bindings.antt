@@ -10,10 +10,10 @@ use Rattle.xr_match.specs.declared.binding.Binding.{Binding}
 use Rattle.xr_vcd.specs.Recording.{Recording}
 use Rattle.xr_replay_due.specs.Readers.{AreWithin, HasReadings, ReadersView, readers_of}
 use Rattle.xr_replay_due.specs.declared.readings.Reading.{Reading}
+use Rattle.xr_fans.specs.Readings.{readings_of}
+use Rattle.xr_fans.proofs.ReadingLemmas.{all_back, all_each, all_front, all_join, all_of, each_all, IsAmong, IsWithin, of_all, readings_append}
 use Rattle.xr_replay.specs.Fault.{bound_at, no_variable}
-use Rattle.xr_replay.specs.Readings.{readings_of}
 use Rattle.xr_replay.specs.Watched.{AreBitReaders, AreBitsWithin, AreNumbers, bit_readings}
-use Rattle.xr_replay.proofs.ReadingLemmas.{IsAmong, IsWithin, all_back, all_each, all_front, all_join, all_of, each_all, of_all, readings_append}
 
 -- The nets of a binding that fits are the design's.
 pub bits_within : (design : Design) (binding : Binding) (room : ℕ) → length design.nets ≤ room → FitsBinding design binding → AreBitsWithin room binding

@@ -11,13 +11,13 @@ use Rattle.xr_design.proofs.Rules.{position_in}
 use Rattle.xr_match.specs.declared.binding.Binding.{Binding}
 use Rattle.xr_match.specs.declared.binding.Bound.{Bound}
 use Rattle.xr_vcd.specs.Recording.{Recording, value_at}
+use Rattle.xr_fans.proofs.Positions.{net_within}
 use Rattle.xr_replay.specs.declared.differ.Differ.{Differ}
 use Rattle.xr_replay.specs.declared.differ.Differ.TheVariants.{Unsettled, Disagrees}
 use Rattle.xr_replay.specs.declared.differ.DifferErr.{DifferErr}
 use Rattle.xr_replay.specs.declared.differ.DifferErr.TheVariants.{Differs, Memory}
 use Rattle.xr_replay.specs.Fault.{BitAgrees, HasNoFault, IfDiffers, IsBitFault, IsDisagreementIn, IsFault, IsFaultIn, IsFaultless, IsFirstBit, IsFirstDisagreement, IsFirstFault, IsFirstUnsettled, IsUnsettledAt, IsUnsettledIn, IsVariableFault, TellsFaultless, TellsFirst, VariableAgrees, bound_at, kept_after, moment_of, no_variable, shown_bit}
 use Rattle.xr_replay.proofs.Places.{net_there}
-use Rattle.xr_replay.proofs.Writing.{net_within}
 
 -- The nets at the first n positions are settled in a moment.
 abbrev pub SettledUpTo : Job → ℕ → ℕ → Type 0

@@ -6,7 +6,6 @@ pub mod Forces
 pub mod Marking
 pub mod Places
 pub mod Quiet
-pub mod ReadingLemmas
 pub mod Repeats
 pub mod Replays
 pub mod Seeing

@@ -1,8 +1,7 @@
 -- What is due as a step begins: all that is forced or recorded otherwise.
-use Rattle.std.proofs.Common.{◌≡◌, ℕ, ◌+◌, ◌-◌, ◌/◌, ◌<◌, ◌≤◌, Bool, true, false, Option, List, length, slice_index, slice_index_or, refl, sym, ap, ◌∙◌, arith, subst, ⊎_elim}
+use Rattle.std.proofs.Common.{◌≡◌, ℕ, ◌+◌, ◌-◌, ◌/◌, ◌<◌, ◌≤◌, true, false, Option, List, length, slice_index, refl, sym, ap, ◌∙◌, arith, subst, ⊎_elim}
 use Rattle.std.proofs.lemmas.Bool.{cases_eq}
 use Rattle.xr_cell.specs.declared.value.Value.{Value}
-use Rattle.xr_cell.specs.declared.value.Value.TheVariants.{X}
 use Rattle.xr_design.specs.declared.design.Driver.{Driver}
 use Rattle.xr_design.specs.declared.design.Driver.TheVariants.{Input, Undriven, Constant, Copy, Cell, Register}
 use Rattle.xr_design.specs.declared.force.Event.{Event}
@@ -11,36 +10,23 @@ use Rattle.xr_design.specs.Force.{forced_at, forced_by}
 use Rattle.xr_design.specs.Job.{Job, at}
 use Rattle.xr_design.specs.Order.{position_of}
 use Rattle.xr_design.proofs.Rules.{position_in}
-use Rattle.xr_inputs.specs.Rows.{AreChanged, AreElsewhere, moment_row}
-use Rattle.xr_ledger.specs.Change.{change_position, nth_change}
-use Rattle.xr_ledger.specs.declared.change.Change.{Change}
 use Rattle.xr_replay_due.specs.Due.{HasRoomFor, is_due}
+use Rattle.xr_fans.specs.Nets.{driver_on}
+use Rattle.xr_fans.specs.Marks.{AreInputsDue, OnlyMore}
+use Rattle.xr_fans.proofs.Positions.{net_within, position_there}
+use Rattle.xr_fans.proofs.Marking.{clear_before}
 use Rattle.xr_replay.specs.Forced.{ChangesOnlyBy, HasForced, NoEventOf, event_at}
-use Rattle.xr_replay.specs.Marks.{AreChangesDue, AreEventsDue, AreInputsDue, OnlyMore}
+use Rattle.xr_replay.specs.Marks.{AreEventsDue}
 use Rattle.xr_replay.specs.Still.{IsForcedSame, IsRecordedSame}
-use Rattle.xr_replay.specs.Sweep.{AreAwaited, AreDue, driver_on}
+use Rattle.xr_replay.specs.Sweep.{AreAwaited, AreDue}
 use Rattle.xr_replay.proofs.Places.{net_there}
-use Rattle.xr_replay.proofs.Repeats.{position_there}
 use Rattle.xr_replay.proofs.Sweeps.{due_first}
-use Rattle.xr_replay.proofs.Writing.{net_at, net_within, step_there}
-
--- What isn't due was not before.
-clear_of : (old new : Bool) → (old ≡ true → new ≡ true) → new ≡ false → old ≡ false
-clear_of true new more clear = absurd (let no : true ≡ false = sym (more refl) ∙ clear in cc)
-clear_of false new more clear = refl
-
-pub clear_before : (old new : List ℕ) (p : ℕ) → OnlyMore old new → is_due new p ≡ false → is_due old p ≡ false
-clear_before old new p more clear = clear_of (is_due old p) (is_due new p) (more p) clear
+use Rattle.xr_replay.proofs.Writing.{net_at, step_there}
 
 -- One event more is due.
 pub events_more : (j : Job) (events : List Event) (from n : ℕ) (old new : List ℕ) → OnlyMore old new → is_due new (position_of j.order (event_at events n).net) ≡ true → AreEventsDue j events from n old → AreEventsDue j events from (n + 1) new
 events_more j events from n old new more here due i low high =
     ⊎_elim (λ same. (let P : ℕ → Type 0 = λ k. is_due new (position_of j.order (event_at events k).net) ≡ true in subst P (sym same) here)) (λ differ. more (position_of j.order (event_at events i).net) (due i low (omega (arith, high, differ)))) (cases_eq i n)
-
--- The net of one change more is due.
-pub changes_more : (j : Job) (changes : List Change) (n : ℕ) (old new : List ℕ) → OnlyMore old new → is_due new (position_of j.order (change_position (nth_change changes n))) ≡ true → AreChangesDue j n changes old → AreChangesDue j (n + 1) changes new
-changes_more j changes n old new more here due i low =
-    ⊎_elim (λ same. (let P : ℕ → Type 0 = λ k. is_due new (position_of j.order (change_position (nth_change changes k))) ≡ true in subst P (sym same) here)) (λ differ. more (position_of j.order (change_position (nth_change changes i))) (due i (omega (arith, low, differ)))) (cases_eq i n)
 
 -- A net is forced as one step before, where the values by which nets are forced changed only at others.
 pub forced_but_for : (j : Job) → Fits j → (events : List Event) (step from to : ℕ) (old new : List (Option Value)) → HasForced j.width events step new → HasForced j.width events (step - 1) old → ChangesOnlyBy events from to old new → (net : ℕ) → net < j.width → NoEventOf events from to net → IsForcedSame j (forced_by j events) step net
@@ -83,11 +69,3 @@ due_marked_first j fits forced events step from to old mid new first second more
     recorded p low clear =
         let P : ℕ → Type 0 = λ k. is_due new k ≡ false in
         recorded_by j step (slice_index j.order p) (driver_on j p) (inputs (slice_index j.order p) (net_within j fits p low) (subst P (sym (position_there j fits p low)) clear))
-
--- What isn't due has no change, and is recorded as in the moment before.
-pub inputs_due : (j : Job) (step : ℕ) (rows : List (List Value)) (changes : List Change) (due : List ℕ) → ((moment net : ℕ) → j.recorded moment net ≡ slice_index_or (moment_row rows moment) net X) → length (moment_row rows (step / j.rounds)) ≡ j.width
-    → step / j.rounds - 1 ≡ (step - 1) / j.rounds → AreChanged rows (step / j.rounds) changes → AreChangesDue j (length changes) changes due → AreInputsDue j step due
-inputs_due j step rows changes due reads long earlier changed marked net low clear =
-    let moment = step / j.rounds in
-    let elsewhere : AreElsewhere changes net = λ i within is. (let P : ℕ → Type 0 = λ k. is_due due (position_of j.order k) ≡ true in let no : true ≡ false = sym (subst P is (marked i within)) ∙ clear in cc) in
-    reads moment net ∙ changed.others net (omega (arith, low, long)) elsewhere ∙ sym (reads (moment - 1) net) ∙ ap (λ (m : ℕ). j.recorded m net) earlier

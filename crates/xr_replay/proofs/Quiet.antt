@@ -12,6 +12,7 @@ use Rattle.xr_design.specs.Job.{Job, at, primitive_of}
 use Rattle.xr_design.specs.Order.{arguments_of_driver, net_pins, position_of}
 use Rattle.xr_design.specs.Register.{old_pins, pins_at, updated}
 use Rattle.xr_design.specs.Replay.{Held, driven, held_at, kept, register_kept, table_of}
+use Rattle.xr_fans.proofs.Positions.{net_within}
 use Rattle.xr_replay.specs.Filled.{replayed}
 use Rattle.xr_replay.specs.Still.{AreStillBefore, IsForcedSame, IsRecordedSame, IsStillAt, LooksSame, Stays}
 use Rattle.xr_replay.specs.Sweep.{Rests}
@@ -20,7 +21,7 @@ use Rattle.xr_design.proofs.TwoBack.{old_later}
 use Rattle.xr_replay.proofs.Places.{net_there}
 use Rattle.xr_replay.proofs.Replays.{pins_same, replayed_is}
 use Rattle.xr_design.proofs.DrivenLemmas.{kept_driven}
-use Rattle.xr_replay.proofs.Writing.{net_at, net_within, place_within, step_there}
+use Rattle.xr_replay.proofs.Writing.{net_at, place_within, step_there}
 use Rattle.xr_design.proofs.Rules.{position_in}
 
 -- What a driver reads is what it read one step before.

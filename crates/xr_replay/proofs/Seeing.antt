@@ -16,8 +16,9 @@ use Rattle.xr_design.specs.Replay.{driven, seen}
 use Rattle.xr_design.specs.declared.circuit.Circuit.{Circuit}
 use Rattle.xr_design.specs.declared.design.Driver.{Driver}
 use Rattle.xr_design.specs.declared.design.Driver.TheVariants.{Input, Undriven, Constant, Copy, Cell, Register}
+use Rattle.xr_fans.proofs.Positions.{net_within}
 use Rattle.xr_replay.specs.Seen.{driven_at, kept_before}
-use Rattle.xr_replay.proofs.Writing.{net_within, place_within}
+use Rattle.xr_replay.proofs.Writing.{place_within}
 
 -- A register reads what its net kept at a later step alone.
 later_alone : (first : Bool) (start was : Value) (make : Value → Value) → (if first then start else make was) ≡ (if first then start else make (if first then X else was))

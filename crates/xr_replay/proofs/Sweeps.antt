@@ -8,7 +8,7 @@ use Rattle.std.proofs.Math.Nat.{mul-le-mul_right, mul_comm}
 use Rattle.xr_cell.specs.declared.value.Value.{Value}
 use Rattle.xr_design.specs.declared.design.Driver.{Driver}
 use Rattle.xr_design.specs.declared.design.Driver.TheVariants.{Input, Undriven, Constant, Copy, Cell, Register}
-use Rattle.xr_design.specs.Fits.{Fits, FitsDriver, StandsBefore, place_at}
+use Rattle.xr_design.specs.Fits.{Fits, place_at}
 use Rattle.xr_design.specs.Handed.{held_of}
 use Rattle.xr_design.specs.History.{HasPlace, HistoryView, IsNextStep, WriterView, held_in, net_place}
 use Rattle.xr_design.specs.Job.{Job, at, places_of, step_of}
@@ -17,15 +17,17 @@ use Rattle.xr_design.specs.Replay.{Held}
 use Rattle.xr_design.proofs.Rules.{position_in, spot}
 use Rattle.xr_replay_due.specs.Due.{HasRoomFor, NoneBetween, is_due}
 use Rattle.xr_replay_due.specs.Readers.{ReadersView, readers_of}
+use Rattle.xr_fans.specs.Nets.{driver_on, looked_at}
+use Rattle.xr_fans.specs.Readings.{AreReaders}
+use Rattle.xr_fans.proofs.Positions.{arguments_within, at_there, looked_within}
 use Rattle.xr_replay.specs.Filled.{IsFilled, replayed}
-use Rattle.xr_replay.specs.Readings.{AreReaders}
-use Rattle.xr_replay.specs.Still.{AreStillBefore, IsForcedSame, IsRecordedSame, IsStillAt, LooksSame, Stays, looked_at}
-use Rattle.xr_replay.specs.Sweep.{AreAhead, AreAwaited, AreDue, IsSwept, driver_on}
+use Rattle.xr_replay.specs.Still.{AreStillBefore, IsForcedSame, IsRecordedSame, IsStillAt, LooksSame, Stays}
+use Rattle.xr_replay.specs.Sweep.{AreAhead, AreAwaited, AreDue, IsSwept}
 use Rattle.xr_replay.proofs.Places.{net_there, place_at_position}
 use Rattle.xr_replay.proofs.Quiet.{all_two, resting_stays}
-use Rattle.xr_replay.proofs.Repeats.{at_there, step_before}
+use Rattle.xr_replay.proofs.Repeats.{step_before}
 use Rattle.xr_replay.proofs.Replays.{all_by}
-use Rattle.xr_replay.proofs.Writing.{index_within, net_within, place_within}
+use Rattle.xr_replay.proofs.Writing.{index_within, place_within}
 
 -- A net that stands at a position is the one there.
 there : (j : Job) → Fits j → (position net : ℕ) → net < j.width → position_of j.order net ≡ position → net ≡ slice_index j.order position
@@ -55,22 +57,6 @@ none_before j forced step (net ∷ nets) = (λ before. absurd (omega (arith, bef
 all_before : (j : Job) → Fits j → (forced : ℕ → Option Value) (step : ℕ) (nets : List ℕ) → AllByRecursion (λ net. position_of j.order net < j.width) nets → AreStillBefore j forced step j.width nets → AllByRecursion (IsStillAt j forced step) nets
 all_before j fits forced step nets within still =
     all_two (λ net. position_of j.order net < j.width) (λ net. position_of j.order net < j.width → IsStillAt j forced step net) (IsStillAt j forced step) nets (λ net low rests. rests low) within still
-
--- What a driver reads, and what it looks back at, are nets of the job.
-pub arguments_within : (j : Job) → Fits j → (position : ℕ) → position < j.width → AllByRecursion (λ net. net < j.width) (arguments_of_driver (driver_on j position))
-arguments_within j fits position within =
-    all_by (StandsBefore j position) (λ net. net < j.width) (arguments_of_driver (driver_on j position)) (λ net stands. stands.within) (fits.arguments position within)
-
-looked_within_of : (j : Job) (driver : Driver) → FitsDriver j.udps j.width driver → AllByRecursion (λ net. net < j.width) (looked_at driver)
-looked_within_of j Input fit = tt
-looked_within_of j Undriven fit = tt
-looked_within_of j (Constant bit) fit = tt
-looked_within_of j (Copy argument) fit = tt
-looked_within_of j (Cell table pins) fit = tt
-looked_within_of j (Register latching) fit = fit.nets
-
-pub looked_within : (j : Job) → Fits j → (position : ℕ) → position < j.width → AllByRecursion (λ net. net < j.width) (looked_at (driver_on j position))
-looked_within j fits position within = looked_within_of j (driver_on j position) (fits.pins (slice_index j.order position) (net_within j fits position within))
 
 -- Behind a position whose net is still everything rests as before.
 pub due_still : (j : Job) → Fits j → (forced : ℕ → Option Value) (step position : ℕ) (due : List ℕ) → IsStillAt j forced step (slice_index j.order position) → AreDue j forced step position due → AreDue j forced step (position + 1) due

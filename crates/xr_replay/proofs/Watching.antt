@@ -23,22 +23,22 @@ use Rattle.xr_vcd.specs.Recording.{Recording}
 use Rattle.xr_vcd_moments.specs.Changed.{AreChanged}
 use Rattle.xr_replay_due.specs.Due.{GainsAll, NoneBetween, is_due}
 use Rattle.xr_replay_due.specs.Readers.{ReadersView, readers_of}
+use Rattle.xr_fans.specs.Nets.{driver_on, looked_at}
+use Rattle.xr_fans.specs.Readings.{AreReaders}
+use Rattle.xr_fans.specs.Marks.{OnlyMore}
+use Rattle.xr_fans.proofs.Positions.{looked_within}
+use Rattle.xr_fans.proofs.Marking.{clear_before}
 use Rattle.xr_replay.specs.Fault.{HasNoFault, bound_at, no_variable}
-use Rattle.xr_replay.specs.Marks.{OnlyMore}
 use Rattle.xr_replay.specs.Read.{shown_in}
-use Rattle.xr_replay.specs.Readings.{AreReaders}
 use Rattle.xr_replay.specs.Sides.{AreSides, SettlesIn, job_beside}
-use Rattle.xr_replay.specs.Still.{looked_at}
-use Rattle.xr_replay.specs.Sweep.{driver_on}
 use Rattle.xr_replay.specs.Watched.{AgreeUnlessDue, AreAtRest, AreBitsWithin, AreDueTo, AreReadersDue, AreRecordedAsBefore, AreWatchers, IsNumberDue, ShowSame, ShowSameIn}
 use Rattle.xr_replay.specs.declared.sides.Sides.{Sides}
 use Rattle.xr_replay.specs.declared.watchers.Watchers.{Watchers}
 use Rattle.xr_replay.proofs.Compares.{last_within, net_place as place_of_net, shown_is}
-use Rattle.xr_replay.proofs.Marking.{clear_before}
 use Rattle.xr_replay.proofs.Places.{has_step, shown_at_net}
 use Rattle.xr_replay.proofs.Quiet.{all_two, later_kept}
 use Rattle.xr_replay.proofs.Replays.{pins_same}
-use Rattle.xr_replay.proofs.Sweeps.{contained, looked_within, or_true}
+use Rattle.xr_replay.proofs.Sweeps.{contained, or_true}
 
 -- What is gained is due, and what was due still is.
 pub gains_more : (old new xs : List ℕ) → GainsAll old new xs → OnlyMore old new

@@ -130,13 +130,6 @@ others_kept j fits old new step position net held less within net_is places new_
       places = rw (step_there j step position within, net_there) (ap (λ (h : HistoryView). h.places) new_is);
     }
 
--- The net at a position is one of the job's.
-pub net_within : (j : Job) → Fits j → (position : ℕ) → position < j.width → slice_index j.order position < j.width
-net_within j fits position within =
-    let all = fits.all in
-    let below = fits.ordering.below position (omega arith) in
-    omega (arith, all, below)
-
 -- Once all places have what the replay has, the history is the replay.
 pub filled_all : (j : Job) (forced : ℕ → Option Value) (history : HistoryView) → IsFilled j forced (places_of j) history → IsReplayUnder j forced history
 filled_all j forced history filled = record { places = filled.places; held = filled.held }

@@ -9,13 +9,10 @@ use Rattle.xr_design.specs.Force.{forced_by}
 use Rattle.xr_design.specs.Handed.{IsReplayUnder, held_of}
 use Rattle.xr_design.specs.History.{HistoryView}
 use Rattle.xr_design.specs.Job.{job_of}
-use Rattle.xr_design.specs.Order.{arguments_of_driver}
 use Rattle.xr_replay.specs.Filled.{IsFilled}
 use Rattle.xr_replay.specs.Forced.{NoEventOf}
-use Rattle.xr_replay_due.specs.declared.readings.Reading.{Reading}
-use Rattle.xr_replay.specs.Readings.{AppendsReadings}
-use Rattle.xr_replay.specs.Still.{IsForcedSame, IsStillAt, looked_at}
-use Rattle.xr_replay.specs.Sweep.{AreAhead, AreAwaited, AreDue, IsSwept, driver_on}
+use Rattle.xr_replay.specs.Still.{IsForcedSame, IsStillAt}
+use Rattle.xr_replay.specs.Sweep.{AreAhead, AreAwaited, AreDue, IsSwept}
 
 -- The history is the replay of the design under the events.
 abbrev pub IsReplayOf : Design → List ℕ → Stim → List Event → HistoryView → Type 0
@@ -59,10 +56,3 @@ StillAt circuit events step position = IsStillAt (job_in circuit) (forced_by (jo
 -- Each net is forced at the step as one step before, but for those of the events from one on, up to another.
 abbrev pub ForcedButFor : Circuit → List Event → ℕ → ℕ → ℕ → Type 0
 ForcedButFor circuit events from to step = (net : ℕ) → net < (job_in circuit).width → NoEventOf events from to net → IsForcedSame (job_in circuit) (forced_by (job_in circuit) events) step net
-
--- The readings of the nets that the driver at a position reads, or looks back at, come behind others.
-abbrev pub PushesArguments : Circuit → ℕ → List Reading → List Reading → Type 0
-PushesArguments circuit position old new = AppendsReadings old new position (arguments_of_driver (driver_on (job_in circuit) position))
-
-abbrev pub PushesLookedAt : Circuit → ℕ → List Reading → List Reading → Type 0
-PushesLookedAt circuit position old new = AppendsReadings old new position (looked_at (driver_on (job_in circuit) position))

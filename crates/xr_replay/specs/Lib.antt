@@ -5,7 +5,6 @@ pub mod Forced
 pub mod Going
 pub mod Marks
 pub mod Read
-pub mod Readings
 pub mod Seen
 pub mod Sides
 pub mod Still

@@ -1,5 +1,5 @@
 -- Nets that show what they showed one step before, and what a driver makes of them.
-use Rattle.std.specs.Prelude.{◌≡◌, ℕ, ◌-◌, ◌/◌, ◌<◌, Option, List, []}
+use Rattle.std.specs.Prelude.{◌≡◌, ℕ, ◌-◌, ◌/◌, ◌<◌, Option, List}
 use Rattle.std.specs.List.{AllByRecursion}
 use Rattle.xr_cell.specs.declared.value.Value.{Value}
 use Rattle.xr_design.specs.Job.{Job, at}
@@ -32,15 +32,6 @@ IsRecordedSame j step net (Constant bit) = Unit {0}
 IsRecordedSame j step net (Copy argument) = Unit {0}
 IsRecordedSame j step net (Cell table pins) = Unit {0}
 IsRecordedSame j step net (Register latching) = Unit {0}
-
--- the nets that a register looks back at
-abbrev pub looked_at : Driver → List ℕ
-looked_at Input = []
-looked_at Undriven = []
-looked_at (Constant bit) = []
-looked_at (Copy argument) = []
-looked_at (Cell table pins) = []
-looked_at (Register latching) = net_pins latching.pins
 
 -- A register looks back at nets that were still one step before.
 abbrev pub LooksSame : Job → (ℕ → Option Value) → ℕ → Driver → Type 0

@@ -5,14 +5,10 @@ use Rattle.xr_design.specs.Handed.{held_of}
 use Rattle.xr_design.specs.History.{HistoryView}
 use Rattle.xr_design.specs.Job.{Job}
 use Rattle.xr_design.specs.Order.{arguments_of_driver}
-use Rattle.xr_design.specs.declared.design.Driver.{Driver}
 use Rattle.xr_replay_due.specs.Due.{HasRoomFor, is_due}
+use Rattle.xr_fans.specs.Nets.{driver_on, looked_at}
 use Rattle.xr_replay.specs.Filled.{IsFilled, replayed}
-use Rattle.xr_replay.specs.Still.{AreStillBefore, IsForcedSame, IsRecordedSame, LooksSame, looked_at}
-
--- the driver at a position of the order
-abbrev pub driver_on : Job → ℕ → Driver
-driver_on j position = j.driver (slice_index j.order position)
+use Rattle.xr_replay.specs.Still.{AreStillBefore, IsForcedSame, IsRecordedSame, LooksSame}
 
 -- A net rests where it is forced, recorded and looks back as one step before, and those of the nets that it reads that
 -- stand before a position are still.

@@ -8,11 +8,11 @@ use Rattle.xr_vcd.specs.Recording.{Recording, value_at}
 use Rattle.xr_replay_due.specs.Due.{is_due}
 use Rattle.xr_replay_due.specs.Readers.{IsTable, ReadersView, readers_of}
 use Rattle.xr_replay_due.specs.declared.readings.Reading.{Reading}
+use Rattle.xr_fans.specs.Nets.{looked_at}
+use Rattle.xr_fans.specs.Readings.{AreReaders, readings_of}
 use Rattle.xr_replay.specs.Fault.{bound_at}
 use Rattle.xr_replay.specs.Read.{shown_in}
-use Rattle.xr_replay.specs.Readings.{AreReaders, readings_of}
 use Rattle.xr_replay.specs.Sides.{AgreesBeside, SettlesIn, job_beside}
-use Rattle.xr_replay.specs.Still.{looked_at}
 use Rattle.xr_replay.specs.declared.sides.Sides.{Sides}
 use Rattle.xr_replay.specs.declared.watchers.Watchers.{Watchers}
 

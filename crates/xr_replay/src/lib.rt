@@ -5,7 +5,6 @@
 mod computed;
 mod differ;
 mod driven;
-mod fans;
 mod forced;
 mod held;
 mod marked;
@@ -17,17 +16,13 @@ mod sides;
 mod steps;
 mod sweep;
 mod values;
-mod waiting;
 mod watchers;
 
 pub use differ::{Differ, DifferErr};
-pub use fans::Fans;
 pub use forced::take_events;
 pub use marked::mark_changes;
-pub use marks::{mark_events, mark_inputs};
+pub use marks::mark_events;
 pub use moments::compare;
 pub use steps::replay;
-pub use sweep::mark_readers;
 pub use values::is_same;
-pub use waiting::Waiting;
 pub use watchers::bit_readers;

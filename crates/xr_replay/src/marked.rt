@@ -1,19 +1,19 @@
 //! What is due in a moment: what may be otherwise in it than in the moment before.
 
 ghost use Rattle.std.specs.Prelude.{◌≡◌, ℕ, ◌-◌, ◌*◌, ◌<◌, ◌≤◌, ◌^◌, IfOk, None, Some, true, length, slice_index_or};
+ghost use Rattle.xr_fans.specs.Marks.{OnlyMore};
 ghost use Rattle.xr_ledger.specs.Change.{AreInWidth};
-ghost use Rattle.xr_replay.specs.Marks.{OnlyMore};
 ghost use Rattle.xr_replay.specs.Sides.{AreSides, job_beside};
 ghost use Rattle.xr_replay.specs.Watched.{AreAtRest, AreDueTo, AreRecordedAsBefore, FitsWatchers, IsNumberDue, ShowSame, ShowSameIn};
 ghost use Rattle.xr_replay_due.specs.Due.{HasRoom, HasRoomFor};
 ghost use Rattle.xr_replay_due.specs.Readers.{IsTable};
 
 use crate::sides::{Sides, last_step_of};
-use crate::sweep::mark_all;
 use crate::watchers::Watchers;
 use std::alloc::Global;
 use xr_base::Memory;
 use xr_design::{Change, width_of};
+use xr_fans::mark_all;
 use xr_replay_due::{Due, Readers};
 
 /// The positions of the registers that are due, and the numbers of the bound variables.

@@ -8,21 +8,20 @@ ghost use Rattle.xr_design.specs.Circuit.{job_in, CircuitFits, PartsFit};
 ghost use Rattle.xr_design.specs.Force.{AreEvents};
 ghost use Rattle.xr_design.specs.Handed.{HasPlaces};
 ghost use Rattle.xr_design.specs.Job.{job_of};
+ghost use Rattle.xr_fans.specs.Readings.{AreFans};
 ghost use Rattle.xr_replay.specs.Forced.{AreOrdered, HasForced, HasTaken};
 ghost use Rattle.xr_replay.specs.Going.{AwaitedIn, FilledBefore, ForcedButFor, IsReplayIn, IsReplayOf};
-ghost use Rattle.xr_replay.specs.Readings.{AreFans};
 ghost use Rattle.xr_replay_due.specs.Due.{HasRoomFor};
 
 use crate::computed::fill_step;
-use crate::fans::Fans;
 use crate::forced::take_events;
-use crate::marks::{mark_events, mark_inputs};
+use crate::marks::mark_events;
 use crate::sweep::sweep;
-use crate::waiting::Waiting;
 use std::alloc::Global;
 use xr_base::Memory;
 use xr_cell::Value;
 use xr_design::{Circuit, Design, Event, Forces, History, HistoryWriter, Order, Stim, width_of};
+use xr_fans::{Fans, Waiting, mark_inputs};
 
 /// What each place shows and keeps under forces. Takes eight bytes for each place that has others than its net has a
 /// step before, eight for each step, and some 40 for each net and each pin.

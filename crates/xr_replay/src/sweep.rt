@@ -3,23 +3,20 @@
 //! A net that shows another value than one step before makes the copies and cells that read it due behind it, and the
 //! registers that look back at it one step later.
 
-ghost use Rattle.std.specs.Prelude.{◌≡◌, ◌+◌, ◌*◌, ◌<◌, OnOk, true, false, length};
+ghost use Rattle.std.specs.Prelude.{◌≡◌, ◌+◌, ◌*◌, ◌<◌, OnOk, true, false};
 ghost use Rattle.xr_design.specs.Circuit.{job_in, CircuitFits};
+ghost use Rattle.xr_fans.specs.Readings.{AreFans};
 ghost use Rattle.xr_replay.specs.Forced.{HasForced};
 ghost use Rattle.xr_replay.specs.Going.{AheadTo, DueFrom, FilledWith, StillAt, SweptTo};
-ghost use Rattle.xr_replay.specs.Readings.{AreFans};
-ghost use Rattle.xr_replay_due.specs.Due.{GainsAll, HasRoomFor};
-ghost use Rattle.xr_replay_due.specs.Readers.{IsTable, readers_of};
+ghost use Rattle.xr_replay_due.specs.Due.{HasRoomFor};
 
 use crate::computed::compute_place;
-use crate::fans::Fans;
 use crate::held::value_so_far;
 use crate::values::is_same;
-use crate::waiting::Waiting;
 use xr_base::Memory;
 use xr_cell::Value;
 use xr_design::{Circuit, Event, HistoryWriter, width_of};
-use xr_replay_due::{Due, Readers};
+use xr_fans::{Fans, Waiting, mark_readers};
 
 /// The places of the step under way, whose row is that of the step before.
 pub fn sweep(
@@ -110,32 +107,4 @@ fn stays_at(
     let shown = value_so_far(circuit, writer, step, net);
     let before = value_so_far(circuit, writer, step - 1, net);
     is_same(shown, before)
-}
-
-/// The copies and cells that read a net become due, and the registers that look back at it one step later. Takes no
-/// memory.
-pub fn mark_readers(circuit: &Circuit<'_>, fans: &Fans, net: u32, waiting: &mut Waiting)
-    requires fans { AreFans (job_in circuit.now) fans.now }
-    requires net { net < (job_in circuit.now).width }
-    requires due_room { HasRoomFor waiting.old.due (job_in circuit.now).width }
-    requires ahead_room { HasRoomFor waiting.old.ahead (job_in circuit.now).width }
-    ensures due_long { length waiting.new.due ≡ length waiting.old.due }
-    ensures ahead_long { length waiting.new.ahead ≡ length waiting.old.ahead }
-    ensures due { GainsAll waiting.old.due waiting.new.due (readers_of fans.now.cells net) }
-    ensures ahead { GainsAll waiting.old.ahead waiting.new.ahead (readers_of fans.now.registers net) }
-{
-    let nets = width_of(circuit);
-    mark_all(&fans.cells, net as usize, nets, &mut waiting.due);
-    mark_all(&fans.registers, net as usize, nets, &mut waiting.ahead);
-}
-
-/// The readers of a net, of so many, become due. Takes no memory.
-pub fn mark_all(readers: &Readers, net: usize, nets: usize, due: &mut Due)
-    requires table { IsTable nets readers.now }
-    requires net { net < nets }
-    requires room { HasRoomFor due.old nets }
-    ensures long { length due.new ≡ length due.old }
-    ensures gains { GainsAll due.old due.new (readers_of readers.now net) }
-{
-    due.insert_all(readers.of(net, nets));
 }

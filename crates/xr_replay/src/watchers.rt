@@ -1,18 +1,18 @@
 //! What has to be looked at anew in a moment where a net is written or a variable is recorded.
 
 ghost use Rattle.std.specs.Prelude.{◌<◌, ◌≤◌, ◌^◌, All, IfOk, IfSome, OnOk, length};
+ghost use Rattle.xr_fans.specs.Readings.{AppendsReadings};
 ghost use Rattle.xr_match.specs.Binding.{FitsBinding};
 ghost use Rattle.xr_match.specs.Bounds.{IsOf};
-ghost use Rattle.xr_replay.specs.Readings.{AppendsReadings};
 ghost use Rattle.xr_replay.specs.Sides.{AreSides};
 ghost use Rattle.xr_replay.specs.Watched.{AreBitReaders, AreBitsWithin, AreNumbers, AreWatchers};
 ghost use Rattle.xr_replay_due.specs.Readers.{IsTable};
 
-use crate::fans::{push_net, register_readers};
 use crate::sides::Sides;
 use std::alloc::Global;
 use xr_base::Memory;
 use xr_design::width_of;
+use xr_fans::{push_net, register_readers};
 use xr_match::{Binding, Bound};
 use xr_replay_due::{Readers, Reading};
 use xr_vcd::Recording;

@@ -53,3 +53,12 @@ total_more counts Certain X = omega arith
 total_more counts Certain Z = omega arith
 total_more counts Unknown shown = omega arith
 total_more counts Undecided shown = omega arith
+
+-- Each of the first places is counted.
+pub total_below : (c : Contents) (n : ℕ) → total (counts_below c n) ≡ n
+total_below c zero = refl
+total_below c (suc n) =
+    let more = counts_more c n in
+    ap (λ (m : ℕ). total (counts_below c m)) (sym (add-one n)) ∙ ap total more
+    ∙ total_more (counts_below c n) (written_at c.written n).mark (shown_in c n)
+    ∙ ap (λ (m : ℕ). m + 1) (total_below c n) ∙ add-one n

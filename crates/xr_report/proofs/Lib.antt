@@ -1,3 +1,4 @@
 -- Lemmas of the report.
 mod Counting
 mod Reach
+pub mod Steps

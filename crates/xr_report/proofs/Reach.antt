@@ -1,5 +1,5 @@
 -- Places of a wave that its history has too.
-use Rattle.std.proofs.Common.{◌≡◌, ℕ, ◌*◌, ◌<◌, length, sym, ap, ◌∙◌, subst, arith}
+use Rattle.std.proofs.Common.{ℕ, ◌*◌, ◌<◌, length, arith}
 use Rattle.xr_design.specs.Filling.{IsPlace}
 use Rattle.xr_design.specs.Fits.{Fits, place_at}
 use Rattle.xr_design.specs.History.{HasPlace}
@@ -25,7 +25,7 @@ there c wave place is less = record {
 }
 
 -- The place of a number that is written is there.
-there_at : (c : Contents) → IsWave c → (number : ℕ) → number < length c.written → IsThere c (place_at (job c) number)
+pub there_at : (c : Contents) → IsWave c → (number : ℕ) → number < length c.written → IsThere c (place_at (job c) number)
 there_at c wave number less =
     let j = job c in
     let fits = wave.fits.fits_job in
@@ -33,13 +33,6 @@ there_at c wave number less =
     let within : number < places_of j = omega (arith, room, less) in
     there c wave (place_at j number) (is_place_at j number fits.ordering fits.all within)
     (rw (number_of_place_at j number fits.ordering fits.all within) less)
-
--- So is the place that has the number in the same job.
-pub there_as : (c : Contents) → IsWave c → (j : Job) → j ≡ job c → (number : ℕ) → number < length c.written
-    → (place : Place) → place ≡ place_at j number → (place ≡ place_at (job c) number) × IsThere c place
-there_as c wave j same number less place is =
-    let at : place ≡ place_at (job c) number = is ∙ ap (λ (i : Job). place_at i number) same in
-    (at, subst (IsThere c) (sym at) (there_at c wave number less))
 
 -- The last step of a moment is one of the job's.
 last_within : (j : Job) → Fits j → (moment : ℕ) → moment < j.moments → last_step j moment < j.moments * j.rounds

@@ -1,5 +1,5 @@
--- Steps of which a wave has every place, and rows of its history at them.
-use Rattle.std.specs.Prelude.{ℕ, ◌≡◌, ◌<◌, length}
+-- Steps of which a wave has places, and rows of its history at them.
+use Rattle.std.specs.Prelude.{ℕ, ◌≡◌, ◌+◌, ◌*◌, ◌<◌, ◌≤◌, length}
 use Rattle.xr_design.specs.History.{HasPlace}
 use Rattle.xr_design.specs.Row.{RowView}
 use Rattle.xr_design.specs.Settled.{last_step}
@@ -18,3 +18,10 @@ HasMoments c = (moment : ℕ) → moment < length c.stim.times → HasStep c (la
 pub record IsRowOf (c : Contents) (moment : ℕ) (row : RowView) : Type 0 where
   pub history : row.history ≡ c.history
   pub step : row.step ≡ last_step (job c) moment
+
+-- So many places from a number on are written, and are the first ones of the step of a row of the history.
+pub record IsPartOfStep (c : Contents) (row : RowView) (first many : ℕ) : Type 0 where
+  pub history : row.history ≡ c.history
+  pub first_of : first ≡ row.step * length c.design.nets
+  pub few : many ≤ length c.design.nets
+  pub written : first + many ≤ length c.written

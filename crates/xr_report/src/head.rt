@@ -42,10 +42,10 @@ fn put_sizes(text: &mut Vec<u8>, wave: &Wave<'_>) -> Result<(), Memory>
 fn put_counts(text: &mut Vec<u8>, counts: Counts) -> Result<(), Memory>
     ensures { OnOk result (text.new.items ≡ text.old.items ++ spec.counts_line counts) }
 {
-    put_count(text, b"known ", counts.known as u64)?;
-    put_count(text, b" repaired ", counts.repaired as u64)?;
-    put_count(text, b" unknown ", counts.unknown as u64)?;
-    put_count(text, b" undecided ", counts.undecided as u64)?;
+    put_count(text, b"known ", counts.known)?;
+    put_count(text, b" repaired ", counts.repaired)?;
+    put_count(text, b" unknown ", counts.unknown)?;
+    put_count(text, b" undecided ", counts.undecided)?;
     put(text, b"\n")
 }
 

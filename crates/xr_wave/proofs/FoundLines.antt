@@ -1,5 +1,6 @@
 -- Lines in place order, and how the line of a place is found in them.
-use Rattle.std.proofs.Common.{◌≡◌, ℕ, zero, suc, ◌+◌, ◌<◌, ◌≤◌, None, List, [], ◌∷◌, length, sym, refl, ◌∙◌, arith, subst, slice_index_or, ⊎_elim}
+use Rattle.std.proofs.Common.{◌≡◌, ℕ, zero, suc, ◌+◌, ◌<◌, ◌≤◌, None, List, [], ◌∷◌, length, sym, refl, ◌∙◌, arith}
+use Rattle.std.proofs.Common.{subst, slice_index_or, ⊎_elim}
 use Rattle.std.specs.Prelude.{slice_index}
 use Rattle.std.specs.List.{AllByRecursion}
 use Rattle.std.proofs.lemmas.Bool.{cases_eq, ne_eqb}
@@ -36,7 +37,8 @@ lines_in_order c wave = record { places = filling.places; ascending = filling.as
         (picked_rises (λ place. is_line (class_of (job c) (certain c.written) place)) (length c.written)))
 
 pub numbers_long : (j : Job) (lines : List ALine) → length (numbers_of j lines) ≡ length lines
-numbers_long j lines = length-map (places_of_lines lines) (number_of j) ∙ length-map lines (λ (line : ALine). line.place)
+numbers_long j lines = length-map (places_of_lines lines) (number_of j)
+    ∙ length-map lines (λ (line : ALine). line.place)
 
 -- A line of them is of a place of the job, whose number stands where the line does.
 pub place_here : (j : Job) (lines : List ALine) (i : ℕ) (d : ALine) → i < length lines

@@ -1,11 +1,11 @@
 -- Lemmas on waves.
-mod AgreeingValues
 mod FoundLines
+mod GoingRuns
 mod LineGrowth
 mod NextClass
 mod OneWave
 mod RootPlaces
 mod ShownPlaces
-mod StepsRead
 mod WaveGrowth
+mod WalkedWaves
 mod Ways

@@ -1,5 +1,6 @@
 -- A Line place that is written by its line.
-use Rattle.std.proofs.Common.{◌≡◌, Bool, true, false, Some, None, List, [], ◌∷◌, length, refl, sym, ◌∙◌, ap, subst, if◌then◌else◌}
+use Rattle.std.proofs.Common.{◌≡◌, Bool, true, false, Some, None, List, [], ◌∷◌, length, refl, sym, ◌∙◌, ap, subst}
+use Rattle.std.proofs.Common.{if◌then◌else◌}
 use Rattle.std.specs.Prelude.{nat_lt, ℤ}
 use Rattle.xr_design.specs.declared.place.Place.{Place}
 use Rattle.xr_design.specs.declared.waveform.Written.{Written}
@@ -18,7 +19,8 @@ use Rattle.xr_model.specs.declared.line.Line.{Line as ALine}
 use Rattle.xr_model.proofs.LinesByPlace.{body_one}
 use Rattle.xr_model.proofs.WaveInvariant.{yields_grown}
 use Rattle.xr_wave.specs.Contents.{Contents, IsWave, class_in, class_or_done, job, next_number, shown_in}
-use Rattle.xr_wave.specs.Token.{BudgetToken, IsLineNext, LineAgrees, LineHolds, LineYields, PairToken, SettledToken, body_of, budget_line, pair_line, settled_line, written_by_line}
+use Rattle.xr_wave.specs.Token.{BudgetToken, IsLineNext, LineAgrees, LineHolds, LineYields, PairToken, SettledToken}
+use Rattle.xr_wave.specs.Token.{body_of, budget_line, pair_line, settled_line, written_by_line}
 use Rattle.xr_wave.specs.declared.token.How.{How}
 use Rattle.xr_wave.specs.declared.token.How.TheVariants.{Enumerated, Refuted}
 

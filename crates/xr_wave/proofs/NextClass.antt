@@ -29,7 +29,8 @@ by_test false there class is = cc
 pub next_some : (j : Job) (written : List Written) (class : ClassByNumber) → next_class j written ≡ Some class
     → (length written < places_of j) × (class_of j (certain written) (length written) ≡ class)
 next_some j written class is =
-    let parts = by_test (nat_lt (length written) (places_of j)) (class_of j (certain written) (length written)) class is in
+    let parts = by_test (nat_lt (length written) (places_of j)) (class_of j (certain written) (length written)) class
+    is in
     (ltb-true (length written) (places_of j) parts.0, parts.1)
 
 from_below : (j : Job) → Fits j → (c : ℕ → Value) (place : ℕ) → place < places_of j → (class : ClassByNumber)

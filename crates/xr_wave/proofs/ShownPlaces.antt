@@ -1,5 +1,6 @@
 -- A history that is filled with what a wave shows, place by place.
-use Rattle.std.proofs.Common.{◌≡◌, ◌≢◌, ℕ, List, ◌+◌, ◌*◌, ◌/◌, ◌<◌, length, sym, refl, ap, ◌∙◌, arith, subst, ⊎_elim, get_or, set, get_or-set_same, get_or-set_other, length-set}
+use Rattle.std.proofs.Common.{◌≡◌, ◌≢◌, ℕ, List, ◌+◌, ◌*◌, ◌/◌, ◌<◌, length, sym, refl, ap, ◌∙◌, arith, subst, ⊎_elim}
+use Rattle.std.proofs.Common.{get_or, set, get_or-set_same, get_or-set_other, length-set}
 use Rattle.std.specs.Prelude.{slice_index}
 use Rattle.std.proofs.Math.Nat.{div-lt_iff_lt-mul}
 use Rattle.std.proofs.lemmas.Bool.{cases_eq}
@@ -69,7 +70,11 @@ pub shows_more : (c : Contents) (n : ℕ) (history after : HistoryView) → IsWa
     → after ≡ record history { places = set history.places (index_in history (place_at (job c) n)) (held_from c n) }
     → ShowsBelow c (n + 1) after
 shows_more c n history after wave within shows is = subst (ShowsBelow c (n + 1)) (sym is) (record {
-  places = record { nets = shows.places.nets; all = length-set history.places index (held_from c n) ∙ shows.places.all };
+  places = record {
+    nets = shows.places.nets;
+    all = length-set history.places index (held_from c n)
+        ∙ shows.places.all;
+  };
   held = each;
 })
   where
@@ -181,7 +186,10 @@ pub shows_all : (c : Contents) (history : HistoryView) → IsWave c → IsFinish
     → ShowsBelow c (places_of (job c)) history → ShowsWave c history
 shows_all c history wave finished shows = record {
   places = shows.places;
-  held = λ place written. subst (λ (p : Place). held_in history p ≡ record { shown = (written_of c place).value; kept = X })
+  held = λ place written. subst (λ (p : Place). held_in history p ≡ record {
+    shown = (written_of c place).value;
+    kept = X;
+  })
       (place_back (job c) wave.fits.fits_job place written.within)
       (shows.held (number_of (job c) place) (let less = written.written in omega (arith, finished, less)));
 }

@@ -1,5 +1,6 @@
 -- What is always true of a wave stays true as it grows.
-use Rattle.std.proofs.Common.{◌≡◌, ℕ, ◌<◌, Bool, true, false, Some, None, List, [], ◌∷◌, ◌++◌, length, refl, sym, subst, if◌then◌else◌}
+use Rattle.std.proofs.Common.{◌≡◌, ℕ, ◌<◌, Bool, true, false, Some, None, List, [], ◌∷◌, ◌++◌, length, refl, sym, subst}
+use Rattle.std.proofs.Common.{if◌then◌else◌}
 use Rattle.std.specs.Prelude.{nat_lt}
 use Rattle.std.proofs.lemmas.Bool.{ltb-true}
 use Rattle.xr_design.specs.declared.waveform.Written.{Written}
@@ -10,7 +11,7 @@ use Rattle.xr_model.specs.declared.class.ClassByNumber.TheVariants.{Local, Free,
 use Rattle.xr_model.specs.declared.line.Line.{Line as ALine}
 use Rattle.xr_model.proofs.WaveInvariant.{grown}
 use Rattle.xr_wave.specs.Advance.{Contradicts, IsPlain, plain_written}
-use Rattle.xr_wave.proofs.AgreeingValues.{sound_agrees}
+use Rattle.xr_quiet.proofs.SoundQuiet.{sound_agrees}
 use Rattle.xr_wave_bytes.specs.Kept.{ValuesAgree}
 use Rattle.xr_wave.specs.Contents.{Contents, IsWave, class_in, class_or_done, job, next_number, next_seen, shown_in}
 

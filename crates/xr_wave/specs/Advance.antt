@@ -30,7 +30,8 @@ with_written c written = record c { written = c.written ++ written ∷ [] }
 abbrev pub Contradicts : Contents → Written → Type 0
 Contradicts c written = IsOptimistic written.mark written.value (shown_in c (next_number c))
 
--- What is reported then: the place, what the history shows there, what is found, x where that isn't certain, and the lines.
+-- What is reported then: the place, what the history shows there, what is found, x where that isn't certain, and the
+-- lines.
 pub record Reports (c : Contents) (written : Written) (optimistic : Optimistic) : Type 0 where
   pub place_is : optimistic.place ≡ place_at (job c) (next_number c)
   pub replayed_is : optimistic.replayed ≡ shown_in c (next_number c)

@@ -10,7 +10,7 @@ use Rattle.xr_design.specs.Filling.{IsPlace}
 use Rattle.xr_design.specs.Fits.{place_at}
 use Rattle.xr_design.specs.Handed.{IsHandedIn, shown_of}
 use Rattle.xr_design.specs.History.{HistoryView}
-use Rattle.xr_design.specs.Job.{Job, job_of, number_of, places_of, step_of}
+use Rattle.xr_design.specs.Job.{Job, job_of, number_of, places_of}
 use Rattle.xr_design.specs.Rule.{rule}
 use Rattle.xr_design.specs.Waveform.{certain, written_at}
 use Rattle.xr_model.specs.Assignment.{argument_places}
@@ -23,6 +23,8 @@ use Rattle.xr_model.specs.declared.class.ClassByNumber.{ClassByNumber}
 use Rattle.xr_model.specs.declared.class.ClassByNumber.TheVariants.{Local, Free, Carried, Line}
 use Rattle.xr_model.specs.declared.line.Line.{Line as ALine}
 use Rattle.xr_wave_bytes.specs.View.{WaveformView, next_class}
+use Rattle.xr_wave_due.specs.Walk.{IsWalk}
+use Rattle.xr_wave_due.specs.declared.walk.Walk.{Walk}
 
 -- The circuit, the history that was handed in, how long the log of a licence is, the waveform of the places that are
 -- written, and the lines.
@@ -71,19 +73,19 @@ pub record IsLimit (limit : ℕ) : Type 0 where
   pub some : 0 < limit
   pub few : limit ≤ 100000
 
--- It is of a circuit that fits and has at most 2^27 places, a history of its job and a limit; it is sound, and its lines
--- yield it.
+-- It is of a circuit that fits and has at most 2^40 places, a history of its job and a limit; it is sound, and its
+-- lines yield it.
 pub record IsWave (c : Contents) : Type 0 where
   pub fits : PartsFit c.design c.order c.stim
-  pub few : places_of (job c) ≤ 2 ^ 27
+  pub few : places_of (job c) ≤ 2 ^ 40
   pub handed : IsHandedIn (job c) c.history
   pub limited : IsLimit c.limit
   pub holds : Holds (job c) c.limit (shown_in c) c.written c.lines
 
--- The same of a wave whose history is read at the step of the next place, where there is one.
-pub record IsWaveAt (c : Contents) (step : ℕ) : Type 0 where
+-- The same of a wave beside which a walk knows what is due ahead.
+pub record IsWaveAt (c : Contents) (beside : Walk) : Type 0 where
   pub wave : IsWave c
-  pub reads : length c.written < places_of (job c) → step ≡ step_of (job c) (length c.written)
+  pub walk : IsWalk (job c) c.written beside
 
 -- The number of the next place, and the class of a place.
 abbrev pub next_number : Contents → ℕ

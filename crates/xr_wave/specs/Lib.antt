@@ -1,6 +1,7 @@
 -- Definitions of waves.
 pub mod Contents
 pub mod Advance
+pub mod Kept
 pub mod Token
 pub mod Pairs
 pub mod Shown

@@ -5,13 +5,14 @@ ghost use Rattle.xr_design.specs.declared.waveform.Mark.TheVariants.{Certain};
 ghost use Rattle.xr_design.specs.Waveform.{written_at};
 ghost use Rattle.xr_model.specs.Sound.{IsOptimistic};
 ghost use Rattle.xr_model.specs.Yields.{carried_of, certain_bit, flipped_value};
-ghost use Rattle.xr_wave.specs.Advance.{Contradicts, IsAdvanced, IsObjected, IsPlain, Reports, plain_written, with_written};
+ghost use Rattle.xr_wave.specs.Advance.{Contradicts, GoesOn, IsAdvanced, IsObjected, IsPlain, Reports, plain_written};
+ghost use Rattle.xr_wave.specs.Advance.{with_written};
 ghost use Rattle.xr_wave.specs.Contents.{IsWave, next_number, next_seen, shown_in};
 ghost use Rattle.xr_wave.specs.Token.{HasNext};
 
 use crate::wave::Wave;
 use xr_cell::Value;
-use xr_design::{Mark, Place, Written};
+use xr_design::{Mark, Place, Written, count_places};
 use xr_model::{ClassByNumber, Line};
 use xr_wave_bytes::value_if_certain;
 
@@ -36,6 +37,17 @@ impl<'a> Wave<'a> {
         ensures optimistic { IsErr result ↔ Contradicts self.entry (plain_written self.entry) }
         ensures reported { IfErr result (λ o. Reports self.entry (plain_written self.entry) o) }
     {
+        let wave = self.write_plain()?;
+        Ok(wave.find_next())
+    }
+
+    /// The same, without a look at the place behind it.
+    fn write_plain(self) -> Result<Wave<'a>, Optimistic>
+        requires plain { IsPlain (next_seen self) }
+        ensures ok { IfOk result (λ w. w ≡ with_written self.entry (plain_written self.entry)) }
+        ensures optimistic { IsErr result ↔ Contradicts self.entry (plain_written self.entry) }
+        ensures reported { IfErr result (λ o. Reports self.entry (plain_written self.entry) o) }
+    {
         let shown = self.shown_next();
         let written = next_written(&self, shown);
         if is_optimistic(written, shown) {
@@ -44,17 +56,48 @@ impl<'a> Wave<'a> {
         Ok(self.write(written))
     }
 
-    /// Writes each place up to the next Line place, or to the end, as `advance` does. Takes no memory.
+    /// Writes each place up to the next Line place, or to the end, as `advance` does. Only those are looked at that may
+    /// have something else than their net's place a step before. Takes no memory.
     pub fn advance_to_line(self) -> Result<Wave<'a>, Optimistic>
         ensures ok { IfOk result (IsAdvanced self.entry) }
         ensures reported { IfErr result (IsObjected self.entry) }
     {
-        let mut wave = self;
+        let mut wave = self.skip();
         'places: while is_plain_next(&wave) {
-            wave = wave.advance()?;
+            let written = wave.write_plain()?;
+            wave = written.skip();
         }
         Ok(wave)
     }
+
+    /// Writes the places up to the next one that is due, and finds the class of that.
+    fn skip(self) -> Wave<'a>
+        ensures { GoesOn self.entry result }
+    {
+        let mut wave = self;
+        let mut more = has_next(&wave);
+        'runs: while more {
+            let (next, some) = wave.skip_run();
+            wave = next;
+            more = has_more(&wave, some);
+        }
+        wave.find_next()
+    }
+}
+
+/// Whether there is a next place.
+fn has_next(wave: &Wave<'_>) -> bool
+    ensures { IsTrue result ↔ HasNext wave.now }
+{
+    wave.count() < count_places(&wave.circuit())
+}
+
+/// Whether there is one, where the last run had any.
+fn has_more(wave: &Wave<'_>, some: bool) -> bool
+    ensures some { IsTrue result → IsTrue some }
+    ensures next { IsTrue result → HasNext wave.now }
+{
+    some && has_next(wave)
 }
 
 /// Whether the class of the next place says what it is.

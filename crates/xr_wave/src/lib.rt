@@ -5,6 +5,7 @@
 
 mod advance;
 mod arguments;
+mod kept;
 mod laws;
 mod settle;
 mod shown;

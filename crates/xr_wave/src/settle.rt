@@ -2,7 +2,8 @@
 
 ghost use Rattle.std.specs.Prelude.{◌≡◌, ◌↔◌, IsTrue, IfOk, IfErr};
 ghost use Rattle.xr_wave.specs.Advance.{Reports};
-ghost use Rattle.xr_wave.specs.Token.{HasNext, IsLineNext, LineAgrees, LineContradicts, LineHolds, LineYields, budget_line, pair_line, settled_line, with_line, written_by_line};
+ghost use Rattle.xr_wave.specs.Token.{HasNext, IsLineNext, LineAgrees, LineContradicts, LineHolds, LineYields};
+ghost use Rattle.xr_wave.specs.Token.{budget_line, pair_line, settled_line, with_line, written_by_line};
 
 use crate::advance::{Optimistic, certain_written, is_optimistic, optimistic_of};
 use crate::token::{Budget, Pair, Settled};

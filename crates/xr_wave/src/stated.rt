@@ -6,7 +6,8 @@ ghost use Rattle.xr_design.specs.Filling.{IsPlace};
 ghost use Rattle.xr_model.specs.Class.{flipped};
 ghost use Rattle.xr_model.specs.Stated.{body_at, pair_of, stated_in as stated_in_body};
 ghost use Rattle.xr_wave.specs.Contents.{IsWave, IsWritten, job};
-ghost use Rattle.xr_wave.specs.Pairs.{AreInOrder, AreParted, AreStated, GiveBoth, IsRootOf, IsUnknown, root_in, stated_at_root, stated_in};
+ghost use Rattle.xr_wave.specs.Pairs.{AreInOrder, AreParted, AreStated, GiveBoth, IsRootOf, IsUnknown, root_in};
+ghost use Rattle.xr_wave.specs.Pairs.{stated_at_root, stated_in};
 
 use crate::wave::Wave;
 use std::alloc::Global;

@@ -2,7 +2,8 @@
 
 ghost use Rattle.std.specs.Prelude.{◌≡◌, length};
 ghost use Rattle.xr_model.specs.declared.line.Body.TheVariants.{Pair as PairBody, Undecided as BudgetBody};
-ghost use Rattle.xr_wave.specs.Token.{HasNext, HoldsNext, IsBudget, IsPair, IsSettling, LineHolds, bit_of, body_of, budget_line, pair_line, settled_line};
+ghost use Rattle.xr_wave.specs.Token.{HasNext, HoldsNext, IsBudget, IsPair, IsSettling, LineHolds, bit_of, body_of};
+ghost use Rattle.xr_wave.specs.Token.{budget_line, pair_line, settled_line};
 
 use crate::wave::Wave;
 use std::marker::Model;

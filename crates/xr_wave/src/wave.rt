@@ -1,21 +1,24 @@
 //! A waveform that grows by one place at a time.
 
-ghost use Rattle.std.specs.Prelude.{◌≡◌, ◌-◌, ◌<◌, ◌≤◌, ◌^◌, ◌++◌, ◌∷◌, [], IfOk, IfErr, length, map};
+ghost use Rattle.std.specs.Prelude.{◌≡◌, ◌<◌, ◌≤◌, ◌++◌, ◌∷◌, [], IfOk, IfErr, IsTrue, length, map};
 ghost use Rattle.xr_cell.specs.declared.value.Value.{Value as AnyValue};
 ghost use Rattle.xr_design.specs.Circuit.{PartsFit, CircuitFits, job_in};
 ghost use Rattle.xr_design.specs.Fits.{place_at};
 ghost use Rattle.xr_design.specs.Handed.{IsHandedIn};
-ghost use Rattle.xr_design.specs.Job.{job_of, number_of, places_of, step_of};
+ghost use Rattle.xr_design.specs.Job.{job_of, number_of, places_of};
 ghost use Rattle.xr_design.specs.Waveform.{written_at};
 ghost use Rattle.xr_model.specs.Class.{class_seen};
 ghost use Rattle.xr_model.specs.Growth.{NextHolds};
 ghost use Rattle.xr_model.specs.Sound.{Sound};
 ghost use Rattle.xr_model.specs.Yields.{Yields};
-ghost use Rattle.xr_wave.specs.Advance.{with_written};
-ghost use Rattle.xr_wave.specs.Contents.{FromWithin, IsLimit, IsReached, IsWave, IsWritten, arguments_in, class_in, job, next_number, next_place, next_seen, nothing_written, rule_in, shown_in, written_of};
+ghost use Rattle.xr_wave.specs.Advance.{GoesOn, with_written};
+ghost use Rattle.xr_wave.specs.Contents.{FromWithin, IsLimit, IsReached, IsWave, IsWritten, arguments_in, class_in};
+ghost use Rattle.xr_wave.specs.Contents.{job, next_number, next_place, next_seen, nothing_written, rule_in, shown_in};
+ghost use Rattle.xr_wave.specs.Contents.{written_of};
 ghost use Rattle.xr_wave_bytes.specs.Kept.{ValuesAgree};
 ghost use Rattle.xr_wave_bytes.specs.View as view;
-ghost use Rattle.xr_wave_bytes.specs.View.{HasMore, and_one, next_class};
+ghost use Rattle.xr_wave_bytes.specs.View.{HasMore, and_one, and_repeated, keeps_there, next_class};
+ghost use Rattle.xr_wave_due.specs.Walk.{IsHeldFor, IsRunOf, IsWalkOf};
 ghost use Rattle.xr_wave.specs.Token.{HasNext, IsLineNext, LineAgrees, LineHolds, with_line, written_by_line};
 
 use crate::arguments::{Arguments, places_of_numbers};
@@ -23,11 +26,10 @@ use std::alloc::Global;
 use std::marker::Model;
 use xr_base::Memory;
 use xr_cell::Value;
-use xr_design::{
-    Circuit, Design, History, HistoryRow, Mark, Order, Place, Stim, Written, count_places,
-};
+use xr_design::{Circuit, Design, History, Mark, Order, Place, Stim, Written, count_places};
 use xr_model::{Class, ClassByNumber, Line};
 use xr_wave_bytes::Waveform;
+use xr_wave_due::Walk;
 
 /// What is known of the places of a circuit so far, in place order, and the lines that say why.
 #[derive(Debug, Drop)]
@@ -40,8 +42,8 @@ pub struct Wave<'a> {
 #[derive(Debug, Drop)]
 struct Parts<'a> {
     waveform: Waveform<'a>,
-    /// At the step of the next place.
-    replayed: HistoryRow<'a>,
+    /// What is due ahead, and the history, read at the step of the next place.
+    walk: Walk<'a>,
     limit: u32,
     lines: Vec<Line>,
 }
@@ -51,16 +53,17 @@ impl<'a> Model for Wave<'a> {
 
     ghost Value = { Contents };
 
-    ghost view = { λ w. contents_of w.parts.value.waveform w.parts.value.replayed.history w.parts.value.limit
+    ghost view = { λ w. contents_of w.parts.value.waveform w.parts.value.walk.replayed.history w.parts.value.limit
         w.parts.value.lines.items };
 
-    ghost invariant = { λ w. IsWaveAt (contents_of w.parts.value.waveform w.parts.value.replayed.history
-        w.parts.value.limit w.parts.value.lines.items) w.parts.value.replayed.step };
+    ghost invariant = { λ w. IsWaveAt (contents_of w.parts.value.waveform w.parts.value.walk.replayed.history
+        w.parts.value.limit w.parts.value.lines.items) w.parts.value.walk };
 }
 
 impl<'a> Wave<'a> {
     /// A wave of which nothing is written. `limit` is how many clauses the log of a licence has, 1 to 100,000. Takes a
-    /// byte for each place, 17 bytes for each net, 8 to 24 for each pin.
+    /// byte for each place, 34 bytes for each net, 4 more for one on which the recording acts, 12 to 28 for each pin,
+    /// and on the way 16 more for each pin.
     pub fn new(
         alloc: Global,
         design: &'a Design,
@@ -70,7 +73,6 @@ impl<'a> Wave<'a> {
         limit: u32,
     ) -> Result<Wave<'a>, Memory>
         requires fits { PartsFit design.now order.now stim.now }
-        requires few { places_of (job_of design.now order.now stim.now) ≤ 2 ^ 27 }
         requires handed { IsHandedIn (job_of design.now order.now stim.now) replayed.now }
         requires limit { IsLimit limit }
         ensures { IfOk result (λ w. w ≡ nothing_written design.now order.now stim.now replayed.now limit) }
@@ -81,10 +83,10 @@ impl<'a> Wave<'a> {
             stim,
         };
         let waveform = Waveform::new(alloc, circuit)?;
-        let row = HistoryRow::first(alloc, replayed)?;
+        let walk = Walk::new(alloc, &circuit, replayed)?;
         let parts = Parts {
             waveform,
-            replayed: row,
+            walk,
             limit,
             lines: Vec::new(alloc),
         };
@@ -118,7 +120,7 @@ impl<'a> Wave<'a> {
     pub fn replayed(&self) -> &'a History
         ensures { result.now ≡ self.now.history }
     {
-        self.parts.replayed.history()
+        self.parts.walk.replayed.history()
     }
 
     /// How many clauses the log of a licence has. Takes no memory.
@@ -128,7 +130,7 @@ impl<'a> Wave<'a> {
         self.parts.limit
     }
 
-    /// The class of the next place, which the last write found. Takes no memory.
+    /// The class of the next place. Takes no memory.
     pub fn class(&self) -> Class
         ensures { result ≡ next_seen self.now }
     {
@@ -241,6 +243,14 @@ impl<'a> Wave<'a> {
         self.parts.waveform.written(number)
     }
 
+    /// Whether the net of the place of a number keeps there.
+    pub(crate) fn keeps(&self, number: usize) -> bool
+        requires { number < length self.now.written }
+        ensures { result ≡ keeps_there (job self.now) self.now.written number }
+    {
+        self.parts.waveform.keeps(number)
+    }
+
     /// The class of the next place, by number.
     pub(crate) fn next_class(&self) -> Option<ClassByNumber>
         ensures class { result ≡ next_class (job self.now) self.now.written }
@@ -255,7 +265,7 @@ impl<'a> Wave<'a> {
         ensures shown { result ≡ shown_in self.now (next_number self.now) }
         ensures wave { IsWave self.now }
     {
-        self.parts.replayed.shown(self.place_behind().net)
+        self.parts.walk.replayed.shown(self.place_behind().net)
     }
 
     /// The next place, where there is one.
@@ -273,7 +283,7 @@ impl<'a> Wave<'a> {
         let Wave { parts } = self;
         let Parts {
             waveform: _,
-            replayed: _,
+            walk: _,
             limit: _,
             lines,
         } = Box::into_inner(parts);
@@ -287,6 +297,25 @@ impl<'a> Wave<'a> {
     {
         self.parts.push(written);
         self
+    }
+
+    /// Finds the class of the next place, which is kept.
+    pub(crate) fn find_next(mut self) -> Wave<'a>
+        ensures { result ≡ self.entry }
+    {
+        self.parts.waveform.find_next();
+        self
+    }
+
+    /// Writes the places up to the next one that is due in the step, each as its net's place a step before; whether
+    /// there were any.
+    pub(crate) fn skip_run(mut self) -> (Wave<'a>, bool)
+        requires { HasNext self }
+        ensures goes { GoesOn self.entry result.0 }
+        ensures more { IsTrue result.1 → length self.entry.written < length result.0.written }
+    {
+        let many = self.parts.skip();
+        (self, many > 0)
     }
 
     /// Writes the next place, a Line place, and appends its line. Gives both back where there is no memory.
@@ -314,36 +343,34 @@ impl<'a> Wave<'a> {
 }
 
 impl<'a> Parts<'a> {
-    /// Writes the next place, and goes on to the step of the one behind it.
+    /// Writes the next place.
     fn push(&mut self, written: Written)
         requires next { HasMore self.old.waveform }
         requires agrees { ValuesAgree (view.job self.old.waveform) (self.old.waveform.written ++ written ∷ []) }
-        requires reads { self.old.replayed.step ≡
-            step_of (view.job self.old.waveform) (length self.old.waveform.written) }
+        requires walk { IsWalkOf self.old.waveform self.old.walk }
         ensures waveform { self.new.waveform ≡ and_one self.old.waveform written }
-        ensures history { self.new.replayed.history ≡ self.old.replayed.history }
+        ensures walk { IsWalkOf self.new.waveform self.new.walk }
+        ensures history { self.new.walk.replayed.history ≡ self.old.walk.replayed.history }
         ensures limit { self.new.limit ≡ self.old.limit }
         ensures lines { self.new.lines ≡ self.old.lines }
-        ensures reads { HasMore self.new.waveform → self.new.replayed.step ≡
-            step_of (view.job self.new.waveform) (length self.new.waveform.written) }
     {
-        self.waveform.push(written);
-        follow(&mut self.replayed, &self.waveform);
+        self.walk.write(&mut self.waveform, written);
     }
-}
 
-/// Goes on to the step of the next place, from that of the place before it.
-fn follow(replayed: &mut HistoryRow<'_>, waveform: &Waveform<'_>)
-    requires some { 0 < length waveform.now.written }
-    requires within { length waveform.now.written ≤ places_of (view.job waveform.now) }
-    requires before { replayed.old.step ≡ step_of (view.job waveform.now) (length waveform.now.written - 1) }
-    ensures history { replayed.new.history ≡ replayed.old.history }
-    ensures reads { HasMore waveform.now → replayed.new.step ≡
-        step_of (view.job waveform.now) (length waveform.now.written) }
-{
-    let more = waveform.count() < count_places(&waveform.circuit());
-    if more && replayed.step() < waveform.place_behind().step as usize {
-        replayed.next_step();
+    /// Writes the places up to the next one that is due in the step, each as its net's place a step before; says how
+    /// many.
+    fn skip(&mut self) -> usize
+        requires next { HasMore self.old.waveform }
+        requires held { IsHeldFor self.old.waveform self.old.walk }
+        requires walk { IsWalkOf self.old.waveform self.old.walk }
+        ensures run { IsRunOf self.old.waveform self.old.walk result }
+        ensures waveform { self.new.waveform ≡ and_repeated self.old.waveform result }
+        ensures walk { IsWalkOf self.new.waveform self.new.walk }
+        ensures history { self.new.walk.replayed.history ≡ self.old.walk.replayed.history }
+        ensures limit { self.new.limit ≡ self.old.limit }
+        ensures lines { self.new.lines ≡ self.old.lines }
+    {
+        self.walk.skip(&mut self.waveform)
     }
 }
 

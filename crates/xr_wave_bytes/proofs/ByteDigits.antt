@@ -1,12 +1,15 @@
 -- A value and a mark are read back from the low digits of a byte.
-use Rattle.std.proofs.Common.{◌≡◌, ℕ, ◌+◌, ◌*◌, ◌/◌, ◌%◌, ◌≤◌, refl, ap, ◌∙◌, arith}
+use Rattle.std.proofs.Common.{◌≡◌, ℕ, ◌+◌, ◌*◌, ◌/◌, ◌%◌, ◌≤◌, ◌==◌, Bool, true, false, refl, ap, ◌∙◌, arith}
+use Rattle.std.proofs.Common.{if◌then◌else◌}
 use Rattle.xr_cell.specs.declared.value.Value.{Value}
 use Rattle.xr_cell.specs.declared.value.Value.TheVariants.{Zero, One, X, Z}
 use Rattle.xr_design.specs.History.{two_bits, value_of_bits}
 use Rattle.xr_design.specs.declared.waveform.Mark.{Mark}
 use Rattle.xr_design.specs.declared.waveform.Mark.TheVariants.{Certain, Unknown, Undecided}
 use Rattle.xr_design.specs.declared.waveform.Written.{Written}
-use Rattle.xr_wave_bytes.specs.Byte.{mark_of_bits, two_bits_of_mark, written_of_byte}
+use Rattle.xr_class.specs.Facts.{facts}
+use Rattle.xr_wave_bytes.specs.Byte.{facts_of_byte, is_uncertain, mark_of_bits, repeated_byte, two_bits_of_mark}
+use Rattle.xr_wave_bytes.specs.Byte.{written_of_byte}
 
 value_back : (v : Value) → value_of_bits (two_bits v) ≡ v
 value_back Zero = refl
@@ -35,3 +38,33 @@ written_back written v m rest n v_is m_is few_v few_m is =
     (ap value_of_bits (low_digit v m rest n is few_v ∙ v_is) ∙ value_back written.value)
     ∙ ap (written_as written.value)
     (ap mark_of_bits (next_digit v m rest n is few_v few_m ∙ m_is) ∙ mark_back written.mark)
+
+-- A byte that is written again says the same value and mark.
+low_same : (uncertain : Bool) (byte : ℕ) → (byte % 16 + (if uncertain then 80 else 64)) % 4 ≡ byte % 4
+low_same true byte = omega arith
+low_same false byte = omega arith
+
+next_same : (uncertain : Bool) (byte : ℕ) → (byte % 16 + (if uncertain then 80 else 64)) / 4 % 4 ≡ byte / 4 % 4
+next_same true byte = omega arith
+next_same false byte = omega arith
+
+pub repeated_written : (byte : ℕ) → written_of_byte (repeated_byte byte) ≡ written_of_byte byte
+repeated_written byte =
+    ap (λ low. written_as (value_of_bits low) (mark_of_bits (repeated_byte byte / 4 % 4)))
+    (low_same (is_uncertain (written_of_byte byte).mark) byte)
+    ∙ ap (λ next. written_as (value_of_bits (byte % 4)) (mark_of_bits next))
+    (next_same (is_uncertain (written_of_byte byte).mark) byte)
+
+-- It says of its class that it is carried on, or nothing, and that its net keeps.
+four_say : (n : ℕ) (uncertain : Bool) (digit : ℕ) → n / 16 % 2 ≡ digit → n / 32 % 2 ≡ 0 → n / 128 % 2 ≡ 0
+    → n / 64 % 2 ≡ 1 → (digit == 1) ≡ uncertain → facts_of_byte n ≡ facts uncertain false false true
+four_say n uncertain digit carries plain line keeps is = rw (carries, plain, line, keeps, is) refl
+
+says_by : (uncertain : Bool) (byte : ℕ)
+    → facts_of_byte (byte % 16 + (if uncertain then 80 else 64)) ≡ facts uncertain false false true
+says_by true byte = four_say (byte % 16 + 80) true 1 (omega arith) (omega arith) (omega arith) (omega arith) refl
+says_by false byte = four_say (byte % 16 + 64) false 0 (omega arith) (omega arith) (omega arith) (omega arith) refl
+
+pub repeated_says : (byte : ℕ)
+    → facts_of_byte (repeated_byte byte) ≡ facts (is_uncertain (written_of_byte byte).mark) false false true
+repeated_says byte = says_by (is_uncertain (written_of_byte byte).mark) byte

@@ -1,5 +1,5 @@
 -- Where the next place stands.
-use Rattle.std.proofs.Common.{◌≡◌, ℕ, ◌+◌, ◌*◌, ◌/◌, ◌%◌, ◌<◌, ◌≤◌, ◌^◌, sym, ap, ◌∙◌, arith}
+use Rattle.std.proofs.Common.{◌≡◌, ℕ, ◌+◌, ◌*◌, ◌/◌, ◌%◌, ◌<◌, ◌≤◌, ◌^◌, sym, ap, ◌∙◌, arith, subst}
 use Rattle.std.proofs.lemmas.Nat.{div-mul-add, mod-mul-add}
 use Rattle.std.proofs.Math.Nat.{zero-div, zero-mod}
 use Rattle.xr_design.specs.Fits.{Fits, place_at}
@@ -24,7 +24,8 @@ front_whole j fits place front within is =
 
 -- The place behind it stands at the next position, or at the first of the next step.
 pub next_position : (j : Job) → Fits j → (place : ℕ) (front next : Front) → place < places_of j → IsAt j place front
-    → next.step ≡ front.step → next.position ≡ front.position + 1 → front.position + 1 < j.width → IsAt j (place + 1) next
+    → next.step ≡ front.step → next.position ≡ front.position + 1 → front.position + 1 < j.width
+    → IsAt j (place + 1) next
 next_position j fits place front next within is step position less =
     let whole = front_whole j fits place front within is in
     let more : place + 1 ≡ front.step * j.width + (front.position + 1) = omega (arith, whole) in
@@ -49,6 +50,46 @@ next_step j fits place front next within is step position full =
       step = step ∙ sym (ap (λ n. n / j.width) more ∙ div-mul-add (front.step + 1) j.width 0 some);
       position = position ∙ sym (ap (λ n. n % j.width) more ∙ mod-mul-add (front.step + 1) j.width 0 some);
     }
+
+-- The place behind so many places of its step.
+pub after_position : (j : Job) → Fits j → (place many : ℕ) (front next : Front) → place < places_of j
+    → IsAt j place front
+    → next.step ≡ front.step → next.position ≡ front.position + many → front.position + many < j.width
+    → IsAt j (place + many) next
+after_position j fits place many front next within is step position less =
+    let whole = front_whole j fits place front within is in
+    let more : place + many ≡ front.step * j.width + (front.position + many) = omega (arith, whole) in
+    record {
+      step = step ∙ sym (ap (λ n. n / j.width) more ∙ div-mul-add front.step j.width (front.position + many) less);
+      position = position ∙ sym (ap (λ n. n % j.width) more ∙ mod-mul-add front.step j.width (front.position + many)
+          less);
+    }
+
+row_behind : (w t p place many : ℕ) → t * w + p ≡ place → p + many ≡ w → place + many ≡ (t + 1) * w + 0
+row_behind w t p place many whole full = omega (arith, whole, full)
+
+pub after_step : (j : Job) → Fits j → (place many : ℕ) (front next : Front) → place < places_of j → IsAt j place front
+    → next.step ≡ front.step + 1 → next.position ≡ 0 → front.position + many ≡ j.width → IsAt j (place + many) next
+after_step j fits place many front next within is step position full =
+    let whole = front_whole j fits place front within is in
+    let low = (spot j fits place within).position in
+    let some : 0 < j.width = omega (arith, low) in
+    let more : place + many ≡ (front.step + 1) * j.width + 0 =
+    row_behind j.width front.step front.position place many whole full in
+    record {
+      step = step ∙ sym (ap (λ n. n / j.width) more ∙ div-mul-add (front.step + 1) j.width 0 some);
+      position = position ∙ sym (ap (λ n. n % j.width) more ∙ mod-mul-add (front.step + 1) j.width 0 some);
+    }
+
+-- So many are no more than the step has from there on.
+rest_of_row : (w t p place many : ℕ) → t * w + p ≡ place → place + many ≤ (t + 1) * w → p + many ≤ w
+rest_of_row w t p place many whole up = omega (arith, whole, up)
+
+pub stretch_rest : (j : Job) → Fits j → (place many : ℕ) (front : Front) → place < places_of j → IsAt j place front
+    → place + many ≤ (step_of j place + 1) * j.width → front.position + many ≤ j.width
+stretch_rest j fits place many front within is up =
+    rest_of_row j.width front.step front.position place many (front_whole j fits place front within is)
+    (subst (λ s. place + many ≤ (s + 1) * j.width) (sym is.step) up)
 
 -- A step fits its number.
 pub small_step : (j : Job) → Fits j → j.moments * j.rounds ≤ 2 ^ 32 → (place : ℕ) (front : Front) → place < places_of j

@@ -1,5 +1,6 @@
 -- Bytes that say the facts of their places, as they grow.
-use Rattle.std.proofs.Common.{◌≡◌, ℕ, ◌+◌, ◌-◌, ◌%◌, ◌<◌, ◌≤◌, Bool, true, List, [], ◌∷◌, ◌++◌, length, map, refl, sym, ap, ◌∙◌, arith, subst, length-append, ⊎_elim}
+use Rattle.std.proofs.Common.{◌≡◌, ℕ, ◌+◌, ◌-◌, ◌%◌, ◌<◌, ◌≤◌, Bool, true, List, [], ◌∷◌, ◌++◌, length, map, refl, sym}
+use Rattle.std.proofs.Common.{ap, ◌∙◌, arith, subst, length-append, ⊎_elim}
 use Rattle.std.proofs.Math.ListN.{get_or-append}
 use Rattle.std.proofs.Math.Seq.{get_or-append_seam}
 use Rattle.std.proofs.lemmas.Bool.{cases_eq, cases_lt}
@@ -8,14 +9,14 @@ use Rattle.xr_cell.specs.declared.value.Value.{Value}
 use Rattle.xr_design.specs.declared.waveform.Written.{Written}
 use Rattle.xr_design.specs.Fits.{Fits}
 use Rattle.xr_design.specs.Job.{Job, places_of, step_of}
-use Rattle.xr_design.specs.Waveform.{certain, certain_by, written_at}
+use Rattle.xr_design.specs.Waveform.{certain, certain_by, unwritten, written_at}
 use Rattle.xr_design.proofs.Rules.{spot}
 use Rattle.xr_model.specs.Class.{before, is_carried_on, class_of}
 use Rattle.xr_model.specs.Yields.{is_line}
 use Rattle.xr_model.specs.declared.class.ClassByNumber.{ClassByNumber}
 use Rattle.xr_model.proofs.ClassesBefore.{class_local}
 use Rattle.xr_model.proofs.FactsBefore.{certain_grown, written_last}
-use Rattle.xr_class.specs.Facts.{Facts, facts, facts_by, facts_of, is_plain, keeps_by}
+use Rattle.xr_class.specs.Facts.{AreTold, Facts, facts, facts_by, facts_of, is_plain, keeps_by}
 use Rattle.xr_class.proofs.StepBefore.{before_first, before_later, first_step}
 use Rattle.xr_wave_bytes.specs.Byte.{facts_in, facts_of_byte, written_of_byte}
 use Rattle.xr_wave_bytes.specs.Kept.{BytesTell, SayTheSame, StepKeeps, ValuesAgree, facts_next}
@@ -36,7 +37,8 @@ low j fits place within more =
 
 at_most : (j : Job) → Fits j → (place : ℕ) → place < places_of j → before j place ≤ place
 at_most j fits place within = ⊎_elim
-    (λ (less : place < j.width). below_first j.width place (before j place) less (before_first j fits place within less))
+    (λ (less : place < j.width). below_first j.width place (before j place) less
+    (before_first j fits place within less))
     (λ (more : j.width ≤ place). (let less = low j fits place within more in omega (arith, less)))
     (cases_lt place j.width)
 
@@ -63,9 +65,54 @@ last_value waveform x n long =
     ap (λ (w : Written). certain_by w.mark w.value)
     (ap (written_at (waveform ++ x ∷ [])) (sym long) ∙ written_last waveform x)
 
+-- What is said exactly is told.
+told_exact : (told is : Facts) → told ≡ is → AreTold told is
+told_exact told is same =
+    subst (AreTold told) same (record { carries = λ h. h; plain = λ h. h; line = λ h. h; keeps = refl })
+
+-- Certain values stay where more is written.
+certain_front : (written more : List Written) (k : ℕ) → k < length written
+    → certain written k ≡ certain (written ++ more) k
+unfolding certain
+certain_front written more k less =
+    ap (λ (w : Written). certain_by w.mark w.value) (sym (get_or-append written more unwritten k less))
+
+-- So what is told of a place stays true where more bytes are written.
+pub told_front : (j : Job) → Fits j → (bytes more : List ℕ) (k : ℕ) → length bytes ≤ places_of j → BytesTell j bytes
+    → k < length bytes
+    → AreTold (facts_in (bytes ++ more) k) (facts_of j (certain (map written_of_byte (bytes ++ more))) k)
+told_front j fits bytes more k within told less =
+    subst (λ f. AreTold f (facts_of j d k)) (sym (ap facts_of_byte (get_or-append bytes more 0 k less)))
+    (subst (AreTold (facts_in bytes k)) same (told k less))
+  where
+    c : ℕ → Value
+    c = certain (map written_of_byte bytes)
+
+    d : ℕ → Value
+    d = certain (map written_of_byte (bytes ++ more))
+
+    long : length (map written_of_byte bytes) ≡ length bytes
+    long = length-map bytes written_of_byte
+
+    values : (i : ℕ) → i < length bytes → c i ≡ d i
+    values i low = certain_front (map written_of_byte bytes) (map written_of_byte more) i (omega (arith, long, low))
+        ∙ ap (λ (written : List Written). certain written i) (sym (map-append written_of_byte bytes more))
+
+    classes : class_of j c k ≡ class_of j d k
+    classes = class_local j fits c d k (omega (arith, less, within)) (λ i low. values i (omega (arith, low, less)))
+
+    same : facts_of j c k ≡ facts_of j d k
+    same = ap (λ class. facts_by (step_of j k) (before j k) class (c k) (c (before j k))) classes
+        ∙ ap (λ v. facts_by (step_of j k) (before j k) (class_of j d k) v (c (before j k))) (values k less)
+        ∙ facts_same j fits c d k (class_of j d k) (d k) (omega (arith, less, within))
+        (λ i low. values i (omega (arith, low, less)))
+
 pub told_grown : (j : Job) → Fits j → (bytes : List ℕ) (byte : ℕ) → length bytes < places_of j → BytesTell j bytes
     → facts_of_byte byte ≡ facts_next j bytes (written_of_byte byte) → BytesTell j (bytes ++ byte ∷ [])
-told_grown j fits bytes byte within told is = λ k less. each_pushed _ (length bytes) earlier last k
+told_grown j fits bytes byte within told is = λ k less. each_pushed
+    (λ k. AreTold (facts_in (bytes ++ byte ∷ []) k) (facts_of j d k)) (length bytes)
+    (λ k low. told_front j fits bytes (byte ∷ []) k (omega (arith, within)) told low)
+    (told_exact (facts_in (bytes ++ byte ∷ []) (length bytes)) (facts_of j d (length bytes)) last) k
     (let long = length-append bytes (byte ∷ []) in omega (arith, long, less))
   where
     c : ℕ → Value
@@ -84,25 +131,18 @@ told_grown j fits bytes byte within told is = λ k less. each_pushed _ (length b
     values i less = certain_grown (map written_of_byte bytes) (written_of_byte byte) i (omega (arith, long, less))
         ∙ ap (λ (written : List Written). certain written i) grown_is
 
-    classes : (k : ℕ) → k ≤ length bytes → class_of j c k ≡ class_of j d k
-    classes k up = class_local j fits c d k (omega (arith, up, within)) (λ i less. values i (omega (arith, less, up)))
+    classes : class_of j c (length bytes) ≡ class_of j d (length bytes)
+    classes = class_local j fits c d (length bytes) (omega (arith, within)) (λ i less. values i less)
 
     here : d (length bytes) ≡ certain_by (written_of_byte byte).mark (written_of_byte byte).value
     here = ap (λ (written : List Written). certain written (length bytes)) (sym grown_is)
         ∙ last_value (map written_of_byte bytes) (written_of_byte byte) (length bytes) long
 
-    earlier : (k : ℕ) → k < length bytes → facts_in (bytes ++ byte ∷ []) k ≡ facts_of j d k
-    earlier k less = ap facts_of_byte (get_or-append bytes (byte ∷ []) 0 k less) ∙ told k less
-        ∙ ap (λ class. facts_by (step_of j k) (before j k) class (c k) (c (before j k))) (classes k (omega (arith, less)))
-        ∙ ap (λ v. facts_by (step_of j k) (before j k) (class_of j d k) v (c (before j k))) (values k less)
-        ∙ facts_same j fits c d k (class_of j d k) (d k) (omega (arith, less, within))
-        (λ i low. values i (omega (arith, low, less)))
-
     last : facts_in (bytes ++ byte ∷ []) (length bytes) ≡ facts_of j d (length bytes)
     last = ap facts_of_byte (get_or-append_seam bytes byte [] 0) ∙ is
         ∙ ap (λ class. facts_by (step_of j (length bytes)) (before j (length bytes)) class
         (certain_by (written_of_byte byte).mark (written_of_byte byte).value) (c (before j (length bytes))))
-        (classes (length bytes) (omega arith))
+        classes
         ∙ ap (λ v. facts_by (step_of j (length bytes)) (before j (length bytes)) (class_of j d (length bytes)) v
         (c (before j (length bytes)))) (sym here)
         ∙ facts_same j fits c d (length bytes) (class_of j d (length bytes)) (d (length bytes)) within values
@@ -130,13 +170,16 @@ four_same a b d e p q r s ap_is bq_is dr_is es_is = rw (ap_is, bq_is, dr_is, es_
 
 -- What is found of the class of the next place and of its value are its facts.
 pub facts_found : (step back : ℕ) (class : ClassByNumber) (here value_back : Value) (carries plain line keeps : Bool)
-    → carries ≡ is_carried_on class back → plain ≡ is_plain class → line ≡ is_line class → keeps ≡ keeps_by step here value_back carries
+    → carries ≡ is_carried_on class back → plain ≡ is_plain class → line ≡ is_line class
+    → keeps ≡ keeps_by step here value_back carries
     → facts carries plain line keeps ≡ facts_by step back class here value_back
 facts_found step back class here value_back carries plain line keeps carries_is plain_is line_is keeps_is =
-    four_same carries plain line keeps _ _ _ _ carries_is plain_is line_is (keeps_is ∙ ap (keeps_by step here value_back) carries_is)
+    four_same carries plain line keeps _ _ _ _ carries_is plain_is line_is (keeps_is
+    ∙ ap (keeps_by step here value_back) carries_is)
 
 pub same_pushed : (bytes : List ℕ) (byte : ℕ) (all : List ℕ) → all ≡ bytes ++ byte ∷ [] → SayTheSame bytes all
-same_pushed bytes byte all is = λ k less. ap (λ bs. facts_in bs k) is ∙ ap facts_of_byte (get_or-append bytes (byte ∷ []) 0 k less)
+same_pushed bytes byte all is = λ k less. ap (λ bs. facts_in bs k) is
+    ∙ ap facts_of_byte (get_or-append bytes (byte ∷ []) 0 k less)
 
 -- Where a place more is written in a step, those before it keep as they did.
 pub keep_pushed : (bytes all : List ℕ) (position next : ℕ) → length all ≡ length bytes + 1 → SayTheSame bytes all

@@ -3,3 +3,4 @@ mod ByteDigits
 mod Fronts
 mod KeptBytes
 mod NextSaid
+mod RepeatedBytes

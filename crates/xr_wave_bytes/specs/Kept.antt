@@ -34,8 +34,11 @@ SayTheSame others bytes = (k : ℕ) → k < length others → facts_in bytes k �
 abbrev pub StepKeeps : List ℕ → ℕ → ℕ → Type 0
 StepKeeps bytes position end = AllKeep (facts_in bytes) (length bytes - position) end
 
--- The bytes of a waveform do both, and the class of the next place is kept.
-pub record IsKept (circuit : Circuit) (bytes : List ℕ) (next : Option ClassByNumber) : Type 0 where
+-- The bytes of a waveform do both.
+pub record IsKept (circuit : Circuit) (bytes : List ℕ) : Type 0 where
   pub told : BytesTell (job_in circuit) bytes
   pub agrees : ValuesAgree (job_in circuit) (map written_of_byte bytes)
-  pub next_is : next ≡ next_class (job_in circuit) (map written_of_byte bytes)
+
+-- The class of the next place.
+abbrev pub IsNextClass : Circuit → List ℕ → Option ClassByNumber → Type 0
+IsNextClass circuit bytes next = next ≡ next_class (job_in circuit) (map written_of_byte bytes)

@@ -3,6 +3,7 @@
 ghost use Rattle.std.specs.Prelude.{◌≡◌, ◌≤◌, ◌==◌};
 ghost use Rattle.xr_design.specs.History.{two_bits, value_of_bits};
 ghost use Rattle.xr_class.specs.Facts.{facts};
+ghost use Rattle.xr_wave_bytes.specs.Byte as spec;
 ghost use Rattle.xr_wave_bytes.specs.Byte.{facts_of_byte, mark_of_bits, two_bits_of_mark, written_of_byte};
 
 use xr_cell::Value;
@@ -56,6 +57,28 @@ pub fn byte_of(written: Written, carries: bool, plain: bool, line: bool, keeps: 
     let low = value + 4 * mark;
     let class = 16 * bit_of(carries) + 32 * bit_of(plain) + 128 * bit_of(line);
     low + class + 64 * bit_of(keeps)
+}
+
+/// The byte of a place that has what its net's place a step before has, whose byte is given.
+pub fn repeated_byte(byte: u8) -> u8
+    ensures { result ≡ spec.repeated_byte byte }
+{
+    let low = byte % 16;
+    if is_uncertain(mark_of(byte / 4 % 4)) {
+        low + 80
+    } else {
+        low + 64
+    }
+}
+
+fn is_uncertain(mark: Mark) -> bool
+    ensures { result ≡ spec.is_uncertain mark }
+{
+    match mark {
+        Mark::Certain => false,
+        Mark::Unknown => true,
+        Mark::Undecided => true,
+    }
 }
 
 fn bit_of(is: bool) -> u8

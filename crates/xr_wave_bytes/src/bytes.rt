@@ -1,6 +1,7 @@
 //! The bytes of the places that are written, as what is known of them.
 
-ghost use Rattle.std.specs.Prelude.{◌≡◌, ℕ, ◌+◌, ◌-◌, ◌<◌, ◌≤◌, ◌++◌, ◌∷◌, [], IfSome, length, map, vec_capacity};
+ghost use Rattle.std.specs.Prelude.{◌≡◌, ℕ, ◌+◌, ◌-◌, ◌<◌, ◌≤◌, ◌==◌, ◌||◌, ◌++◌, ◌∷◌, [], IfSome, length, map};
+ghost use Rattle.std.specs.Prelude.{vec_capacity};
 ghost use Rattle.std.specs.Bool.{OnTrue};
 ghost use Rattle.xr_cell.specs.declared.value.Value.{Value as AnyValue};
 ghost use Rattle.xr_design.specs.Circuit.{job_in, CircuitFits};
@@ -13,13 +14,15 @@ ghost use Rattle.xr_class.specs.Wires.{AreWiresOf};
 ghost use Rattle.xr_wave_bytes.specs.Byte.{facts_in, facts_of_byte, written_of_byte};
 ghost use Rattle.xr_wave_bytes.specs.View.{next_class};
 ghost use Rattle.xr_wave_bytes.specs.Front.{StandsAt};
-ghost use Rattle.xr_wave_bytes.specs.Kept.{BytesTell, IsKept, SayTheSame, StepKeeps, ValuesAgree, facts_next};
+ghost use Rattle.xr_wave_bytes.specs.Kept.{BytesTell, IsKept, IsNextClass, SayTheSame, StepKeeps, ValuesAgree};
+ghost use Rattle.xr_wave_bytes.specs.Kept.{facts_next};
+ghost use Rattle.xr_wave_bytes.specs.Repeat.{AreRepeated, IsRepeatedAfter, IsStretch};
 
-use crate::byte::{byte_of, is_carried_on, is_line, is_plain, keeps, written_in};
+use crate::byte::{byte_of, is_carried_on, is_line, is_plain, keeps, repeated_byte, written_in};
 use crate::front::Front;
 use xr_cell::Value;
 use xr_class::{Earlier, class_at, keeps_here, place_before};
-use xr_design::{Circuit, Mark, Source, Written, count_places};
+use xr_design::{Circuit, Mark, Source, Written, count_places, width_of};
 use xr_model::ClassByNumber;
 use xr_wiring::Wiring;
 
@@ -116,6 +119,13 @@ pub fn keep_behind(bytes: &[u8], front: Front, before: bool) -> bool
     front.position == 0 || (before && keeps(bytes[bytes.len() - 1]))
 }
 
+/// The same where the places before the next one were written many at once: each of those keeps.
+pub fn keep_repeated(front: Front, before: bool) -> bool
+    ensures { result ≡ (before || front.position == 0) }
+{
+    before || front.position == 0
+}
+
 /// Appends the byte of the next place, whose class is given.
 pub fn push_place(
     circuit: &Circuit<'_>,
@@ -126,7 +136,8 @@ pub fn push_place(
     requires fits { CircuitFits circuit.now }
     requires within { length bytes.old.items < places_of (job_in circuit.now) }
     requires room { places_of (job_in circuit.now) ≤ vec_capacity bytes.old }
-    requires kept { IsKept circuit.now bytes.old.items next }
+    requires kept { IsKept circuit.now bytes.old.items }
+    requires next { IsNextClass circuit.now bytes.old.items next }
     requires agrees { ValuesAgree (job_in circuit.now) (map written_of_byte bytes.old.items ++ written ∷ []) }
     ensures written { map written_of_byte bytes.new.items ≡ map written_of_byte bytes.old.items ++ written ∷ [] }
     ensures told { BytesTell (job_in circuit.now) bytes.new.items }
@@ -136,6 +147,33 @@ pub fn push_place(
     ensures room { places_of (job_in circuit.now) ≤ vec_capacity bytes.new }
 {
     let byte = next_byte(circuit, bytes.as_slice(), next, written);
+    if bytes.push(byte).is_err() {
+        unreachable!()
+    }
+}
+
+/// Appends the bytes of so many places, each of which has what its net's place a step before has.
+pub fn repeat_places(circuit: &Circuit<'_>, bytes: &mut Vec<u8>, many: usize)
+    requires fits { CircuitFits circuit.now }
+    requires stretch { IsStretch (job_in circuit.now) (length bytes.old.items) many }
+    requires room { places_of (job_in circuit.now) ≤ vec_capacity bytes.old }
+    ensures bytes { AreRepeated (job_in circuit.now) bytes.old.items bytes.new.items many }
+    ensures room { places_of (job_in circuit.now) ≤ vec_capacity bytes.new }
+{
+    let first = bytes.len() - width_of(circuit);
+    'places: for place in first..first + many {
+        push_repeated(bytes, place);
+    }
+}
+
+/// Appends the byte of a place that has what the place of a number has, which is its net's a step before.
+fn push_repeated(bytes: &mut Vec<u8>, number: usize)
+    requires number { number < length bytes.old.items }
+    requires room { length bytes.old.items < vec_capacity bytes.old }
+    ensures bytes { IsRepeatedAfter bytes.old.items number bytes.new.items }
+    ensures room { vec_capacity bytes.old ≤ vec_capacity bytes.new }
+{
+    let byte = repeated_byte(bytes[number]);
     if bytes.push(byte).is_err() {
         unreachable!()
     }

@@ -4,6 +4,7 @@ ghost use Rattle.std.specs.Prelude.{◌≡◌, ◌+◌, ◌<◌};
 ghost use Rattle.xr_design.specs.Circuit.{job_in, CircuitFits};
 ghost use Rattle.xr_design.specs.Job.{places_of};
 ghost use Rattle.xr_wave_bytes.specs.Front.{IsFront, StandsAt, place_of_front};
+ghost use Rattle.xr_wave_bytes.specs.Repeat.{IsStretch};
 
 use xr_design::{Circuit, Place, width_of};
 
@@ -34,6 +35,31 @@ pub fn front_behind(circuit: &Circuit<'_>, front: Front, place: usize) -> Front
     ensures next { 0 < result.position → result.position ≡ front.position + 1 }
 {
     let next = front.position + 1;
+    if next < width_of(circuit) {
+        Front {
+            step: front.step,
+            position: next,
+        }
+    } else {
+        Front {
+            step: front.step + 1,
+            position: 0,
+        }
+    }
+}
+
+/// Where the place behind so many places stands, all of one step.
+pub fn front_after(circuit: &Circuit<'_>, front: Front, place: usize, many: usize) -> Front
+    requires fits { CircuitFits circuit.now }
+    requires stretch { IsStretch (job_in circuit.now) place many }
+    requires stands { StandsAt (job_in circuit.now) place front }
+    ensures stands { StandsAt (job_in circuit.now) (place + many) result }
+    ensures next { 0 < result.position → result.position ≡ front.position + many }
+{
+    if many == 0 {
+        return front;
+    }
+    let next = front.position + many;
     if next < width_of(circuit) {
         Front {
             step: front.step,

@@ -1,6 +1,6 @@
 //! The places of a circuit, as they are written.
 
-ghost use Rattle.std.specs.Prelude.{◌≡◌, ◌<◌, ◌++◌, ◌∷◌, [], IfOk, length};
+ghost use Rattle.std.specs.Prelude.{◌≡◌, ◌%◌, ◌<◌, ◌++◌, ◌∷◌, [], IfOk, length};
 ghost use Rattle.xr_design.specs.Circuit.{CircuitFits, job_in};
 ghost use Rattle.xr_design.specs.Fits.{place_at};
 ghost use Rattle.xr_design.specs.Waveform.{certain, written_at};
@@ -9,11 +9,12 @@ ghost use Rattle.xr_model.specs.Class.{class_of};
 ghost use Rattle.xr_class.specs.Test.{numbered_value};
 ghost use Rattle.xr_wave_bytes.specs.Kept.{ValuesAgree};
 ghost use Rattle.xr_wave_bytes.specs.View as spec;
-ghost use Rattle.xr_wave_bytes.specs.View.{HasMore, IsNumber, and_one, job, waveform_of};
+ghost use Rattle.xr_wave_bytes.specs.Repeat.{IsRepeatable};
+ghost use Rattle.xr_wave_bytes.specs.View.{HasMore, IsNumber, and_one, and_repeated, job, keeps_there, waveform_of};
 
-use crate::byte::written_in;
-use crate::bytes::{Bytes, class_behind, keep_behind, push_place};
-use crate::front::{Front, first_front, front_behind, place_there};
+use crate::byte::{keeps, written_in};
+use crate::bytes::{Bytes, class_behind, keep_behind, keep_repeated, push_place, repeat_places};
+use crate::front::{Front, first_front, front_after, front_behind, place_there};
 use std::alloc::Global;
 use std::marker::Model;
 use xr_base::Memory;
@@ -23,14 +24,16 @@ use xr_design::{Circuit, Place, Written, count_places};
 use xr_model::ClassByNumber;
 use xr_wiring::Wiring;
 
-/// What is written of the places of a circuit, in place order, and the class of the next one. Contracts see the circuit and
-/// the list of what is written.
+/// What is written of the places of a circuit, in place order, and the class of the next one. Contracts see the circuit
+/// and the list of what is written.
 #[derive(Debug, Drop)]
 pub struct Waveform<'a> {
     circuit: Circuit<'a>,
     wiring: Wiring,
     bytes: Vec<u8>,
-    /// The class of the next place.
+    /// Whether the class of the next place is found already.
+    found: bool,
+    /// That class, once it is found.
     next: Option<ClassByNumber>,
     /// Where the next place stands.
     front: Front,
@@ -46,7 +49,7 @@ impl<'a> Model for Waveform<'a> {
     ghost use Rattle.xr_class.specs.Wires.{AreWiresOf};
     ghost use Rattle.xr_wave_bytes.specs.Byte.{written_of_byte};
     ghost use Rattle.xr_wave_bytes.specs.Front.{StandsAt};
-    ghost use Rattle.xr_wave_bytes.specs.Kept.{IsKept, StepKeeps};
+    ghost use Rattle.xr_wave_bytes.specs.Kept.{IsKept, IsNextClass, StepKeeps};
     ghost use Rattle.xr_wave_bytes.specs.View.{WaveformView, waveform_of};
 
     ghost Value = { WaveformView };
@@ -58,7 +61,8 @@ impl<'a> Model for Waveform<'a> {
       wired : AreWiresOf w.circuit w.wiring;
       within : length w.bytes.items ≤ places_of (job_in w.circuit);
       room : places_of (job_in w.circuit) ≤ vec_capacity w.bytes;
-      kept : IsKept w.circuit w.bytes.items w.next;
+      kept : IsKept w.circuit w.bytes.items;
+      next : OnTrue w.found (IsNextClass w.circuit w.bytes.items w.next);
       front : StandsAt (job_in w.circuit) (length w.bytes.items) w.front;
       keep : OnTrue w.all_keep (StepKeeps w.bytes.items w.front.position (length w.bytes.items));
     } };
@@ -73,12 +77,12 @@ impl<'a> Waveform<'a> {
         let wiring = Wiring::of(alloc, circuit.design, circuit.order)?;
         let bytes = Vec::with_capacity(alloc, count_places(&circuit))?;
         let front = first_front(&circuit);
-        let next = class_behind(&circuit, &wiring, bytes.as_slice(), front, true);
         Ok(Waveform {
             circuit,
             wiring,
             bytes,
-            next,
+            found: false,
+            next: None,
             front,
             all_keep: true,
         })
@@ -97,7 +101,8 @@ impl<'a> Waveform<'a> {
 
     /// How many places are written. Takes no memory.
     pub fn count(&self) -> usize
-        ensures { result ≡ length self.now.written }
+        ensures count { result ≡ length self.now.written }
+        ensures agrees { ValuesAgree (job self.now) self.now.written }
     {
         self.bytes.len()
     }
@@ -110,11 +115,37 @@ impl<'a> Waveform<'a> {
         written_in(self.bytes[number])
     }
 
-    /// The class of the next place, which the last write found. Takes no memory.
+    /// Whether the net of the place of a number keeps there. Takes no memory.
+    pub fn keeps(&self, number: usize) -> bool
+        requires { number < length self.now.written }
+        ensures { result ≡ keeps_there (job self.now) self.now.written number }
+    {
+        keeps(self.bytes[number])
+    }
+
+    /// The class of the next place: found here, unless `find_next` did. Takes no memory.
     pub fn next_class(&self) -> Option<ClassByNumber>
         ensures { result ≡ spec.next_class (job self.now) self.now.written }
     {
-        self.next
+        if self.found {
+            return self.next;
+        }
+        class_behind(
+            &self.circuit,
+            &self.wiring,
+            self.bytes.as_slice(),
+            self.front,
+            self.all_keep,
+        )
+    }
+
+    /// Finds the class of the next place, which is kept. Takes no memory.
+    pub fn find_next(&mut self)
+        ensures { self.new ≡ self.old }
+    {
+        let next = self.next_class();
+        self.next = next;
+        self.found = true;
     }
 
     /// The next place, where there is one. Takes no memory.
@@ -123,6 +154,14 @@ impl<'a> Waveform<'a> {
         ensures { result ≡ place_at (job self.now) (length self.now.written) }
     {
         place_there(&self.circuit, self.front)
+    }
+
+    /// Its position in the order. Takes no memory.
+    pub fn position_behind(&self) -> usize
+        requires { HasMore self.now }
+        ensures { result ≡ length self.now.written % (job self.now).width }
+    {
+        self.front.position
     }
 
     /// The class of the place of a number. Takes no memory.
@@ -164,18 +203,33 @@ impl<'a> Waveform<'a> {
         rule_value(&self.circuit, &bytes, number, bits)
     }
 
-    /// Writes the next place, and finds the class of the one behind it. Takes no memory.
+    /// Writes the next place. Takes no memory.
     pub fn push(&mut self, written: Written)
         requires next { HasMore self.old }
         requires agrees { ValuesAgree (job self.old) (self.old.written ++ written ∷ []) }
         ensures { self.new ≡ and_one self.old written }
     {
         let circuit = self.circuit;
+        let next = self.next_class();
         let front = front_behind(&circuit, self.front, self.bytes.len());
-        push_place(&circuit, &mut self.bytes, self.next, written);
+        push_place(&circuit, &mut self.bytes, next, written);
         let bytes = self.bytes.as_slice();
         let all_keep = keep_behind(bytes, front, self.all_keep);
-        self.next = class_behind(&circuit, &self.wiring, bytes, front, all_keep);
+        self.found = false;
+        self.front = front;
+        self.all_keep = all_keep;
+    }
+
+    /// Writes so many places, each as its net's place a step before stands. Takes no memory.
+    pub fn repeat(&mut self, many: usize)
+        requires { IsRepeatable self.old many }
+        ensures { self.new ≡ and_repeated self.old many }
+    {
+        let circuit = self.circuit;
+        let front = front_after(&circuit, self.front, self.bytes.len(), many);
+        repeat_places(&circuit, &mut self.bytes, many);
+        let all_keep = keep_repeated(front, self.all_keep);
+        self.found = false;
         self.front = front;
         self.all_keep = all_keep;
     }

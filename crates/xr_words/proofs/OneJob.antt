@@ -1,9 +1,11 @@
 -- What the options of a job give is one.
 use Rattle.std.proofs.Common.{◌≡◌, ◌∙◌, ℕ, length, get_or, Option, Some, None, codes, refl, sym, ap, arith}
 use Rattle.xr_line.specs.Line.{IsNumber, Text}
-use Rattle.xr_words.specs.Words.{GivesJob, GivesOptions, IsCount, IsForm, IsStart, IsUndriven, JobValues, form_number, start_word, undriven_word}
+use Rattle.xr_words.specs.Words.{AreLevels, GivesJob, IsCount, IsForm, IsStart, IsUndriven, JobValues, form_number, levels_word, start_word, undriven_word}
 use Rattle.xr_words.specs.declared.words.Form.{Form}
 use Rattle.xr_words.specs.declared.words.Form.TheVariants.{Lines, Turns}
+use Rattle.xr_words.specs.declared.words.Levels.{Levels}
+use Rattle.xr_words.specs.declared.words.Levels.TheVariants.{Change, Hold}
 use Rattle.xr_words.specs.declared.words.Start.{Start}
 use Rattle.xr_words.specs.declared.words.Start.TheVariants.{Cold, Recorded}
 use Rattle.xr_words.specs.declared.words.Undriven.{Undriven}
@@ -25,6 +27,19 @@ one_word text Recorded Recorded first second = refl
 one_start : (o : Option Text) (a b : Start) → IsStart o a → IsStart o b → a ≡ b
 one_start None a b first second = first ∙ sym second
 one_start (Some text) a b first second = one_word text a b first second
+
+two_levels : codes "change" ≡ codes "hold" → ⊥
+two_levels same = let long : ◌≡◌ {A = ℕ} 6 4 = ap (λ (l : Text). length l) same in omega (arith, long)
+
+one_levels_word : (text : Text) (a b : Levels) → text ≡ levels_word a → text ≡ levels_word b → a ≡ b
+one_levels_word text Change Change first second = refl
+one_levels_word text Change Hold first second = absurd (two_levels (sym first ∙ second))
+one_levels_word text Hold Change first second = absurd (two_levels (sym second ∙ first))
+one_levels_word text Hold Hold first second = refl
+
+one_levels : (o : Option Text) (a b : Levels) → AreLevels o a → AreLevels o b → a ≡ b
+one_levels None a b first second = first ∙ sym second
+one_levels (Some text) a b first second = one_levels_word text a b first second
 
 two_rules : codes "released" ≡ codes "recorded" → ⊥
 two_rules same = let third : ◌≡◌ {A = ℕ} 108 99 = ap (λ (l : Text). get_or l 2 0) same in omega (arith, third)
@@ -55,16 +70,14 @@ one_form (Some text) a b first second = one_number_form text a b first second
 pub some_same : (a b : Text) (o : Option Text) → o ≡ Some a → o ≡ Some b → a ≡ b
 some_same a b o first second = let both : Some a ≡ Some b = sym first ∙ second in cc
 
-pub one_job_within : (option : Text → Option Text) (a b : JobValues) → GivesOptions option a → GivesOptions option b → a.places ≡ b.places → a.netlists ≡ b.netlists → a ≡ b
-one_job_within option a b first second places netlists =
+pub one_job : (option : Text → Option Text) (a b : JobValues) → GivesJob option a → GivesJob option b → a.netlists ≡ b.netlists → a ≡ b
+one_job option a b first second netlists =
     let recording = some_same a.recording b.recording (option (codes "record")) first.recording second.recording in
     let scope = some_same a.scope b.scope (option (codes "scope")) first.scope second.scope in
     let top = some_same a.top b.top (option (codes "top")) first.top second.top in
     let rounds = one_count (option (codes "rounds")) 4 16 a.rounds b.rounds first.rounds second.rounds in
+    let places = one_count (option (codes "places")) 134217728 1099511627776 a.places b.places first.places second.places in
     let start = one_start (option (codes "start")) a.start b.start first.start second.start in
+    let levels = one_levels (option (codes "levels")) a.levels b.levels first.levels second.levels in
     let undriven = one_undriven (option (codes "undriven")) a.undriven b.undriven first.undriven second.undriven in
-    λ i. record { recording = recording i; scope = scope i; top = top i; rounds = rounds i; places = places i; start = start i; undriven = undriven i; netlists = netlists i }
-
-pub one_job : (option : Text → Option Text) (a b : JobValues) → GivesJob option a → GivesJob option b → a.netlists ≡ b.netlists → a ≡ b
-one_job option a b first second netlists =
-    one_job_within option a b first.options second.options (first.places ∙ sym second.places) netlists
+    λ i. record { recording = recording i; scope = scope i; top = top i; rounds = rounds i; places = places i; start = start i; levels = levels i; undriven = undriven i; netlists = netlists i }

@@ -2,10 +2,15 @@
 use Rattle.std.specs.Prelude.{List, [], ◌∷◌, ◌++◌, codes}
 use Rattle.xr_line.specs.Tables.{Plain, Reads, Module, Scope, Number, Either, needs, takes}
 
+abbrev pub places : Plain
+places = takes (codes "places") (Number 1 1099511627776)
+
 -- The options of a command with a job: those of every job, and its own between them.
 abbrev pub job : List Plain → List Plain
 job own = needs (codes "record") Reads ∷ needs (codes "scope") Scope ∷ needs (codes "top") Module ∷ (own
-    ++ takes (codes "rounds") (Number 1 16) ∷ takes (codes "start") (Either (codes "cold") (codes "recorded"))
+    ++ takes (codes "rounds") (Number 1 16) ∷ places
+    ∷ takes (codes "start") (Either (codes "cold") (codes "recorded"))
+    ∷ takes (codes "levels") (Either (codes "change") (codes "hold"))
     ∷ takes (codes "undriven") (Either (codes "released") (codes "recorded")) ∷ [])
 
 abbrev pub conflicts : Plain
@@ -13,6 +18,3 @@ conflicts = takes (codes "conflicts") (Number 1 100000)
 
 abbrev pub report : Plain
 report = takes (codes "report") (Either (codes "all") (codes "changes"))
-
-abbrev pub places : Plain
-places = takes (codes "places") (Number 1 1099511627776)

@@ -3,6 +3,8 @@ use Rattle.std.specs.Prelude.{◌≡◌, ◌∷◌, ℕ, ◌≤◌, List, Option
 use Rattle.xr_words.specs.declared.words.Form.{Form}
 use Rattle.xr_words.specs.declared.words.Form.TheVariants.{Lines, Turns}
 use Rattle.xr_words.specs.declared.words.JobWords.{JobWords}
+use Rattle.xr_words.specs.declared.words.Levels.{Levels}
+use Rattle.xr_words.specs.declared.words.Levels.TheVariants.{Change, Hold}
 use Rattle.xr_words.specs.declared.words.Start.{Start}
 use Rattle.xr_words.specs.declared.words.Start.TheVariants.{Cold, Recorded}
 use Rattle.xr_words.specs.declared.words.Undriven.{Undriven}
@@ -24,6 +26,15 @@ start_word Recorded = codes "recorded"
 abbrev pub IsStart : Option Text → Start → Type 0
 IsStart None start = start ≡ Cold
 IsStart (Some text) start = text ≡ start_word start
+
+abbrev pub levels_word : Levels → Text
+levels_word Change = codes "change"
+levels_word Hold = codes "hold"
+
+-- When levels decide registers, by change where nothing is said.
+abbrev pub AreLevels : Option Text → Levels → Type 0
+AreLevels None levels = levels ≡ Change
+AreLevels (Some text) levels = text ≡ levels_word levels
 
 abbrev pub undriven_word : Undriven → Text
 undriven_word named.Released = codes "released"
@@ -52,24 +63,23 @@ pub record JobValues : Type 0 where
   pub rounds : ℕ
   pub places : ℕ
   pub start : Start
+  pub levels : Levels
   pub undriven : Undriven
   pub netlists : List Text
 
 -- ---- what options give
 
--- These are the values of the options that every command with a job has.
-pub record GivesOptions (option : Text → Option Text) (job : JobValues) : Type 0 where
+-- These are the values of the options that every command with a job has. It has at most 2^27 places where nothing is
+-- said, and at most 2^40.
+pub record GivesJob (option : Text → Option Text) (job : JobValues) : Type 0 where
   pub recording : option (codes "record") ≡ Some job.recording
   pub scope : option (codes "scope") ≡ Some job.scope
   pub top : option (codes "top") ≡ Some job.top
   pub rounds : IsCount (option (codes "rounds")) 4 16 job.rounds
+  pub places : IsCount (option (codes "places")) 134217728 1099511627776 job.places
   pub start : IsStart (option (codes "start")) job.start
+  pub levels : AreLevels (option (codes "levels")) job.levels
   pub undriven : IsUndriven (option (codes "undriven")) job.undriven
-
--- So they are, and the job is one that is walked over: it has at most 2^27 places.
-pub record GivesJob (option : Text → Option Text) (job : JobValues) : Type 0 where
-  pub options : GivesOptions option job
-  pub places : job.places ≡ 134217728
 
 -- ---- what was read
 
@@ -81,6 +91,7 @@ job_values words = record {
   rounds = words.rounds;
   places = words.places;
   start = words.start;
+  levels = words.levels;
   undriven = words.undriven;
   netlists = map string_bytes words.netlists.now;
 }

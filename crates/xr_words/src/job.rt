@@ -1,10 +1,10 @@
 //! The words of every command that reads a netlist and a recording of it.
 
-ghost use Rattle.std.specs.Prelude.{◌≡◌, ◌<◌, ◌≤◌, IfSome, IfNone, length, map, string_bytes};
+ghost use Rattle.std.specs.Prelude.{◌≡◌, ◌<◌, IfSome, IfNone, length, map, string_bytes};
 ghost use Rattle.xr_line.specs.Read.{options_by, value_of};
-ghost use Rattle.xr_words.specs.Words.{GivesJob, GivesOptions, JobValues, job_values};
+ghost use Rattle.xr_words.specs.Words.{GivesJob, JobValues, job_values};
 
-use crate::typed::{count_of, start_of, undriven_of};
+use crate::typed::{count_of, levels_of, places_of, start_of, undriven_of};
 use crate::words::JobWords;
 use xr_line::Line;
 
@@ -13,38 +13,21 @@ const MOST_ROUNDS: u32 = 16;
 
 const ROUNDS: u32 = 4;
 
-/// The most places of a job that is walked over, and of a replay whose words name no other number.
-pub const PLACE_LIMIT: u64 = 134_217_728;
-
-/// What the options name together with the FILEs, none where one lacks or has no value that it may have. The job is one
-/// that is walked over.
+/// What the options name together with the FILEs, none where one lacks or has no value that it may have.
 pub fn job_of<'a>(line: &Line<'a>, files: &'a [String]) -> Option<JobWords<'a>>
     requires { 0 < length files.now }
     ensures files { IfSome result (λ words. (job_values words).netlists ≡ map string_bytes files.now) }
     ensures gives { IfSome result (λ words. GivesJob (options_by (value_of line.now)) (job_values words)) }
-    ensures few { IfSome result (λ words. words.places ≤ 134217728) }
     ensures none { IfNone result ((job : JobValues) → GivesJob (options_by (value_of line.now)) job → ⊥) }
-{
-    job_within(line, files, PLACE_LIMIT)
-}
-
-/// The same for a job of at most so many places.
-pub fn job_within<'a>(line: &Line<'a>, files: &'a [String], places: u64) -> Option<JobWords<'a>>
-    requires files { 0 < length files.now }
-    requires some { 1 ≤ places }
-    requires few { places ≤ 1099511627776 }
-    ensures files { IfSome result (λ words. (job_values words).netlists ≡ map string_bytes files.now) }
-    ensures gives { IfSome result (λ words. GivesOptions (options_by (value_of line.now)) (job_values words)) }
-    ensures places { IfSome result (λ words. words.places ≡ places) }
-    ensures none { IfNone result ((job : JobValues) → GivesOptions (options_by (value_of line.now)) job → ⊥) }
 {
     Some(JobWords {
         recording: line.get("record")?,
         scope: line.get("scope")?,
         top: line.get("top")?,
         rounds: count_of(line.get("rounds"), ROUNDS, MOST_ROUNDS)?,
-        places,
+        places: places_of(line)?,
         start: start_of(line.get("start"))?,
+        levels: levels_of(line.get("levels"))?,
         undriven: undriven_of(line.get("undriven"))?,
         netlists: files,
     })

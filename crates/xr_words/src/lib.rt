@@ -10,7 +10,7 @@ mod options;
 mod typed;
 mod words;
 
-pub use job::{job_of, job_within};
-pub use options::{CONFLICTS, PLACES, RECORD, REPORT, ROUNDS, SCOPE, START, TOP, UNDRIVEN};
-pub use typed::{conflicts_of, form_of, places_of};
-pub use words::{Form, JobWords, Start, Undriven};
+pub use job::job_of;
+pub use options::{CONFLICTS, LEVELS, PLACES, RECORD, REPORT, ROUNDS, SCOPE, START, TOP, UNDRIVEN};
+pub use typed::{conflicts_of, form_of};
+pub use words::{Form, JobWords, Levels, Start, Undriven};

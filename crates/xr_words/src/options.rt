@@ -37,7 +37,9 @@ macro_rules! job_options {
             $crate::TOP,
             $($own,)*
             $crate::ROUNDS,
+            $crate::PLACES,
             $crate::START,
+            $crate::LEVELS,
             $crate::UNDRIVEN,
         ]
     };
@@ -55,8 +57,14 @@ pub const TOP: Opt<'static> = needs!("top", Kind::Name);
 /// The rounds of a moment, 4 where it is absent.
 pub const ROUNDS: Opt<'static> = takes!("rounds", Kind::Number(1, 16));
 
+/// The most places, 2^27 where it is absent.
+pub const PLACES: Opt<'static> = takes!("places", Kind::Number(1, 1_099_511_627_776));
+
 /// What registers hold before the first step, `cold` where it is absent.
 pub const START: Opt<'static> = takes!("start", Kind::Either("cold", "recorded"));
+
+/// When levels decide registers, `change` where it is absent.
+pub const LEVELS: Opt<'static> = takes!("levels", Kind::Either("change", "hold"));
 
 /// What nets without a driver have, `released` where it is absent.
 pub const UNDRIVEN: Opt<'static> = takes!("undriven", Kind::Either("released", "recorded"));
@@ -66,6 +74,3 @@ pub const CONFLICTS: Opt<'static> = takes!("conflicts", Kind::Number(1, 100_000)
 
 /// Which moments of a bit have a line in a report, `all` where it is absent.
 pub const REPORT: Opt<'static> = takes!("report", Kind::Either("all", "changes"));
-
-/// The most places, 2^27 where it is absent.
-pub const PLACES: Opt<'static> = takes!("places", Kind::Number(1, 1_099_511_627_776));

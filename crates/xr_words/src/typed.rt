@@ -3,12 +3,12 @@
 ghost use Rattle.std.specs.Prelude.{◌≡◌, ◌≤◌, ℕ, Some, IfSome, IfNone, codes, option_map};
 ghost use Rattle.xr_line.specs.Read.{value_of};
 ghost use Rattle.xr_words.specs.declared.words.Form.{Form};
+ghost use Rattle.xr_words.specs.declared.words.Levels.{Levels};
 ghost use Rattle.xr_words.specs.declared.words.Start.{Start};
 ghost use Rattle.xr_words.specs.declared.words.Undriven.{Undriven};
-ghost use Rattle.xr_words.specs.Words.{IsCount, IsForm, IsStart, IsUndriven};
+ghost use Rattle.xr_words.specs.Words.{AreLevels, IsCount, IsForm, IsStart, IsUndriven};
 
-use crate::job::PLACE_LIMIT;
-use crate::words::{Form, Start, Undriven};
+use crate::words::{Form, Levels, Start, Undriven};
 use xr_line::{Line, number_in};
 
 /// The most clauses of a search, and how many there are where none are given.
@@ -16,8 +16,10 @@ const MOST_CONFLICTS: u32 = 100_000;
 
 const CONFLICTS: u32 = 1_000;
 
-/// The most places that the words of a replay may name, 2^40.
+/// The most places that the words of a job may name, 2^40, and how many there are where none are given, 2^27.
 const MOST_PLACES: u64 = 1_099_511_627_776;
+
+const PLACE_LIMIT: u64 = 134_217_728;
 
 /// The clauses of a search that a line names.
 pub fn conflicts_of(line: &Line<'_>) -> Option<u32>
@@ -29,7 +31,7 @@ pub fn conflicts_of(line: &Line<'_>) -> Option<u32>
     count_of(line.get("conflicts"), CONFLICTS, MOST_CONFLICTS)
 }
 
-/// The most places of a replay that a line names.
+/// The most places of a job that a line names.
 pub fn places_of(line: &Line<'_>) -> Option<u64>
     ensures count { IfSome result (IsCount (value_of line.now (codes "places")) 134217728 1099511627776) }
     ensures least { IfSome result (λ count. 1 ≤ count) }
@@ -97,6 +99,28 @@ fn start_in(text: &str) -> Option<Start>
     match text {
         "cold" => Some(Start::Cold),
         "recorded" => Some(Start::Recorded),
+        _ => None,
+    }
+}
+
+/// When levels decide registers as an option says, by change where it is absent.
+pub fn levels_of(text: Option<&str>) -> Option<Levels>
+    ensures levels { IfSome result (AreLevels (option_map (λ s. s.now) text.entry)) }
+    ensures none { IfNone result ((levels : Levels) → AreLevels (option_map (λ s. s.now) text.entry) levels → ⊥) }
+{
+    match text {
+        Some(text) => levels_in(text),
+        None => Some(Levels::Change),
+    }
+}
+
+fn levels_in(text: &str) -> Option<Levels>
+    ensures levels { IfSome result (AreLevels (Some text.now)) }
+    ensures none { IfNone result ((levels : Levels) → AreLevels (Some text.now) levels → ⊥) }
+{
+    match text {
+        "change" => Some(Levels::Change),
+        "hold" => Some(Levels::Hold),
         _ => None,
     }
 }

@@ -11,6 +11,15 @@ pub enum Start {
     Recorded,
 }
 
+/// When pins that hold a register, an active set or reset or an open latch, decide it in the circuit of zeros and ones.
+#[derive(Clone, Copy, Debug, PartialEq, Eq)]
+pub enum Levels {
+    /// When one of its pins changes.
+    Change,
+    /// At each step.
+    Hold,
+}
+
 /// What nets without a driver have.
 #[derive(Clone, Copy, Debug, PartialEq, Eq)]
 pub enum Undriven {
@@ -43,6 +52,7 @@ pub struct JobWords<'a> {
     /// The most places: nets by moments by rounds, 1 to 2^40.
     pub places: u64,
     pub start: Start,
+    pub levels: Levels,
     pub undriven: Undriven,
     /// The files of the netlist, one or more.
     pub netlists: &'a [String],

@@ -5,7 +5,9 @@ ghost use Rattle.std.specs.Prelude.{◌≡◌, [], ◌∷◌, IfOk, length};
 use std::alloc::{AllocError, Global};
 use std::test::Fail;
 use xr_base::{Items, Memory};
-use xr_design::{Design, Driver, Name, NamePart, Net, Order, StartRule, Stim};
+use xr_design::{
+    Design, Driver, Levels, Name, NamePart, Net, Order, RegisterRules, StartRule, Stim,
+};
 use xr_inputs::InputsWriter;
 
 pub fn part(alloc: Global, text: &[u8], escaped: bool) -> Result<NamePart, AllocError> {
@@ -68,7 +70,10 @@ pub fn two_moments(alloc: Global) -> Result<Stim, Fail>
         times: Items::from_vec(times),
         rounds: 2,
         inputs,
-        start: StartRule::Cold,
+        rules: RegisterRules {
+            start: StartRule::Cold,
+            levels: Levels::Change,
+        },
         starts: Items::from_vec(Vec::new(alloc)),
     })
 }

@@ -19,7 +19,6 @@ pub struct Audit<'a> {
     pub job: JobWords<'a>,
     /// The clauses of a search, 1 to 100,000.
     pub conflicts: u32,
-    ghost few_places: { job.places ≤ 134217728 },
     ghost some_clauses: { 1 ≤ conflicts },
     ghost few_clauses: { conflicts ≤ 100000 },
 }

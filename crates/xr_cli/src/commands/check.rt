@@ -25,7 +25,6 @@ pub struct Check<'a> {
     pub conflicts: u32,
     /// The lines of bits in the report.
     pub lines: ReportLines,
-    ghost few_places: { job.places ≤ 134217728 },
     ghost some_clauses: { 1 ≤ conflicts },
     ghost few_clauses: { conflicts ≤ 100000 },
 }

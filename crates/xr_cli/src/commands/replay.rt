@@ -10,12 +10,11 @@ use xr_phases::{Refused, TEXT_BYTES, job_of};
 use xr_run::{Ready, Refusal};
 use xr_set::{Form, Inputs, Run};
 use xr_shelf::{Shelf, Sink};
-use xr_words::{JobWords, PLACES, job_options, job_within, needs, places_of};
+use xr_words::{JobWords, job_of as job_words, job_options, needs};
 
 static OPTIONS: &[Opt<'static>] = job_options![
     needs!("code", Kind::Reads),
-    needs!("vcd", Kind::Writes),
-    PLACES
+    needs!("vcd", Kind::Writes)
 ];
 
 /// The words of `replay`.
@@ -46,9 +45,8 @@ impl<'a> Run<'a> for Replay<'a> {
     }
 
     fn of_line(line: &Line<'a>, files: &'a [String]) -> Option<Self> {
-        let places = places_of(line)?;
         let words = Replay {
-            job: job_within(line, files, places)?,
+            job: job_words(line, files)?,
             code: line.get("code")?,
             vcd: line.get("vcd")?,
         };

@@ -19,13 +19,15 @@ push-requires c =
 pub overflow_add-bound : goal.overflow_add-bound
 overflow_add-bound c =
     let is : IsLeast c.args.places.now c.rest.bound c.in-Some.least = c.in-Some.ensures in
-    let low : c.in-Some.least < 2 ^ 40 = all_among (λ k. k < 2 ^ 40) c.args.places.now c.in-Some.least c.requires.small is.inside in
+    let low : c.in-Some.least < 2 ^ 40 = all_among (λ k. k < 2 ^ 40) c.args.places.now c.in-Some.least c.requires.small
+    is.inside in
     omega (arith, low)
 
 pub rest-smaller : goal.rest-smaller
 rest-smaller c =
     let is : IsLeast c.args.places.now c.rest.bound c.in-Some.least = c.in-Some.ensures in
-    let low : c.in-Some.least < 2 ^ 40 = all_among (λ k. k < 2 ^ 40) c.args.places.now c.in-Some.least c.requires.small is.inside in
+    let low : c.in-Some.least < 2 ^ 40 = all_among (λ k. k < 2 ^ 40) c.args.places.now c.in-Some.least c.requires.small
+    is.inside in
     let above = is.above in
     omega (arith, low, above)
 
@@ -33,7 +35,8 @@ pub rest-preserved : goal.rest-preserved
 rest-preserved c =
     let places = c.args.places.now in
     let is : IsLeast places c.rest.bound c.in-Some.least = c.in-Some.ensures in
-    let low : c.in-Some.least < 2 ^ 40 = all_among (λ k. k < 2 ^ 40) places c.in-Some.least c.requires.small is.inside in
+    let low : c.in-Some.least < 2 ^ 40 = all_among (λ k. k < 2 ^ 40) places c.in-Some.least c.requires.small
+    is.inside in
     record {
       listed = c.push.ensures ∙ ap (λ xs. xs ++ c.in-Some.least ∷ []) c.rest.invariant.listed
           ∙ sym (found (among places) c.rest.bound c.in-Some.least is.above is.inside is.none_before);

@@ -4,7 +4,7 @@ use Rattle.xr_design.specs.Circuit.{job_in}
 use Rattle.xr_model.specs.Class.{before, class_of}
 use Rattle.xr_model.specs.Yields.{is_line}
 use Rattle.xr_model.specs.declared.class.ClassByNumber.TheVariants.{Carried}
-use Rattle.xr_class.specs.Facts.{Facts, is_plain, place_is_carried_on, plain_class}
+use Rattle.xr_class.specs.Facts.{is_plain, place_is_carried_on, plain_class}
 use Rattle.xr_class.proofs.SteadyClasses.{carried_on, line_is, plain_is}
 use Rattle.xr_class.proofs.classify.kept_class.Goals as goal
 
@@ -13,8 +13,8 @@ returns-then-is_carried_on g c =
     let j = job_in c.args.circuit.now in
     let certain = g.E.Source.reads c.args.earlier.now in
     let place = c.args.place in
-    let on : place_is_carried_on j certain place ≡ true = sym (c.is_carried_on.ensures
-    ∙ ap (λ (facts : Facts). facts.carries) (c.requires.facts place (omega arith))) ∙ c.if-is_carried_on.true in
+    let on : place_is_carried_on j certain place ≡ true =
+    (c.requires.facts place (omega arith)).carries (sym c.is_carried_on.ensures ∙ c.if-is_carried_on.true) in
     ap (λ k. Carried k false) c.place_before.ensures
     ∙ sym (carried_on (class_of j certain place) (before j place) on)
 
@@ -23,8 +23,8 @@ returns-then-is_plain g c =
     let j = job_in c.args.circuit.now in
     let certain = g.E.Source.reads c.args.earlier.now in
     let place = c.args.place in
-    let plain : is_plain (class_of j certain place) ≡ true = sym (c.is_plain.ensures
-    ∙ ap (λ (facts : Facts). facts.plain) (c.requires.facts place (omega arith))) ∙ c.if-is_plain.true in
+    let plain : is_plain (class_of j certain place) ≡ true =
+    (c.requires.facts place (omega arith)).plain (sym c.is_plain.ensures ∙ c.if-is_plain.true) in
     c.plain_class.ensures ∙ ap plain_class c.value.ensures
     ∙ sym (plain_is certain (class_of j certain place) (certain place) plain (c.requires.agrees place (omega arith)))
 
@@ -33,8 +33,8 @@ returns-then-is_line g c =
     let j = job_in c.args.circuit.now in
     let certain = g.E.Source.reads c.args.earlier.now in
     let place = c.args.place in
-    let line : is_line (class_of j certain place) ≡ true = sym (c.is_line.ensures
-    ∙ ap (λ (facts : Facts). facts.line) (c.requires.facts place (omega arith))) ∙ c.if-is_line.true in
+    let line : is_line (class_of j certain place) ≡ true =
+    (c.requires.facts place (omega arith)).line (sym c.is_line.ensures ∙ c.if-is_line.true) in
     sym (line_is (class_of j certain place) line)
 
 pub class_at-requires-clause-facts : goal.class_at-requires-clause-facts

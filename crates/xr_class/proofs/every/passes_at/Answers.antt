@@ -13,4 +13,5 @@ bit-requires g c =
     let certain = g.C.Source.reads c.args.certain.now in
     let place = c.args.place in
     let contains = subst (ReadsOnly j certain place) c.in-Copies.is c.requires.reads in
-    c.requires.certain c.in-Copies.from (all_at (λ k. k < place) (arguments j certain place) c.in-Copies.from (arguments_below j c.requires.fits.fits_job certain place c.requires.within) contains)
+    c.requires.certain c.in-Copies.from (all_at (λ k. k < place) (arguments j certain place) c.in-Copies.from
+    (arguments_below j c.requires.fits.fits_job certain place c.requires.within) contains)

@@ -12,7 +12,9 @@ pub returns-then-not-passes_at : goal.returns-then-not-passes_at
 returns-then-not-passes_at g c =
     let j = job_in c.args.circuit.now in
     let certain = g.C.Source.reads c.args.certain.now in
-    let fails : test_of j certain c.args.place c.args.test (assigned certain (masked c.args.uncertain.now c.numbers.number)) ≡ false = rw c.passes_at.ensures at c.if-not-passes_at.true in
+    let fails : test_of j certain c.args.place c.args.test
+    (assigned certain (masked c.args.uncertain.now c.numbers.number)) ≡ false =
+    rw c.passes_at.ensures at c.if-not-passes_at.true in
     sym (number_fails j certain c.args.place c.args.test c.requires.reads c.args.uncertain.now c.numbers.number fails)
 
 pub returns : goal.returns
@@ -20,6 +22,9 @@ returns g c =
     let j = job_in c.args.circuit.now in
     let certain = g.C.Source.reads c.args.certain.now in
     let few = c.requires.few in
-    let each : (m : ℕ) → m < 2 ^ length c.args.uncertain.now → test_of j certain c.args.place c.args.test (assigned certain (masked c.args.uncertain.now m)) ≡ true =
-    λ m less. c.numbers.invariant m (omega (arith, less, one_shl (length c.args.uncertain.now) 16 (omega (arith, few)))) in
-    sym (numbers_pass j c.requires.fits.fits_job certain c.args.place c.args.test c.requires.within c.requires.reads c.args.uncertain.now c.requires.uncertain each)
+    let each : (m : ℕ) → m < 2 ^ length c.args.uncertain.now
+    → test_of j certain c.args.place c.args.test (assigned certain (masked c.args.uncertain.now m)) ≡ true =
+    λ m less. c.numbers.invariant m
+    (omega (arith, less, one_shl (length c.args.uncertain.now) 16 (omega (arith, few)))) in
+    sym (numbers_pass j c.requires.fits.fits_job certain c.args.place c.args.test c.requires.within c.requires.reads
+    c.args.uncertain.now c.requires.uncertain each)

@@ -7,4 +7,6 @@ use Rattle.xr_class.specs.Test.{test_of}
 use Rattle.xr_class.proofs.every.passes_every.Given as goal
 
 abbrev pub invariant-numbers : goal.invariant-numbers
-invariant-numbers g l = (m : ℕ) → m < l.number → test_of (job_in l.circuit) (g.C.Source.reads l.certain) l.place l.test (assigned (g.C.Source.reads l.certain) (masked l.uncertain m)) ≡ true
+invariant-numbers g l = (m : ℕ) → m < l.number
+    → test_of (job_in l.circuit) (g.C.Source.reads l.certain) l.place l.test
+    (assigned (g.C.Source.reads l.certain) (masked l.uncertain m)) ≡ true

@@ -10,10 +10,12 @@ use Rattle.xr_class.proofs.Reached.{nets_standing}
 use Rattle.xr_class.proofs.keeps.cell_passes.Goals as goal
 
 pub pins_keep-requires-clause-nets : goal.pins_keep-requires-clause-nets
-pins_keep-requires-clause-nets g c = nets_standing (job_in c.args.circuit.now) c.args.place c.args.spot (net_pins c.args.pins.now) c.requires.spot c.requires.before
+pins_keep-requires-clause-nets g c = nets_standing (job_in c.args.circuit.now) c.args.place c.args.spot
+    (net_pins c.args.pins.now) c.requires.spot c.requires.before
 
 pub pins_keep-requires-clause-small : goal.pins_keep-requires-clause-small
-pins_keep-requires-clause-small g c = step_room (job_in c.args.circuit.now) c.requires.fits.fits_job c.args.place c.args.spot c.requires.spot
+pins_keep-requires-clause-small g c = step_room (job_in c.args.circuit.now) c.requires.fits.fits_job c.args.place
+    c.args.spot c.requires.spot
 
 pub returns-then-not-cell_chooses : goal.returns-then-not-cell_chooses
 returns-then-not-cell_chooses g c =

@@ -13,9 +13,11 @@ returns-then-are_equal g c =
     let back = before_back j c.requires.fits.fits_job c.args.place c.width_of-width.result c.requires.within
     c.width_of-width.ensures c.if-place-width.true in
     let same = c.are_equal.ensures ∙ ap (are_equal here) (c.value.ensures ∙ ap certain back) in
-    same ∙ either_true (are_equal here (certain (before j c.args.place))) c.args.carries (sym same ∙ c.if-are_equal.true)
+    same ∙ either_true (are_equal here (certain (before j c.args.place))) c.args.carries (sym same
+    ∙ c.if-are_equal.true)
     ∙ keeps_later j c.requires.fits.fits_job c.args.place here (certain (before j c.args.place)) c.args.carries
-    c.requires.within (more_width j.width c.width_of-width.result c.args.place c.width_of-width.ensures c.if-place-width.true)
+    c.requires.within (more_width j.width c.width_of-width.result c.args.place c.width_of-width.ensures
+    c.if-place-width.true)
   where
     either_true : (a b : Bool) → a ≡ true → a ≡ a || b
     either_true true b is = refl
@@ -31,7 +33,8 @@ returns-else-are_equal g c =
     let same = c.are_equal.ensures ∙ ap (are_equal here) (c.value.ensures ∙ ap certain back) in
     or_else (are_equal here (certain (before j c.args.place))) c.args.carries (sym same ∙ c.if-are_equal.false)
     ∙ keeps_later j c.requires.fits.fits_job c.args.place here (certain (before j c.args.place)) c.args.carries
-    c.requires.within (more_width j.width c.width_of-width.result c.args.place c.width_of-width.ensures c.if-place-width.true)
+    c.requires.within (more_width j.width c.width_of-width.result c.args.place c.width_of-width.ensures
+    c.if-place-width.true)
   where
     or_else : (a b : Bool) → a ≡ false → b ≡ a || b
     or_else false b is = refl

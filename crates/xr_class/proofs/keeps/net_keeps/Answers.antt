@@ -2,7 +2,6 @@
 use Rattle.std.proofs.Common.{◌∙◌, ap}
 use Rattle.xr_design.specs.Circuit.{job_in}
 use Rattle.xr_design.specs.Job.{at}
-use Rattle.xr_class.specs.Facts.{Facts}
 use Rattle.xr_class.proofs.StepBefore.{keeps_at}
 use Rattle.xr_class.proofs.keeps.net_keeps.Goals as goal
 
@@ -12,5 +11,5 @@ returns g c =
     let certain = g.E.Source.reads c.args.earlier.now in
     let here = at j c.args.step c.args.net in
     c.keeps.ensures ∙ ap (λ k. (g.E.Earlier.facts c.args.earlier.now k).keeps) c.number_at.ensures
-    ∙ ap (λ (facts : Facts). facts.keeps) (c.requires.facts here c.requires.net.has_it)
+    ∙ (c.requires.facts here c.requires.net.has_it).keeps
     ∙ keeps_at j c.requires.fits.fits_job certain c.args.step c.args.net c.requires.net.within

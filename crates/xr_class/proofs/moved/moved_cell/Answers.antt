@@ -10,12 +10,14 @@ use Rattle.xr_class.proofs.moved.moved_cell.Goals as goal
 pub positions_known-requires : goal.positions_known-requires
 positions_known-requires g c =
     cell_reach (job_in c.args.circuit.now) c.requires.fits.fits_job (g.E.Source.has c.args.earlier.now) c.args.place
-    c.args.position c.args.table c.args.pins.now c.requires.within c.requires.position c.requires.stands c.requires.certain
+    c.args.position c.args.table c.args.pins.now c.requires.within c.requires.position c.requires.stands
+    c.requires.certain
 
 pub values_there-values-requires-clause-reach : goal.values_there-values-requires-clause-reach
 values_there-values-requires-clause-reach g c =
     cell_reach (job_in c.args.circuit.now) c.requires.fits.fits_job (g.E.Source.has c.args.earlier.now) c.args.place
-    c.args.position c.args.table c.args.pins.now c.requires.within c.requires.position c.requires.stands c.requires.certain
+    c.args.position c.args.table c.args.pins.now c.requires.within c.requires.position c.requires.stands
+    c.requires.certain
 
 pub returns-then-positions_known : goal.returns-then-positions_known
 returns-then-positions_known g c =

@@ -3,7 +3,7 @@ use Rattle.std.proofs.Common.{◌≡◌, ◌-◌, ◌%◌, ◌≤◌, ◌∙◌,
 use Rattle.std.specs.Bool.{OnTrue}
 use Rattle.xr_design.specs.Circuit.{job_in}
 use Rattle.xr_design.specs.Job.{net_of, step_of}
-use Rattle.xr_design.specs.Register.{updated}
+use Rattle.xr_design.specs.Rule.{remade}
 use Rattle.xr_design.specs.declared.design.Driver.TheVariants.{Register}
 use Rattle.xr_design.proofs.Rules.{spot}
 use Rattle.xr_model.specs.Class.{before}
@@ -29,8 +29,9 @@ returns-in-Register g c =
     ap j.driver (sym c.spot_of-spot.ensures.net) ∙ sym c.driver_at.ensures ∙ c.in-Register.is in
     let back : place - c.width_of.result ≡ before j place = ap (λ w. place - w) c.width_of.ensures
     ∙ before_later j c.requires.fits.fits_job place c.requires.within more in
-    c.plain_class.ensures ∙ ap plain_class (c.updated_value.ensures
-    ∙ ap (λ v. updated j certain v c.spot_of-spot.result.step latching) (c.value-kept.ensures ∙ ap certain back)
-    ∙ ap (λ t. updated j certain (certain (before j place)) t latching) c.spot_of-spot.ensures.step)
+    c.plain_class.ensures ∙ ap plain_class (c.remade_value.ensures
+    ∙ ap (λ v. remade j certain v c.spot_of-spot.result.step latching) (c.value-kept.ensures ∙ ap certain back)
+    ∙ ap (λ t. remade j certain (certain (before j place)) t latching) c.spot_of-spot.ensures.step)
     ∙ sym (register_settled j certain place latching
-    (later_step j.width (step_of j place) (place % j.width) place s.whole s.position more) driver (known latching driver))
+    (later_step j.width (step_of j place) (place % j.width) place s.whole s.position more) driver
+    (known latching driver))

@@ -15,7 +15,8 @@ pub positions_known-requires : goal.positions_known-requires
 positions_known-requires g c =
     pins_one_back (job_in c.args.circuit.now) c.requires.fits.fits_job (g.E.Source.has c.args.earlier.now) c.args.place
     c.args.position c.width_of-width.result c.args.pins.now c.requires.within c.requires.position c.requires.stands
-    c.width_of-width.ensures (steps_enough (job_in c.args.circuit.now) c.requires.fits.fits_job c.args.place c.args.position
+    c.width_of-width.ensures (steps_enough (job_in c.args.circuit.now) c.requires.fits.fits_job c.args.place
+    c.args.position
     c.width_of-width.result c.requires.within c.requires.position c.width_of-width.ensures c.if-first-width.false)
     c.requires.certain
 
@@ -23,7 +24,8 @@ pub positions_known-requires-then-positions_known : goal.positions_known-require
 positions_known-requires-then-positions_known g c =
     pins_two_back (job_in c.args.circuit.now) c.requires.fits.fits_job (g.E.Source.has c.args.earlier.now) c.args.place
     c.args.position c.width_of-width.result c.args.pins.now c.requires.within c.requires.position c.requires.stands
-    c.width_of-width.ensures (steps_enough (job_in c.args.circuit.now) c.requires.fits.fits_job c.args.place c.args.position
+    c.width_of-width.ensures (steps_enough (job_in c.args.circuit.now) c.requires.fits.fits_job c.args.place
+    c.args.position
     c.width_of-width.result c.requires.within c.requires.position c.width_of-width.ensures c.if-first-width.false)
     c.requires.certain
 

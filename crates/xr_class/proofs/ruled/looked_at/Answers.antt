@@ -13,7 +13,8 @@ old_arguments-arguments-requires-clause-few c =
     rw c.as_slice-pins.ensures (omega (arith, live, nets))
 
 pub old_arguments-arguments-requires-clause-small : goal.old_arguments-arguments-requires-clause-small
-old_arguments-arguments-requires-clause-small c = step_room (job_in c.args.circuit.now) c.requires.fits.fits_job c.args.place c.args.spot c.requires.spot
+old_arguments-arguments-requires-clause-small c =
+    step_room (job_in c.args.circuit.now) c.requires.fits.fits_job c.args.place c.args.spot c.requires.spot
 
 pub push_places-requires-clause-nets : goal.push_places-requires-clause-nets
 push_places-requires-clause-nets c = rw c.as_slice-pins.ensures c.requires.register.nets
@@ -31,6 +32,9 @@ push-requires c =
     let nets = nets_live c.args.latching.now.pins in
     let old = c.old_arguments-arguments.ensures.few in
     let new = places_long (job_in c.args.circuit.now) (c.args.spot.step - 1) c.args.latching.now.pins in
-    let both : length c.push_places.new.arguments ≡ length c.old_arguments-arguments.result + length (places_at (job_in c.args.circuit.now) (c.args.spot.step - 1) c.args.latching.now.pins) =
-    ap length (rw c.as_slice-pins.ensures at c.push_places.ensures) ∙ length-append c.old_arguments-arguments.result (places_at (job_in c.args.circuit.now) (c.args.spot.step - 1) c.args.latching.now.pins) in
+    let both : length c.push_places.new.arguments ≡ length c.old_arguments-arguments.result
+    + length (places_at (job_in c.args.circuit.now) (c.args.spot.step - 1) c.args.latching.now.pins) =
+    ap length (rw c.as_slice-pins.ensures at c.push_places.ensures)
+    ∙ length-append c.old_arguments-arguments.result (places_at (job_in c.args.circuit.now) (c.args.spot.step - 1)
+    c.args.latching.now.pins) in
     omega (arith, live, nets, old, new, both)

@@ -4,10 +4,10 @@ use Rattle.std.specs.Bool.{OnTrue}
 use Rattle.xr_design.specs.Circuit.{job_in}
 use Rattle.xr_model.specs.Class.{before, class_of}
 use Rattle.xr_model.specs.declared.class.ClassByNumber.TheVariants.{Carried}
-use Rattle.xr_class.specs.Facts.{Facts, is_plain, plain_class}
+use Rattle.xr_class.specs.Facts.{is_open, is_plain, plain_class}
 use Rattle.xr_class.specs.Wires.{PlaceSeesTheSame}
 use Rattle.xr_class.proofs.StepBefore.{before_later}
-use Rattle.xr_class.proofs.SteadyClasses.{steady_open, steady_plain}
+use Rattle.xr_class.proofs.SteadyClasses.{open_told, steady_open, steady_plain}
 use Rattle.xr_class.proofs.WiredRegisters.{register_seen}
 use Rattle.xr_class.proofs.steady.register_class.Goals as goal
 
@@ -17,40 +17,46 @@ returns-then-is_plain g c =
     let certain = g.E.Source.reads c.args.earlier.now in
     let place = c.args.place in
     let same : PlaceSeesTheSame j certain place =
-    subst (λ b. OnTrue b (PlaceSeesTheSame j certain place)) c.if-not-sees_the_same.false c.sees_the_same.ensures.same in
+    subst (λ b. OnTrue b (PlaceSeesTheSame j certain place)) c.if-not-sees_the_same.false
+    c.sees_the_same.ensures.same in
     let more : j.width ≤ place =
     subst (λ b. OnTrue b (j.width ≤ place)) c.if-not-sees_the_same.false c.sees_the_same.ensures.later in
     let back : place - c.width_of.result ≡ before j place = ap (λ w. place - w) c.width_of.ensures
     ∙ before_later j c.requires.fits.fits_job place c.requires.within more in
     let all = c.requires.within in
-    let seen = register_seen j c.requires.fits.fits_job certain place c.args.pins.now c.requires.within c.requires.stands
+    let seen = register_seen j c.requires.fits.fits_job certain place c.args.pins.now c.requires.within
+    c.requires.stands
     c.requires.agrees same in
     let less = seen.less in
     let plain : is_plain (class_of j certain (before j place)) ≡ true =
-    sym (c.is_plain.ensures ∙ ap (λ k. (g.E.Earlier.facts c.args.earlier.now k).plain) back
-    ∙ ap (λ (facts : Facts). facts.plain) (c.requires.facts (before j place) less)) ∙ c.if-is_plain.true in
+    (c.requires.facts (before j place) less).plain (sym (c.is_plain.ensures
+    ∙ ap (λ k. (g.E.Earlier.facts c.args.earlier.now k).plain) back) ∙ c.if-is_plain.true) in
     c.plain_class.ensures ∙ ap plain_class (c.value.ensures ∙ ap certain back)
     ∙ steady_plain j c.requires.fits.fits_job certain place (before j place) (omega (arith, less, all)) seen.kinds
     (c.requires.agrees (before j place) less) plain
 
-pub returns-else-is_plain : goal.returns-else-is_plain
-returns-else-is_plain g c =
+pub returns-then-is_open : goal.returns-then-is_open
+returns-then-is_open g c =
     let j = job_in c.args.circuit.now in
     let certain = g.E.Source.reads c.args.earlier.now in
     let place = c.args.place in
     let same : PlaceSeesTheSame j certain place =
-    subst (λ b. OnTrue b (PlaceSeesTheSame j certain place)) c.if-not-sees_the_same.false c.sees_the_same.ensures.same in
+    subst (λ b. OnTrue b (PlaceSeesTheSame j certain place)) c.if-not-sees_the_same.false
+    c.sees_the_same.ensures.same in
     let more : j.width ≤ place =
     subst (λ b. OnTrue b (j.width ≤ place)) c.if-not-sees_the_same.false c.sees_the_same.ensures.later in
     let back : place - c.width_of.result ≡ before j place = ap (λ w. place - w) c.width_of.ensures
     ∙ before_later j c.requires.fits.fits_job place c.requires.within more in
     let all = c.requires.within in
-    let seen = register_seen j c.requires.fits.fits_job certain place c.args.pins.now c.requires.within c.requires.stands
+    let seen = register_seen j c.requires.fits.fits_job certain place c.args.pins.now c.requires.within
+    c.requires.stands
     c.requires.agrees same in
     let less = seen.less in
     let open_is : is_plain (class_of j certain (before j place)) ≡ false =
-    sym (c.is_plain.ensures ∙ ap (λ k. (g.E.Earlier.facts c.args.earlier.now k).plain) back
-    ∙ ap (λ (facts : Facts). facts.plain) (c.requires.facts (before j place) less)) ∙ c.if-is_plain.false in
+    open_told j certain (before j place) (g.E.Earlier.facts c.args.earlier.now (before j place))
+    (c.requires.facts (before j place) less) (sym (c.is_open.ensures
+    ∙ ap (λ k. is_open (g.E.Earlier.facts c.args.earlier.now k)) back) ∙ c.if-is_open.true) in
     ap (λ k. Carried k false) back
-    ∙ steady_open j c.requires.fits.fits_job certain place (before j place) (omega (arith, less, all)) seen.kinds open_is
+    ∙ steady_open j c.requires.fits.fits_job certain place (before j place) (omega (arith, less, all)) seen.kinds
+    open_is
     (seen.passes open_is)

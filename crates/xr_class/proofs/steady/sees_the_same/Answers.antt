@@ -13,7 +13,8 @@ pub positions_keep-requires : goal.positions_keep-requires
 positions_keep-requires g c =
     pins_one_back (job_in c.args.circuit.now) c.requires.fits.fits_job (g.E.Source.has c.args.earlier.now) c.args.place
     c.args.position c.width_of-width.result c.args.pins.now c.requires.within c.requires.position c.requires.stands
-    c.width_of-width.ensures (steps_enough (job_in c.args.circuit.now) c.requires.fits.fits_job c.args.place c.args.position
+    c.width_of-width.ensures (steps_enough (job_in c.args.circuit.now) c.requires.fits.fits_job c.args.place
+    c.args.position
     c.width_of-width.result c.requires.within c.requires.position c.width_of-width.ensures c.if-first-width.false)
     c.requires.certain
 
@@ -21,7 +22,8 @@ pub positions_keep-requires-then-positions_keep : goal.positions_keep-requires-t
 positions_keep-requires-then-positions_keep g c =
     pins_two_back (job_in c.args.circuit.now) c.requires.fits.fits_job (g.E.Source.has c.args.earlier.now) c.args.place
     c.args.position c.width_of-width.result c.args.pins.now c.requires.within c.requires.position c.requires.stands
-    c.width_of-width.ensures (steps_enough (job_in c.args.circuit.now) c.requires.fits.fits_job c.args.place c.args.position
+    c.width_of-width.ensures (steps_enough (job_in c.args.circuit.now) c.requires.fits.fits_job c.args.place
+    c.args.position
     c.width_of-width.result c.requires.within c.requires.position c.width_of-width.ensures c.if-first-width.false)
     c.requires.certain
 

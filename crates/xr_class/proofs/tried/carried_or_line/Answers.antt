@@ -9,7 +9,8 @@ returns-in-Some g c =
     let ends = c.requires.ends in
     c.copied_or_line.ensures ∙ told_way (job_in c.args.circuit.now) c.requires.fits.fits_job
     (g.C.Source.reads c.args.certain.now) c.args.place c.requires.within c.args.uncertain.now c.args.ends.first
-    c.args.ends.last c.requires.uncertain ends.first ends.last c.in-Some.inverted (sym c.inverted.ensures ∙ c.in-Some.is)
+    c.args.ends.last c.requires.uncertain ends.first ends.last c.in-Some.inverted (sym c.inverted.ensures
+    ∙ c.in-Some.is)
 
 pub returns-in-None : goal.returns-in-None
 returns-in-None g c =

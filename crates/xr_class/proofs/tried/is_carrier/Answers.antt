@@ -11,4 +11,5 @@ value-requires g c =
     let j = job_in c.args.circuit.now in
     let certain = g.C.Source.reads c.args.certain.now in
     let place = c.args.place in
-    c.requires.certain c.args.from (all_at (λ k. k < place) (arguments j certain place) c.args.from (arguments_below j c.requires.fits.fits_job certain place c.requires.within) c.requires.from)
+    c.requires.certain c.args.from (all_at (λ k. k < place) (arguments j certain place) c.args.from
+    (arguments_below j c.requires.fits.fits_job certain place c.requires.within) c.requires.from)

@@ -1,7 +1,11 @@
 -- The wave over the blank history is found, and its audit beside the replay.
-use Rattle.xr_cli.specs.Audit.{audit_values}
+use Rattle.std.proofs.Common.{rules, ◌≡◌, Err}
+use Rattle.xr_cli.specs.Audit.{audit_values, walk_audited}
 use Rattle.xr_phases.proofs.Jobs.{fits_job}
 use Rattle.xr_cli.proofs.Auditing.{audit_found, is_audit}
+use Rattle.xr_run.specs.declared.refusal.Refusal.TheVariants.{Memory}
+use Rattle.xr_run.proofs.Then.{memory_out}
+use Rattle.xr_run.specs.Prepared.{answer_of}
 use Rattle.xr_cli.proofs.audited.audited.Goals as goal
 
 pub blank-requires-clause-nets : goal.blank-requires-clause-nets
@@ -34,3 +38,8 @@ returns-clause-prepared g c =
       repaired = c.in_ok-wave.ensures.repaired;
       prints = c.in_ok-listed.ensures;
     }
+
+pub returns-in_err-listed-clause-prepared : goal.returns-in_err-listed-clause-prepared
+returns-in_err-listed-clause-prepared g c =
+    let is : c.from_residual-in_err-listed.result ≡ Err Memory = search rules in
+    rw is (memory_out (walk_audited (audit_values c.args.words.now) c.args.job.now) answer_of)

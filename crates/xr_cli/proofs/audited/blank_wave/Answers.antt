@@ -1,14 +1,11 @@
 -- The circuit of the job fits, and a blank history is handed in, which no place contradicts.
 use Rattle.std.proofs.Common.{inr}
-use Rattle.xr_phases.proofs.Jobs.{circuit_fits, few_places}
+use Rattle.xr_phases.proofs.Jobs.{circuit_fits}
 use Rattle.xr_cli.proofs.Auditing.{blank_refused}
 use Rattle.xr_cli.proofs.audited.blank_wave.Goals as goal
 
 pub wave_under-requires-clause-fits : goal.wave_under-requires-clause-fits
 wave_under-requires-clause-fits g c = circuit_fits c.args.job.now.netlist c.args.job.now.recorded c.requires.fits
-
-pub wave_under-requires-clause-few : goal.wave_under-requires-clause-few
-wave_under-requires-clause-few g c = few_places c.args.job.now.netlist c.args.job.now.recorded c.requires.fits
 
 pub wave_under-requires-clause-handed : goal.wave_under-requires-clause-handed
 wave_under-requires-clause-handed g c = inr c.requires.blank

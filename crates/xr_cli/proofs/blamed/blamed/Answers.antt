@@ -1,6 +1,10 @@
 -- The wave is found, and what is listed of it.
-use Rattle.xr_cli.specs.Blame.{BlameComes}
+use Rattle.std.proofs.Common.{rules, ◌≡◌, Err}
+use Rattle.xr_cli.specs.Blame.{BlameComes, blame_values, walk_blamed}
 use Rattle.xr_cli.proofs.Walk.{listed_found}
+use Rattle.xr_run.specs.declared.refusal.Refusal.TheVariants.{Memory}
+use Rattle.xr_run.proofs.Then.{memory_out}
+use Rattle.xr_run.specs.Prepared.{answer_of}
 use Rattle.xr_cli.proofs.blamed.blamed.Goals as goal
 
 pub returns-clause-prepared : goal.returns-clause-prepared
@@ -16,3 +20,8 @@ returns-clause-prepared g c =
       shows = c.in_ok-_shown.ensures;
     }
     c.in_ok-listed.ensures
+
+pub returns-in_err-listed-clause-prepared : goal.returns-in_err-listed-clause-prepared
+returns-in_err-listed-clause-prepared g c =
+    let is : c.from_residual-in_err-listed.result ≡ Err Memory = search rules in
+    rw is (memory_out (walk_blamed (blame_values c.args.words.now) c.args.job.now) answer_of)

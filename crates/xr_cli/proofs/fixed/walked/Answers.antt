@@ -4,14 +4,11 @@ use Rattle.xr_run.proofs.Then.{searched_then}
 use Rattle.xr_cli.specs.Fix.{fix_values, walk_set}
 use Rattle.xr_phases.specs.Phases.{itself, walk_cause}
 use Rattle.xr_phases.specs.Repair.{ReplayWalkComes, Walked}
-use Rattle.xr_phases.proofs.Jobs.{circuit_fits, few_places}
+use Rattle.xr_phases.proofs.Jobs.{circuit_fits}
 use Rattle.xr_cli.proofs.fixed.walked.Goals as goal
 
 pub replay_wave-requires-clause-fits : goal.replay_wave-requires-clause-fits
 replay_wave-requires-clause-fits g c = circuit_fits c.args.set.now.job.now.netlist c.args.set.now.job.now.recorded c.requires.set.fits
-
-pub replay_wave-requires-clause-few : goal.replay_wave-requires-clause-few
-replay_wave-requires-clause-few g c = few_places c.args.set.now.job.now.netlist c.args.set.now.job.now.recorded c.requires.set.fits
 
 pub returns-clause-prepared : goal.returns-clause-prepared
 returns-clause-prepared g c =

@@ -1,12 +1,13 @@
 -- The second wave is found, and what both come to.
-use Rattle.std.proofs.Common.{Ok}
+use Rattle.std.proofs.Common.{rules, ◌≡◌, Err, Ok}
 use Rattle.xr_run.specs.Prepared.{answer_of}
 use Rattle.xr_run.specs.Phases.{Phases}
-use Rattle.xr_run.proofs.Then.{found_prepared, searched_then}
-use Rattle.xr_cli.specs.Fix.{fix_values, fix_answer}
+use Rattle.xr_run.proofs.Then.{found_prepared, memory_out, searched_then}
+use Rattle.xr_cli.specs.Fix.{fix_values, fix_answer, walk_set}
 use Rattle.xr_phases.specs.Phases.{itself, walk_cause}
 use Rattle.xr_phases.specs.Repair.{ReplayWalkComes, Walked}
-use Rattle.xr_cli.proofs.Restarts.{are_beside, bound_there, set_few, set_fits}
+use Rattle.xr_cli.proofs.Restarts.{are_beside, bound_there, set_fits}
+use Rattle.xr_run.specs.declared.refusal.Refusal.TheVariants.{Memory}
 use Rattle.xr_cli.proofs.fixed.walked_set.Goals as goal
 
 pub replay_of-requires : goal.replay_of-requires
@@ -18,11 +19,6 @@ pub replay_wave-requires-clause-fits : goal.replay_wave-requires-clause-fits
 replay_wave-requires-clause-fits g c =
     let set = c.args.set.now in
     set_fits set.job.now.netlist set.job.now.recorded set.stim.now c.requires.set.fits c.requires.set.fits_stim c.requires.set.others
-
-pub replay_wave-requires-clause-few : goal.replay_wave-requires-clause-few
-replay_wave-requires-clause-few g c =
-    let set = c.args.set.now in
-    set_few set.job.now.netlist set.job.now.recorded set.stim.now c.requires.set.fits c.requires.set.others
 
 pub listed-requires-clause-waves : goal.listed-requires-clause-waves
 listed-requires-clause-waves g c =
@@ -52,3 +48,9 @@ returns-clause-prepared g c =
       refused = tt;
     }
     (λ told v. found_prepared told answer_of (fix_answer w r c.args.before.now c.in_ok-after.after) v c.in_ok-listed.field-0 c.in_ok-listed.ensures)
+
+pub returns-in_err-listed-clause-prepared : goal.returns-in_err-listed-clause-prepared
+returns-in_err-listed-clause-prepared g c =
+    let is : c.from_residual-in_err-listed.result ≡ Err Memory = search rules in
+    rw is (memory_out (walk_set (fix_values c.args.set.now.words) c.args.set.now.job.now.netlist c.args.set.now.job.now.recorded
+    c.args.set.now.stim.now c.args.before.now) answer_of)

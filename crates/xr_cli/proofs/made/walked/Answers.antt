@@ -1,6 +1,10 @@
 -- The wave is found, and what is printed of it.
-use Rattle.xr_cli.specs.Make.{make_values}
+use Rattle.std.proofs.Common.{rules, ◌≡◌, Err}
+use Rattle.xr_cli.specs.Make.{make_values, walk_made}
 use Rattle.xr_cli.proofs.Walk.{made_found}
+use Rattle.xr_run.specs.declared.refusal.Refusal.TheVariants.{Memory}
+use Rattle.xr_run.proofs.Then.{memory_out}
+use Rattle.xr_run.specs.Prepared.{answer_of}
 use Rattle.xr_cli.proofs.made.walked.Goals as goal
 
 pub returns-clause-prepared : goal.returns-clause-prepared
@@ -16,3 +20,9 @@ returns-clause-prepared g c =
       shows = c.in_ok-_shown.ensures;
     }
     c.in_ok-answered.ensures
+
+pub returns-in_err-answered-clause-prepared : goal.returns-in_err-answered-clause-prepared
+returns-in_err-answered-clause-prepared g c =
+    let is : c.from_residual-in_err-answered.result ≡ Err Memory = search rules in
+    rw is (memory_out (walk_made (make_values c.args.texts.words) c.args.texts.recording.items c.args.job.now.netlist
+    c.args.job.now.recorded) answer_of)

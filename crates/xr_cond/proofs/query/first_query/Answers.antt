@@ -23,7 +23,8 @@ turn_nodes-requires c = (
   c.requires.cone.0,
   around_of c.args.wave.now c.requires.cone.0 c.args.cone.now.nodes
       c.requires.cone.1 c.as_slice.result.now c.as_slice-2.result.now
-      (c.as_slice.ensures.value ∙ c.in_ok-places.ensures c.requires.cone.0 c.requires.cone.1.whole)
+      (c.as_slice.ensures.value ∙ c.in_ok-places.ensures.near c.requires.cone.0 c.requires.cone.1.whole)
+      (rw c.as_slice.ensures.value c.in_ok-places.ensures.few)
       (c.as_slice-2.ensures.value ∙ c.in_ok-inside.ensures c.requires.cone.0 c.requires.cone.1.whole),
 )
 
@@ -37,7 +38,8 @@ query_over-requires-clause-nodes c =
     (c.as_slice.ensures.value ∙ sym c.as_slice-3.ensures.value)
     (has_turn_nodes w root cone of c.args.listed.now c.as_slice.result.now c.as_slice-2.result.now
     c.as_slice-5.result.now c.as_slice-4.result.now (c.requires.listed root of.whole)
-    (c.as_slice.ensures.value ∙ c.in_ok-places.ensures root of.whole)
+    (c.as_slice.ensures.value ∙ c.in_ok-places.ensures.near root of.whole)
+    (rw c.as_slice.ensures.value c.in_ok-places.ensures.few)
     (c.as_slice-2.ensures.value ∙ c.in_ok-inside.ensures root of.whole)
     (subst (AreNodesAround w c.as_slice.result.now c.as_slice-2.result.now) (sym c.as_slice-4.ensures.value)
     c.in_ok-nodes.ensures)
@@ -62,7 +64,8 @@ returns-clause-query c =
     (c.as_slice.ensures.value ∙ sym c.as_slice-3.ensures.value)
     (has_turn_nodes w root cone of c.args.listed.now c.as_slice.result.now c.as_slice-2.result.now
     c.as_slice-5.result.now c.as_slice-4.result.now (c.requires.listed root of.whole)
-    (c.as_slice.ensures.value ∙ c.in_ok-places.ensures root of.whole)
+    (c.as_slice.ensures.value ∙ c.in_ok-places.ensures.near root of.whole)
+    (rw c.as_slice.ensures.value c.in_ok-places.ensures.few)
     (c.as_slice-2.ensures.value ∙ c.in_ok-inside.ensures root of.whole)
     (subst (AreNodesAround w c.as_slice.result.now c.as_slice-2.result.now) (sym c.as_slice-4.ensures.value)
     c.in_ok-nodes.ensures)

@@ -3,8 +3,8 @@ use Rattle.std.proofs.Common.{◌∙◌, ap, reverse}
 use Rattle.xr_cone.proofs.NearPlaces.{near_is}
 use Rattle.xr_cone.proofs.near.near_places.Goals as goal
 
-pub returns : goal.returns
-returns c root is =
+pub returns-clause-near : goal.returns-clause-near
+returns-clause-near c root is =
     c.reverse.ensures.items
     ∙ near_is c.args.wave.now root c.args.cone.now.nodes is c.as_slice.result.now c.as_slice-2.result.now
     c.new-reached.result c.insert_all.new.reached c.insert_all-2.new.reached c.in_ok-near.near.items c.new-reached.ensures

@@ -11,7 +11,7 @@ use Rattle.xr_cone_nodes.proofs.NodeWorlds.{whole_law}
 use Rattle.xr_cone.specs.Known.{IsRightOf}
 use Rattle.xr_cone.specs.Placed.{IsPlaced}
 use Rattle.xr_rests.specs.Traced.{supports_in}
-use Rattle.xr_cone.proofs.ConeNodes.{ends_ok, made_begins, made_ends, made_more, made_next, next_few, next_reach, next_rises, next_supports, next_within, none_left}
+use Rattle.xr_cone.proofs.ConeNodes.{ends_ok, few_traced, made_begins, made_ends, made_more, made_next, next_few, next_reach, next_rises, next_supports, next_within, none_left}
 use Rattle.xr_cone.proofs.KnownBodies.{if_known, known_body}
 use Rattle.xr_cone.proofs.tracing.trace_root.Goals as goal
 
@@ -46,8 +46,8 @@ place_body-requires-clause-few c =
     let known = certain c.args.wave.now.written in
     let next = made_next j known c.args.root c.rest.places.items c.rest.rest.items c.pop.new.self.items c.in-Some.place
     c.rest.nodes.items c.rest.invariant.made c.in-Some.ensures.items in
-    rw c.as_slice.ensures.value (next_few j c.circuit-circuit.ensures.wave.few known c.args.root c.rest.places.items c.in-Some.place
-    c.pop.new.self.items c.requires.reach.within next)
+    rw c.as_slice.ensures.value (next_few j known c.args.root c.rest.places.items c.in-Some.place
+    c.pop.new.self.items (few_traced j known c.args.root _ c.in_ok-rest.ensures.traced c.in_ok-rest.ensures.few) next)
 
 pub place_body-requires-clause-all : goal.place_body-requires-clause-all
 place_body-requires-clause-all c =
@@ -93,7 +93,8 @@ pub new-requires : goal.new-requires
 new-requires c =
     let is : IsWholeCone c.args.wave.now c.args.root c.rest.nodes.items =
     made_ends c.args.wave.now c.args.root c.rest.places.items c.rest.rest.items c.rest.nodes.items
-    c.count.ensures.wave c.requires.reach c.requires.line c.rest.invariant.made
+    c.count.ensures.wave c.requires.reach c.requires.line (few_traced (job c.args.wave.now) (certain c.args.wave.now.written)
+    c.args.root _ c.in_ok-rest.ensures.traced c.in_ok-rest.ensures.few) c.rest.invariant.made
     (none_left c.rest.rest.items (let none = c.in_default.ensures.cases.0 in let long = c.rest.rest.ok in
     omega (arith, none, long))) in
     is.are_nodes
@@ -102,7 +103,8 @@ pub returns-clause-whole : goal.returns-clause-whole
 returns-clause-whole c =
     ends_ok (λ cone. cone.nodes) (IsWholeCone c.args.wave.now c.args.root) c.new.result c.rest.nodes.items c.new.ensures
     (made_ends c.args.wave.now c.args.root c.rest.places.items c.rest.rest.items c.rest.nodes.items
-    c.count.ensures.wave c.requires.reach c.requires.line c.rest.invariant.made
+    c.count.ensures.wave c.requires.reach c.requires.line (few_traced (job c.args.wave.now) (certain c.args.wave.now.written)
+    c.args.root _ c.in_ok-rest.ensures.traced c.in_ok-rest.ensures.few) c.rest.invariant.made
     (none_left c.rest.rest.items (let none = c.in_default.ensures.cases.0 in let long = c.rest.rest.ok in
     omega (arith, none, long))))
 
@@ -111,6 +113,7 @@ returns-clause-cone c =
     ends_ok (λ cone. cone.nodes) (IsConeOf c.args.wave.now c.args.root) c.new.result c.rest.nodes.items c.new.ensures
     (whole_law c.args.wave.now c.args.root c.rest.nodes.items
     (made_ends c.args.wave.now c.args.root c.rest.places.items c.rest.rest.items c.rest.nodes.items
-    c.count.ensures.wave c.requires.reach c.requires.line c.rest.invariant.made
+    c.count.ensures.wave c.requires.reach c.requires.line (few_traced (job c.args.wave.now) (certain c.args.wave.now.written)
+    c.args.root _ c.in_ok-rest.ensures.traced c.in_ok-rest.ensures.few) c.rest.invariant.made
     (none_left c.rest.rest.items (let none = c.in_default.ensures.cases.0 in let long = c.rest.rest.ok in
     omega (arith, none, long)))))

@@ -1,7 +1,7 @@
 -- What moves at the positions so far is marked.
 use Rattle.xr_design.specs.Circuit.{job_in}
 use Rattle.xr_forces.specs.Still.{AreMarkedTo, looked_on, watched}
-use Rattle.xr_replay.specs.Marks.{OnlyMore}
+use Rattle.xr_fans.specs.Marks.{OnlyMore}
 use Rattle.xr_forces.proofs.moves.mark_moves.Given as goal
 
 abbrev pub invariant-positions : goal.invariant-positions

@@ -1,4 +1,4 @@
--- What was recorded fits the job's netlist, with the places that it was bound for.
+-- What was recorded fits the job's netlist.
 use Rattle.std.proofs.Common.{◌≡◌, ◌∙◌, ℕ, ◌*◌, ◌≤◌, ◌^◌, List, Option, length, sym, ap, subst, arith, rules}
 use Rattle.std.proofs.Math.Nat.{le_trans}
 use Rattle.xr_design.specs.declared.design.Design.{Design}
@@ -8,7 +8,6 @@ use Rattle.xr_match.specs.StimOf.{AreHolders, IsStimOf}
 use Rattle.xr_match.specs.declared.inputs.Holder.{Holder}
 use Rattle.xr_match.proofs.JobDesigns.{made_fits}
 use Rattle.xr_job.specs.Recorded.{netlist_by}
-use Rattle.xr_job.proofs.FewPlaces.{few_places}
 use Rattle.xr_job.proofs.JobNetlists.{as_many_nets, design_is, is_job, new_fits, stim_is}
 use Rattle.xr_job.proofs.recorded.find_recording.Goals as goal
 
@@ -62,18 +61,18 @@ returns-clause-recorded c =
     let n = c.args.netlist.now in
     let new = c.give_inputs.new.netlist in
     let rule = c.args.rules.undriven in
-    let start = c.args.rules.start in
+    let registers = c.args.rules.registers in
     let r = c.in_ok-recording.recording in
     let bound = c.in_ok-binding.binding.bound in
     let holders = c.in_ok-holders.holders.items in
     let stim = c.in_ok-stim.stim in
     let put : new ≡ netlist_by rule holders n = c.give_inputs.ensures ∙ ap (λ (h : List (Option Holder)). netlist_by rule h n) c.as_slice.ensures.value in
-    let is : IsStimOf new.design r (held_in holders) c.args.rounds start stim =
-    subst (λ (h : List (Option Holder)). IsStimOf new.design r (held_in h) c.args.rounds start stim) c.as_slice-2.ensures.value c.in_ok-stim.ensures.stim in
+    let is : IsStimOf new.design r (held_in holders) c.args.rounds registers stim =
+    subst (λ (h : List (Option Holder)). IsStimOf new.design r (held_in h) c.args.rounds registers stim) c.as_slice-2.ensures.value c.in_ok-stim.ensures.stim in
     record {
       says = search rules;
       bound = c.in_ok-binding.ensures.bound.is;
-      stim = stim_is rule n new bound holders c.in_ok-holders.ensures.holds put r c.args.rounds start stim is;
+      stim = stim_is rule n new bound holders c.in_ok-holders.ensures.holds put r c.args.rounds registers stim is;
     }
 
 pub returns-clause-netlist : goal.returns-clause-netlist
@@ -101,7 +100,6 @@ returns-clause-fits c =
     let holds = c.in_ok-holders.ensures.holds in
     let is = c.in_ok-stim.ensures.stim in
     let bound = c.in_ok-binding.ensures.bound in
-    let places = bound.is in
     let made = made_fits rule n.design binding.bound in
     record {
       stim = c.in_ok-stim.ensures.fits;
@@ -110,6 +108,4 @@ returns-clause-fits c =
       times = sym is.times;
       binding = subst (λ (d : Design). FitsBinding d binding) (sym (design_is rule n new binding.bound holders holds put)) (made.bound binding bound.fits);
       variables = bound.variables;
-      few = few_places n.design new.design c.in_ok-recording.recording (held_in c.as_slice-2.result.now) c.args.rounds c.args.most c.args.rules.start c.in_ok-stim.stim
-          (as_many_nets rule n new binding.bound holders holds put) is places.places;
     }

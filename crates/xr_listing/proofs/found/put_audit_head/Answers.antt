@@ -19,5 +19,5 @@ returns c =
     (c.in_ok-put_counted.ensures ∙ ap (λ (n : ℕ). c.args.text.now.items ++ counted_text (codes "audit places ") n) c.count.ensures.count)
     c.in_ok-put_counted-2.ensures c.in_ok-put_counted-3.ensures
     (c.in_ok-put_counted-4.ensures
-    ∙ ap (λ (n : ℕ). c.put_counted-3.new.text.items ++ counted_text (codes " undecided ") n) (c.from.ensures ∙ ap (λ (k : Counts). k.undecided) told))
+    ∙ ap (λ (n : ℕ). c.put_counted-3.new.text.items ++ counted_text (codes " undecided ") n) (ap (λ (k : Counts). k.undecided) told))
     last) c.put.ensures

@@ -45,7 +45,7 @@ returns-clause-fits c =
     stim_fits design number gates _ c.requires record {
       times = c.from_vec.ensures ∙ c.in_ok-times.ensures;
       rounds = refl;
-      rule = refl;
+      rules = refl;
       many = ap (λ (l : List (List Value)). length l) (c.in_ok-inputs.ensures ∙ c.as_slice.ensures.value) ∙ c.in_ok-rows.ensures.many;
       inputs = subst (λ (l : List (List Value)). (moment : ℕ) → moment < 16 → IsRow design (made_value number gates moment) (get_or l moment []))
           (sym (c.in_ok-inputs.ensures ∙ c.as_slice.ensures.value)) c.in_ok-rows.ensures.rows;

@@ -13,7 +13,7 @@ returns-clause-fits c =
       values = λ moment within. (c.in_ok-inputs.ensures.rows moment (omega (arith, within, many))).long;
       starts = search rules;
       no_float = subst (λ (l : List Value). (net : ℕ) → get_or l net X ≡ Z → ⊥) (sym c.from_vec-2.ensures)
-          (no_float_row c.args.design.now c.args.recording.now c.args.holders.now c.args.start
+          (no_float_row c.args.design.now c.args.recording.now c.args.holders.now c.args.rules.start
           c.in_ok-starts.starts.items c.requires.design c.in_ok-starts.ensures);
       places = search rules;
     }

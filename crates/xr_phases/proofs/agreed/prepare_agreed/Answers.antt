@@ -14,7 +14,7 @@ returns-clause-prepared g c =
     let new = g.S.Shelf.view c.go_on.new.shelf in
     let job = g.A.AfterAgreed.job c.args.command.now in
     let after = g.A.AfterAgreed.after c.args.command.now in
-    let read = subst (λ (w : JobValues). Prepared told (agreed_phases w) agreed_job old mid (Ok c.in_ok-agreed.agreed)) c.words.ensures.job c.in_ok-agreed.ensures.prepared in
+    let read = subst (λ (w : JobValues). Prepared told (agreed_phases w) agreed_job old mid (Ok c.in_ok-agreed.agreed)) c.words.ensures c.in_ok-agreed.ensures.prepared in
     prepared_then told (agreed_phases job) after agreed_job answer_of old mid new c.in_ok-agreed.agreed c.go_on.result read c.go_on.ensures.prepared
 
 pub returns-in_err-agreed-clause-prepared : goal.returns-in_err-agreed-clause-prepared
@@ -26,5 +26,5 @@ returns-in_err-agreed-clause-prepared g c =
     let after = g.A.AfterAgreed.after c.args.command.now in
     let e = c.in_err-agreed.field-0.0 in
     let is : c.from_residual.result ≡ Err e = search rules in
-    let read = subst (λ (w : JobValues). Prepared told (agreed_phases w) agreed_job old mid (Err e)) c.words.ensures.job c.in_err-agreed.ensures.prepared in
+    let read = subst (λ (w : JobValues). Prepared told (agreed_phases w) agreed_job old mid (Err e)) c.words.ensures c.in_err-agreed.ensures.prepared in
     rw is (prepared_refused told (agreed_phases job) after agreed_job answer_of old mid mid e read)

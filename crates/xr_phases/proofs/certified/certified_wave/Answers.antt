@@ -1,14 +1,11 @@
 -- The circuit of the job fits, and what is refused is of the job.
 use Rattle.std.proofs.Common.{refl}
 use Rattle.xr_phases.proofs.CheckedPlaces.{certified_by, missing_at, objected_at, objected_for, refused_for}
-use Rattle.xr_phases.proofs.Jobs.{circuit_fits, few_places}
+use Rattle.xr_phases.proofs.Jobs.{circuit_fits}
 use Rattle.xr_phases.proofs.certified.certified_wave.Goals as goal
 
 pub check_cert-requires-clause-fits : goal.check_cert-requires-clause-fits
 check_cert-requires-clause-fits c = circuit_fits c.args.job.now.netlist c.args.job.now.recorded c.requires.fits
-
-pub check_cert-requires-clause-few : goal.check_cert-requires-clause-few
-check_cert-requires-clause-few c = few_places c.args.job.now.netlist c.args.job.now.recorded c.requires.fits
 
 pub objection_of-requires-clause-fits : goal.objection_of-requires-clause-fits
 objection_of-requires-clause-fits c = circuit_fits c.args.job.now.netlist c.args.job.now.recorded c.requires.fits

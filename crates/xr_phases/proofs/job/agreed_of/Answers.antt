@@ -7,16 +7,7 @@ use Rattle.xr_phases.specs.Phases.{agreed_job, compare_cause, itself, job_phases
 use Rattle.xr_phases.specs.Repair.{CompareComes}
 use Rattle.xr_phases.specs.declared.parts.Agreed.{Agreed}
 use Rattle.xr_phases.specs.declared.parts.Parts.{Parts}
-use Rattle.xr_phases.proofs.Jobs.{walked_within}
 use Rattle.xr_phases.proofs.job.agreed_of.Goals as goal
-
-pub compared-requires-clause-recorded : goal.compared-requires-clause-recorded
-compared-requires-clause-recorded g c =
-    let fits = walked_within c.in_ok-job.job.netlist c.in_ok-job.job.recorded c.requires c.in_ok-job.ensures.fits in
-    fits.recorded
-
-pub returns-in-Ok-clause-fits : goal.returns-in-Ok-clause-fits
-returns-in-Ok-clause-fits g c = walked_within c.in_ok-job.job.netlist c.in_ok-job.job.recorded c.requires c.in_ok-job.ensures.fits
 
 pub returns-in-Err-clause-prepared : goal.returns-in-Err-clause-prepared
 returns-in-Err-clause-prepared g c =

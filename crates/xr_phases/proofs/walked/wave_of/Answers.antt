@@ -1,13 +1,10 @@
 -- The circuit of the job fits, and what is found otherwise is so than the replay knows it.
-use Rattle.xr_phases.proofs.Jobs.{circuit_fits, few_places}
+use Rattle.xr_phases.proofs.Jobs.{circuit_fits}
 use Rattle.xr_phases.proofs.Walks.{walk_refused}
 use Rattle.xr_phases.proofs.walked.wave_of.Goals as goal
 
 pub wave_under-requires-clause-fits : goal.wave_under-requires-clause-fits
 wave_under-requires-clause-fits g c = circuit_fits c.args.netlist.now c.args.recorded.now c.requires.fits
-
-pub wave_under-requires-clause-few : goal.wave_under-requires-clause-few
-wave_under-requires-clause-few g c = few_places c.args.netlist.now c.args.recorded.now c.requires.fits
 
 pub returns-clause-refused : goal.returns-clause-refused
 returns-clause-refused g c =

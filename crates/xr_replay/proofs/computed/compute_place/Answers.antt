@@ -5,8 +5,9 @@ use Rattle.xr_design.specs.declared.place.Place.{Place}
 use Rattle.xr_design.specs.Fits.{place_at}
 use Rattle.xr_design.specs.Force.{forced_by}
 use Rattle.xr_design.specs.History.{HasPlace, WriterView}
+use Rattle.xr_fans.proofs.Positions.{net_within}
 use Rattle.xr_replay.proofs.Places.{place_at_position}
-use Rattle.xr_replay.proofs.Writing.{filled_place, index_within, others_kept, place_within, step_there, net_at, net_within}
+use Rattle.xr_replay.proofs.Writing.{filled_place, index_within, others_kept, place_within, step_there, net_at}
 use Rattle.xr_replay.proofs.computed.compute_place.Goals as goal
 
 pub set-requires-clause-place : goal.set-requires-clause-place

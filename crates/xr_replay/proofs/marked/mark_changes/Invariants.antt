@@ -1,6 +1,6 @@
 -- The readers of the changes so far are due.
 use Rattle.std.proofs.Common.{◌≡◌, length}
-use Rattle.xr_replay.specs.Marks.{OnlyMore}
+use Rattle.xr_fans.specs.Marks.{OnlyMore}
 use Rattle.xr_replay.specs.Watched.{AreDueTo}
 use Rattle.xr_replay.proofs.marked.mark_changes.Given as goal
 

@@ -1,6 +1,6 @@
 -- The variables so far are due where they are bound.
 use Rattle.std.proofs.Common.{◌≡◌, ℕ, ◌<◌, length, slice_index}
-use Rattle.xr_replay.specs.Marks.{OnlyMore}
+use Rattle.xr_fans.specs.Marks.{OnlyMore}
 use Rattle.xr_replay.specs.Watched.{IsNumberDue}
 use Rattle.xr_replay.proofs.marked.mark_recorded.Given as goal
 

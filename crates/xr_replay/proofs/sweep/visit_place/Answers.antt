@@ -3,7 +3,7 @@ use Rattle.std.proofs.Common.{ℕ, subst}
 use Rattle.xr_design.specs.Circuit.{job_in}
 use Rattle.xr_design.specs.Force.{forced_by}
 use Rattle.xr_design.specs.Order.{arguments_of_driver}
-use Rattle.xr_replay.specs.Still.{looked_at}
+use Rattle.xr_fans.specs.Nets.{looked_at}
 use Rattle.xr_replay.proofs.Sweeps.{AreMarked, ahead_marked, ahead_still, are_marked, due_marked, due_still, swept_computed}
 use Rattle.xr_replay.proofs.sweep.visit_place.Goals as goal
 

@@ -4,8 +4,8 @@ use Rattle.std.proofs.lemmas.List.{get_or_default}
 use Rattle.xr_match.specs.declared.binding.Bound.{Bound}
 use Rattle.xr_replay_due.specs.Readers.{AreWithin, HasReadings}
 use Rattle.xr_replay_due.specs.declared.readings.Reading.{Reading}
+use Rattle.xr_fans.specs.Readings.{readings_of}
 use Rattle.xr_replay.specs.Fault.{bound_at, no_variable}
-use Rattle.xr_replay.specs.Readings.{readings_of}
 use Rattle.xr_replay.specs.Watched.{bit_readings}
 use Rattle.xr_replay.proofs.Bindings.{bits_among, readings_in, variable_more}
 use Rattle.xr_replay.proofs.watchers.bit_readers.Goals as goal

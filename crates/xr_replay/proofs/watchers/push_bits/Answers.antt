@@ -1,7 +1,7 @@
 -- One bit more.
 use Rattle.std.proofs.Common.{◌++◌, ◌∙◌, ◌<◌, [], ◌∷◌, ℕ, List, append_assoc, ap, arith, length, slice_index_or, sym, take}
 use Rattle.xr_replay_due.specs.declared.readings.Reading.{Reading}
-use Rattle.xr_replay.specs.Readings.{readings_of}
+use Rattle.xr_fans.specs.Readings.{readings_of}
 use Rattle.xr_replay.proofs.Bindings.{bit_more}
 use Rattle.xr_replay.proofs.watchers.push_bits.Goals as goal
 

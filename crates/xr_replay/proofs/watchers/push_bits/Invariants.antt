@@ -1,6 +1,6 @@
 -- The readings of the bits so far.
 use Rattle.std.proofs.Common.{◌≡◌, ◌++◌, take}
-use Rattle.xr_replay.specs.Readings.{readings_of}
+use Rattle.xr_fans.specs.Readings.{readings_of}
 use Rattle.xr_replay.proofs.watchers.push_bits.Given as goal
 
 abbrev pub invariant-nets : goal.invariant-nets

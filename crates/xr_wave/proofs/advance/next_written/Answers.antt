@@ -11,5 +11,7 @@ pub written-requires : goal.written-requires
 written-requires c =
     let wave = c.args.wave.now in
     let is : next_class (job wave) wave.written ≡ Some (Carried c.in-Some-Carried.from c.in-Some-Carried.inverted) =
-    sym c.next_class.ensures.class ∙ c.in-Some-Carried.is ∙ ap (λ (class : ClassByNumber). Some class) c.in-Some-Carried.field-0-is in
-    next_from (job wave) c.next_class.ensures.wave.fits.fits_job wave.written (Carried c.in-Some-Carried.from c.in-Some-Carried.inverted) is
+    sym c.next_class.ensures.class ∙ c.in-Some-Carried.is
+    ∙ ap (λ (class : ClassByNumber). Some class) c.in-Some-Carried.field-0-is in
+    next_from (job wave) c.next_class.ensures.wave.fits.fits_job wave.written
+    (Carried c.in-Some-Carried.from c.in-Some-Carried.inverted) is

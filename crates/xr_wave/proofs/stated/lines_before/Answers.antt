@@ -22,7 +22,8 @@ halves-preserved-then-number_of-number c =
     record {
       bounds = omega arith;
       within = within;
-      before = before_more j c.args.lines.now middle c.args.number c.requires.order (omega arith) (omega (arith, here, number, less));
+      before = before_more j c.args.lines.now middle c.args.number c.requires.order (omega arith)
+          (omega (arith, here, number, less));
       behind = c.halves.invariant.behind;
     }
 

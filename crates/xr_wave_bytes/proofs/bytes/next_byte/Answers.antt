@@ -16,7 +16,8 @@ returns-clause-facts c =
     let j = job_in c.args.circuit.now in
     let bytes = c.args.bytes.now in
     let n = length bytes in
-    let carries = next_said (λ class. c.is_carrying_on-carries.result ≡ is_carried_on class (before j n)) j bytes c.args.next
+    let carries = next_said (λ class. c.is_carrying_on-carries.result ≡ is_carried_on class (before j n)) j bytes
+    c.args.next
     c.requires.within c.requires.next c.is_carrying_on-carries.ensures in
     let plain = next_said (λ class. c.is_plain_class-plain.result ≡ is_plain class) j bytes c.args.next
     c.requires.within c.requires.next c.is_plain_class-plain.ensures in
@@ -28,5 +29,6 @@ returns-clause-facts c =
     c.byte_of.ensures.facts
     ∙ facts_found (step_of j n) (before j n) (class_of j (certain (map written_of_byte bytes)) n)
     (certain_by c.args.written.mark c.args.written.value) (certain (map written_of_byte bytes) (before j n))
-    c.is_carrying_on-carries.result c.is_plain_class-plain.result c.is_line_class-line.result c.keeps_here-keeps.result carries plain line
+    c.is_carrying_on-carries.result c.is_plain_class-plain.result c.is_line_class-line.result c.keeps_here-keeps.result
+    carries plain line
     (rw c.value_if_certain-here.ensures at keeps)

@@ -5,4 +5,5 @@ use Rattle.xr_wave.proofs.wave.Wave.object_settled.Goals as goal
 
 pub returns-clause-yields : goal.returns-clause-yields
 returns-clause-yields c =
-    line_yields c.args.self (settled_line c.args.proof) c.shown_next-shown.ensures.wave c.requires.class c.requires.token
+    line_yields c.args.self (settled_line c.args.proof) c.shown_next-shown.ensures.wave c.requires.class
+    c.requires.token

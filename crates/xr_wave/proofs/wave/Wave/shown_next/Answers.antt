@@ -13,11 +13,12 @@ pub shown-requires : goal.shown-requires
 shown-requires c =
     let waveform = c.self.inside.parts.value.waveform in
     let j = view.job waveform in
-    let history = c.self.inside.parts.value.replayed.history in
+    let history = c.self.inside.parts.value.walk.replayed.history in
     let fits = c.self.invariant.wave.fits.fits_job in
     let less : length waveform.written < places_of j = subst HasNext (sym c.self.view_is) c.requires in
     let place : c.place_behind.result ≡ place_at j (length waveform.written) =
     c.place_behind.ensures ∙ ap (λ (v : Contents). place_at (job v) (length v.written)) (sym c.self.view_is) in
-    let step : c.self.inside.parts.value.replayed.step ≡ step_of j (length waveform.written) = c.self.invariant.reads less in
+    let step : c.self.inside.parts.value.walk.replayed.step ≡ step_of j (length waveform.written) =
+    c.self.invariant.walk.reads less in
     rw (place, c.deref.ensures, step) (has_place j history _ (handed_places j history c.self.invariant.wave.handed)
     (is_place_at j (length waveform.written) fits.ordering fits.all less))

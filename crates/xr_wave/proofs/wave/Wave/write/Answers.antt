@@ -1,13 +1,13 @@
 -- The wave stays a wave.
-use Rattle.std.proofs.Common.{◌≡◌, List, ◌++◌, ◌∷◌, [], length, ap, sym, subst, append-nil}
-use Rattle.xr_design.specs.Job.{step_of}
+use Rattle.std.proofs.Common.{List, ◌++◌, ◌∷◌, [], ap, sym, subst, append-nil}
 use Rattle.xr_model.specs.declared.line.Line.{Line as ALine}
 use Rattle.xr_wave.specs.Contents.{Contents, IsWave, contents_of, job}
 use Rattle.xr_wave.specs.Token.{HasNext}
 use Rattle.xr_wave_bytes.specs.Kept.{ValuesAgree}
 use Rattle.xr_wave_bytes.specs.View as view
 use Rattle.xr_wave_bytes.specs.View.{HasMore, and_one}
-use Rattle.xr_wave.proofs.StepsRead.{wave_pushed}
+use Rattle.xr_wave_due.specs.Walk.{IsWalkOf}
+use Rattle.xr_wave.proofs.WalkedWaves.{wave_pushed}
 use Rattle.xr_wave.proofs.WaveGrowth.{wave_agrees, wave_grown}
 use Rattle.xr_wave.proofs.wave.Wave.write.Goals as goal
 
@@ -16,15 +16,15 @@ push-requires-clause-next c =
     subst (λ parts. HasMore parts.waveform) (sym c.deref_mut.ensures.value)
     (subst HasNext (sym c.self.view_is) c.requires.next.said.within)
 
-pub push-requires-clause-reads : goal.push-requires-clause-reads
-push-requires-clause-reads c =
-    subst (λ parts. parts.replayed.step ≡ step_of (view.job parts.waveform) (length parts.waveform.written))
-    (sym c.deref_mut.ensures.value) (c.self.invariant.reads (subst HasNext (sym c.self.view_is) c.requires.next.said.within))
+pub push-requires-clause-walk : goal.push-requires-clause-walk
+push-requires-clause-walk c =
+    subst (λ parts. IsWalkOf parts.waveform parts.walk) (sym c.deref_mut.ensures.value) c.self.invariant.walk
 
 pub push-requires-clause-agrees : goal.push-requires-clause-agrees
 push-requires-clause-agrees c =
     let x = c.args.written in
-    subst (λ parts. ValuesAgree (view.job parts.waveform) (parts.waveform.written ++ x ∷ [])) (sym c.deref_mut.ensures.value)
+    subst (λ parts. ValuesAgree (view.job parts.waveform) (parts.waveform.written ++ x ∷ []))
+    (sym c.deref_mut.ensures.value)
     (subst (λ (v : Contents). ValuesAgree (job v) (v.written ++ x ∷ [])) (sym c.self.view_is)
     (wave_agrees c.args.self x [] (subst IsWave c.self.view_is c.self.invariant.wave) c.requires.next))
 
@@ -36,11 +36,13 @@ invariant_of-self c =
     (sym c.self.view_is)
     (wave_grown c.args.self x [] (subst IsWave c.self.view_is c.self.invariant.wave) c.requires.next) in
     let written = subst (λ (lines : List ALine).
-    IsWave (contents_of (and_one own.waveform x) own.replayed.history own.limit lines)) (append-nil own.lines.items) grown in
+    IsWave (contents_of (and_one own.waveform x) own.walk.replayed.history own.limit lines))
+    (append-nil own.lines.items)
+    grown in
     let parts = c.deref_mut.result.now in
     let new = c.push.new.self in
     let pushed = c.push.ensures in
-    wave_pushed parts.waveform new.waveform parts.replayed new.replayed parts.limit new.limit parts.lines.items
-    new.lines.items x pushed.waveform pushed.history pushed.limit (ap (λ lines. lines.items) pushed.lines)
-    (subst (λ p. IsWave (contents_of (and_one p.waveform x) p.replayed.history p.limit p.lines.items))
-    (sym c.deref_mut.ensures.value) written) pushed.reads
+    wave_pushed (and_one parts.waveform x) new.waveform parts.walk new.walk parts.limit new.limit parts.lines.items
+    new.lines.items pushed.waveform pushed.history pushed.limit (ap (λ lines. lines.items) pushed.lines)
+    (subst (λ p. IsWave (contents_of (and_one p.waveform x) p.walk.replayed.history p.limit p.lines.items))
+    (sym c.deref_mut.ensures.value) written) pushed.walk

@@ -5,7 +5,7 @@ use Rattle.xr_design.specs.Circuit.{job_in}
 use Rattle.xr_design.specs.Job.{places_of}
 use Rattle.xr_design.proofs.Numbers.{few_steps}
 use Rattle.xr_wave_bytes.specs.Byte.{written_of_byte}
-use Rattle.xr_wave_bytes.specs.View.{HasMore, WaveformView}
+use Rattle.xr_wave_bytes.specs.View.{HasMore}
 use Rattle.xr_wave_bytes.proofs.Fronts.{is_front}
 use Rattle.xr_wave_bytes.proofs.waveform.Waveform.place_behind.Goals as goal
 
@@ -17,5 +17,6 @@ place_there-requires c =
     let more : length (map written_of_byte bytes) < places_of (job_in circuit) =
     subst HasMore (sym c.self.view_is) c.requires in
     let within : length bytes < places_of (job_in circuit) = omega (arith, long, more) in
-    is_front (job_in circuit) c.self.invariant.fits.fits_job (few_steps circuit.stim.now) (length bytes) c.self.inside.front
+    is_front (job_in circuit) c.self.invariant.fits.fits_job (few_steps circuit.stim.now) (length bytes)
+    c.self.inside.front
     within (c.self.invariant.front within)

@@ -6,7 +6,7 @@ use Rattle.xr_design.specs.Circuit.{job_in}
 use Rattle.xr_design.specs.Job.{places_of}
 use Rattle.xr_wave_bytes.specs.Byte.{written_of_byte}
 use Rattle.xr_wave_bytes.specs.Front.{StandsAt}
-use Rattle.xr_wave_bytes.specs.Kept.{BytesTell, StepKeeps, ValuesAgree}
+use Rattle.xr_wave_bytes.specs.Kept.{StepKeeps, ValuesAgree}
 use Rattle.xr_wave_bytes.specs.View.{WaveformView, job, next_class}
 use Rattle.xr_wave_bytes.proofs.waveform.Waveform.push.Goals as goal
 
@@ -17,25 +17,20 @@ push_place-requires-clause-within c =
     subst (λ (v : WaveformView). length v.written < places_of (job v)) (sym c.self.view_is) c.requires.next in
     omega (arith, long, less)
 
+pub push_place-requires-clause-next : goal.push_place-requires-clause-next
+push_place-requires-clause-next c =
+    subst (λ (v : WaveformView). c.next_class-next.result ≡ next_class (job v) v.written) (sym c.self.view_is)
+    c.next_class-next.ensures
+
 pub push_place-requires-clause-agrees : goal.push_place-requires-clause-agrees
 push_place-requires-clause-agrees c =
     subst (λ (v : WaveformView). ValuesAgree (job v) (v.written ++ c.args.written ∷ [])) (sym c.self.view_is)
     c.requires.agrees
 
-pub class_behind-self-inside-requires-clause-told : goal.class_behind-self-inside-requires-clause-told
-class_behind-self-inside-requires-clause-told c =
-    subst (BytesTell (job_in c.self.inside.circuit)) (sym c.as_slice-bytes.ensures.value) c.push_place.ensures.told
-
-pub class_behind-self-inside-requires-clause-agrees : goal.class_behind-self-inside-requires-clause-agrees
-class_behind-self-inside-requires-clause-agrees c =
-    subst (λ (bs : List ℕ). ValuesAgree (job_in c.self.inside.circuit) (map written_of_byte bs))
-    (sym c.as_slice-bytes.ensures.value) c.push_place.ensures.agrees
-
 pub invariant_of-self : goal.invariant_of-self
 invariant_of-self c =
     let circuit = c.self.inside.circuit in
     let old = c.self.inside.bytes.items in
-    let bytes = c.push_place.new.bytes.items in
     let slice = c.as_slice-bytes.ensures.value in
     let long = length-map old written_of_byte in
     let more = c.push_place.ensures.more in
@@ -47,12 +42,8 @@ invariant_of-self c =
       wired = c.self.invariant.wired;
       within = omega (arith, long, more, less);
       room = c.push_place.ensures.room;
-      kept = record {
-        told = c.push_place.ensures.told;
-        agrees = c.push_place.ensures.agrees;
-        next_is = c.class_behind-self-inside.ensures
-            ∙ ap (λ (bs : List ℕ). next_class (job_in circuit) (map written_of_byte bs)) slice;
-      };
+      kept = record { told = c.push_place.ensures.told; agrees = c.push_place.ensures.agrees };
+      next = tt;
       front = subst (λ n. StandsAt (job_in circuit) n c.front_behind-front.result)
           (ap (λ n. n + 1) count ∙ sym more) c.front_behind-front.ensures.stands;
       keep = subst (λ (bs : List ℕ). OnTrue c.keep_behind-all_keep.result

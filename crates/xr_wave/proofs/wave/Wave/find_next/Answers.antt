@@ -1,0 +1,13 @@
+-- The wave is the same.
+use Rattle.std.proofs.Common.{sym, subst}
+use Rattle.xr_wave.specs.Contents.{IsWaveAt, contents_of}
+use Rattle.xr_wave_bytes.specs.View.{WaveformView}
+use Rattle.xr_wave.proofs.wave.Wave.find_next.Goals as goal
+
+pub invariant_of-self : goal.invariant_of-self
+invariant_of-self c =
+    subst (λ (w : WaveformView). IsWaveAt (contents_of w c.deref_mut.result.now.walk.replayed.history
+    c.deref_mut.result.now.limit c.deref_mut.result.now.lines.items) c.deref_mut.result.now.walk)
+    (sym c.find_next.ensures)
+    (subst (λ p. IsWaveAt (contents_of p.waveform p.walk.replayed.history p.limit p.lines.items) p.walk)
+    (sym c.deref_mut.ensures.value) c.self.invariant)

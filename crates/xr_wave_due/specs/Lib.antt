@@ -1,0 +1,3 @@
+-- Definitions of walks over a waveform by what is due.
+pub mod Sources
+pub mod Walk

@@ -1,0 +1,53 @@
+//! Whether the class of a place tells that it leaves its net's next place nothing to be due for.
+
+ghost use Rattle.std.specs.Prelude.{◌≡◌};
+ghost use Rattle.xr_quiet.specs.Ahead.{by_change, cell_tells, register_tells, tells_calm_of};
+
+use xr_class::cell_chooses;
+use xr_design::{Driver, Levels, Pin, Table};
+use xr_model::ClassByNumber;
+
+/// Whether it does, at a step, by its driver.
+pub fn tells_calm(levels: Levels, step: usize, driver: &Driver, class: ClassByNumber) -> bool
+    ensures { result ≡ tells_calm_of levels step driver.now class }
+{
+    match driver {
+        Driver::Cell(table, pins) => is_calm_cell(*table, pins.as_slice(), class),
+        Driver::Register(_) => step != 0 && is_calm_register(levels, class),
+        Driver::Input => true,
+        Driver::Undriven => true,
+        Driver::Constant(_) => true,
+        Driver::Copy(_) => true,
+    }
+}
+
+fn is_calm_cell(table: Table, pins: &[Pin], class: ClassByNumber) -> bool
+    ensures { result ≡ cell_tells table pins.now class }
+{
+    match class {
+        ClassByNumber::Local(_) => true,
+        ClassByNumber::Free => false,
+        ClassByNumber::Carried(_, _) => true,
+        ClassByNumber::Line => !cell_chooses(table, pins),
+    }
+}
+
+fn is_calm_register(levels: Levels, class: ClassByNumber) -> bool
+    ensures { result ≡ register_tells levels class }
+{
+    match class {
+        ClassByNumber::Local(_) => by_change(levels),
+        ClassByNumber::Free => false,
+        ClassByNumber::Carried(_, _) => true,
+        ClassByNumber::Line => true,
+    }
+}
+
+fn by_change(levels: Levels) -> bool
+    ensures { result ≡ by_change levels }
+{
+    match levels {
+        Levels::Change => true,
+        Levels::Hold => false,
+    }
+}
