@@ -11,7 +11,7 @@ from xrepair_lib.texts import declarations, due, plain, scopes_of, upto_end, wor
 MOMENTS = 200_000  # as many moments are looked at for changes that no input made
 CHEAP = 60  # seconds: what took longer isn't tried again with other words
 PLACES = 1 << 27  # the most places of a run without --places
-ROOM = 1 << 31  # bytes: up to so many places, a byte each, a run is tried
+MOST = 1 << 40  # and with it
 BLOCKS = 5  # the most blocks that are listed
 RACED = 8  # the most lines of what the script raced says
 PHASES = {5: 1, 6: 1, 7: 2, 11: 2, 8: 3, 9: 3, 10: 4, 0: 5}  # how far a run came that ended with this status
@@ -103,11 +103,11 @@ def levels(run, job, answer):
 
 
 def places(run, job, answer):
-    """Where there are more places than without the word, and a byte for each is little memory."""
+    """Where there are more places than without the word: memory goes by what changes."""
     found = TOO_LARGE.search(answer.line)
-    if answer.status != 11 or not found or job.option("places", None) or int(found[1]) > ROOM:
+    if answer.status != 11 or not found or job.option("places", None) or int(found[1]) > MOST:
         return None, ""
-    return job.given("places", found[1]), f"there are {found[1]} places, a byte of memory each (--places {found[1]})"
+    return job.given("places", found[1]), f"there are {found[1]} places (--places {found[1]})"
 
 
 TRIED = (places, trim, settle, start, rounds(8), rounds(16), conflicts(10_000), conflicts(100_000), levels)
@@ -281,7 +281,7 @@ def too_large(run, job, answer):
         with open(job.record, "rb") as file:
             moments = sum(1 for word in words_of(file) if word[:1] == b"#" and word[1:].isdigit())
         each = max(moments * PLACES // int(found[1]) * 9 // 10, 2)
-        yield f"give it --places {found[1]}, where there is a byte of memory for each place, or"
+        yield f"give it --places {found[1]}, where that is at most {MOST}, or"
         yield f"cut the recording in time: {shown(script('cut', run.me))} --moments {each} {job.record}"
         yield "and repair each window, all but the first with --start recorded"
     elif "recording" in answer.line:

@@ -1,8 +1,9 @@
 -- What is told of the unknown bits.
-use Rattle.std.specs.Prelude.{◌≡◌, ◌<◌, Bool, true, false, List, [], ◌∷◌, ◌++◌, length}
+use Rattle.std.specs.Prelude.{◌≡◌, ℕ, ◌<◌, Bool, true, false, List, [], ◌∷◌, ◌++◌, length}
 use Rattle.std.specs.List.{filter}
 use Rattle.xr_design.specs.declared.place.Place.{Place}
 use Rattle.xr_design.specs.Job.{number_of}
+use Rattle.xr_design.specs.Row.{RowView}
 use Rattle.xr_design.specs.Settled.{last_step}
 use Rattle.xr_match.specs.BoundBits.{bound_bits}
 use Rattle.xr_match.specs.declared.binding.Bound.{Bound}
@@ -20,6 +21,11 @@ bit_place c bit = record { step = last_step (job c) bit.moment; net = bit.net }
 pub record HasBit (c : Contents) (bit : BoundBit) : Type 0 where
   pub moment : bit.moment < length c.stim.times
   pub written : IsWritten c (bit_place c bit)
+
+-- A row is that of the history at the last round of a moment.
+pub record IsShownRow (c : Contents) (moment : ℕ) (row : RowView) : Type 0 where
+  pub history : row.history ≡ c.history
+  pub step : row.step ≡ last_step (job c) moment
 
 abbrev pub is_unknown_bit : Contents → BoundBit → Bool
 is_unknown_bit c bit = is_unknown_mark (written_of c (bit_place c bit)).mark

@@ -1,17 +1,19 @@
 //! The unknown bits, each with a source and a filling to blame.
 
-ghost use Rattle.std.specs.Prelude.{◌≡◌, ◌+◌, ◌-◌, ◌*◌, ◌<◌, IfOk, OnOk, length};
+ghost use Rattle.std.specs.Prelude.{◌≡◌, ◌+◌, ◌-◌, ◌*◌, ◌<◌, false, IfOk, OnOk, length};
 ghost use Rattle.xr_design.specs.Job.{number_of};
 ghost use Rattle.xr_match.specs.Binding.{FitsBinding};
 ghost use Rattle.xr_wave.specs.Contents.{IsFinished, job};
-ghost use Rattle.xr_blame.specs.Blamed.{AddsBit, AreBlamed, HasBit, bit_place, is_unknown_bit, unknown_bits};
+ghost use Rattle.xr_blame.specs.Blamed.{AddsBit, AreBlamed, HasBit, IsShownRow, bit_place, is_unknown_bit};
+ghost use Rattle.xr_blame.specs.Blamed.{unknown_bits};
 ghost use Rattle.xr_blame.specs.Causes.{AreCauses};
 
 use crate::causes::Causes;
 use std::alloc::Global;
 use xr_base::Memory;
-use xr_design::{Filling, Mark, Place, Stim};
+use xr_design::{Filling, HistoryRow, Mark, Place, Stim};
 use xr_match::{Binding, BoundBit, BoundBits};
+use xr_report::bring;
 use xr_wave::Wave;
 
 /// An unknown bit at a moment's last round, with a source and a filling to blame.
@@ -28,8 +30,8 @@ pub struct Blamed {
     pub others: Filling,
 }
 
-/// The unknown bits, in the order of a report. Takes their fillings, and each of these again for each root that bits
-/// have in common.
+/// The unknown bits, in the order of a report. The wave is asked only for bits that the history shows as x or z. Takes
+/// their fillings, each of these again for each root that bits have in common, and a byte for each net.
 pub fn blame_bits(alloc: Global, wave: &Wave<'_>, bound: &Binding) -> Result<Vec<Blamed>, Memory>
     requires finished { IsFinished wave.now }
     requires binding { FitsBinding wave.now.design bound.now }
@@ -39,11 +41,26 @@ pub fn blame_bits(alloc: Global, wave: &Wave<'_>, bound: &Binding) -> Result<Vec
     let _count = wave.count();
     let mut causes = Causes::new(alloc)?;
     let mut blamed = Vec::new(alloc);
+    let mut replayed = HistoryRow::first(alloc, wave.replayed())?;
     let mut bits = BoundBits::new(wave.stim(), bound.bound.as_slice());
     'bits: while let Some(bit) = bits.next() {
-        add_bit(alloc, &mut blamed, wave, &mut causes, bit)?;
+        bring(alloc, &mut replayed, bit_place(wave.stim(), bit).step)?;
+        if is_shown_unknown(wave, &replayed, bit) {
+            add_bit(alloc, &mut blamed, wave, &mut causes, bit)?;
+        }
     }
     Ok(blamed)
+}
+
+/// Whether the history shows x or z of a bit, by the row of its moment. One that it shows as 0 or 1 isn't unknown.
+fn is_shown_unknown(wave: &Wave<'_>, replayed: &HistoryRow<'_>, bit: BoundBit) -> bool
+    requires bit { HasBit wave.now bit }
+    requires row { IsShownRow wave.now bit.moment replayed.now }
+    ensures { result ≡ false → is_unknown_bit wave.now bit ≡ false }
+{
+    // With it comes the fact that the wave is sound.
+    let _count = wave.count();
+    !replayed.shown(bit.net).is_known()
 }
 
 /// Tells a bit, where it is unknown.

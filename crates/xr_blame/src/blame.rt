@@ -31,7 +31,7 @@ pub struct Blame {
 /// more than their number has binary digits.
 ///
 /// Takes what lanes take, a filling for each bit and one for each root that bits have in common, 8 bytes for each bit and
-/// 32 for each source, and for a time the memory of a cone.
+/// 32 for each source, a byte for each net, and for a time the memory of a cone.
 pub fn blame_of(alloc: Global, wave: &Wave<'_>, bound: &Binding) -> Result<Blame, Memory>
     requires finished { IsFinished wave.now }
     requires binding { FitsBinding wave.now.design bound.now }

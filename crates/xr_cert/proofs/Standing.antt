@@ -8,7 +8,9 @@ use Rattle.xr_design.specs.declared.place.Place.{Place}
 use Rattle.xr_design.specs.Job.{Job, number_of}
 use Rattle.xr_model.specs.declared.line.Line.{Line as ALine}
 use Rattle.xr_model.specs.declared.turn.TurnLine.{TurnLine}
-use Rattle.xr_wave.specs.Advance.{GoesOn, IsObjected, more, plain_written, stays}
+use Rattle.xr_wave.specs.Advance.{GoesOn, IfObjects, IsObjected, more, plain_written, stays}
+use Rattle.xr_wave.specs.declared.advance.AdvanceErr.{AdvanceErr}
+use Rattle.xr_wave.specs.declared.advance.AdvanceErr.TheVariants as stopped
 use Rattle.xr_wave.specs.Contents.{Contents, IsFinished, IsWave, job, next_number, shown_in}
 use Rattle.xr_wave.specs.Token.{IsLineNext, LineAgrees, with_line, written_by_line}
 use Rattle.xr_wave.specs.declared.advance.Optimistic.{Optimistic}
@@ -31,9 +33,11 @@ use Rattle.xr_cert_text.specs.declared.cert.Entry.TheVariants.{Line, Turn}
 use Rattle.xr_cert_text.specs.declared.cert.Form.{Form}
 use Rattle.xr_cert_text.specs.declared.cert.Form.TheVariants.{Lines, Turns}
 use Rattle.xr_cert.specs.Entries.{AreConditionsFor, AreTurnedIn, entries_of, lines_in}
-use Rattle.xr_cert.specs.Standing.{ComesAmid, EndsAmid, IsAmid, IsBehind, IsBetween, IsDone, Stands, StandsAt, StopsAt, Takes}
+use Rattle.xr_cert.specs.Words.{stopped_by}
+use Rattle.xr_cert.specs.Standing.{ComesAmid, EndsAmid, EndsFrom, IsAmid, IsBehind, IsBetween, IsDone, Stands, StandsAt, StopsAt, Takes}
 use Rattle.xr_cert.specs.declared.walked.Walked.{Walked}
-use Rattle.xr_cert.specs.Walk.{IsCertFault, IsFirstCertFault, IsUpTo, LacksTurn, class_objects, due_line, line, turn, with_turns}
+use Rattle.xr_cert.specs.Walk.{IsCertFault, IsFirstCertFault, IsUpTo, LacksTurn, class_objects, due_line, line, no_memory, turn}
+use Rattle.xr_cert.specs.Walk.{with_turns}
 use Rattle.xr_cert.specs.declared.refusal.CertFault.TheVariants.{BadTurn}
 use Rattle.xr_cert.specs.declared.refusal.CheckErr.{CheckErr}
 use Rattle.xr_cert.specs.declared.refusal.CheckErr.TheVariants.{Refused, Optimistic as Objects}
@@ -334,6 +338,13 @@ objected_between form start done rest a views objection objected is =
     (up_to form start done objected.before views (goes_between form start done a objected.before views objected.goes
     is))
     (class_objects rest objection objected.plain objected.contradicts objected.reports)
+
+-- Or there is no memory.
+pub stops_between : (a : Contents) (views : List ConditionView) (err : AdvanceErr) → IfObjects (IsObjected a) err
+    → EndsFrom a views (stopped_by err)
+stops_between a views (stopped.Optimistic objection) objected form start done rest is =
+    objected_between form start done rest a views objection objected is
+stops_between a views stopped.Memory objected form start done rest is = no_memory
 
 same_first : (a b : Entry) (xs ys : List Entry) → a ∷ xs ≡ b ∷ ys → a ≡ b
 same_first a b xs ys is = cc

@@ -1,7 +1,11 @@
--- The words of a refused certificate.
+-- The words of a refused certificate, and what a check ends with where a wave doesn't go on.
 use Rattle.std.specs.Prelude.{ℕ, List, ◌++◌, codes, decimal}
+use Rattle.xr_wave.specs.declared.advance.AdvanceErr.{AdvanceErr}
+use Rattle.xr_wave.specs.declared.advance.AdvanceErr.TheVariants as stopped
 use Rattle.xr_cert.specs.declared.refusal.CertFault.{CertFault}
 use Rattle.xr_cert.specs.declared.refusal.CertFault.TheVariants.{Syntax, Header, Missing, Stray, BadLog, BadPair, BadEnum, BadTurn}
+use Rattle.xr_cert.specs.declared.refusal.CheckErr.{CheckErr}
+use Rattle.xr_cert.specs.declared.refusal.CheckErr.TheVariants.{Memory, Optimistic}
 
 -- The number of a line, and a word.
 abbrev pub line_says : ℕ → List ℕ → List ℕ
@@ -17,3 +21,8 @@ fault_text (BadLog line) = line_says line (codes "log")
 fault_text (BadPair line) = line_says line (codes "pair")
 fault_text (BadEnum line) = line_says line (codes "enumeration")
 fault_text (BadTurn line) = line_says line (codes "turn")
+
+-- A check ends as the wave does.
+abbrev pub stopped_by : AdvanceErr → CheckErr
+stopped_by (stopped.Optimistic objection) = Optimistic objection
+stopped_by stopped.Memory = Memory

@@ -27,8 +27,8 @@ pub struct Checked<'a> {
 }
 
 /// A finished wave whose lines are those of the certificate, with the conditions that its turns make; or why there is
-/// none, its first fault. `limit` is how many clauses the log of an undecided place has. Takes a byte a place, the
-/// memory of the lines, and that of the conditions and of one check of a log at a time.
+/// none, its first fault. `limit` is how many clauses the log of an undecided place has. Takes the memory of the
+/// wave, of the lines and of the conditions, and that of one check of a log at a time.
 pub fn check_cert<'a>(
     alloc: Global,
     cert: Cert,

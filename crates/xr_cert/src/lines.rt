@@ -119,14 +119,12 @@ pub fn walk_on<'a>(wave: Wave<'a>, conditions: Vec<Condition>) -> Result<Walked<
     ensures err { IfErr result (EndsFrom wave.entry conditions.items) }
 {
     let _circuit = wave.circuit();
-    match wave.advance_to_line() {
-        Ok(wave) => Ok(Walked {
-            wave,
-            conditions,
-            under_way: None,
-        }),
-        Err(objection) => Err(CheckErr::Optimistic(objection)),
-    }
+    let next = wave.advance_to_line()?;
+    Ok(Walked {
+        wave: next,
+        conditions,
+        under_way: None,
+    })
 }
 
 /// Writes the next place by its line: by lanes, where they tell that its fillings are a pair, or else by its cone.

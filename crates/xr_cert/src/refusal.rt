@@ -5,7 +5,7 @@ ghost use Rattle.xr_cert.specs.Words.{fault_text};
 
 use std::fmt;
 use xr_design::Place;
-use xr_wave::Optimistic;
+use xr_wave::{AdvanceErr, Optimistic};
 
 /// Why a certificate is refused. Lines are those of its text, from 1. Its `Display` has the words, without the place
 /// that lacks its line.
@@ -48,6 +48,20 @@ pub enum CheckErr {
     Optimistic(Optimistic),
     /// There was no memory.
     Memory,
+}
+
+impl From<AdvanceErr> for CheckErr {
+    ghost use Rattle.std.specs.Prelude.{◌≡◌};
+    ghost use Rattle.xr_cert.specs.Words.{stopped_by};
+
+    ghost from_gives = { λ err refusal. refusal ≡ stopped_by err };
+
+    fn from(err: AdvanceErr) -> Self {
+        match err {
+            AdvanceErr::Optimistic(objection) => CheckErr::Optimistic(objection),
+            AdvanceErr::Memory => CheckErr::Memory,
+        }
+    }
 }
 
 impl fmt::Display for CertFault {

@@ -94,10 +94,7 @@ fn bit_written(wave: &Wave<'_>, bit: BoundBit) -> Written
     ensures { result ≡ spec.bit_written wave.now bit }
 {
     let place = bit_place(wave.stim(), bit);
-    Written {
-        value: wave.value(place),
-        mark: wave.mark(place),
-    }
+    wave.written(wave.circuit().number_of(place))
 }
 
 /// A bit with its value in a wave.

@@ -1,10 +1,11 @@
 -- What becomes due as values move, position by position.
-use Rattle.std.proofs.Common.{◌≡◌, ◌≢◌, ℕ, ◌+◌, ◌-◌, ◌*◌, ◌/◌, ◌<◌, ◌==◌, ◌||◌, true, false, List, [], ◌∷◌, length, slice_index, sym, ap, ◌∙◌, arith, subst, ⊎_elim}
+use Rattle.std.proofs.Common.{◌≡◌, ◌≢◌, ℕ, zero, suc, ◌+◌, ◌-◌, ◌*◌, ◌/◌, ◌<◌, ◌≤◌, ◌==◌, ◌||◌, true, false, List, [], ◌∷◌, length, slice_index, sym, ap, ◌∙◌, add-one, arith, subst, ⊎_elim}
 use Rattle.std.specs.List.{AllByRecursion, list_any}
+use Rattle.std.proofs.Math.Nat.{mul_comm, mul-le-mul_right}
 use Rattle.std.proofs.lemmas.Bool.{cases_eq}
 use Rattle.xr_cell.specs.declared.value.Value.{Value}
 use Rattle.xr_design.specs.Fits.{Fits}
-use Rattle.xr_design.specs.Job.{Job}
+use Rattle.xr_design.specs.Job.{Job, places_of}
 use Rattle.xr_design.specs.Order.{arguments_of_driver, position_of}
 use Rattle.xr_design.proofs.Rules.{position_in}
 use Rattle.xr_fans.specs.Nets.{driver_on, looked_at}
@@ -19,7 +20,7 @@ use Rattle.xr_replay.proofs.Sweeps.{AreMarked, are_marked}
 use Rattle.xr_replay_due.specs.Due.{AreAllDue, GainsAll, HasRoomFor, KeepsOthers, is_due}
 use Rattle.xr_replay_due.specs.Readers.{ReadersView, readers_of}
 use Rattle.xr_forces.specs.Made.{GivenUnlessDue}
-use Rattle.xr_forces.specs.Still.{AreAwaited, AreMarkedTo, AreStillTo, IsMarked, IsStill, looked_on, watched}
+use Rattle.xr_forces.specs.Still.{AreAwaited, AreMarkedTo, AreStillFrom, AreStillTo, IsMarked, IsStill, looked_on, watched}
 use Rattle.xr_forces.proofs.Resting.{place_rests, row_back}
 
 -- The nets that belong to positions are nets of the job.
@@ -61,6 +62,40 @@ marked_more j fits values nets_of step position old new nets is marked = record 
   room = is.room;
   still = λ p low clear. more_still j fits values step position (nets_of p) (nets p low) (all_by (λ net. net ≢ slice_index j.order position) (λ net. net ≡ slice_index j.order position → IsStill j values step net) (nets_of p) (λ net apart same. absurd (apart same)) (is.apart p low clear)) (marked.still p low (clear_before old new p is.more clear));
 }
+
+-- Positions between which all values are still leave what is due as it is.
+pub marked_to : (j : Job) → Fits j → (values : ℕ → Value) (nets_of : ℕ → List ℕ) (step position next : ℕ) (due : List ℕ)
+    → AreNetsOf j nets_of → 0 < step → position ≤ next → next ≤ j.width → AreStillFrom values j.width step position next
+    → AreMarkedTo j values nets_of step position due → AreMarkedTo j values nets_of step next due
+marked_to j fits values nets_of step position zero due nets later from within still marked =
+    let first : position ≡ 0 = omega (arith, from) in
+    subst (λ n. AreMarkedTo j values nets_of step n due) first marked
+marked_to j fits values nets_of step position (suc n) due nets later from within still marked =
+    ⊎_elim (λ same. subst (λ n. AreMarkedTo j values nets_of step n due) same marked)
+    (λ other. subst (λ m. AreMarkedTo j values nets_of step m due) (add-one n)
+    (marked_still j fits values nets_of step n due nets (here other)
+    (marked_to j fits values nets_of step position n due nets later (before other) (omega (arith, within))
+    (λ p low less. still p low (omega (arith, less))) marked)))
+    (cases_eq position (suc n))
+  where
+    before : position ≢ suc n → position ≤ n
+    before other = omega (arith, from, other)
+
+    here : position ≢ suc n → IsStill j values step (slice_index j.order n)
+    here other =
+        let low : n < j.width = omega (arith, within) in
+        ap values (at_there j fits step n low) ∙ still n (before other) (omega arith)
+        ∙ sym (ap values (at_there j fits (step - 1) n low))
+
+-- The places up to the end of a step of the job are places of the job.
+pub step_places : (j : Job) (step width place : ℕ) → width ≡ j.width → step < j.moments * j.rounds
+    → place < (step + 1) * width → place < places_of j
+step_places j step width place width_is less low =
+    let steps = j.moments * j.rounds in
+    let most : (step + 1) * j.width ≤ steps * j.width = mul-le-mul_right j.width (omega (arith, less)) in
+    let turned = mul_comm steps j.width in
+    let here : place < (step + 1) * j.width = subst (λ w. place < (step + 1) * w) width_is low in
+    omega (arith, most, turned, here)
 
 -- Behind the last position all nets are still that belong to a position that isn't due.
 all_still : (j : Job) → Fits j → (values : ℕ → Value) (step : ℕ) (nets : List ℕ) → AllByRecursion (λ net. net < j.width) nets → AreStillTo j values step j.width nets → AllByRecursion (IsStill j values step) nets

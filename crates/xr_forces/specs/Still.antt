@@ -1,6 +1,6 @@
 -- Values that stay from one step to the next, and what is due where they move. No contract of a public call names
 -- these.
-use Rattle.std.specs.Prelude.{◌≡◌, ◌≢◌, ℕ, ◌-◌, ◌<◌, false, List, ◌∷◌, slice_index}
+use Rattle.std.specs.Prelude.{◌≡◌, ◌≢◌, ℕ, ◌+◌, ◌-◌, ◌*◌, ◌<◌, ◌≤◌, false, List, ◌∷◌, slice_index}
 use Rattle.std.specs.List.{AllByRecursion}
 use Rattle.xr_cell.specs.declared.value.Value.{Value}
 use Rattle.xr_design.specs.Job.{Job, at}
@@ -12,6 +12,11 @@ use Rattle.xr_replay_due.specs.Due.{HasRoomFor, is_due}
 -- A net has at a step the value that it had one step before.
 abbrev pub IsStill : Job → (ℕ → Value) → ℕ → ℕ → Type 0
 IsStill j values step net = values (at j step net) ≡ values (at j (step - 1) net)
+
+-- The values of a step of so many nets at the positions from a first one up to a next are those of a step before.
+abbrev pub AreStillFrom : (ℕ → Value) → ℕ → ℕ → ℕ → ℕ → Type 0
+AreStillFrom values width step first next = (position : ℕ) → first ≤ position → position < next
+    → values (step * width + position) ≡ values ((step - 1) * width + position)
 
 -- Those of the nets that stand before a position of the order are still.
 abbrev pub AreStillTo : Job → (ℕ → Value) → ℕ → ℕ → List ℕ → Type 0

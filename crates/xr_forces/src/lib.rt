@@ -9,6 +9,7 @@ mod laws;
 mod moves;
 mod statements;
 mod steps;
+mod values;
 mod wave;
 
 pub use laws::{

@@ -8,13 +8,15 @@ ghost use Rattle.xr_fans.specs.Readings.{AreFans};
 ghost use Rattle.xr_forces.specs.Still.{AreMarkedTo, IsMarked, looked_on, watched};
 ghost use Rattle.xr_replay_due.specs.Due.{HasRoomFor};
 
+use crate::values::Moving;
 use xr_design::{Circuit, Source, width_of};
 use xr_fans::{Fans, Waiting, mark_readers};
 use xr_replay::is_same;
 
 /// The nets become due that have another value at a step than one step before, and the copies and cells that read them;
-/// the registers that look back at them do one step later. Takes no memory.
-pub fn mark_moves<S: Source>(
+/// the registers that look back at them do one step later. Visits only positions at which the values may move. Takes no
+/// memory.
+pub fn mark_moves<S: Moving>(
     circuit: &Circuit<'_>,
     values: &S,
     fans: &Fans,
@@ -23,6 +25,7 @@ pub fn mark_moves<S: Source>(
 )
     requires fits { CircuitFits circuit.now }
     requires has { (place : ℕ) → place < places_of (job_in circuit.now) → S.has values.now place }
+    requires width { S.width values.now ≡ (job_in circuit.now).width }
     requires fans { AreFans (job_in circuit.now) fans.now }
     requires later { 0 < step }
     requires step { step < (job_in circuit.now).moments * (job_in circuit.now).rounds }
@@ -36,7 +39,8 @@ pub fn mark_moves<S: Source>(
 {
     let nets = width_of(circuit);
     let start = step * nets;
-    'positions: for position in 0..nets {
+    let mut position = values.moved_from(step, 0);
+    'positions: while position < nets {
         mark_place(
             circuit,
             values,
@@ -46,6 +50,7 @@ pub fn mark_moves<S: Source>(
             position,
             waiting,
         );
+        position = values.moved_from(step, position + 1);
     }
 }
 

@@ -1,7 +1,7 @@
 //! The forces under which the replay of a circuit shows given values, step by step.
 //!
-//! In a later step only the places are computed that have another value than one step before, or whose driver may give
-//! one: their number, and a byte looked at of each place, is what it costs.
+//! In a later step only the places are looked at and computed that may have another value than one step before, or
+//! whose driver may give one: their number is what it costs.
 
 ghost use Rattle.std.specs.Prelude.{◌≡◌, ℕ, ◌+◌, ◌*◌, ◌<◌, IfOk, OnOk};
 ghost use Rattle.xr_design.specs.Circuit.{job_in, CircuitFits};
@@ -14,6 +14,7 @@ ghost use Rattle.xr_replay_due.specs.Due.{HasRoomFor};
 
 use crate::given::put_place;
 use crate::moves::mark_moves;
+use crate::values::Moving;
 use std::alloc::Global;
 use xr_base::Memory;
 use xr_cell::Value;
@@ -23,13 +24,14 @@ use xr_replay_due::Due;
 
 /// The forces under which the replay of a circuit shows these values, and no more. Takes the events, and some 30 bytes
 /// for each net and each pin.
-pub fn forces_of_values<S: Source>(
+pub fn forces_of_values<S: Moving>(
     alloc: Global,
     circuit: &Circuit<'_>,
     values: &S,
 ) -> Result<Forces, Memory>
     requires fits { CircuitFits circuit.now }
     requires has { (place : ℕ) → place < places_of (job_in circuit.now) → S.has values.now place }
+    requires width { S.width values.now ≡ (job_in circuit.now).width }
     ensures { IfOk result (λ forces. spec.AreForcesOf (job_in circuit.now) (S.reads values.now) forces) }
 {
     let nets = width_of(circuit);
@@ -42,7 +44,7 @@ pub fn forces_of_values<S: Source>(
 }
 
 /// All steps, one behind the other.
-fn put_steps<S: Source>(
+fn put_steps<S: Moving>(
     circuit: &Circuit<'_>,
     values: &S,
     fans: &Fans,
@@ -52,6 +54,7 @@ fn put_steps<S: Source>(
 ) -> Result<(), Memory>
     requires fits { CircuitFits circuit.now }
     requires has { (place : ℕ) → place < places_of (job_in circuit.now) → S.has values.now place }
+    requires width { S.width values.now ≡ (job_in circuit.now).width }
     requires fans { AreFans (job_in circuit.now) fans.now }
     requires due { AreAwaited (job_in circuit.now) (S.reads values.now) 0 waiting.old.due }
     requires ahead { HasRoomFor waiting.old.ahead (job_in circuit.now).width }
@@ -67,7 +70,7 @@ fn put_steps<S: Source>(
 }
 
 /// One step more.
-fn put_step<S: Source>(
+fn put_step<S: Moving>(
     circuit: &Circuit<'_>,
     values: &S,
     fans: &Fans,
@@ -78,6 +81,7 @@ fn put_step<S: Source>(
 ) -> Result<(), Memory>
     requires fits { CircuitFits circuit.now }
     requires has { (place : ℕ) → place < places_of (job_in circuit.now) → S.has values.now place }
+    requires width { S.width values.now ≡ (job_in circuit.now).width }
     requires fans { AreFans (job_in circuit.now) fans.now }
     requires step { step < (job_in circuit.now).moments * (job_in circuit.now).rounds }
     requires due { AreAwaited (job_in circuit.now) (S.reads values.now) step waiting.old.due }

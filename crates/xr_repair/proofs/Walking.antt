@@ -11,7 +11,10 @@ use Rattle.xr_model.specs.declared.class.ClassByNumber.{ClassByNumber}
 use Rattle.xr_model.specs.declared.class.ClassByNumber.TheVariants.{Local, Free, Carried, Line}
 use Rattle.xr_design.proofs.Exact.{one_exact}
 use Rattle.xr_model.proofs.Uniqueness.{sound_exact, unique_certain}
-use Rattle.xr_wave.specs.Advance.{GoesOn, IsAdvanced, IsPlain, more, plain_written, stays, with_written}
+use Rattle.xr_wave.specs.Advance.{GoesOn, IfObjects, IsAdvanced, IsObjected, IsPlain, more, plain_written, stays}
+use Rattle.xr_wave.specs.Advance.{with_written}
+use Rattle.xr_wave.specs.declared.advance.AdvanceErr.{AdvanceErr}
+use Rattle.xr_wave.specs.declared.advance.AdvanceErr.TheVariants as stopped
 use Rattle.xr_wave.specs.Contents.{Contents, IsFinished, IsWave, class_or_done, job, next_seen, shown_in}
 use Rattle.xr_wave.specs.Token.{HasNext, IsLineNext, LineAgrees, with_line}
 use Rattle.xr_model.specs.declared.line.Line.{Line as ALine}
@@ -19,9 +22,9 @@ use Rattle.xr_along.specs.Accepted.{AcceptsLine}
 use Rattle.xr_along.specs.Along.{GoesAlong, by_line}
 use Rattle.xr_along.specs.Along as walk
 use Rattle.xr_along.proofs.Fitted.{along}
-use Rattle.xr_repair.proofs.Objecting.{job_along, refused_along, same_job}
-use Rattle.xr_repair.specs.Repaired.{IsOfJob, IsOnlyOne}
-use Rattle.xr_repair.specs.Step.{IsFurther, IsNextOf, RefusedStep}
+use Rattle.xr_repair.proofs.Objecting.{job_along, plain_more, refused_along, same_job}
+use Rattle.xr_repair.specs.Repaired.{IsOfJob, IsOnlyOne, by_class}
+use Rattle.xr_repair.specs.Step.{IsFurther, IsNextOf, RefusedStep, stopped_by}
 use Rattle.xr_repair.specs.Walk.{AreRightOf}
 use Rattle.xr_repair.specs.declared.aids.Aids.{Aids}
 use Rattle.xr_repair.specs.declared.refusal.RepairErr.{RepairErr}
@@ -38,6 +41,21 @@ goes_same {a} stays = same_job a
 goes_same {a} (more {c = c} goes plain agrees) =
     job_along a c (with_written c (plain_written c)) (goes_same goes)
     (record { design = refl; order = refl; stim = refl; history = refl; limit = refl })
+
+-- A wave that doesn't go on ends the walk.
+pub stopped_refused : (start : Contents) (err : AdvanceErr) → IfObjects (IsObjected start) err
+    → RefusedStep start (stopped_by err)
+stopped_refused start (stopped.Optimistic optimistic) objected = record {
+  before = objected.before;
+  same = goes_same objected.goes;
+  wave = objected.wave;
+  next = plain_more objected.before objected.plain;
+  written = plain_written objected.before;
+  found = by_class objected.plain;
+  contradicts = objected.contradicts;
+  reports = objected.reports;
+}
+stopped_refused start stopped.Memory objected = tt
 
 pub goes_long : {a b : Contents} → GoesOn a b → length a.written ≤ length b.written
 goes_long stays = omega arith

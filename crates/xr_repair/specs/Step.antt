@@ -4,6 +4,8 @@ use Rattle.xr_design.specs.declared.waveform.Written.{Written}
 use Rattle.xr_wave.specs.Advance.{IsPlain}
 use Rattle.xr_wave.specs.Contents.{Contents, next_seen}
 use Rattle.xr_along.specs.Accepted.{AcceptsLine}
+use Rattle.xr_wave.specs.declared.advance.AdvanceErr.{AdvanceErr}
+use Rattle.xr_wave.specs.declared.advance.AdvanceErr.TheVariants as stopped
 use Rattle.xr_wave.specs.Token.{budget_line, pair_line, settled_line}
 use Rattle.xr_repair.specs.Repaired.{IsObjection, IsOfJob}
 use Rattle.xr_repair.specs.declared.found.Found.{Found}
@@ -28,6 +30,11 @@ abbrev pub IsShown : Contents → Found → Type 0
 IsShown c (Settled token) = AcceptsLine c (settled_line token)
 IsShown c (Pair token) = AcceptsLine c (pair_line token)
 IsShown c (Budget token) = AcceptsLine c (budget_line token)
+
+-- Why the walk ends where a wave doesn't go on.
+abbrev pub stopped_by : AdvanceErr → RepairErr
+stopped_by (stopped.Optimistic optimistic) = Optimistic optimistic
+stopped_by stopped.Memory = Memory
 
 -- The walk ends: at an objection, or for want of memory.
 abbrev pub RefusedStep : Contents → RepairErr → Type 0

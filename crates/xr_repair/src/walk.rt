@@ -26,8 +26,8 @@ use xr_wave::Wave;
 const PIECE: usize = 1024;
 
 /// A finished wave of a job: every place written, each with its justification. `limit` is how many clauses the log of a
-/// search may have before its place is marked undecided. Takes a byte a place, the memory of the lines, that of lanes,
-/// and up to 64 megabytes for the answers of searches.
+/// search may have before its place is marked undecided. Takes the memory of the wave, of the lines and of
+/// lanes, and up to 64 megabytes for the answers of searches.
 pub fn repair<'a>(
     alloc: Global,
     design: &'a Design,
@@ -193,10 +193,8 @@ fn advance<'a>(wave: Wave<'a>) -> Result<Wave<'a>, RepairErr>
     ensures same { IfOk result (IsOfJob wave.entry) }
     ensures err { IfErr result (RefusedStep wave.entry) }
 {
-    match wave.advance_to_line() {
-        Ok(wave) => Ok(wave),
-        Err(optimistic) => Err(RepairErr::Optimistic(optimistic)),
-    }
+    let next = wave.advance_to_line()?;
+    Ok(next)
 }
 
 /// Writes the next place, a Line place, and those after it up to the next one.

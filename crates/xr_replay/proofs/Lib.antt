@@ -2,6 +2,7 @@
 pub mod Bindings
 pub mod Compares
 pub mod Faults
+mod Followers
 pub mod Forces
 pub mod Marking
 pub mod Places

@@ -1,6 +1,7 @@
 -- Definitions of xr_replay: faults of a recording, and what the replay keeps as it goes.
 pub mod Fault
 pub mod Filled
+pub mod Follower
 pub mod Forced
 pub mod Going
 pub mod Marks

@@ -1,4 +1,4 @@
-//! What a history shows and keeps of a net at a step.
+//! What a row of a history shows and keeps of a net, and what a history that is being written does at a step.
 
 ghost use Rattle.std.specs.Prelude.{◌≡◌, ◌*◌, ◌<◌};
 ghost use Rattle.xr_design.specs.Circuit.{job_in, CircuitFits};
@@ -6,28 +6,28 @@ ghost use Rattle.xr_design.specs.Handed.{HasPlaces, held_of, shown_of};
 ghost use Rattle.xr_design.specs.Job.{at};
 
 use xr_cell::Value;
-use xr_design::{Circuit, History, HistoryWriter, Place};
+use xr_design::{Circuit, HistoryRow, HistoryWriter, Place};
 
-/// The value that a net shows at a step. Takes no memory.
-pub fn net_value(circuit: &Circuit<'_>, history: &History, step: u32, net: u32) -> Value
+/// The value that a net shows at the step of a row. Takes no memory.
+pub fn net_value(circuit: &Circuit<'_>, row: &HistoryRow<'_>, net: u32) -> Value
     requires fits { CircuitFits circuit.now }
     requires net { net < (job_in circuit.now).width }
-    requires places { HasPlaces (job_in circuit.now) history.now }
-    requires step { step < (job_in circuit.now).moments * (job_in circuit.now).rounds }
-    ensures { result ≡ shown_of (job_in circuit.now) history.now (at (job_in circuit.now) step net) }
+    requires places { HasPlaces (job_in circuit.now) row.now.history }
+    requires step { row.now.step < (job_in circuit.now).moments * (job_in circuit.now).rounds }
+    ensures { result ≡ shown_of (job_in circuit.now) row.now.history (at (job_in circuit.now) row.now.step net) }
 {
-    history.shown(Place { step, net })
+    row.shown(net)
 }
 
-/// The value that a net keeps at a step. Takes no memory.
-pub fn net_kept(circuit: &Circuit<'_>, history: &History, step: u32, net: u32) -> Value
+/// The value that a net keeps there. Takes no memory.
+pub fn net_kept(circuit: &Circuit<'_>, row: &HistoryRow<'_>, net: u32) -> Value
     requires fits { CircuitFits circuit.now }
     requires net { net < (job_in circuit.now).width }
-    requires places { HasPlaces (job_in circuit.now) history.now }
-    requires step { step < (job_in circuit.now).moments * (job_in circuit.now).rounds }
-    ensures { result ≡ (held_of (job_in circuit.now) history.now (at (job_in circuit.now) step net)).kept }
+    requires places { HasPlaces (job_in circuit.now) row.now.history }
+    requires step { row.now.step < (job_in circuit.now).moments * (job_in circuit.now).rounds }
+    ensures { result ≡ (held_of (job_in circuit.now) row.now.history (at (job_in circuit.now) row.now.step net)).kept }
 {
-    history.kept(Place { step, net })
+    row.kept(net)
 }
 
 /// The value that a net shows at a step of a history that is being written. Takes no memory.

@@ -5,6 +5,7 @@
 mod computed;
 mod differ;
 mod driven;
+mod follower;
 mod forced;
 mod held;
 mod marked;

@@ -3,11 +3,13 @@
 ghost use Rattle.std.specs.Prelude.{◌≡◌, ℕ, ◌-◌, ◌*◌, ◌<◌, ◌≤◌, ◌^◌, IfOk, None, Some, true, length, slice_index_or};
 ghost use Rattle.xr_fans.specs.Marks.{OnlyMore};
 ghost use Rattle.xr_ledger.specs.Change.{AreInWidth};
+ghost use Rattle.xr_replay.specs.Follower.{IsUpTo};
 ghost use Rattle.xr_replay.specs.Sides.{AreSides, job_beside};
 ghost use Rattle.xr_replay.specs.Watched.{AreAtRest, AreDueTo, AreRecordedAsBefore, FitsWatchers, IsNumberDue, ShowSame, ShowSameIn};
 ghost use Rattle.xr_replay_due.specs.Due.{HasRoom, HasRoomFor};
 ghost use Rattle.xr_replay_due.specs.Readers.{IsTable};
 
+use crate::follower::Follower;
 use crate::sides::{Sides, last_step_of};
 use crate::watchers::Watchers;
 use std::alloc::Global;
@@ -16,24 +18,30 @@ use xr_design::{Change, width_of};
 use xr_fans::mark_all;
 use xr_replay_due::{Due, Readers};
 
-/// The positions of the registers that are due, and the numbers of the bound variables.
-#[derive(Debug, Drop)]
-pub struct Marked {
+/// What a comparison carries from moment to moment: where it stands, the positions of the registers that are due, and
+/// the numbers of the bound variables.
+#[derive(Drop)]
+pub struct Marked<'a> {
+    pub follower: Follower<'a>,
     pub registers: Due,
     pub variables: Due,
 }
 
-impl Marked {
-    /// None of so many nets, and none of so many numbers. Takes a bit for each.
-    pub fn none(alloc: Global, nets: usize, room: usize) -> Result<Marked, Memory>
-        requires nets { nets ≤ 2 ^ 20 }
+impl<'a> Marked<'a> {
+    /// At the first step, with none of the nets due and none of so many numbers. Takes 2 bytes and a bit for each net,
+    /// 8 bytes for each variable of the recording, and a bit for each number.
+    pub fn none(alloc: Global, sides: &Sides<'a>, room: usize) -> Result<Marked<'a>, Memory>
+        requires sides { AreSides sides.now }
         requires room { room ≤ 2 ^ 20 }
-        ensures registers { IfOk result (λ marked. HasRoomFor marked.registers nets) }
+        ensures follower { IfOk result (λ marked. IsUpTo sides.now 0 marked.follower) }
+        ensures registers { IfOk result (λ marked. HasRoomFor marked.registers (job_beside sides.now).width) }
         ensures variables { IfOk result (λ marked. HasRoomFor marked.variables room) }
     {
-        let registers = Due::none(alloc, nets)?;
+        let follower = Follower::first(alloc, sides)?;
+        let registers = Due::none(alloc, width_of(&sides.circuit))?;
         let variables = Due::none(alloc, room)?;
         Ok(Marked {
+            follower,
             registers,
             variables,
         })
@@ -48,6 +56,7 @@ impl Marked {
         requires moment { moment < (job_beside sides.now).moments }
         requires registers { HasRoomFor self.old.registers (job_beside sides.now).width }
         requires variables { HasRoomFor self.old.variables watchers.now.room }
+        ensures follower { self.new.follower ≡ self.old.follower }
         ensures registers { length self.new.registers ≡ length self.old.registers }
         ensures variables { length self.new.variables ≡ length self.old.variables }
         ensures rest { result ≡ true → AreAtRest sides.now moment self.new.registers }

@@ -11,26 +11,28 @@ ghost use Rattle.xr_design.specs.Job.{job_of};
 ghost use Rattle.xr_match.specs.Binding.{FitsBinding};
 ghost use Rattle.xr_match.specs.Bounds.{IsOf};
 ghost use Rattle.xr_replay.specs.Fault.{HasNoFault, IfDiffers, IsFaultIn, IsFaultless, IsFirstFault, TellsFaultless, TellsFirst};
+ghost use Rattle.xr_replay.specs.Follower.{IsAt, IsUpTo};
 ghost use Rattle.xr_replay.specs.Sides.{AreSides, job_beside};
 ghost use Rattle.xr_replay.specs.Watched.{AgreeUnlessDue, AreAtRest, AreWatchers};
 ghost use Rattle.xr_replay_due.specs.Due.{HasRoomFor};
 
 use crate::differ::{Differ, DifferErr};
+use crate::follower::Follower;
 use crate::marked::Marked;
 use crate::recorded::{check_due_variables, check_recorded};
 use crate::settled::{check_due_registers, check_settled};
 use crate::sides::Sides;
 use crate::watchers::Watchers;
 use std::alloc::Global;
-use xr_design::{Circuit, Design, History, Order, Stim, width_of};
+use xr_design::{Circuit, Design, History, Order, Stim};
 use xr_match::Binding;
 use xr_vcd::Recording;
 
 /// The first fault of a recording beside the replay, by moment. In a moment the first unsettled register in the order
 /// of the nets comes before the first variable that disagrees, and in it the leftmost bit. Costs what is written and
-/// recorded in each moment but the first, where no variable is bound twice and at most 2^20 are bound. Takes some 50
-/// bytes for each net, each variable of the recording, each pin of a register and each bound bit, and some 20 for each
-/// moment and each change of the recording.
+/// recorded in each moment but the first, where no variable is bound twice and at most 2^20 are bound; a bit that is
+/// looked at costs constant time on average. Takes some 60 bytes for each net, each variable of the recording, each pin
+/// of a register and each bound bit, and some 20 for each moment and each change of the recording.
 pub fn compare(
     alloc: Global,
     design: &Design,
@@ -73,12 +75,12 @@ fn first_fault(alloc: Global, sides: &Sides<'_>, bound: &Binding) -> Result<(), 
 {
     match Watchers::of(alloc, sides, bound)? {
         Some(watchers) => check_changes(alloc, sides, bound, &watchers),
-        None => check_moments(sides, bound),
+        None => check_moments(alloc, sides, bound),
     }
 }
 
 /// The moments, each as a whole.
-fn check_moments(sides: &Sides<'_>, bound: &Binding) -> Result<(), DifferErr>
+fn check_moments(alloc: Global, sides: &Sides<'_>, bound: &Binding) -> Result<(), DifferErr>
     requires sides { AreSides sides.now }
     requires bound { FitsBinding sides.now.circuit.design.now bound.now }
     requires recorded { All (IsOf sides.now.recording.now) bound.now.bound }
@@ -86,8 +88,9 @@ fn check_moments(sides: &Sides<'_>, bound: &Binding) -> Result<(), DifferErr>
     ensures differs { IfErr result
         (IfDiffers (IsFirstFault (job_beside sides.now) sides.now.recording.now bound.now)) }
 {
+    let mut follower = Follower::first(alloc, sides)?;
     'moments: for moment in 0..sides.circuit.stim.times.as_slice().len() {
-        check_moment(sides, bound, moment as u32)?;
+        check_moment(sides, bound, &mut follower, moment as u32)?;
     }
     Ok(())
 }
@@ -107,7 +110,7 @@ fn check_changes(
     ensures differs { IfErr result
         (IfDiffers (IsFirstFault (job_beside sides.now) sides.now.recording.now bound.now)) }
 {
-    let mut marked = Marked::none(alloc, width_of(&sides.circuit), watchers.room)?;
+    let mut marked = Marked::none(alloc, sides, watchers.room)?;
     'moments: for moment in 0..sides.circuit.stim.times.as_slice().len() {
         check_next(sides, bound, watchers, &mut marked, moment as u32)?;
     }
@@ -119,7 +122,7 @@ fn check_next(
     sides: &Sides<'_>,
     bound: &Binding,
     watchers: &Watchers<'_>,
-    marked: &mut Marked,
+    marked: &mut Marked<'_>,
     moment: u32,
 ) -> Result<(), Differ>
     requires sides { AreSides sides.now }
@@ -129,51 +132,72 @@ fn check_next(
     requires moment { moment < (job_beside sides.now).moments }
     requires before { 0 < moment
         → HasNoFault (job_beside sides.now) sides.now.recording.now bound.now (moment - 1) }
+    requires follower { IsUpTo sides.now moment marked.old.follower }
     requires registers { HasRoomFor marked.old.registers (job_beside sides.now).width }
     requires variables { HasRoomFor marked.old.variables watchers.now.room }
+    ensures follower { IsAt sides.now moment marked.new.follower }
     ensures registers { length marked.new.registers ≡ length marked.old.registers }
     ensures variables { length marked.new.variables ≡ length marked.old.variables }
     ensures none { IfOk result (λ _. HasNoFault (job_beside sides.now) sides.now.recording.now bound.now moment) }
     ensures fault { IfErr result (IsFaultIn (job_beside sides.now) sides.now.recording.now bound.now moment) }
 {
     if moment == 0 {
-        return check_moment(sides, bound, moment);
+        return check_moment(sides, bound, &mut marked.follower, moment);
     }
     if !marked.mark(sides, watchers, moment) {
-        return check_moment(sides, bound, moment);
+        return check_moment(sides, bound, &mut marked.follower, moment);
     }
     check_marked(sides, bound, marked, moment)
 }
 
 /// A moment as a whole.
-fn check_moment(sides: &Sides<'_>, bound: &Binding, moment: u32) -> Result<(), Differ>
-    requires sides { AreSides sides.now }
-    requires bound { FitsBinding sides.now.circuit.design.now bound.now }
-    requires recorded { All (IsOf sides.now.recording.now) bound.now.bound }
-    requires moment { moment < (job_beside sides.now).moments }
-    ensures none { IfOk result (λ _. HasNoFault (job_beside sides.now) sides.now.recording.now bound.now moment) }
-    ensures fault { IfErr result (IsFaultIn (job_beside sides.now) sides.now.recording.now bound.now moment) }
-{
-    check_settled(sides, moment)?;
-    check_recorded(sides, bound, moment)
-}
-
-/// What is due in a moment.
-fn check_marked(
+fn check_moment(
     sides: &Sides<'_>,
     bound: &Binding,
-    marked: &Marked,
+    follower: &mut Follower<'_>,
     moment: u32,
 ) -> Result<(), Differ>
     requires sides { AreSides sides.now }
     requires bound { FitsBinding sides.now.circuit.design.now bound.now }
     requires recorded { All (IsOf sides.now.recording.now) bound.now.bound }
     requires moment { moment < (job_beside sides.now).moments }
-    requires rest { AreAtRest sides.now moment marked.now.registers }
-    requires agree { AgreeUnlessDue sides.now bound.now moment marked.now.variables }
+    requires follower { IsUpTo sides.now moment follower.old }
+    ensures follower { IsAt sides.now moment follower.new }
     ensures none { IfOk result (λ _. HasNoFault (job_beside sides.now) sides.now.recording.now bound.now moment) }
     ensures fault { IfErr result (IsFaultIn (job_beside sides.now) sides.now.recording.now bound.now moment) }
 {
-    check_due_registers(sides, &marked.registers, moment)?;
-    check_due_variables(sides, bound, &marked.variables, moment)
+    follower.bring(sides, moment);
+    check_settled(sides, follower, moment)?;
+    check_recorded(sides, follower, bound, moment)
+}
+
+/// What is due in a moment.
+fn check_marked(
+    sides: &Sides<'_>,
+    bound: &Binding,
+    marked: &mut Marked<'_>,
+    moment: u32,
+) -> Result<(), Differ>
+    requires sides { AreSides sides.now }
+    requires bound { FitsBinding sides.now.circuit.design.now bound.now }
+    requires recorded { All (IsOf sides.now.recording.now) bound.now.bound }
+    requires moment { moment < (job_beside sides.now).moments }
+    requires follower { IsUpTo sides.now moment marked.old.follower }
+    requires rest { AreAtRest sides.now moment marked.old.registers }
+    requires agree { AgreeUnlessDue sides.now bound.now moment marked.old.variables }
+    ensures follower { IsAt sides.now moment marked.new.follower }
+    ensures registers { marked.new.registers ≡ marked.old.registers }
+    ensures variables { marked.new.variables ≡ marked.old.variables }
+    ensures none { IfOk result (λ _. HasNoFault (job_beside sides.now) sides.now.recording.now bound.now moment) }
+    ensures fault { IfErr result (IsFaultIn (job_beside sides.now) sides.now.recording.now bound.now moment) }
+{
+    marked.follower.bring(sides, moment);
+    check_due_registers(sides, &marked.follower, &marked.registers, moment)?;
+    check_due_variables(
+        sides,
+        &mut marked.follower,
+        bound,
+        &marked.variables,
+        moment,
+    )
 }

@@ -4,28 +4,37 @@ ghost use Rattle.std.specs.Prelude.{◌≡◌, ◌<◌, All, IfErr, IfOk, length
 ghost use Rattle.xr_match.specs.Binding.{FitsBinding, FitsBound};
 ghost use Rattle.xr_match.specs.Bounds.{IsOf};
 ghost use Rattle.xr_replay.specs.Fault.{Agrees, IsBitFault, IsDisagreementIn, IsVariableFault};
+ghost use Rattle.xr_replay.specs.Follower.{IsAt};
 ghost use Rattle.xr_replay.specs.Sides.{AgreesBeside, AreSides, BitAgreesBeside, job_beside};
 ghost use Rattle.xr_replay.specs.Watched.{AgreeUnlessDue};
 
 use crate::differ::Differ;
+use crate::follower::Follower;
 use crate::held::net_value;
-use crate::sides::{Sides, last_step_of};
+use crate::sides::Sides;
 use crate::values::is_same;
 use xr_match::{Binding, Bound};
 use xr_replay_due::Due;
 
-/// Whether each bound variable agrees in a moment, else the first bit of the first variable that doesn't. Takes no
-/// memory.
-pub fn check_recorded(sides: &Sides<'_>, bound: &Binding, moment: u32) -> Result<(), Differ>
+/// Whether each bound variable agrees in a moment, else the first bit of the first variable that doesn't. Costs all
+/// their bits. Takes no memory.
+pub fn check_recorded(
+    sides: &Sides<'_>,
+    follower: &mut Follower<'_>,
+    bound: &Binding,
+    moment: u32,
+) -> Result<(), Differ>
     requires sides { AreSides sides.now }
     requires bound { FitsBinding sides.now.circuit.design.now bound.now }
     requires recorded { All (IsOf sides.now.recording.now) bound.now.bound }
     requires moment { moment < (job_beside sides.now).moments }
+    requires follower { IsAt sides.now moment follower.old }
+    ensures same { follower.new ≡ follower.old }
     ensures agrees { IfOk result (λ _. Agrees (job_beside sides.now) sides.now.recording.now bound.now moment) }
     ensures fault { IfErr result (IsDisagreementIn (job_beside sides.now) sides.now.recording.now bound.now moment) }
 {
     'variables: for variable in bound.bound.as_slice() {
-        check_variable(sides, variable, moment)?;
+        check_variable(sides, follower, variable, moment)?;
     }
     Ok(())
 }
@@ -33,6 +42,7 @@ pub fn check_recorded(sides: &Sides<'_>, bound: &Binding, moment: u32) -> Result
 /// The same, where each bound variable that isn't due agrees. Costs the bits of those that are. Takes no memory.
 pub fn check_due_variables(
     sides: &Sides<'_>,
+    follower: &mut Follower<'_>,
     bound: &Binding,
     due: &Due,
     moment: u32,
@@ -42,49 +52,82 @@ pub fn check_due_variables(
     requires recorded { All (IsOf sides.now.recording.now) bound.now.bound }
     requires moment { moment < (job_beside sides.now).moments }
     requires agree { AgreeUnlessDue sides.now bound.now moment due.now }
+    requires follower { IsAt sides.now moment follower.old }
+    ensures same { follower.new ≡ follower.old }
     ensures agrees { IfOk result (λ _. Agrees (job_beside sides.now) sides.now.recording.now bound.now moment) }
     ensures fault { IfErr result (IsDisagreementIn (job_beside sides.now) sides.now.recording.now bound.now moment) }
 {
     let variables = bound.bound.as_slice();
     let mut number = due.first_from(0);
     'variables: while number < variables.len() {
-        check_variable(sides, &variables[number], moment)?;
+        check_variable(sides, follower, &variables[number], moment)?;
         number = due.first_from(number + 1);
     }
     Ok(())
 }
 
-fn check_variable(sides: &Sides<'_>, variable: &Bound, moment: u32) -> Result<(), Differ>
+fn check_variable(
+    sides: &Sides<'_>,
+    follower: &mut Follower<'_>,
+    variable: &Bound,
+    moment: u32,
+) -> Result<(), Differ>
     requires sides { AreSides sides.now }
     requires bound { FitsBound sides.now.circuit.design.now variable.now }
     requires recorded { IsOf sides.now.recording.now variable.now }
     requires moment { moment < (job_beside sides.now).moments }
+    requires follower { IsAt sides.now moment follower.old }
+    ensures same { follower.new ≡ follower.old }
     ensures agrees { IfOk result (λ _. AgreesBeside sides.now moment variable.now) }
     ensures fault { IfErr result (IsVariableFault (job_beside sides.now) sides.now.recording.now moment variable.now) }
 {
-    'bits: for bit in 0..sides.recording.width(variable.variable) {
-        check_bit(sides, variable, bit, moment)?;
+    if variable.bits.as_slice().len() == 1 {
+        return check_bit(sides, follower, variable, 0, moment);
+    }
+    check_bits(sides, follower, variable, moment)
+}
+
+fn check_bits(
+    sides: &Sides<'_>,
+    follower: &mut Follower<'_>,
+    variable: &Bound,
+    moment: u32,
+) -> Result<(), Differ>
+    requires sides { AreSides sides.now }
+    requires bound { FitsBound sides.now.circuit.design.now variable.now }
+    requires recorded { IsOf sides.now.recording.now variable.now }
+    requires moment { moment < (job_beside sides.now).moments }
+    requires follower { IsAt sides.now moment follower.old }
+    ensures same { follower.new ≡ follower.old }
+    ensures agrees { IfOk result (λ _. AgreesBeside sides.now moment variable.now) }
+    ensures fault { IfErr result (IsVariableFault (job_beside sides.now) sides.now.recording.now moment variable.now) }
+{
+    'bits: for bit in 0..variable.bits.as_slice().len() as u32 {
+        check_bit(sides, follower, variable, bit, moment)?;
     }
     Ok(())
 }
 
-fn check_bit(sides: &Sides<'_>, variable: &Bound, bit: u32, moment: u32) -> Result<(), Differ>
+fn check_bit(
+    sides: &Sides<'_>,
+    follower: &mut Follower<'_>,
+    variable: &Bound,
+    bit: u32,
+    moment: u32,
+) -> Result<(), Differ>
     requires sides { AreSides sides.now }
     requires bound { FitsBound sides.now.circuit.design.now variable.now }
     requires recorded { IsOf sides.now.recording.now variable.now }
     requires bit { bit < length variable.now.bits }
     requires moment { moment < (job_beside sides.now).moments }
+    requires follower { IsAt sides.now moment follower.old }
+    ensures same { follower.new ≡ follower.old }
     ensures agrees { IfOk result (λ _. BitAgreesBeside sides.now moment variable.now bit) }
     ensures fault { IfErr result (IsBitFault (job_beside sides.now) sides.now.recording.now moment variable.now bit) }
 {
     let net = variable.bits.as_slice()[bit as usize];
-    let recorded = sides.recording.value(variable.variable, bit, moment);
-    let replayed = net_value(
-        &sides.circuit,
-        sides.history,
-        last_step_of(sides, moment),
-        net,
-    );
+    let recorded = follower.recorded.value(variable.variable, bit, moment);
+    let replayed = net_value(&sides.circuit, &follower.row, net);
     if is_same(recorded, replayed) {
         return Ok(());
     }

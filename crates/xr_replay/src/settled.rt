@@ -3,35 +3,44 @@
 ghost use Rattle.std.specs.Prelude.{◌≡◌, ◌<◌, IfErr, IfOk, slice_index};
 ghost use Rattle.xr_design.specs.Settled.{IsSettled};
 ghost use Rattle.xr_replay.specs.Fault.{IsUnsettledAt, IsUnsettledIn};
+ghost use Rattle.xr_replay.specs.Follower.{IsAt};
 ghost use Rattle.xr_replay.specs.Sides.{AreSides, SettlesIn, job_beside};
 ghost use Rattle.xr_replay.specs.Watched.{AreAtRest};
 
 use crate::differ::Differ;
+use crate::follower::{Follower, ShownAlong};
 use crate::held::net_kept;
-use crate::sides::{Sides, last_step_of};
-use xr_design::{Driver, Latching, Shown, driver_at, updated_value, width_of};
+use crate::sides::Sides;
+use xr_design::{Driver, Latching, driver_at, updated_value, width_of};
 use xr_replay_due::Due;
 
 /// Whether each register is settled at the last step of a moment, else the first in the order of the nets that isn't.
 /// Takes no memory.
-pub fn check_settled(sides: &Sides<'_>, moment: u32) -> Result<(), Differ>
+pub fn check_settled(sides: &Sides<'_>, follower: &Follower<'_>, moment: u32) -> Result<(), Differ>
     requires sides { AreSides sides.now }
     requires moment { moment < (job_beside sides.now).moments }
+    requires follower { IsAt sides.now moment follower.now }
     ensures settled { IfOk result (λ _. IsSettled (job_beside sides.now) moment) }
     ensures fault { IfErr result (IsUnsettledIn (job_beside sides.now) moment) }
 {
     'positions: for position in 0..sides.circuit.design.nets.as_slice().len() {
         let net = net_at(sides, position as u32);
-        check_net(sides, moment, net)?;
+        check_net(sides, follower, moment, net)?;
     }
     Ok(())
 }
 
 /// The same, where each register that isn't due is settled. Costs the registers that are. Takes no memory.
-pub fn check_due_registers(sides: &Sides<'_>, due: &Due, moment: u32) -> Result<(), Differ>
+pub fn check_due_registers(
+    sides: &Sides<'_>,
+    follower: &Follower<'_>,
+    due: &Due,
+    moment: u32,
+) -> Result<(), Differ>
     requires sides { AreSides sides.now }
     requires moment { moment < (job_beside sides.now).moments }
     requires rest { AreAtRest sides.now moment due.now }
+    requires follower { IsAt sides.now moment follower.now }
     ensures settled { IfOk result (λ _. IsSettled (job_beside sides.now) moment) }
     ensures fault { IfErr result (IsUnsettledIn (job_beside sides.now) moment) }
 {
@@ -39,7 +48,7 @@ pub fn check_due_registers(sides: &Sides<'_>, due: &Due, moment: u32) -> Result<
     let mut position = due.first_from(0);
     'positions: while position < nets {
         let net = net_at(sides, position as u32);
-        check_net(sides, moment, net)?;
+        check_net(sides, follower, moment, net)?;
         position = due.first_from(position + 1);
     }
     Ok(())
@@ -54,21 +63,28 @@ fn net_at(sides: &Sides<'_>, position: u32) -> u32
     sides.circuit.order.net(position)
 }
 
-fn check_net(sides: &Sides<'_>, moment: u32, net: u32) -> Result<(), Differ>
+fn check_net(
+    sides: &Sides<'_>,
+    follower: &Follower<'_>,
+    moment: u32,
+    net: u32,
+) -> Result<(), Differ>
     requires sides { AreSides sides.now }
     requires moment { moment < (job_beside sides.now).moments }
     requires net { net < (job_beside sides.now).width }
+    requires follower { IsAt sides.now moment follower.now }
     ensures settled { IfOk result (λ _. SettlesIn sides.now moment net ((job_beside sides.now).driver net)) }
     ensures fault { IfErr result (IsUnsettledAt (job_beside sides.now) moment net ((job_beside sides.now).driver net)) }
 {
     match driver_at(&sides.circuit, net as usize) {
-        Driver::Register(latching) => check_register(sides, moment, net, latching),
+        Driver::Register(latching) => check_register(sides, follower, moment, net, latching),
         _ => Ok(()),
     }
 }
 
 fn check_register(
     sides: &Sides<'_>,
+    follower: &Follower<'_>,
     moment: u32,
     net: u32,
     latching: &Latching,
@@ -77,16 +93,17 @@ fn check_register(
     requires moment { moment < (job_beside sides.now).moments }
     requires net { net < (job_beside sides.now).width }
     requires register { (job_beside sides.now).driver net ≡ Driver.Register latching.now }
+    requires follower { IsAt sides.now moment follower.now }
     ensures settled { IfOk result (λ _. SettlesIn sides.now moment net (Driver.Register latching.now)) }
     ensures fault { IfErr result (IsUnsettledAt (job_beside sides.now) moment net (Driver.Register latching.now)) }
 {
-    let step = last_step_of(sides, moment);
-    let kept = net_kept(&sides.circuit, sides.history, step, net);
-    let shown = Shown {
+    let step = follower.row.step();
+    let kept = net_kept(&sides.circuit, &follower.row, net);
+    let shown = ShownAlong {
         circuit: sides.circuit,
-        history: sides.history,
+        follower,
     };
-    let next = updated_value(&sides.circuit, &shown, kept, step as usize + 1, latching);
+    let next = updated_value(&sides.circuit, &shown, kept, step + 1, latching);
     if next == kept {
         return Ok(());
     }

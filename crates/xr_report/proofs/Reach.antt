@@ -1,5 +1,6 @@
 -- Places of a wave that its history has too.
-use Rattle.std.proofs.Common.{ℕ, ◌*◌, ◌<◌, length, arith}
+use Rattle.std.proofs.Common.{ℕ, ◌+◌, ◌*◌, ◌<◌, ◌≤◌, length, arith}
+use Rattle.std.proofs.Math.Nat.{mul_comm, mul-le-mul_right}
 use Rattle.xr_design.specs.Filling.{IsPlace}
 use Rattle.xr_design.specs.Fits.{Fits, place_at}
 use Rattle.xr_design.specs.History.{HasPlace}
@@ -51,9 +52,21 @@ net_there c wave finished moment net less within =
     let low = number_within j fits place is in
     there c wave place is (omega (arith, finished, low))
 
+-- All places of the last step of a moment are written.
+whole_there : (c : Contents) → IsWave c → IsFinished c → (moment : ℕ) → moment < length c.stim.times
+    → (last_step (job c) moment + 1) * length c.design.nets ≤ length c.written
+whole_there c wave finished moment less =
+    let j = job c in
+    let steps = j.moments * j.rounds in
+    let low : last_step j moment + 1 ≤ steps = omega (arith, last_within j wave.fits.fits_job moment less) in
+    let most : (last_step j moment + 1) * j.width ≤ steps * j.width = mul-le-mul_right j.width low in
+    let turned = mul_comm steps j.width in
+    omega (arith, most, turned, finished)
+
 -- In a finished wave each net's place at the last step of each moment is there.
 pub moments_there : (c : Contents) → IsWave c → IsFinished c → HasMoments c
 moments_there c wave finished = λ moment less. record {
   written = λ net within. (net_there c wave finished moment net less within).written;
   history = λ net within. (net_there c wave finished moment net less within).history;
+  whole = whole_there c wave finished moment less;
 }

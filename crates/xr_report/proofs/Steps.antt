@@ -1,19 +1,26 @@
 -- Places by the steps and positions at which they stand.
-use Rattle.std.proofs.Common.{◌≡◌, ℕ, zero, suc, ◌+◌, ◌*◌, ◌<◌, ◌≤◌, ◌^◌, length, sym, ap, ◌∙◌, subst, arith, ⊎_elim}
+use Rattle.std.proofs.Common.{◌≡◌, ℕ, ◌+◌, ◌-◌, ◌*◌, ◌<◌, ◌≤◌, ◌^◌, length, sym, ap, ◌∙◌, subst, arith, ⊎_elim}
 use Rattle.std.proofs.Math.Nat.{mul_comm, mul-le-mul_right}
 use Rattle.std.proofs.lemmas.Bool.{cases_lt}
 use Rattle.std.proofs.lemmas.Nat.{div-mul-add, mod-mul-add}
 use Rattle.std.specs.Prelude.{slice_index}
+use Rattle.xr_cell.specs.declared.value.Value.{Value}
 use Rattle.xr_design.specs.Fits.{place_at}
-use Rattle.xr_design.specs.History.{HasPlace, HistoryView, net_place}
+use Rattle.xr_design.specs.History.{HasPlace, HistoryView, held_in, net_place}
 use Rattle.xr_design.specs.Job.{Job, net_of}
-use Rattle.xr_design.specs.Row.{RowView}
+use Rattle.xr_design.specs.Replay.{Held}
+use Rattle.xr_design.specs.Row.{IsBlankAt, RowView}
+use Rattle.xr_design.specs.Waveform.{written_at}
 use Rattle.xr_design.specs.declared.place.Place.{Place}
+use Rattle.xr_design.specs.declared.waveform.Written.{Written}
 use Rattle.xr_design.proofs.Numbers.{few_steps}
 use Rattle.xr_design.proofs.Rules.{some_width}
-use Rattle.xr_report.specs.Finished.{IsPartOfStep}
+use Rattle.xr_report.specs.Counts.{counts_in}
+use Rattle.xr_report.specs.Finished.{IsStillAt}
+use Rattle.xr_report.proofs.Counting.{counts_same}
 use Rattle.xr_report.proofs.Reach.{there_at}
 use Rattle.xr_wave.specs.Contents.{Contents, IsWave, job}
+use Rattle.xr_wave.specs.Row.{AreSameFrom, IsWrittenAt, WaveRowView}
 
 -- The place at a position of a step.
 pub place_in_step : (j : Job) (step position : ℕ) → position < j.width
@@ -35,11 +42,6 @@ pub next_first : (first many step width : ℕ) → first ≡ step * width → ma
     → first + many ≡ (step + 1) * width
 next_first first many step width is whole = omega (arith, is, whole)
 
--- Where there is a net and places are left, some of them stand in the step.
-pub some_rest : (width left many : ℕ) → (many < left → many ≡ width) → 0 < width → 0 < left → 0 < many
-some_rest width left zero whole some more = let e = whole more in absurd (omega (arith, e, some))
-some_rest width left (suc many) whole some more = omega arith
-
 module _ (c : Contents) (wave : IsWave c) where
   -- The step of a place that is written has a small number.
   pub step_small : (step first : ℕ) → first ≡ step * length c.design.nets → first < length c.written → step < 2 ^ 32
@@ -58,21 +60,61 @@ module _ (c : Contents) (wave : IsWave c) where
       let up = wave.holds.sound.within in
       some_width j.width (j.moments * j.rounds) first (omega (arith, less, up))
 
-  -- The place at a position of a part of a step is that of its number, and the history of the row has it.
-  pub part_there : (j : Job) → j ≡ job c → (row : RowView) (first many position net : ℕ) → IsPartOfStep c row first many
-      → position < many → net ≡ slice_index j.order position
-      → (net_place row.step net ≡ place_at (job c) (first + position)) × HasPlace row.history (net_place row.step net)
-  part_there j same row first many position net part less is =
-      let few = part.few in
-      let written = part.written in
-      let place = net_place row.step net in
-      let low : position < (job c).width = omega (arith, few, less) in
-      let below : first + position < length c.written = omega (arith, written, less) in
-      let here : place ≡ place_at (job c) (first + position) =
-      ap (λ (n : ℕ). net_place row.step n) (is ∙ ap (λ (i : Job). slice_index i.order position) same)
-      ∙ sym (place_in_step (job c) row.step position low)
-      ∙ ap (λ (n : ℕ). place_at (job c) (n + position)) (sym part.first_of) in (
-        here,
-        subst (λ (h : HistoryView). HasPlace h place) (sym part.history)
-            (subst (λ (p : Place). HasPlace c.history p) (sym here) (there_at c wave (first + position) below).history),
-      )
+  -- The place at a position of a step whose places are written, and that the history has it.
+  pub position_there : (step position : ℕ) → (step + 1) * length c.design.nets ≤ length c.written
+      → position < length c.design.nets
+      → HasPlace c.history (net_place step (slice_index c.order position))
+  position_there step position whole low =
+      let w = length c.design.nets in
+      let reached : step * w + position < length c.written = omega (arith, whole, low) in
+      subst (λ (p : Place). HasPlace c.history p) (place_in_step (job c) step position low)
+      (there_at c wave (step * w + position) reached).history
+
+  -- A step at which nothing is written anew counts as the one before.
+  pub repeated : (step : ℕ) → (step + 1) * length c.design.nets ≤ length c.written
+      → AreSameFrom (job c) c.written step 0 (length c.design.nets) → IsStillAt c.history step
+      → counts_in c step ≡ counts_in c (step - 1)
+  repeated step whole same still =
+      let w = length c.design.nets in
+      counts_same c (step * w) ((step - 1) * w) w (λ p low. ap (λ (x : Written). x.mark) (same p (omega arith) low))
+      (λ p low.
+      ap (λ (q : Place). (held_in c.history q).shown) (place_in_step (job c) step p low)
+      ∙ ap (λ (h : Held). h.shown) (still (slice_index c.order p) (position_there step p whole low))
+      ∙ ap (λ (q : Place). (held_in c.history q).shown) (sym (place_in_step (job c) (step - 1) p low)))
+
+-- What the row of a wave has at a position of its step.
+module _ (c : Contents) (row : WaveRowView) (step : ℕ) (is : row.wave ≡ c) (stands : row.step ≡ step) where
+  pub row_written : (position : ℕ) → (step + 1) * length c.design.nets ≤ length c.written
+      → position < length c.design.nets → IsWrittenAt (job row.wave) row.wave.written row.step position
+  row_written position whole low =
+      subst (λ (w : Contents). IsWrittenAt (job w) w.written row.step position) (sym is)
+      (subst (λ (s : ℕ). IsWrittenAt (job c) c.written s position) (sym stands)
+      (record { inside = low; reached = omega (arith, whole, low) }))
+
+  pub row_has : (position : ℕ) (written : Written)
+      → written ≡ written_at row.wave.written (row.step * (job row.wave).width + position)
+      → written ≡ written_at c.written (step * length c.design.nets + position)
+  row_has position written it_is =
+      it_is ∙ ap (λ (w : Contents). written_at w.written (row.step * (job w).width + position)) is
+      ∙ ap (λ (s : ℕ). written_at c.written (s * length c.design.nets + position)) stands
+
+-- What the row of a history has of a net.
+module _ (c : Contents) (row : RowView) (step : ℕ) (is : row.history ≡ c.history) (stands : row.step ≡ step) where
+  pub row_place : (net : ℕ) → HasPlace c.history (net_place step net) → HasPlace row.history (net_place row.step net)
+  row_place net has =
+      subst (λ (h : HistoryView). HasPlace h (net_place row.step net)) (sym is)
+      (subst (λ (s : ℕ). HasPlace c.history (net_place s net)) (sym stands) has)
+
+  pub row_shown : (net : ℕ) (shown : Value) → shown ≡ (held_in row.history (net_place row.step net)).shown
+      → shown ≡ (held_in c.history (net_place step net)).shown
+  row_shown net shown it_is =
+      it_is ∙ ap (λ (h : HistoryView). (held_in h (net_place row.step net)).shown) is
+      ∙ ap (λ (s : ℕ). (held_in c.history (net_place s net)).shown) stands
+
+-- A step of a history that is blank as the one before.
+pub blank_still : (history : HistoryView) (step : ℕ) → IsBlankAt history step → IsBlankAt history (step - 1)
+    → IsStillAt history step
+blank_still history step here before net has =
+    let low : (step - 1) * history.nets ≤ step * history.nets = mul-le-mul_right history.nets (omega arith) in
+    let within = has.step in
+    here net has ∙ sym (before net (record { net = has.net; step = omega (arith, low, within) }))

@@ -1,5 +1,5 @@
 -- How many places of a wave have which end.
-use Rattle.std.specs.Prelude.{ℕ, ◌+◌, Bool, true, false, ◌&&◌, not, length, count_by, if◌then◌else◌}
+use Rattle.std.specs.Prelude.{ℕ, ◌+◌, ◌*◌, Bool, true, false, ◌&&◌, not, length, count_by, if◌then◌else◌}
 use Rattle.std.specs.List.{range_with_len}
 use Rattle.xr_cell.specs.declared.value.Value.{Value}
 use Rattle.xr_cell.specs.Value.{is_unknown}
@@ -46,6 +46,23 @@ counts_below c n = record {
   undecided = count_where (λ mark shown. is_undecided mark) c n;
 }
 
+-- How many of so many places from one on pass one, and the counts of these.
+abbrev pub count_among : (Mark → Value → Bool) → Contents → ℕ → ℕ → ℕ
+count_among test c first many =
+    count_by (λ place. test (written_at c.written place).mark (shown_in c place)) (range_with_len first many)
+
+abbrev pub counts_among : Contents → ℕ → ℕ → Counts
+counts_among c first many = record {
+  known = count_among is_known_place c first many;
+  repaired = count_among is_repaired c first many;
+  unknown = count_among (λ mark shown. is_unknown_mark mark) c first many;
+  undecided = count_among (λ mark shown. is_undecided mark) c first many;
+}
+
+-- The counts of the places of a step.
+abbrev pub counts_in : Contents → ℕ → Counts
+counts_in c step = counts_among c (step * length c.design.nets) (length c.design.nets)
+
 -- The counts of all written places.
 abbrev pub counts_of : Contents → Counts
 counts_of c = counts_below c (length c.written)
@@ -64,4 +81,13 @@ with_place counts mark shown = record {
   repaired = counts.repaired + one_if (is_repaired mark shown);
   unknown = counts.unknown + one_if (is_unknown_mark mark);
   undecided = counts.undecided + one_if (is_undecided mark);
+}
+
+-- The counts of two sets of places.
+abbrev pub with_counts : Counts → Counts → Counts
+with_counts counts more = record {
+  known = counts.known + more.known;
+  repaired = counts.repaired + more.repaired;
+  unknown = counts.unknown + more.unknown;
+  undecided = counts.undecided + more.undecided;
 }

@@ -1,27 +1,39 @@
--- Steps of which a wave has places, and rows of its history at them.
-use Rattle.std.specs.Prelude.{ℕ, ◌≡◌, ◌+◌, ◌*◌, ◌<◌, ◌≤◌, length}
-use Rattle.xr_design.specs.History.{HasPlace}
-use Rattle.xr_design.specs.Row.{RowView}
+-- Steps of which a wave has places, and rows of it and of its history at them.
+use Rattle.std.specs.Prelude.{ℕ, ◌≡◌, ◌+◌, ◌-◌, ◌*◌, ◌<◌, ◌≤◌, length}
+use Rattle.xr_design.specs.History.{HasPlace, HistoryView, held_in, net_place}
 use Rattle.xr_design.specs.Settled.{last_step}
+use Rattle.xr_report.specs.declared.bits.Reader.{Reader}
+use Rattle.xr_report.specs.declared.rows.Rows.{Rows}
 use Rattle.xr_wave.specs.Contents.{Contents, IsWritten, job}
 
 -- Each net's place at a step is written, and the history has it.
 pub record HasStep (c : Contents) (step : ℕ) : Type 0 where
   pub written : (net : ℕ) → net < length c.design.nets → IsWritten c (record { step = step; net = net })
   pub history : (net : ℕ) → net < length c.design.nets → HasPlace c.history (record { step = step; net = net })
+  pub whole : (step + 1) * length c.design.nets ≤ length c.written
 
 -- That holds of the last step of each moment.
 abbrev pub HasMoments : Contents → Type 0
 HasMoments c = (moment : ℕ) → moment < length c.stim.times → HasStep c (last_step (job c) moment)
 
--- A row is that of the history at the last step of a moment.
-pub record IsRowOf (c : Contents) (moment : ℕ) (row : RowView) : Type 0 where
-  pub history : row.history ≡ c.history
-  pub step : row.step ≡ last_step (job c) moment
+-- Rows are those of a wave and of its history.
+pub record AreRowsOf (c : Contents) (rows : Rows) : Type 0 where
+  pub history : rows.replayed.history ≡ c.history
+  pub wave : rows.wave.wave ≡ c
 
--- So many places from a number on are written, and are the first ones of the step of a row of the history.
-pub record IsPartOfStep (c : Contents) (row : RowView) (first many : ℕ) : Type 0 where
-  pub history : row.history ≡ c.history
-  pub first_of : first ≡ row.step * length c.design.nets
-  pub few : many ≤ length c.design.nets
-  pub written : first + many ≤ length c.written
+-- They stand at a step.
+pub record AreRowsAt (c : Contents) (step : ℕ) (rows : Rows) : Type 0 where
+  pub are : AreRowsOf c rows
+  pub replayed : rows.replayed.step ≡ step
+  pub written : rows.wave.step ≡ step
+
+-- What the lines of bits are made from belongs to a wave.
+pub record IsReaderOf (c : Contents) (reader : Reader) : Type 0 where
+  pub here : AreRowsOf c reader.here
+  pub before : AreRowsOf c reader.before
+  pub names : reader.names ≡ c.design
+
+-- Each net has at a step of a history what it has a step before.
+abbrev pub IsStillAt : HistoryView → ℕ → Type 0
+IsStillAt history step = (net : ℕ) → HasPlace history (net_place step net)
+    → held_in history (net_place step net) ≡ held_in history (net_place (step - 1) net)

@@ -1,27 +1,38 @@
 //! The lines of the recorded bits that are x or z.
 
-ghost use Rattle.std.specs.Prelude.{◌≡◌, ◌<◌, ◌++◌, OnOk, IfOk, length};
+ghost use Rattle.std.specs.Prelude.{◌≡◌, ◌<◌, ◌++◌, true, OnOk, IfOk, length};
+ghost use Rattle.xr_cell.specs.Value.{is_unknown};
 ghost use Rattle.xr_match.specs.Binding.{FitsBinding};
 ghost use Rattle.xr_match.specs.BoundBits.{IsBitOf};
 ghost use Rattle.xr_wave.specs.Contents.{IsFinished};
 ghost use Rattle.xr_report.specs.Bits as spec;
-ghost use Rattle.xr_report.specs.Finished.{HasMoments, HasStep, IsRowOf};
+ghost use Rattle.xr_report.specs.Finished.{HasMoments, IsReaderOf};
+ghost use Rattle.xr_report.specs.Told.{told_result, told_text};
 
 use crate::lines::ReportLines;
+use crate::names::Names;
 use crate::row::bring;
-use crate::told::{is_told, last_step, place_in};
+use crate::rows::{Rows, bring_rows, first_rows, told_in};
+use crate::told::{Told, is_told, last_step};
 use std::alloc::Global;
 use xr_base::{Memory, put, put_number};
-use xr_cell::Value;
-use xr_design::{HistoryRow, Mark, Place};
+use xr_design::Mark;
 use xr_match::{Binding, BoundBit, BoundBits};
 use xr_wave::Wave;
+
+/// What the lines are made from: what stands at the moment under way and at the one before, and the names of nets.
+#[derive(Debug, Drop)]
+pub struct Reader<'w, 'a> {
+    pub here: Rows<'w, 'a>,
+    pub before: Rows<'w, 'a>,
+    pub names: Names<'a>,
+}
 
 /// The lines of a report, moment by moment: one for each bit of a bound variable whose recorded value is x or z, where
 /// it is told, with what the wave has at the moment's last round. The recorded value is what the history shows there.
 ///
-/// Takes the text's bytes, those of one name at a time, and two bytes for each net; and time linear in the text, in the
-/// bits of all moments and in what the history writes.
+/// Takes the text's bytes, those of the name of each net that has a line, once, and 36 bytes for each net; and time
+/// linear in the text, in the bits of all moments and in what the history and the wave write anew.
 #[tactic(auto, unfolding(crate::specs::Bits::bit_lines))]
 pub fn bit_lines(
     alloc: Global,
@@ -36,97 +47,106 @@ pub fn bit_lines(
     // With it comes the fact that the history has the places of the wave.
     let _count = wave.count();
     let mut text = Vec::new(alloc);
-    let mut replayed = HistoryRow::first(alloc, wave.replayed())?;
-    let mut earlier = HistoryRow::first(alloc, wave.replayed())?;
+    let mut reader = new_reader(alloc, wave)?;
     let mut bits = BoundBits::new(wave.stim(), bound.bound.as_slice());
     'bits: while let Some(bit) = bits.next() {
-        bring(alloc, &mut replayed, last_step(wave.stim(), bit.moment))?;
-        bring(
-            alloc,
-            &mut earlier,
-            last_step(wave.stim(), bit.moment.saturating_sub(1)),
-        )?;
-        if is_told(wave, lines, &replayed, &earlier, bit) {
-            put_bit(alloc, &mut text, wave, &replayed, bit)?;
-        }
+        put_bit(alloc, &mut text, wave, lines, &mut reader, bit)?;
     }
     Ok(text)
 }
 
-fn put_bit(
+/// What the lines are made from, before the first.
+fn new_reader<'w, 'a>(alloc: Global, wave: &'w Wave<'a>) -> Result<Reader<'w, 'a>, Memory>
+    ensures { IfOk result (IsReaderOf wave.now) }
+{
+    let here = first_rows(alloc, wave)?;
+    let before = first_rows(alloc, wave)?;
+    let names = Names::of(alloc, wave.design())?;
+    Ok(Reader {
+        here,
+        before,
+        names,
+    })
+}
+
+/// The line of a bit, where x or z is recorded and it is told.
+fn put_bit<'w, 'a>(
     alloc: Global,
     text: &mut Vec<u8>,
-    wave: &Wave<'_>,
-    replayed: &HistoryRow<'_>,
+    wave: &'w Wave<'a>,
+    lines: ReportLines,
+    reader: &mut Reader<'w, 'a>,
     bit: BoundBit,
 ) -> Result<(), Memory>
     requires moments { HasMoments wave.now }
     requires bit { IsBitOf wave.now.design (length wave.now.stim.times) bit }
-    requires row { IsRowOf wave.now bit.moment replayed.now }
-    ensures { OnOk result (text.new.items ≡ text.old.items ++ spec.told_bit wave.now bit) }
+    requires reader { IsReaderOf wave.now reader.old }
+    ensures text { OnOk result (text.new.items ≡ text.old.items ++ spec.bound_line wave.now lines bit) }
+    ensures reader { OnOk result (IsReaderOf wave.now reader.new) }
 {
-    let stim = wave.stim();
-    put_place(
-        alloc,
-        text,
-        wave,
-        place_in(stim, bit.moment, bit.net),
-        stim.times.as_slice()[bit.moment as usize],
-        replayed.shown(bit.net),
-    )
-}
-
-fn put_place(
-    alloc: Global,
-    text: &mut Vec<u8>,
-    wave: &Wave<'_>,
-    place: Place,
-    time: u64,
-    recorded: Value,
-) -> Result<(), Memory>
-    requires step { HasStep wave.now place.step }
-    requires net { place.net < length wave.now.design.nets }
-    requires recorded { recorded ≡ spec.recorded_in wave.now place }
-    ensures { OnOk result (text.new.items ≡ text.old.items ++ spec.bit_line wave.now time place) }
-{
-    if recorded.is_known() {
+    let step = last_step(wave, bit.moment);
+    bring(alloc, &mut reader.here.replayed, step)?;
+    if reader.here.replayed.shown(bit.net).is_known() {
         return Ok(());
     }
-    put_told(alloc, text, wave, place, time, recorded)
+    put_unknown(alloc, text, wave, lines, reader, bit)
+}
+
+/// The line of a bit of which x or z is recorded, where it is told.
+fn put_unknown<'w, 'a>(
+    alloc: Global,
+    text: &mut Vec<u8>,
+    wave: &'w Wave<'a>,
+    lines: ReportLines,
+    reader: &mut Reader<'w, 'a>,
+    bit: BoundBit,
+) -> Result<(), Memory>
+    requires moments { HasMoments wave.now }
+    requires bit { IsBitOf wave.now.design (length wave.now.stim.times) bit }
+    requires unknown { is_unknown (spec.recorded_in wave.now (spec.place_in wave.now bit.moment bit.net)) ≡ true }
+    requires reader { IsReaderOf wave.now reader.old }
+    ensures text { OnOk result (text.new.items ≡ text.old.items ++ spec.bound_line wave.now lines bit) }
+    ensures reader { OnOk result (IsReaderOf wave.now reader.new) }
+{
+    let step = last_step(wave, bit.moment);
+    bring_rows(alloc, wave, &mut reader.here, step)?;
+    let told = told_in(wave, &reader.here, step, bit.net);
+    if is_told(alloc, wave, lines, &mut reader.before, bit, told)? {
+        let time = wave.stim().times.as_slice()[bit.moment as usize];
+        put_told(alloc, text, &mut reader.names, time, told)?;
+    }
+    Ok(())
 }
 
 // line = "#" time " " name " " ( "x" | "z" ) " " result
 fn put_told(
     alloc: Global,
     text: &mut Vec<u8>,
-    wave: &Wave<'_>,
-    place: Place,
+    names: &mut Names<'_>,
     time: u64,
-    recorded: Value,
+    told: Told,
 ) -> Result<(), Memory>
-    requires step { HasStep wave.now place.step }
-    requires net { place.net < length wave.now.design.nets }
-    requires recorded { recorded ≡ spec.recorded_in wave.now place }
-    ensures { OnOk result (text.new.items ≡ text.old.items ++ spec.told_line wave.now time place) }
+    requires { told.net < length names.old.nets }
+    ensures text { OnOk result (text.new.items ≡ text.old.items ++ told_text names.old time told) }
+    ensures names { names.new ≡ names.old }
 {
-    let name = wave.design().written_name(alloc, place.net)?;
     put(text, b"#")?;
     put_number(text, time)?;
     put(text, b" ")?;
-    put(text, name.as_slice())?;
+    names.put_name(alloc, text, told.net)?;
     put(text, b" ")?;
-    put(text, &[recorded.letter()])?;
+    put(text, &[told.recorded.letter()])?;
     put(text, b" ")?;
-    put_result(text, wave.mark(place), wave.value(place))?;
+    put_result(text, told)?;
     put(text, b"\n")
 }
 
 // result = "0" | "1" | "unknown" | "undecided"
-fn put_result(text: &mut Vec<u8>, mark: Mark, value: Value) -> Result<(), Memory>
-    ensures { OnOk result (text.new.items ≡ text.old.items ++ spec.result_of mark value) }
+fn put_result(text: &mut Vec<u8>, told: Told) -> Result<(), Memory>
+    ensures { OnOk result (text.new.items ≡ text.old.items ++ told_result told) }
 {
-    match mark {
-        Mark::Certain => put(text, &[value.letter()]),
+    match told.written.mark {
+        Mark::Certain => put(text, &[told.written.value.letter()]),
         Mark::Unknown => put(text, b"unknown"),
         Mark::Undecided => put(text, b"undecided"),
     }

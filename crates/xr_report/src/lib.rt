@@ -6,9 +6,11 @@ mod bits;
 mod counts;
 mod head;
 mod lines;
+mod names;
 mod puts;
 mod report;
 mod row;
+mod rows;
 mod told;
 
 pub use bits::bit_lines;

@@ -15,8 +15,11 @@ use xr_match::Binding;
 use xr_wave::Wave;
 
 /// The whole report of a finished wave: its first three lines, with how many of the events force a net, then a line for
-/// each recorded bit that is x or z, where it is told. Takes the text's bytes twice and two bytes for each net, and
-/// time linear in the places and in the bits of all moments.
+/// each recorded bit that is x or z, where it is told.
+///
+/// Takes the text's bytes twice, those of the name of each net that has a line, once, and 36 bytes for each net; and
+/// time linear in the text, in the steps, in the bits of all moments, and in the places of the steps at which the wave
+/// or its history writes anything anew.
 #[tactic(auto, unfolding(crate::specs::Report::report_text))]
 pub fn write_report(
     alloc: Global,
@@ -36,7 +39,8 @@ pub fn write_report(
 }
 
 /// The first three lines of the report of a finished wave, with how many of the events force a net. Takes the text's
-/// bytes and a byte for each net, and time linear in the places.
+/// bytes and two bytes for each net, and time linear in the steps and in the places of those at which the wave or its
+/// history writes anything anew.
 pub fn write_head(alloc: Global, wave: &Wave<'_>, forces: &Forces) -> Result<Vec<u8>, Memory>
     requires { IsFinished wave.now }
     ensures { IfOk result (λ text. text.items ≡ spec.head_text wave.now forces.now) }

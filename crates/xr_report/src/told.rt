@@ -1,88 +1,108 @@
 //! Where a bit is told in a report.
 
-ghost use Rattle.std.specs.Prelude.{◌≡◌, ◌-◌, ◌*◌, ◌+◌, ◌<◌, bytes_eq, length, not};
+ghost use Rattle.std.specs.Prelude.{◌≡◌, ◌<◌, IfOk, OnOk, bytes_eq, length};
+ghost use Rattle.xr_design.specs.Settled.{last_round, last_step};
 ghost use Rattle.xr_match.specs.BoundBits.{IsBitOf};
 ghost use Rattle.xr_report.specs.Bits as spec;
-ghost use Rattle.xr_report.specs.Finished.{HasMoments, IsRowOf};
+ghost use Rattle.xr_report.specs.Finished.{AreRowsOf, HasMoments, HasStep};
+ghost use Rattle.xr_report.specs.Told.{is_same_told, told_at};
+ghost use Rattle.xr_wave.specs.Contents.{job};
 
 use crate::lines::ReportLines;
+use crate::rows::{Rows, bring_rows, told_in};
+use std::alloc::Global;
+use xr_base::Memory;
 use xr_cell::Value;
-use xr_design::{HistoryRow, Mark, Place, Stim};
+use xr_design::{Mark, Stim, Written};
 use xr_match::BoundBit;
 use xr_wave::Wave;
 
-/// Whether a bit is told in its moment, of which the first row is, and the other of the moment before. Takes no memory.
-pub fn is_told(
-    wave: &Wave<'_>,
+/// What is told of a net at a step: the recorded value, and what the wave has.
+#[derive(Clone, Copy, Debug)]
+pub struct Told {
+    pub net: u32,
+    pub recorded: Value,
+    pub written: Written,
+}
+
+/// Whether a bit is told in its moment, given what is told there. The rows come to the moment before, where that
+/// decides.
+pub fn is_told<'w, 'a>(
+    alloc: Global,
+    wave: &'w Wave<'a>,
     lines: ReportLines,
-    replayed: &HistoryRow<'_>,
-    earlier: &HistoryRow<'_>,
+    before: &mut Rows<'w, 'a>,
     bit: BoundBit,
-) -> bool
+    told: Told,
+) -> Result<bool, Memory>
     requires moments { HasMoments wave.now }
     requires bit { IsBitOf wave.now.design (length wave.now.stim.times) bit }
-    requires row { IsRowOf wave.now bit.moment replayed.now }
-    requires earlier { IsRowOf wave.now (bit.moment - 1) earlier.now }
-    ensures { result ≡ spec.is_told wave.now lines bit }
+    requires before { AreRowsOf wave.now before.old }
+    requires told { told ≡ told_at wave.now (spec.place_in wave.now bit.moment bit.net) }
+    ensures told { IfOk result (λ is. is ≡ spec.is_told wave.now lines bit) }
+    ensures before { OnOk result (AreRowsOf wave.now before.new) }
 {
     match lines {
-        ReportLines::All => true,
-        ReportLines::Changes => bit.moment == 0 || !is_told_again(wave, replayed, earlier, bit),
+        ReportLines::All => Ok(true),
+        ReportLines::Changes => is_told_anew(alloc, wave, before, bit, told),
     }
 }
 
-/// Whether the same is told of a bit as a moment before.
-fn is_told_again(
-    wave: &Wave<'_>,
-    replayed: &HistoryRow<'_>,
-    earlier: &HistoryRow<'_>,
+/// Whether a bit's moment is the first, or what is told isn't what was told a moment before.
+fn is_told_anew<'w, 'a>(
+    alloc: Global,
+    wave: &'w Wave<'a>,
+    before: &mut Rows<'w, 'a>,
     bit: BoundBit,
-) -> bool
+    told: Told,
+) -> Result<bool, Memory>
     requires moments { HasMoments wave.now }
     requires bit { IsBitOf wave.now.design (length wave.now.stim.times) bit }
-    requires later { 0 < bit.moment }
-    requires row { IsRowOf wave.now bit.moment replayed.now }
-    requires earlier { IsRowOf wave.now (bit.moment - 1) earlier.now }
-    ensures { result ≡ spec.is_told_again wave.now (spec.place_in wave.now bit.moment bit.net)
-        (spec.place_in wave.now (bit.moment - 1) bit.net) }
+    requires before { AreRowsOf wave.now before.old }
+    requires told { told ≡ told_at wave.now (spec.place_in wave.now bit.moment bit.net) }
+    ensures told { IfOk result (λ is. is ≡ spec.is_told_anew wave.now bit) }
+    ensures before { OnOk result (AreRowsOf wave.now before.new) }
 {
-    let place = place_in(wave.stim(), bit.moment, bit.net);
-    let other = place_in(wave.stim(), bit.moment - 1, bit.net);
-    replayed.shown(bit.net).letter() == earlier.shown(bit.net).letter()
-        && is_same_result(
-            wave.mark(place),
-            wave.value(place),
-            wave.mark(other),
-            wave.value(other),
-        )
+    if bit.moment == 0 {
+        return Ok(true);
+    }
+    let step = last_step(wave, bit.moment - 1);
+    bring_rows(alloc, wave, before, step)?;
+    let other = told_in(wave, before, step, bit.net);
+    Ok(!is_same_told(told, other))
 }
 
-fn is_same_result(mark: Mark, value: Value, other_mark: Mark, other: Value) -> bool
-    ensures { result ≡ bytes_eq (spec.result_of mark value) (spec.result_of other_mark other) }
+/// Whether the same is told twice.
+fn is_same_told(told: Told, other: Told) -> bool
+    ensures { result ≡ is_same_told told other }
 {
-    match (mark, other_mark) {
-        (Mark::Certain, Mark::Certain) => value.letter() == other.letter(),
+    told.recorded.letter() == other.recorded.letter() && is_same_result(told.written, other.written)
+}
+
+fn is_same_result(written: Written, other: Written) -> bool
+    ensures { result ≡ bytes_eq (spec.result_of written.mark written.value) (spec.result_of other.mark other.value) }
+{
+    match (written.mark, other.mark) {
+        (Mark::Certain, Mark::Certain) => written.value.letter() == other.value.letter(),
         (Mark::Unknown, Mark::Unknown) => true,
         (Mark::Undecided, Mark::Undecided) => true,
         _ => false,
     }
 }
 
-/// A net's place at the last round of a moment.
-pub fn place_in(stim: &Stim, moment: u32, net: u32) -> Place
-    requires { moment < length stim.now.times }
-    ensures { result ≡ record { step = moment * stim.now.rounds + stim.now.rounds - 1; net = net } }
+/// The step of a moment's last round, which a wave has. Takes no memory.
+pub fn last_step(wave: &Wave<'_>, moment: u32) -> u32
+    requires moments { HasMoments wave.now }
+    requires moment { moment < length wave.now.stim.times }
+    ensures step { result ≡ last_step (job wave.now) moment }
+    ensures there { HasStep wave.now result }
 {
-    Place {
-        step: last_step(stim, moment),
-        net,
-    }
+    last_round(wave.stim(), moment)
 }
 
-/// The step of a moment's last round.
-pub fn last_step(stim: &Stim, moment: u32) -> u32
+fn last_round(stim: &Stim, moment: u32) -> u32
     requires { moment < length stim.now.times }
-    ensures { result ≡ moment * stim.now.rounds + stim.now.rounds - 1 }
+    ensures { result ≡ last_round stim.now.rounds moment }
 {
     moment * stim.rounds + (stim.rounds - 1)
 }

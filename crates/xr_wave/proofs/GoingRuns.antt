@@ -1,5 +1,5 @@
 -- Waves go on over runs of places that have what their nets' places a step before have.
-use Rattle.std.proofs.Common.{◌≡◌, ℕ, zero, suc, ◌+◌, ◌-◌, ◌<◌, ◌≤◌, Bool, true, false, Some, None, List, [], ◌∷◌}
+use Rattle.std.proofs.Common.{◌≡◌, ℕ, zero, suc, ◌+◌, ◌-◌, ◌<◌, ◌≤◌, Bool, true, false, Err, Some, None, List, [], ◌∷◌}
 use Rattle.std.proofs.Common.{length}
 use Rattle.std.proofs.Common.{◌∙◌, length-append, refl, sym, ap, arith, subst, if◌then◌else◌}
 use Rattle.std.specs.Prelude.{nat_lt}
@@ -12,7 +12,10 @@ use Rattle.xr_model.specs.declared.class.ClassByNumber.{ClassByNumber}
 use Rattle.xr_model.specs.declared.class.ClassByNumber.TheVariants.{Local, Free, Carried, Line}
 use Rattle.xr_quiet.specs.Runs.{IsRepeated, IsRun, before_next, repeated}
 use Rattle.xr_quiet.proofs.QuietRuns.{run_law}
-use Rattle.xr_wave.specs.Advance.{GoesOn, IsPlain, more, plain_written, stays, with_written}
+use Rattle.xr_wave.specs.declared.advance.AdvanceErr.{AdvanceErr}
+use Rattle.xr_wave.specs.declared.advance.AdvanceErr.TheVariants.{Memory as OutOfMemory, Optimistic as Objection}
+use Rattle.xr_wave.specs.Advance.{Contradicts, GoesOn, IfObjects, IsObjected, IsPlain, Objects, Reports, more, plain_written}
+use Rattle.xr_wave.specs.Advance.{stays, with_written}
 use Rattle.xr_design.specs.History.{HistoryView}
 use Rattle.xr_model.specs.declared.line.Line.{Line as ALine}
 use Rattle.xr_wave_bytes.specs.View.{WaveformView}
@@ -138,3 +141,17 @@ fewer_behind start mid c plain is goes =
     ap (λ (v : Contents). length v.written) is ∙ length-append start.written (plain_written start ∷ []) in
     let same : places_of (job c) ≡ places_of (job start) = ap places_of (goes_in_job goes ∙ ap job is) in
     omega (arith, next, longer, grown, same)
+
+-- Where the next place is objected to, the wave has gone on up to it.
+pub objected_by : (start c : Contents) (err : AdvanceErr) → GoesOn start c → IsWave c → IsPlain (next_seen c)
+    → (Objects {A = Contents} (Err err) → Contradicts c (plain_written c)) → IfObjects (Reports c (plain_written c)) err
+    → IfObjects (IsObjected start) err
+objected_by start c (Objection optimistic) goes wave plain contradicts reports = record {
+  before = c;
+  goes = goes;
+  wave = wave;
+  plain = plain;
+  contradicts = contradicts tt;
+  reports = reports;
+}
+objected_by start c OutOfMemory goes wave plain contradicts reports = tt

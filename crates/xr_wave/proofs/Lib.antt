@@ -1,4 +1,5 @@
 -- Lemmas on waves.
+mod CopiedPlaces
 mod FoundLines
 mod GoingRuns
 mod LineGrowth

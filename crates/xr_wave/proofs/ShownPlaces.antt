@@ -46,7 +46,7 @@ place_back j fits place is =
     there step net = record { step = step; net = net }
 
 -- Places of two numbers stand apart in a history.
-apart : (j : Job) (history : HistoryView) → Fits j → HasPlaces j history → (m n : ℕ) → m < places_of j
+pub apart : (j : Job) (history : HistoryView) → Fits j → HasPlaces j history → (m n : ℕ) → m < places_of j
     → n < places_of j → m ≢ n → index_in history (place_at j m) ≢ index_in history (place_at j n)
 apart j history fits has m n within_m within_n other same =
     let nets = has.nets in

@@ -1,5 +1,5 @@
 -- What the next place gets where its class isn't Line.
-use Rattle.std.specs.Prelude.{◌≡◌, ◌++◌, ◌∷◌, [], None}
+use Rattle.std.specs.Prelude.{◌≡◌, ◌++◌, ◌∷◌, [], Err, None, Ok, Result}
 use Rattle.xr_design.specs.declared.waveform.Written.{Written}
 use Rattle.xr_design.specs.Fits.{place_at}
 use Rattle.xr_design.specs.Waveform.{certain_by, written_at}
@@ -7,6 +7,8 @@ use Rattle.xr_model.specs.Sound.{IsOptimistic}
 use Rattle.xr_model.specs.Yields.{written_by}
 use Rattle.xr_model.specs.declared.class.Class.{Class}
 use Rattle.xr_model.specs.declared.class.Class.TheVariants.{Done, Local, Free, Carried, Line}
+use Rattle.xr_wave.specs.declared.advance.AdvanceErr.{AdvanceErr}
+use Rattle.xr_wave.specs.declared.advance.AdvanceErr.TheVariants.{Memory as OutOfMemory, Optimistic as Objection}
 use Rattle.xr_wave.specs.declared.advance.Optimistic.{Optimistic}
 use Rattle.xr_wave.specs.Contents.{Contents, IsWave, class_in, job, next_number, next_seen, shown_in}
 
@@ -37,6 +39,17 @@ pub record Reports (c : Contents) (written : Written) (optimistic : Optimistic) 
   pub replayed_is : optimistic.replayed ≡ shown_in c (next_number c)
   pub found_is : optimistic.found ≡ certain_by written.mark written.value
   pub lines_are : optimistic.lines.items ≡ c.lines
+
+-- An error is an objection, and is so.
+abbrev pub IfObjects : (Optimistic → Type 0) → AdvanceErr → Type 0
+IfObjects P (Objection optimistic) = P optimistic
+IfObjects P OutOfMemory = Unit {0}
+
+-- The answer is an objection.
+abbrev pub Objects : {A : Type 0} → Result A AdvanceErr → Type 0
+Objects (Ok wave) = ⊥
+Objects (Err (Objection optimistic)) = Unit {0}
+Objects (Err OutOfMemory) = ⊥
 
 -- A wave goes on by places whose class says what they are, one by one, none of which contradicts the history.
 pub data GoesOn (start : Contents) : Contents → Type 0 where

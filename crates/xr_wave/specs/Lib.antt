@@ -6,3 +6,4 @@ pub mod Token
 pub mod Pairs
 pub mod Shown
 pub mod Laws
+pub mod Row

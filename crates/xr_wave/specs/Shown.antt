@@ -1,9 +1,10 @@
 -- The history that shows what the waveform of a finished wave shows.
-use Rattle.std.specs.Prelude.{◌≡◌, ℕ, ◌<◌}
+use Rattle.std.specs.Prelude.{◌≡◌, ℕ, ◌+◌, ◌-◌, ◌*◌, ◌≤◌, ◌<◌}
 use Rattle.xr_cell.specs.declared.value.Value.TheVariants.{X}
 use Rattle.xr_design.specs.declared.place.Place.{Place}
 use Rattle.xr_design.specs.Handed.{HasPlaces, held_of}
 use Rattle.xr_design.specs.History.{HistoryView, held_in}
+use Rattle.xr_design.specs.Job.{places_of}
 use Rattle.xr_design.specs.Replay.{Held}
 use Rattle.xr_design.specs.Waveform.{written_at}
 use Rattle.xr_wave.specs.Contents.{Contents, IsWritten, job, written_of}
@@ -21,3 +22,9 @@ held_from c number = record { shown = (written_at c.written number).value; kept 
 pub record ShowsBelow (c : Contents) (n : ℕ) (history : HistoryView) : Type 0 where
   pub places : HasPlaces (job c) history
   pub held : (number : ℕ) → number < n → held_of (job c) history number ≡ held_from c number
+
+-- The places of a later step from a position on show what their nets' places a step before show in the wave.
+abbrev pub IsCopiedFrom : Contents → ℕ → ℕ → HistoryView → Type 0
+IsCopiedFrom c step position history =
+    (k : ℕ) → position ≤ k → k < (job c).width → 0 < step → step * (job c).width + k < places_of (job c)
+    → held_of (job c) history (step * (job c).width + k) ≡ held_from c ((step - 1) * (job c).width + k)

@@ -1,16 +1,17 @@
 //! Writing the places whose class says what they are.
 
-ghost use Rattle.std.specs.Prelude.{◌≡◌, ◌↔◌, ◌<◌, IsTrue, IsErr, IfOk, IfErr, length};
+ghost use Rattle.std.specs.Prelude.{◌≡◌, ◌↔◌, ◌<◌, IsTrue, IfOk, IfErr, length};
 ghost use Rattle.xr_design.specs.declared.waveform.Mark.TheVariants.{Certain};
 ghost use Rattle.xr_design.specs.Waveform.{written_at};
 ghost use Rattle.xr_model.specs.Sound.{IsOptimistic};
 ghost use Rattle.xr_model.specs.Yields.{carried_of, certain_bit, flipped_value};
-ghost use Rattle.xr_wave.specs.Advance.{Contradicts, GoesOn, IsAdvanced, IsObjected, IsPlain, Reports, plain_written};
-ghost use Rattle.xr_wave.specs.Advance.{with_written};
+ghost use Rattle.xr_wave.specs.Advance.{Contradicts, GoesOn, IfObjects, IsAdvanced, IsObjected, IsPlain, Objects};
+ghost use Rattle.xr_wave.specs.Advance.{Reports, plain_written, with_written};
 ghost use Rattle.xr_wave.specs.Contents.{IsWave, next_number, next_seen, shown_in};
 ghost use Rattle.xr_wave.specs.Token.{HasNext};
 
 use crate::wave::Wave;
+use xr_base::Memory;
 use xr_cell::Value;
 use xr_design::{Mark, Place, Written, count_places};
 use xr_model::{ClassByNumber, Line};
@@ -28,39 +29,59 @@ pub struct Optimistic {
     pub lines: Vec<Line>,
 }
 
+/// Why a wave doesn't go on.
+#[derive(Debug, Drop)]
+pub enum AdvanceErr {
+    /// The next place is known to the history, and found otherwise.
+    Optimistic(Optimistic),
+    /// There was no memory.
+    Memory,
+}
+
+impl From<Memory> for AdvanceErr {
+    ghost use Rattle.std.specs.Prelude.{◌≡◌};
+    ghost use Rattle.xr_wave.specs.declared.advance.AdvanceErr.TheVariants.{Memory as OutOfMemory};
+
+    ghost from_gives = { λ _ err. err ≡ OutOfMemory };
+
+    fn from(_: Memory) -> Self {
+        AdvanceErr::Memory
+    }
+}
+
 impl<'a> Wave<'a> {
     /// Writes the next place, whose class says what it is; or gives the wave up where the history knows the place
-    /// otherwise. Takes no memory.
-    pub fn advance(self) -> Result<Wave<'a>, Optimistic>
+    /// otherwise, or there is no memory.
+    pub fn advance(self) -> Result<Wave<'a>, AdvanceErr>
         requires plain { IsPlain (next_seen self) }
         ensures ok { IfOk result (λ w. w ≡ with_written self.entry (plain_written self.entry)) }
-        ensures optimistic { IsErr result ↔ Contradicts self.entry (plain_written self.entry) }
-        ensures reported { IfErr result (λ o. Reports self.entry (plain_written self.entry) o) }
+        ensures optimistic { Objects result ↔ Contradicts self.entry (plain_written self.entry) }
+        ensures reported { IfErr result (IfObjects (Reports self.entry (plain_written self.entry))) }
     {
         let wave = self.write_plain()?;
         Ok(wave.find_next())
     }
 
     /// The same, without a look at the place behind it.
-    fn write_plain(self) -> Result<Wave<'a>, Optimistic>
+    fn write_plain(self) -> Result<Wave<'a>, AdvanceErr>
         requires plain { IsPlain (next_seen self) }
         ensures ok { IfOk result (λ w. w ≡ with_written self.entry (plain_written self.entry)) }
-        ensures optimistic { IsErr result ↔ Contradicts self.entry (plain_written self.entry) }
-        ensures reported { IfErr result (λ o. Reports self.entry (plain_written self.entry) o) }
+        ensures optimistic { Objects result ↔ Contradicts self.entry (plain_written self.entry) }
+        ensures reported { IfErr result (IfObjects (Reports self.entry (plain_written self.entry))) }
     {
         let shown = self.shown_next();
         let written = next_written(&self, shown);
         if is_optimistic(written, shown) {
-            return Err(optimistic_of(self, written, shown));
+            return Err(AdvanceErr::Optimistic(optimistic_of(self, written, shown)));
         }
-        Ok(self.write(written))
+        Ok(self.write(written)?)
     }
 
     /// Writes each place up to the next Line place, or to the end, as `advance` does. Only those are looked at that may
-    /// have something else than their net's place a step before. Takes no memory.
-    pub fn advance_to_line(self) -> Result<Wave<'a>, Optimistic>
+    /// have something else than their net's place a step before.
+    pub fn advance_to_line(self) -> Result<Wave<'a>, AdvanceErr>
         ensures ok { IfOk result (IsAdvanced self.entry) }
-        ensures reported { IfErr result (IsObjected self.entry) }
+        ensures reported { IfErr result (IfObjects (IsObjected self.entry)) }
     {
         let mut wave = self.skip();
         'places: while is_plain_next(&wave) {

@@ -5,9 +5,11 @@ ghost use Rattle.xr_wave.specs.Contents.{job};
 ghost use Rattle.xr_wave.specs.Kept.{AllKeepFrom};
 
 use crate::wave::Wave;
+use xr_design::width_of;
 
 impl<'a> Wave<'a> {
-    /// Up to where every written place from one on keeps, at most up to an end. Takes no memory.
+    /// Up to where every written place from one on keeps, at most up to an end. Costs a binary search, and one more for
+    /// each place that was written anew. Takes no memory.
     pub fn kept_up_to(&self, number: usize, end: usize) -> usize
         requires from { number ≤ end }
         requires written { end ≤ length self.now.written }
@@ -15,11 +17,24 @@ impl<'a> Wave<'a> {
         ensures within { result ≤ end }
         ensures keep { AllKeepFrom (job self.now) self.now.written number result }
     {
-        'places: for place in number..end {
-            if !self.keeps(place) {
-                return place;
-            }
+        let mut place = self.again_up_to(number, end);
+        'places: while place < end && self.keeps(place) {
+            place = self.again_up_to(place + 1, end);
         }
-        end
+        place
+    }
+
+    /// Up to where no place from one on was written anew, at most up to an end; those of the first step all were.
+    fn again_up_to(&self, number: usize, end: usize) -> usize
+        requires from { number ≤ end }
+        requires written { end ≤ length self.now.written }
+        ensures from { number ≤ result }
+        ensures within { result ≤ end }
+        ensures keep { AllKeepFrom (job self.now) self.now.written number result }
+    {
+        if number < width_of(&self.circuit()) {
+            return number;
+        }
+        self.waveform().anew_from(number, end)
     }
 }

@@ -1,4 +1,4 @@
-//! Waveforms that are true: each place is written with its justification, or not at all. A byte a place.
+//! Waveforms that are true: each place is written with its justification, or not at all. Kept by what changes.
 //!
 //! Start at specs/Contents.antt, then at `Wave`.
 #![tactic(auto)]
@@ -7,6 +7,7 @@ mod advance;
 mod arguments;
 mod kept;
 mod laws;
+mod row;
 mod settle;
 mod shown;
 mod source;
@@ -14,8 +15,9 @@ mod stated;
 mod token;
 mod wave;
 
-pub use advance::Optimistic;
+pub use advance::{AdvanceErr, Optimistic};
 pub use arguments::Arguments;
 pub use laws::waves_are_one;
+pub use row::WaveRow;
 pub use token::{Budget, How, Pair, Settled};
 pub use wave::Wave;

@@ -1,6 +1,6 @@
 //! A waveform that grows by one place at a time.
 
-ghost use Rattle.std.specs.Prelude.{◌≡◌, ◌<◌, ◌≤◌, ◌++◌, ◌∷◌, [], IfOk, IfErr, IsTrue, length, map};
+ghost use Rattle.std.specs.Prelude.{◌≡◌, ◌<◌, ◌≤◌, ◌++◌, ◌∷◌, [], IfOk, IfErr, IsTrue, OnErr, OnOk, length, map};
 ghost use Rattle.xr_cell.specs.declared.value.Value.{Value as AnyValue};
 ghost use Rattle.xr_design.specs.Circuit.{PartsFit, CircuitFits, job_in};
 ghost use Rattle.xr_design.specs.Fits.{place_at};
@@ -61,9 +61,10 @@ impl<'a> Model for Wave<'a> {
 }
 
 impl<'a> Wave<'a> {
-    /// A wave of which nothing is written. `limit` is how many clauses the log of a licence has, 1 to 100,000. Takes a
-    /// byte for each place, 34 bytes for each net, 4 more for one on which the recording acts, 12 to 28 for each pin,
-    /// and on the way 16 more for each pin.
+    /// A wave of which nothing is written. `limit` is how many clauses the log of a licence has, 1 to 100,000. Takes
+    /// some 60 bytes for each net, 4 more for one on which the recording acts, 12 to 28 for each pin, and on the way 16
+    /// more for each pin; what is written takes 12 to 24 for each place that has something else than its net's a step
+    /// before, and 8 for each step.
     pub fn new(
         alloc: Global,
         design: &'a Design,
@@ -243,6 +244,14 @@ impl<'a> Wave<'a> {
         self.parts.waveform.written(number)
     }
 
+    /// What is written of the places.
+    pub(crate) fn waveform(&self) -> &Waveform<'a>
+        ensures job { view.job result.now ≡ job self.now }
+        ensures written { result.now.written ≡ self.now.written }
+    {
+        &self.parts.waveform
+    }
+
     /// Whether the net of the place of a number keeps there.
     pub(crate) fn keeps(&self, number: usize) -> bool
         requires { number < length self.now.written }
@@ -291,12 +300,12 @@ impl<'a> Wave<'a> {
     }
 
     /// Writes the next place without a line.
-    pub(crate) fn write(mut self, written: Written) -> Wave<'a>
+    pub(crate) fn write(mut self, written: Written) -> Result<Wave<'a>, Memory>
         requires next { NextHolds (job self) self.limit (shown_in self) self.written written [] }
-        ensures { result ≡ with_written self.entry written }
+        ensures { IfOk result (λ w. w ≡ with_written self.entry written) }
     {
-        self.parts.push(written);
-        self
+        self.parts.push(written)?;
+        Ok(self)
     }
 
     /// Finds the class of the next place, which is kept.
@@ -331,30 +340,57 @@ impl<'a> Wave<'a> {
         ensures ok { IfOk result (λ w. w ≡ with_line self.entry line) }
         ensures err { IfErr result (λ e. (e.0 ≡ self.entry) × (e.1 ≡ line)) }
     {
-        if self.parts.lines.reserve(1).is_err() {
-            return Err((self, line));
+        match self.parts.push_line(written, line) {
+            Ok(()) => Ok(self),
+            Err(line) => Err((self, line)),
         }
-        if self.parts.lines.push(line).is_err() {
-            unreachable!()
-        }
-        self.parts.push(written);
-        Ok(self)
     }
 }
 
 impl<'a> Parts<'a> {
     /// Writes the next place.
-    fn push(&mut self, written: Written)
+    fn push(&mut self, written: Written) -> Result<(), Memory>
         requires next { HasMore self.old.waveform }
         requires agrees { ValuesAgree (view.job self.old.waveform) (self.old.waveform.written ++ written ∷ []) }
         requires walk { IsWalkOf self.old.waveform self.old.walk }
-        ensures waveform { self.new.waveform ≡ and_one self.old.waveform written }
-        ensures walk { IsWalkOf self.new.waveform self.new.walk }
-        ensures history { self.new.walk.replayed.history ≡ self.old.walk.replayed.history }
+        ensures waveform { OnOk result (self.new.waveform ≡ and_one self.old.waveform written) }
+        ensures walk { OnOk result (IsWalkOf self.new.waveform self.new.walk) }
+        ensures history { OnOk result (self.new.walk.replayed.history ≡ self.old.walk.replayed.history) }
+        ensures err { OnErr result (self.new ≡ self.old) }
         ensures limit { self.new.limit ≡ self.old.limit }
         ensures lines { self.new.lines ≡ self.old.lines }
     {
-        self.walk.write(&mut self.waveform, written);
+        self.walk.write(&mut self.waveform, written)
+    }
+
+    /// Writes the next place, and appends a line; or gives the line back.
+    fn push_line(&mut self, written: Written, line: Line) -> Result<(), Line>
+        requires next { HasMore self.old.waveform }
+        requires agrees { ValuesAgree (view.job self.old.waveform) (self.old.waveform.written ++ written ∷ []) }
+        requires walk { IsWalkOf self.old.waveform self.old.walk }
+        ensures waveform { OnOk result (self.new.waveform ≡ and_one self.old.waveform written) }
+        ensures walk { OnOk result (IsWalkOf self.new.waveform self.new.walk) }
+        ensures history { OnOk result (self.new.walk.replayed.history ≡ self.old.walk.replayed.history) }
+        ensures lines { OnOk result (self.new.lines.items ≡ self.old.lines.items ++ line ∷ []) }
+        ensures limit { self.new.limit ≡ self.old.limit }
+
+        ensures unwritten { OnErr result (self.new.waveform ≡ self.old.waveform) }
+        ensures still { OnErr result (self.new.walk ≡ self.old.walk) }
+        ensures no_line { OnErr result (self.new.lines.items ≡ self.old.lines.items) }
+        ensures given { IfErr result (λ back. back ≡ line) }
+    {
+        if self.lines.reserve(1).is_err() {
+            return Err(line);
+        }
+        match self.walk.write(&mut self.waveform, written) {
+            Ok(()) => {
+                if self.lines.push(line).is_err() {
+                    unreachable!()
+                }
+                Ok(())
+            }
+            Err(Memory) => Err(line),
+        }
     }
 
     /// Writes the places up to the next one that is due in the step, each as its net's place a step before; says how

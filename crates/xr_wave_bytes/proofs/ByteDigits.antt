@@ -68,3 +68,14 @@ says_by false byte = four_say (byte % 16 + 64) false 0 (omega arith) (omega arit
 pub repeated_says : (byte : ℕ)
     → facts_of_byte (repeated_byte byte) ≡ facts (is_uncertain (written_of_byte byte).mark) false false true
 repeated_says byte = says_by (is_uncertain (written_of_byte byte).mark) byte
+
+-- One that is written again twice is as it is once.
+low_again : (uncertain : Bool) (byte : ℕ) → (byte % 16 + (if uncertain then 80 else 64)) % 16 ≡ byte % 16
+low_again true byte = omega arith
+low_again false byte = omega arith
+
+pub repeated_twice : (byte : ℕ) → repeated_byte (repeated_byte byte) ≡ repeated_byte byte
+repeated_twice byte =
+    ap (λ (w : Written). repeated_byte byte % 16 + (if is_uncertain w.mark then 80 else 64)) (repeated_written byte)
+    ∙ ap (λ low. low + (if is_uncertain (written_of_byte byte).mark then 80 else 64))
+    (low_again (is_uncertain (written_of_byte byte).mark) byte)

@@ -1,6 +1,8 @@
 -- Bytes that say the facts of their places, as they grow.
-use Rattle.std.proofs.Common.{◌≡◌, ℕ, ◌+◌, ◌-◌, ◌%◌, ◌<◌, ◌≤◌, Bool, true, List, [], ◌∷◌, ◌++◌, length, map, refl, sym}
+use Rattle.std.proofs.Common.{◌≡◌, ℕ, ◌+◌, ◌-◌, ◌%◌, ◌<◌, ◌≤◌, Bool, true, false, List, [], ◌∷◌, ◌++◌, length, map}
+use Rattle.std.proofs.Common.{refl, sym}
 use Rattle.std.proofs.Common.{ap, ◌∙◌, arith, subst, length-append, ⊎_elim}
+use Rattle.std.specs.Bool.{OnTrue}
 use Rattle.std.proofs.Math.ListN.{get_or-append}
 use Rattle.std.proofs.Math.Seq.{get_or-append_seam}
 use Rattle.std.proofs.lemmas.Bool.{cases_eq, cases_lt}
@@ -19,7 +21,7 @@ use Rattle.xr_model.proofs.FactsBefore.{certain_grown, written_last}
 use Rattle.xr_class.specs.Facts.{AreTold, Facts, facts, facts_by, facts_of, is_plain, keeps_by}
 use Rattle.xr_class.proofs.StepBefore.{before_first, before_later, first_step}
 use Rattle.xr_wave_bytes.specs.Byte.{facts_in, facts_of_byte, written_of_byte}
-use Rattle.xr_wave_bytes.specs.Kept.{BytesTell, SayTheSame, StepKeeps, ValuesAgree, facts_next}
+use Rattle.xr_wave_bytes.specs.Kept.{BytesTell, IsWrittenBehind, SayTheSame, StepKeeps, ValuesAgree, facts_next}
 
 each_pushed : (P : ℕ → Type 0) (n : ℕ) → ((k : ℕ) → k < n → P k) → P n → (k : ℕ) → k < n + 1 → P k
 each_pushed P n earlier last k less = ⊎_elim (λ (here : k ≡ n). subst P (sym here) last)
@@ -181,12 +183,34 @@ pub same_pushed : (bytes : List ℕ) (byte : ℕ) (all : List ℕ) → all ≡ b
 same_pushed bytes byte all is = λ k less. ap (λ bs. facts_in bs k) is
     ∙ ap facts_of_byte (get_or-append bytes (byte ∷ []) 0 k less)
 
+-- So all of that is said where the byte is behind them.
+pub written_behind : (j : Job) → Fits j → (bytes all : List ℕ) (byte : ℕ) (written : Written)
+    → length bytes < places_of j → BytesTell j bytes → ValuesAgree j (map written_of_byte bytes ++ written ∷ [])
+    → written_of_byte byte ≡ written → facts_of_byte byte ≡ facts_next j bytes written → all ≡ bytes ++ byte ∷ []
+    → IsWrittenBehind j bytes all written
+written_behind j fits bytes all byte written within told agrees written_is facts_is all_is = record {
+  says = ap (map written_of_byte) all_is ∙ map-append written_of_byte bytes (byte ∷ [])
+      ∙ ap (λ (w : Written). map written_of_byte bytes ++ w ∷ []) written_is;
+  told = told_pushed j fits bytes byte written within told written_is facts_is all all_is;
+  agrees = agrees_pushed j bytes byte written agrees written_is all all_is;
+  more = ap length all_is ∙ length-append bytes (byte ∷ []);
+  same = same_pushed bytes byte all all_is;
+}
+
 -- Where a place more is written in a step, those before it keep as they did.
 pub keep_pushed : (bytes all : List ℕ) (position next : ℕ) → length all ≡ length bytes + 1 → SayTheSame bytes all
     → next ≡ position + 1 → StepKeeps bytes position (length bytes) → StepKeeps all next (length all - 1)
 keep_pushed bytes all position next more same is keep = λ k from less.
     ap (λ (facts : Facts). facts.keeps) (same k (omega (arith, more, less)))
     ∙ keep k (omega (arith, more, is, from)) (omega (arith, more, less))
+
+pub keep_next : (j : Job) (bytes all : List ℕ) (written : Written) (position next : ℕ) (all_keep : Bool)
+    → IsWrittenBehind j bytes all written → (0 < next → next ≡ position + 1)
+    → OnTrue all_keep (StepKeeps bytes position (length bytes))
+    → OnTrue all_keep (0 < next → StepKeeps all next (length all - 1))
+keep_next j bytes all written position next true is behind keep = λ some.
+    keep_pushed bytes all position next is.more is.same (behind some) keep
+keep_next j bytes all written position next false is behind keep = tt
 
 -- So they do where the last one keeps too; the first place of a step has none before it.
 pub keep_to_end : (bytes : List ℕ) (position : ℕ) → 0 < length bytes → StepKeeps bytes position (length bytes - 1)

@@ -4,3 +4,8 @@ mod Fronts
 mod KeptBytes
 mod NextSaid
 mod RepeatedBytes
+mod Tracks
+mod RowPlaces
+mod RowLaws
+mod NotedPlaces
+mod ChangedPlaces

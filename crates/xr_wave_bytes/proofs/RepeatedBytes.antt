@@ -1,13 +1,13 @@
 -- Bytes that are written again, each as that of its net's place a step before.
 use Rattle.std.proofs.Common.{◌≡◌, ℕ, zero, suc, ◌+◌, ◌-◌, ◌*◌, ◌%◌, ◌<◌, ◌≤◌, ◌==◌, ◌||◌, Bool, true, false, List, []}
-use Rattle.std.proofs.Common.{◌∷◌, ◌++◌, append_assoc, drop, length, length-append, length-drop, map, slice_index_or}
+use Rattle.std.proofs.Common.{◌∷◌, ◌++◌, drop, length, length-append, length-drop, map, slice_index_or}
 use Rattle.std.proofs.Common.{take, refl, sym, ap, ◌∙◌, arith, subst, ⊎_elim}
 use Rattle.std.specs.Bool.{OnTrue}
 use Rattle.std.proofs.Math.ListN.{get_or-append}
 use Rattle.std.proofs.Math.Seq.{get_or-append_right}
 use Rattle.std.proofs.lemmas.Bool.{cases_lt, eq-eqb, ne_eqb}
-use Rattle.std.proofs.lemmas.List.{append-nil, drop-map, get_or-drop, get_or-map, length-map, length-take-le}
-use Rattle.std.proofs.lemmas.List.{map-append, take-map, take_more}
+use Rattle.std.proofs.lemmas.List.{drop-map, get_or-map, length-map, length-take-le}
+use Rattle.std.proofs.lemmas.List.{map-append, take-map}
 use Rattle.xr_cell.specs.declared.value.Value.{Value}
 use Rattle.xr_cell.specs.declared.value.Value.TheVariants.{X}
 use Rattle.xr_cell.specs.Value.{bit_value}
@@ -32,7 +32,7 @@ use Rattle.xr_quiet.proofs.StretchedRuns.{stretch_law}
 use Rattle.xr_wave_bytes.specs.Byte.{facts_in, facts_of_byte, is_uncertain, repeated_byte, written_of_byte}
 use Rattle.xr_wave_bytes.specs.Kept.{BytesTell, IsKept, StepKeeps, ValuesAgree}
 use Rattle.xr_wave_bytes.specs.View.{keeps_there}
-use Rattle.xr_wave_bytes.specs.Repeat.{AreRepeated, AreSteadyFrom, IsRepeatedAfter, IsStretch, row_before}
+use Rattle.xr_wave_bytes.specs.Repeat.{AreRepeated, AreSteadyFrom, IsStretch, row_before}
 use Rattle.xr_wave_bytes.proofs.ByteDigits.{repeated_says, repeated_written}
 use Rattle.xr_wave_bytes.proofs.KeptBytes.{none_keep, told_front}
 
@@ -220,61 +220,3 @@ keep_after j fits old new many position (suc next) true stretch are behind keep 
     keep_repeated j fits old new many position (suc next) stretch are (behind (omega arith)) keep
 keep_after j fits old new many position (suc next) false stretch are behind keep =
     rw (ne_eqb (suc next) 0 (λ is. omega (arith, is))) tt
-
--- As they are written one by one.
-pub repeated_none : (j : Job) (old : List ℕ) → AreRepeated j old old 0
-repeated_none j old = sym (append-nil old)
-
-pub repeated_one : (j : Job) (old new : List ℕ) (k : ℕ) → j.width ≤ length old → k < j.width → AreRepeated j old new k
-    → AreRepeated j old (new ++ repeated_byte (slice_index_or new (length old - j.width + k) 0) ∷ []) (k + 1)
-repeated_one j old new k more less is =
-    let start : ℕ = length old - j.width in
-    let row : List ℕ = drop start old in
-    let row_is = length-drop start old in
-    let here : slice_index_or new (start + k) 0 ≡ slice_index_or row k 0 =
-    ap (λ bytes. slice_index_or bytes (start + k) 0) is
-    ∙ get_or-append old (map repeated_byte (take k row)) 0 (start + k) (omega (arith, more, less))
-    ∙ sym (get_or-drop start old k 0) in
-    ap (λ bytes. bytes ++ repeated_byte (slice_index_or new (start + k) 0) ∷ []) is
-    ∙ ap (λ byte. (old ++ map repeated_byte (take k row)) ++ repeated_byte byte ∷ []) here
-    ∙ append_assoc old (map repeated_byte (take k row)) (repeated_byte (slice_index_or row k 0) ∷ [])
-    ∙ ap (λ bytes. old ++ bytes) (sym (map-append repeated_byte (take k row) (slice_index_or row k 0 ∷ [])))
-    ∙ ap (λ bytes. old ++ map repeated_byte bytes) (sym (take_more row k 0 (omega (arith, row_is, more, less))))
-
--- So they are, place by place of the row before.
-first_many : (j : Job) (first many k : ℕ) → k ≤ many → IsStretch j first many → IsStretch j first k
-first_many j first many k up stretch =
-    let within = stretch.within in
-    let one = stretch.one_step in
-    record {
-      later = stretch.later;
-      within = omega (arith, within, up);
-      one_step = omega (arith, one, up);
-    }
-
--- Behind the bytes up to a place of it the byte of that one is written.
-pub repeated_next : (j : Job) → Fits j → (old new later : List ℕ) (many place : ℕ) → IsStretch j (length old) many
-    → length old - j.width ≤ place → place < length old - j.width + many
-    → AreRepeated j old new (place - (length old - j.width)) → IsRepeatedAfter new place later
-    → AreRepeated j old later (place + 1 - (length old - j.width))
-repeated_next j fits old new later many place stretch from less is next =
-    let start : ℕ = length old - j.width in
-    let k : ℕ = place - start in
-    let here : start + k ≡ place = omega (arith, from) in
-    let more : k + 1 ≡ place + 1 - start = omega (arith, from) in
-    let few = row_many j fits (length old) many stretch (omega (arith, from, less)) in
-    next ∙ subst (λ n. AreRepeated j old (new ++ repeated_byte (slice_index_or new place 0) ∷ []) n) more
-    (subst (λ n. AreRepeated j old (new ++ repeated_byte (slice_index_or new n 0) ∷ []) (k + 1)) here
-    (repeated_one j old new k stretch.later (omega (arith, from, less, few)) is))
-
--- There is such a byte, and room for one more.
-pub repeated_room : (j : Job) → Fits j → (old new : List ℕ) (many place : ℕ) → IsStretch j (length old) many
-    → length old - j.width ≤ place → place < length old - j.width + many
-    → AreRepeated j old new (place - (length old - j.width)) → (place < length new) × (length new < places_of j)
-repeated_room j fits old new many place stretch from less is =
-    let k : ℕ = place - (length old - j.width) in
-    let long = repeated_long j fits old new k (first_many j (length old) many k (omega (arith, less)) stretch) is in
-    let later = stretch.later in
-    let within = stretch.within in
-    let few = row_many j fits (length old) many stretch (omega (arith, from, less)) in
-    (omega (arith, long, from, less, later, few), omega (arith, long, from, less, within))

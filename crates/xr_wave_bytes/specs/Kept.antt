@@ -1,5 +1,5 @@
 -- What the bytes of a waveform say.
-use Rattle.std.specs.Prelude.{◌≡◌, ℕ, ◌-◌, ◌<◌, Option, List, length, map}
+use Rattle.std.specs.Prelude.{◌≡◌, ℕ, ◌+◌, ◌-◌, ◌*◌, ◌<◌, ◌++◌, ◌∷◌, [], Option, List, length, map}
 use Rattle.xr_design.specs.Circuit.{job_in}
 use Rattle.xr_design.specs.Job.{Job, step_of}
 use Rattle.xr_design.specs.Waveform.{certain, certain_by}
@@ -9,6 +9,7 @@ use Rattle.xr_model.specs.Class.{before, class_of}
 use Rattle.xr_model.specs.declared.class.ClassByNumber.{ClassByNumber}
 use Rattle.xr_class.specs.Facts.{AgreeBefore, AllKeep, AreFacts, Facts, facts_by}
 use Rattle.xr_wave_bytes.specs.Byte.{facts_in, written_of_byte}
+use Rattle.xr_wave_bytes.specs.Rows.{RowsView}
 use Rattle.xr_wave_bytes.specs.View.{next_class}
 
 -- What the byte of the next place is to say.
@@ -42,3 +43,16 @@ pub record IsKept (circuit : Circuit) (bytes : List ℕ) : Type 0 where
 -- The class of the next place.
 abbrev pub IsNextClass : Circuit → List ℕ → Option ClassByNumber → Type 0
 IsNextClass circuit bytes next = next ≡ next_class (job_in circuit) (map written_of_byte bytes)
+
+-- Rows are as wide as a step of the job, with room for all steps.
+pub record AreRowsOf (j : Job) (rows : RowsView) : Type 0 where
+  pub width : rows.width ≡ j.width
+  pub steps : rows.steps ≡ j.moments * j.rounds
+
+-- Bytes are others with the byte of a place behind, which says what is written there, and they are kept as those were.
+pub record IsWrittenBehind (j : Job) (old new : List ℕ) (written : Written) : Type 0 where
+  pub says : map written_of_byte new ≡ map written_of_byte old ++ written ∷ []
+  pub told : BytesTell j new
+  pub agrees : ValuesAgree j (map written_of_byte new)
+  pub more : length new ≡ length old + 1
+  pub same : SayTheSame old new

@@ -1,6 +1,5 @@
 -- Places that are written again, each as its net's place a step before.
-use Rattle.std.specs.Prelude.{◌≡◌, ℕ, ◌+◌, ◌-◌, ◌*◌, ◌≤◌, ◌<◌, List, [], ◌∷◌, ◌++◌, drop, length, map, slice_index_or}
-use Rattle.std.specs.Prelude.{take}
+use Rattle.std.specs.Prelude.{◌≡◌, ℕ, ◌+◌, ◌-◌, ◌*◌, ◌≤◌, ◌<◌, List, ◌++◌, drop, length, map, take}
 use Rattle.xr_design.specs.Job.{Job, places_of, step_of}
 use Rattle.xr_design.specs.Waveform.{certain}
 use Rattle.xr_design.specs.declared.waveform.Written.{Written}
@@ -37,7 +36,3 @@ row_before j bytes many = take many (drop (length bytes - j.width) bytes)
 -- They are written again behind some bytes.
 abbrev pub AreRepeated : Job → List ℕ → List ℕ → ℕ → Type 0
 AreRepeated j old new many = new ≡ old ++ map repeated_byte (row_before j old many)
-
--- The byte at a number is written again behind some bytes.
-abbrev pub IsRepeatedAfter : List ℕ → ℕ → List ℕ → Type 0
-IsRepeatedAfter old number new = new ≡ old ++ repeated_byte (slice_index_or old number 0) ∷ []

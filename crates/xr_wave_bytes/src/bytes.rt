@@ -1,7 +1,7 @@
 //! The bytes of the places that are written, as what is known of them.
 
 ghost use Rattle.std.specs.Prelude.{◌≡◌, ℕ, ◌+◌, ◌-◌, ◌<◌, ◌≤◌, ◌==◌, ◌||◌, ◌++◌, ◌∷◌, [], IfSome, length, map};
-ghost use Rattle.std.specs.Prelude.{vec_capacity};
+ghost use Rattle.std.specs.Prelude.{OnErr, OnOk};
 ghost use Rattle.std.specs.Bool.{OnTrue};
 ghost use Rattle.xr_cell.specs.declared.value.Value.{Value as AnyValue};
 ghost use Rattle.xr_design.specs.Circuit.{job_in, CircuitFits};
@@ -14,60 +14,61 @@ ghost use Rattle.xr_class.specs.Wires.{AreWiresOf};
 ghost use Rattle.xr_wave_bytes.specs.Byte.{facts_in, facts_of_byte, written_of_byte};
 ghost use Rattle.xr_wave_bytes.specs.View.{next_class};
 ghost use Rattle.xr_wave_bytes.specs.Front.{StandsAt};
-ghost use Rattle.xr_wave_bytes.specs.Kept.{BytesTell, IsKept, IsNextClass, SayTheSame, StepKeeps, ValuesAgree};
-ghost use Rattle.xr_wave_bytes.specs.Kept.{facts_next};
-ghost use Rattle.xr_wave_bytes.specs.Repeat.{AreRepeated, IsRepeatedAfter, IsStretch};
+ghost use Rattle.xr_wave_bytes.specs.Kept.{AreRowsOf, BytesTell, IsKept, IsNextClass, IsWrittenBehind, StepKeeps};
+ghost use Rattle.xr_wave_bytes.specs.Kept.{ValuesAgree, facts_next};
 
-use crate::byte::{byte_of, is_carried_on, is_line, is_plain, keeps, repeated_byte, written_in};
+use crate::byte::{byte_of, is_carried_on, is_line, is_plain, keeps, written_in};
 use crate::front::Front;
+use crate::rows::Rows;
+use xr_base::Memory;
 use xr_cell::Value;
 use xr_class::{Earlier, class_at, keeps_here, place_before};
-use xr_design::{Circuit, Mark, Source, Written, count_places, width_of};
+use xr_design::{Circuit, Mark, Source, Written, count_places};
 use xr_model::ClassByNumber;
 use xr_wiring::Wiring;
 
 /// What is known of the places that are written.
 #[derive(Clone, Copy, Debug)]
 pub struct Bytes<'w> {
-    pub bytes: &'w [u8],
+    pub rows: &'w Rows,
 }
 
 impl<'w> Source for Bytes<'w> {
-    ghost reads = { λ s place. certain (map written_of_byte s.bytes.now) place };
+    ghost reads = { λ s place. certain (map written_of_byte s.rows.now.bytes) place };
 
-    ghost has = { λ s place. place < length s.bytes.now };
+    ghost has = { λ s place. place < length s.rows.now.bytes };
 
     fn value(&self, place: usize) -> Value {
-        certain_value(self.bytes, place)
+        certain_value(self.rows, place)
     }
 }
 
 impl<'w> Earlier for Bytes<'w> {
-    ghost facts = { λ s place. facts_in s.bytes.now place };
+    ghost facts = { λ s place. facts_in s.rows.now.bytes place };
 
     fn is_carried_on(&self, place: usize) -> bool {
-        is_carried_on(self.bytes[place])
+        is_carried_on(self.rows.byte(place))
     }
 
     fn is_plain(&self, place: usize) -> bool {
-        is_plain(self.bytes[place])
+        is_plain(self.rows.byte(place))
     }
 
     fn is_line(&self, place: usize) -> bool {
-        is_line(self.bytes[place])
+        is_line(self.rows.byte(place))
     }
 
     fn keeps(&self, place: usize) -> bool {
-        keeps(self.bytes[place])
+        keeps(self.rows.byte(place))
     }
 }
 
 #[tactic(auto, unfolding(xr_design::specs::Waveform::certain))]
-fn certain_value(bytes: &[u8], place: usize) -> Value
-    requires { place < length bytes.now }
-    ensures { result ≡ certain (map written_of_byte bytes.now) place }
+fn certain_value(rows: &Rows, place: usize) -> Value
+    requires { place < length rows.now.bytes }
+    ensures { result ≡ certain (map written_of_byte rows.now.bytes) place }
 {
-    value_if_certain(written_in(bytes[place]))
+    value_if_certain(written_in(rows.byte(place)))
 }
 
 /// The value where it is certain, else x.
@@ -86,22 +87,22 @@ pub fn value_if_certain(written: Written) -> Value
 pub fn class_behind(
     circuit: &Circuit<'_>,
     wiring: &Wiring,
-    bytes: &[u8],
+    rows: &Rows,
     front: Front,
     all_keep: bool,
 ) -> Option<ClassByNumber>
     requires fits { CircuitFits circuit.now }
     requires wired { AreWiresOf circuit.now wiring.now }
-    requires within { length bytes.now ≤ places_of (job_in circuit.now) }
-    requires front { StandsAt (job_in circuit.now) (length bytes.now) front }
-    requires told { BytesTell (job_in circuit.now) bytes.now }
-    requires agrees { ValuesAgree (job_in circuit.now) (map written_of_byte bytes.now) }
-    requires keep { OnTrue all_keep (StepKeeps bytes.now front.position (length bytes.now)) }
-    ensures { result ≡ next_class (job_in circuit.now) (map written_of_byte bytes.now) }
+    requires within { length rows.now.bytes ≤ places_of (job_in circuit.now) }
+    requires front { StandsAt (job_in circuit.now) (length rows.now.bytes) front }
+    requires told { BytesTell (job_in circuit.now) rows.now.bytes }
+    requires agrees { ValuesAgree (job_in circuit.now) (map written_of_byte rows.now.bytes) }
+    requires keep { OnTrue all_keep (StepKeeps rows.now.bytes front.position (length rows.now.bytes)) }
+    ensures { result ≡ next_class (job_in circuit.now) (map written_of_byte rows.now.bytes) }
 {
-    let place = bytes.len();
+    let place = rows.count();
     if place < count_places(circuit) {
-        let earlier = Bytes { bytes };
+        let earlier = Bytes { rows };
         let class = class_at(circuit, wiring, &earlier, place, front.position, all_keep);
         Some(class)
     } else {
@@ -111,12 +112,12 @@ pub fn class_behind(
 
 /// Whether all places before the next one in its step keep, given where it stands and whether those before the last one
 /// do.
-pub fn keep_behind(bytes: &[u8], front: Front, before: bool) -> bool
-    requires some { 0 < length bytes.now }
-    requires before { OnTrue before (0 < front.position → StepKeeps bytes.now front.position (length bytes.now - 1)) }
-    ensures { OnTrue result (StepKeeps bytes.now front.position (length bytes.now)) }
+pub fn keep_behind(rows: &Rows, front: Front, before: bool) -> bool
+    requires some { 0 < length rows.now.bytes }
+    requires before { OnTrue before (0 < front.position → StepKeeps rows.now.bytes front.position (length rows.now.bytes - 1)) }
+    ensures { OnTrue result (StepKeeps rows.now.bytes front.position (length rows.now.bytes)) }
 {
-    front.position == 0 || (before && keeps(bytes[bytes.len() - 1]))
+    front.position == 0 || (before && keeps(rows.byte(rows.count() - 1)))
 }
 
 /// The same where the places before the next one were written many at once: each of those keeps.
@@ -129,75 +130,44 @@ pub fn keep_repeated(front: Front, before: bool) -> bool
 /// Appends the byte of the next place, whose class is given.
 pub fn push_place(
     circuit: &Circuit<'_>,
-    bytes: &mut Vec<u8>,
+    rows: &mut Rows,
     next: Option<ClassByNumber>,
     written: Written,
-)
+) -> Result<(), Memory>
     requires fits { CircuitFits circuit.now }
-    requires within { length bytes.old.items < places_of (job_in circuit.now) }
-    requires room { places_of (job_in circuit.now) ≤ vec_capacity bytes.old }
-    requires kept { IsKept circuit.now bytes.old.items }
-    requires next { IsNextClass circuit.now bytes.old.items next }
-    requires agrees { ValuesAgree (job_in circuit.now) (map written_of_byte bytes.old.items ++ written ∷ []) }
-    ensures written { map written_of_byte bytes.new.items ≡ map written_of_byte bytes.old.items ++ written ∷ [] }
-    ensures told { BytesTell (job_in circuit.now) bytes.new.items }
-    ensures agrees { ValuesAgree (job_in circuit.now) (map written_of_byte bytes.new.items) }
-    ensures more { length bytes.new.items ≡ length bytes.old.items + 1 }
-    ensures same { SayTheSame bytes.old.items bytes.new.items }
-    ensures room { places_of (job_in circuit.now) ≤ vec_capacity bytes.new }
+    requires within { length rows.old.bytes < places_of (job_in circuit.now) }
+    requires rows { AreRowsOf (job_in circuit.now) rows.old }
+    requires kept { IsKept circuit.now rows.old.bytes }
+    requires next { IsNextClass circuit.now rows.old.bytes next }
+    requires agrees { ValuesAgree (job_in circuit.now) (map written_of_byte rows.old.bytes ++ written ∷ []) }
+    ensures ok { OnOk result (IsWrittenBehind (job_in circuit.now) rows.old.bytes rows.new.bytes written) }
+    ensures err { OnErr result (rows.new ≡ rows.old) }
+    ensures rows { AreRowsOf (job_in circuit.now) rows.new }
 {
-    let byte = next_byte(circuit, bytes.as_slice(), next, written);
-    if bytes.push(byte).is_err() {
-        unreachable!()
-    }
-}
-
-/// Appends the bytes of so many places, each of which has what its net's place a step before has.
-pub fn repeat_places(circuit: &Circuit<'_>, bytes: &mut Vec<u8>, many: usize)
-    requires fits { CircuitFits circuit.now }
-    requires stretch { IsStretch (job_in circuit.now) (length bytes.old.items) many }
-    requires room { places_of (job_in circuit.now) ≤ vec_capacity bytes.old }
-    ensures bytes { AreRepeated (job_in circuit.now) bytes.old.items bytes.new.items many }
-    ensures room { places_of (job_in circuit.now) ≤ vec_capacity bytes.new }
-{
-    let first = bytes.len() - width_of(circuit);
-    'places: for place in first..first + many {
-        push_repeated(bytes, place);
-    }
-}
-
-/// Appends the byte of a place that has what the place of a number has, which is its net's a step before.
-fn push_repeated(bytes: &mut Vec<u8>, number: usize)
-    requires number { number < length bytes.old.items }
-    requires room { length bytes.old.items < vec_capacity bytes.old }
-    ensures bytes { IsRepeatedAfter bytes.old.items number bytes.new.items }
-    ensures room { vec_capacity bytes.old ≤ vec_capacity bytes.new }
-{
-    let byte = repeated_byte(bytes[number]);
-    if bytes.push(byte).is_err() {
-        unreachable!()
-    }
+    let byte = next_byte(circuit, rows, next, written);
+    rows.push(byte)?;
+    Ok(())
 }
 
 /// The byte of the next place, whose class is given.
 fn next_byte(
     circuit: &Circuit<'_>,
-    bytes: &[u8],
+    rows: &Rows,
     next: Option<ClassByNumber>,
     written: Written,
 ) -> u8
     requires fits { CircuitFits circuit.now }
-    requires within { length bytes.now < places_of (job_in circuit.now) }
-    requires next { next ≡ next_class (job_in circuit.now) (map written_of_byte bytes.now) }
+    requires within { length rows.now.bytes < places_of (job_in circuit.now) }
+    requires next { next ≡ next_class (job_in circuit.now) (map written_of_byte rows.now.bytes) }
     ensures written { written_of_byte result ≡ written }
-    ensures facts { facts_of_byte result ≡ facts_next (job_in circuit.now) bytes.now written }
+    ensures facts { facts_of_byte result ≡ facts_next (job_in circuit.now) rows.now.bytes written }
 {
-    let place = bytes.len();
+    let place = rows.count();
     let carries = is_carrying_on(circuit, place, next);
     let plain = is_plain_class(next);
     let line = is_line_class(next);
     let here = value_if_certain(written);
-    let keeps = keeps_here(circuit, &Bytes { bytes }, place, here, carries);
+    let keeps = keeps_here(circuit, &Bytes { rows }, place, here, carries);
     byte_of(written, carries, plain, line, keeps)
 }
 

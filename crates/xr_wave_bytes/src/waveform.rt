@@ -1,26 +1,28 @@
 //! The places of a circuit, as they are written.
 
-ghost use Rattle.std.specs.Prelude.{◌≡◌, ◌%◌, ◌<◌, ◌++◌, ◌∷◌, [], IfOk, length};
+ghost use Rattle.std.specs.Prelude.{◌≡◌, ◌%◌, ◌<◌, ◌*◌, ◌≤◌, ◌++◌, ◌∷◌, [], IfOk, OnErr, OnOk, length};
 ghost use Rattle.xr_design.specs.Circuit.{CircuitFits, job_in};
 ghost use Rattle.xr_design.specs.Fits.{place_at};
 ghost use Rattle.xr_design.specs.Waveform.{certain, written_at};
 ghost use Rattle.xr_model.specs.Assignment as assignment;
 ghost use Rattle.xr_model.specs.Class.{class_of};
 ghost use Rattle.xr_class.specs.Test.{numbered_value};
+ghost use Rattle.xr_wave_bytes.specs.Changed.{AllKeepFrom, AreSameFrom, IsWholeLater};
 ghost use Rattle.xr_wave_bytes.specs.Kept.{ValuesAgree};
 ghost use Rattle.xr_wave_bytes.specs.View as spec;
 ghost use Rattle.xr_wave_bytes.specs.Repeat.{IsRepeatable};
 ghost use Rattle.xr_wave_bytes.specs.View.{HasMore, IsNumber, and_one, and_repeated, job, keeps_there, waveform_of};
 
 use crate::byte::{keeps, written_in};
-use crate::bytes::{Bytes, class_behind, keep_behind, keep_repeated, push_place, repeat_places};
+use crate::bytes::{Bytes, class_behind, keep_behind, keep_repeated, push_place};
 use crate::front::{Front, first_front, front_after, front_behind, place_there};
+use crate::rows::Rows;
 use std::alloc::Global;
 use std::marker::Model;
 use xr_base::Memory;
 use xr_cell::Value;
 use xr_class::{ArgumentsByNumber, argument_places, class_at, kept_class, rule_value};
-use xr_design::{Circuit, Place, Written, count_places};
+use xr_design::{Circuit, Place, Written, width_of};
 use xr_model::ClassByNumber;
 use xr_wiring::Wiring;
 
@@ -30,7 +32,7 @@ use xr_wiring::Wiring;
 pub struct Waveform<'a> {
     circuit: Circuit<'a>,
     wiring: Wiring,
-    bytes: Vec<u8>,
+    rows: Rows,
     /// Whether the class of the next place is found already.
     found: bool,
     /// That class, once it is found.
@@ -42,45 +44,46 @@ pub struct Waveform<'a> {
 }
 
 impl<'a> Model for Waveform<'a> {
-    ghost use Rattle.std.specs.Prelude.{◌≤◌, length, map, vec_capacity};
+    ghost use Rattle.std.specs.Prelude.{◌≤◌, length, map};
     ghost use Rattle.std.specs.Bool.{OnTrue};
     ghost use Rattle.xr_design.specs.Circuit.{CircuitFits, job_in};
     ghost use Rattle.xr_design.specs.Job.{places_of};
     ghost use Rattle.xr_class.specs.Wires.{AreWiresOf};
     ghost use Rattle.xr_wave_bytes.specs.Byte.{written_of_byte};
     ghost use Rattle.xr_wave_bytes.specs.Front.{StandsAt};
-    ghost use Rattle.xr_wave_bytes.specs.Kept.{IsKept, IsNextClass, StepKeeps};
+    ghost use Rattle.xr_wave_bytes.specs.Kept.{AreRowsOf, IsKept, IsNextClass, StepKeeps};
     ghost use Rattle.xr_wave_bytes.specs.View.{WaveformView, waveform_of};
 
     ghost Value = { WaveformView };
 
-    ghost view = { λ w. waveform_of w.circuit (map written_of_byte w.bytes.items) };
+    ghost view = { λ w. waveform_of w.circuit (map written_of_byte w.rows.bytes) };
 
     ghost invariant = { λ w. record {
       fits : CircuitFits w.circuit;
       wired : AreWiresOf w.circuit w.wiring;
-      within : length w.bytes.items ≤ places_of (job_in w.circuit);
-      room : places_of (job_in w.circuit) ≤ vec_capacity w.bytes;
-      kept : IsKept w.circuit w.bytes.items;
-      next : OnTrue w.found (IsNextClass w.circuit w.bytes.items w.next);
-      front : StandsAt (job_in w.circuit) (length w.bytes.items) w.front;
-      keep : OnTrue w.all_keep (StepKeeps w.bytes.items w.front.position (length w.bytes.items));
+      within : length w.rows.bytes ≤ places_of (job_in w.circuit);
+      rows : AreRowsOf (job_in w.circuit) w.rows;
+      kept : IsKept w.circuit w.rows.bytes;
+      next : OnTrue w.found (IsNextClass w.circuit w.rows.bytes w.next);
+      front : StandsAt (job_in w.circuit) (length w.rows.bytes) w.front;
+      keep : OnTrue w.all_keep (StepKeeps w.rows.bytes w.front.position (length w.rows.bytes));
     } };
 }
 
 impl<'a> Waveform<'a> {
-    /// One of which nothing is written. Takes a byte for each place, 16 bytes for each net, 8 to 24 for each pin.
+    /// One of which nothing is written. Takes 40 bytes for each net, 8 to 24 for each pin. What is written takes 16
+    /// to 32 bytes for each place that has not what its net's place a step before has, as each of the first step.
     pub fn new(alloc: Global, circuit: Circuit<'a>) -> Result<Waveform<'a>, Memory>
         requires { CircuitFits circuit }
         ensures { IfOk result (λ w. w ≡ waveform_of circuit.entry []) }
     {
         let wiring = Wiring::of(alloc, circuit.design, circuit.order)?;
-        let bytes = Vec::with_capacity(alloc, count_places(&circuit))?;
+        let rows = Rows::new(alloc, width_of(&circuit), count_steps(&circuit))?;
         let front = first_front(&circuit);
         Ok(Waveform {
             circuit,
             wiring,
-            bytes,
+            rows,
             found: false,
             next: None,
             front,
@@ -104,7 +107,7 @@ impl<'a> Waveform<'a> {
         ensures count { result ≡ length self.now.written }
         ensures agrees { ValuesAgree (job self.now) self.now.written }
     {
-        self.bytes.len()
+        self.rows.count()
     }
 
     /// What stands at the place of a number. Takes no memory.
@@ -112,7 +115,7 @@ impl<'a> Waveform<'a> {
         requires { number < length self.now.written }
         ensures { result ≡ written_at self.now.written number }
     {
-        written_in(self.bytes[number])
+        written_in(self.rows.byte(number))
     }
 
     /// Whether the net of the place of a number keeps there. Takes no memory.
@@ -120,7 +123,34 @@ impl<'a> Waveform<'a> {
         requires { number < length self.now.written }
         ensures { result ≡ keeps_there (job self.now) self.now.written number }
     {
-        keeps(self.bytes[number])
+        keeps(self.rows.byte(number))
+    }
+
+    /// The next position of a step, from one on, whose place was written anew, or the step's end: each place between has
+    /// what its net's place a step before has. Costs a binary search. Takes no memory.
+    pub fn changed_from(&self, step: usize, position: usize) -> usize
+        requires step { IsWholeLater (job self.now) self.now.written step }
+        requires position { position ≤ (job self.now).width }
+        ensures from { position ≤ result }
+        ensures within { result ≤ (job self.now).width }
+        ensures same { AreSameFrom (job self.now) self.now.written step position result }
+    {
+        let width = width_of(&self.circuit);
+        let start = step * width;
+        self.rows.anew_from(start + position, start + width) - start
+    }
+
+    /// The first place from one of a later step on that was written anew, or the end: the net of each place between keeps
+    /// there. Costs a binary search. Takes no memory.
+    pub fn anew_from(&self, number: usize, end: usize) -> usize
+        requires later { (job self.now).width ≤ number }
+        requires number { number ≤ end }
+        requires end { end ≤ length self.now.written }
+        ensures from { number ≤ result }
+        ensures within { result ≤ end }
+        ensures keep { AllKeepFrom (job self.now) self.now.written number result }
+    {
+        self.rows.anew_from(number, end)
     }
 
     /// The class of the next place: found here, unless `find_next` did. Takes no memory.
@@ -133,7 +163,7 @@ impl<'a> Waveform<'a> {
         class_behind(
             &self.circuit,
             &self.wiring,
-            self.bytes.as_slice(),
+            &self.rows,
             self.front,
             self.all_keep,
         )
@@ -169,10 +199,8 @@ impl<'a> Waveform<'a> {
         requires { IsNumber self.now number }
         ensures { result ≡ class_of (job self.now) (certain self.now.written) number }
     {
-        let bytes = Bytes {
-            bytes: self.bytes.as_slice(),
-        };
-        if number < self.bytes.len() {
+        let bytes = Bytes { rows: &self.rows };
+        if number < self.rows.count() {
             kept_class(&self.circuit, &self.wiring, &bytes, number)
         } else {
             let position = self.front.position;
@@ -185,9 +213,7 @@ impl<'a> Waveform<'a> {
         requires { IsNumber self.now number }
         ensures { result ≡ assignment.argument_places (job self.now) (certain self.now.written) number }
     {
-        let bytes = Bytes {
-            bytes: self.bytes.as_slice(),
-        };
+        let bytes = Bytes { rows: &self.rows };
         argument_places(&self.circuit, &bytes, number)
     }
 
@@ -197,27 +223,26 @@ impl<'a> Waveform<'a> {
         requires { IsNumber self.now number }
         ensures { result ≡ numbered_value (job self.now) (certain self.now.written) number bits }
     {
-        let bytes = Bytes {
-            bytes: self.bytes.as_slice(),
-        };
+        let bytes = Bytes { rows: &self.rows };
         rule_value(&self.circuit, &bytes, number, bits)
     }
 
-    /// Writes the next place. Takes no memory.
-    pub fn push(&mut self, written: Written)
+    /// Writes the next place. Takes 16 to 32 bytes where it has not what its net's place a step before has.
+    pub fn push(&mut self, written: Written) -> Result<(), Memory>
         requires next { HasMore self.old }
         requires agrees { ValuesAgree (job self.old) (self.old.written ++ written ∷ []) }
-        ensures { self.new ≡ and_one self.old written }
+        ensures ok { OnOk result (self.new ≡ and_one self.old written) }
+        ensures err { OnErr result (self.new ≡ self.old) }
     {
         let circuit = self.circuit;
         let next = self.next_class();
-        let front = front_behind(&circuit, self.front, self.bytes.len());
-        push_place(&circuit, &mut self.bytes, next, written);
-        let bytes = self.bytes.as_slice();
-        let all_keep = keep_behind(bytes, front, self.all_keep);
+        let front = front_behind(&circuit, self.front, self.rows.count());
+        push_place(&circuit, &mut self.rows, next, written)?;
+        let all_keep = keep_behind(&self.rows, front, self.all_keep);
         self.found = false;
         self.front = front;
         self.all_keep = all_keep;
+        Ok(())
     }
 
     /// Writes so many places, each as its net's place a step before stands. Takes no memory.
@@ -226,11 +251,18 @@ impl<'a> Waveform<'a> {
         ensures { self.new ≡ and_repeated self.old many }
     {
         let circuit = self.circuit;
-        let front = front_after(&circuit, self.front, self.bytes.len(), many);
-        repeat_places(&circuit, &mut self.bytes, many);
+        let front = front_after(&circuit, self.front, self.rows.count(), many);
+        self.rows.repeat(many);
         let all_keep = keep_repeated(front, self.all_keep);
         self.found = false;
         self.front = front;
         self.all_keep = all_keep;
     }
+}
+
+/// How many steps there are.
+fn count_steps(circuit: &Circuit<'_>) -> usize
+    ensures { result ≡ (job_in circuit.now).moments * (job_in circuit.now).rounds }
+{
+    circuit.stim.times.as_slice().len() * circuit.stim.rounds as usize
 }

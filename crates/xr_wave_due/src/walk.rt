@@ -4,7 +4,7 @@
 //! pin that a register looks back at one step before; an input is recorded otherwise; its own place a step before isn't
 //! calm; or the history shows something else. Any other place is written as its net's place a step before.
 
-ghost use Rattle.std.specs.Prelude.{◌≡◌, ℕ, ◌*◌, ◌+◌, ◌%◌, ◌<◌, ◌≤◌, ◌++◌, ◌∷◌, [], true, false, IfOk, IsTrue, length};
+ghost use Rattle.std.specs.Prelude.{◌≡◌, ℕ, ◌*◌, ◌+◌, ◌%◌, ◌<◌, ◌≤◌, ◌++◌, ◌∷◌, [], true, false, IfOk, IsTrue, OnErr, OnOk, length};
 ghost use Rattle.xr_design.specs.Circuit.{CircuitFits, job_in};
 ghost use Rattle.xr_design.specs.Handed.{HasPlaces, shown_of};
 ghost use Rattle.xr_design.specs.Fits.{place_at};
@@ -63,23 +63,27 @@ impl<'a> Walk<'a> {
         })
     }
 
-    /// Writes the next place of a waveform, and marks what is due then. Takes no memory.
-    pub fn write(&mut self, waveform: &mut Waveform<'_>, written: Written)
+    /// Writes the next place of a waveform, and marks what is due then.
+    pub fn write(&mut self, waveform: &mut Waveform<'_>, written: Written) -> Result<(), Memory>
         requires next { HasMore waveform.old }
         requires agrees { ValuesAgree (view.job waveform.old) (waveform.old.written ++ written ∷ []) }
         requires walk { IsWalkOf waveform.old self.old }
-        ensures waveform { waveform.new ≡ and_one waveform.old written }
-        ensures walk { IsWalkOf waveform.new self.new }
-        ensures history { self.new.replayed.history ≡ self.old.replayed.history }
+        ensures waveform { OnOk result (waveform.new ≡ and_one waveform.old written) }
+        ensures walk { OnOk result (IsWalkOf waveform.new self.new) }
+        ensures history { OnOk result (self.new.replayed.history ≡ self.old.replayed.history) }
+
+        ensures unwritten { OnErr result (waveform.new ≡ waveform.old) }
+        ensures still { OnErr result (self.new ≡ self.old) }
     {
         let circuit = waveform.circuit();
         let place = waveform.place_behind();
         let position = waveform.position_behind();
         let calm = tells_next(waveform, place);
-        waveform.push(written);
+        waveform.push(written)?;
         let keeps = waveform.keeps(waveform.count() - 1);
         self.visit(&circuit, position, place.net, keeps, calm);
         self.settle(waveform, position + 1);
+        Ok(())
     }
 
     /// Passes over the places of the step up to the next one that is due, each of which is written as its net's place a

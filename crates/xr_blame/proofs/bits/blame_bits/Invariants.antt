@@ -1,4 +1,4 @@
--- The bits that are told and those that are left are all, and each bit that is left is there.
+-- The bits that are told and those that are left are all, each bit that is left is there, and the row is the history's.
 use Rattle.std.proofs.Common.{◌≡◌, length}
 use Rattle.std.specs.List.{AllByRecursion}
 use Rattle.xr_match.specs.BoundBits.{IsBitOf, left_of}
@@ -10,6 +10,7 @@ abbrev pub invariant-bits : goal.invariant-bits
 invariant-bits l = record {
   told : AreToldBefore l.wave l.bound.bound l.blamed.items (left_of l.bits);
   causes : AreCauses l.wave l.causes;
+  history : l.replayed.history ≡ l.wave.history;
   within : AllByRecursion (IsBitOf l.wave.design (length l.wave.stim.times)) (left_of l.bits);
 }
 

@@ -1,8 +1,8 @@
 -- At the ends of the way the bits differ, and where it is halved down to one place, that is the turn.
-use Rattle.std.proofs.Common.{◌≡◌, ◌<◌, ◌+◌, ◌/◌, ◌-◌, ◌∙◌, ap, sym, not, subst, arith, length, get_or, ℕ}
+use Rattle.std.proofs.Common.{◌≡◌, ◌<◌, ◌+◌, ◌/◌, ◌-◌, ◌∙◌, ap, sym, not, arith, length, get_or, ℕ}
 use Rattle.xr_design.specs.Job.{places_of}
 use Rattle.xr_wave.specs.Contents.{job}
-use Rattle.xr_blame.specs.Halves.{IsTurn, halfway}
+use Rattle.xr_blame.specs.Halves.{halfway}
 use Rattle.xr_blame.proofs.Turns.{cuts_begin, cuts_end, cuts_turn, not_first, same_read, some_listed}
 use Rattle.xr_blame.proofs.halves.find_turn.Goals as goal
 

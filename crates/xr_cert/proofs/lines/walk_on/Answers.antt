@@ -1,16 +1,23 @@
 -- The wave goes on, or stops.
+use Rattle.std.proofs.Common.{◌≡◌, IfErr, sym, subst, rules}
+use Rattle.std.specs.Prelude.{Err, Result}
 use Rattle.xr_cert.proofs.Going.{right_on}
-use Rattle.xr_cert.proofs.Standing.{goes_between, objected_between}
+use Rattle.xr_cert.proofs.Standing.{goes_between, stops_between}
+use Rattle.xr_cert.specs.Standing.{EndsFrom}
+use Rattle.xr_cert.specs.Words.{stopped_by}
+use Rattle.xr_cert.specs.declared.refusal.CheckErr.{CheckErr}
+use Rattle.xr_cert.specs.declared.walked.Walked.{Walked}
 use Rattle.xr_cert.proofs.lines.walk_on.Goals as goal
 
-pub returns-in-Ok-clause-ok : goal.returns-in-Ok-clause-ok
-returns-in-Ok-clause-ok c form start done stands =
-    goes_between form start done c.args.wave c.in-Ok.wave c.args.conditions.items c.in-Ok.ensures.ok.goes stands
+pub returns-clause-ok : goal.returns-clause-ok
+returns-clause-ok c form start done stands =
+    goes_between form start done c.args.wave _ c.args.conditions.items c.in_ok-next.ensures.ok.goes stands
 
-pub returns-in-Ok-clause-right : goal.returns-in-Ok-clause-right
-returns-in-Ok-clause-right c = right_on c.args.wave c.in-Ok.wave c.circuit-circuit.ensures.wave c.in-Ok.ensures.ok.goes
+pub returns-clause-right : goal.returns-clause-right
+returns-clause-right c = right_on c.args.wave _ c.circuit-circuit.ensures.wave c.in_ok-next.ensures.ok.goes
 
-pub returns-in-Err-clause-err : goal.returns-in-Err-clause-err
-returns-in-Err-clause-err c form start done rest stands =
-    objected_between form start done rest c.args.wave c.args.conditions.items c.in-Err.objection
-    c.in-Err.ensures.reported stands
+pub returns-in_err-next-clause-err : goal.returns-in_err-next-clause-err
+returns-in_err-next-clause-err c =
+    let is : c.from_residual.result ≡ Err (stopped_by c.in_err-next.field-0.0) = search rules in
+    subst (λ (r : Result Walked CheckErr). IfErr r (EndsFrom c.args.wave c.args.conditions.items)) (sym is)
+    (stops_between c.args.wave c.args.conditions.items c.in_err-next.field-0.0 c.in_err-next.ensures.reported)

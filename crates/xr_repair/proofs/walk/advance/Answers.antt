@@ -1,27 +1,21 @@
 -- The wave goes on in its job, or the place where it stops is found otherwise.
-use Rattle.xr_repair.specs.Repaired.{by_class}
-use Rattle.xr_repair.proofs.Objecting.{plain_more}
-use Rattle.xr_repair.proofs.Walking.{goes_same}
+use Rattle.std.proofs.Common.{◌≡◌, IfErr, sym, subst, rules}
+use Rattle.std.specs.Prelude.{Err, Result}
 use Rattle.xr_along.proofs.Fitted.{goes_along}
-use Rattle.xr_wave.specs.Advance.{plain_written}
+use Rattle.xr_wave.specs.Contents.{Contents}
+use Rattle.xr_repair.proofs.Walking.{goes_same, stopped_refused}
+use Rattle.xr_repair.specs.Step.{RefusedStep, stopped_by}
+use Rattle.xr_repair.specs.declared.refusal.RepairErr.{RepairErr}
 use Rattle.xr_repair.proofs.walk.advance.Goals as goal
 
-pub returns-in-Ok-clause-same : goal.returns-in-Ok-clause-same
-returns-in-Ok-clause-same c = goes_same c.in-Ok.ensures.ok.goes
+pub returns-clause-same : goal.returns-clause-same
+returns-clause-same c = goes_same c.in_ok-next.ensures.ok.goes
 
-pub returns-in-Ok-clause-along : goal.returns-in-Ok-clause-along
-returns-in-Ok-clause-along c = goes_along c.in-Ok.ensures.ok.goes
+pub returns-clause-along : goal.returns-clause-along
+returns-clause-along c = goes_along c.in_ok-next.ensures.ok.goes
 
-pub returns-in-Err-clause-err : goal.returns-in-Err-clause-err
-returns-in-Err-clause-err c =
-    let objected = c.in-Err.ensures.reported in
-    record {
-      before = objected.before;
-      same = goes_same objected.goes;
-      wave = objected.wave;
-      next = plain_more objected.before objected.plain;
-      written = plain_written objected.before;
-      found = by_class objected.plain;
-      contradicts = objected.contradicts;
-      reports = objected.reports;
-    }
+pub returns-in_err-next-clause-err : goal.returns-in_err-next-clause-err
+returns-in_err-next-clause-err c =
+    let is : c.from_residual.result ≡ Err (stopped_by c.in_err-next.field-0.0) = search rules in
+    subst (λ (r : Result Contents RepairErr). IfErr r (RefusedStep c.args.wave)) (sym is)
+    (stopped_refused c.args.wave c.in_err-next.field-0.0 c.in_err-next.ensures.reported)

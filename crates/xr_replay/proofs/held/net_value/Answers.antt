@@ -7,9 +7,9 @@ use Rattle.xr_replay.proofs.held.net_value.Goals as goal
 
 pub shown-requires : goal.shown-requires
 shown-requires c =
-    let room = has_step (job_in c.args.circuit.now) c.args.history.now c.args.step c.requires.places c.requires.step in
-    let within : c.args.net < c.args.history.now.nets = rw c.requires.places.nets c.requires.net in
+    let room = has_step (job_in c.args.circuit.now) c.args.row.now.history c.args.row.now.step c.requires.places c.requires.step in
+    let within : c.args.net < c.args.row.now.history.nets = rw c.requires.places.nets c.requires.net in
     record { net = within; step = omega (arith, room.room, within) }
 
 pub returns : goal.returns
-returns c = c.shown.ensures ∙ sym (ap (λ (held : Held). held.shown) (held_at_net (job_in c.args.circuit.now) c.requires.fits.fits_job c.args.history.now c.args.step c.args.net c.requires.net))
+returns c = c.shown.ensures ∙ sym (ap (λ (held : Held). held.shown) (held_at_net (job_in c.args.circuit.now) c.requires.fits.fits_job c.args.row.now.history c.args.row.now.step c.args.net c.requires.net))

@@ -1,18 +1,18 @@
 -- The first moment with a fault has the first fault.
-use Rattle.std.proofs.Common.{◌≡◌, ◌-◌, ◌<◌, ℕ, Err, rules, length, ap, arith, below_more}
+use Rattle.std.proofs.Common.{◌≡◌, ◌-◌, ℕ, Err, rules, length, ap, arith, below_more}
 use Rattle.xr_replay.specs.Fault.{HasNoFault}
 use Rattle.xr_replay.specs.Sides.{job_beside}
 use Rattle.xr_replay.specs.declared.differ.DifferErr.TheVariants.{Differs}
 use Rattle.xr_replay.proofs.Faults.{first_fault}
+use Rattle.xr_replay.proofs.Followers.{up_to_later}
 use Rattle.xr_replay.proofs.moments.check_changes.Goals as goal
 
 pub moments-init : goal.moments-init
 moments-init c =
-    let count = c.width_of.ensures in
-    let room = c.in_ok-marked.ensures.registers in
     record {
       none = λ earlier less. absurd (omega (arith, less));
-      registers = omega (arith, count, room);
+      follower = c.in_ok-marked.ensures.follower;
+      registers = c.in_ok-marked.ensures.registers;
       variables = c.in_ok-marked.ensures.variables;
     }
 
@@ -28,6 +28,7 @@ moments-preserved c =
     let second = c.in_ok-check_next.ensures.variables in
     record {
       none = below_more P c.moments.moment c.moments.invariant.none c.in_ok-check_next.ensures.none;
+      follower = up_to_later c.args.sides.now c.moments.moment c.check_next.new.marked.follower c.in_ok-check_next.ensures.follower;
       registers = omega (arith, registers, first);
       variables = omega (arith, variables, second);
     }

@@ -1,6 +1,7 @@
 -- The moments so far have no fault.
 use Rattle.std.proofs.Common.{ℕ, ◌<◌}
 use Rattle.xr_replay.specs.Fault.{HasNoFault}
+use Rattle.xr_replay.specs.Follower.{IsUpTo}
 use Rattle.xr_replay.specs.Sides.{job_beside}
 use Rattle.xr_replay_due.specs.Due.{HasRoomFor}
 use Rattle.xr_replay.proofs.moments.check_changes.Given as goal
@@ -8,6 +9,7 @@ use Rattle.xr_replay.proofs.moments.check_changes.Given as goal
 abbrev pub invariant-moments : goal.invariant-moments
 invariant-moments l = record {
   none : (earlier : ℕ) → earlier < l.moment → HasNoFault (job_beside l.sides) l.sides.recording.now l.bound earlier;
+  follower : IsUpTo l.sides l.moment l.marked.follower;
   registers : HasRoomFor l.marked.registers (job_beside l.sides).width;
   variables : HasRoomFor l.marked.variables l.watchers.room;
 }

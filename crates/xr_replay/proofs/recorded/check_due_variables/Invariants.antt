@@ -1,11 +1,14 @@
 -- The variables before the next one that is due agree.
-use Rattle.std.proofs.Common.{ℕ, ◌<◌, ◌-◌, length}
+use Rattle.std.proofs.Common.{◌≡◌, ℕ, ◌<◌, ◌-◌, length}
 use Rattle.xr_replay.specs.Fault.{bound_at}
 use Rattle.xr_replay.specs.Sides.{AgreesBeside}
 use Rattle.xr_replay.proofs.recorded.check_due_variables.Given as goal
 
 abbrev pub invariant-variables : goal.invariant-variables
-invariant-variables l = (other : ℕ) → other < l.number → other < length l.bound.bound → AgreesBeside l.sides l.moment (bound_at l.bound other)
+invariant-variables l = record {
+  same : l.follower ≡ l.initial.follower;
+  agree : (other : ℕ) → other < l.number → other < length l.bound.bound → AgreesBeside l.sides l.moment (bound_at l.bound other);
+}
 
 abbrev pub decreases-variables : goal.decreases-variables
 decreases-variables l = length l.bound.bound - l.number

@@ -5,7 +5,10 @@ use Rattle.xr_replay.specs.Fault.{VariableAgrees, no_variable}
 use Rattle.xr_replay.specs.Sides.{job_beside}
 use Rattle.xr_replay.proofs.recorded.check_recorded.Goals as goal
 
+pub check_variable-requires-clause-follower : goal.check_variable-requires-clause-follower
+check_variable-requires-clause-follower c = rw c.variables.invariant.same c.requires.follower
+
 pub returns-clause-agrees : goal.returns-clause-agrees
 returns-clause-agrees c =
     let same = ap length c.as_slice-variable-items.ensures in
-    All-from_get_or (VariableAgrees (job_beside c.args.sides.now) c.args.sides.now.recording.now c.args.moment) c.args.bound.now.bound no_variable (λ i less. c.variables.invariant i (omega (arith, same, less)))
+    All-from_get_or (VariableAgrees (job_beside c.args.sides.now) c.args.sides.now.recording.now c.args.moment) c.args.bound.now.bound no_variable (λ i less. c.variables.invariant.agree i (omega (arith, same, less)))

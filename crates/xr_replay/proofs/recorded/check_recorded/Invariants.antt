@@ -1,8 +1,11 @@
 -- The variables so far agree.
-use Rattle.std.proofs.Common.{ℕ, ◌<◌}
+use Rattle.std.proofs.Common.{◌≡◌, ℕ, ◌<◌}
 use Rattle.xr_replay.specs.Fault.{VariableAgrees, bound_at}
 use Rattle.xr_replay.specs.Sides.{job_beside}
 use Rattle.xr_replay.proofs.recorded.check_recorded.Given as goal
 
 abbrev pub invariant-variables : goal.invariant-variables
-invariant-variables l = (other : ℕ) → other < l.variable-index → VariableAgrees (job_beside l.sides) l.sides.recording.now l.moment (bound_at l.bound other)
+invariant-variables l = record {
+  same : l.follower ≡ l.initial.follower;
+  agree : (other : ℕ) → other < l.variable-index → VariableAgrees (job_beside l.sides) l.sides.recording.now l.moment (bound_at l.bound other);
+}

@@ -5,7 +5,6 @@ use Rattle.xr_match.specs.BoundBits.{IsBitOf, bound_bits, left_of}
 use Rattle.xr_match.specs.declared.binding.Bound.{Bound}
 use Rattle.xr_match.specs.declared.bound_bits.BoundBit.{BoundBit}
 use Rattle.xr_match.proofs.BoundBitLemmas.{bits_within}
-use Rattle.xr_design.specs.Row.{RowView}
 use Rattle.xr_design.specs.declared.stim.Stim.{Stim}
 use Rattle.xr_report.proofs.Reach.{moments_there}
 use Rattle.xr_report.proofs.bits.bit_lines.Goals as goal
@@ -21,12 +20,8 @@ bits-init c =
       lines = rw (c.new-text.ensures.items, all) refl;
       within = subst (λ (bits : List BoundBit). AllByRecursion (IsBitOf wave.design (length wave.stim.times)) bits)
           (sym all) (bits_within wave.design (length wave.stim.times) bound c.requires.binding.each);
-      history = ap (λ (row : RowView). row.history) c.in_ok-replayed.ensures ∙ c.replayed.ensures;
-      before = ap (λ (row : RowView). row.history) c.in_ok-earlier.ensures ∙ c.replayed-2.ensures;
+      reader = c.in_ok-reader.ensures;
     }
-
-pub is_told-requires-clause-moments : goal.is_told-requires-clause-moments
-is_told-requires-clause-moments c = moments_there c.args.wave.now c.count-count.ensures.wave c.requires.finished
 
 pub put_bit-requires-clause-moments : goal.put_bit-requires-clause-moments
 put_bit-requires-clause-moments c = moments_there c.args.wave.now c.count-count.ensures.wave c.requires.finished

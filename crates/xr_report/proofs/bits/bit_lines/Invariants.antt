@@ -1,9 +1,10 @@
--- The lines so far and those of the bits that are left are all, each bit that is left is there, and the rows are of the
--- history.
+-- The lines so far and those of the bits that are left are all, each bit that is left is there, and what they are made
+-- from is the wave's.
 use Rattle.std.proofs.Common.{◌≡◌, ◌++◌, length}
 use Rattle.std.specs.List.{AllByRecursion, flat_map}
 use Rattle.xr_match.specs.BoundBits.{IsBitOf, bound_bits, left_of}
 use Rattle.xr_report.specs.Bits.{bound_line}
+use Rattle.xr_report.specs.Finished.{IsReaderOf}
 use Rattle.xr_report.proofs.bits.bit_lines.Given as goal
 
 abbrev pub invariant-bits : goal.invariant-bits
@@ -11,8 +12,7 @@ invariant-bits l = record {
   lines : l.text.items ++ flat_map (bound_line l.wave l.lines) (left_of l.bits)
       ≡ flat_map (bound_line l.wave l.lines) (bound_bits (length l.wave.stim.times) l.bound.bound);
   within : AllByRecursion (IsBitOf l.wave.design (length l.wave.stim.times)) (left_of l.bits);
-  history : l.replayed.history ≡ l.wave.history;
-  before : l.earlier.history ≡ l.wave.history;
+  reader : IsReaderOf l.wave l.reader;
 }
 
 abbrev pub decreases-bits : goal.decreases-bits

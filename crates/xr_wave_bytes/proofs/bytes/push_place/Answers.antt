@@ -1,30 +1,23 @@
 -- The new byte says the facts of its place, and its value agrees with its class.
-use Rattle.std.proofs.Common.{◌≡◌, ℕ, ◌++◌, ◌∷◌, [], List, ◌∙◌, ap, arith}
-use Rattle.std.proofs.lemmas.Grind.{common_steps}
+use Rattle.std.proofs.Common.{ap}
 use Rattle.xr_design.specs.Circuit.{job_in}
-use Rattle.xr_wave_bytes.specs.Kept.{facts_next}
-use Rattle.xr_wave_bytes.proofs.KeptBytes.{agrees_pushed, same_pushed, told_pushed}
+use Rattle.xr_wave_bytes.specs.Rows.{RowsView}
+use Rattle.xr_wave_bytes.proofs.KeptBytes.{written_behind}
+use Rattle.xr_wave_bytes.proofs.RowLaws.{room_for_one, rows_one}
 use Rattle.xr_wave_bytes.proofs.bytes.push_place.Goals as goal
 
-pub returns-clause-told : goal.returns-clause-told
-returns-clause-told c =
-    let bytes = c.args.bytes.now.items in
-    let items : c.push.new.self.items ≡ bytes ++ c.next_byte-byte.result ∷ [] = grind (arith, common_steps) in
-    told_pushed (job_in c.args.circuit.now) c.requires.fits.fits_job bytes c.next_byte-byte.result c.args.written
-    c.requires.within c.requires.kept.told c.next_byte-byte.ensures.written
-    (c.next_byte-byte.ensures.facts
-    ∙ ap (λ (bs : List ℕ). facts_next (job_in c.args.circuit.now) bs c.args.written) c.as_slice.ensures.value)
-    c.push.new.self.items items
+pub push-requires : goal.push-requires
+push-requires c =
+    room_for_one (job_in c.args.circuit.now) c.args.rows.now c.requires.rows c.requires.within
 
-pub returns-clause-agrees : goal.returns-clause-agrees
-returns-clause-agrees c =
-    let bytes = c.args.bytes.now.items in
-    let items : c.push.new.self.items ≡ bytes ++ c.next_byte-byte.result ∷ [] = grind (arith, common_steps) in
-    agrees_pushed (job_in c.args.circuit.now) bytes c.next_byte-byte.result c.args.written c.requires.agrees
-    c.next_byte-byte.ensures.written c.push.new.self.items items
+pub returns-clause-ok : goal.returns-clause-ok
+returns-clause-ok c =
+    written_behind (job_in c.args.circuit.now) c.requires.fits.fits_job c.args.rows.now.bytes c.push.new.self.bytes
+    c.next_byte-byte.result c.args.written c.requires.within c.requires.kept.told c.requires.agrees
+    c.next_byte-byte.ensures.written c.next_byte-byte.ensures.facts
+    (ap (λ (v : RowsView). v.bytes) c.in_ok-push.ensures.ok)
 
-pub returns-clause-same : goal.returns-clause-same
-returns-clause-same c =
-    let bytes = c.args.bytes.now.items in
-    let items : c.push.new.self.items ≡ bytes ++ c.next_byte-byte.result ∷ [] = grind (arith, common_steps) in
-    same_pushed bytes c.next_byte-byte.result c.push.new.self.items items
+pub returns-clause-rows : goal.returns-clause-rows
+returns-clause-rows c =
+    rows_one (job_in c.args.circuit.now) c.args.rows.now c.push.new.self c.next_byte-byte.result c.requires.rows
+    c.in_ok-push.ensures.ok

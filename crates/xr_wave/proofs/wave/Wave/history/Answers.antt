@@ -6,6 +6,7 @@ use Rattle.xr_design.specs.History.{HistoryView, WriterView}
 use Rattle.xr_design.specs.Job.{Job, places_of}
 use Rattle.xr_wave.specs.Contents.{job}
 use Rattle.xr_wave.specs.Shown.{ShowsBelow, ShowsWave}
+use Rattle.xr_wave.proofs.CopiedPlaces.{copied_next}
 use Rattle.xr_wave.proofs.ShownPlaces.{shows_all, shows_next, shows_none}
 use Rattle.xr_wave.proofs.wave.Wave.history.Goals as goal
 
@@ -35,6 +36,7 @@ steps-init c =
       shown = subst (λ (v : WriterView). ShowsBelow c.args.self.now (0 * (job c.args.self.now).width) v.history)
           (sym c.in_ok-writer.ensures.new)
           (shows_none wave circuit.design.now circuit.order.now circuit.stim.now c.circuit-circuit.ensures.job);
+      copied = λ k low high later within. absurd (omega (arith, later));
     }
 
 pub steps-preserved : goal.steps-preserved
@@ -54,4 +56,6 @@ steps-preserved c =
       under_way = omega (arith, under_way, next);
       shown = shows_next wave c.steps.step c.show_step.new.writer c.next_step.new.self c.circuit-circuit.ensures.wave
           less under_way c.in_ok-next_step.ensures.ok c.in_ok-show_step.ensures.shown;
+      copied = copied_next wave c.steps.step c.show_step.new.writer c.next_step.new.self
+          c.circuit-circuit.ensures.wave under_way c.in_ok-next_step.ensures.ok c.in_ok-show_step.ensures.shown;
     }

@@ -41,7 +41,7 @@ invariant_of-self c =
     grown in
     let parts = c.deref_mut.result.now in
     let new = c.push.new.self in
-    let pushed = c.push.ensures in
+    let pushed = c.in_ok-push.ensures in
     wave_pushed (and_one parts.waveform x) new.waveform parts.walk new.walk parts.limit new.limit parts.lines.items
     new.lines.items pushed.waveform pushed.history pushed.limit (ap (λ lines. lines.items) pushed.lines)
     (subst (λ p. IsWave (contents_of (and_one p.waveform x) p.walk.replayed.history p.limit p.lines.items))

@@ -1,6 +1,5 @@
 -- A byte tells whether its net keeps.
-use Rattle.std.proofs.Common.{◌≡◌, ◌<◌, ◌∙◌, length, map, ap, slice_index_or, sym, subst, arith}
-use Rattle.std.proofs.lemmas.Grind.{get_or_default_zero}
+use Rattle.std.proofs.Common.{◌≡◌, ◌<◌, ◌∙◌, length, map, ap, sym, subst, arith}
 use Rattle.std.proofs.lemmas.List.{length-map}
 use Rattle.xr_design.specs.Circuit.{job_in}
 use Rattle.xr_wave_bytes.specs.Byte.{facts_of_byte, written_of_byte}
@@ -10,13 +9,11 @@ use Rattle.xr_wave_bytes.proofs.waveform.Waveform.keeps.Goals as goal
 
 pub returns : goal.returns
 returns c =
-    let bytes = c.self.inside.bytes.items in
+    let bytes = c.self.inside.rows.bytes in
     let long = length-map bytes written_of_byte in
     let less : c.args.number < length (map written_of_byte bytes) =
     subst (λ (v : WaveformView). c.args.number < length v.written) (sym c.self.view_is) c.requires in
-    let byte_is : c.index.result.now ≡ slice_index_or bytes c.args.number 0 =
-    c.index.ensures ∙ get_or_default_zero bytes c.args.number c.index.result.now (omega (arith, long, less)) in
     subst (λ (v : WaveformView). c.keeps.result ≡ keeps_there (job v) v.written c.args.number) c.self.view_is
-    (c.keeps.ensures ∙ ap (λ byte. (facts_of_byte byte).keeps) byte_is
+    (c.keeps.ensures ∙ ap (λ byte. (facts_of_byte byte).keeps) c.byte.ensures
     ∙ keeps_told (job_in c.self.inside.circuit) c.self.invariant.fits.fits_job bytes c.args.number
     (omega (arith, long, less)) c.self.invariant.within c.self.invariant.kept.told)

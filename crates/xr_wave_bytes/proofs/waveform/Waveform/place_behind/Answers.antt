@@ -12,7 +12,7 @@ use Rattle.xr_wave_bytes.proofs.waveform.Waveform.place_behind.Goals as goal
 pub place_there-requires : goal.place_there-requires
 place_there-requires c =
     let circuit = c.self.inside.circuit in
-    let bytes = c.self.inside.bytes.items in
+    let bytes = c.self.inside.rows.bytes in
     let long = length-map bytes written_of_byte in
     let more : length (map written_of_byte bytes) < places_of (job_in circuit) =
     subst HasMore (sym c.self.view_is) c.requires in

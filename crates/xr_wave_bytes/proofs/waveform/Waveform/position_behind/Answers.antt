@@ -10,7 +10,7 @@ use Rattle.xr_wave_bytes.proofs.waveform.Waveform.position_behind.Goals as goal
 pub returns : goal.returns
 returns c =
     let j = job_in c.self.inside.circuit in
-    let bytes = c.self.inside.bytes.items in
+    let bytes = c.self.inside.rows.bytes in
     let long = length-map bytes written_of_byte in
     let more : length (map written_of_byte bytes) < places_of j = subst HasMore (sym c.self.view_is) c.requires in
     subst (λ (v : WaveformView). c.self.inside.front.position ≡ length v.written % (job v).width) c.self.view_is

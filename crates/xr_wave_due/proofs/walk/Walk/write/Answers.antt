@@ -12,7 +12,7 @@ use Rattle.xr_wave_due.proofs.walk.Walk.write.Goals as goal
 pub settle-requires-clause-tables : goal.settle-requires-clause-tables
 settle-requires-clause-tables c =
     let v = c.args.waveform.now in
-    subst (λ (w : WaveformView). HasTables (view.job w) c.visit.new.self) (sym c.push.ensures)
+    subst (λ (w : WaveformView). HasTables (view.job w) c.visit.new.self) (sym c.in_ok-push.ensures.ok)
     (visited_tables (view.job v) c.place_behind-place.result.net c.position_behind-position.result c.keeps-keeps.result
     c.tells_next-calm.result c.args.self.now c.visit.new.self c.requires.walk.tables c.visit.ensures)
 
@@ -30,11 +30,11 @@ settle-requires-clause-here c =
     let net_is : net ≡ net_of j n = ap (λ (p : Place). p.net) c.place_behind-place.ensures in
     let grows = length-append v.written (x ∷ []) in
     let count : c.count.result ≡ length (v.written ++ x ∷ []) =
-    subst (λ (w : WaveformView). c.count.result ≡ length w.written) c.push.ensures c.count.ensures.count in
+    subst (λ (w : WaveformView). c.count.result ≡ length w.written) c.in_ok-push.ensures.ok c.count.ensures.count in
     let last : c.count.result - 1 ≡ n = omega (arith, count, grows) in
     let kept : keeps ≡ keeps_there j (v.written ++ x ∷ []) n =
     subst (λ k. keeps ≡ keeps_there j (v.written ++ x ∷ []) k) last
-    (subst (λ (w : WaveformView). keeps ≡ keeps_there (view.job w) w.written (c.count.result - 1)) c.push.ensures
+    (subst (λ (w : WaveformView). keeps ≡ keeps_there (view.job w) w.written (c.count.result - 1)) c.in_ok-push.ensures.ok
     c.keeps-keeps.ensures) in
     let visit = subst (λ p. IsVisited net p keeps calm old new) c.position_behind-position.ensures c.visit.ensures in
     let walk = written_walk j (subst Fits c.circuit-circuit.ensures.job c.circuit-circuit.ensures.fits.fits_job)
@@ -42,6 +42,6 @@ settle-requires-clause-here c =
     net keeps calm old new c.requires.next c.requires.walk net_is kept c.tells_next-calm.ensures c.requires.agrees
     visit in
     subst (λ (w : WaveformView). IsWalkAt (view.job w) (shown_by (view.job w) new) w.written new new.replayed.step
-    (c.position_behind-position.result + 1)) (sym c.push.ensures)
+    (c.position_behind-position.result + 1)) (sym c.in_ok-push.ensures.ok)
     (subst (λ p. IsWalkAt j (shown_by j new) (v.written ++ x ∷ []) new new.replayed.step (p + 1))
     (sym c.position_behind-position.ensures) walk)
