@@ -11,7 +11,7 @@ from xrepair_lib.texts import declarations, due, plain, scopes_of, upto_end, wor
 MOMENTS = 200_000  # as many moments are looked at for changes that no input made
 CHEAP = 60  # seconds: what took longer isn't tried again with other words
 PLACES = 1 << 27  # the most places of a run without --places
-MOST = 1 << 40  # and with it
+MOST = 1 << 33  # up to so many places, which take minutes, a run is tried with --places
 BLOCKS = 5  # the most blocks that are listed
 RACED = 8  # the most lines of what the script raced says
 PHASES = {5: 1, 6: 1, 7: 2, 11: 2, 8: 3, 9: 3, 10: 4, 0: 5}  # how far a run came that ended with this status
@@ -281,7 +281,7 @@ def too_large(run, job, answer):
         with open(job.record, "rb") as file:
             moments = sum(1 for word in words_of(file) if word[:1] == b"#" and word[1:].isdigit())
         each = max(moments * PLACES // int(found[1]) * 9 // 10, 2)
-        yield f"give it --places {found[1]}, where that is at most {MOST}, or"
+        yield f"give it --places {found[1]}, at most {1 << 40}, or"
         yield f"cut the recording in time: {shown(script('cut', run.me))} --moments {each} {job.record}"
         yield "and repair each window, all but the first with --start recorded"
     elif "recording" in answer.line:
