@@ -1,32 +1,21 @@
 //! Runs of the whole program on files in memory, with what each must leave.
 #![tactic(auto)]
 
-mod back;
-mod case;
-mod compared;
-mod cut;
-mod exported;
-mod failing;
-mod given;
-mod made;
-mod setting;
-mod tabled;
-mod words;
+use std::alloc::Global;
+use std::io;
+use test_runs::{Program, run_files};
+use xr_cli::run;
+use xr_shelf::{Shelf, Sink};
 
-use case::run_case;
-use given::Case;
-use std::{env, fs, io};
-use test_cases::{Report, section_cases, shared};
+/// The program.
+struct Xrepair;
+
+impl Program for Xrepair {
+    fn run<S: Shelf, O: Sink>(alloc: Global, words: &[String], shelf: &mut S, out: &mut O) -> u8 {
+        run(alloc, words, shelf, out)
+    }
+}
 
 fn main(rt: HostRuntime) -> io::Result<()> {
-    for name in env::args(&rt)?.skip(1) {
-        let text = fs::read(&rt, name.as_str())?;
-        let mut report = Report::new(rt.alloc(), name.as_str())?;
-        let common = shared(text.as_slice());
-        for section in section_cases(text.as_slice()) {
-            run_case(rt.alloc(), &mut report, Case::new(common, section))?;
-        }
-        rt.print(report)?;
-    }
-    Ok(())
+    run_files::<Xrepair>(&rt)
 }

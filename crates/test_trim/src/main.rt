@@ -1,20 +1,21 @@
 //! Runs of `xrtrim` on files in memory, with what each must leave.
 #![tactic(auto)]
 
-mod case;
+use std::alloc::Global;
+use std::io;
+use test_runs::{Program, run_files};
+use xr_shelf::{Shelf, Sink};
+use xr_trim_cli::run;
 
-use case::run_case;
-use std::{env, fs, io};
-use test_cases::{Report, section_cases};
+/// The program.
+struct Xrtrim;
+
+impl Program for Xrtrim {
+    fn run<S: Shelf, O: Sink>(alloc: Global, words: &[String], shelf: &mut S, out: &mut O) -> u8 {
+        run(alloc, words, shelf, out)
+    }
+}
 
 fn main(rt: HostRuntime) -> io::Result<()> {
-    for name in env::args(&rt)?.skip(1) {
-        let text = fs::read(&rt, name.as_str())?;
-        let mut report = Report::new(rt.alloc(), name.as_str())?;
-        for section in section_cases(text.as_slice()) {
-            run_case(rt.alloc(), &mut report, section)?;
-        }
-        rt.print(report)?;
-    }
-    Ok(())
+    run_files::<Xrtrim>(&rt)
 }

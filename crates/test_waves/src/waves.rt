@@ -1,11 +1,10 @@
-//! Finished waves: their worlds, fillings and histories, and the report of one.
+//! Finished waves: their worlds, fillings and values, and the report of one.
 
 ghost use Rattle.std.specs.Prelude.{◌≡◌, ◌<◌, length};
 ghost use Rattle.test_waves.specs.Replayed.{IsReplayed};
 ghost use Rattle.xr_design.specs.Fits.{place_at};
 ghost use Rattle.xr_match.specs.Binding.{FitsBinding};
 ghost use Rattle.xr_wave.specs.Contents.{IsFinished, IsWritten, job};
-ghost use Rattle.xr_wave.specs.Shown.{ShowsWave};
 
 use crate::job::{Job, ONE_INPUT, UNKNOWN};
 use std::alloc::Global;
@@ -13,7 +12,7 @@ use std::process::Abort;
 use std::test::Fail;
 use xr_base::Items;
 use xr_cell::Value;
-use xr_design::{History, Place, spot_of};
+use xr_design::{Place, spot_of};
 use xr_match::Binding;
 use xr_report::{ReportLines, bit_lines, head_lines};
 use xr_wave::Wave;
@@ -34,15 +33,6 @@ pub fn place_of(wave: &Wave<'_>, number: usize) -> Place
         step: spot.step as u32,
         net: spot.net as u32,
     }
-}
-
-/// What the history of a wave shows at a place.
-fn shown_at(wave: &Wave<'_>, history: &History, place: Place) -> Value
-    requires history { ShowsWave wave.now history.now }
-    requires place { IsWritten wave.now place }
-{
-    let _circuit = wave.circuit();
-    history.shown(place)
 }
 
 /// Compares the one place, which is free, in the worlds of its two fillings.
@@ -96,29 +86,16 @@ fn check_pairs(rt: &impl Abort, alloc: Global, wave: &Wave<'_>) -> Result<(), Fa
     Ok(())
 }
 
-fn check_history(rt: &impl Abort, alloc: Global, wave: &Wave<'_>) -> Result<(), Fail>
-    requires { IsFinished wave.now }
-{
+/// Compares what the places show: the second is unknown, the third settled.
+fn check_values(rt: &impl Abort, wave: &Wave<'_>) {
     assert_eq!(rt; wave.count(), 3);
-    let shown = wave.history(alloc)?;
-    assert_eq!(rt;
-        shown_at(wave, &shown, place_of(wave, 1)),
-        Value::X,
-        "unknown"
-    );
-    assert_eq!(rt;
-        shown_at(wave, &shown, place_of(wave, 2)),
-        Value::Zero,
-        "settled"
-    );
-    Ok(())
+    assert_eq!(rt; wave.value(place_of(wave, 1)), Value::X, "unknown");
+    assert_eq!(rt; wave.value(place_of(wave, 2)), Value::Zero, "settled");
 }
 
-fn check_complement(rt: &impl Abort, alloc: Global, wave: &Wave<'_>) -> Result<(), Fail>
-    requires { IsFinished wave.now }
-{
-    check_pairs(rt, alloc, wave)?;
-    check_history(rt, alloc, wave)
+fn check_complement(rt: &impl Abort, alloc: Global, wave: &Wave<'_>) -> Result<(), Fail> {
+    check_values(rt, wave);
+    check_pairs(rt, alloc, wave)
 }
 
 fn check_never_both(rt: &impl Abort, alloc: Global, job: &Job) -> Result<(), Fail>

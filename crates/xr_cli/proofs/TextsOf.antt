@@ -50,6 +50,11 @@ wave_forces_written n r wave forces fits is are =
     let there = subst (λ (j : Job). AreForcesOf j (values_of wave) forces) (job_same n r wave is) are in
     can_be_written n.design n.order r.stim forces (subst (AreEvents (job_for n r)) (sym there.least) (are_events (job_for n r) (fits_job n r fits) (forced_by (job_for n r) forces)))
 
+-- A wave of a job has the job's design and stimulus, and so has its recording.
+pub wave_vcd : (n : ANetlist) (r : Recorded) (wave : Contents) (shown : HistoryView) → IsWaveOf n r wave
+    → vcd_text wave.design r.binding wave.stim shown ≡ vcd_text n.design r.binding r.stim shown
+wave_vcd n r wave shown is = rw (is.design, is.stim) refl
+
 -- The answer has the texts of the wave.
 pub wave_texts : (w : RepairValues) (n : ANetlist) (r : Recorded) (wave : Contents) (shown : HistoryView) (forces : List Event) (scope : List (List ℕ)) (vcd code cert report : List ℕ)
     (form : Form) (conditions listed : List ConditionView) → HasSmallTimes r.stim → ShowsWave wave shown → forces ≡ forces_in wave → scope ≡ scope_of w.job

@@ -32,8 +32,7 @@ pub fn exported<'a, O: Sink>(
 {
     let conflicts = words.conflicts;
     let wave = wave_of(alloc, &job.netlist, &job.recorded, history, conflicts, out)?;
-    // With these come the facts that the times are numbers of 64 bits, and that a history shows what the wave has.
+    // With it comes the fact that the times are numbers of 64 bits.
     read_times(&job.recorded.stim);
-    let _shown = wave.history(alloc)?;
     Ok(export_texts(alloc, words.prefix, &wave)?)
 }

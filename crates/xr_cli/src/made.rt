@@ -187,9 +187,8 @@ fn walked<'a, O: Sink>(
     ensures out { O.view out.new ≡ O.view out.old }
 {
     let wave = wave_of(alloc, &job.netlist, &job.recorded, history, CONFLICTS, out)?;
-    // With these come the facts that the times are numbers of 64 bits, and that a history shows what the wave has.
+    // With it comes the fact that the times are numbers of 64 bits.
     read_times(&job.recorded.stim);
-    let _shown = wave.history(alloc)?;
     Ok(answered(alloc, texts, &wave)?)
 }
 

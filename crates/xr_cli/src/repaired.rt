@@ -32,6 +32,5 @@ pub fn repaired<'a, O: Sink>(
     let netlist = &job.netlist;
     let recorded = &job.recorded;
     let wave = wave_of(alloc, netlist, recorded, history, words.conflicts, out)?;
-    let shown = wave.history(alloc)?;
-    Ok(texts_of(alloc, words, netlist, recorded, &wave, &shown)?)
+    Ok(texts_of(alloc, words, netlist, recorded, &wave)?)
 }

@@ -1,7 +1,6 @@
 //! The texts of a repair.
 
 ghost use Rattle.std.specs.Prelude.{◌≡◌, IfOk};
-ghost use Rattle.xr_wave.specs.Shown.{ShowsWave};
 ghost use Rattle.xr_run.specs.Prepared.{answer_of};
 ghost use Rattle.xr_cli.specs.Repair.{repair_values, HasTexts, answer_with};
 ghost use Rattle.xr_phases.specs.Repair.{FitsJob, IsWaveOf};
@@ -12,12 +11,11 @@ use std::alloc::Global;
 use xr_base::Memory;
 use xr_cert::write_cert;
 use xr_code::{read_times, write_code};
-use xr_design::History;
 use xr_forces::forces_of;
 use xr_job::{Netlist, Recorded};
-use xr_out::vcd_text;
 use xr_phases::{conditions_for, form_of, names_of};
 use xr_run::{Output, Ready, Report};
+use xr_shown::wave_text;
 use xr_wave::Wave;
 
 /// The texts of a finished wave of a job: the recording, the code, the certificate and the report.
@@ -27,18 +25,16 @@ pub fn texts_of<'a>(
     netlist: &Netlist,
     recorded: &Recorded,
     wave: &Wave<'_>,
-    shown: &History,
 ) -> Result<Ready<'a>, Memory>
     requires fits { FitsJob netlist.now recorded.now }
     requires wave { IsWaveOf netlist.now recorded.now wave.now }
-    requires shows { ShowsWave wave.now shown.now }
     ensures { IfOk result (λ ready.
         HasTexts (repair_values words.now) netlist.now recorded.now wave.now (answer_of ready)) }
 {
     // With it comes the fact that the times are numbers of 64 bits, as code waits for them.
     read_times(&recorded.stim);
     let binding = &recorded.binding;
-    let vcd = vcd_text(alloc, &netlist.design, binding, &recorded.stim, shown)?;
+    let vcd = wave_text(alloc, wave, binding)?;
     let scope = names_of(alloc, words.job.scope)?;
     let forces = forces_of(alloc, wave)?;
     let code = write_code(

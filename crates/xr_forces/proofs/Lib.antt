@@ -2,6 +2,7 @@
 -- are made.
 pub mod Forced
 pub mod Making
+mod MovedPlaces
 pub mod Moving
 pub mod Ordered
 pub mod Resting

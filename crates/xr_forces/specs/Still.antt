@@ -1,6 +1,6 @@
 -- Values that stay from one step to the next, and what is due where they move. No contract of a public call names
 -- these.
-use Rattle.std.specs.Prelude.{◌≡◌, ◌≢◌, ℕ, ◌+◌, ◌-◌, ◌*◌, ◌<◌, ◌≤◌, false, List, ◌∷◌, slice_index}
+use Rattle.std.specs.Prelude.{◌≡◌, ◌≢◌, ℕ, ◌+◌, ◌-◌, ◌*◌, ◌<◌, ◌≤◌, false, List, ◌∷◌, length, slice_index}
 use Rattle.std.specs.List.{AllByRecursion}
 use Rattle.xr_cell.specs.declared.value.Value.{Value}
 use Rattle.xr_design.specs.Job.{Job, at}
@@ -8,6 +8,8 @@ use Rattle.xr_design.specs.Order.{arguments_of_driver, position_of}
 use Rattle.xr_fans.specs.Nets.{driver_on, looked_at}
 use Rattle.xr_fans.specs.Marks.{OnlyMore}
 use Rattle.xr_replay_due.specs.Due.{HasRoomFor, is_due}
+use Rattle.xr_wave.specs.Row.{anew_behind, anew_next, anew_number, anew_position, nth_anew}
+use Rattle.xr_wave_bytes.specs.declared.anew.Anew.{Anew}
 
 -- A net has at a step the value that it had one step before.
 abbrev pub IsStill : Job → (ℕ → Value) → ℕ → ℕ → Type 0
@@ -17,6 +19,14 @@ IsStill j values step net = values (at j step net) ≡ values (at j (step - 1) n
 abbrev pub AreStillFrom : (ℕ → Value) → ℕ → ℕ → ℕ → ℕ → Type 0
 AreStillFrom values width step first next = (position : ℕ) → first ≤ position → position < next
     → values (step * width + position) ≡ values ((step - 1) * width + position)
+
+-- Places of a step in its order, such that the values of the step are still between one and the next.
+pub record AreMoves (j : Job) (values : ℕ → Value) (step : ℕ) (moves : List Anew) : Type 0 where
+  pub start : (i : ℕ) → i < length moves → step * j.width ≤ anew_number (nth_anew moves i)
+  pub inside : (i : ℕ) → i < length moves → anew_position j step moves i < j.width
+  pub rising : (i : ℕ) → i < length moves → anew_behind j step moves i ≤ anew_position j step moves i
+  pub still : (i : ℕ) → i ≤ length moves
+      → AreStillFrom values j.width step (anew_behind j step moves i) (anew_next j step moves i)
 
 -- Those of the nets that stand before a position of the order are still.
 abbrev pub AreStillTo : Job → (ℕ → Value) → ℕ → ℕ → List ℕ → Type 0

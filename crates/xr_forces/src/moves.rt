@@ -14,8 +14,7 @@ use xr_fans::{Fans, Waiting, mark_readers};
 use xr_replay::is_same;
 
 /// The nets become due that have another value at a step than one step before, and the copies and cells that read them;
-/// the registers that look back at them do one step later. Visits only positions at which the values may move. Takes no
-/// memory.
+/// the registers that look back at them do one step later. Visits only places at which the values may move. Takes no memory.
 pub fn mark_moves<S: Moving>(
     circuit: &Circuit<'_>,
     values: &S,
@@ -25,7 +24,7 @@ pub fn mark_moves<S: Moving>(
 )
     requires fits { CircuitFits circuit.now }
     requires has { (place : ℕ) → place < places_of (job_in circuit.now) → S.has values.now place }
-    requires width { S.width values.now ≡ (job_in circuit.now).width }
+    requires job { S.job values.now ≡ job_in circuit.now }
     requires fans { AreFans (job_in circuit.now) fans.now }
     requires later { 0 < step }
     requires step { step < (job_in circuit.now).moments * (job_in circuit.now).rounds }
@@ -37,20 +36,11 @@ pub fn mark_moves<S: Moving>(
     ensures ahead { AreMarkedTo (job_in circuit.now) (S.reads values.now) (looked_on (job_in circuit.now)) step
         (job_in circuit.now).width waiting.new.ahead }
 {
-    let nets = width_of(circuit);
-    let start = step * nets;
-    let mut position = values.moved_from(step, 0);
-    'positions: while position < nets {
-        mark_place(
-            circuit,
-            values,
-            fans,
-            step,
-            start + position,
-            position,
-            waiting,
-        );
-        position = values.moved_from(step, position + 1);
+    let start = step * width_of(circuit);
+    let moves = values.moves_at(step);
+    'moves: for anew in moves {
+        let place = anew.number();
+        mark_place(circuit, values, fans, step, place, place - start, waiting);
     }
 }
 

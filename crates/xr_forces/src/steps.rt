@@ -22,17 +22,17 @@ use xr_design::{Circuit, Event, Forces, Source, width_of};
 use xr_fans::{Fans, Waiting, mark_inputs};
 use xr_replay_due::Due;
 
-/// The forces under which the replay of a circuit shows these values, and no more. Takes the events, and some 30 bytes
-/// for each net and each pin.
+/// The forces under which the replay of a circuit shows these values, and no more: those of the places, which stay as they
+/// are. Takes the events, and some 30 bytes for each net and each pin.
 pub fn forces_of_values<S: Moving>(
     alloc: Global,
     circuit: &Circuit<'_>,
-    values: &S,
+    values: &mut S,
 ) -> Result<Forces, Memory>
     requires fits { CircuitFits circuit.now }
-    requires has { (place : ℕ) → place < places_of (job_in circuit.now) → S.has values.now place }
-    requires width { S.width values.now ≡ (job_in circuit.now).width }
-    ensures { IfOk result (λ forces. spec.AreForcesOf (job_in circuit.now) (S.reads values.now) forces) }
+    requires has { (place : ℕ) → place < places_of (job_in circuit.now) → S.has values.old place }
+    requires job { S.job values.old ≡ job_in circuit.now }
+    ensures { IfOk result (λ forces. spec.AreForcesOf (job_in circuit.now) (S.reads values.old) forces) }
 {
     let nets = width_of(circuit);
     let fans = Fans::of(alloc, circuit)?;
@@ -46,24 +46,25 @@ pub fn forces_of_values<S: Moving>(
 /// All steps, one behind the other.
 fn put_steps<S: Moving>(
     circuit: &Circuit<'_>,
-    values: &S,
+    values: &mut S,
     fans: &Fans,
     waiting: &mut Waiting,
     row: &mut [Value],
     events: &mut Vec<Event>,
 ) -> Result<(), Memory>
     requires fits { CircuitFits circuit.now }
-    requires has { (place : ℕ) → place < places_of (job_in circuit.now) → S.has values.now place }
-    requires width { S.width values.now ≡ (job_in circuit.now).width }
+    requires has { (place : ℕ) → place < places_of (job_in circuit.now) → S.has values.old place }
+    requires job { S.job values.old ≡ job_in circuit.now }
     requires fans { AreFans (job_in circuit.now) fans.now }
-    requires due { AreAwaited (job_in circuit.now) (S.reads values.now) 0 waiting.old.due }
+    requires due { AreAwaited (job_in circuit.now) (S.reads values.old) 0 waiting.old.due }
     requires ahead { HasRoomFor waiting.old.ahead (job_in circuit.now).width }
-    requires made { AreForcesTo (job_in circuit.now) (S.reads values.now) 0 row.old events.old.items }
-    ensures { OnOk result (AreForcesTo (job_in circuit.now) (S.reads values.now) (places_of (job_in circuit.now))
+    requires made { AreForcesTo (job_in circuit.now) (S.reads values.old) 0 row.old events.old.items }
+    ensures { OnOk result (AreForcesTo (job_in circuit.now) (S.reads values.old) (places_of (job_in circuit.now))
         row.new events.new.items) }
 {
     let steps = circuit.stim.times.as_slice().len() * circuit.stim.rounds as usize;
     'steps: for step in 0..steps {
+        values.go_to(step);
         put_step(circuit, values, fans, step, waiting, row, events)?;
     }
     Ok(())
@@ -81,7 +82,7 @@ fn put_step<S: Moving>(
 ) -> Result<(), Memory>
     requires fits { CircuitFits circuit.now }
     requires has { (place : ℕ) → place < places_of (job_in circuit.now) → S.has values.now place }
-    requires width { S.width values.now ≡ (job_in circuit.now).width }
+    requires job { S.job values.now ≡ job_in circuit.now }
     requires fans { AreFans (job_in circuit.now) fans.now }
     requires step { step < (job_in circuit.now).moments * (job_in circuit.now).rounds }
     requires due { AreAwaited (job_in circuit.now) (S.reads values.now) step waiting.old.due }

@@ -1,6 +1,7 @@
 -- Lemmas on nodes and literals.
 pub mod ArgumentRoots
 pub mod KeptLiterals
+pub mod GoingRows
 pub mod LiteralBits
 pub mod LiteralSources
 pub mod NearPlaces

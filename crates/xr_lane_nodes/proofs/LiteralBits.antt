@@ -121,7 +121,7 @@ pub covered_near : (j : Job) (c : ℕ → Value) (covered : Covered) (place k : 
 covered_near j c covered place k before less near =
     let first = before.far k near in
     let up = before.up in
-    let below : k < covered.first + length covered.literals.now = omega (arith, less, up) in
+    let below : k < covered.first + length covered.literals.now.literals = omega (arith, less, up) in
     record { first = first; below = below; node = (before.each k first below).within }
 
 pub covered_arguments : (c : Contents) (covered : Covered) (place : ℕ) (arguments : List ℕ) (values : List Value) → IsWave c

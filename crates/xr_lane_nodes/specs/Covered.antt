@@ -13,12 +13,12 @@ use Rattle.xr_lane_nodes.specs.declared.literal.Covered.{Covered}
 -- A place has a literal, over a node that is there.
 pub record IsCovered (covered : Covered) (place : ℕ) : Type 0 where
   pub first : covered.first ≤ place
-  pub below : place < covered.first + length covered.literals.now
-  pub node : (literal_in covered.first covered.literals.now place).node < length covered.nodes.now
+  pub below : place < covered.first + length covered.literals.now.literals
+  pub node : (literal_in covered.first covered.literals.now.literals place).node < length covered.nodes.now
 
 -- Its literal, its bit in a lane, and its sources, where they are kept.
 abbrev pub covered_literal : Covered → ℕ → LiteralView
-covered_literal covered place = literal_in covered.first covered.literals.now place
+covered_literal covered place = literal_in covered.first covered.literals.now.literals place
 
 abbrev pub covered_bit : Covered → ℕ → ℕ → Bool
 covered_bit covered lane place = literal_bit covered.nodes.now (covered_literal covered place) lane
@@ -37,8 +37,8 @@ HasOwnNode covered place = 0 < (covered_literal covered place).node
 
 -- The literals are those of their places, up to a place, and all that this place may read has one.
 pub record CoversBefore (j : Job) (certain : ℕ → Value) (covered : Covered) (place : ℕ) : Type 0 where
-  pub each : AreLiteralsFrom j certain covered.nodes.now covered.first covered.literals.now
-  pub up : place ≤ covered.first + length covered.literals.now
+  pub each : AreLiteralsFrom j certain covered.nodes.now covered.first covered.literals.now.literals
+  pub up : place ≤ covered.first + length covered.literals.now.literals
   pub far : ReachesBack j covered.first place
 
 -- The nodes after the first are of places before it.

@@ -8,3 +8,4 @@ pub mod Literal
 pub mod Made
 pub mod Nodes
 pub mod Union
+pub mod Rows

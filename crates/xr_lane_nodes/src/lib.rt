@@ -14,12 +14,14 @@ mod literal;
 mod merge;
 mod node;
 mod nodes;
+mod rows;
 mod ruled;
 mod sources;
 
 pub use fillings::given;
-pub use literal::{Covered, Literal, constant, literal_at, without_first};
+pub use literal::{Covered, Literal, constant, literal_at};
 pub use merge::union;
 pub use node::{Made, make_node, put_node};
 pub use nodes::Nodes;
+pub use rows::LiteralRows;
 pub use sources::any_unknown;

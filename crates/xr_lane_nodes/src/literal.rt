@@ -1,15 +1,14 @@
 //! Literals: a node, as it is or inverted, as in and-inverter graphs. Each place that is covered has one.
 
-ghost use Rattle.std.specs.Prelude.{◌≡◌, ◌<◌, ◌≤◌, ◌+◌, ◌^◌, None, Some, IfOk, MatchOption, drop, length};
+ghost use Rattle.std.specs.Prelude.{◌≡◌, ◌<◌, ◌+◌, ◌^◌, None, Some, IsTrue, MatchOption, length};
 ghost use Rattle.xr_model.specs.Class.{flipped};
 ghost use Rattle.xr_cone_nodes.specs.Lanes.{HasLanes};
 ghost use Rattle.xr_lane_nodes.specs.Covered.{IsCovered, covered_bit, covered_literal, covered_sources};
 ghost use Rattle.xr_lane_nodes.specs.Literal.{constant, literal_of, turned};
 
 use crate::nodes::Nodes;
-use std::alloc::Global;
+use crate::rows::LiteralRows;
 use std::marker::Model;
-use xr_base::Memory;
 use xr_cone_nodes::LaneBits;
 
 /// A node by number, as it is or inverted, in 4 bytes: twice the number, and 1 more where it is inverted.
@@ -58,6 +57,13 @@ impl Literal {
         self.code % 2 == 1
     }
 
+    /// Whether it is the same as another one. Takes no memory.
+    pub fn is_same(self, other: Literal) -> bool
+        ensures { IsTrue result → self ≡ other }
+    {
+        self.code == other.code
+    }
+
     /// The literal, or its complement. Takes no memory.
     pub fn turned(self, inverted: bool) -> Literal
         ensures { result ≡ turned inverted self }
@@ -72,19 +78,6 @@ fn flipped(inverted: bool, bit: bool) -> bool
     if inverted { !bit } else { bit }
 }
 
-/// Literals without the first ones. Takes 4 bytes for each of the others.
-pub fn without_first(
-    alloc: Global,
-    literals: &[Literal],
-    count: usize,
-) -> Result<Vec<Literal>, Memory>
-    requires { count ≤ length literals.now }
-    ensures { IfOk result (λ rest. rest.items ≡ drop count literals.now) }
-{
-    let rest = literals[count..].to_vec(alloc)?;
-    Ok(rest)
-}
-
 /// The literal of a bit. Takes no memory.
 pub fn constant(bit: bool) -> Literal
     ensures { result ≡ constant bit }
@@ -97,7 +90,7 @@ pub fn constant(bit: bool) -> Literal
 pub struct Covered<'t> {
     pub nodes: &'t Nodes,
     pub first: usize,
-    pub literals: &'t [Literal],
+    pub literals: &'t LiteralRows,
 }
 
 /// The literal of a place. Takes no memory.
@@ -105,7 +98,7 @@ pub fn literal_at(covered: Covered<'_>, place: usize) -> Literal
     requires { IsCovered covered place }
     ensures { result ≡ covered_literal covered.entry place }
 {
-    covered.literals[place - covered.first]
+    covered.literals.at(place - covered.first)
 }
 
 /// The bits of a place in the lanes.

@@ -121,6 +121,7 @@ right_made c lanes covered place made graph wave right none at same is grows = r
   shared = shared_grows c (place_at (job c) place) made.roots.items made.values lanes.graph graph lanes.shared grows right.shared;
   below = subst (λ xs. AllByRecursion (λ k. k < count_of lanes + 1) xs) (sym (numbers_more lanes.nodes _ right.some))
       (below_last (count_of lanes) made.place (numbers_of lanes.nodes) (is.own ∙ at) before);
+  sized = right.sized;
 }
   where
     more : Extends lanes.nodes (with_made lanes.nodes made)
@@ -136,7 +137,7 @@ looked_most None = omega arith
 looked_most (Some node) = omega arith
 
 pub covered_more : (c : Contents) (lanes : LanesView) (literal : LiteralView) → IsRightOf c lanes
-    → count_of lanes < length c.written → IsLiteralIn c lanes.nodes literal (count_of lanes)
+    → lanes.width ≡ (job c).width → count_of lanes < length c.written → IsLiteralIn c lanes.nodes literal (count_of lanes)
     → IsRightOf c (record {
       nodes = lanes.nodes;
       first = lanes.first;
@@ -144,8 +145,9 @@ pub covered_more : (c : Contents) (lanes : LanesView) (literal : LiteralView) �
       next = None;
       graph = lanes.graph;
       shared = lanes.shared;
+      width = lanes.width;
     })
-covered_more c lanes literal right less holds = record {
+covered_more c lanes literal right sized less holds = record {
   some = right.some;
   zero = right.zero;
   written = omega (arith, less, long);
@@ -159,6 +161,7 @@ covered_more c lanes literal right less holds = record {
   shared = right.shared;
   below = below_more (looked_count lanes) (lanes.first + length more + looked None) (numbers_of lanes.nodes)
       (let most = looked_most lanes.next in omega (arith, most, long)) right.below;
+  sized = λ some. sized;
 }
   where
     more : List LiteralView
@@ -231,6 +234,7 @@ right_grows c d lanes v wave same grown right = record {
   graph = graph_stays c d lanes.nodes v lanes.graph wave same grown right.graph;
   shared = shared_moves c d lanes.graph lanes.shared same right.shared;
   below = right.below;
+  sized = λ some. right.sized some ∙ ap (λ (j : Job). j.width) (sym same);
 }
   where
     fits : Fits (job c)

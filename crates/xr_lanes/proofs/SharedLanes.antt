@@ -42,6 +42,7 @@ shared_right c lanes shared right is = record {
   graph = right.graph;
   shared = is;
   below = right.below;
+  sized = right.sized;
 }
 
 -- Lanes that cover no place.
@@ -52,9 +53,17 @@ no_graph c = record {
 }
 
 pub right_of_none : (c : Contents) (nodes : List NodeView) (literals : List LiteralView) (graph : List Node)
-    (shared : SharedView) → nodes ≡ zero_node ∷ [] → literals ≡ [] → graph ≡ [] → IsSharedOfAny shared
-    → IsRightOf c (record { nodes = nodes; first = 0; literals = literals; next = None; graph = Some graph; shared = shared })
-right_of_none c nodes literals graph shared one none empty right = rw (one, none, empty) (record {
+    (shared : SharedView) (width : ℕ) → nodes ≡ zero_node ∷ [] → literals ≡ [] → graph ≡ [] → IsSharedOfAny shared
+    → IsRightOf c (record {
+      nodes = nodes;
+      first = 0;
+      literals = literals;
+      next = None;
+      graph = Some graph;
+      shared = shared;
+      width = width;
+    })
+right_of_none c nodes literals graph shared width one none empty right = rw (one, none, empty) (record {
   some = omega arith;
   zero = refl;
   written = omega arith;
@@ -64,4 +73,5 @@ right_of_none c nodes literals graph shared one none empty right = rw (one, none
   graph = no_graph c;
   shared = right c (Some []);
   below = tt;
+  sized = λ some. absurd (omega (arith, some));
 })

@@ -11,7 +11,7 @@ use Rattle.xr_lanes.specs.Graphs.{IsGraphIn}
 use Rattle.xr_lanes.specs.Shared.{IsSharedIn, SharedView}
 
 -- The nodes, the literals of the last places that are covered, from a first one on, the node of the place after them, if it
--- was looked at, the graph of the nodes, if it is kept, and the tables that its nodes share.
+-- was looked at, the graph of the nodes, if it is kept, the tables that its nodes share, and how wide a row of literals is.
 pub record LanesView : Type 0 where
   pub nodes : List NodeView
   pub first : ℕ
@@ -19,6 +19,7 @@ pub record LanesView : Type 0 where
   pub next : Option ℕ
   pub graph : Option (List Node)
   pub shared : SharedView
+  pub width : ℕ
 
 -- How many places are covered: these are the first ones of the wave.
 abbrev pub count_of : LanesView → ℕ
@@ -38,8 +39,8 @@ pub record IsNextNode (c : Contents) (nodes : List NodeView) (place node : ℕ) 
   pub holds : IsNodeOf (job c) (certain c.written) nodes node place
 
 -- All literals are right of a wave, whose places they cover, and so are the node of the place after these, and the graph,
--- if it is kept, with the tables that its nodes share; what later places may read is covered, and each node after the first
--- is of a place that is covered or looked at.
+-- if it is kept, with the tables that its nodes share; what later places may read is covered, each node after the first is
+-- of a place that is covered or looked at, and the rows are those of the job.
 pub record IsRightOf (c : Contents) (lanes : LanesView) : Type 0 where
   pub some : 0 < length lanes.nodes
   pub zero : node_at lanes.nodes 0 ≡ zero_node
@@ -50,6 +51,7 @@ pub record IsRightOf (c : Contents) (lanes : LanesView) : Type 0 where
   pub graph : IfSome lanes.graph (IsGraphIn c lanes.nodes)
   pub shared : IsSharedIn c lanes.graph lanes.shared
   pub below : AllByRecursion (λ k. k < looked_count lanes) (numbers_of lanes.nodes)
+  pub sized : 0 < count_of lanes → lanes.width ≡ (job c).width
 
 -- They are right of every wave where no place is covered.
 abbrev pub IsRightOfAny : LanesView → Type 0
@@ -60,6 +62,7 @@ pub record Keeps (old new : LanesView) : Type 0 where
   pub nodes : Extends old.nodes new.nodes
   pub first : new.first ≡ old.first
   pub literals : new.literals ≡ old.literals
+  pub width : new.width ≡ old.width
 
 -- Every written place is covered, and the next one was looked at.
 pub record IsLookedAt (c : Contents) (lanes : LanesView) : Type 0 where

@@ -11,11 +11,11 @@ use xr_cone_nodes::Cone;
 use xr_design::Place;
 use xr_graph::{Graph, NodeRoot};
 
-/// How many nodes a graph has at most, in some 150 megabytes where each has two arguments.
-const MOST_NODES: usize = 4_194_304;
+/// How many nodes a graph has at most, since a cone has no more.
+const MOST_NODES: usize = 134_217_728;
 
 /// The graph with the node of a place more, from the roots of its essential arguments and its table over these; none from
-/// the time on that there is no room for it.
+/// the time on that there is no memory for it: then what the graph took is free again.
 pub fn grown(
     alloc: Global,
     graph: Option<Graph>,
@@ -48,8 +48,10 @@ fn with_node(
         return Ok(None);
     }
     let mut graph = old;
-    graph.add(alloc, place, roots, values)?;
-    Ok(Some(graph))
+    match graph.add(alloc, place, roots, values) {
+        Ok(()) => Ok(Some(graph)),
+        Err(Memory) => Ok(None),
+    }
 }
 
 /// The cone of the place of a node, if there is a graph. Works in a room that is lent.

@@ -3,12 +3,12 @@
 mod asked;
 mod guessed;
 
-ghost use Rattle.std.specs.Prelude.{◌≡◌, ◌+◌, ◌-◌, ◌<◌, ◌≤◌, None, Some, false, true, IfOk, OnOk, length};
+ghost use Rattle.std.specs.Prelude.{◌≡◌, ◌+◌, ◌-◌, ◌%◌, ◌<◌, ◌≤◌, None, Some, false, true, IfOk, OnOk, length};
 ghost use Rattle.xr_cell.specs.Value.{is_unknown};
 ghost use Rattle.xr_design.specs.Waveform.{certain};
 ghost use Rattle.xr_model.specs.Cone.{is_carried};
 ghost use Rattle.xr_wave.specs.Contents.{class_in, job, next_number};
-ghost use Rattle.xr_wave.specs.Kept.{AllKeepFrom, keeps_there};
+ghost use Rattle.xr_wave.specs.Kept.{AllKeepFrom};
 ghost use Rattle.xr_wave.specs.Token.{HasNext};
 ghost use Rattle.xr_lane_nodes.specs.InWave.{IsInReach, IsLiteralIn};
 ghost use Rattle.xr_lane_nodes.specs.Literal.{constant};
@@ -25,19 +25,19 @@ use xr_cell::Value;
 use xr_design::{Source, width_of};
 use xr_graph::Graph;
 use xr_lane_nodes::{
-    Covered, Literal, Nodes, constant, literal_at, make_node, put_node, without_first,
+    Covered, Literal, LiteralRows, Nodes, constant, literal_at, make_node, put_node,
 };
 use xr_model::ClassByNumber;
 use xr_wave::Wave;
 
 /// The literals of the first places of a wave. Contracts see the nodes, the literals of the last of these places from a
 /// first one on, the node of the place after them, once it is looked at, and the graph of the nodes, as long as it is
-/// kept, with the tables that its nodes share.
+/// kept, with the tables that its nodes share, and how wide a row of literals is.
 #[derive(Drop)]
 pub struct Lanes {
     nodes: Nodes,
     first: usize,
-    literals: Vec<Literal>,
+    literals: LiteralRows,
     next: Option<usize>,
     graph: Option<Graph>,
     shared: Shared,
@@ -55,13 +55,14 @@ impl Model for Lanes {
     ghost view = { λ lanes. record {
       nodes = lanes.nodes;
       first = lanes.first;
-      literals = lanes.literals.items;
+      literals = lanes.literals.literals;
       next = lanes.next;
       graph = lanes.graph;
       shared = lanes.shared;
+      width = lanes.literals.width;
     } };
 
-    ghost invariant = { λ lanes. lanes.first + length lanes.literals.items ≤ 2 ^ 40 };
+    ghost invariant = { λ lanes. lanes.first + length lanes.literals.literals ≤ 2 ^ 40 };
 }
 
 impl Lanes {
@@ -72,7 +73,7 @@ impl Lanes {
         Ok(Lanes {
             nodes: Nodes::new(alloc)?,
             first: 0,
-            literals: Vec::new(alloc),
+            literals: LiteralRows::new(alloc, 1)?,
             next: None,
             graph: Some(Graph::new(alloc)),
             shared: Shared::new(alloc),
@@ -89,8 +90,9 @@ impl Lanes {
         self.first + self.literals.len()
     }
 
-    /// Covers every written place of a wave, those that were covered before it at no cost. Takes 4 bytes a place of three
-    /// to six steps, and for each Free and each Line place the memory of a node, here and in the graph.
+    /// Covers every written place of a wave, those that were covered before it at no cost, and a run of places that keep at
+    /// that of one. Takes 16 bytes for each net, 4 for each literal that moves in one of the last three steps, and for each
+    /// Free and each Line place the memory of a node, here and in the graph.
     pub fn follow(&mut self, alloc: Global, wave: &Wave<'_>) -> Result<(), Memory>
         requires { IsRightOf wave.now self.old }
         ensures right { OnOk result (IsRightOf wave.now self.new) }
@@ -108,84 +110,69 @@ impl Lanes {
         ensures count { OnOk result (count_of self.new ≡ count) }
     {
         'places: while self.count() < count {
+            self.begin(alloc, wave)?;
             self.cover_some(alloc, wave, count)?;
-            self.forget_old(alloc, wave)?;
         }
         Ok(())
     }
 
-    /// Covers some places more, up to a count: those of a step that keep, where the first one does, or that one alone.
+    /// Before the first place: a row is as wide as a step of the wave.
+    fn begin(&mut self, alloc: Global, wave: &Wave<'_>) -> Result<(), Memory>
+        requires right { IsRightOf wave.now self.old }
+        requires more { count_of self.old < length wave.now.written }
+        ensures right { OnOk result (IsRightOf wave.now self.new) }
+        ensures count { OnOk result (count_of self.new ≡ count_of self.old) }
+        ensures width { OnOk result (self.new.width ≡ (job wave.now).width) }
+    {
+        let circuit = wave.circuit();
+        if self.count() == 0 {
+            self.literals = LiteralRows::new(alloc, width_of(&circuit))?;
+        }
+        Ok(())
+    }
+
+    /// Covers some places more, up to a count: those of a row that keep, where the first one does, or that one alone.
     fn cover_some(&mut self, alloc: Global, wave: &Wave<'_>, count: usize) -> Result<(), Memory>
         requires right { IsRightOf wave.now self.old }
+        requires width { self.old.width ≡ (job wave.now).width }
         requires more { count_of self.old < count }
         requires written { count ≤ length wave.now.written }
         ensures right { OnOk result (IsRightOf wave.now self.new) }
         ensures more { OnOk result (count_of self.old < count_of self.new) }
         ensures within { OnOk result (count_of self.new ≤ count) }
     {
-        let circuit = wave.circuit();
         let place = self.count();
-        let end = count.min(place + width_of(&circuit));
+        let end = place + self.literals.room().min(count - place);
         let kept = wave.kept_up_to(place, end);
         if kept > place {
-            self.repeat(wave, kept)
+            self.repeat(wave, kept - place);
+            Ok(())
         } else {
             self.cover_one(alloc, wave)
         }
     }
 
-    /// Covers the places up to an end, which keep: each has the literal of its net's place a step before.
-    fn repeat(&mut self, wave: &Wave<'_>, end: usize) -> Result<(), Memory>
+    /// Covers so many places of a row, which keep: each has the literal of its net's place a step before.
+    fn repeat(&mut self, wave: &Wave<'_>, many: usize)
         requires right { IsRightOf wave.now self.old }
-        requires from { count_of self.old ≤ end }
-        requires written { end ≤ length wave.now.written }
-        requires keep { AllKeepFrom (job wave.now) wave.now.written (count_of self.old) end }
-        ensures right { OnOk result (IsRightOf wave.now self.new) }
-        ensures count { OnOk result (count_of self.new ≡ end) }
+        requires width { self.old.width ≡ (job wave.now).width }
+        requires some { 0 < many }
+        requires room { many ≤ self.old.width - length self.old.literals % self.old.width }
+        requires written { count_of self.old + many ≤ length wave.now.written }
+        requires keep { AllKeepFrom (job wave.now) wave.now.written (count_of self.old) (count_of self.old + many) }
+        ensures right { IsRightOf wave.now self.new }
+        ensures count { count_of self.new ≡ count_of self.old + many }
     {
-        'places: for place in self.count()..end {
-            self.repeat_one(wave, place)?;
-        }
-        Ok(())
-    }
-
-    /// Covers one written place more, which keeps.
-    fn repeat_one(&mut self, wave: &Wave<'_>, place: usize) -> Result<(), Memory>
-        requires right { IsRightOf wave.now self.old }
-        requires place { place ≡ count_of self.old }
-        requires more { place < length wave.now.written }
-        requires keeps { keeps_there (job wave.now) wave.now.written place ≡ true }
-        ensures right { OnOk result (IsRightOf wave.now self.new) }
-        ensures one { OnOk result (count_of self.new ≡ count_of self.old + 1) }
-    {
-        let circuit = wave.circuit();
-        let literal = literal_at(self.covered(), place - width_of(&circuit));
-        self.literals.push(literal)?;
+        let _circuit = wave.circuit();
+        let gone = self.literals.repeat(many);
+        self.first += gone;
         self.next = None;
-        Ok(())
-    }
-
-    /// Once there are literals of six steps, those of the last three alone stay.
-    fn forget_old(&mut self, alloc: Global, wave: &Wave<'_>) -> Result<(), Memory>
-        requires { IsRightOf wave.now self.old }
-        ensures right { OnOk result (IsRightOf wave.now self.new) }
-        ensures count { OnOk result (count_of self.new ≡ count_of self.old) }
-    {
-        let circuit = wave.circuit();
-        let kept = 3 * width_of(&circuit);
-        if self.literals.len() < 2 * kept {
-            return Ok(());
-        }
-        let count = self.literals.len() - kept;
-        let rest = without_first(alloc, self.literals.as_slice(), count)?;
-        self.first += count;
-        self.literals = rest;
-        Ok(())
     }
 
     /// Covers one written place more.
     fn cover_one(&mut self, alloc: Global, wave: &Wave<'_>) -> Result<(), Memory>
         requires right { IsRightOf wave.now self.old }
+        requires width { self.old.width ≡ (job wave.now).width }
         requires more { count_of self.old < length wave.now.written }
         ensures right { OnOk result (IsRightOf wave.now self.new) }
         ensures one { OnOk result (count_of self.new ≡ count_of self.old + 1) }
@@ -193,7 +180,8 @@ impl Lanes {
         let _circuit = wave.circuit();
         let place = self.count();
         let literal = self.literal_of(alloc, wave, place)?;
-        self.literals.push(literal)?;
+        let gone = self.literals.push(literal)?;
+        self.first += gone;
         self.next = None;
         Ok(())
     }
@@ -302,7 +290,7 @@ impl Lanes {
         let covered = Covered {
             nodes: &self.nodes,
             first: self.first,
-            literals: self.literals.as_slice(),
+            literals: &self.literals,
         };
         let made = make_node(alloc, wave, covered, place, &mut self.room)?;
         let graph = self.graph.take();
@@ -333,12 +321,12 @@ impl Lanes {
     pub(crate) fn covered(&self) -> Covered<'_>
         ensures nodes { result.nodes.now ≡ self.now.nodes }
         ensures first { result.first ≡ self.now.first }
-        ensures literals { result.literals.now ≡ self.now.literals }
+        ensures literals { result.literals.now.literals ≡ self.now.literals }
     {
         Covered {
             nodes: &self.nodes,
             first: self.first,
-            literals: self.literals.as_slice(),
+            literals: &self.literals,
         }
     }
 }

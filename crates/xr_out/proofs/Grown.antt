@@ -49,3 +49,11 @@ own_name-last (part ∷ []) d lt = refl
 own_name-last (part ∷ next ∷ parts) d lt =
     let here : length (part ∷ next ∷ parts) - 1 ≡ suc (length (next ∷ parts) - 1) = omega arith in
     rw here (own_name-last (next ∷ parts) d (omega arith))
+
+-- Five parts, each put behind those before.
+pub five_put : (a b c d e one two three four five : List ℕ) → one ≡ a → two ≡ one ++ b → three ≡ two ++ c → four ≡ three ++ d
+    → five ≡ four ++ e → five ≡ a ++ b ++ c ++ d ++ e
+five_put a b c d e one two three four five first second third fourth fifth =
+    fifth
+    ∙ ap (λ (t : List ℕ). t ++ e) (fourth ∙ ap (λ (t : List ℕ). t ++ d) (third ∙ ap (λ (t : List ℕ). t ++ c)
+    (second ∙ ap (λ (t : List ℕ). t ++ b) first)))

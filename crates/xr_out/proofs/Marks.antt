@@ -74,7 +74,7 @@ all_letters history step before (net ∷ nets) each =
     rw (here, all_letters history step before nets (λ bit less. each (suc bit) (omega (arith, less)))) refl
 
 -- So do variables that aren't due.
-pub same_unless_due : (history : HistoryView) (binding : Binding) (readers : BitReaders) (rounds moment : ℕ) (due : List ℕ) → All (HasBits history) binding.bound → AreReadersOf history.nets binding readers → KeepLettersIn history readers.variables rounds moment due → SameUnlessDue history binding.bound (last_round rounds moment) (last_round rounds (moment - 1)) due
+pub same_unless_due : (history : HistoryView) (binding : Binding) (readers : BitReaders) (rounds moment : ℕ) (due : List ℕ) → All (HasBits history) binding.bound → AreReadersOf history.nets binding readers → KeepLettersIn history readers.table rounds moment due → SameUnlessDue history binding.bound (last_round rounds moment) (last_round rounds (moment - 1)) due
 same_unless_due history binding readers rounds moment due has are kept number within clear =
     let bits = (bound_at binding number).bits in
     all_letters history (last_round rounds moment) (last_round rounds (moment - 1)) bits

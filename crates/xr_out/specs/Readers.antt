@@ -1,4 +1,4 @@
--- The bound variables by the nets of their bits, and what those that aren't due show.
+-- What has which net among its bits, and what of it isn't due.
 use Rattle.std.specs.Prelude.{◌≡◌, ℕ, ◌-◌, ◌<◌, ◌≤◌, ◌^◌, true, false, List, Contains, length, slice_index_or}
 use Rattle.xr_design.specs.History.{HistoryView}
 use Rattle.xr_design.specs.Settled.{last_round}
@@ -15,12 +15,12 @@ use Rattle.xr_out.specs.declared.readers.BitReaders.{BitReaders}
 pub record FitsReaders (nets : ℕ) (readers : BitReaders) : Type 0 where
   pub small : readers.room ≤ 2 ^ 20
   pub inside : nets ≤ readers.room
-  pub table : IsTable readers.room readers.variables
+  pub table : IsTable readers.room readers.table
 
 -- They have each bit of a binding.
 pub record AreReadersOf (nets : ℕ) (binding : Binding) (readers : BitReaders) : Type 0 where
   pub fits : FitsReaders nets readers
-  pub bits : AreBitReaders binding readers.variables
+  pub bits : AreBitReaders binding readers.table
 
 -- Each net has at a step the letter that it has at an earlier one, or its readers are due.
 abbrev pub KeepLetters : HistoryView → ReadersView → ℕ → ℕ → List ℕ → Type 0

@@ -8,17 +8,17 @@ ghost use Rattle.xr_out.specs.Steps.{HasBits, HasNets, HasStep};
 
 use crate::code::put_code;
 use crate::rows::MomentRows;
+use crate::shown::Shown;
 use xr_base::{Memory, put, put_number};
-use xr_design::HistoryRow;
 use xr_match::Bound;
 use xr_replay_due::Due;
 
 /// Puts the moment at which the rows stand: at the first one every variable, at a later one each that differs from the
 /// moment before.
-pub fn put_moment(
+pub fn put_moment<R: Shown>(
     text: &mut Vec<u8>,
     bound: &[Bound],
-    rows: &MomentRows<'_>,
+    rows: &MomentRows<R>,
     time: u64,
 ) -> Result<(), Memory>
     requires ends { HasEnds rows.now }
@@ -36,11 +36,11 @@ pub fn put_moment(
 
 /// The same at a later moment, where each variable that isn't due shows what it did in the moment before. Costs the
 /// bits of those that are.
-pub fn put_marked(
+pub fn put_marked<R: Shown>(
     text: &mut Vec<u8>,
     bound: &[Bound],
     due: &Due,
-    rows: &MomentRows<'_>,
+    rows: &MomentRows<R>,
     time: u64,
 ) -> Result<(), Memory>
     requires later { 0 < rows.now.moment }
@@ -62,10 +62,10 @@ fn put_time(text: &mut Vec<u8>, time: u64) -> Result<(), Memory>
     put(text, b"\n")
 }
 
-fn put_dump(text: &mut Vec<u8>, bound: &[Bound], row: &HistoryRow<'_>) -> Result<(), Memory>
-    requires step { HasStep row.now.history row.now.step }
-    requires bits { All (HasBits row.now.history) bound.now }
-    ensures { let lines = spec.dump_lines row.now.history row.now.step bound.now in
+fn put_dump<R: Shown>(text: &mut Vec<u8>, bound: &[Bound], row: &R) -> Result<(), Memory>
+    requires step { HasStep (R.view row.now).history (R.view row.now).step }
+    requires bits { All (HasBits (R.view row.now).history) bound.now }
+    ensures { let lines = spec.dump_lines (R.view row.now).history (R.view row.now).step bound.now in
         OnOk result (text.new.items ≡ text.old.items ++ lines) }
 {
     put(text, b"$dumpvars\n")?;
@@ -73,10 +73,10 @@ fn put_dump(text: &mut Vec<u8>, bound: &[Bound], row: &HistoryRow<'_>) -> Result
     put(text, b"$end\n")
 }
 
-fn put_values(text: &mut Vec<u8>, bound: &[Bound], row: &HistoryRow<'_>) -> Result<(), Memory>
-    requires step { HasStep row.now.history row.now.step }
-    requires bits { All (HasBits row.now.history) bound.now }
-    ensures { let lines = spec.value_lines row.now.history row.now.step 0 bound.now in
+fn put_values<R: Shown>(text: &mut Vec<u8>, bound: &[Bound], row: &R) -> Result<(), Memory>
+    requires step { HasStep (R.view row.now).history (R.view row.now).step }
+    requires bits { All (HasBits (R.view row.now).history) bound.now }
+    ensures { let lines = spec.value_lines (R.view row.now).history (R.view row.now).step 0 bound.now in
         OnOk result (text.new.items ≡ text.old.items ++ lines) }
 {
     'variables: for (number, variable) in bound.iter().enumerate() {
@@ -85,7 +85,11 @@ fn put_values(text: &mut Vec<u8>, bound: &[Bound], row: &HistoryRow<'_>) -> Resu
     Ok(())
 }
 
-fn put_changed(text: &mut Vec<u8>, bound: &[Bound], rows: &MomentRows<'_>) -> Result<(), Memory>
+fn put_changed<R: Shown>(
+    text: &mut Vec<u8>,
+    bound: &[Bound],
+    rows: &MomentRows<R>,
+) -> Result<(), Memory>
     requires ends { HasEnds rows.now }
     requires bits { All (HasBits rows.now.history) bound.now }
     ensures { let lines = spec.changed_lines rows.now.history (moment_end rows.now) (end_before rows.now) 0 bound.now in
@@ -98,11 +102,11 @@ fn put_changed(text: &mut Vec<u8>, bound: &[Bound], rows: &MomentRows<'_>) -> Re
 }
 
 /// The same, where each variable that isn't due shows the same at both steps.
-fn put_due(
+fn put_due<R: Shown>(
     text: &mut Vec<u8>,
     bound: &[Bound],
     due: &Due,
-    rows: &MomentRows<'_>,
+    rows: &MomentRows<R>,
 ) -> Result<(), Memory>
     requires ends { HasEnds rows.now }
     requires bits { All (HasBits rows.now.history) bound.now }
@@ -119,11 +123,11 @@ fn put_due(
 }
 
 /// The value of a variable whose bits are these nets, where it is another than at the step before.
-fn put_change(
+fn put_change<R: Shown>(
     text: &mut Vec<u8>,
     number: usize,
     nets: &[u32],
-    rows: &MomentRows<'_>,
+    rows: &MomentRows<R>,
 ) -> Result<(), Memory>
     requires ends { HasEnds rows.now }
     requires nets { HasNets rows.now.history nets.now }
@@ -138,12 +142,12 @@ fn put_change(
 }
 
 /// Whether each bit shows the same in two rows of a history.
-fn is_same(bits: &[u32], row: &HistoryRow<'_>, before: &HistoryRow<'_>) -> bool
-    requires one { before.now.history ≡ row.now.history }
-    requires step { HasStep row.now.history row.now.step }
-    requires before { HasStep row.now.history before.now.step }
-    requires bits { All (λ net. net < row.now.history.nets) bits.now }
-    ensures { result ≡ spec.are_same row.now.history row.now.step before.now.step bits.now }
+fn is_same<R: Shown>(bits: &[u32], row: &R, before: &R) -> bool
+    requires one { (R.view before.now).history ≡ (R.view row.now).history }
+    requires step { HasStep (R.view row.now).history (R.view row.now).step }
+    requires before { HasStep (R.view row.now).history (R.view before.now).step }
+    requires bits { All (λ net. net < (R.view row.now).history.nets) bits.now }
+    ensures { result ≡ spec.are_same (R.view row.now).history (R.view row.now).step (R.view before.now).step bits.now }
 {
     'bits: for net in bits {
         if letter_at(row, *net) != letter_at(before, *net) {
@@ -153,24 +157,24 @@ fn is_same(bits: &[u32], row: &HistoryRow<'_>, before: &HistoryRow<'_>) -> bool
     true
 }
 
-fn letter_at(row: &HistoryRow<'_>, net: u32) -> u8
-    requires step { HasStep row.now.history row.now.step }
-    requires net { net < row.now.history.nets }
-    ensures { result ≡ spec.letter_at row.now.history row.now.step net }
+fn letter_at<R: Shown>(row: &R, net: u32) -> u8
+    requires step { HasStep (R.view row.now).history (R.view row.now).step }
+    requires net { net < (R.view row.now).history.nets }
+    ensures { result ≡ spec.letter_at (R.view row.now).history (R.view row.now).step net }
 {
     row.shown(net).letter()
 }
 
 // value = digit code | "b" digit { digit } " " code
-fn put_value(
+fn put_value<R: Shown>(
     text: &mut Vec<u8>,
     number: usize,
     nets: &[u32],
-    row: &HistoryRow<'_>,
+    row: &R,
 ) -> Result<(), Memory>
-    requires step { HasStep row.now.history row.now.step }
-    requires nets { HasNets row.now.history nets.now }
-    ensures { let line = spec.value_line row.now.history row.now.step number nets.now in
+    requires step { HasStep (R.view row.now).history (R.view row.now).step }
+    requires nets { HasNets (R.view row.now).history nets.now }
+    ensures { let line = spec.value_line (R.view row.now).history (R.view row.now).step number nets.now in
         OnOk result (text.new.items ≡ text.old.items ++ line) }
 {
     if nets.len() == 1 {
@@ -184,10 +188,10 @@ fn put_value(
     put(text, b"\n")
 }
 
-fn put_letters(text: &mut Vec<u8>, bits: &[u32], row: &HistoryRow<'_>) -> Result<(), Memory>
-    requires step { HasStep row.now.history row.now.step }
-    requires bits { All (λ net. net < row.now.history.nets) bits.now }
-    ensures { let letters = map (spec.letter_at row.now.history row.now.step) bits.now in
+fn put_letters<R: Shown>(text: &mut Vec<u8>, bits: &[u32], row: &R) -> Result<(), Memory>
+    requires step { HasStep (R.view row.now).history (R.view row.now).step }
+    requires bits { All (λ net. net < (R.view row.now).history.nets) bits.now }
+    ensures { let letters = map (spec.letter_at (R.view row.now).history (R.view row.now).step) bits.now in
         OnOk result (text.new.items ≡ text.old.items ++ letters) }
 {
     'bits: for net in bits {

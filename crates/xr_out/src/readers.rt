@@ -1,4 +1,4 @@
-//! The bound variables by the nets of their bits.
+//! What has a net among its bits.
 
 ghost use Rattle.std.specs.Prelude.{◌≤◌, ◌^◌, IfOk, IfSome, length};
 ghost use Rattle.xr_match.specs.Binding.{FitsBinding};
@@ -13,16 +13,16 @@ use xr_replay_due::Readers;
 
 const MOST_BOUND: usize = 1 << 20;
 
-/// For each net the numbers of the bound variables that have it among their bits. No net and no such number is as great
+/// For each net the numbers of what has it among its bits, as of bound variables. No net and no such number is as great
 /// as `room`.
 #[derive(Debug, Drop)]
 pub struct BitReaders {
     pub room: usize,
-    pub variables: Readers,
+    pub table: Readers,
 }
 
 impl BitReaders {
-    /// Those of a binding; none where there are more than 2^20 bound variables. Takes 8 bytes for each net, or for each
+    /// The bound variables of a binding; none where there are more than 2^20. Takes 8 bytes for each net, or for each
     /// bound variable where there are more of these, and 4 for each bit; on the way 16 more for each. With more than
     /// 2^32 bits it answers `Memory`.
     pub fn of(alloc: Global, design: &Design, bound: &Binding) -> Result<Option<BitReaders>, Memory>
@@ -35,7 +35,7 @@ impl BitReaders {
             return Ok(None);
         }
         let room = design.nets.as_slice().len().max(count);
-        let variables = bit_readers(alloc, room, bound)?;
-        Ok(Some(BitReaders { room, variables }))
+        let table = bit_readers(alloc, room, bound)?;
+        Ok(Some(BitReaders { room, table }))
     }
 }

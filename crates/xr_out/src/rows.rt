@@ -1,49 +1,52 @@
-//! Two rows of a history that go on from moment to moment.
+//! Two rows that go on from moment to moment.
 
-ghost use Rattle.std.specs.Prelude.{◌≡◌, ◌+◌, ◌<◌, ◌≤◌, ◌^◌, IfOk};
+ghost use Rattle.std.specs.Prelude.{◌≡◌, ◌+◌, ◌<◌, ◌≤◌, ◌^◌};
 ghost use Rattle.xr_design.specs.Settled as settled;
 ghost use Rattle.xr_out.specs.Rows as spec;
 
-use std::alloc::Global;
+use crate::shown::Shown;
 use std::marker::Model;
-use xr_base::Memory;
-use xr_design::{History, HistoryRow};
 
-/// The row of a history at the last step of a moment, and that at the last step of the moment before. Contracts see the
-/// history, how many rounds each moment has, and the moment.
-#[derive(Debug, Drop)]
-pub struct MomentRows<'a> {
+/// The row of what is shown at the last step of a moment, and that at the last step of the moment before. Contracts see
+/// the history that they show, how many rounds each moment has, and the moment.
+#[derive(Drop)]
+pub struct MomentRows<R: Shown> {
     rounds: u32,
     moment: u32,
-    row: HistoryRow<'a>,
-    before: HistoryRow<'a>,
+    row: R,
+    before: R,
 }
 
-impl<'a> Model for MomentRows<'a> {
+impl<R: Shown> Model for MomentRows<R> {
     ghost use Rattle.xr_out.specs.Rows.{MomentView, StandAt, moment_view};
 
     ghost Value = { MomentView };
 
-    ghost view = { λ r. moment_view r.row.history r.rounds r.moment };
+    ghost view = { λ r. moment_view (R.view r.row).history r.rounds r.moment };
 
-    ghost invariant = { λ r. StandAt (moment_view r.row.history r.rounds r.moment) r.row r.before };
+    ghost invariant = { λ r. StandAt (moment_view (R.view r.row).history r.rounds r.moment) (R.view r.row)
+        (R.view r.before) };
 }
 
-impl<'a> MomentRows<'a> {
-    /// The rows of the first moment, both at its last step. Takes 2 bytes for each net.
-    pub fn first(alloc: Global, history: &'a History, rounds: u32) -> Result<MomentRows<'a>, Memory>
-        requires { 0 < rounds }
-        ensures { IfOk result (λ rows. rows ≡ spec.moment_view history.now rounds 0) }
+impl<R: Shown> MomentRows<R> {
+    /// The rows of the first moment, both at its last step, from two at the first step of one history.
+    pub fn first(row: R, before: R, rounds: u32) -> MomentRows<R>
+        requires some { 0 < rounds }
+        requires first { (R.view row).step ≡ 0 }
+        requires one { R.view before ≡ R.view row }
+        ensures { result ≡ spec.moment_view (R.view row).history rounds 0 }
     {
+        let mut row = row;
+        let mut before = before;
         let step = rounds as usize - 1;
-        let row = row_at(alloc, history, step)?;
-        let before = row_at(alloc, history, step)?;
-        Ok(MomentRows {
+        bring_on(&mut row, step);
+        bring_on(&mut before, step);
+        MomentRows {
             rounds,
             moment: 0,
             row,
             before,
-        })
+        }
     }
 
     /// Goes on to the next moment. Costs what is written in it and in the moment before. Takes no memory.
@@ -64,43 +67,26 @@ impl<'a> MomentRows<'a> {
         self.moment
     }
 
-    /// The history. Takes no memory.
-    pub fn history(&self) -> &'a History
-        ensures { result.now ≡ self.now.history }
-    {
-        self.row.history()
-    }
-
     /// The row of the moment's last step. Takes no memory.
-    pub fn row(&self) -> &HistoryRow<'a>
-        ensures { result.now ≡ spec.row_at_step self.now.history (spec.moment_end self.now) }
+    pub fn row(&self) -> &R
+        ensures { R.view result.now ≡ spec.row_at_step self.now.history (spec.moment_end self.now) }
     {
         &self.row
     }
 
     /// That of the moment before; at the first moment, of its own. Takes no memory.
-    pub fn before(&self) -> &HistoryRow<'a>
-        ensures { result.now ≡ spec.row_at_step self.now.history (spec.end_before self.now) }
+    pub fn before(&self) -> &R
+        ensures { R.view result.now ≡ spec.row_at_step self.now.history (spec.end_before self.now) }
     {
         &self.before
     }
 }
 
-/// The row of a history at a step. Costs what is written up to it, and takes a byte for each net.
-fn row_at<'a>(alloc: Global, history: &'a History, step: usize) -> Result<HistoryRow<'a>, Memory>
-    requires { step < 2 ^ 32 }
-    ensures { IfOk result (λ row. row ≡ spec.row_at_step history.now step) }
-{
-    let mut row = HistoryRow::first(alloc, history)?;
-    bring_on(&mut row, step);
-    Ok(row)
-}
-
 /// Brings a row on to a step. Costs what is written on the way.
-fn bring_on(row: &mut HistoryRow<'_>, step: usize)
+fn bring_on<R: Shown>(row: &mut R, step: usize)
     requires small { step < 2 ^ 32 }
-    requires before { row.old.step ≤ step }
-    ensures { row.new ≡ spec.row_at_step row.old.history step }
+    requires before { (R.view row.old).step ≤ step }
+    ensures { R.view row.new ≡ spec.row_at_step (R.view row.old).history step }
 {
     'steps: while row.step() < step {
         row.next_step();

@@ -4,6 +4,7 @@ ghost use Rattle.std.specs.Prelude.{◌≡◌, ◌++◌, ◌<◌, All, OnOk, IfO
 ghost use Rattle.xr_match.specs.Binding.{FitsBinding};
 ghost use Rattle.xr_out.specs.Moments.{lines_from, moment_lines};
 ghost use Rattle.xr_out.specs.Readers.{AreReadersOf};
+ghost use Rattle.xr_out.specs.Rows.{moment_view};
 ghost use Rattle.xr_out.specs.Steps.{HasBits, HasMoments};
 ghost use Rattle.xr_out.specs.Text as spec;
 ghost use Rattle.xr_replay_due.specs.Due.{HasRoomFor};
@@ -14,19 +15,16 @@ use crate::moments::{put_marked, put_moment};
 use crate::puts::put_section;
 use crate::readers::BitReaders;
 use crate::rows::MomentRows;
+use crate::shown::Shown;
 use std::alloc::Global;
 use xr_base::{Memory, put};
-use xr_design::{Bytes, Design, History, Stim};
+use xr_design::{Bytes, Design, History, HistoryRow, Stim};
 use xr_match::{Binding, Bound};
 use xr_replay_due::Due;
 
 /// The text of a recording with what the history shows: its variables, and at each moment the values at its last round.
 ///
-/// Takes the text's bytes, 2 for each net, 8 for each net, or for each bound variable where there are more of these,
-/// and 4 for each bit of one; on the way 16 more for each. With more than 2^32 bits it answers `Memory`. Takes time
-/// linear in the text, in what is written in each moment and in the bits of the variables that have a written one; with
-/// more than 2^20 bound variables, in all bits at each moment.
-#[tactic(auto, unfolding(crate::specs::Text::vcd_text))]
+/// Takes what `text_of_rows` does, and 2 bytes for each net.
 pub fn vcd_text(
     alloc: Global,
     design: &Design,
@@ -38,12 +36,37 @@ pub fn vcd_text(
     requires steps { spec.HasSteps design.now stim.now history.now }
     ensures { IfOk result (λ text. text.items ≡ spec.vcd_text design.now bound.now stim.now history.now) }
 {
+    let row = HistoryRow::first(alloc, history)?;
+    let before = HistoryRow::first(alloc, history)?;
+    let rows = MomentRows::first(row, before, stim.rounds);
+    text_of_rows(alloc, design, bound, stim, rows)
+}
+
+/// The same of the history that rows show, which stand at the first moment.
+///
+/// Takes the text's bytes, 8 for each net, or for each bound variable where there are more of these, and 4 for each bit
+/// of one; on the way 16 more for each. With more than 2^32 bits it answers `Memory`. Takes time linear in the text, in
+/// what is written in each moment and in the bits of the variables that have a written one; with more than 2^20 bound
+/// variables, in all bits at each moment.
+#[tactic(auto, unfolding(crate::specs::Text::vcd_text))]
+pub fn text_of_rows<R: Shown>(
+    alloc: Global,
+    design: &Design,
+    bound: &Binding,
+    stim: &Stim,
+    rows: MomentRows<R>,
+) -> Result<Vec<u8>, Memory>
+    requires binding { FitsBinding design.now bound.now }
+    requires steps { spec.HasSteps design.now stim.now rows.history }
+    requires first { rows ≡ moment_view rows.history stim.now.rounds 0 }
+    ensures { IfOk result (λ text. text.items ≡ spec.vcd_text design.now bound.now stim.now rows.history) }
+{
     let mut text = Vec::new(alloc);
     put(&mut text, b"$version xrepair $end\n")?;
     put_timescale(&mut text, &bound.timescale)?;
     put_declarations(&mut text, design, bound.bound.as_slice())?;
     put(&mut text, b"$enddefinitions $end\n")?;
-    put_moments(alloc, &mut text, design, bound, stim, history)?;
+    put_moments(alloc, &mut text, design, bound, stim, rows)?;
     Ok(text)
 }
 
@@ -57,39 +80,40 @@ fn put_timescale(text: &mut Vec<u8>, timescale: &Option<Bytes>) -> Result<(), Me
 }
 
 /// The moments: by what is written in each, or as a whole where too many variables are bound.
-fn put_moments(
+fn put_moments<R: Shown>(
     alloc: Global,
     text: &mut Vec<u8>,
     design: &Design,
     bound: &Binding,
     stim: &Stim,
-    history: &History,
+    rows: MomentRows<R>,
 ) -> Result<(), Memory>
     requires binding { FitsBinding design.now bound.now }
-    requires steps { spec.HasSteps design.now stim.now history.now }
-    ensures { let lines = lines_from history.now stim.now.rounds bound.now.bound 0 stim.now.times in
+    requires steps { spec.HasSteps design.now stim.now rows.history }
+    requires first { rows ≡ moment_view rows.history stim.now.rounds 0 }
+    ensures { let lines = lines_from rows.history stim.now.rounds bound.now.bound 0 stim.now.times in
         OnOk result (text.new.items ≡ text.old.items ++ lines) }
 {
     match BitReaders::of(alloc, design, bound)? {
-        Some(readers) => put_changes(alloc, text, bound, &readers, stim, history),
-        None => put_whole(alloc, text, bound.bound.as_slice(), stim, history),
+        Some(readers) => put_changes(alloc, text, bound, &readers, stim, rows),
+        None => put_whole(text, bound.bound.as_slice(), stim, rows),
     }
 }
 
 /// The moments, each as a whole.
-fn put_whole(
-    alloc: Global,
+fn put_whole<R: Shown>(
     text: &mut Vec<u8>,
     bound: &[Bound],
     stim: &Stim,
-    history: &History,
+    rows: MomentRows<R>,
 ) -> Result<(), Memory>
-    requires moments { HasMoments history.now (length stim.now.times) stim.now.rounds }
-    requires bits { All (HasBits history.now) bound.now }
-    ensures { let lines = lines_from history.now stim.now.rounds bound.now 0 stim.now.times in
+    requires moments { HasMoments rows.history (length stim.now.times) stim.now.rounds }
+    requires bits { All (HasBits rows.history) bound.now }
+    requires first { rows ≡ moment_view rows.history stim.now.rounds 0 }
+    ensures { let lines = lines_from rows.history stim.now.rounds bound.now 0 stim.now.times in
         OnOk result (text.new.items ≡ text.old.items ++ lines) }
 {
-    let mut rows = MomentRows::first(alloc, history, stim.rounds)?;
+    let mut rows = rows;
     'moments: for time in stim.times.as_slice() {
         put_moment(text, bound, &rows, *time)?;
         rows.next_moment();
@@ -98,22 +122,23 @@ fn put_whole(
 }
 
 /// The moments, each by what is written in it.
-fn put_changes(
+fn put_changes<R: Shown>(
     alloc: Global,
     text: &mut Vec<u8>,
     bound: &Binding,
     readers: &BitReaders,
     stim: &Stim,
-    history: &History,
+    rows: MomentRows<R>,
 ) -> Result<(), Memory>
-    requires readers { AreReadersOf history.now.nets bound.now readers.now }
-    requires moments { HasMoments history.now (length stim.now.times) stim.now.rounds }
-    requires bits { All (HasBits history.now) bound.now.bound }
-    ensures { let lines = lines_from history.now stim.now.rounds bound.now.bound 0 stim.now.times in
+    requires readers { AreReadersOf rows.history.nets bound.now readers.now }
+    requires moments { HasMoments rows.history (length stim.now.times) stim.now.rounds }
+    requires bits { All (HasBits rows.history) bound.now.bound }
+    requires first { rows ≡ moment_view rows.history stim.now.rounds 0 }
+    ensures { let lines = lines_from rows.history stim.now.rounds bound.now.bound 0 stim.now.times in
         OnOk result (text.new.items ≡ text.old.items ++ lines) }
 {
+    let mut rows = rows;
     let mut due = Due::none(alloc, readers.room)?;
-    let mut rows = MomentRows::first(alloc, history, stim.rounds)?;
     'moments: for time in stim.times.as_slice() {
         put_next(text, bound, readers, &mut due, stim, &rows, *time)?;
         rows.next_moment();
@@ -121,15 +146,15 @@ fn put_changes(
     Ok(())
 }
 
-/// Puts the moment at which the rows stand by what is written in it; as a whole the first one, and one where the
-/// history doesn't tell.
-fn put_next(
+/// Puts the moment at which the rows stand by what is written in it; as a whole the first one, and one where the rows
+/// don't tell.
+fn put_next<R: Shown>(
     text: &mut Vec<u8>,
     bound: &Binding,
     readers: &BitReaders,
     due: &mut Due,
     stim: &Stim,
-    rows: &MomentRows<'_>,
+    rows: &MomentRows<R>,
     time: u64,
 ) -> Result<(), Memory>
     requires readers { AreReadersOf rows.now.history.nets bound.now readers.now }
@@ -143,7 +168,7 @@ fn put_next(
         OnOk result (text.new.items ≡ text.old.items ++ lines) }
 {
     let variables = bound.bound.as_slice();
-    if !mark_moment(readers, stim, rows.history(), rows.moment(), due) {
+    if !mark_moment(readers, stim, rows.row(), rows.moment(), due) {
         return put_moment(text, variables, rows, time);
     }
     put_marked(text, variables, due, rows, time)

@@ -9,11 +9,13 @@ use std::alloc::Global;
 use xr_base::Memory;
 use xr_cone::Cones;
 use xr_guess::Guesser;
+use xr_pool::Pool;
 
-/// What places depend on, guesses about them, and the answers of searches.
+/// What places depend on, lanes and guesses about them, and the answers of searches.
 #[derive(Drop)]
 pub struct Aids {
     pub cones: Cones,
+    pub pool: Pool,
     pub guesser: Guesser,
     pub answers: Answers,
 }
@@ -25,6 +27,7 @@ impl Aids {
     {
         Ok(Aids {
             cones: Cones::new(alloc)?,
+            pool: Pool::new(alloc),
             guesser: Guesser::new(alloc),
             answers: Answers::new(alloc),
         })

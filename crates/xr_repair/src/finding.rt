@@ -16,6 +16,7 @@ use crate::earlier::find_by_log;
 use crate::fillings::try_fillings;
 use crate::found::Found;
 use crate::guessed::find_guessed;
+use crate::pooled::find_pooled;
 use crate::search::search;
 use std::alloc::Global;
 use xr_base::Memory;
@@ -82,7 +83,7 @@ fn find_by_earlier(
     }
 }
 
-/// The same by the tables that nodes share, or else by a guess or its cone. They come before it, since a guess
+/// The same by the tables that nodes share, or else by the pool, a guess or its cone. They come before it, since a guess
 /// reads a node again for each place, and tables once.
 #[tactic(auto, using(crate::proofs::Searching::pair_accepted))]
 fn find_by_tables(alloc: Global, wave: &Wave<'_>, aids: &mut Aids) -> Result<Found, Memory>
@@ -95,8 +96,23 @@ fn find_by_tables(alloc: Global, wave: &Wave<'_>, aids: &mut Aids) -> Result<Fou
     match aids.cones.lanes.find_shared(alloc, wave)? {
         Shown::Pair(pair) => Ok(Found::Pair(pair)),
         Shown::Settled(settled) => Ok(Found::Settled(settled)),
-        Shown::Earlier(_) => find_by_guess(alloc, wave, aids),
-        Shown::Nothing => find_by_guess(alloc, wave, aids),
+        Shown::Earlier(_) => find_by_pool(alloc, wave, aids),
+        Shown::Nothing => find_by_pool(alloc, wave, aids),
+    }
+}
+
+/// The same by a lane of the pool, if a test shows that it is right, or else by a guess or its cone.
+#[tactic(auto, using(crate::proofs::Searching::pair_accepted))]
+fn find_by_pool(alloc: Global, wave: &Wave<'_>, aids: &mut Aids) -> Result<Found, Memory>
+    requires class { IsLineNext wave.now }
+    requires right { AreRightOf wave.now aids.old }
+    requires looked { IsLookedAt wave.now aids.old.cones.lanes }
+    ensures shown { IfOk result (IsShown wave.now) }
+    ensures right { OnOk result (AreRightOf wave.now aids.new) }
+{
+    match find_pooled(alloc, wave, &mut aids.cones, &mut aids.pool)? {
+        Some(found) => Ok(found),
+        None => find_by_guess(alloc, wave, aids),
     }
 }
 
@@ -109,7 +125,13 @@ fn find_by_guess(alloc: Global, wave: &Wave<'_>, aids: &mut Aids) -> Result<Foun
     ensures shown { IfOk result (IsShown wave.now) }
     ensures right { OnOk result (AreRightOf wave.now aids.new) }
 {
-    match find_guessed(alloc, wave, &mut aids.cones, &mut aids.guesser)? {
+    match find_guessed(
+        alloc,
+        wave,
+        &mut aids.cones,
+        &mut aids.pool,
+        &mut aids.guesser,
+    )? {
         Some(found) => Ok(found),
         None => find_by_cone(alloc, wave, aids),
     }

@@ -10,6 +10,7 @@ ghost use Rattle.xr_repair.specs.Step.{IsShown};
 ghost use Rattle.xr_wave.specs.Token.{IsLineNext};
 
 use crate::found::Found;
+use crate::pooled::take_filling;
 use crate::search::settled_by;
 use std::alloc::Global;
 use xr_base::Memory;
@@ -17,6 +18,7 @@ use xr_cnf::clauses;
 use xr_cone::{Cone, Cones, Lanes};
 use xr_guess::{Guess, Guesser, NodeBit, given_by, log_of};
 use xr_pair::try_lanes;
+use xr_pool::Pool;
 use xr_proof::{Checker, Cnf, Log};
 use xr_wave::Wave;
 
@@ -36,6 +38,7 @@ pub fn find_guessed(
     alloc: Global,
     wave: &Wave<'_>,
     cones: &mut Cones,
+    pool: &mut Pool,
     guesser: &mut Guesser,
 ) -> Result<Option<Found>, Memory>
     requires class { IsLineNext wave.now }
@@ -48,7 +51,10 @@ pub fn find_guessed(
     let few = cones.lanes.has_few_sources(ENUMERATED);
     let conflicts = conflicts_for(few, wave.limit());
     match guess_other(alloc, &cones.lanes, guesser, conflicts)? {
-        Guess::Filling(ones) => find_by_filling(alloc, wave, cones, &ones),
+        Guess::Filling(ones) => {
+            take_filling(alloc, &cones.lanes, pool, &ones)?;
+            find_by_filling(alloc, wave, cones, &ones)
+        }
         Guess::Log(learned) => {
             if few {
                 return Ok(None);
@@ -82,7 +88,7 @@ fn guess_other(
 }
 
 /// The node of the next place with that bit.
-fn wanted(lanes: &Lanes) -> Option<NodeBit> {
+pub fn wanted(lanes: &Lanes) -> Option<NodeBit> {
     let node = lanes.next_node()?;
     let bit = lanes.empty_bit()?;
     Some(NodeBit { node, bit: !bit })
@@ -91,7 +97,7 @@ fn wanted(lanes: &Lanes) -> Option<NodeBit> {
 /// What a filling shows of the next place, in which some nodes of the graph have 1: two fillings, if it gives that place
 /// another bit than the empty one.
 #[tactic(auto, using(crate::proofs::Searching::pair_accepted))]
-fn find_by_filling(
+pub fn find_by_filling(
     alloc: Global,
     wave: &Wave<'_>,
     cones: &mut Cones,

@@ -1,5 +1,5 @@
 -- Counts of places that grow by one place, and by a step.
-use Rattle.std.proofs.Common.{◌≡◌, ℕ, zero, suc, ◌+◌, ◌*◌, ◌<◌, Bool, List, [], ◌∷◌, ◌++◌, length, refl, sym, ap, ◌∙◌, arith, add-one, add-zero}
+use Rattle.std.proofs.Common.{◌≡◌, ℕ, zero, suc, ◌+◌, ◌*◌, Bool, List, [], ◌∷◌, ◌++◌, length, refl, sym, ap, ◌∙◌, arith, add-one, add-zero}
 use Rattle.std.proofs.lemmas.List.Sums.{sum_by_push}
 use Rattle.std.specs.List.{range_with_len}
 use Rattle.xr_cell.specs.declared.value.Value.{Value}
@@ -15,7 +15,7 @@ use Rattle.xr_report.specs.declared.counts.Counts.{Counts}
 use Rattle.xr_wave.specs.Contents.{Contents, job, shown_in}
 
 -- one where the place of a number passes a test
-abbrev one_at : (Mark → Value → Bool) → Contents → ℕ → ℕ
+abbrev pub one_at : (Mark → Value → Bool) → Contents → ℕ → ℕ
 one_at test c number = one_if (test (written_at c.written number).mark (shown_in c number))
 
 range_more : (a n : ℕ) → range_with_len a (suc n) ≡ range_with_len a n ++ (a + n) ∷ []
@@ -24,7 +24,7 @@ range_more a (suc n) =
     let e : a + 1 + n ≡ a + suc n = omega arith in
     ap (λ (l : List ℕ). a ∷ l) (range_more (a + 1) n ∙ ap (λ (m : ℕ). range_with_len (a + 1) n ++ m ∷ []) e)
 
-among_more : (test : Mark → Value → Bool) (c : Contents) (first n : ℕ)
+pub among_more : (test : Mark → Value → Bool) (c : Contents) (first n : ℕ)
     → count_among test c first (n + 1) ≡ count_among test c first n + one_at test c (first + n)
 among_more test c first n =
     let p : ℕ → Bool = λ place. test (written_at c.written place).mark (shown_in c place) in
@@ -59,15 +59,6 @@ pub counted : (c : Contents) (number : ℕ) (place : Place) (counts grown : Coun
 counted c number place counts grown mark shown place_is counts_are mark_is shown_is grown_is =
     let shown_at : shown ≡ shown_in c number = shown_is ∙ ap (λ p. (held_in c.history p).shown) place_is in
     rw (grown_is, counts_are, mark_is, shown_at) (sym (counts_more c number))
-
--- So do those from a number on.
-pub counted_among : (c : Contents) (first n : ℕ) (place : Place) (counts grown : Counts) (mark : Mark) (shown : Value)
-    → place ≡ place_at (job c) (first + n) → counts ≡ counts_among c first n
-    → mark ≡ (written_at c.written (first + n)).mark → shown ≡ (held_in c.history place).shown
-    → grown ≡ with_place counts mark shown → grown ≡ counts_among c first (n + 1)
-counted_among c first n place counts grown mark shown place_is counts_are mark_is shown_is grown_is =
-    let shown_at : shown ≡ shown_in c (first + n) = shown_is ∙ ap (λ p. (held_in c.history p).shown) place_is in
-    rw (grown_is, counts_are, mark_is, shown_at) (sym (among_counts c first n))
 
 -- A place more is counted once.
 pub total_more : (counts : Counts) (mark : Mark) (shown : Value)
@@ -123,32 +114,3 @@ counted_step c step counts more grown counts_are more_is grown_is =
     grown_is ∙ ap (λ (k : Counts). with_counts k more) counts_are
     ∙ ap (λ (k : Counts). with_counts (counts_below c (step * w)) k) more_is ∙ sym (counts_split c (step * w) w)
     ∙ ap (counts_below c) next
-
--- Places with the same marks, at which the history shows the same, count the same.
-among_same : (test : Mark → Value → Bool) (c : Contents) (first other n : ℕ)
-    → ((p : ℕ) → p < n → (written_at c.written (first + p)).mark ≡ (written_at c.written (other + p)).mark)
-    → ((p : ℕ) → p < n → shown_in c (first + p) ≡ shown_in c (other + p))
-    → count_among test c first n ≡ count_among test c other n
-among_same test c first other zero marks shown = refl
-among_same test c first other (suc n) marks shown =
-    let mark = marks n (omega arith) in
-    let value = shown n (omega arith) in
-    let rest = among_same test c first other n (λ p less. marks p (omega (arith, less)))
-    (λ p less. shown p (omega (arith, less))) in
-    let here : one_at test c (first + n) ≡ one_at test c (other + n) =
-    ap (λ (m : Mark). one_if (test m (shown_in c (first + n)))) mark
-    ∙ ap (λ (v : Value). one_if (test (written_at c.written (other + n)).mark v)) value in
-    ap (count_among test c first) (sym (add-one n)) ∙ among_more test c first n
-    ∙ ap (λ (k : ℕ). k + one_at test c (first + n)) rest ∙ ap (λ (k : ℕ). count_among test c other n + k) here
-    ∙ sym (ap (count_among test c other) (sym (add-one n)) ∙ among_more test c other n)
-
-pub counts_same : (c : Contents) (first other n : ℕ)
-    → ((p : ℕ) → p < n → (written_at c.written (first + p)).mark ≡ (written_at c.written (other + p)).mark)
-    → ((p : ℕ) → p < n → shown_in c (first + p) ≡ shown_in c (other + p))
-    → counts_among c first n ≡ counts_among c other n
-counts_same c first other n marks shown =
-    let known = among_same is_known_place c first other n marks shown in
-    let repaired = among_same is_repaired c first other n marks shown in
-    let unknown = among_same (λ mark shown. is_unknown_mark mark) c first other n marks shown in
-    let undecided = among_same (λ mark shown. is_undecided mark) c first other n marks shown in
-    rw (known, repaired, unknown, undecided) refl

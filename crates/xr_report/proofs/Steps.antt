@@ -1,5 +1,5 @@
 -- Places by the steps and positions at which they stand.
-use Rattle.std.proofs.Common.{◌≡◌, ℕ, ◌+◌, ◌-◌, ◌*◌, ◌<◌, ◌≤◌, ◌^◌, length, sym, ap, ◌∙◌, subst, arith, ⊎_elim}
+use Rattle.std.proofs.Common.{◌≡◌, ℕ, ◌+◌, ◌*◌, ◌<◌, ◌≤◌, ◌^◌, length, sym, ap, ◌∙◌, subst, arith, ⊎_elim}
 use Rattle.std.proofs.Math.Nat.{mul_comm, mul-le-mul_right}
 use Rattle.std.proofs.lemmas.Bool.{cases_lt}
 use Rattle.std.proofs.lemmas.Nat.{div-mul-add, mod-mul-add}
@@ -8,19 +8,15 @@ use Rattle.xr_cell.specs.declared.value.Value.{Value}
 use Rattle.xr_design.specs.Fits.{place_at}
 use Rattle.xr_design.specs.History.{HasPlace, HistoryView, held_in, net_place}
 use Rattle.xr_design.specs.Job.{Job, net_of}
-use Rattle.xr_design.specs.Replay.{Held}
-use Rattle.xr_design.specs.Row.{IsBlankAt, RowView}
+use Rattle.xr_design.specs.Row.{RowView}
 use Rattle.xr_design.specs.Waveform.{written_at}
 use Rattle.xr_design.specs.declared.place.Place.{Place}
 use Rattle.xr_design.specs.declared.waveform.Written.{Written}
 use Rattle.xr_design.proofs.Numbers.{few_steps}
 use Rattle.xr_design.proofs.Rules.{some_width}
-use Rattle.xr_report.specs.Counts.{counts_in}
-use Rattle.xr_report.specs.Finished.{IsStillAt}
-use Rattle.xr_report.proofs.Counting.{counts_same}
 use Rattle.xr_report.proofs.Reach.{there_at}
 use Rattle.xr_wave.specs.Contents.{Contents, IsWave, job}
-use Rattle.xr_wave.specs.Row.{AreSameFrom, IsWrittenAt, WaveRowView}
+use Rattle.xr_wave.specs.Row.{IsWrittenAt, WaveRowView}
 
 -- The place at a position of a step.
 pub place_in_step : (j : Job) (step position : ℕ) → position < j.width
@@ -70,18 +66,6 @@ module _ (c : Contents) (wave : IsWave c) where
       subst (λ (p : Place). HasPlace c.history p) (place_in_step (job c) step position low)
       (there_at c wave (step * w + position) reached).history
 
-  -- A step at which nothing is written anew counts as the one before.
-  pub repeated : (step : ℕ) → (step + 1) * length c.design.nets ≤ length c.written
-      → AreSameFrom (job c) c.written step 0 (length c.design.nets) → IsStillAt c.history step
-      → counts_in c step ≡ counts_in c (step - 1)
-  repeated step whole same still =
-      let w = length c.design.nets in
-      counts_same c (step * w) ((step - 1) * w) w (λ p low. ap (λ (x : Written). x.mark) (same p (omega arith) low))
-      (λ p low.
-      ap (λ (q : Place). (held_in c.history q).shown) (place_in_step (job c) step p low)
-      ∙ ap (λ (h : Held). h.shown) (still (slice_index c.order p) (position_there step p whole low))
-      ∙ ap (λ (q : Place). (held_in c.history q).shown) (sym (place_in_step (job c) (step - 1) p low)))
-
 -- What the row of a wave has at a position of its step.
 module _ (c : Contents) (row : WaveRowView) (step : ℕ) (is : row.wave ≡ c) (stands : row.step ≡ step) where
   pub row_written : (position : ℕ) → (step + 1) * length c.design.nets ≤ length c.written
@@ -110,11 +94,3 @@ module _ (c : Contents) (row : RowView) (step : ℕ) (is : row.history ≡ c.his
   row_shown net shown it_is =
       it_is ∙ ap (λ (h : HistoryView). (held_in h (net_place row.step net)).shown) is
       ∙ ap (λ (s : ℕ). (held_in c.history (net_place s net)).shown) stands
-
--- A step of a history that is blank as the one before.
-pub blank_still : (history : HistoryView) (step : ℕ) → IsBlankAt history step → IsBlankAt history (step - 1)
-    → IsStillAt history step
-blank_still history step here before net has =
-    let low : (step - 1) * history.nets ≤ step * history.nets = mul-le-mul_right history.nets (omega arith) in
-    let within = has.step in
-    here net has ∙ sym (before net (record { net = has.net; step = omega (arith, low, within) }))

@@ -1,8 +1,10 @@
 -- Definitions of the report of a repair.
 pub mod Bits
 pub mod Counts
+pub mod Ends
 pub mod Finished
 pub mod Head
+pub mod Marked
 pub mod Names
 pub mod Report
 pub mod Told

@@ -2,15 +2,19 @@
 
 ghost use Rattle.std.specs.Prelude.{◌≡◌, ◌<◌, ◌++◌, true, OnOk, IfOk, length};
 ghost use Rattle.xr_cell.specs.Value.{is_unknown};
+ghost use Rattle.xr_design.specs.Settled.{last_step};
 ghost use Rattle.xr_match.specs.Binding.{FitsBinding};
 ghost use Rattle.xr_match.specs.BoundBits.{IsBitOf};
-ghost use Rattle.xr_wave.specs.Contents.{IsFinished};
+ghost use Rattle.xr_wave.specs.Contents.{IsFinished, job};
 ghost use Rattle.xr_report.specs.Bits as spec;
 ghost use Rattle.xr_report.specs.Finished.{HasMoments, IsReaderOf};
+ghost use Rattle.xr_report.specs.Marked.{is_unknown_at};
 ghost use Rattle.xr_report.specs.Told.{told_result, told_text};
 
 use crate::lines::ReportLines;
+use crate::marked::put_moments;
 use crate::names::Names;
+use crate::nets::BitNets;
 use crate::row::bring;
 use crate::rows::{Rows, bring_rows, first_rows, told_in};
 use crate::told::{Told, is_told, last_step};
@@ -31,9 +35,10 @@ pub struct Reader<'w, 'a> {
 /// The lines of a report, moment by moment: one for each bit of a bound variable whose recorded value is x or z, where
 /// it is told, with what the wave has at the moment's last round. The recorded value is what the history shows there.
 ///
-/// Takes the text's bytes, those of the name of each net that has a line, once, and 36 bytes for each net; and time
-/// linear in the text, in the bits of all moments and in what the history and the wave write anew.
-#[tactic(auto, unfolding(crate::specs::Bits::bit_lines))]
+/// Takes the text's bytes, those of the name of each net that has a line, once, 44 bytes for each net, or 8 of these for
+/// each bit where there are more bits, and 8 for each bit; on the way 24 more for each. Takes time linear in the text, in
+/// the bits of one moment, in those of all moments of which x or z is recorded and in what the history and the wave
+/// write anew; with more than 2^20 bits, in the bits of all moments.
 pub fn bit_lines(
     alloc: Global,
     wave: &Wave<'_>,
@@ -44,15 +49,57 @@ pub fn bit_lines(
     requires binding { FitsBinding wave.now.design bound.now }
     ensures { IfOk result (λ text. text.items ≡ spec.bit_lines wave.now bound.now lines) }
 {
-    // With it comes the fact that the history has the places of the wave.
-    let _count = wave.count();
     let mut text = Vec::new(alloc);
     let mut reader = new_reader(alloc, wave)?;
+    put_bits(alloc, &mut text, wave, lines, &mut reader, bound)?;
+    Ok(text)
+}
+
+/// The lines: by what is written in each moment, or by all bits of each where there are too many.
+fn put_bits<'w, 'a>(
+    alloc: Global,
+    text: &mut Vec<u8>,
+    wave: &'w Wave<'a>,
+    lines: ReportLines,
+    reader: &mut Reader<'w, 'a>,
+    bound: &Binding,
+) -> Result<(), Memory>
+    requires finished { IsFinished wave.now }
+    requires binding { FitsBinding wave.now.design bound.now }
+    requires reader { IsReaderOf wave.now reader.old }
+    ensures { OnOk result (text.new.items ≡ text.old.items ++ spec.bit_lines wave.now bound.now lines) }
+{
+    // With it comes the fact that there are few nets.
+    let _circuit = wave.circuit();
+    let found = BitNets::of(alloc, wave.design(), bound)?;
+    match found {
+        Some(bits) => put_moments(alloc, text, wave, lines, reader, &bits),
+        None => put_all(alloc, text, wave, lines, reader, bound),
+    }
+}
+
+/// The lines of all moments, each bit of which is looked at.
+#[tactic(auto, unfolding(crate::specs::Bits::bit_lines))]
+fn put_all<'w, 'a>(
+    alloc: Global,
+    text: &mut Vec<u8>,
+    wave: &'w Wave<'a>,
+    lines: ReportLines,
+    reader: &mut Reader<'w, 'a>,
+    bound: &Binding,
+) -> Result<(), Memory>
+    requires finished { IsFinished wave.now }
+    requires binding { FitsBinding wave.now.design bound.now }
+    requires reader { IsReaderOf wave.now reader.old }
+    ensures { OnOk result (text.new.items ≡ text.old.items ++ spec.bit_lines wave.now bound.now lines) }
+{
+    // With it comes the fact that the history has the places of the wave.
+    let _count = wave.count();
     let mut bits = BoundBits::new(wave.stim(), bound.bound.as_slice());
     'bits: while let Some(bit) = bits.next() {
-        put_bit(alloc, &mut text, wave, lines, &mut reader, bit)?;
+        put_bit(alloc, text, wave, lines, reader, bit)?;
     }
-    Ok(text)
+    Ok(())
 }
 
 /// What the lines are made from, before the first.
@@ -69,27 +116,30 @@ fn new_reader<'w, 'a>(alloc: Global, wave: &'w Wave<'a>) -> Result<Reader<'w, 'a
     })
 }
 
-/// The line of a bit, where x or z is recorded and it is told.
-fn put_bit<'w, 'a>(
+/// The line of a bit, where x or z is recorded and it is told. Gives whether x or z is.
+pub fn put_bit<'w, 'a>(
     alloc: Global,
     text: &mut Vec<u8>,
     wave: &'w Wave<'a>,
     lines: ReportLines,
     reader: &mut Reader<'w, 'a>,
     bit: BoundBit,
-) -> Result<(), Memory>
+) -> Result<bool, Memory>
     requires moments { HasMoments wave.now }
     requires bit { IsBitOf wave.now.design (length wave.now.stim.times) bit }
     requires reader { IsReaderOf wave.now reader.old }
+    ensures unknown { IfOk result
+        (λ unknown. unknown ≡ is_unknown_at wave.now (last_step (job wave.now) bit.moment) bit.net) }
     ensures text { OnOk result (text.new.items ≡ text.old.items ++ spec.bound_line wave.now lines bit) }
     ensures reader { OnOk result (IsReaderOf wave.now reader.new) }
 {
     let step = last_step(wave, bit.moment);
     bring(alloc, &mut reader.here.replayed, step)?;
     if reader.here.replayed.shown(bit.net).is_known() {
-        return Ok(());
+        return Ok(false);
     }
-    put_unknown(alloc, text, wave, lines, reader, bit)
+    put_unknown(alloc, text, wave, lines, reader, bit)?;
+    Ok(true)
 }
 
 /// The line of a bit of which x or z is recorded, where it is told.

@@ -1,15 +1,15 @@
 //! How many places of a wave have which end.
 
-ghost use Rattle.std.specs.Prelude.{◌≡◌, ◌+◌, ◌-◌, ◌*◌, ◌<◌, ◌≤◌, ◌^◌, IfOk, IsTrue, OnOk, length};
-ghost use Rattle.xr_design.specs.Row.{IsBlankAt};
-ghost use Rattle.xr_report.specs.Counts.{counts_below, counts_in, counts_of, total, with_counts, with_place};
-ghost use Rattle.xr_report.specs.Finished.{AreRowsAt, AreRowsOf, IsStillAt};
+ghost use Rattle.std.specs.Prelude.{◌≡◌, ◌+◌, ◌*◌, ◌<◌, ◌≤◌, ◌^◌, IfOk, length};
+ghost use Rattle.xr_report.specs.Counts.{counts_below, counts_of, total, with_counts, with_place};
+ghost use Rattle.xr_report.specs.Ends.{HasEnd, with_end};
 
-use crate::rows::{Rows, bring_rows, first_rows};
+use crate::ends::{End, Ends, end_of};
+use crate::rows::{bring_rows, first_rows};
 use std::alloc::Global;
 use xr_base::Memory;
 use xr_cell::Value;
-use xr_design::{History, Mark, width_of};
+use xr_design::{Mark, width_of};
 use xr_wave::Wave;
 
 /// How many written places have which end.
@@ -31,16 +31,32 @@ impl Counts {
         requires { total self.old < 2 ^ 40 }
         ensures { self.new ≡ with_place self.old mark shown }
     {
-        match mark {
-            Mark::Certain => {
-                if shown.is_known() {
-                    self.known += 1;
-                } else {
-                    self.repaired += 1;
-                }
-            }
-            Mark::Unknown => self.unknown += 1,
-            Mark::Undecided => self.undecided += 1,
+        self.gain(end_of(mark, shown));
+    }
+
+    /// Counts an end more.
+    pub fn gain(&mut self, end: End)
+        requires { total self.old < 2 ^ 40 }
+        ensures { self.new ≡ with_end self.old end }
+    {
+        match end {
+            End::Known => self.known += 1,
+            End::Repaired => self.repaired += 1,
+            End::Unknown => self.unknown += 1,
+            End::Undecided => self.undecided += 1,
+        }
+    }
+
+    /// Counts an end less.
+    pub fn take(&mut self, end: End)
+        requires { HasEnd self.old end }
+        ensures { with_end self.new end ≡ self.old }
+    {
+        match end {
+            End::Known => self.known -= 1,
+            End::Repaired => self.repaired -= 1,
+            End::Unknown => self.unknown -= 1,
+            End::Undecided => self.undecided -= 1,
         }
     }
 
@@ -66,8 +82,8 @@ const NONE: Counts = Counts {
 
 /// How many written places of a wave have which end.
 ///
-/// Takes two bytes for each net, and time linear in the steps and in the places of those at which the wave or its
-/// history writes anything anew.
+/// Takes three bytes for each net, and time linear in the steps, in the nets and in what the wave and its history write
+/// anew.
 pub fn counts_of(alloc: Global, wave: &Wave<'_>) -> Result<Counts, Memory>
     ensures counts { IfOk result (λ counts. counts ≡ counts_of wave.now) }
     ensures all { IfOk result (λ counts. total counts ≡ length wave.now.written) }
@@ -96,82 +112,15 @@ fn count_steps(alloc: Global, wave: &Wave<'_>, steps: usize) -> Result<Counts, M
     // With it comes the fact that the steps are few.
     let _count = wave.count();
     let mut rows = first_rows(alloc, wave)?;
+    let mut ends = Ends::unknown(alloc, width_of(&wave.circuit()))?;
     let mut counts = NONE;
-    let mut last = NONE;
     'steps: for step in 0..steps {
-        last = count_step(alloc, wave, &mut rows, step as u32, last)?;
-        counts.add_counts(last);
+        bring_rows(alloc, wave, &mut rows, step as u32)?;
+        ends.bring(wave, &rows, step as u32);
+        let more = ends.counts();
+        counts.add_counts(more);
     }
     Ok(counts)
-}
-
-/// The counts of a step, given those of the step before, if there is one.
-fn count_step<'w, 'a>(
-    alloc: Global,
-    wave: &'w Wave<'a>,
-    rows: &mut Rows<'w, 'a>,
-    step: u32,
-    before: Counts,
-) -> Result<Counts, Memory>
-    requires whole { (step + 1) * length wave.now.design.nets ≤ length wave.now.written }
-    requires rows { AreRowsOf wave.now rows.old }
-    requires before { 0 < step → before ≡ counts_in wave.now (step - 1) }
-    ensures counts { IfOk result (λ counts. counts ≡ counts_in wave.now step) }
-    ensures rows { OnOk result (AreRowsOf wave.now rows.new) }
-{
-    if step > 0 && is_repeated(wave, step as usize) {
-        return Ok(before);
-    }
-    bring_rows(alloc, wave, rows, step)?;
-    Ok(count_positions(wave, rows, step))
-}
-
-/// Whether the places of a step are known to count as those of the step before: nothing was written anew there.
-fn is_repeated(wave: &Wave<'_>, step: usize) -> bool
-    requires later { 0 < step }
-    requires whole { (step + 1) * length wave.now.design.nets ≤ length wave.now.written }
-    ensures { IsTrue result → counts_in wave.now step ≡ counts_in wave.now (step - 1) }
-{
-    let width = width_of(&wave.circuit());
-    if wave.changed_from(step, 0) < width {
-        return false;
-    }
-    is_still(wave.replayed(), step)
-}
-
-/// Whether each place of a step is known to have what its net has a step before.
-fn is_still(history: &History, step: usize) -> bool
-    requires { 0 < step }
-    ensures { IsTrue result → IsStillAt history.now step }
-{
-    match history.written(step) {
-        Some(changes) => changes.is_empty(),
-        None => step > 1 && is_blank(history, step - 1),
-    }
-}
-
-/// Whether each place of a step is known to be blank.
-fn is_blank(history: &History, step: usize) -> bool
-    requires { 0 < step }
-    ensures { IsTrue result → IsBlankAt history.now step }
-{
-    history.written(step).is_none()
-}
-
-/// The counts of a step at which rows stand. Takes no memory.
-fn count_positions(wave: &Wave<'_>, rows: &Rows<'_, '_>, step: u32) -> Counts
-    requires whole { (step + 1) * length wave.now.design.nets ≤ length wave.now.written }
-    requires rows { AreRowsAt wave.now step rows.now }
-    ensures { result ≡ counts_in wave.now step }
-{
-    let circuit = wave.circuit();
-    let nets = width_of(&circuit);
-    let mut counts = NONE;
-    'positions: for position in 0..nets {
-        let net = circuit.order.net(position as u32);
-        counts.add(rows.wave.written(position).mark, rows.replayed.shown(net));
-    }
-    counts
 }
 
 /// Counts the places from a number on, one by one.

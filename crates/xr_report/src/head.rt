@@ -13,8 +13,8 @@ use xr_wave::Wave;
 /// The first three lines of a report: how many places and moments there are, and how many rounds a moment has; how many
 /// places have which end; how many `force` statements there are, as given, and lines of the certificate.
 ///
-/// Takes the text's bytes and two bytes for each net, and time linear in the steps and in the places of those at which
-/// the wave or its history writes anything anew.
+/// Takes the text's bytes and three bytes for each net, and time linear in the steps, in the nets and in what the wave
+/// and its history write anew.
 #[tactic(auto, unfolding(crate::specs::Head::head_lines))]
 pub fn head_lines(alloc: Global, wave: &Wave<'_>, forces: usize) -> Result<Vec<u8>, Memory>
     requires { IsFinished wave.now }

@@ -4,9 +4,12 @@
 
 mod bits;
 mod counts;
+mod ends;
 mod head;
 mod lines;
+mod marked;
 mod names;
+mod nets;
 mod puts;
 mod report;
 mod row;

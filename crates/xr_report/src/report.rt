@@ -17,9 +17,10 @@ use xr_wave::Wave;
 /// The whole report of a finished wave: its first three lines, with how many of the events force a net, then a line for
 /// each recorded bit that is x or z, where it is told.
 ///
-/// Takes the text's bytes twice, those of the name of each net that has a line, once, and 36 bytes for each net; and
-/// time linear in the text, in the steps, in the bits of all moments, and in the places of the steps at which the wave
-/// or its history writes anything anew.
+/// Takes the text's bytes twice, those of the name of each net that has a line, once, 44 bytes for each net, or 8 of
+/// these for each bit where there are more bits, and 8 for each bit; on the way 24 more for each. Takes time linear in
+/// the text, in the steps, in the nets, in the bits of one moment, in those of all moments of which x or z is recorded,
+/// and in what the history and the wave write anew; with more than 2^20 bits, in the bits of all moments.
 #[tactic(auto, unfolding(crate::specs::Report::report_text))]
 pub fn write_report(
     alloc: Global,
@@ -39,8 +40,8 @@ pub fn write_report(
 }
 
 /// The first three lines of the report of a finished wave, with how many of the events force a net. Takes the text's
-/// bytes and two bytes for each net, and time linear in the steps and in the places of those at which the wave or its
-/// history writes anything anew.
+/// bytes and three bytes for each net, and time linear in the steps, in the nets and in what the wave and its history
+/// write anew.
 pub fn write_head(alloc: Global, wave: &Wave<'_>, forces: &Forces) -> Result<Vec<u8>, Memory>
     requires { IsFinished wave.now }
     ensures { IfOk result (λ text. text.items ≡ spec.head_text wave.now forces.now) }

@@ -3,7 +3,9 @@ use Rattle.std.specs.Prelude.{◌≡◌, ℕ, ◌+◌}
 use Rattle.xr_wave.specs.Contents.{Contents, job}
 use Rattle.xr_wave_bytes.specs.Changed.{RowOf}
 use Rattle.xr_wave_bytes.specs.View as bytes
-pub use Rattle.xr_wave_bytes.specs.Changed.{AreSameFrom, IsWholeLater, IsWrittenAt}
+pub use Rattle.xr_wave_bytes.specs.Anew.{anew_number, anew_written, nth_anew}
+pub use Rattle.xr_wave_bytes.specs.Changed.{AreAnewAt, AreSameFrom, IsWholeLater, IsWrittenAt, anew_behind, anew_next}
+pub use Rattle.xr_wave_bytes.specs.Changed.{anew_position}
 
 -- A wave and one of its steps.
 pub record WaveRowView : Type 0 where

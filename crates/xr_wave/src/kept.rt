@@ -1,8 +1,8 @@
 //! Places that keep: each has what its net's place a step before has.
 
-ghost use Rattle.std.specs.Prelude.{◌≤◌, length};
+ghost use Rattle.std.specs.Prelude.{◌≡◌, ◌<◌, ◌≤◌, false, length};
 ghost use Rattle.xr_wave.specs.Contents.{job};
-ghost use Rattle.xr_wave.specs.Kept.{AllKeepFrom};
+ghost use Rattle.xr_wave.specs.Kept.{AllKeepFrom, keeps_there};
 
 use crate::wave::Wave;
 use xr_design::width_of;
@@ -16,6 +16,7 @@ impl<'a> Wave<'a> {
         ensures from { number ≤ result }
         ensures within { result ≤ end }
         ensures keep { AllKeepFrom (job self.now) self.now.written number result }
+        ensures stops { result < end → keeps_there (job self.now) self.now.written result ≡ false }
     {
         let mut place = self.again_up_to(number, end);
         'places: while place < end && self.keeps(place) {

@@ -3,14 +3,14 @@
 ghost use Rattle.std.specs.Prelude.{◌≡◌, ◌+◌, ◌*◌, ◌<◌, ◌≤◌, ◌^◌, IfOk, length};
 ghost use Rattle.xr_design.specs.Waveform.{written_at};
 ghost use Rattle.xr_wave.specs.Contents.{job};
-ghost use Rattle.xr_wave.specs.Row.{AreSameFrom, IsWholeLater, IsWrittenAt, first_row, next_row};
+ghost use Rattle.xr_wave.specs.Row.{AreAnewAt, IsWholeLater, IsWrittenAt, first_row, next_row};
 
 use crate::wave::Wave;
 use std::alloc::Global;
 use std::marker::Model;
 use xr_base::Memory;
 use xr_design::Written;
-use xr_wave_bytes::WaveformRow;
+use xr_wave_bytes::{Anew, WaveformRow};
 
 /// The row of a wave at a step, for readers that go from step to step. Contracts see the wave and the step.
 #[derive(Debug, Drop)]
@@ -32,7 +32,7 @@ impl<'w, 'a> Model for WaveRow<'w, 'a> {
 }
 
 impl<'w, 'a> WaveRow<'w, 'a> {
-    /// The row of the first step. Takes a byte for each net.
+    /// The row of the first step. Takes two bytes for each net.
     pub fn first(alloc: Global, wave: &'w Wave<'a>) -> Result<WaveRow<'w, 'a>, Memory>
         ensures { IfOk result (λ row. row ≡ first_row wave.now) }
     {
@@ -47,8 +47,8 @@ impl<'w, 'a> WaveRow<'w, 'a> {
         self.row.step()
     }
 
-    /// Goes on to the next step, all places of which are written. Costs the places that were written anew at it. Takes
-    /// no memory.
+    /// Goes on to the next step, all places of which are written. Costs the places that were written anew at it, and two
+    /// binary searches. Takes no memory.
     pub fn next_step(&mut self)
         requires few { self.old.step < 2 ^ 32 }
         requires whole { (self.old.step + 2) * (job self.old.wave).width ≤ length self.old.wave.written }
@@ -67,16 +67,12 @@ impl<'w, 'a> WaveRow<'w, 'a> {
 }
 
 impl<'a> Wave<'a> {
-    /// The next position of a step behind the first, from one on, whose place was written anew, or the step's end: each
-    /// place between has what its net's place a step before has. Takes no memory, and time by the logarithm of how many
-    /// places were written anew at the step.
-    pub fn changed_from(&self, step: usize, position: usize) -> usize
-        requires step { IsWholeLater (job self.now) self.now.written step }
-        requires position { position ≤ (job self.now).width }
-        ensures from { position ≤ result }
-        ensures within { result ≤ (job self.now).width }
-        ensures same { AreSameFrom (job self.now) self.now.written step position result }
+    /// The places of a step behind the first that were written anew, in place order: each other one has what its net's
+    /// place a step before has. Costs two binary searches. Takes no memory.
+    pub fn anew_at(&self, step: usize) -> &[Anew]
+        requires { IsWholeLater (job self.now) self.now.written step }
+        ensures { AreAnewAt (job self.now) self.now.written step result.now }
     {
-        self.waveform().changed_from(step, position)
+        self.waveform().anew_at(step)
     }
 }

@@ -24,7 +24,7 @@ row_back w t q some =
     back_one : (w u q : ℕ) → (u + 1) * w + q - w ≡ u * w + q
     back_one w u q = omega arith
 
-written_in_byte : (bytes : List ℕ) (k : ℕ) → k < length bytes
+pub written_in_byte : (bytes : List ℕ) (k : ℕ) → k < length bytes
     → written_at (map written_of_byte bytes) k ≡ written_of_byte (slice_index_or bytes k 0)
 written_in_byte bytes k less = get_or-map written_of_byte bytes k 0 unwritten less
 
@@ -51,15 +51,6 @@ same_from j rows step first next are some again within = λ position from less.
     ∙ row_back j.width step position some)
     ∙ sym (written_in_byte rows.bytes ((step - 1) * j.width + position)
     (let back = row_back j.width step position some in omega (arith, back, low))))
-
-pub same_found : (j : Job) (rows : RowsView) (step first found w : ℕ) → AreRowsOf j rows → 0 < step → w ≡ j.width
-    → step * w + first ≤ found → AreAgain rows (step * w + first) found → found ≤ length rows.bytes
-    → AreSameFrom j (map written_of_byte rows.bytes) step first (found - step * w)
-same_found j rows step first found w are some w_is from again within =
-    let start : step * w ≡ step * j.width = ap (λ n. step * n) w_is in
-    same_from j rows step first (found - step * w) are some
-    (λ place low up. again place (omega (arith, low, start)) (omega (arith, up, start, from)))
-    (omega (arith, start, from, within))
 
 -- The row of a step is brought on from change to change.
 pub row_begun : (v : WaveformView) (step : ℕ) (row : List Written) → IsRowAt v step row

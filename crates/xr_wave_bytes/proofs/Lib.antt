@@ -9,3 +9,4 @@ mod RowPlaces
 mod RowLaws
 mod NotedPlaces
 mod ChangedPlaces
+mod AnewPlaces

@@ -126,7 +126,7 @@ put_next hs front byte =
 pub inside_width : (w count : ℕ) (front : Front) → 0 < w → IsFrontOf w count front → front.position < w
 inside_width w count front some at = (let inside = at.inside in omega (arith, inside, some))
 
-there_earlier : (w count byte : ℕ) (front : Front) (hs : List (List Entry)) → 0 < w → length hs ≡ w
+pub there_earlier : (w count byte : ℕ) (front : Front) (hs : List (List Entry)) → 0 < w → length hs ≡ w
     → IsFrontOf w count front → (k : ℕ) → k < count → byte_there w (put_next hs front byte) k ≡ byte_there w hs k
 there_earlier w count byte front hs some long at k less = ⊎_elim
     (λ (same : k % w ≡ p). ap (λ (h : List Entry). byte_at h (k / w)) (get_or-set_at hs p (k % w) y [] same
@@ -159,7 +159,7 @@ front_before w count front hs some below at = λ i less.
     below_step w (nth_entry (nth_track hs front.position) i).step front.step front.position
     (omega (arith, low, whole)))
 
-there_next : (w count byte : ℕ) (front : Front) (hs : List (List Entry)) → 0 < w → length hs ≡ w
+pub there_next : (w count byte : ℕ) (front : Front) (hs : List (List Entry)) → 0 < w → length hs ≡ w
     → AreBelow w count hs → IsFrontOf w count front → byte_there w (put_next hs front byte) count ≡ byte
 there_next w count byte front hs some long below at =
     let p = front.position in

@@ -1,9 +1,11 @@
 -- Places of a step that have what their nets' places a step before have.
-use Rattle.std.specs.Prelude.{◌≡◌, ℕ, ◌+◌, ◌-◌, ◌*◌, ◌≤◌, ◌<◌, List, length, true}
+use Rattle.std.specs.Prelude.{◌≡◌, ℕ, ◌+◌, ◌-◌, ◌*◌, ◌≤◌, ◌<◌, ◌==◌, List, length, nat_lt, true, if◌then◌else◌}
 use Rattle.xr_design.specs.Job.{Job}
 use Rattle.xr_design.specs.Waveform.{written_at}
 use Rattle.xr_design.specs.declared.waveform.Written.{Written}
+use Rattle.xr_wave_bytes.specs.Anew.{anew_number, anew_written, nth_anew}
 use Rattle.xr_wave_bytes.specs.View.{WaveformView, job, keeps_there}
+use Rattle.xr_wave_bytes.specs.declared.anew.Anew.{Anew}
 
 -- So do those at the positions from a first one up to a next.
 abbrev pub AreSameFrom : Job → List Written → ℕ → ℕ → ℕ → Type 0
@@ -20,6 +22,29 @@ AllKeepFrom j waveform first next =
 pub record IsWholeLater (j : Job) (written : List Written) (step : ℕ) : Type 0 where
   pub later : 0 < step
   pub whole : (step + 1) * j.width ≤ length written
+
+-- The position of one of some places of a step.
+abbrev pub anew_position : Job → ℕ → List Anew → ℕ → ℕ
+anew_position j step places i = anew_number (nth_anew places i) - step * j.width
+
+-- The position behind the first so many of them.
+abbrev pub anew_behind : Job → ℕ → List Anew → ℕ → ℕ
+anew_behind j step places i = if i == 0 then 0 else anew_position j step places (i - 1) + 1
+
+-- That of the next one, or the step's end.
+abbrev pub anew_next : Job → ℕ → List Anew → ℕ → ℕ
+anew_next j step places i = if nat_lt i (length places) then anew_position j step places i else j.width
+
+-- The places of a step that were written anew, in place order: each of them with what stands there, and the others have
+-- what their nets' places a step before have.
+pub record AreAnewAt (j : Job) (written : List Written) (step : ℕ) (places : List Anew) : Type 0 where
+  pub start : (i : ℕ) → i < length places → step * j.width ≤ anew_number (nth_anew places i)
+  pub inside : (i : ℕ) → i < length places → anew_position j step places i < j.width
+  pub rising : (i : ℕ) → i < length places → anew_behind j step places i ≤ anew_position j step places i
+  pub says : (i : ℕ) → i < length places
+      → anew_written (nth_anew places i) ≡ written_at written (anew_number (nth_anew places i))
+  pub same : (i : ℕ) → i ≤ length places
+      → AreSameFrom j written step (anew_behind j step places i) (anew_next j step places i)
 
 -- The place at a position of a step is written.
 pub record IsWrittenAt (j : Job) (written : List Written) (step position : ℕ) : Type 0 where

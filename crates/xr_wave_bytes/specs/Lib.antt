@@ -1,5 +1,6 @@
 -- Definitions of the bytes of waveforms, and of places that are written again.
 pub mod Byte
+pub mod Anew
 pub mod Track
 pub mod Rows
 pub mod Front

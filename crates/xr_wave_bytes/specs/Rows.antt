@@ -1,9 +1,11 @@
 -- The bytes of places, row after row of one width.
 use Rattle.std.specs.Prelude.{◌≡◌, ℕ, ◌+◌, ◌-◌, ◌*◌, ◌/◌, ◌%◌, ◌<◌, ◌≤◌, ◌^◌, List, [], ◌∷◌, ◌++◌, drop, length, map}
-use Rattle.std.specs.Prelude.{slice_index, slice_index_or, take}
+use Rattle.std.specs.Prelude.{slice_index_or, take}
 use Rattle.std.specs.List.{range_with_len}
+use Rattle.xr_wave_bytes.specs.Anew.{anew_byte, anew_number, nth_anew, number_behind, number_next}
 use Rattle.xr_wave_bytes.specs.Byte.{repeated_byte}
 use Rattle.xr_wave_bytes.specs.Track.{byte_at, nth_entry}
+use Rattle.xr_wave_bytes.specs.declared.anew.Anew.{Anew}
 use Rattle.xr_wave_bytes.specs.declared.front.Front.{Front}
 use Rattle.xr_wave_bytes.specs.declared.track.Entry.{Entry}
 
@@ -65,22 +67,33 @@ AreBelow width count tracks =
 pub record AreRows (width steps count : ℕ) (front : Front) (tracks : List (List Entry)) : Type 0 where
   pub narrow : width ≤ 2 ^ 32
   pub few : steps ≤ 2 ^ 32
-  pub small : steps * width < 2 ^ 64
+  pub small : steps * width ≤ 2 ^ 40
   pub room : count ≤ steps * width
   pub at : IsFrontOf width count front
   pub step : front.step ≤ steps
   pub long : length tracks ≡ width
   pub below : AreBelow width count tracks
 
--- The places that are written anew are noted, in place order: each that has an entry, none past the next one.
-pub record AreNoted (width count : ℕ) (tracks : List (List Entry)) (log : List ℕ) : Type 0 where
-  pub rising : (i k : ℕ) → i < k → k < length log → slice_index log i ≤ slice_index log k
-  pub reached : (i : ℕ) → i < length log → slice_index log i ≤ count
+-- The places that are written anew are noted, in place order and with their bytes: each that has an entry.
+pub record AreNoted (width count : ℕ) (tracks : List (List Entry)) (log : List Anew) : Type 0 where
+  pub rising : (i k : ℕ) → i < k → k < length log → anew_number (nth_anew log i) < anew_number (nth_anew log k)
+  pub reached : (i : ℕ) → i < length log → anew_number (nth_anew log i) < count
+  pub bytes : (i : ℕ) → i < length log
+      → anew_byte (nth_anew log i) ≡ byte_there width tracks (anew_number (nth_anew log i))
   pub noted : (position i : ℕ) → position < width → i < length (nth_track tracks position)
       → (k : ℕ) × (k < length log)
-      × (slice_index log k ≡ (nth_entry (nth_track tracks position) i).step * width + position)
+      × (anew_number (nth_anew log k) ≡ (nth_entry (nth_track tracks position) i).step * width + position)
 
 -- The bytes of the places from a number up to another are those a row before, written again.
 abbrev pub AreAgain : RowsView → ℕ → ℕ → Type 0
 AreAgain v from to = (place : ℕ) → from ≤ place → place < to → v.width ≤ place
     → slice_index_or v.bytes place 0 ≡ repeated_byte (slice_index_or v.bytes (place - v.width) 0)
+
+-- The places from a number on, below an end, that are written anew, in place order and with their bytes.
+pub record AreAnewBetween (v : RowsView) (from end : ℕ) (places : List Anew) : Type 0 where
+  pub inside : (i : ℕ) → i < length places → anew_number (nth_anew places i) < end
+  pub rising : (i : ℕ) → i < length places → number_behind from places i ≤ anew_number (nth_anew places i)
+  pub bytes : (i : ℕ) → i < length places
+      → anew_byte (nth_anew places i) ≡ slice_index_or v.bytes (anew_number (nth_anew places i)) 0
+  pub between : (i : ℕ) → i ≤ length places
+      → AreAgain v (number_behind from places i) (number_next end places i)

@@ -3,6 +3,7 @@ use Rattle.std.specs.Prelude.{ℕ, ◌-◌, ◌<◌, ◌==◌, ◌&&◌, Bool, L
 use Rattle.std.specs.Prelude.{slice_index_or}
 use Rattle.std.specs.Prelude.{if◌then◌else◌}
 use Rattle.xr_wave_bytes.specs.Byte.{repeated_byte}
+use Rattle.xr_wave_bytes.specs.declared.anew.Anew.{Anew}
 use Rattle.xr_wave_bytes.specs.declared.track.Entry.{Entry}
 
 abbrev pub no_entry : Entry
@@ -46,6 +47,6 @@ abbrev pub with_byte_at : List Entry → ℕ → ℕ → List Entry
 with_byte_at entries step byte =
     if is_again entries step byte then entries else entries ++ (record { step = step; byte = byte }) ∷ []
 
--- The number of a place, behind others where its byte is written anew.
-abbrev pub with_noted : List ℕ → ℕ → Bool → List ℕ
-with_noted log number again = if again then log else log ++ number ∷ []
+-- Places that are written anew, with one more behind them, unless it is written again.
+abbrev pub with_noted : List Anew → Anew → Bool → List Anew
+with_noted log place again = if again then log else log ++ place ∷ []

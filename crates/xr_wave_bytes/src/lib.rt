@@ -5,6 +5,7 @@
 //! written many at once, and take no memory. Start at specs/View.antt, then at `Waveform`.
 #![tactic(auto)]
 
+mod anew;
 mod byte;
 mod bytes;
 mod front;
@@ -13,6 +14,7 @@ mod rows;
 mod track;
 mod waveform;
 
+pub use anew::Anew;
 pub use bytes::value_if_certain;
 pub use row::WaveformRow;
 pub use waveform::Waveform;

@@ -2,7 +2,7 @@
 
 ghost use Rattle.std.specs.Prelude.{◌≡◌, ◌+◌, ◌*◌, ◌<◌, ◌≤◌, ◌^◌, IfOk, length};
 ghost use Rattle.xr_design.specs.Waveform.{written_at};
-ghost use Rattle.xr_wave_bytes.specs.Changed.{IsPut, IsRowAt, IsWrittenAt};
+ghost use Rattle.xr_wave_bytes.specs.Changed.{IsRowAt, IsWrittenAt};
 ghost use Rattle.xr_wave_bytes.specs.View.{job};
 
 use crate::waveform::Waveform;
@@ -50,8 +50,8 @@ impl<'w, 'a> WaveformRow<'w, 'a> {
         self.step
     }
 
-    /// Goes on to the next step, all places of which are written. Costs two binary searches for each place that was
-    /// written anew at it. Takes no memory.
+    /// Goes on to the next step, all places of which are written. Costs the places that were written anew at it, and two
+    /// binary searches. Takes no memory.
     pub fn next_step(&mut self)
         requires few { self.old.step < 2 ^ 32 }
         requires whole { (self.old.step + 2) * (job self.old.waveform).width ≤ length self.old.waveform.written }
@@ -104,25 +104,11 @@ fn bring_on(waveform: &Waveform<'_>, step: usize, row: &mut [Written])
     requires whole { (step + 2) * (job waveform.now).width ≤ length waveform.now.written }
     ensures { IsRowAt waveform.now (step + 1) row.new }
 {
-    let width = width_of(&waveform.circuit());
-    let mut position = 0;
-    'changes: while position < width {
-        let changed = waveform.changed_from(step + 1, position);
-        write_at(waveform, step + 1, changed, row);
-        position = changed + 1;
-    }
-}
-
-/// Writes what stands at a position of a step into its row, unless it is the row's end.
-fn write_at(waveform: &Waveform<'_>, step: usize, position: usize, row: &mut [Written])
-    requires few { step ≤ 2 ^ 32 }
-    requires long { length row.old ≡ (job waveform.now).width }
-    requires whole { (step + 1) * (job waveform.now).width ≤ length waveform.now.written }
-    ensures { IsPut waveform.now step position row.old row.new }
-{
-    if position < row.len() {
-        let _fits = waveform.count();
-        let number = step * row.len() + position;
-        row[position] = waveform.written(number);
+    // With it comes the fact that numbers of places are small.
+    let _count = waveform.count();
+    let places = waveform.anew_at(step + 1);
+    let start = (step + 1) * row.len();
+    'places: for k in 0..places.len() {
+        row[places[k].number() - start] = places[k].written();
     }
 }

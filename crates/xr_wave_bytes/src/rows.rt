@@ -1,10 +1,13 @@
 //! The bytes of places, row after row of one width, kept by what changes.
 
 ghost use Rattle.std.specs.Prelude.{◌≡◌, ◌⊎◌, ℕ, ◌+◌, ◌-◌, ◌*◌, ◌/◌, ◌%◌, ◌<◌, ◌≤◌, ◌^◌, [], IfOk, OnOk, OnErr, length};
-ghost use Rattle.std.specs.Prelude.{replicate, slice_index, slice_index_or};
-ghost use Rattle.xr_wave_bytes.specs.Rows.{AreAgain, HasRoom, IsFrontOf, IsRowStretch, and_again, and_byte};
+ghost use Rattle.std.specs.Prelude.{replicate, slice_index_or, vec_capacity, vec_len};
+ghost use Rattle.xr_wave_bytes.specs.Anew.{anew_number, nth_anew};
+ghost use Rattle.xr_wave_bytes.specs.Rows.{AreAgain, AreAnewBetween, HasRoom, IsFrontOf, IsRowStretch, and_again};
+ghost use Rattle.xr_wave_bytes.specs.Rows.{and_byte};
 ghost use Rattle.xr_wave_bytes.specs.Track.{with_noted};
 
+use crate::anew::Anew;
 use crate::front::Front;
 use crate::track::Track;
 use std::alloc::Global;
@@ -21,8 +24,8 @@ pub struct Rows {
     /// Where the next place stands.
     front: Front,
     tracks: Vec<Track>,
-    /// The numbers of the places that are written anew.
-    log: Vec<usize>,
+    /// The places that are written anew, in place order.
+    log: Vec<Anew>,
 }
 
 impl Model for Rows {
@@ -43,7 +46,7 @@ impl Rows {
     pub fn new(alloc: Global, width: usize, steps: usize) -> Result<Rows, Memory>
         requires narrow { width ≤ 2 ^ 32 }
         requires few { steps ≤ 2 ^ 32 }
-        requires small { steps * width < 2 ^ 64 }
+        requires small { steps * width ≤ 2 ^ 40 }
         ensures { IfOk result (λ rows. rows ≡ record { width = width; steps = steps; bytes = [] }) }
     {
         let tracks = empty_tracks(alloc, width)?;
@@ -91,6 +94,17 @@ impl Rows {
         noted_or(self.log.as_slice(), count, end)
     }
 
+    /// The places from a number on, below an end, that are written anew. Costs two binary searches. Takes no memory.
+    pub fn anew_between(&self, number: usize, end: usize) -> &[Anew]
+        requires number { number ≤ end }
+        requires end { end ≤ length self.now.bytes }
+        ensures { AreAnewBetween self.now number end result.now }
+    {
+        let first = count_below(self.log.as_slice(), number);
+        let last = count_below(self.log.as_slice(), end);
+        &self.log[first..last]
+    }
+
     /// Appends the byte of a place. Takes 16 to 32 bytes where it is written anew, as each of the first row is.
     pub fn push(&mut self, byte: u8) -> Result<(), Memory>
         requires { HasRoom self.old 1 }
@@ -100,8 +114,10 @@ impl Rows {
         let front = front_past(self.front, self.width, 1);
         let front_now = self.front;
         let again = self.tracks[front_now.position].is_again(front_now.step, byte);
-        note(&mut self.log, self.count, again)?;
+        let place = Anew::new(self.count, byte);
+        self.log.reserve(1)?;
         self.tracks[front_now.position].put(front_now.step, byte, again)?;
+        note(&mut self.log, place, again);
         self.front = front;
         self.count += 1;
         Ok(())
@@ -128,29 +144,27 @@ fn empty_tracks(alloc: Global, width: usize) -> Result<Vec<Track>, Memory>
     Ok(tracks)
 }
 
-/// Appends a number, unless it is that of a place that is written again.
-fn note(log: &mut Vec<usize>, number: usize, again: bool) -> Result<(), Memory>
-    ensures ok { OnOk result (log.new.items ≡ with_noted log.old.items number again) }
-    ensures err { OnErr result (log.new.items ≡ log.old.items) }
+/// Appends a place, unless it is written again.
+fn note(log: &mut Vec<Anew>, place: Anew, again: bool)
+    requires { vec_len log.old < vec_capacity log.old }
+    ensures { log.new.items ≡ with_noted log.old.items place again }
 {
-    if again {
-        return Ok(());
+    if !again {
+        log.push_reserved(place);
     }
-    log.push(number)?;
-    Ok(())
 }
 
-/// How many of rising numbers are below one.
-fn count_below(log: &[usize], number: usize) -> usize
+/// How many of places with rising numbers are below a number.
+fn count_below(log: &[Anew], number: usize) -> usize
     ensures within { result ≤ length log.now }
-    ensures last { 0 < result → slice_index log.now (result - 1) < number }
-    ensures next { result < length log.now → number ≤ slice_index log.now result }
+    ensures last { 0 < result → anew_number (nth_anew log.now (result - 1)) < number }
+    ensures next { result < length log.now → number ≤ anew_number (nth_anew log.now result) }
 {
     let mut low = 0;
     let mut high = log.len();
     'halves: while low < high {
         let middle = low + (high - low) / 2;
-        if log[middle] < number {
+        if log[middle].number() < number {
             low = middle + 1;
         } else {
             high = middle;
@@ -160,13 +174,13 @@ fn count_below(log: &[usize], number: usize) -> usize
 }
 
 /// The number at a place of the log, where there is one below the end, else the end.
-fn noted_or(log: &[usize], at: usize, end: usize) -> usize
+fn noted_or(log: &[Anew], at: usize, end: usize) -> usize
     ensures within { result ≤ end }
-    ensures here { at < length log.now → result ≤ slice_index log.now at }
-    ensures from { (at < length log.now × result ≡ slice_index log.now at) ⊎ result ≡ end }
+    ensures here { at < length log.now → result ≤ anew_number (nth_anew log.now at) }
+    ensures from { (at < length log.now × result ≡ anew_number (nth_anew log.now at)) ⊎ result ≡ end }
 {
-    if at < log.len() && log[at] < end {
-        log[at]
+    if at < log.len() && log[at].number() < end {
+        log[at].number()
     } else {
         end
     }

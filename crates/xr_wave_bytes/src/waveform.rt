@@ -7,12 +7,13 @@ ghost use Rattle.xr_design.specs.Waveform.{certain, written_at};
 ghost use Rattle.xr_model.specs.Assignment as assignment;
 ghost use Rattle.xr_model.specs.Class.{class_of};
 ghost use Rattle.xr_class.specs.Test.{numbered_value};
-ghost use Rattle.xr_wave_bytes.specs.Changed.{AllKeepFrom, AreSameFrom, IsWholeLater};
+ghost use Rattle.xr_wave_bytes.specs.Changed.{AllKeepFrom, AreAnewAt, IsWholeLater};
 ghost use Rattle.xr_wave_bytes.specs.Kept.{ValuesAgree};
 ghost use Rattle.xr_wave_bytes.specs.View as spec;
 ghost use Rattle.xr_wave_bytes.specs.Repeat.{IsRepeatable};
 ghost use Rattle.xr_wave_bytes.specs.View.{HasMore, IsNumber, and_one, and_repeated, job, keeps_there, waveform_of};
 
+use crate::anew::Anew;
 use crate::byte::{keeps, written_in};
 use crate::bytes::{Bytes, class_behind, keep_behind, keep_repeated, push_place};
 use crate::front::{Front, first_front, front_after, front_behind, place_there};
@@ -126,18 +127,15 @@ impl<'a> Waveform<'a> {
         keeps(self.rows.byte(number))
     }
 
-    /// The next position of a step, from one on, whose place was written anew, or the step's end: each place between has
-    /// what its net's place a step before has. Costs a binary search. Takes no memory.
-    pub fn changed_from(&self, step: usize, position: usize) -> usize
-        requires step { IsWholeLater (job self.now) self.now.written step }
-        requires position { position ≤ (job self.now).width }
-        ensures from { position ≤ result }
-        ensures within { result ≤ (job self.now).width }
-        ensures same { AreSameFrom (job self.now) self.now.written step position result }
+    /// The places of a step behind the first that were written anew, in place order. Costs two binary searches. Takes no
+    /// memory.
+    pub fn anew_at(&self, step: usize) -> &[Anew]
+        requires { IsWholeLater (job self.now) self.now.written step }
+        ensures { AreAnewAt (job self.now) self.now.written step result.now }
     {
         let width = width_of(&self.circuit);
         let start = step * width;
-        self.rows.anew_from(start + position, start + width) - start
+        self.rows.anew_between(start, start + width)
     }
 
     /// The first place from one of a later step on that was written anew, or the end: the net of each place between keeps

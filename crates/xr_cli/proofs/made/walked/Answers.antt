@@ -5,19 +5,21 @@ use Rattle.xr_cli.proofs.Walk.{made_found}
 use Rattle.xr_run.specs.declared.refusal.Refusal.TheVariants.{Memory}
 use Rattle.xr_run.proofs.Then.{memory_out}
 use Rattle.xr_run.specs.Prepared.{answer_of}
+use Rattle.xr_shown.specs.History.{shown_history}
+use Rattle.xr_shown.proofs.Showing.{shows_wave}
 use Rattle.xr_cli.proofs.made.walked.Goals as goal
 
 pub returns-clause-prepared : goal.returns-clause-prepared
 returns-clause-prepared g c =
     made_found (make_values c.args.texts.words) c.args.texts.recording.items c.args.job.now.netlist c.args.job.now.recorded
-    record { history = c.args.history.now; wave = c.in_ok-wave.wave; shown = c.in_ok-_shown._shown }
+    record { history = c.args.history.now; wave = c.in_ok-wave.wave; shown = shown_history c.in_ok-wave.wave }
     c.in_ok-answered.field-0
     record {
       fits = c.requires.fits;
       times = c.read_times.ensures;
       replay = c.requires.replay;
       repaired = c.in_ok-wave.ensures.repaired;
-      shows = c.in_ok-_shown.ensures;
+      shows = shows_wave c.in_ok-wave.wave;
     }
     c.in_ok-answered.ensures
 

@@ -1,71 +1,136 @@
--- Between the positions that are visited all values are still, and each place is one of the job's.
-use Rattle.std.proofs.Common.{◌+◌, ◌*◌, ◌<◌, ◌≤◌, arith, subst}
+-- Between the places that are visited all values are still, and each of them is one of the job's.
+use Rattle.std.proofs.Common.{◌≡◌, ℕ, ◌+◌, ◌-◌, ◌*◌, arith, ap, refl, subst}
 use Rattle.xr_design.specs.Circuit.{job_in}
-use Rattle.xr_design.specs.Job.{places_of}
-use Rattle.xr_replay.proofs.Writing.{place_within}
-use Rattle.xr_forces.specs.Still.{AreStillFrom, looked_on, watched}
-use Rattle.xr_forces.proofs.Moving.{looked_nets, marked_none, marked_to, step_places, watched_nets}
+use Rattle.xr_design.specs.Job.{Job}
+use Rattle.xr_forces.specs.Still.{AreMarkedTo, AreMoves, looked_on, watched}
+use Rattle.xr_forces.proofs.MovedPlaces.{moved_last, moved_more, moved_to}
+use Rattle.xr_forces.proofs.Moving.{looked_nets, marked_none, step_places, watched_nets}
+use Rattle.xr_wave.specs.Row.{anew_position}
 use Rattle.xr_forces.proofs.moves.mark_moves.Goals as goal
+
+pub moves_at-moves-requires-clause-has : goal.moves_at-moves-requires-clause-has
+moves_at-moves-requires-clause-has g c = λ place less.
+    c.requires.has place
+    (step_places (job_in c.args.circuit.now) c.args.step (g.S.Moving.job c.args.values.now).width place
+    (ap (λ (j : Job). j.width) c.requires.job) c.requires.step less)
 
 pub mark_place-requires-clause-has : goal.mark_place-requires-clause-has
 mark_place-requires-clause-has g c = λ k less.
     (let j = job_in c.args.circuit.now in
-    let count = c.width_of-nets.ensures in
-    let test = c.positions-test.true in
-    let within : c.args.step * c.width_of-nets.result + c.positions.position < places_of j = rw count (place_within j c.args.step c.positions.position c.requires.step (omega (arith, count, test))) in
-    c.requires.has k (omega (arith, less, within)))
+    let i = c.moves.anew-index in
+    let are = subst (λ (j' : Job). AreMoves j' (g.S.Source.reads c.args.values.now) c.args.step
+    c.moves_at-moves.result.now) c.requires.job c.moves_at-moves.ensures in
+    let start = are.start i c.moves-test.true in
+    let inside = are.inside i c.moves-test.true in
+    let is = c.number-place.ensures in
+    c.requires.has k (step_places j c.args.step j.width k refl c.requires.step (omega (arith, less, start, inside, is))))
 
-pub moved_from-position-requires-clause-has : goal.moved_from-position-requires-clause-has
-moved_from-position-requires-clause-has g c = λ place less.
-    c.requires.has place
-    (step_places (job_in c.args.circuit.now) c.args.step (g.S.Moving.width c.args.values.now) place c.requires.width
-    c.requires.step less)
+pub mark_place-requires-clause-place : goal.mark_place-requires-clause-place
+mark_place-requires-clause-place g c =
+    let i = c.moves.anew-index in
+    let are = subst (λ (j' : Job). AreMoves j' (g.S.Source.reads c.args.values.now) c.args.step
+    c.moves_at-moves.result.now) c.requires.job c.moves_at-moves.ensures in
+    let start = are.start i c.moves-test.true in
+    let is = c.number-place.ensures in
+    let wide = ap (λ w. c.args.step * w) c.width_of.ensures in
+    omega (arith, start, is, wide)
 
-pub moved_from-position-requires-in-positions-clause-has : goal.moved_from-position-requires-in-positions-clause-has
-moved_from-position-requires-in-positions-clause-has g c = λ place less.
-    c.requires.has place
-    (step_places (job_in c.args.circuit.now) c.args.step (g.S.Moving.width c.args.values.now) place c.requires.width
-    c.requires.step less)
+pub mark_place-requires-clause-position : goal.mark_place-requires-clause-position
+mark_place-requires-clause-position g c =
+    let i = c.moves.anew-index in
+    let are = subst (λ (j' : Job). AreMoves j' (g.S.Source.reads c.args.values.now) c.args.step
+    c.moves_at-moves.result.now) c.requires.job c.moves_at-moves.ensures in
+    let inside = are.inside i c.moves-test.true in
+    let is = c.number-place.ensures in
+    let wide = ap (λ w. c.args.step * w) c.width_of.ensures in
+    omega (arith, inside, is, wide)
 
-pub positions-init : goal.positions-init
-positions-init g c =
+pub mark_place-requires-clause-due : goal.mark_place-requires-clause-due
+mark_place-requires-clause-due g c =
     let j = job_in c.args.circuit.now in
     let fits = c.requires.fits.fits_job in
     let values = g.S.Source.reads c.args.values.now in
-    let next = c.moved_from-position.result in
-    let up = c.moved_from-position.ensures.within in
-    let width = c.requires.width in
-    let within : next ≤ j.width = omega (arith, up, width) in
-    let still = subst (λ w. AreStillFrom values w c.args.step 0 next) width c.moved_from-position.ensures.still in
+    let moves = c.moves_at-moves.result.now in
+    let i = c.moves.anew-index in
+    let are = subst (λ (j' : Job). AreMoves j' values c.args.step moves) c.requires.job c.moves_at-moves.ensures in
+    let is = c.number-place.ensures in
+    let wide = ap (λ w. c.args.step * w) c.width_of.ensures in
+    let at : anew_position j c.args.step moves i ≡ c.number-place.result - c.args.step * c.width_of.result =
+    omega (arith, is, wide) in
+    subst (λ (n : ℕ). AreMarkedTo j values (watched j) c.args.step n c.moves.waiting.due) at
+    (moved_to j c.args.step moves fits values (watched j) (watched_nets j fits) c.requires.later are i
+    c.moves.waiting.due c.moves-test.true c.moves.invariant.due)
+
+pub mark_place-requires-clause-ahead : goal.mark_place-requires-clause-ahead
+mark_place-requires-clause-ahead g c =
+    let j = job_in c.args.circuit.now in
+    let fits = c.requires.fits.fits_job in
+    let values = g.S.Source.reads c.args.values.now in
+    let moves = c.moves_at-moves.result.now in
+    let i = c.moves.anew-index in
+    let are = subst (λ (j' : Job). AreMoves j' values c.args.step moves) c.requires.job c.moves_at-moves.ensures in
+    let is = c.number-place.ensures in
+    let wide = ap (λ w. c.args.step * w) c.width_of.ensures in
+    let at : anew_position j c.args.step moves i ≡ c.number-place.result - c.args.step * c.width_of.result =
+    omega (arith, is, wide) in
+    subst (λ (n : ℕ). AreMarkedTo j values (looked_on j) c.args.step n c.moves.waiting.ahead) at
+    (moved_to j c.args.step moves fits values (looked_on j) (looked_nets j fits) c.requires.later are i
+    c.moves.waiting.ahead c.moves-test.true c.moves.invariant.ahead)
+
+pub moves-init : goal.moves-init
+moves-init g c =
+    let j = job_in c.args.circuit.now in
+    let values = g.S.Source.reads c.args.values.now in
     record {
-      within = within;
       more = λ p is. is;
-      due = marked_to j fits values (watched j) c.args.step 0 next c.args.waiting.now.due (watched_nets j fits)
-          c.requires.later (omega arith) within still
-          (marked_none j values (watched j) c.args.step c.args.waiting.now.due c.requires.due);
-      ahead = marked_to j fits values (looked_on j) c.args.step 0 next c.args.waiting.now.ahead (looked_nets j fits)
-          c.requires.later (omega arith) within still
-          (marked_none j values (looked_on j) c.args.step c.args.waiting.now.ahead c.requires.ahead);
+      due = marked_none j values (watched j) c.args.step c.args.waiting.now.due c.requires.due;
+      ahead = marked_none j values (looked_on j) c.args.step c.args.waiting.now.ahead c.requires.ahead;
     }
 
-pub positions-preserved : goal.positions-preserved
-positions-preserved g c =
+pub moves-preserved : goal.moves-preserved
+moves-preserved g c =
     let j = job_in c.args.circuit.now in
     let fits = c.requires.fits.fits_job in
     let values = g.S.Source.reads c.args.values.now in
-    let position = c.positions.position in
-    let next = c.moved_from-position-in-positions.result in
-    let from = c.moved_from-position-in-positions.ensures.from in
-    let up = c.moved_from-position-in-positions.ensures.within in
-    let width = c.requires.width in
-    let within : next ≤ j.width = omega (arith, up, width) in
-    let still = subst (λ w. AreStillFrom values w c.args.step (position + 1) next) width
-    c.moved_from-position-in-positions.ensures.still in
+    let moves = c.moves_at-moves.result.now in
+    let i = c.moves.anew-index in
+    let are = subst (λ (j' : Job). AreMoves j' values c.args.step moves) c.requires.job c.moves_at-moves.ensures in
+    let is = c.number-place.ensures in
+    let wide = ap (λ w. c.args.step * w) c.width_of.ensures in
+    let at : c.number-place.result - c.args.step * c.width_of.result + 1 ≡ anew_position j c.args.step moves i + 1 =
+    omega (arith, is, wide) in
     record {
-      within = within;
-      more = λ p is. c.mark_place.ensures.more p (c.positions.invariant.more p is);
-      due = marked_to j fits values (watched j) c.args.step (position + 1) next c.mark_place.new.waiting.due
-          (watched_nets j fits) c.requires.later from within still c.mark_place.ensures.due;
-      ahead = marked_to j fits values (looked_on j) c.args.step (position + 1) next c.mark_place.new.waiting.ahead
-          (looked_nets j fits) c.requires.later from within still c.mark_place.ensures.ahead;
+      more = λ p was. c.mark_place.ensures.more p (c.moves.invariant.more p was);
+      due = moved_more j c.args.step moves fits values (watched j) (watched_nets j fits) c.requires.later are i
+          c.mark_place.new.waiting.due
+          (subst (λ (n : ℕ). AreMarkedTo j values (watched j) c.args.step n c.mark_place.new.waiting.due) at
+          c.mark_place.ensures.due);
+      ahead = moved_more j c.args.step moves fits values (looked_on j) (looked_nets j fits) c.requires.later are i
+          c.mark_place.new.waiting.ahead
+          (subst (λ (n : ℕ). AreMarkedTo j values (looked_on j) c.args.step n c.mark_place.new.waiting.ahead) at
+          c.mark_place.ensures.ahead);
     }
+
+pub returns-clause-due : goal.returns-clause-due
+returns-clause-due g c =
+    let j = job_in c.args.circuit.now in
+    let fits = c.requires.fits.fits_job in
+    let values = g.S.Source.reads c.args.values.now in
+    let moves = c.moves_at-moves.result.now in
+    let are = subst (λ (j' : Job). AreMoves j' values c.args.step moves) c.requires.job c.moves_at-moves.ensures in
+    let test = c.moves-test.false in
+    let end = c.moves.auto.anew-index-end in
+    moved_last j c.args.step moves fits values (watched j) (watched_nets j fits) c.requires.later are
+    c.moves.anew-index c.moves.waiting.due (omega (arith, test, end)) c.moves.invariant.due
+
+pub returns-clause-ahead : goal.returns-clause-ahead
+returns-clause-ahead g c =
+    let j = job_in c.args.circuit.now in
+    let fits = c.requires.fits.fits_job in
+    let values = g.S.Source.reads c.args.values.now in
+    let moves = c.moves_at-moves.result.now in
+    let are = subst (λ (j' : Job). AreMoves j' values c.args.step moves) c.requires.job c.moves_at-moves.ensures in
+    let test = c.moves-test.false in
+    let end = c.moves.auto.anew-index-end in
+    moved_last j c.args.step moves fits values (looked_on j) (looked_nets j fits) c.requires.later are
+    c.moves.anew-index c.moves.waiting.ahead (omega (arith, test, end)) c.moves.invariant.ahead

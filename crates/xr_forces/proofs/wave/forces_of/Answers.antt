@@ -1,6 +1,8 @@
 -- The circuit's job is the wave's.
 use Rattle.std.proofs.Common.{IfOk, subst}
+use Rattle.xr_design.specs.Circuit.{job_in}
 use Rattle.xr_design.specs.Job.{Job}
+use Rattle.xr_wave.specs.Contents.{Contents}
 use Rattle.xr_forces.specs.ForcesOf.{AreForcesOf}
 use Rattle.xr_forces.specs.Waves.{values_of}
 use Rattle.xr_forces.proofs.wave.forces_of.Goals as goal
@@ -8,4 +10,6 @@ use Rattle.xr_forces.proofs.wave.forces_of.Goals as goal
 pub returns : goal.returns
 returns c =
     let P : Job → Type 0 = λ j. IfOk c.forces_of_values.result (λ forces. AreForcesOf j (values_of c.args.wave.now) forces) in
-    subst P c.circuit.ensures.job c.forces_of_values.ensures
+    subst P c.circuit.ensures.job
+    (subst (λ (w : Contents). IfOk c.forces_of_values.result (λ forces. AreForcesOf (job_in c.circuit.result) (values_of w)
+    forces)) c.in_ok-values.ensures c.forces_of_values.ensures)

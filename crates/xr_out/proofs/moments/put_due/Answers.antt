@@ -8,12 +8,12 @@ use Rattle.xr_out.proofs.Marks.{lines_past, to_next}
 use Rattle.xr_out.proofs.moments.put_due.Goals as goal
 
 pub variables-init : goal.variables-init
-variables-init c =
+variables-init g c =
     let first = c.first_from-number in
     ap (λ (l : List ℕ). c.args.text.now.items ++ l) (sym (to_next c.args.rows.now.history (moment_end c.args.rows.now) (end_before c.args.rows.now) c.args.bound.now c.args.due.now 0 first.result c.requires.same first.ensures.forward first.ensures.none))
 
 pub variables-preserved : goal.variables-preserved
-variables-preserved c =
+variables-preserved g c =
     let rows = c.args.rows.now in
     let bound = c.args.bound.now in
     let number = c.variables.number in
@@ -25,7 +25,7 @@ variables-preserved c =
     (rw (c.as_slice.ensures, ← c.index-bound-number.is) at c.in_ok-put_change.ensures)
 
 pub returns : goal.returns
-returns c =
+returns g c =
     let bound = c.args.bound.now in
     let number = c.variables.number in
     let end = c.variables-test.false in

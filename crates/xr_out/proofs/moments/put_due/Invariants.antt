@@ -5,7 +5,7 @@ use Rattle.xr_out.specs.Rows.{end_before, moment_end}
 use Rattle.xr_out.proofs.moments.put_due.Given as goal
 
 abbrev pub invariant-variables : goal.invariant-variables
-invariant-variables l = l.text.items ++ changed_lines l.rows.history (moment_end l.rows) (end_before l.rows) l.number (drop l.number l.bound) ≡ l.fn.text.items ++ changed_lines l.rows.history (moment_end l.rows) (end_before l.rows) 0 l.bound
+invariant-variables g l = l.text.items ++ changed_lines l.rows.history (moment_end l.rows) (end_before l.rows) l.number (drop l.number l.bound) ≡ l.fn.text.items ++ changed_lines l.rows.history (moment_end l.rows) (end_before l.rows) 0 l.bound
 
 abbrev pub decreases-variables : goal.decreases-variables
-decreases-variables l = length l.bound - l.number
+decreases-variables g l = length l.bound - l.number

@@ -4,4 +4,4 @@ use Rattle.xr_out.specs.Moments.{letter_at}
 use Rattle.xr_out.proofs.moments.put_letters.Given as goal
 
 abbrev pub invariant-bits : goal.invariant-bits
-invariant-bits l = l.text.items ++ map (letter_at l.row.history l.row.step) (drop l.net-index l.bits) ≡ l.fn.text.items ++ map (letter_at l.row.history l.row.step) l.bits
+invariant-bits g l = l.text.items ++ map (letter_at (g.R.Shown.view l.row).history (g.R.Shown.view l.row).step) (drop l.net-index l.bits) ≡ l.fn.text.items ++ map (letter_at (g.R.Shown.view l.row).history (g.R.Shown.view l.row).step) l.bits

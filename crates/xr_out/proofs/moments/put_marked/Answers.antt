@@ -4,7 +4,7 @@ use Rattle.xr_out.proofs.Marks.{marked_lines}
 use Rattle.xr_out.proofs.moments.put_marked.Goals as goal
 
 pub returns : goal.returns
-returns c =
+returns g c =
     let rows = c.args.rows.now in
     let P : List ℕ → Type 0 = λ all. OnOk c.put_due.result (c.put_due.new.text.items ≡ all) in
     subst P

@@ -3,10 +3,10 @@ use Rattle.std.proofs.Common.{◌≡◌, ◌-◌, ◌≤◌}
 use Rattle.xr_out.proofs.rows.bring_on.Given as goal
 
 abbrev pub invariant-steps : goal.invariant-steps
-invariant-steps l = record {
-  history : l.row.history ≡ l.initial.row.history;
-  low : l.row.step ≤ l.step;
+invariant-steps g l = record {
+  history : (g.R.Shown.view l.row).history ≡ (g.R.Shown.view l.initial.row).history;
+  low : (g.R.Shown.view l.row).step ≤ l.step;
 }
 
 abbrev pub decreases-steps : goal.decreases-steps
-decreases-steps l = l.step - l.row.step
+decreases-steps g l = l.step - (g.R.Shown.view l.row).step

@@ -6,8 +6,8 @@ use Rattle.xr_replay_due.specs.Due.{HasRoomFor}
 use Rattle.xr_out.proofs.text.put_changes.Given as goal
 
 abbrev pub invariant-moments : goal.invariant-moments
-invariant-moments l = record {
+invariant-moments g l = record {
   room : HasRoomFor l.due l.readers.room;
-  rows : l.rows ≡ moment_view l.history l.stim.rounds l.time-index;
-  lines : l.text.items ++ lines_from l.history l.stim.rounds l.bound.bound l.time-index (drop l.time-index l.stim.times) ≡ l.fn.text.items ++ lines_from l.history l.stim.rounds l.bound.bound 0 l.stim.times;
+  rows : l.rows ≡ moment_view l.fn.rows.history l.stim.rounds l.time-index;
+  lines : l.text.items ++ lines_from l.fn.rows.history l.stim.rounds l.bound.bound l.time-index (drop l.time-index l.stim.times) ≡ l.fn.text.items ++ lines_from l.fn.rows.history l.stim.rounds l.bound.bound 0 l.stim.times;
 }

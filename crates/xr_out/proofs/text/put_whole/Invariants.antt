@@ -5,7 +5,7 @@ use Rattle.xr_out.specs.Rows.{moment_view}
 use Rattle.xr_out.proofs.text.put_whole.Given as goal
 
 abbrev pub invariant-moments : goal.invariant-moments
-invariant-moments l = record {
-  rows : l.rows ≡ moment_view l.history l.stim.rounds l.time-index;
-  lines : l.text.items ++ lines_from l.history l.stim.rounds l.bound l.time-index (drop l.time-index l.stim.times) ≡ l.fn.text.items ++ lines_from l.history l.stim.rounds l.bound 0 l.stim.times;
+invariant-moments g l = record {
+  rows : l.rows ≡ moment_view l.fn.rows.history l.stim.rounds l.time-index;
+  lines : l.text.items ++ lines_from l.fn.rows.history l.stim.rounds l.bound l.time-index (drop l.time-index l.stim.times) ≡ l.fn.text.items ++ lines_from l.fn.rows.history l.stim.rounds l.bound 0 l.stim.times;
 }

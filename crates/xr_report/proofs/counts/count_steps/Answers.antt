@@ -1,8 +1,11 @@
 -- Each step is counted once.
-use Rattle.std.proofs.Common.{◌≡◌, ◌+◌, ◌-◌, ◌*◌, ◌≤◌, ◌∙◌, length, ap, arith}
+use Rattle.std.proofs.Common.{◌≡◌, ◌+◌, ◌-◌, ◌*◌, ◌≤◌, ◌∙◌, length, ap, arith, subst}
 use Rattle.std.proofs.Math.Nat.{mul-le-mul_right}
-use Rattle.xr_report.specs.Counts.{counts_below, counts_in, total}
+use Rattle.xr_design.specs.Job.{Job}
+use Rattle.xr_report.specs.Counts.{counts_below, total}
+use Rattle.xr_report.specs.Ends.{AreEndsAt}
 use Rattle.xr_report.proofs.Counting.{counted_step, total_among, total_below}
+use Rattle.xr_report.proofs.Ending.{counts_are}
 use Rattle.xr_report.proofs.counts.count_steps.Goals as goal
 
 pub steps-init : goal.steps-init
@@ -11,11 +14,20 @@ steps-init c = record {
   counts =
       let e : 0 ≡ 0 * length c.args.wave.now.design.nets = omega arith in
       ap (counts_below c.args.wave.now) e;
+  long = c.in_ok-ends.ensures ∙ c.width_of.ensures ∙ ap (λ (j : Job). j.width) c.circuit.ensures.job;
   last = λ less. absurd (omega (arith, less));
 }
 
-pub count_step-requires-clause-whole : goal.count_step-requires-clause-whole
-count_step-requires-clause-whole c =
+pub bring_rows-requires-clause-whole : goal.bring_rows-requires-clause-whole
+bring_rows-requires-clause-whole c =
+    let width = length c.args.wave.now.design.nets in
+    let test = c.steps-test.true in
+    let most : (c.steps.step + 1) * width ≤ c.args.steps * width = mul-le-mul_right width (omega (arith, test)) in
+    let within = c.requires.within in
+    omega (arith, most, within)
+
+pub bring-requires-clause-whole : goal.bring-requires-clause-whole
+bring-requires-clause-whole c =
     let width = length c.args.wave.now.design.nets in
     let test = c.steps-test.true in
     let most : (c.steps.step + 1) * width ≤ c.args.steps * width = mul-le-mul_right width (omega (arith, test)) in
@@ -32,16 +44,19 @@ add_counts-requires c =
     let up = c.count-count.ensures.wave.holds.sound.within in
     let few = c.count-count.ensures.wave.few in
     let counts = ap total c.steps.invariant.counts ∙ total_below wave (c.steps.step * width) in
-    let last = ap total c.in_ok-last.ensures.counts ∙ total_among wave (c.steps.step * width) width in
+    let are = c.counts-more.ensures ∙ counts_are wave c.steps.step c.bring.new.self.ends.items c.bring.ensures in
+    let last = ap total are ∙ total_among wave (c.steps.step * width) width in
     omega (arith, most, within, up, few, counts, last)
 
 pub steps-preserved : goal.steps-preserved
 steps-preserved c =
     let wave = c.args.wave.now in
     let back : c.steps.step ≡ c.steps.step + 1 - 1 = omega arith in
+    let are = c.counts-more.ensures ∙ counts_are wave c.steps.step c.bring.new.self.ends.items c.bring.ensures in
     record {
-      rows = c.in_ok-last.ensures.rows;
-      counts = counted_step wave c.steps.step c.steps.counts c.in_ok-last.last c.add_counts.new.self
-          c.steps.invariant.counts c.in_ok-last.ensures.counts c.add_counts.ensures;
-      last = λ less. c.in_ok-last.ensures.counts ∙ ap (counts_in wave) back;
+      rows = c.in_ok-bring_rows.ensures.are;
+      counts = counted_step wave c.steps.step c.steps.counts c.counts-more.result c.add_counts.new.self
+          c.steps.invariant.counts are c.add_counts.ensures;
+      long = c.bring.ensures.long;
+      last = λ less. subst (λ s. AreEndsAt wave s c.bring.new.self.ends.items) back c.bring.ensures;
     }

@@ -1,13 +1,14 @@
 -- The numbers on both sides of the halves are looked at.
-use Rattle.std.proofs.Common.{◌-◌, ◌<◌, ◌≤◌, length, slice_index}
+use Rattle.std.proofs.Common.{◌-◌, ◌<◌, ◌≤◌, length}
+use Rattle.xr_wave_bytes.specs.Anew.{anew_number, nth_anew}
 use Rattle.xr_wave_bytes.proofs.rows.count_below.Given as goal
 
 abbrev pub invariant-halves : goal.invariant-halves
 invariant-halves l = record {
   order : l.low ≤ l.high;
   within : l.high ≤ length l.log;
-  last : 0 < l.low → slice_index l.log (l.low - 1) < l.number;
-  next : l.high < length l.log → l.number ≤ slice_index l.log l.high;
+  last : 0 < l.low → anew_number (nth_anew l.log (l.low - 1)) < l.number;
+  next : l.high < length l.log → l.number ≤ anew_number (nth_anew l.log l.high);
 }
 
 abbrev pub decreases-halves : goal.decreases-halves

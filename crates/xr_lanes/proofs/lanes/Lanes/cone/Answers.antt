@@ -7,9 +7,10 @@ returns-clause-cone c =
     found_cone c.args.wave.now c.args.self.now (record {
       nodes = c.self.inside.nodes;
       first = c.self.inside.first;
-      literals = c.self.inside.literals.items;
+      literals = c.self.inside.literals.literals;
       next = c.self.inside.next;
       graph = c.self.inside.graph;
       shared = c.self.inside.shared;
+      width = c.self.inside.literals.width;
     }) c.in-Some.node c.cone_of.result c.circuit-circuit.ensures.wave c.requires.right c.requires.looked c.self.view_is
     c.in-Some.is c.cone_of.ensures

@@ -10,10 +10,11 @@ show-requires-clause-node c =
     next_in c.args.wave.now (record {
       nodes = c.self.inside.nodes;
       first = c.self.inside.first;
-      literals = c.self.inside.literals.items;
+      literals = c.self.inside.literals.literals;
       next = c.self.inside.next;
       graph = c.self.inside.graph;
       shared = c.self.inside.shared;
+      width = c.self.inside.literals.width;
     }) c.in-Some.node (subst (IsRightOf c.args.wave.now) (sym c.self.view_is) c.requires.right)
     (subst (IsLookedAt c.args.wave.now) (sym c.self.view_is) c.requires.looked) c.in-Some.is
 
@@ -22,10 +23,11 @@ returns-in-Some-sources-clause-right c =
     let lanes : LanesView = record {
       nodes = c.self.inside.nodes;
       first = c.self.inside.first;
-      literals = c.self.inside.literals.items;
+      literals = c.self.inside.literals.literals;
       next = c.self.inside.next;
       graph = c.self.inside.graph;
       shared = c.self.inside.shared;
+      width = c.self.inside.literals.width;
     } in
     on_ok_weaker c.show.result (λ is. shared_right c.args.wave.now lanes c.show.new.self
     (subst (IsRightOf c.args.wave.now) (sym c.self.view_is) c.requires.right) is) c.show.ensures.right

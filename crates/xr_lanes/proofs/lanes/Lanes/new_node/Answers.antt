@@ -23,14 +23,15 @@ make_node-requires-clause-covered c =
       nodes = c.self.inside.nodes;
       first = c.self.inside.first;
       literals =
-          c.self.inside.literals.items;
+          c.self.inside.literals.literals;
       next = c.self.inside.next;
       graph = c.self.inside.graph;
       shared = c.self.inside.shared;
+      width = c.self.inside.literals.width;
     }) _ c.args.place
     (subst (IsRightOf c.args.wave.now) (sym c.self.view_is) c.requires.right)
     (c.requires.place ∙ ap (λ (l : LanesView). count_of l) (sym c.self.view_is))
-    (record { nodes = refl; first = refl; literals = c.as_slice.ensures.value })
+    (record { nodes = refl; first = refl; literals = refl })
 
 pub make_node-requires-clause-before : goal.make_node-requires-clause-before
 make_node-requires-clause-before c =
@@ -38,10 +39,11 @@ make_node-requires-clause-before c =
       nodes = c.self.inside.nodes;
       first = c.self.inside.first;
       literals =
-          c.self.inside.literals.items;
+          c.self.inside.literals.literals;
       next = c.self.inside.next;
       graph = c.self.inside.graph;
       shared = c.self.inside.shared;
+      width = c.self.inside.literals.width;
     }) c.args.place
     (subst (IsRightOf c.args.wave.now) (sym c.self.view_is) c.requires.right)
     (c.requires.place ∙ ap (λ (l : LanesView). count_of l) (sym c.self.view_is))
@@ -65,10 +67,11 @@ returns-clause-right c =
       nodes = c.self.inside.nodes;
       first = c.self.inside.first;
       literals =
-          c.self.inside.literals.items;
+          c.self.inside.literals.literals;
       next = c.self.inside.next;
       graph = c.self.inside.graph;
       shared = c.self.inside.shared;
+      width = c.self.inside.literals.width;
     } in
     let place_is : c.place_of.result ≡ place_at (job c.args.wave.now) c.args.place =
     c.place_of.ensures ∙ ap (λ (j : Job). place_at j c.args.place) c.circuit-circuit.ensures.job in
@@ -86,19 +89,21 @@ returns-clause-right c =
       nodes = ns;
       first = c.self.inside.first;
       literals =
-          c.self.inside.literals.items;
+          c.self.inside.literals.literals;
       next = Some c.in_ok-node.node;
       graph = c.in_ok-self-inside.field-0;
       shared = c.self.inside.shared;
+      width = c.self.inside.literals.width;
     })) (sym c.in_ok-node.ensures.puts)
     (subst (λ (n : ℕ). IsRightOf c.args.wave.now (record {
       nodes = with_made c.self.inside.nodes made;
       first = c.self.inside.first;
       literals =
-          c.self.inside.literals.items;
+          c.self.inside.literals.literals;
       next = Some n;
       graph = c.in_ok-self-inside.field-0;
       shared = c.self.inside.shared;
+      width = c.self.inside.literals.width;
     })) (sym c.in_ok-node.ensures.node)
     (right_made c.args.wave.now lanes _ c.args.place made c.in_ok-self-inside.field-0 c.circuit-circuit.ensures.wave
     (subst (IsRightOf c.args.wave.now) (sym c.self.view_is) c.requires.right)

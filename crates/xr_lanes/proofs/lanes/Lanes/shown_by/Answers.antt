@@ -11,10 +11,11 @@ shown_as-requires-clause-bits c =
     let lanes : LanesView = record {
       nodes = c.self.inside.nodes;
       first = c.self.inside.first;
-      literals = c.self.inside.literals.items;
+      literals = c.self.inside.literals.literals;
       next = c.self.inside.next;
       graph = c.self.inside.graph;
       shared = c.self.inside.shared;
+      width = c.self.inside.literals.width;
     } in
     subst (HasNextBits c.args.wave.now) (sym c.place-place.ensures)
     (next_bits c.args.wave.now lanes c.args.node c.args.other c.circuit-circuit.ensures.wave
@@ -28,10 +29,11 @@ shown_as-requires-clause-cone c =
     let lanes : LanesView = record {
       nodes = c.self.inside.nodes;
       first = c.self.inside.first;
-      literals = c.self.inside.literals.items;
+      literals = c.self.inside.literals.literals;
       next = c.self.inside.next;
       graph = c.self.inside.graph;
       shared = c.self.inside.shared;
+      width = c.self.inside.literals.width;
     } in
     subst (HasNextCone c.args.wave.now) (sym c.place-place.ensures)
     (next_cone c.args.wave.now lanes c.args.node c.args.other c.circuit-circuit.ensures.wave

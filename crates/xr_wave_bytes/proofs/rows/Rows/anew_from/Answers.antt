@@ -1,5 +1,6 @@
 -- No place between is written anew.
-use Rattle.std.proofs.Common.{◌≡◌, ◌≤◌, ◌<◌, length, slice_index, sym, subst, arith, ⊎_elim}
+use Rattle.std.proofs.Common.{◌≡◌, ◌≤◌, ◌<◌, length, sym, subst, arith, ⊎_elim}
+use Rattle.xr_wave_bytes.specs.Anew.{anew_number, nth_anew}
 use Rattle.xr_wave_bytes.specs.Rows.{AreAgain, RowsView, bytes_in}
 use Rattle.xr_wave_bytes.proofs.NotedPlaces.{again_between}
 use Rattle.xr_wave_bytes.proofs.RowPlaces.{bytes_long}
@@ -12,7 +13,7 @@ returns-clause-from c =
     let result = c.noted_or.result in
     let next = rw c.as_slice.ensures.value at c.count_below-count.ensures.next in
     let number = c.requires.number in
-    ⊎_elim (λ (found : (count < length log) × (result ≡ slice_index log count)).
+    ⊎_elim (λ (found : (count < length log) × (result ≡ anew_number (nth_anew log count))).
     (let up = next found.0 in let is = found.1 in omega (arith, up, is)))
     (λ (none : result ≡ c.args.end). omega (arith, none, number))
     (rw c.as_slice-2.ensures.value at c.noted_or.ensures.from)

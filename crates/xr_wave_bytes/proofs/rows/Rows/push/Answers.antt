@@ -3,11 +3,12 @@ use Rattle.std.proofs.Common.{◌≡◌, ◌+◌, ◌∙◌, ℕ, List, [], slic
 use Rattle.std.proofs.lemmas.List.{get_or_default, set-get_or}
 use Rattle.xr_wave_bytes.specs.Track.{AreBefore, is_again, with_byte_at, with_noted}
 use Rattle.xr_wave_bytes.specs.Rows.{AreNoted, AreRows, IsFrontOf, RowsView, and_byte, nth_track, rows_of}
+use Rattle.xr_wave_bytes.specs.declared.anew.Anew.{Anew}
 use Rattle.xr_wave_bytes.specs.declared.track.Entry.{Entry}
 use Rattle.xr_wave_bytes.proofs.RowPlaces.{bytes_put, front_before, inside_width, put_next, room_of, rows_put}
 use Rattle.xr_wave_bytes.proofs.RowPlaces.{some_width}
 use Rattle.xr_wave_bytes.proofs.RowPlaces.{step_small}
-use Rattle.xr_wave_bytes.proofs.NotedPlaces.{noted_more, noted_put}
+use Rattle.xr_wave_bytes.proofs.NotedPlaces.{noted_put}
 use Rattle.xr_wave_bytes.proofs.rows.Rows.push.Goals as goal
 
 pub put-requires-clause-step : goal.put-requires-clause-step
@@ -59,9 +60,11 @@ invariant_of-self-2 c =
     c.in_ok-put.ensures.ok ∙ ap (λ (h : List Entry). with_byte_at h front.step c.args.byte)
     (c.index_mut.ensures.value ∙ get_or_default hs front.position c.index_mut.result.now []
     (omega (arith, inside, long))) in
-    let noted_is : c.note.new.log.items
-    ≡ with_noted c.self.inside.log.items n (is_again (nth_track hs front.position) front.step c.args.byte) =
-    c.in_ok-note.ensures.ok ∙ ap (with_noted c.self.inside.log.items n) (c.is_again-again.ensures
+    let again = is_again (nth_track hs front.position) front.step c.args.byte in
+    let place = c.new-place.result in
+    let noted_is : c.note.new.log.items ≡ with_noted c.self.inside.log.items place again =
+    c.note.ensures ∙ ap (λ (log : List Anew). with_noted log place c.is_again-again.result) c.reserve.ensures.items
+    ∙ ap (with_noted c.self.inside.log.items place) (c.is_again-again.ensures
     ∙ ap (λ (h : List Entry). is_again h front.step c.args.byte) (c.index.ensures
     ∙ get_or_default hs front.position c.index.result.now [] (omega (arith, inside, long)))) in
     record {
@@ -72,9 +75,9 @@ invariant_of-self-2 c =
           c.front_past-front.ensures.front));
       noted = subst (λ (h : List Entry). AreNoted w (n + 1) (slice_set hs front.position h) c.note.new.log.items)
           (sym put_is)
-          (subst (λ (log : List ℕ). AreNoted w (n + 1) (put_next hs front c.args.byte) log) (sym (noted_is))
-          (noted_put w n c.args.byte front hs c.self.inside.log.items some long c.self.invariant.rows.at
-          c.self.invariant.noted));
+          (subst (λ (log : List Anew). AreNoted w (n + 1) (put_next hs front c.args.byte) log) (sym (noted_is))
+          (noted_put w n c.args.byte front hs place c.self.inside.log.items some long c.self.invariant.rows.below
+          c.self.invariant.rows.at c.new-place.ensures.number c.new-place.ensures.byte c.self.invariant.noted));
     }
 
 pub returns-clause-ok : goal.returns-clause-ok
@@ -122,7 +125,6 @@ invariant_of-self-in_err-put c =
     (omega (arith, inside, long))) ∙ set-get_or ts front.position [] in
     record {
       rows = subst (λ (hs : List (List Entry)). AreRows w s n front hs) (sym same) c.self.invariant.rows;
-      noted = subst (λ (hs : List (List Entry)). AreNoted w n hs c.note.new.log.items) (sym same)
-          (subst (λ (log : List ℕ). AreNoted w n ts log) (sym c.in_ok-note.ensures.ok)
-          (noted_more w n ts c.self.inside.log.items c.is_again-again.result c.self.invariant.noted));
+      noted = subst (λ (hs : List (List Entry)). AreNoted w n hs c.reserve.new.self.items) (sym same)
+          (subst (λ (log : List Anew). AreNoted w n ts log) (sym c.reserve.ensures.items) c.self.invariant.noted);
     }

@@ -1,0 +1,25 @@
+//! Runs of a whole program on files in memory, with what each must leave: cases as texts, and jobs with want of memory.
+//! Start at `Program`, which a program of tests implements by one call, at `run_files` and at `run_jobs`. What a case may
+//! say is at the head of `case.rt`, what sets it up at that of `setting.rt`.
+#![tactic(auto)]
+
+mod after;
+mod back;
+mod case;
+mod compared;
+mod cut;
+mod exported;
+mod failing;
+mod files;
+mod given;
+mod job;
+mod jobs;
+mod made;
+mod program;
+mod setting;
+mod tabled;
+mod words;
+
+pub use files::run_files;
+pub use jobs::run_jobs;
+pub use program::Program;

@@ -1,0 +1,12 @@
+-- The history is still.
+use Rattle.std.proofs.Common.{subst}
+use Rattle.xr_design.specs.History.{HistoryView}
+use Rattle.xr_report.specs.Finished.{IsStillAt}
+use Rattle.xr_report.proofs.Changing.{still_shown}
+use Rattle.xr_report.proofs.ends.Ends.put_blank.Goals as goal
+
+pub returns-else-not-is_still-clause-shown : goal.returns-else-not-is_still-clause-shown
+returns-else-not-is_still-clause-shown c =
+    still_shown c.args.wave.now c.circuit-circuit.ensures.wave c.args.step c.args.self.now.ends.items c.requires.whole
+    (subst (λ (h : HistoryView). IsStillAt h c.args.step) c.replayed.ensures
+    (c.is_still.ensures c.if-not-is_still.false))

@@ -1,0 +1,47 @@
+-- Each moment is put, and what is unknown in it is due in the next one.
+use Rattle.std.proofs.Common.{◌≡◌, ℕ, ◌+◌, ◌-◌, ◌<◌, ◌++◌, ◌∙◌, List, ap, arith, length, rules, subst, sym}
+use Rattle.xr_design.specs.Settled.{last_step}
+use Rattle.xr_report.specs.Marked.{KnownUnlessDue, moment_lines}
+use Rattle.xr_report.proofs.BitLines.{moment_put}
+use Rattle.xr_report.proofs.Reach.{moments_there}
+use Rattle.xr_wave.specs.Contents.{job}
+use Rattle.xr_report.proofs.marked.put_moments.Goals as goal
+
+pub put_due-requires-clause-moments : goal.put_due-requires-clause-moments
+put_due-requires-clause-moments c = moments_there c.args.wave.now c.count-count.ensures.wave c.requires.finished
+
+pub put_due-requires-clause-due : goal.put_due-requires-clause-due
+put_due-requires-clause-due c =
+    let wave = c.args.wave.now in
+    subst (λ (nets : List ℕ). KnownUnlessDue wave nets (last_step (job wave) c.moments.moment) c.mark_moment.new.due)
+    (sym c.as_slice-nets.ensures.value) c.in_ok-mark_moment.ensures.known
+
+pub moments-preserved : goal.moments-preserved
+moments-preserved c =
+    let wave = c.args.wave.now in
+    let moment = c.moments.moment in
+    let nets = c.args.bits.now.nets.items in
+    let text = c.moments.text.items in
+    let less : moment < length wave.stim.times = search rules in
+    let put = c.in_ok-put_due.ensures.text
+    ∙ ap (λ (l : List ℕ). text ++ moment_lines wave c.args.lines moment l) c.as_slice-nets.ensures.value in
+    let back : moment ≡ moment + 1 - 1 = omega arith in
+    let x = c.swap.ensures.x_after in
+    let y = c.swap.ensures.y_after in
+    let long = ap length x in
+    let put_long = c.in_ok-put_due.ensures.long in
+    let clear_long = c.clear.ensures.long in
+    let room = c.moments.invariant.unknown in
+    let wide = ap length y in
+    let due_room = c.in_ok-mark_moment.ensures.room in
+    let known = subst (λ (l : List ℕ). KnownUnlessDue wave l (last_step (job wave) moment) c.put_due.new.unknown)
+    c.as_slice-nets.ensures.value c.in_ok-put_due.ensures.unknown in
+    record {
+      lines = moment_put wave c.args.lines nets moment (length wave.stim.times) text _ c.put_due.new.text.items less
+          c.moments.invariant.lines put;
+      reader = c.in_ok-put_due.ensures.reader;
+      due = omega (arith, long, put_long, clear_long, room);
+      unknown = omega (arith, wide, due_room);
+      before = λ later. subst (λ (m : ℕ). KnownUnlessDue wave nets (last_step (job wave) m) c.swap.new.x) back
+          (subst (λ (set : List ℕ). KnownUnlessDue wave nets (last_step (job wave) moment) set) (sym x) known);
+    }

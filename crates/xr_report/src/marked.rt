@@ -1,0 +1,207 @@
+//! The lines moment by moment, each by the bits that may have one: those of which x or z was recorded in the moment
+//! before, and those whose net the history writes in the moment.
+
+ghost use Rattle.std.specs.Prelude.{◌≡◌, ℕ, ◌+◌, ◌-◌, ◌*◌, ◌<◌, ◌^◌, ◌++◌, true, All, OnOk, length, slice_index};
+ghost use Rattle.xr_design.specs.Settled.{last_step};
+ghost use Rattle.xr_replay_due.specs.Due.{HasRoomFor};
+ghost use Rattle.xr_report.specs.Finished.{HasMoments, IsReaderOf};
+ghost use Rattle.xr_report.specs.Marked as spec;
+ghost use Rattle.xr_report.specs.Marked.{AreBitNets, KnownUnlessDue, KnownUnlessDueTo};
+ghost use Rattle.xr_wave.specs.Contents.{IsFinished, job};
+
+use crate::bits::{Reader, put_bit};
+use crate::lines::ReportLines;
+use crate::nets::BitNets;
+use std::alloc::Global;
+use std::mem;
+use xr_base::Memory;
+use xr_match::BoundBit;
+use xr_replay::mark_changes;
+use xr_replay_due::Due;
+use xr_wave::Wave;
+
+/// The bits of a moment whose lines are put.
+#[derive(Clone, Copy, Debug)]
+struct MomentBits<'m, 'w, 'a> {
+    wave: &'w Wave<'a>,
+    lines: ReportLines,
+    moment: u32,
+    nets: &'m [u32],
+}
+
+/// The lines of all moments. Takes two bits for each bit, or for each net where there are more of these; and time
+/// linear in the text, in the bits of the first moment, in those of which x or z is recorded and in what the history and
+/// the wave write anew.
+pub fn put_moments<'w, 'a>(
+    alloc: Global,
+    text: &mut Vec<u8>,
+    wave: &'w Wave<'a>,
+    lines: ReportLines,
+    reader: &mut Reader<'w, 'a>,
+    bits: &BitNets,
+) -> Result<(), Memory>
+    requires finished { IsFinished wave.now }
+    requires bits { AreBitNets (length wave.now.design.nets) bits.now }
+    requires reader { IsReaderOf wave.now reader.old }
+    ensures { let all = spec.moments_lines wave.now lines bits.now.nets.items 0 (length wave.now.stim.times) in
+        OnOk result (text.new.items ≡ text.old.items ++ all) }
+{
+    // With it comes the fact that the history has the places of the wave.
+    let _count = wave.count();
+    let nets = bits.nets.as_slice();
+    let mut due = Due::none(alloc, bits.room)?;
+    let mut unknown = Due::none(alloc, bits.room)?;
+    let moments = wave.stim().times.as_slice().len() as u32;
+    'moments: for moment in 0..moments {
+        mark_moment(alloc, wave, bits, moment, &mut due)?;
+        unknown.clear();
+        let here = MomentBits {
+            wave,
+            lines,
+            moment,
+            nets,
+        };
+        put_due(alloc, text, reader, &here, &due, &mut unknown)?;
+        mem::swap(&mut due, &mut unknown);
+    }
+    Ok(())
+}
+
+/// Each bit becomes due of which x or z is recorded in a moment, where each was due of which it is in the moment before.
+/// At the first moment, and where the history doesn't tell what is written, all become due.
+fn mark_moment(
+    alloc: Global,
+    wave: &Wave<'_>,
+    bits: &BitNets,
+    moment: u32,
+    due: &mut Due,
+) -> Result<(), Memory>
+    requires moment { moment < length wave.now.stim.times }
+    requires bits { AreBitNets (length wave.now.design.nets) bits.now }
+    requires room { HasRoomFor due.old bits.now.room }
+    requires before { 0 < moment →
+        KnownUnlessDue wave.now bits.now.nets.items (last_step (job wave.now) (moment - 1)) due.old }
+    ensures room { OnOk result (HasRoomFor due.new bits.now.room) }
+    ensures known { OnOk result
+        (KnownUnlessDue wave.now bits.now.nets.items (last_step (job wave.now) moment) due.new) }
+{
+    if moment > 0 && mark_rounds(wave, bits, moment, due) {
+        return Ok(());
+    }
+    *due = Due::all(alloc, bits.room)?;
+    Ok(())
+}
+
+/// The same at a later moment. False where the history doesn't tell.
+fn mark_rounds(wave: &Wave<'_>, bits: &BitNets, moment: u32, due: &mut Due) -> bool
+    requires later { 0 < moment }
+    requires moment { moment < length wave.now.stim.times }
+    requires bits { AreBitNets (length wave.now.design.nets) bits.now }
+    requires room { HasRoomFor due.old bits.now.room }
+    requires before { KnownUnlessDue wave.now bits.now.nets.items (last_step (job wave.now) (moment - 1)) due.old }
+    ensures long { length due.new ≡ length due.old }
+    ensures known { result ≡ true →
+        KnownUnlessDue wave.now bits.now.nets.items (last_step (job wave.now) moment) due.new }
+{
+    // With it comes the fact that the history has the places of the wave.
+    let _circuit = wave.circuit();
+    let rounds = wave.stim().rounds;
+    let first = moment as usize * rounds as usize;
+    'rounds: for round in 0..rounds {
+        if !mark_step(wave, bits, first + round as usize, due) {
+            return false;
+        }
+    }
+    true
+}
+
+/// Each bit becomes due whose net is written at a step. False where the history doesn't tell.
+fn mark_step(wave: &Wave<'_>, bits: &BitNets, step: usize, due: &mut Due) -> bool
+    requires later { 0 < step }
+    requires step { step < length wave.now.stim.times * wave.now.stim.rounds }
+    requires bits { AreBitNets (length wave.now.design.nets) bits.now }
+    requires room { HasRoomFor due.old bits.now.room }
+    requires before { KnownUnlessDue wave.now bits.now.nets.items (step - 1) due.old }
+    ensures long { length due.new ≡ length due.old }
+    ensures known { result ≡ true → KnownUnlessDue wave.now bits.now.nets.items step due.new }
+{
+    // With it comes the fact that the history has the places of the wave.
+    let _circuit = wave.circuit();
+    match wave.replayed().written(step) {
+        Some(changes) => {
+            mark_changes(&bits.readers, bits.room, changes, due);
+            true
+        }
+        None => false,
+    }
+}
+
+/// The lines of a moment, of which each bit that isn't due has none. Those of which x or z is recorded join the unknown
+/// ones. Costs the bits that are due.
+fn put_due<'w, 'a>(
+    alloc: Global,
+    text: &mut Vec<u8>,
+    reader: &mut Reader<'w, 'a>,
+    here: &MomentBits<'_, 'w, 'a>,
+    due: &Due,
+    unknown: &mut Due,
+) -> Result<(), Memory>
+    requires moments { HasMoments here.now.wave.now }
+    requires moment { here.now.moment < length here.now.wave.now.stim.times }
+    requires nets { All (λ net. net < length here.now.wave.now.design.nets) here.now.nets.now }
+    requires reader { IsReaderOf here.now.wave.now reader.old }
+    requires due { KnownUnlessDue here.now.wave.now here.now.nets.now
+        (last_step (job here.now.wave.now) here.now.moment) due.now }
+    requires room { HasRoomFor unknown.old (length here.now.nets.now) }
+    ensures text { let lines = spec.moment_lines here.now.wave.now here.now.lines here.now.moment here.now.nets.now in
+        OnOk result (text.new.items ≡ text.old.items ++ lines) }
+    ensures reader { OnOk result (IsReaderOf here.now.wave.now reader.new) }
+    ensures long { OnOk result (length unknown.new ≡ length unknown.old) }
+    ensures unknown { OnOk result (KnownUnlessDue here.now.wave.now here.now.nets.now
+        (last_step (job here.now.wave.now) here.now.moment) unknown.new) }
+{
+    let mut number = due.first_from(0);
+    'bits: while number < here.nets.len() {
+        put_number(alloc, text, reader, here, number, unknown)?;
+        number = due.first_from(number + 1);
+    }
+    Ok(())
+}
+
+/// The line of a bit, which joins the unknown ones where x or z is recorded of it.
+fn put_number<'w, 'a>(
+    alloc: Global,
+    text: &mut Vec<u8>,
+    reader: &mut Reader<'w, 'a>,
+    here: &MomentBits<'_, 'w, 'a>,
+    number: usize,
+    unknown: &mut Due,
+) -> Result<(), Memory>
+    requires moments { HasMoments here.now.wave.now }
+    requires moment { here.now.moment < length here.now.wave.now.stim.times }
+    requires nets { All (λ net. net < length here.now.wave.now.design.nets) here.now.nets.now }
+    requires number { number < length here.now.nets.now }
+    requires reader { IsReaderOf here.now.wave.now reader.old }
+    requires room { HasRoomFor unknown.old (length here.now.nets.now) }
+    requires before { KnownUnlessDueTo here.now.wave.now here.now.nets.now
+        (last_step (job here.now.wave.now) here.now.moment) number unknown.old }
+    ensures text { let net = slice_index here.now.nets.now number in
+        let line = spec.net_line here.now.wave.now here.now.lines here.now.moment net in
+        OnOk result (text.new.items ≡ text.old.items ++ line) }
+    ensures reader { OnOk result (IsReaderOf here.now.wave.now reader.new) }
+    ensures long { OnOk result (length unknown.new ≡ length unknown.old) }
+    ensures unknown { OnOk result (KnownUnlessDueTo here.now.wave.now here.now.nets.now
+        (last_step (job here.now.wave.now) here.now.moment) (number + 1) unknown.new) }
+{
+    let bit = BoundBit {
+        moment: here.moment,
+        variable: 0,
+        bit: 0,
+        net: here.nets[number],
+    };
+    if !put_bit(alloc, text, here.wave, here.lines, reader, bit)? {
+        return Ok(());
+    }
+    unknown.insert(number);
+    Ok(())
+}

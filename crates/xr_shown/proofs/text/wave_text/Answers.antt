@@ -1,0 +1,14 @@
+-- The history has a place for each net at each step.
+use Rattle.std.proofs.Common.{◌≡◌, ◌∙◌, ap}
+use Rattle.xr_design.specs.Row.{RowView}
+use Rattle.xr_out.specs.Rows.{MomentView}
+use Rattle.xr_shown.specs.History.{shown_history}
+use Rattle.xr_shown.proofs.Showing.{has_steps}
+use Rattle.xr_shown.proofs.text.wave_text.Goals as goal
+
+pub text_of_rows-requires-clause-steps : goal.text_of_rows-requires-clause-steps
+text_of_rows-requires-clause-steps c =
+    let history : c.first-rows.result.history ≡ shown_history c.args.wave.now =
+    ap (λ (v : MomentView). v.history) c.first-rows.ensures ∙ ap (λ (v : RowView). v.history) c.in_ok-row.ensures in
+    rw (c.design.ensures, c.stim-2.ensures, history)
+    (has_steps c.args.wave.now c.circuit-circuit.ensures.wave.fits.fits_job)

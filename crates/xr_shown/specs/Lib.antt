@@ -1,0 +1,2 @@
+-- Definitions of xr_shown: the history of what a finished wave shows.
+pub mod History

@@ -1,0 +1,50 @@
+//! The bound variables that a step of a wave may show otherwise than the one before.
+
+ghost use Rattle.std.specs.Prelude.{◌≡◌, ◌-◌, ◌<◌, length, slice_index};
+ghost use Rattle.xr_design.specs.Circuit.{job_in, CircuitFits};
+ghost use Rattle.xr_fans.specs.Marks.{OnlyMore};
+ghost use Rattle.xr_out.specs.Readers.{FitsReaders, KeepLetters};
+ghost use Rattle.xr_out.specs.Steps.{HasStep};
+ghost use Rattle.xr_replay.specs.Watched.{AreReadersDue};
+ghost use Rattle.xr_replay_due.specs.Due.{HasRoomFor};
+ghost use Rattle.xr_shown.specs.History.{shown_history};
+ghost use Rattle.xr_wave.specs.Contents.{IsFinished, job};
+
+use xr_design::{Circuit, width_of};
+use xr_fans::mark_all;
+use xr_out::BitReaders;
+use xr_replay_due::Due;
+use xr_wave::Wave;
+
+/// The bound variables become due that have a bit whose place a finished wave wrote anew at a step. Takes no memory.
+pub fn mark_anew(wave: &Wave<'_>, readers: &BitReaders, step: usize, due: &mut Due)
+    requires finished { IsFinished wave.now }
+    requires readers { FitsReaders (job wave.now).width readers.now }
+    requires later { 0 < step }
+    requires step { HasStep (shown_history wave.now) step }
+    requires room { HasRoomFor due.old readers.now.room }
+    ensures long { length due.new ≡ length due.old }
+    ensures more { OnlyMore due.old due.new }
+    ensures kept { KeepLetters (shown_history wave.now) readers.now.table (step - 1) step due.new }
+{
+    let circuit = wave.circuit();
+    let start = step * width_of(&circuit);
+    let anew = wave.anew_at(step);
+    'places: for place in anew {
+        mark_position(&circuit, readers, place.number() - start, due);
+    }
+}
+
+/// The bound variables become due that have the net at a position among their bits.
+fn mark_position(circuit: &Circuit<'_>, readers: &BitReaders, position: usize, due: &mut Due)
+    requires fits { CircuitFits circuit.now }
+    requires readers { FitsReaders (job_in circuit.now).width readers.now }
+    requires position { position < (job_in circuit.now).width }
+    requires room { HasRoomFor due.old readers.now.room }
+    ensures long { length due.new ≡ length due.old }
+    ensures more { OnlyMore due.old due.new }
+    ensures due { AreReadersDue readers.now.table (slice_index (job_in circuit.now).order position) due.new }
+{
+    let net = circuit.order.net(position as u32);
+    mark_all(&readers.table, net as usize, readers.room, due);
+}
