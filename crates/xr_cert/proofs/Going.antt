@@ -3,9 +3,8 @@ use Rattle.std.proofs.Common.{◌≡◌, ℕ, ◌<◌, ◌≤◌, Bool, true, fa
 use Rattle.std.specs.Prelude.{IfOk, Result, Ok, Err, is_some, nat_lt}
 use Rattle.std.proofs.lemmas.Bool.{lt-ltb, ltb-true}
 use Rattle.std.proofs.lemmas.Bool.Decides.{nat_tests}
-use Rattle.xr_cone.proofs.GrownCones.{cones_go, cones_grow}
-use Rattle.xr_cone.specs.Cones.{AreRightOf}
-use Rattle.xr_cone.specs.declared.cones.Cones.{Cones}
+use Rattle.xr_turns.proofs.LawsOfCone.{cones_go, cones_grow}
+use Rattle.xr_turns.specs.OfCone.{AreRightOf, Cones}
 use Rattle.xr_design.specs.Job.{Job, places_of}
 use Rattle.xr_design.specs.Waveform.{certain}
 use Rattle.xr_model.specs.Class.{class_of, class_seen}

@@ -17,7 +17,7 @@ use Rattle.xr_model.specs.Cone.{is_carried}
 use Rattle.xr_model.specs.Query.{is_variable}
 use Rattle.xr_model.specs.declared.turn.Turn.{Turn}
 use Rattle.xr_model.specs.declared.turn.Turn.TheVariants.{Dropped, Needed, Tried}
-use Rattle.xr_cone.specs.Boundary.{certain_boundary, certain_boundary_in, is_boundary}
+use Rattle.xr_turns.specs.OfCone.{certain_boundary, certain_boundary_in, is_boundary}
 use Rattle.xr_turns.proofs.TurnChoices.{variable_listed}
 use Rattle.xr_turns.proofs.TurnsBefore.{boundary_is_low}
 use Rattle.xr_turns.specs.TurnQuery.{is_turn_variable, turn_variables}

@@ -19,7 +19,7 @@ use Rattle.xr_along.proofs.GoingWaves.{goes_wave}
 use Rattle.xr_along.specs.Accepted.{AcceptsLine}
 use Rattle.xr_along.specs.Along.{by_line}
 use Rattle.xr_along.specs.Along as walk
-use Rattle.xr_cone.specs.Known.{IsGrown}
+use Rattle.xr_turns.specs.OfCone.{IsGrown}
 use Rattle.xr_turns.specs.View.{ConditionView, IsConditionOf}
 use Rattle.xr_turns.proofs.StayingConditions.{conditions_stay}
 use Rattle.xr_turns.specs.Conditions.{AreConditionsOf, IsConditionAt, IsCertainLine, gives_bit, settled_places}

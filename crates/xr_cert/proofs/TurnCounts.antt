@@ -10,7 +10,7 @@ use Rattle.xr_design.specs.Fits.{Fits, place_at}
 use Rattle.xr_design.specs.Job.{Job, number_of, places_of}
 use Rattle.xr_design.specs.Waveform.{certain}
 use Rattle.xr_design.specs.World.{decided}
-use Rattle.xr_cone.specs.Boundary.{certain_boundary}
+use Rattle.xr_turns.specs.OfCone.{certain_boundary}
 use Rattle.xr_turns.proofs.TurnsBefore.{certain_boundary_same, turns_of_moved}
 use Rattle.xr_turns.specs.Turns.{AreTurns, AreTurnsOf, first_due, first_kept, kept_with}
 use Rattle.xr_model.specs.declared.line.Line.{Line as ALine}

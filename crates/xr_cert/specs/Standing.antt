@@ -6,8 +6,7 @@ use Rattle.xr_model.specs.declared.turn.TurnLine.{TurnLine}
 use Rattle.xr_wave.specs.Advance.{IsPlain}
 use Rattle.xr_wave.specs.Contents.{Contents, IsFinished, IsWave, job, next_seen, shown_in}
 use Rattle.xr_wave.specs.Token.{IsLineNext, LineAgrees, with_line}
-use Rattle.xr_cone.specs.Cones.{AreRightOf}
-use Rattle.xr_cone.specs.declared.cones.Cones.{Cones}
+use Rattle.xr_turns.specs.OfCone.{AreRightOf, Cones}
 use Rattle.xr_turns.specs.View.{ConditionView}
 use Rattle.xr_turns.specs.Conditions.{IsConditionAt, gives_bit}
 use Rattle.xr_turns.specs.TurnLines.{turn_lines}

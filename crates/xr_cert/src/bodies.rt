@@ -12,11 +12,11 @@ use crate::pairs::pair_token;
 use crate::refusal::{CertFault, CheckErr};
 use crate::spend::{spend_budget, spend_pair, spend_settled};
 use std::alloc::Global;
-use xr_cone::Cone;
 use xr_design::Filling;
 use xr_enum::{Decided, decide};
 use xr_model::Body;
 use xr_proof::Log;
+use xr_turns::Cone;
 use xr_wave::{Settled, Wave};
 
 /// Up to this many sources, every filling of them is tried.

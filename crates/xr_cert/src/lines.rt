@@ -1,7 +1,7 @@
 //! One line of a Line place, taken where no turn is due.
 
 ghost use Rattle.std.specs.Prelude.{◌≡◌, ◌↔◌, IfErr, IfNone, IfOk, IfSome, IsTrue, OnOk, None as ANone, true};
-ghost use Rattle.xr_cone.specs.Cones.{AreRightOf};
+ghost use Rattle.xr_turns.specs.OfCone.{AreRightOf};
 ghost use Rattle.xr_cone_nodes.specs.Traced.{IsNextCone};
 ghost use Rattle.xr_wave.specs.Advance.{IsAdvanced, IsObjected, IsPlain};
 ghost use Rattle.xr_wave.specs.Contents.{IsWave, next_seen};
@@ -23,10 +23,9 @@ use crate::walked::Walked;
 use std::alloc::Global;
 use xr_base::Memory;
 use xr_cert_text::Form;
-use xr_cone::{Cone, Cones};
 use xr_design::count_places;
 use xr_model::{Body, Line};
-use xr_turns::Condition;
+use xr_turns::{Condition, Cone, Cones};
 use xr_wave::Wave;
 
 /// Takes a line where the walk waits for one.

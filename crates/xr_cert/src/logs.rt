@@ -12,8 +12,8 @@ ghost use Rattle.xr_cert.specs.Step.{IsTokenOf, Refuses};
 use std::alloc::Global;
 use xr_base::Memory;
 use xr_cnf::{clauses, conclude, give_up};
-use xr_cone::Cone;
 use xr_proof::{Cnf, Log};
+use xr_turns::Cone;
 use xr_turns::logs::{checker_for, fits};
 use xr_wave::{Budget, Settled, Wave};
 

@@ -11,9 +11,9 @@ ghost use Rattle.xr_cert.specs.Step.{IsTokenOf, Refuses};
 
 use std::alloc::Global;
 use xr_base::Memory;
-use xr_cone::Cone;
 use xr_design::{Circuit, Filling, is_filling};
 use xr_pair::{BadPair, check_pair};
+use xr_turns::Cone;
 use xr_wave::{Pair, Wave};
 
 /// The token of two fillings, where the body that states them is accepted. Takes 32 bytes a node of the cone.

@@ -1,7 +1,7 @@
 //! Bodies that lanes tell to hold at the next place, without its cone.
 
 ghost use Rattle.std.specs.Prelude.{ℕ, IfErr, IfOk, IsTrue};
-ghost use Rattle.xr_cone.specs.Lanes.{IsLookedAt, IsRightOf};
+ghost use Rattle.xr_turns.specs.OfCone.{IsLookedAt, IsRightOf};
 ghost use Rattle.xr_model.specs.declared.line.Body.TheVariants as body;
 ghost use Rattle.xr_wave.specs.Token.{HoldsNext, IsLineNext};
 ghost use Rattle.xr_cert.specs.Step.{BodyStops, IsSpentBy, IsTold};
@@ -11,9 +11,9 @@ use crate::refusal::CheckErr;
 use crate::spend::spend_pair;
 use std::alloc::Global;
 use xr_base::Memory;
-use xr_cone::Lanes;
 use xr_design::Filling;
 use xr_model::Body;
+use xr_turns::Lanes;
 use xr_wave::{Pair, Wave};
 
 /// Whether lanes tell that a body holds at the next place, which was looked at: where it states two fillings that lanes

@@ -1,7 +1,7 @@
 //! The turns behind the line of a certain place.
 
 ghost use Rattle.std.specs.Prelude.{◌≡◌, ◌<◌, [], IfErr, IfOk, Some as ASome};
-ghost use Rattle.xr_cone.specs.Cones.{AreRightOf};
+ghost use Rattle.xr_turns.specs.OfCone.{AreRightOf};
 ghost use Rattle.xr_turns.specs.Conditions.{IsCertainLine};
 ghost use Rattle.xr_cert_text.specs.declared.cert.Form.{Form as AForm};
 ghost use Rattle.xr_cert.specs.Standing.{ComesAmid, ComesBehind, EndsAmid, EndsBehind, IsWaiting, StaysRight, StopsAt, Takes};
@@ -11,9 +11,8 @@ use crate::refusal::{CertFault, CheckErr};
 use crate::walked::Walked;
 use std::alloc::Global;
 use xr_cert_text::Entry;
-use xr_cone::Cones;
 use xr_design::Place;
-use xr_turns::{Condition, begin_at, take_turn};
+use xr_turns::{Condition, Cones, begin_at, take_turn};
 use xr_wave::Wave;
 
 /// Takes a line where a turn is due.

@@ -1,7 +1,7 @@
 //! The walk along the lines of a certificate.
 
 ghost use Rattle.std.specs.Prelude.{◌≡◌, [], IfErr, IfOk, None as ANone};
-ghost use Rattle.xr_cone.specs.Cones.{AreRightOf};
+ghost use Rattle.xr_turns.specs.OfCone.{AreRightOf};
 ghost use Rattle.xr_design.specs.Fits.{place_at};
 ghost use Rattle.xr_wave.specs.Advance.{IsPlain};
 ghost use Rattle.xr_wave.specs.Contents.{Contents, job, next_number, next_seen};
@@ -19,9 +19,8 @@ use crate::walked::Walked;
 use std::alloc::Global;
 use xr_base::Items;
 use xr_cert_text::{Entry, Form};
-use xr_cone::Cones;
 use xr_design::count_places;
-use xr_turns::Condition;
+use xr_turns::{Condition, Cones};
 use xr_wave::Wave;
 
 /// Goes along the lines between, and to the end: the wave, and the conditions that turns make.

@@ -1,23 +1,19 @@
 -- A certificate that is checked, and its upgrade: what is promised of them.
 use Rattle.std.proofs.Common.{◌≡◌, ◌∙◌, ℕ, List, ◌++◌, refl, sym, ap, subst}
 use Rattle.xr_along.specs.Along.{GoesAlong}
-use Rattle.xr_cert.proofs.Faultless.{begun_same}
-use Rattle.xr_cert.proofs.Fitted.{checked_accepted, own_accepted}
-use Rattle.xr_cert.proofs.OwnText.{own_text_stands}
-use Rattle.xr_cert.specs.Checked.{IsAccepted}
-use Rattle.xr_cert.specs.Entries.{AreConditionsFor, entries_of, lines_in}
-use Rattle.xr_cert.specs.Step.{cert_in}
+use Rattle.xr_phases.proofs.LawsOfCert.{begun_same, checked_accepted, own_accepted, own_text_stands}
+use Rattle.xr_phases.specs.OfCert.{IsAccepted, AreConditionsFor, entries_of, lines_in, cert_in}
 use Rattle.xr_cert_text.specs.Text.{cert_text}
 use Rattle.xr_cert_text.specs.Wrong.{IsTextOf}
 use Rattle.xr_cert_text.specs.declared.cert.Cert.{Cert}
 use Rattle.xr_cert_text.specs.declared.cert.Form.TheVariants.{Lines, Turns}
-use Rattle.xr_cond.specs.View.{ConditionView}
+use Rattle.xr_phases.specs.OfCond.{ConditionView}
 use Rattle.xr_forces.specs.ForcesOf.{forces_of}
 use Rattle.xr_forces.proofs.Showing.{forces_exist}
 use Rattle.xr_job.specs.Compared.{job_for}
 use Rattle.xr_job.specs.declared.netlist.Netlist.{Netlist as ANetlist}
 use Rattle.xr_job.specs.declared.recorded.Recorded.{Recorded}
-use Rattle.xr_listing.specs.Conditions.{conditions_text}
+use Rattle.xr_phases.specs.OfListing.{conditions_text}
 use Rattle.xr_model.specs.declared.line.Line.{Line as ALine}
 use Rattle.xr_report.specs.Report.{report_text}
 use Rattle.xr_report.specs.declared.lines.ReportLines.{ReportLines}

@@ -1,24 +1,20 @@
 -- The conditions that are made and checked, as the promises state them.
 use Rattle.std.proofs.Common.{◌≡◌, ◌∙◌, ℕ, List, [], ◌∷◌, ◌++◌, ap, arith, if◌then◌else◌, map, refl, sym}
 use Rattle.std.proofs.Math.Path.{ap₂}
-use Rattle.xr_cert.specs.Entries.{AreConditionsFor, entries_of, lines_in}
-use Rattle.xr_cert.specs.Step.{cert_in}
-use Rattle.xr_cert.proofs.OwnEntries.{own_lines}
+use Rattle.xr_phases.specs.OfCert.{AreConditionsFor, entries_of, lines_in, cert_in}
+use Rattle.xr_phases.proofs.LawsOfCert.{own_lines, kept_within, stated_turns, states_turns}
 use Rattle.xr_cert_text.specs.declared.cert.Entry.{Entry}
 use Rattle.xr_cert_text.specs.declared.cert.Entry.TheVariants.{Line, Turn}
 use Rattle.xr_cert_text.specs.declared.cert.Form.{Form}
 use Rattle.xr_cert_text.specs.declared.cert.Form.TheVariants.{Lines, Turns}
-use Rattle.xr_cond.specs.Turns.{listed_by}
-use Rattle.xr_cond.specs.View.{ConditionView, IsConditionOf, settled_bit}
+use Rattle.xr_phases.specs.OfCond.{listed_by, ConditionView, IsConditionOf, settled_bit}
 use Rattle.xr_design.specs.Fits.{place_at}
 use Rattle.xr_design.specs.Job.{number_of}
 use Rattle.xr_design.specs.Waveform.{certain}
 use Rattle.xr_design.specs.declared.place.Place.{Place}
-use Rattle.xr_listing.specs.Conditions.{condition_line, conditions_text}
+use Rattle.xr_phases.specs.OfListing.{condition_line, conditions_text}
 use Rattle.xr_model.specs.declared.line.Line.{Line as ALine}
-use Rattle.xr_cert.proofs.StatedTurns.{kept_within, stated_turns, states_turns}
-use Rattle.xr_cert.specs.Conditions.{AreConditionsOf, gives_bit, settled_places}
-use Rattle.xr_cert.specs.TurnLines.{turn_lines}
+use Rattle.xr_phases.specs.OfCert.{AreConditionsOf, gives_bit, settled_places, turn_lines}
 use Rattle.xr_wave.specs.Contents.{Contents, job}
 use Rattle.xr_cli.specs.Conditions.{Condition, EachHasCondition, HasCondition, HaveConditions, cert_by, entries_by, needs_lines}
 

@@ -8,7 +8,7 @@ use Rattle.xr_design.specs.declared.stim.Stim.{Stim}
 use Rattle.xr_job.specs.declared.netlist.Netlist.{Netlist as ANetlist}
 use Rattle.xr_line.specs.Line.{IsSet, Text, pieces_of}
 use Rattle.xr_line.specs.Tables.{Sets, needs}
-use Rattle.xr_listing.specs.Fixed.{fix_text}
+use Rattle.xr_phases.specs.OfListing.{fix_text}
 use Rattle.xr_phases.proofs.JobTexts.{JobFound, answers_one, job_found, job_passes, no_answer, refused_by}
 use Rattle.xr_phases.proofs.ObjectingOnce.{one_fix_cause}
 use Rattle.xr_phases.proofs.OneJob.{job_exact, one_compared}

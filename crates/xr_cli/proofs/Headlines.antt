@@ -32,12 +32,9 @@ use Rattle.xr_out.specs.Text.{vcd_text}
 use Rattle.xr_report.specs.Report.{report_text}
 use Rattle.std.specs.List.{AllByRecursion}
 use Rattle.xr_along.specs.Along.{GoesAlong}
-use Rattle.xr_cert.specs.Checked.{IsAccepted}
-use Rattle.xr_cert.specs.Entries.{AreConditionsFor}
-use Rattle.xr_cert.specs.Step.{cert_in}
-use Rattle.xr_cert.proofs.Fitted.{own_accepted}
-use Rattle.xr_cert.proofs.OwnText.{own_text_stands}
-use Rattle.xr_cond.specs.View.{ConditionView}
+use Rattle.xr_phases.specs.OfCert.{IsAccepted, AreConditionsFor, cert_in}
+use Rattle.xr_phases.proofs.LawsOfCert.{own_accepted, own_text_stands}
+use Rattle.xr_phases.specs.OfCond.{ConditionView}
 use Rattle.xr_cert_text.specs.Text.{cert_text}
 use Rattle.xr_cert_text.specs.Wrong.{IsTextOf}
 use Rattle.xr_cert_text.specs.declared.cert.Cert.{Cert}

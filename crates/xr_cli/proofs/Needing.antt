@@ -1,15 +1,14 @@
 -- What conditions of a wave say of their places.
 use Rattle.std.proofs.Common.{List, [], ◌∷◌, sym, subst}
 use Rattle.std.specs.List.{AllByRecursion}
-use Rattle.xr_cert.specs.Entries.{AreConditionsFor}
+use Rattle.xr_phases.specs.OfCert.{AreConditionsFor, AreConditionsOf, settled_places}
 use Rattle.xr_cert_text.specs.declared.cert.Form.{Form}
 use Rattle.xr_cert_text.specs.declared.cert.Form.TheVariants.{Lines, Turns}
-use Rattle.xr_cond.specs.View.{ConditionView, IsConditionOf, current_list, settled_bit}
-use Rattle.xr_cond.proofs.NextTurns.{condition_holds}
+use Rattle.xr_phases.specs.OfCond.{ConditionView, IsConditionOf, current_list, settled_bit}
+use Rattle.xr_phases.proofs.LawsOfCond.{condition_holds}
 use Rattle.xr_design.specs.Job.{number_of}
 use Rattle.xr_design.specs.declared.place.Place.{Place}
-use Rattle.xr_listing.specs.Conditions.{IsSomeCondition}
-use Rattle.xr_cert.specs.Conditions.{AreConditionsOf, settled_places}
+use Rattle.xr_phases.specs.OfListing.{IsSomeCondition}
 use Rattle.xr_wave.specs.Contents.{Contents, job}
 use Rattle.xr_cli.specs.Needs.{EachNeeds, Needs}
 use Rattle.xr_cli.proofs.Conditioned.{condition_of, conditions_of}

@@ -1,6 +1,6 @@
 -- The certificate that a repair writes is in order for a check of its job.
 use Rattle.std.proofs.Common.{ℕ, ◌≤◌, List, length, sym, subst}
-use Rattle.xr_cert.specs.Checked.{IsAccepted}
+use Rattle.xr_phases.specs.OfCert.{IsAccepted}
 use Rattle.xr_phases.specs.Certificate.{form_of}
 use Rattle.xr_phases.specs.Code.{text_limit}
 use Rattle.xr_phases.specs.Repair.{beginning}

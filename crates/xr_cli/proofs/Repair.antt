@@ -1,7 +1,7 @@
 -- `repair` is lawful.
 use Rattle.std.proofs.Common.{◌≡◌, Bool, Err, IsTrue, List, Ok, Option, arith, codes, inl, inr, refl, subst, sym, ℕ}
 use Rattle.std.specs.List.{AllByRecursion}
-use Rattle.xr_cert.specs.Step.{cert_in}
+use Rattle.xr_phases.specs.OfCert.{cert_in}
 use Rattle.xr_cert_text.specs.Text.{cert_text}
 use Rattle.xr_cli.proofs.Headlines.{Made, headline}
 use Rattle.xr_cli.proofs.Inputs.{itself_in, job_among, job_sure}

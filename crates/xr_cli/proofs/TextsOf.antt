@@ -11,13 +11,12 @@ use Rattle.xr_job.specs.Compared.{job_for}
 use Rattle.xr_job.specs.declared.netlist.Netlist.{Netlist as ANetlist}
 use Rattle.xr_job.specs.declared.recorded.Recorded.{Recorded}
 use Rattle.xr_base.specs.declared.memory.Memory.{Memory}
-use Rattle.xr_cert.specs.Entries.{AreConditionsFor}
-use Rattle.xr_cert.specs.Step.{cert_in}
+use Rattle.xr_phases.specs.OfCert.{AreConditionsFor, cert_in}
 use Rattle.xr_cert_text.specs.Text.{cert_text}
 use Rattle.xr_cert_text.specs.declared.cert.Form.{Form}
 use Rattle.xr_cert_text.specs.declared.cert.Form.TheVariants.{Turns}
-use Rattle.xr_cond.specs.View.{ConditionView}
-use Rattle.xr_listing.specs.Conditions.{conditions_text}
+use Rattle.xr_phases.specs.OfCond.{ConditionView}
+use Rattle.xr_phases.specs.OfListing.{conditions_text}
 use Rattle.xr_code.specs.Laws.{HasSmallTimes}
 use Rattle.xr_code.specs.Written.{code_text}
 use Rattle.xr_design.specs.History.{HistoryView}

@@ -1,7 +1,7 @@
 -- `upgrade` is lawful.
 use Rattle.std.proofs.Common.{◌∙◌, ◌∷◌, ◌≡◌, Bool, Err, IsTrue, List, Ok, Option, [], ap, arith, codes, inl, inr, refl, subst, suc, sym, zero, ℕ}
 use Rattle.std.specs.Prelude.{Contains}
-use Rattle.xr_cert.specs.Step.{cert_in}
+use Rattle.xr_phases.specs.OfCert.{cert_in}
 use Rattle.xr_cert_text.specs.Text.{cert_text}
 use Rattle.xr_cert_text.specs.Wrong.{IsTextOf}
 use Rattle.xr_cert_text.specs.declared.cert.Form.TheVariants.{Turns}

@@ -1,9 +1,9 @@
 -- What a walk comes to, as phases.
 use Rattle.std.proofs.Common.{◌≡◌, ℕ, List, Result, Ok, refl}
-use Rattle.xr_cert.specs.Entries.{AreConditionsFor}
+use Rattle.xr_phases.specs.OfCert.{AreConditionsFor}
 use Rattle.xr_cert_text.specs.declared.cert.Cert.{Cert}
 use Rattle.xr_cert_text.specs.declared.cert.Form.TheVariants.{Turns}
-use Rattle.xr_cond.specs.View.{ConditionView}
+use Rattle.xr_phases.specs.OfCond.{ConditionView}
 use Rattle.xr_design.specs.History.{HistoryView}
 use Rattle.xr_design.specs.declared.force.Event.{Event}
 use Rattle.xr_forces.specs.ForcesOf.{AreForcesOf}

@@ -11,7 +11,7 @@ use Rattle.xr_job.specs.declared.compare_refusal.CompareRefusal.{CompareRefusal}
 use Rattle.xr_job.specs.declared.netlist.Netlist.{Netlist as ANetlist}
 use Rattle.xr_job.specs.declared.recorded.Recorded.{Recorded}
 use Rattle.xr_line.specs.Line.{Text}
-use Rattle.xr_listing.specs.Audit.{TellsAudit}
+use Rattle.xr_phases.specs.OfListing.{TellsAudit}
 use Rattle.xr_model.specs.Growth.{Holds}
 use Rattle.xr_model.specs.declared.line.Line.{Line as ALine}
 use Rattle.xr_phases.specs.Phases.{agreed_then, no_cause}

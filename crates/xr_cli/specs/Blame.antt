@@ -4,7 +4,7 @@ use Rattle.xr_cli.specs.Headline.{RepairedJob, wave_of_job}
 use Rattle.xr_cli.specs.Repair.{FailsAsRepair, IsRepairable, RepairValues}
 use Rattle.xr_cli.specs.declared.commands.blame.Blame.{Blame}
 use Rattle.xr_line.specs.Line.{Text}
-use Rattle.xr_listing.specs.Blame.{TellsBlame}
+use Rattle.xr_phases.specs.OfListing.{TellsBlame}
 use Rattle.xr_match.specs.declared.binding.Bound.{Bound}
 use Rattle.xr_phases.specs.Phases.{agreed_then, no_cause, walk_cause}
 use Rattle.xr_phases.specs.Repair.{WalkComes, recording_limit}

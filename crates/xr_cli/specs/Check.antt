@@ -1,7 +1,6 @@
 -- `check`: its words, its phases, and what it promises.
 use Rattle.std.specs.Prelude.{◌++◌, ◌∷◌, ◌≡◌, ◌≤◌, List, Option, Some, [], codes, length, true, ℕ}
-use Rattle.xr_cert.specs.Checked.{IsAccepted}
-use Rattle.xr_cert.specs.Entries.{lines_in}
+use Rattle.xr_phases.specs.OfCert.{IsAccepted, lines_in}
 use Rattle.xr_cert_text.specs.Wrong.{IsTextOf}
 use Rattle.xr_cert_text.specs.declared.cert.Cert.{Cert}
 use Rattle.xr_cli.specs.Conditions.{Condition, HaveConditions, entries_by, needs_lines}

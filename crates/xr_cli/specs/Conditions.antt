@@ -7,19 +7,16 @@ use Rattle.xr_cert_text.specs.declared.cert.Entry.{Entry}
 use Rattle.xr_cert_text.specs.declared.cert.Entry.TheVariants.{Line, Turn}
 use Rattle.xr_cert_text.specs.declared.cert.Form.{Form}
 use Rattle.xr_cert_text.specs.declared.cert.Form.TheVariants.{Lines, Turns}
-use Rattle.xr_cond.specs.Laws.{HasCertainBit}
-use Rattle.xr_cond.specs.Turns.{listed_by}
-use Rattle.xr_cond.specs.Boundary.{certain_boundary}
+use Rattle.xr_phases.specs.OfCond.{HasCertainBit, listed_by, certain_boundary}
 use Rattle.xr_design.specs.Fits.{place_at}
 use Rattle.xr_design.specs.Job.{Job, number_of}
 use Rattle.xr_design.specs.Waveform.{certain}
 use Rattle.xr_design.specs.declared.place.Place.{Place}
 use Rattle.xr_design.specs.declared.waveform.Written.{Written}
-use Rattle.xr_listing.specs.Conditions.{needs_text, valued_text}
+use Rattle.xr_phases.specs.OfListing.{needs_text, valued_text}
 use Rattle.xr_model.specs.declared.line.Line.{Line as ALine}
 use Rattle.xr_model.specs.declared.turn.TurnLine.{TurnLine}
-use Rattle.xr_cert.specs.Conditions.{gives_bit, settled_places}
-use Rattle.xr_cert.specs.TurnLines.{AreAllTurnLines, turns_in}
+use Rattle.xr_phases.specs.OfCert.{gives_bit, settled_places, AreAllTurnLines, turns_in}
 use Rattle.xr_wave.specs.Contents.{Contents}
 
 -- A place, its certain boundary, the places of this that are listed, and the turns as a text states them.

@@ -1,6 +1,6 @@
 -- `export`: its words, its phases, and what it promises.
 use Rattle.std.specs.Prelude.{◌∷◌, ◌≡◌, Err, List, Ok, Option, Result, Some, [], codes, true, ℕ}
-use Rattle.xr_cert.specs.Step.{cert_of}
+use Rattle.xr_phases.specs.OfCert.{cert_of}
 use Rattle.xr_cert_text.specs.Text.{cert_text}
 use Rattle.xr_cli.specs.Free.{AreFree}
 use Rattle.xr_cli.specs.Headline.{Certifies, RepairedJob, wave_of_job}

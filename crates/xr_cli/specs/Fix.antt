@@ -12,7 +12,7 @@ use Rattle.xr_job.specs.declared.netlist.Netlist.{Netlist as ANetlist}
 use Rattle.xr_job.specs.declared.recorded.Recorded.{Recorded}
 use Rattle.xr_line.specs.Line.{Text, pieces_of}
 use Rattle.xr_line.specs.Tables.{Sets, needs}
-use Rattle.xr_listing.specs.Fixed.{fix_text}
+use Rattle.xr_phases.specs.OfListing.{fix_text}
 use Rattle.xr_model.specs.Growth.{Holds}
 use Rattle.xr_model.specs.declared.line.Line.{Line as ALine}
 use Rattle.xr_phases.specs.Phases.{agreed_then, start_cause, walk_cause}

@@ -2,7 +2,7 @@
 use Rattle.std.specs.Prelude.{◌++◌, ◌<◌, ◌∷◌, ◌≡◌, ◌≢◌, Bool, Contains, List, [], codes, length, slice_index, true, ℕ}
 use Rattle.xr_cell.specs.Value.{IsKnown, bit_value, is_unknown}
 use Rattle.xr_cell.specs.declared.value.Value.{Value}
-use Rattle.xr_cert.specs.Checked.{IsAccepted}
+use Rattle.xr_phases.specs.OfCert.{IsAccepted}
 use Rattle.xr_cert_text.specs.Wrong.{IsTextOf}
 use Rattle.xr_cli.specs.Conditions.{Condition, HaveConditions, cert_by, needs_lines}
 use Rattle.xr_cli.specs.Needs.{EachNeeds}

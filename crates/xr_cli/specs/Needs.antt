@@ -2,7 +2,7 @@
 use Rattle.std.specs.Prelude.{◌≡◌, ℕ, ◌<◌, Bool, List, map}
 use Rattle.std.specs.List.{AllByRecursion}
 use Rattle.xr_cell.specs.Value.{bit_value}
-use Rattle.xr_cond.specs.Condition.{IsCondition}
+use Rattle.xr_phases.specs.OfCond.{IsCondition}
 use Rattle.xr_design.specs.Fits.{place_at}
 use Rattle.xr_design.specs.Job.{Job, places_of}
 use Rattle.xr_design.specs.Waveform.{certain}

@@ -1,13 +1,12 @@
 -- `repair`: its words and its phases. What it promises is Headline.antt.
 use Rattle.std.specs.Prelude.{◌++◌, ◌∷◌, ◌≡◌, List, Option, Some, [], codes, ℕ}
-use Rattle.xr_cert.specs.Entries.{AreConditionsFor}
-use Rattle.xr_cert.specs.Step.{cert_in}
+use Rattle.xr_phases.specs.OfCert.{AreConditionsFor, cert_in}
 use Rattle.xr_cert_text.specs.Text.{cert_text}
 use Rattle.xr_cli.specs.Lines.{IsLines}
 use Rattle.xr_cli.specs.declared.commands.repair.Repair.{Repair}
 use Rattle.xr_code.specs.Laws.{HasSmallTimes}
 use Rattle.xr_code.specs.Written.{code_text}
-use Rattle.xr_cond.specs.View.{ConditionView}
+use Rattle.xr_phases.specs.OfCond.{ConditionView}
 use Rattle.xr_design.specs.Handed.{IsReplay}
 use Rattle.xr_design.specs.History.{HistoryView}
 use Rattle.xr_design.specs.declared.force.Event.{Event}
@@ -18,7 +17,7 @@ use Rattle.xr_job.specs.declared.netlist.Netlist.{Netlist as ANetlist}
 use Rattle.xr_job.specs.declared.recorded.Recorded.{Recorded}
 use Rattle.xr_line.specs.Apart.{AreApart}
 use Rattle.xr_line.specs.Line.{Text}
-use Rattle.xr_listing.specs.Conditions.{conditions_text}
+use Rattle.xr_phases.specs.OfListing.{conditions_text}
 use Rattle.xr_match.specs.declared.binding.Binding.{Binding}
 use Rattle.xr_out.specs.Text.{vcd_text}
 use Rattle.xr_phases.specs.Certificate.{ConditionsCome, form_of}

@@ -1,8 +1,6 @@
 -- `upgrade`: its words, its phases, and what it promises.
 use Rattle.std.specs.Prelude.{◌++◌, ◌∷◌, ◌≡◌, ◌≤◌, List, Option, Some, [], codes, length, true, ℕ}
-use Rattle.xr_cert.specs.Checked.{IsAccepted}
-use Rattle.xr_cert.specs.Entries.{lines_in}
-use Rattle.xr_cert.specs.Step.{cert_in}
+use Rattle.xr_phases.specs.OfCert.{IsAccepted, lines_in, cert_in}
 use Rattle.xr_cert_text.specs.Text.{cert_text}
 use Rattle.xr_cert_text.specs.Wrong.{IsTextOf}
 use Rattle.xr_cert_text.specs.declared.cert.Cert.{Cert}
@@ -13,7 +11,7 @@ use Rattle.xr_cli.specs.Lines.{IsLines}
 use Rattle.xr_cli.specs.Needs.{EachNeeds}
 use Rattle.xr_cli.specs.Repair.{whole_report}
 use Rattle.xr_cli.specs.declared.commands.upgrade.Upgrade.{Upgrade}
-use Rattle.xr_cond.specs.View.{ConditionView}
+use Rattle.xr_phases.specs.OfCond.{ConditionView}
 use Rattle.xr_design.specs.History.{HistoryView}
 use Rattle.xr_design.specs.declared.force.Event.{Event}
 use Rattle.xr_design.specs.declared.waveform.Written.{Written}

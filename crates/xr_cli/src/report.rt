@@ -2,17 +2,16 @@
 
 ghost use Rattle.std.specs.Prelude.{◌≡◌, ◌++◌, IfOk};
 ghost use Rattle.std.specs.List.{AllByRecursion};
-ghost use Rattle.xr_listing.specs.Conditions.{IsSomeCondition, conditions_text};
+ghost use Rattle.xr_phases.specs.OfListing.{IsSomeCondition, conditions_text};
 ghost use Rattle.xr_match.specs.Binding.{FitsBinding};
 ghost use Rattle.xr_report.specs.Report.{report_text};
 ghost use Rattle.xr_wave.specs.Contents.{IsFinished};
 
 use std::alloc::Global;
 use xr_base::Memory;
-use xr_cond::Condition;
 use xr_design::Forces;
-use xr_listing::put_conditions;
 use xr_match::Binding;
+use xr_phases::{Condition, put_conditions};
 use xr_report::{ReportLines, write_report};
 use xr_wave::Wave;
 

@@ -5,7 +5,7 @@ ghost use Rattle.std.specs.List.{AllByRecursion};
 ghost use Rattle.xr_cert_text.specs.declared.cert.Form.TheVariants.{Turns};
 ghost use Rattle.xr_design.specs.Handed.{IsReplay};
 ghost use Rattle.xr_job.specs.Compared.{job_for};
-ghost use Rattle.xr_listing.specs.Conditions.{IsSomeCondition};
+ghost use Rattle.xr_phases.specs.OfListing.{IsSomeCondition};
 ghost use Rattle.xr_run.specs.Prepared.{Prepared, PreparedAlone, answer_of};
 ghost use Rattle.xr_cli.specs.Upgrade.{certified_upgrade, checked_upgrade, formed_upgrade, upgrade_answer};
 ghost use Rattle.xr_cli.specs.Upgrade.{upgrade_values};
@@ -15,11 +15,12 @@ use crate::commands::upgrade::Upgrade;
 use crate::report::report_with;
 use std::alloc::Global;
 use xr_base::Memory;
-use xr_cert::{Cert, Form, write_cert};
-use xr_cond::Condition;
 use xr_design::History;
 use xr_forces::forces_of;
-use xr_phases::{Parts, Refused, certificate_of, certified_wave, conditions_for, without_turns};
+use xr_phases::{
+    Cert, Condition, Form, Parts, Refused, certificate_of, certified_wave, conditions_for,
+    without_turns, write_cert,
+};
 use xr_run::{Output, Ready, Refusal, Report};
 use xr_shelf::Shelf;
 use xr_wave::Wave;

@@ -19,3 +19,4 @@ pub mod TurnsBefore
 pub mod WholeLists
 pub mod WholeValues
 pub mod WorkedConditions
+pub mod LawsOfCone

@@ -10,3 +10,4 @@ pub mod Laws
 pub mod WorkedConditions
 pub use Rattle.xr_cone.specs.Boundary
 pub use Rattle.xr_cone.specs.Known
+pub mod OfCone

@@ -27,4 +27,4 @@ pub use laws::{
 };
 pub use made::{condition_of, finish};
 pub use worked::conditions_by_hand;
-pub use xr_cone::Tracer;
+pub use xr_cone::{Cone, Cones, Lanes, Tracer};

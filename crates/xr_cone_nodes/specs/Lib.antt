@@ -3,3 +3,4 @@ pub mod Lanes
 pub mod Listed
 pub mod Nodes
 pub mod Traced
+pub mod OfWave

@@ -2,3 +2,4 @@
 pub mod Blocks
 pub mod Decision
 pub mod Found
+pub mod OfPair

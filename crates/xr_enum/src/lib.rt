@@ -10,3 +10,4 @@ mod found;
 pub use blocks::{number_blocks, source_lanes};
 pub use decision::{Decided, decide};
 pub use found::fewer;
+pub use xr_pair::least_lane;

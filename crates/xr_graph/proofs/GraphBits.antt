@@ -16,7 +16,7 @@ use Rattle.xr_model.specs.Mask.{mask_of}
 use Rattle.xr_model.specs.Node.{node_bit}
 use Rattle.xr_model.proofs.CarryLaw.{TrueWorld}
 use Rattle.xr_model.proofs.SoundWorlds.{true_world}
-use Rattle.xr_wave.specs.Contents.{Contents, IsWave, job, shown_in}
+use Rattle.xr_cone_nodes.specs.OfWave.{Contents, IsWave, job, shown_in}
 use Rattle.xr_cone_nodes.specs.declared.node.Node.{Node}
 use Rattle.xr_cone_nodes.specs.declared.node.NodeBody.{NodeBody as Body}
 use Rattle.xr_cone_nodes.specs.declared.node.NodeBody.TheVariants.{Carried, Rule}

@@ -25,7 +25,7 @@ use Rattle.xr_model.proofs.Cones.{essentials_below}
 use Rattle.xr_model.proofs.ConesBefore.{essentials_local, table_local}
 use Rattle.xr_model.proofs.FactsBefore.{certain_grown}
 use Rattle.xr_model.proofs.Roots.{root_local, root_own}
-use Rattle.xr_wave.specs.Contents.{job}
+use Rattle.xr_cone_nodes.specs.OfWave.{job}
 use Rattle.xr_cone_nodes.specs.declared.node.Node.{Node}
 use Rattle.xr_cone_nodes.specs.declared.node.NodeBody.{NodeBody as Body}
 use Rattle.xr_cone_nodes.specs.declared.node.NodeBody.TheVariants.{Carried, Rule}

@@ -3,7 +3,7 @@ use Rattle.std.specs.Prelude.{◌≡◌, ℕ, suc, ◌<◌, Bool, List, length, 
 use Rattle.xr_design.specs.declared.place.Place.{Place}
 use Rattle.xr_design.specs.Filling.{IsFilling}
 use Rattle.xr_design.specs.World.{bit_at}
-use Rattle.xr_wave.specs.Contents.{Contents, IsWave, job}
+use Rattle.xr_cone_nodes.specs.OfWave.{Contents, IsWave, job}
 use Rattle.xr_cone_nodes.specs.declared.node.Node.{Node}
 use Rattle.xr_cone_nodes.specs.Nodes.{is_listed, node_at, node_bits}
 use Rattle.xr_cone_nodes.specs.Traced.{world_in}

@@ -6,7 +6,7 @@ use Rattle.xr_design.specs.Fits.{place_at}
 use Rattle.xr_design.specs.Waveform.{certain}
 use Rattle.xr_model.specs.Cone.{is_carried}
 use Rattle.xr_model.specs.Laws.{InReach}
-use Rattle.xr_wave.specs.Contents.{Contents, IsWave, class_in, job}
+use Rattle.xr_cone_nodes.specs.OfWave.{Contents, IsWave, class_in, job}
 use Rattle.xr_cone_nodes.specs.declared.node.Node.{Node}
 use Rattle.xr_cone_nodes.specs.Nodes.{StandsAt, body_at, node_at, place_of_node}
 use Rattle.xr_cone_nodes.specs.Traced.{IsBodyOver, IsConeOf}

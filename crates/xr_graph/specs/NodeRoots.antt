@@ -11,7 +11,7 @@ use Rattle.xr_model.specs.Cone.{essentials, is_carried, table}
 use Rattle.xr_model.specs.Laws.{InReach}
 use Rattle.xr_model.specs.Mask.{mask_of}
 use Rattle.xr_model.specs.Root.{root_of}
-use Rattle.xr_wave.specs.Contents.{Contents, IsWave, class_in, job}
+use Rattle.xr_cone_nodes.specs.OfWave.{Contents, IsWave, class_in, job}
 use Rattle.xr_cone_nodes.specs.declared.node.Node.{Node}
 use Rattle.xr_cone_nodes.specs.declared.node.NodeBody.TheVariants.{Rule}
 use Rattle.xr_graph.specs.Graph.{IsGraphOf}

@@ -3,3 +3,4 @@ mod ItemPlaces
 mod Appended
 mod ToldPlaces
 mod NeededPlaces
+pub mod LawsOfCond

@@ -4,3 +4,4 @@ pub mod Blame
 pub mod Fixed
 pub mod Audit
 pub mod Conditions
+pub mod OfCond

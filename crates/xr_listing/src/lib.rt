@@ -20,3 +20,4 @@ pub use audit::audit_text;
 pub use blame::blame_text;
 pub use conditions::put_conditions;
 pub use fixed::fix_text;
+pub use xr_cond::Condition;

@@ -4,8 +4,7 @@ use Rattle.xr_design.proofs.Exact.{empty_filling}
 use Rattle.xr_design.specs.declared.place.Place.{Place}
 use Rattle.xr_design.specs.Filling.{IsFilling}
 use Rattle.xr_model.specs.declared.line.Body.TheVariants.{Pair}
-use Rattle.xr_wave.specs.Contents.{Contents, job, next_number}
-use Rattle.xr_wave.specs.Token.{HoldsNext}
+use Rattle.xr_cone_nodes.specs.OfWave.{Contents, job, next_number, HoldsNext}
 use Rattle.xr_cone_nodes.proofs.ConeLaws.{base_law, chosen_law}
 use Rattle.xr_cone_nodes.specs.declared.node.Node.{Node}
 use Rattle.xr_cone_nodes.specs.Lanes.{lane_of, root_in_lane}

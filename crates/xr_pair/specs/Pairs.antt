@@ -1,8 +1,7 @@
 -- When two fillings are no pair, and when 256 fillings of the sources agree.
 use Rattle.std.specs.Prelude.{◌≡◌, ℕ, ◌<◌, ◌≤◌, Bool, true, false, List, count_ones, not}
 use Rattle.xr_design.specs.declared.place.Place.{Place}
-use Rattle.xr_wave.specs.Contents.{Contents, next_number}
-use Rattle.xr_wave.specs.Token.{PairToken}
+use Rattle.xr_cone_nodes.specs.OfWave.{Contents, next_number, PairToken}
 use Rattle.xr_cone_nodes.specs.declared.node.Node.{Node}
 use Rattle.xr_cone_nodes.specs.Lanes.{in_lane, root_in_lane}
 use Rattle.xr_cone_nodes.specs.Nodes.{nothing, root_bit}

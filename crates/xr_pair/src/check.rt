@@ -2,16 +2,14 @@
 
 ghost use Rattle.std.specs.Prelude.{◌≡◌, IfErr, IfOk};
 ghost use Rattle.xr_design.specs.Filling.{IsFilling};
-ghost use Rattle.xr_wave.specs.Contents.{job};
-ghost use Rattle.xr_wave.specs.Token.{LineHolds, pair_line};
+ghost use Rattle.xr_cone_nodes.specs.OfWave.{job, LineHolds, pair_line};
 ghost use Rattle.xr_pair.specs.Pairs.{IsRefusal};
 ghost use Rattle.xr_cone_nodes.specs.Traced.{IsNextCone};
 
 use std::alloc::Global;
 use xr_base::Memory;
-use xr_cone_nodes::Cone;
+use xr_cone_nodes::{Cone, Pair, Wave};
 use xr_design::Filling;
-use xr_wave::{Pair, Wave};
 
 /// Why two fillings are no pair.
 #[derive(Clone, Copy, Debug, PartialEq, Eq)]

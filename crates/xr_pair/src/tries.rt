@@ -3,15 +3,14 @@
 ghost use Rattle.std.specs.Prelude.{◌≡◌, ◌<◌, ◌↔◌, IfOk, IfSome, IsNone, MatchOption, length};
 ghost use Rattle.xr_cone_nodes.specs.Lanes.{lane_of};
 ghost use Rattle.xr_cone_nodes.specs.Nodes.{chosen, nothing, root_bit, sources_of};
-ghost use Rattle.xr_wave.specs.Token.{LineHolds, pair_line};
+ghost use Rattle.xr_cone_nodes.specs.OfWave.{LineHolds, pair_line};
 ghost use Rattle.xr_pair.specs.Pairs.{AllAgree, Differs, IsLeastOther, other_of};
 ghost use Rattle.xr_cone_nodes.specs.Traced.{IsNextCone};
 
 use crate::lanes::least_lane;
 use std::alloc::Global;
 use xr_base::{Items, Memory};
-use xr_cone_nodes::{Cone, ConeLanes, LaneBits};
-use xr_wave::{Pair, Wave};
+use xr_cone_nodes::{Cone, ConeLanes, LaneBits, Pair, Wave};
 
 /// Tries the 256 fillings in which source i has the bits of given[i], or 0 where nothing is given. Where one gives
 /// the place another bit than the empty filling, the two are its pair. Takes 32 bytes a node, and a filling.

@@ -20,3 +20,5 @@ pub mod Statuses
 pub mod Unrefused
 pub mod Walks
 pub use Rattle.xr_repair.proofs.AgreeingObjections
+pub mod LawsOfCert
+pub mod LawsOfCond

@@ -7,3 +7,6 @@ pub mod Sets
 pub mod Phases
 pub mod Texts
 pub use Rattle.xr_repair.specs.Repaired
+pub mod OfCert
+pub mod OfListing
+pub mod OfCond

@@ -33,3 +33,5 @@ pub use parts::{Agreed, Parts};
 pub use pieces::{names_of, pieces_of};
 pub use sets::{replay_of, sets_of, started};
 pub use walked::{replay_wave, wave_of, wave_under};
+pub use xr_cert::{Cert, Form, write_cert};
+pub use xr_listing::{Condition, audit_text, blame_text, fix_text, put_conditions};

@@ -15,3 +15,4 @@ pub mod QuietStays
 pub mod ToldCalm
 pub mod WorkedQuiet
 pub mod Sweeps
+pub mod LawsOfClass

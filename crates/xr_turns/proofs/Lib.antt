@@ -9,3 +9,4 @@ pub mod StatedTurns
 pub use Rattle.xr_cond.proofs.StayingConditions
 pub use Rattle.xr_cond.proofs.TurnChoices
 pub use Rattle.xr_cond.proofs.TurnsBefore
+pub mod LawsOfCone

@@ -5,3 +5,4 @@ pub mod Laws
 pub use Rattle.xr_cond.specs.TurnQuery
 pub use Rattle.xr_cond.specs.Turns
 pub use Rattle.xr_cond.specs.View
+pub mod OfCone

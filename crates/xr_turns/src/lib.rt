@@ -15,4 +15,4 @@ pub use all::conditions_of;
 pub use begin::begin_at;
 pub use laws::{conditions_state_turns, conditions_stay};
 pub use take::take_turn;
-pub use xr_cond::Condition;
+pub use xr_cond::{Condition, Cone, Cones, Lanes};

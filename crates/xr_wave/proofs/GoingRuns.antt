@@ -10,15 +10,15 @@ use Rattle.xr_model.specs.Growth.{NextHolds, NextLines, NextSaid}
 use Rattle.xr_model.specs.Sound.{IsOptimistic}
 use Rattle.xr_model.specs.declared.class.ClassByNumber.{ClassByNumber}
 use Rattle.xr_model.specs.declared.class.ClassByNumber.TheVariants.{Local, Free, Carried, Line}
-use Rattle.xr_quiet.specs.Runs.{IsRepeated, IsRun, before_next, repeated}
-use Rattle.xr_quiet.proofs.QuietRuns.{run_law}
+use Rattle.xr_wave_due.specs.OfQuiet.{IsRepeated, IsRun, before_next, repeated}
+use Rattle.xr_wave_due.proofs.LawsOfQuiet.{run_law}
 use Rattle.xr_wave.specs.declared.advance.AdvanceErr.{AdvanceErr}
 use Rattle.xr_wave.specs.declared.advance.AdvanceErr.TheVariants.{Memory as OutOfMemory, Optimistic as Objection}
 use Rattle.xr_wave.specs.Advance.{Contradicts, GoesOn, IfObjects, IsObjected, IsPlain, Objects, Reports, more, plain_written}
 use Rattle.xr_wave.specs.Advance.{stays, with_written}
 use Rattle.xr_design.specs.History.{HistoryView}
 use Rattle.xr_model.specs.declared.line.Line.{Line as ALine}
-use Rattle.xr_wave_bytes.specs.View.{WaveformView}
+use Rattle.xr_wave_due.specs.OfWaveBytes.{WaveformView}
 use Rattle.xr_wave.specs.Contents.{Contents, IsWave, class_in, class_or_done, contents_of, job, next_number, next_seen}
 use Rattle.xr_wave.specs.Contents.{shown_in}
 use Rattle.xr_wave.proofs.WaveGrowth.{plain_within}

@@ -18,7 +18,7 @@ use Rattle.xr_model.proofs.AssignmentNumbers.{along}
 use Rattle.xr_model.proofs.PlacesWhere.{picked_below}
 use Rattle.xr_model.proofs.Roots.{carried_below}
 use Rattle.xr_wave.specs.Contents.{FromWithin}
-use Rattle.xr_wave_bytes.specs.View.{next_class}
+use Rattle.xr_wave_due.specs.OfWaveBytes.{next_class}
 
 by_test : (b : Bool) (there class : ClassByNumber) → (if b then Some there else None) ≡ Some class
     → (b ≡ true) × (there ≡ class)

@@ -9,7 +9,7 @@ use Rattle.xr_model.proofs.WaveInvariant.{nothing_holds}
 use Rattle.xr_design.specs.History.{HistoryView}
 use Rattle.xr_model.specs.declared.line.Line.{Line as ALine}
 use Rattle.xr_wave.specs.Contents.{Contents, IsLimit, IsWave, IsWaveAt, contents_of, job, shown_in}
-use Rattle.xr_wave_bytes.specs.View.{WaveformView}
+use Rattle.xr_wave_due.specs.OfWaveBytes.{WaveformView}
 use Rattle.xr_wave_due.specs.Walk.{IsWalkOf}
 use Rattle.xr_wave_due.specs.declared.walk.Walk.{Walk}
 

@@ -11,8 +11,8 @@ use Rattle.xr_model.specs.declared.class.ClassByNumber.TheVariants.{Local, Free,
 use Rattle.xr_model.specs.declared.line.Line.{Line as ALine}
 use Rattle.xr_model.proofs.WaveInvariant.{grown}
 use Rattle.xr_wave.specs.Advance.{Contradicts, IsPlain, plain_written}
-use Rattle.xr_quiet.proofs.SoundQuiet.{sound_agrees}
-use Rattle.xr_wave_bytes.specs.Kept.{ValuesAgree}
+use Rattle.xr_wave_due.proofs.LawsOfQuiet.{sound_agrees}
+use Rattle.xr_wave_due.specs.OfWaveBytes.{ValuesAgree}
 use Rattle.xr_wave.specs.Contents.{Contents, IsWave, class_in, class_or_done, job, next_number, next_seen, shown_in}
 
 -- It stays a wave, whichever way the next place is written.

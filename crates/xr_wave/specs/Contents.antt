@@ -22,7 +22,7 @@ use Rattle.xr_model.specs.declared.class.Class.TheVariants as seen
 use Rattle.xr_model.specs.declared.class.ClassByNumber.{ClassByNumber}
 use Rattle.xr_model.specs.declared.class.ClassByNumber.TheVariants.{Local, Free, Carried, Line}
 use Rattle.xr_model.specs.declared.line.Line.{Line as ALine}
-use Rattle.xr_wave_bytes.specs.View.{WaveformView, next_class}
+use Rattle.xr_wave_due.specs.OfWaveBytes.{WaveformView, next_class}
 use Rattle.xr_wave_due.specs.Walk.{IsWalk}
 use Rattle.xr_wave_due.specs.declared.walk.Walk.{Walk}
 

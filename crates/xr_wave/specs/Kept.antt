@@ -1,3 +1,2 @@
 -- Places that keep, one after another.
-pub use Rattle.xr_wave_bytes.specs.Changed.{AllKeepFrom}
-pub use Rattle.xr_wave_bytes.specs.View.{keeps_there}
+pub use Rattle.xr_wave_due.specs.OfWaveBytes.{AllKeepFrom, keeps_there}

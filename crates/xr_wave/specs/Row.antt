@@ -1,11 +1,11 @@
 -- The row of a wave at a step, for readers that go from step to step.
 use Rattle.std.specs.Prelude.{◌≡◌, ℕ, ◌+◌}
 use Rattle.xr_wave.specs.Contents.{Contents, job}
-use Rattle.xr_wave_bytes.specs.Changed.{RowOf}
-use Rattle.xr_wave_bytes.specs.View as bytes
-pub use Rattle.xr_wave_bytes.specs.Anew.{anew_number, anew_written, nth_anew}
-pub use Rattle.xr_wave_bytes.specs.Changed.{AreAnewAt, AreSameFrom, IsWholeLater, IsWrittenAt, anew_behind, anew_next}
-pub use Rattle.xr_wave_bytes.specs.Changed.{anew_position}
+use Rattle.xr_wave_due.specs.OfWaveBytes.{RowOf}
+use Rattle.xr_wave_due.specs.OfWaveBytes as bytes
+pub use Rattle.xr_wave_due.specs.OfWaveBytes.{anew_number, anew_written, nth_anew}
+pub use Rattle.xr_wave_due.specs.OfWaveBytes.{AreAnewAt, AreSameFrom, IsWholeLater, IsWrittenAt, anew_behind, anew_next}
+pub use Rattle.xr_wave_due.specs.OfWaveBytes.{anew_position}
 
 -- A wave and one of its steps.
 pub record WaveRowView : Type 0 where

@@ -15,7 +15,7 @@ use xr_base::Memory;
 use xr_cell::Value;
 use xr_design::{Mark, Place, Written, count_places};
 use xr_model::{ClassByNumber, Line};
-use xr_wave_bytes::value_if_certain;
+use xr_wave_due::value_if_certain;
 
 /// A place that the history knows and that is found otherwise.
 #[derive(Debug, Drop)]

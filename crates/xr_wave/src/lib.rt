@@ -20,4 +20,4 @@ pub use laws::waves_are_one;
 pub use row::WaveRow;
 pub use token::{Budget, How, Pair, Settled};
 pub use wave::Wave;
-pub use xr_wave_bytes::Anew;
+pub use xr_wave_due::Anew;

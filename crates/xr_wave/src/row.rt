@@ -10,7 +10,7 @@ use std::alloc::Global;
 use std::marker::Model;
 use xr_base::Memory;
 use xr_design::Written;
-use xr_wave_bytes::{Anew, WaveformRow};
+use xr_wave_due::{Anew, WaveformRow};
 
 /// The row of a wave at a step, for readers that go from step to step. Contracts see the wave and the step.
 #[derive(Debug, Drop)]

@@ -7,7 +7,7 @@ ghost use Rattle.xr_design.specs.Waveform.{certain};
 use crate::wave::Wave;
 use xr_cell::Value;
 use xr_design::Source;
-use xr_wave_bytes::value_if_certain;
+use xr_wave_due::value_if_certain;
 
 impl<'a> Source for Wave<'a> {
     ghost reads = { λ wave place. certain wave.written place };

@@ -15,9 +15,9 @@ ghost use Rattle.xr_wave.specs.Advance.{GoesOn, with_written};
 ghost use Rattle.xr_wave.specs.Contents.{FromWithin, IsLimit, IsReached, IsWave, IsWritten, arguments_in, class_in};
 ghost use Rattle.xr_wave.specs.Contents.{job, next_number, next_place, next_seen, nothing_written, rule_in, shown_in};
 ghost use Rattle.xr_wave.specs.Contents.{written_of};
-ghost use Rattle.xr_wave_bytes.specs.Kept.{ValuesAgree};
-ghost use Rattle.xr_wave_bytes.specs.View as view;
-ghost use Rattle.xr_wave_bytes.specs.View.{HasMore, and_one, and_repeated, keeps_there, next_class};
+ghost use Rattle.xr_wave_due.specs.OfWaveBytes.{ValuesAgree};
+ghost use Rattle.xr_wave_due.specs.OfWaveBytes as view;
+ghost use Rattle.xr_wave_due.specs.OfWaveBytes.{HasMore, and_one, and_repeated, keeps_there, next_class};
 ghost use Rattle.xr_wave_due.specs.Walk.{IsHeldFor, IsRunOf, IsWalkOf};
 ghost use Rattle.xr_wave.specs.Token.{HasNext, IsLineNext, LineAgrees, LineHolds, with_line, written_by_line};
 
@@ -28,8 +28,7 @@ use xr_base::Memory;
 use xr_cell::Value;
 use xr_design::{Circuit, Design, History, Mark, Order, Place, Stim, Written, count_places};
 use xr_model::{Class, ClassByNumber, Line};
-use xr_wave_bytes::Waveform;
-use xr_wave_due::Walk;
+use xr_wave_due::{Walk, Waveform};
 
 /// What is known of the places of a circuit so far, in place order, and the lines that say why.
 #[derive(Debug, Drop)]

@@ -7,7 +7,7 @@ use Rattle.xr_design.specs.History.{two_bits, value_of_bits}
 use Rattle.xr_design.specs.declared.waveform.Mark.{Mark}
 use Rattle.xr_design.specs.declared.waveform.Mark.TheVariants.{Certain, Unknown, Undecided}
 use Rattle.xr_design.specs.declared.waveform.Written.{Written}
-use Rattle.xr_class.specs.Facts.{facts}
+use Rattle.xr_quiet.specs.OfClass.{facts}
 use Rattle.xr_wave_bytes.specs.Byte.{facts_of_byte, is_uncertain, mark_of_bits, repeated_byte, two_bits_of_mark}
 use Rattle.xr_wave_bytes.specs.Byte.{written_of_byte}
 

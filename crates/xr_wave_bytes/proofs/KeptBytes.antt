@@ -18,8 +18,8 @@ use Rattle.xr_model.specs.Yields.{is_line}
 use Rattle.xr_model.specs.declared.class.ClassByNumber.{ClassByNumber}
 use Rattle.xr_model.proofs.ClassesBefore.{class_local}
 use Rattle.xr_model.proofs.FactsBefore.{certain_grown, written_last}
-use Rattle.xr_class.specs.Facts.{AreTold, Facts, facts, facts_by, facts_of, is_plain, keeps_by}
-use Rattle.xr_class.proofs.StepBefore.{before_first, before_later, first_step}
+use Rattle.xr_quiet.specs.OfClass.{AreTold, Facts, facts, facts_by, facts_of, is_plain, keeps_by}
+use Rattle.xr_quiet.proofs.LawsOfClass.{before_first, before_later, first_step}
 use Rattle.xr_wave_bytes.specs.Byte.{facts_in, facts_of_byte, written_of_byte}
 use Rattle.xr_wave_bytes.specs.Kept.{BytesTell, IsWrittenBehind, SayTheSame, StepKeeps, ValuesAgree, facts_next}
 

@@ -10,3 +10,4 @@ mod RowLaws
 mod NotedPlaces
 mod ChangedPlaces
 mod AnewPlaces
+pub mod LawsOfQuiet

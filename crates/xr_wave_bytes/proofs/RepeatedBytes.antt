@@ -23,8 +23,8 @@ use Rattle.xr_design.proofs.Rules.{spot}
 use Rattle.xr_model.specs.Class.{before, class_of, is_carried_on}
 use Rattle.xr_model.specs.declared.class.ClassByNumber.{ClassByNumber}
 use Rattle.xr_model.specs.declared.class.ClassByNumber.TheVariants.{Local, Free, Carried, Line}
-use Rattle.xr_class.specs.Facts.{AreTold, Facts, facts, facts_of}
-use Rattle.xr_class.proofs.StepBefore.{keeps_at}
+use Rattle.xr_quiet.specs.OfClass.{AreTold, Facts, facts, facts_of}
+use Rattle.xr_quiet.proofs.LawsOfClass.{keeps_at}
 use Rattle.xr_quiet.specs.Laws.{IsSteady, SaysTheSame}
 use Rattle.xr_quiet.specs.Runs.{repeated}
 use Rattle.xr_quiet.proofs.QuietClasses.{at_itself}

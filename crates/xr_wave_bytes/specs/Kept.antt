@@ -7,7 +7,7 @@ use Rattle.xr_design.specs.declared.circuit.Circuit.{Circuit}
 use Rattle.xr_design.specs.declared.waveform.Written.{Written}
 use Rattle.xr_model.specs.Class.{before, class_of}
 use Rattle.xr_model.specs.declared.class.ClassByNumber.{ClassByNumber}
-use Rattle.xr_class.specs.Facts.{AgreeBefore, AllKeep, AreFacts, Facts, facts_by}
+use Rattle.xr_quiet.specs.OfClass.{AgreeBefore, AllKeep, AreFacts, Facts, facts_by}
 use Rattle.xr_wave_bytes.specs.Byte.{facts_in, written_of_byte}
 use Rattle.xr_wave_bytes.specs.Rows.{RowsView}
 use Rattle.xr_wave_bytes.specs.View.{next_class}

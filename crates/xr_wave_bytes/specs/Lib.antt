@@ -8,3 +8,5 @@ pub mod View
 pub mod Changed
 pub mod Kept
 pub mod Repeat
+pub mod OfClass
+pub mod OfQuiet

@@ -2,7 +2,7 @@
 
 ghost use Rattle.std.specs.Prelude.{◌≡◌, ◌≤◌, ◌==◌};
 ghost use Rattle.xr_design.specs.History.{two_bits, value_of_bits};
-ghost use Rattle.xr_class.specs.Facts.{facts};
+ghost use Rattle.xr_quiet.specs.OfClass.{facts};
 ghost use Rattle.xr_wave_bytes.specs.Byte as spec;
 ghost use Rattle.xr_wave_bytes.specs.Byte.{facts_of_byte, mark_of_bits, two_bits_of_mark, written_of_byte};
 

@@ -9,8 +9,7 @@ ghost use Rattle.xr_design.specs.Job.{places_of};
 ghost use Rattle.xr_design.specs.Waveform.{certain, certain_by};
 ghost use Rattle.xr_model.specs.Class.{before, is_carried_on};
 ghost use Rattle.xr_model.specs.Yields.{is_line};
-ghost use Rattle.xr_class.specs.Facts.{is_plain};
-ghost use Rattle.xr_class.specs.Wires.{AreWiresOf};
+ghost use Rattle.xr_quiet.specs.OfClass.{is_plain, AreWiresOf};
 ghost use Rattle.xr_wave_bytes.specs.Byte.{facts_in, facts_of_byte, written_of_byte};
 ghost use Rattle.xr_wave_bytes.specs.View.{next_class};
 ghost use Rattle.xr_wave_bytes.specs.Front.{StandsAt};
@@ -22,9 +21,9 @@ use crate::front::Front;
 use crate::rows::Rows;
 use xr_base::Memory;
 use xr_cell::Value;
-use xr_class::{Earlier, class_at, keeps_here, place_before};
 use xr_design::{Circuit, Mark, Source, Written, count_places};
 use xr_model::ClassByNumber;
+use xr_quiet::{Earlier, class_at, keeps_here, place_before};
 use xr_wiring::Wiring;
 
 /// What is known of the places that are written.

@@ -18,3 +18,4 @@ pub use anew::Anew;
 pub use bytes::value_if_certain;
 pub use row::WaveformRow;
 pub use waveform::Waveform;
+pub use xr_quiet::cell_chooses;

@@ -6,7 +6,7 @@ ghost use Rattle.xr_design.specs.Fits.{place_at};
 ghost use Rattle.xr_design.specs.Waveform.{certain, written_at};
 ghost use Rattle.xr_model.specs.Assignment as assignment;
 ghost use Rattle.xr_model.specs.Class.{class_of};
-ghost use Rattle.xr_class.specs.Test.{numbered_value};
+ghost use Rattle.xr_quiet.specs.OfClass.{numbered_value};
 ghost use Rattle.xr_wave_bytes.specs.Changed.{AllKeepFrom, AreAnewAt, IsWholeLater};
 ghost use Rattle.xr_wave_bytes.specs.Kept.{ValuesAgree};
 ghost use Rattle.xr_wave_bytes.specs.View as spec;
@@ -22,9 +22,9 @@ use std::alloc::Global;
 use std::marker::Model;
 use xr_base::Memory;
 use xr_cell::Value;
-use xr_class::{ArgumentsByNumber, argument_places, class_at, kept_class, rule_value};
 use xr_design::{Circuit, Place, Written, width_of};
 use xr_model::ClassByNumber;
+use xr_quiet::{ArgumentsByNumber, argument_places, class_at, kept_class, rule_value};
 use xr_wiring::Wiring;
 
 /// What is written of the places of a circuit, in place order, and the class of the next one. Contracts see the circuit
@@ -49,7 +49,7 @@ impl<'a> Model for Waveform<'a> {
     ghost use Rattle.std.specs.Bool.{OnTrue};
     ghost use Rattle.xr_design.specs.Circuit.{CircuitFits, job_in};
     ghost use Rattle.xr_design.specs.Job.{places_of};
-    ghost use Rattle.xr_class.specs.Wires.{AreWiresOf};
+    ghost use Rattle.xr_quiet.specs.OfClass.{AreWiresOf};
     ghost use Rattle.xr_wave_bytes.specs.Byte.{written_of_byte};
     ghost use Rattle.xr_wave_bytes.specs.Front.{StandsAt};
     ghost use Rattle.xr_wave_bytes.specs.Kept.{AreRowsOf, IsKept, IsNextClass, StepKeeps};

@@ -6,11 +6,11 @@ use Rattle.xr_design.specs.declared.waveform.Written.{Written}
 use Rattle.xr_design.specs.Fits.{Fits}
 use Rattle.xr_design.specs.Job.{Job, places_of}
 use Rattle.xr_design.specs.Waveform.{certain}
-use Rattle.xr_class.specs.Facts.{AgreeBefore}
+use Rattle.xr_wave_bytes.specs.OfClass.{AgreeBefore}
 use Rattle.xr_fans.specs.Marks.{OnlyMore}
 use Rattle.xr_fans.proofs.Marking.{clear_before}
-use Rattle.xr_quiet.specs.Sweep.{spot_at}
-use Rattle.xr_quiet.proofs.Sweeps.{begins_law, start_law}
+use Rattle.xr_wave_bytes.specs.OfQuiet.{spot_at}
+use Rattle.xr_wave_bytes.proofs.LawsOfQuiet.{begins_law, start_law}
 use Rattle.xr_replay_due.specs.Due.{AreAllDue, HasRoomFor, is_due}
 use Rattle.xr_wave_due.specs.Sources.{AreSources, AreStirredDue, ShowsOn}
 use Rattle.xr_wave_due.specs.Walk.{HasTables, IsWalk, IsWalkAt, shown_by}

@@ -5,7 +5,7 @@ use Rattle.std.proofs.lemmas.Nat.{div-mul-add, mod-mul-add}
 use Rattle.xr_design.specs.Job.{Job, places_of, step_of}
 use Rattle.xr_design.specs.declared.waveform.Written.{Written}
 use Rattle.xr_design.proofs.Reaching.{step_small}
-use Rattle.xr_quiet.specs.Sweep.{spot_at}
+use Rattle.xr_wave_bytes.specs.OfQuiet.{spot_at}
 use Rattle.xr_wave_due.specs.Walk.{HasTables, IsWalk, IsWalkAt, shown_by}
 use Rattle.xr_wave_due.specs.declared.walk.Walk.{Walk}
 

@@ -14,8 +14,8 @@ use Rattle.xr_fans.specs.Nets.{net_on}
 use Rattle.xr_fans.proofs.Positions.{net_within, position_there}
 use Rattle.xr_ledger.specs.declared.change.Change.{Change}
 use Rattle.xr_model.specs.Class.{before}
-use Rattle.xr_quiet.specs.Sweep.{spot_at}
-use Rattle.xr_quiet.proofs.Sweeps.{before_on, net_is, step_on}
+use Rattle.xr_wave_bytes.specs.OfQuiet.{spot_at}
+use Rattle.xr_wave_bytes.proofs.LawsOfQuiet.{before_on, net_is, step_on}
 use Rattle.xr_replay_due.specs.Due.{AreAllDue, is_due}
 use Rattle.xr_wave_due.specs.Sources.{ShowsOn}
 

@@ -6,3 +6,4 @@ mod Skips
 mod Histories
 mod ListedSources
 mod Marks
+pub mod LawsOfQuiet

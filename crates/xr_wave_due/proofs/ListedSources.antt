@@ -11,8 +11,7 @@ use Rattle.xr_design.specs.Job.{Job}
 use Rattle.xr_fans.specs.Marks.{OnlyMore}
 use Rattle.xr_fans.specs.Nets.{driver_on, net_on}
 use Rattle.xr_fans.proofs.Marking.{clear_before}
-use Rattle.xr_quiet.specs.Due.{is_first_round}
-use Rattle.xr_quiet.specs.Sweep.{IsRecordedOn}
+use Rattle.xr_wave_bytes.specs.OfQuiet.{is_first_round, IsRecordedOn}
 use Rattle.xr_replay_due.specs.Due.{is_due}
 use Rattle.xr_wave_due.specs.Sources.{AreSources, AreSourcesDue, AreStirredDue, is_source}
 

@@ -8,13 +8,9 @@ use Rattle.xr_design.specs.Job.{Job, places_of, step_of}
 use Rattle.xr_design.specs.Waveform.{certain}
 use Rattle.xr_model.specs.Class.{class_of}
 use Rattle.xr_design.proofs.Rules.{spot}
-use Rattle.xr_quiet.specs.Ahead.{taken_on}
-use Rattle.xr_quiet.specs.Runs.{IsRepeated, IsRun, repeated}
-use Rattle.xr_quiet.specs.Sweep.{spot_at}
-use Rattle.xr_quiet.proofs.QuietRuns.{run_law}
-use Rattle.xr_quiet.proofs.QuietTests.{quiet_later}
-use Rattle.xr_quiet.proofs.SoundQuiet.{agrees_before}
-use Rattle.xr_quiet.proofs.Sweeps.{none_due_law, repeated_long, skip_law}
+use Rattle.xr_wave_bytes.specs.OfQuiet.{taken_on, IsRepeated, IsRun, repeated, spot_at}
+use Rattle.xr_wave_bytes.proofs.LawsOfQuiet.{run_law, quiet_later, agrees_before}
+use Rattle.xr_wave_bytes.proofs.LawsOfQuiet.{none_due_law, repeated_long, skip_law}
 use Rattle.xr_replay_due.specs.Due.{NoneBetween, is_due}
 use Rattle.xr_wave_bytes.specs.Repeat.{IsRepeatable, IsStretch}
 use Rattle.xr_wave_bytes.specs.View.{WaveformView, and_repeated, job}

@@ -13,22 +13,18 @@ use Rattle.xr_design.specs.Waveform.{certain}
 use Rattle.xr_fans.specs.Nets.{driver_on, looked_at, net_on}
 use Rattle.xr_fans.specs.Readings.{AreFans, AreReaders}
 use Rattle.xr_model.proofs.Classes.{all_at}
-use Rattle.xr_quiet.specs.Ahead.{is_calm, tells_calm_of}
-use Rattle.xr_quiet.specs.Due.{driver_of}
-use Rattle.xr_quiet.specs.Runs.{and_next}
-use Rattle.xr_quiet.specs.Sweep.{KeepsOn, spot_at}
-use Rattle.xr_quiet.proofs.Sweeps.{visit_law}
+use Rattle.xr_wave_bytes.specs.OfQuiet.{is_calm, tells_calm_of, driver_of, and_next, KeepsOn, spot_at}
+use Rattle.xr_wave_bytes.proofs.LawsOfQuiet.{visit_law, told_law}
 use Rattle.xr_replay_due.specs.Due.{HasRoomFor, is_due}
 use Rattle.xr_replay_due.specs.Readers.{ReadersView, readers_of}
 use Rattle.xr_wave_due.specs.Sources.{AreSources}
 use Rattle.xr_wave_due.specs.Walk.{AreReadersIn, HasSameTables, HasTables, IsVisited, IsWalk, IsWalkAt, TellsCalm}
 use Rattle.xr_wave_due.specs.Walk.{shown_by}
 use Rattle.xr_wave_due.specs.declared.walk.Walk.{Walk}
-use Rattle.xr_class.specs.Facts.{AgreeBefore}
+use Rattle.xr_wave_bytes.specs.OfClass.{AgreeBefore}
 use Rattle.xr_design.proofs.Rules.{spot}
 use Rattle.xr_model.proofs.ClassesBefore.{class_local}
 use Rattle.xr_model.proofs.FactsBefore.{certain_grown}
-use Rattle.xr_quiet.proofs.ToldCalm.{told_law}
 use Rattle.xr_wave_bytes.specs.View.{keeps_there}
 use Rattle.xr_wave_due.proofs.Fronts.{step_room}
 use Rattle.std.specs.Prelude.{Some}

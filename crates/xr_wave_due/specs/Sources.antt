@@ -6,7 +6,7 @@ use Rattle.xr_design.specs.declared.design.Driver.TheVariants.{Cell, Constant, C
 use Rattle.xr_design.specs.Job.{Job}
 use Rattle.xr_fans.specs.Nets.{driver_on, net_on}
 use Rattle.xr_model.specs.Class.{before}
-use Rattle.xr_quiet.specs.Sweep.{IsRecordedOn, spot_at}
+use Rattle.xr_wave_bytes.specs.OfQuiet.{IsRecordedOn, spot_at}
 use Rattle.xr_replay_due.specs.Due.{is_due}
 
 -- A driver on which the recording may act: that of an input, or none.

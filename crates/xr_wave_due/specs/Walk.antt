@@ -10,10 +10,7 @@ use Rattle.xr_fans.specs.Readings.{AreFans}
 use Rattle.xr_model.specs.Class.{class_of}
 use Rattle.xr_model.specs.Growth.{Holds}
 use Rattle.xr_model.specs.declared.line.Line.{Line as ALine}
-use Rattle.xr_quiet.specs.Ahead.{tells_calm_of}
-use Rattle.xr_quiet.specs.Due.{driver_of}
-use Rattle.xr_quiet.specs.Runs.{IsRun}
-use Rattle.xr_quiet.specs.Sweep.{IsGoneOver}
+use Rattle.xr_wave_bytes.specs.OfQuiet.{tells_calm_of, driver_of, IsRun, IsGoneOver}
 use Rattle.xr_replay_due.specs.Due.{HasRoomFor, is_due}
 use Rattle.xr_replay_due.specs.Readers.{readers_of}
 use Rattle.xr_wave_bytes.specs.View as view

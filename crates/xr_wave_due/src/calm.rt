@@ -1,11 +1,11 @@
 //! Whether the class of a place tells that it leaves its net's next place nothing to be due for.
 
 ghost use Rattle.std.specs.Prelude.{◌≡◌};
-ghost use Rattle.xr_quiet.specs.Ahead.{by_change, cell_tells, register_tells, tells_calm_of};
+ghost use Rattle.xr_wave_bytes.specs.OfQuiet.{by_change, cell_tells, register_tells, tells_calm_of};
 
-use xr_class::cell_chooses;
 use xr_design::{Driver, Levels, Pin, Table};
 use xr_model::ClassByNumber;
+use xr_wave_bytes::cell_chooses;
 
 /// Whether it does, at a step, by its driver.
 pub fn tells_calm(levels: Levels, step: usize, driver: &Driver, class: ClassByNumber) -> bool

@@ -10,3 +10,4 @@ mod sources;
 mod walk;
 
 pub use walk::Walk;
+pub use xr_wave_bytes::{Anew, Waveform, WaveformRow, value_if_certain};

@@ -10,7 +10,7 @@ ghost use Rattle.xr_design.specs.Handed.{HasPlaces, shown_of};
 ghost use Rattle.xr_design.specs.Fits.{place_at};
 ghost use Rattle.xr_fans.specs.Marks.{OnlyMore};
 ghost use Rattle.xr_fans.specs.Readings.{AreFans};
-ghost use Rattle.xr_quiet.specs.Runs.{IsRun};
+ghost use Rattle.xr_wave_bytes.specs.OfQuiet.{IsRun};
 ghost use Rattle.xr_replay_due.specs.Due.{HasRoom, HasRoomFor, is_due};
 ghost use Rattle.xr_replay_due.specs.Readers.{readers_of};
 ghost use Rattle.xr_wave_bytes.specs.Kept.{ValuesAgree};

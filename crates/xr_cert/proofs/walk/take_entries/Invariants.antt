@@ -1,6 +1,6 @@
 -- The walk went by the lines so far.
 use Rattle.std.proofs.Common.{◌≡◌, ◌+◌, [], length}
-use Rattle.xr_cone.specs.Cones.{AreRightOf}
+use Rattle.xr_turns.specs.OfCone.{AreRightOf}
 use Rattle.xr_wave.specs.Contents.{Contents}
 use Rattle.xr_cert.specs.Standing.{IsWaiting, Stands}
 use Rattle.xr_cert.proofs.walk.take_entries.Given as goal

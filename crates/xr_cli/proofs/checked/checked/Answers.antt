@@ -1,8 +1,8 @@
 -- The certificate is checked, and its report.
 use Rattle.std.proofs.Common.{◌∙◌, List, ap, subst, sym}
 use Rattle.std.specs.List.{AllByRecursion}
-use Rattle.xr_cond.specs.View.{ConditionView}
-use Rattle.xr_listing.specs.Conditions.{IsSomeCondition}
+use Rattle.xr_phases.specs.OfCond.{ConditionView}
+use Rattle.xr_phases.specs.OfListing.{IsSomeCondition}
 use Rattle.xr_cli.specs.Check.{check_values, check_answer}
 use Rattle.xr_phases.specs.Certificate.{check_shows}
 use Rattle.xr_phases.proofs.CheckedPlaces.{certified_of_job}

@@ -2,7 +2,7 @@
 use Rattle.std.proofs.Common.{◌∙◌, subst, sym}
 use Rattle.std.specs.List.{AllByRecursion}
 use Rattle.xr_design.specs.declared.design.Design.{Design}
-use Rattle.xr_listing.specs.Conditions.{IsSomeCondition}
+use Rattle.xr_phases.specs.OfListing.{IsSomeCondition}
 use Rattle.xr_match.specs.Binding.{FitsBinding}
 use Rattle.xr_shown.specs.History.{shown_history}
 use Rattle.xr_shown.proofs.Showing.{shows_wave}

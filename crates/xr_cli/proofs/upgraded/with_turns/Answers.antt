@@ -2,8 +2,8 @@
 use Rattle.std.proofs.Common.{◌∙◌, List, ap, subst, sym}
 use Rattle.std.specs.List.{AllByRecursion}
 use Rattle.xr_cert_text.specs.declared.cert.Form.TheVariants.{Turns}
-use Rattle.xr_cond.specs.View.{ConditionView}
-use Rattle.xr_listing.specs.Conditions.{IsSomeCondition}
+use Rattle.xr_phases.specs.OfCond.{ConditionView}
+use Rattle.xr_phases.specs.OfListing.{IsSomeCondition}
 use Rattle.xr_cli.specs.Upgrade.{upgrade_values, upgrade_answer}
 use Rattle.xr_phases.proofs.CheckedPlaces.{certified_of_job}
 use Rattle.xr_cli.proofs.Needing.{are_some}

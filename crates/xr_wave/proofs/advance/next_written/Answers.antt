@@ -3,7 +3,7 @@ use Rattle.std.proofs.Common.{◌≡◌, ◌∙◌, Some, sym, ap}
 use Rattle.xr_model.specs.declared.class.ClassByNumber.{ClassByNumber}
 use Rattle.xr_model.specs.declared.class.ClassByNumber.TheVariants.{Carried}
 use Rattle.xr_wave.specs.Contents.{job}
-use Rattle.xr_wave_bytes.specs.View.{next_class}
+use Rattle.xr_wave_due.specs.OfWaveBytes.{next_class}
 use Rattle.xr_wave.proofs.NextClass.{next_from}
 use Rattle.xr_wave.proofs.advance.next_written.Goals as goal
 

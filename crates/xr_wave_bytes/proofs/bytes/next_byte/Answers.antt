@@ -5,7 +5,7 @@ use Rattle.xr_design.specs.Job.{step_of}
 use Rattle.xr_design.specs.Waveform.{certain, certain_by}
 use Rattle.xr_model.specs.Class.{before, is_carried_on, class_of}
 use Rattle.xr_model.specs.Yields.{is_line}
-use Rattle.xr_class.specs.Facts.{is_plain, keeps_by}
+use Rattle.xr_quiet.specs.OfClass.{is_plain, keeps_by}
 use Rattle.xr_wave_bytes.specs.Byte.{written_of_byte}
 use Rattle.xr_wave_bytes.proofs.KeptBytes.{facts_found}
 use Rattle.xr_wave_bytes.proofs.NextSaid.{next_said}

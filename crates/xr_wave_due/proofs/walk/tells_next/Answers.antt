@@ -1,7 +1,7 @@
 -- The class of the next place is found.
 use Rattle.std.proofs.Common.{◌∙◌, ap, sym}
 use Rattle.xr_design.specs.Job.{Job}
-use Rattle.xr_quiet.specs.Ahead.{tells_calm_of}
+use Rattle.xr_wave_bytes.specs.OfQuiet.{tells_calm_of}
 use Rattle.xr_wave_bytes.specs.View as view
 use Rattle.xr_wave_due.proofs.Visits.{tells_found}
 use Rattle.xr_wave_due.proofs.walk.tells_next.Goals as goal

@@ -6,7 +6,7 @@ use Rattle.xr_design.specs.Job.{Job, places_of}
 use Rattle.xr_design.specs.Waveform.{certain}
 use Rattle.xr_model.specs.Assignment.{argument_places}
 use Rattle.xr_wave.specs.Contents.{job}
-use Rattle.xr_wave_bytes.specs.View as view
+use Rattle.xr_wave_due.specs.OfWaveBytes as view
 use Rattle.xr_wave.proofs.NextClass.{arguments_within}
 use Rattle.xr_wave.proofs.wave.Wave.arguments.Goals as goal
 

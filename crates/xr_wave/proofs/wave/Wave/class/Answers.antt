@@ -2,8 +2,8 @@
 use Rattle.std.proofs.Common.{◌≡◌, ◌∙◌, sym, ap, subst}
 use Rattle.xr_design.specs.Job.{Job, places_of}
 use Rattle.xr_wave.specs.Contents.{FromWithin, job}
-use Rattle.xr_wave_bytes.specs.View as view
-use Rattle.xr_wave_bytes.specs.View.{next_class}
+use Rattle.xr_wave_due.specs.OfWaveBytes as view
+use Rattle.xr_wave_due.specs.OfWaveBytes.{next_class}
 use Rattle.xr_wave.proofs.NextClass.{next_from_job}
 use Rattle.xr_wave.proofs.wave.Wave.class.Goals as goal
 

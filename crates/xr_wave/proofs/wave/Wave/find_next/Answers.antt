@@ -1,7 +1,7 @@
 -- The wave is the same.
 use Rattle.std.proofs.Common.{sym, subst}
 use Rattle.xr_wave.specs.Contents.{IsWaveAt, contents_of}
-use Rattle.xr_wave_bytes.specs.View.{WaveformView}
+use Rattle.xr_wave_due.specs.OfWaveBytes.{WaveformView}
 use Rattle.xr_wave.proofs.wave.Wave.find_next.Goals as goal
 
 pub invariant_of-self : goal.invariant_of-self

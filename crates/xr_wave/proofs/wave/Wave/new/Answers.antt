@@ -1,7 +1,7 @@
 -- Nothing is written, and the walk is at its start.
 use Rattle.std.proofs.Common.{◌≡◌, [], refl, rules, sym, subst}
 use Rattle.xr_wave.specs.Contents.{IsWaveAt, contents_of}
-use Rattle.xr_wave_bytes.specs.View.{WaveformView}
+use Rattle.xr_wave_due.specs.OfWaveBytes.{WaveformView}
 use Rattle.xr_wave.proofs.WalkedWaves.{wave_started}
 use Rattle.xr_wave.proofs.wave.Wave.new.Goals as goal
 

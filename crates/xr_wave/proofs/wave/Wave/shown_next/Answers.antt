@@ -6,7 +6,7 @@ use Rattle.xr_design.proofs.Handed.{handed_places, has_place}
 use Rattle.xr_design.proofs.Numbers.{is_place_at}
 use Rattle.xr_wave.specs.Contents.{Contents, job}
 use Rattle.xr_wave.specs.Token.{HasNext}
-use Rattle.xr_wave_bytes.specs.View as view
+use Rattle.xr_wave_due.specs.OfWaveBytes as view
 use Rattle.xr_wave.proofs.wave.Wave.shown_next.Goals as goal
 
 pub shown-requires : goal.shown-requires

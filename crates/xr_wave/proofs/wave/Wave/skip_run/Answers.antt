@@ -1,13 +1,13 @@
 -- The wave goes on over a run, and stays a wave.
 use Rattle.std.proofs.Common.{◌≡◌, ℕ, ◌∙◌, ◌<◌, length, ap, sym, subst, arith}
 use Rattle.std.proofs.lemmas.Bool.{ltb-true}
-use Rattle.xr_quiet.specs.Runs.{repeated}
-use Rattle.xr_quiet.proofs.Sweeps.{repeated_long}
+use Rattle.xr_wave_due.specs.OfQuiet.{repeated}
+use Rattle.xr_wave_due.proofs.LawsOfQuiet.{repeated_long}
 use Rattle.xr_wave.specs.Advance.{GoesOn}
 use Rattle.xr_wave.specs.Contents.{Contents, IsWave, contents_of}
 use Rattle.xr_wave.specs.Token.{HasNext}
-use Rattle.xr_wave_bytes.specs.View as view
-use Rattle.xr_wave_bytes.specs.View.{HasMore, WaveformView, and_repeated}
+use Rattle.xr_wave_due.specs.OfWaveBytes as view
+use Rattle.xr_wave_due.specs.OfWaveBytes.{HasMore, WaveformView, and_repeated}
 use Rattle.xr_wave_due.specs.Walk.{IsHeldFor, IsRunOf, IsWalkOf}
 use Rattle.xr_wave.proofs.GoingRuns.{goes_pushed, run_goes, run_wave}
 use Rattle.xr_wave.proofs.WalkedWaves.{wave_pushed}

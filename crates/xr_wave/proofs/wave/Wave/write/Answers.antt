@@ -3,9 +3,8 @@ use Rattle.std.proofs.Common.{List, ◌++◌, ◌∷◌, [], ap, sym, subst, app
 use Rattle.xr_model.specs.declared.line.Line.{Line as ALine}
 use Rattle.xr_wave.specs.Contents.{Contents, IsWave, contents_of, job}
 use Rattle.xr_wave.specs.Token.{HasNext}
-use Rattle.xr_wave_bytes.specs.Kept.{ValuesAgree}
-use Rattle.xr_wave_bytes.specs.View as view
-use Rattle.xr_wave_bytes.specs.View.{HasMore, and_one}
+use Rattle.xr_wave_due.specs.OfWaveBytes.{ValuesAgree, HasMore, and_one}
+use Rattle.xr_wave_due.specs.OfWaveBytes as view
 use Rattle.xr_wave_due.specs.Walk.{IsWalkOf}
 use Rattle.xr_wave.proofs.WalkedWaves.{wave_pushed}
 use Rattle.xr_wave.proofs.WaveGrowth.{wave_agrees, wave_grown}

@@ -1,9 +1,8 @@
 -- The wave stays a wave: its next place is a Line place, whose line holds.
 use Rattle.std.proofs.Common.{◌++◌, ◌∷◌, [], sym, subst}
 use Rattle.xr_wave.specs.Contents.{Contents, IsWave, contents_of, job}
-use Rattle.xr_wave_bytes.specs.Kept.{ValuesAgree}
-use Rattle.xr_wave_bytes.specs.View as view
-use Rattle.xr_wave_bytes.specs.View.{and_one}
+use Rattle.xr_wave_due.specs.OfWaveBytes.{ValuesAgree, and_one}
+use Rattle.xr_wave_due.specs.OfWaveBytes as view
 use Rattle.xr_wave_due.specs.Walk.{IsWalkOf}
 use Rattle.xr_wave.proofs.LineGrowth.{line_next}
 use Rattle.xr_wave.proofs.WalkedWaves.{wave_pushed}

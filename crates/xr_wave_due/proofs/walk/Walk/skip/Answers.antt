@@ -2,7 +2,7 @@
 use Rattle.std.proofs.Common.{◌≡◌, ℕ, ◌+◌, ◌-◌, ◌%◌, length, sym, subst, arith}
 use Rattle.xr_wave_bytes.specs.View as view
 use Rattle.xr_wave_bytes.specs.View.{WaveformView}
-use Rattle.xr_quiet.specs.Runs.{repeated}
+use Rattle.xr_wave_bytes.specs.OfQuiet.{repeated}
 use Rattle.xr_wave_due.specs.Walk.{HasTables, IsWalkAt, shown_by}
 use Rattle.xr_wave_due.proofs.Skips.{skipped_walk}
 use Rattle.xr_wave_due.proofs.walk.Walk.skip.Goals as goal
