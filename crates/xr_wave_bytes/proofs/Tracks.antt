@@ -60,6 +60,14 @@ byte_counted entries step count ascending within some up next =
         let rise = ascending count i low less in let first = next (omega (arith, low, less)) in
         omega (arith, rise, first))) (cases_eq count i)
 
+-- The last one gives the byte of each step from its own on.
+pub byte_of_last : (entries : List Entry) (last : Entry) (step : ℕ) → AreAscending entries → 0 < length entries
+    → last ≡ nth_entry entries (length entries - 1) → last.step ≤ step → byte_from last step ≡ byte_at entries step
+byte_of_last entries last step ascending some is up =
+    ap (λ (entry : Entry). byte_from entry step) is
+    ∙ sym (byte_counted entries step (length entries) ascending (omega arith) some
+    (subst (λ (entry : Entry). entry.step ≤ step) is up) (λ less. absurd (omega (arith, less))))
+
 pub byte_uncounted : (entries : List Entry) (step count : ℕ) → AreAscending entries → count ≡ 0
     → (count < length entries → step < (nth_entry entries count).step) → 64 ≡ byte_at entries step
 byte_uncounted entries step zero ascending none next = sym (after_none 64 entries step later)

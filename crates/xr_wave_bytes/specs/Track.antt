@@ -1,5 +1,5 @@
 -- The bytes of a position at the steps, by the entries of those at which they are written anew.
-use Rattle.std.specs.Prelude.{ℕ, ◌-◌, ◌<◌, ◌==◌, ◌&&◌, Bool, List, [], ◌∷◌, ◌++◌, length, nat_le, nat_lt}
+use Rattle.std.specs.Prelude.{◌≡◌, ℕ, ◌-◌, ◌<◌, ◌==◌, ◌&&◌, Bool, List, [], ◌∷◌, ◌++◌, length, nat_le, nat_lt}
 use Rattle.std.specs.Prelude.{slice_index_or}
 use Rattle.std.specs.Prelude.{if◌then◌else◌}
 use Rattle.xr_wave_bytes.specs.Byte.{repeated_byte}
@@ -33,6 +33,10 @@ byte_at entries step = byte_after still_byte entries step
 abbrev pub AreAscending : List Entry → Type 0
 AreAscending entries =
     (i k : ℕ) → i < k → k < length entries → (nth_entry entries i).step < (nth_entry entries k).step
+
+-- An entry is the last of some, where there is any.
+abbrev pub IsLast : List Entry → Entry → Type 0
+IsLast entries last = 0 < length entries → last ≡ nth_entry entries (length entries - 1)
 
 -- They lie before a step.
 abbrev pub AreBefore : List Entry → ℕ → Type 0

@@ -23,18 +23,23 @@ pub struct Entry {
 #[derive(Debug, Drop)]
 pub struct Track {
     entries: Vec<Entry>,
+    /// The last of them, where there is one: most look-ups want it, and find it without a search.
+    last: Entry,
 }
 
 impl Model for Track {
     ghost use Rattle.std.specs.Prelude.{List};
-    ghost use Rattle.xr_wave_bytes.specs.Track.{AreAscending};
+    ghost use Rattle.xr_wave_bytes.specs.Track.{AreAscending, IsLast};
     ghost use Rattle.xr_wave_bytes.specs.declared.track.Entry as entry;
 
     ghost Value = { List entry.Entry };
 
     ghost view = { λ h. h.entries.items };
 
-    ghost invariant = { λ h. AreAscending h.entries.items };
+    ghost invariant = { λ h. record {
+      ascending : AreAscending h.entries.items;
+      last : IsLast h.entries.items h.last;
+    } };
 }
 
 impl Track {
@@ -44,6 +49,10 @@ impl Track {
     {
         Track {
             entries: Vec::new(alloc),
+            last: Entry {
+                step: 0,
+                byte: STILL_BYTE,
+            },
         }
     }
 
@@ -59,10 +68,12 @@ impl Track {
         if again {
             return Ok(());
         }
-        self.entries.push(Entry {
+        let entry = Entry {
             step: step as u32,
             byte,
-        })?;
+        };
+        self.entries.push(entry)?;
+        self.last = entry;
         Ok(())
     }
 
@@ -73,8 +84,19 @@ impl Track {
         step > 0 && byte == repeated_byte(self.byte_at(step - 1))
     }
 
-    /// The byte at a step. Takes no memory.
+    /// The byte at a step: quick for one from the last entry's on. Takes no memory.
     pub fn byte_at(&self, step: usize) -> u8
+        ensures { result ≡ byte_at self.now step }
+    {
+        let entries = self.entries.as_slice();
+        if !entries.is_empty() && self.last.step as usize <= step {
+            return byte_of(self.last, step);
+        }
+        self.found_byte(step)
+    }
+
+    /// The same by a search.
+    fn found_byte(&self, step: usize) -> u8
         ensures { result ≡ byte_at self.now step }
     {
         let count = count_up_to(self.entries.as_slice(), step);

@@ -1,26 +1,17 @@
--- The last entry up to the step gives the byte.
-use Rattle.std.proofs.Common.{◌≡◌, ◌<◌, ◌∙◌, List, ◌-◌, ap, arith, subst, sym}
-use Rattle.std.proofs.lemmas.List.{get_or_default}
-use Rattle.xr_wave_bytes.specs.Track.{byte_at, byte_from, no_entry}
+-- The last entry gives the bytes of later steps.
+use Rattle.std.proofs.Common.{◌≡◌, ◌<◌, ◌∙◌, List, length, arith, subst, sym}
+use Rattle.std.proofs.lemmas.Bool.{eqb-false}
+use Rattle.xr_wave_bytes.specs.Track.{byte_at}
 use Rattle.xr_wave_bytes.specs.declared.track.Entry.{Entry}
-use Rattle.xr_wave_bytes.proofs.Tracks.{byte_counted, byte_uncounted}
+use Rattle.xr_wave_bytes.proofs.Tracks.{byte_of_last}
 use Rattle.xr_wave_bytes.proofs.track.Track.byte_at.Goals as goal
 
-pub returns-then-count-eq0 : goal.returns-then-count-eq0
-returns-then-count-eq0 c =
-    subst (λ (entries : List Entry). 64 ≡ byte_at entries c.args.step) c.self.view_is
-    (byte_uncounted c.self.inside.entries.items c.args.step c.count_up_to-count.result c.self.invariant
-    (omega (arith, c.if-count-eq0.true)) (rw c.as_slice.ensures.value at c.count_up_to-count.ensures.next))
-
-pub returns : goal.returns
-returns c =
+pub returns-then-self-step : goal.returns-then-self-step
+returns-then-self-step c =
     let entries = c.self.inside.entries.items in
-    let count = c.count_up_to-count.result in
-    let some : 0 < count = (let test = c.if-count-eq0.false in omega (arith, test)) in
-    let within = rw c.as_slice.ensures.value at c.count_up_to-count.ensures.within in
-    let there = c.index.ensures ∙ get_or_default entries (count - 1) c.index.result.now no_entry (omega (arith, some, within)) in
+    let some : 0 < length entries =
+        (let full = eqb-false (length c.as_slice-entries.result.now) 0 (sym c.is_empty.ensures ∙ c.if-not-is_empty.true) in
+        subst (λ (es : List Entry). 0 < length es) c.as_slice-entries.ensures.value (omega (arith, full))) in
     subst (λ (es : List Entry). c.byte_of.result ≡ byte_at es c.args.step) c.self.view_is
-    (c.byte_of.ensures ∙ ap (λ (entry : Entry). byte_from entry c.args.step) there
-    ∙ sym (byte_counted entries c.args.step count c.self.invariant within some
-    (rw c.as_slice.ensures.value at c.count_up_to-count.ensures.last some)
-    (rw c.as_slice.ensures.value at c.count_up_to-count.ensures.next)))
+    (c.byte_of.ensures ∙ byte_of_last entries c.self.inside.last c.args.step c.self.invariant.ascending some
+    (c.self.invariant.last some) c.if-self-step.true)
