@@ -42,7 +42,7 @@ impl Model for Rows {
 }
 
 impl Rows {
-    /// None yet, of rows that are so wide, with room for so many rows. Takes 24 bytes for each position.
+    /// None yet, of rows that are so wide, with room for so many rows. Takes 32 bytes for each position.
     pub fn new(alloc: Global, width: usize, steps: usize) -> Result<Rows, Memory>
         requires narrow { width ≤ 2 ^ 32 }
         requires few { steps ≤ 2 ^ 32 }
