@@ -38,25 +38,27 @@ impl Marks {
 }
 
 impl Pool {
-    /// Sources that have 1 in a lane and give a node its bit there, where all others have 0. Takes 4 bytes for each.
+    /// Sources that have 1 in a lane and give the node of a place its bit there, where all others have 0. Takes 4 bytes for
+    /// each.
     pub(crate) fn ones_in(
         &mut self,
         alloc: Global,
         graph: &Graph,
-        node: u32,
+        place: u32,
         lane: PoolLane,
     ) -> Result<Vec<u32>, Memory>
         ensures { IfOk result (λ ones. All (IsSourceIn graph.now) ones.items) }
     {
         let mut ones = Vec::new(alloc);
         self.start_walk();
-        self.meet(node)?;
-        'steps: for _ in 0..graph.len() {
+        self.meet(place)?;
+        'steps: for _ in 0..self.entries.len() {
             let Some(next) = self.open.pop() else {
                 return Ok(ones);
             };
-            if self.justify(graph, next, lane)? && is_source(graph, next) {
-                ones.push(next)?;
+            let node = self.entry(next).node;
+            if self.justify(next, lane)? && is_source(graph, node) {
+                ones.push(node)?;
             }
         }
         Ok(ones)
@@ -68,60 +70,50 @@ impl Pool {
         self.walk = self.walk.wrapping_add(1);
     }
 
-    /// Meets a node, if it wasn't met: it is to be looked at.
-    pub(crate) fn meet(&mut self, node: u32) -> Result<(), Memory> {
-        let entry = self.entry(node);
+    /// Meets the node of a place, if it wasn't met: it is to be looked at.
+    pub(crate) fn meet(&mut self, place: u32) -> Result<(), Memory> {
+        let entry = self.entry(place);
         if entry.walk != self.walk {
             let walk = self.walk;
-            set_item(&mut self.entries, node as usize, Entry { walk, ..entry });
-            self.open.push(node)?;
+            set_item(&mut self.entries, place as usize, Entry { walk, ..entry });
+            self.open.push(place)?;
         }
         Ok(())
     }
 
-    /// Meets what gives a node its bit in a lane: what a choice chooses, or else all that it reads; whether it has 1 by no
-    /// choice, so by what it is given.
-    fn justify(&mut self, graph: &Graph, number: u32, lane: PoolLane) -> Result<bool, Memory> {
-        let place = number as usize;
-        if place >= graph.len() {
-            return Ok(false);
-        }
-        let arguments = graph.node(place).arguments;
-        let bit = self.bits_of(number).in_lane(lane);
-        match self.best_choice(number, arguments, lane, bit) {
+    /// Meets what gives the node of a place its bit in a lane: what a choice chooses, or else all that it reads; whether it
+    /// has 1 by no choice, so by what it is given.
+    fn justify(&mut self, place: u32, lane: PoolLane) -> Result<bool, Memory> {
+        let entry = self.entry(place);
+        let bit = self.bits_of(place).in_lane(lane);
+        match self.best_choice(entry, lane, bit) {
             Some(choice) => {
-                self.meet_chosen(arguments, choice.care)?;
+                self.meet_chosen(entry, choice.care)?;
                 Ok(false)
             }
             None => {
-                self.meet_chosen(arguments, u16::MAX)?;
+                self.meet_chosen(entry, u16::MAX)?;
                 Ok(bit)
             }
         }
     }
 
-    /// Meets the arguments whose marks are chosen.
-    pub(crate) fn meet_chosen(&mut self, arguments: &[u32], care: u16) -> Result<(), Memory> {
+    /// Meets what an entry reads and whose marks are chosen.
+    pub(crate) fn meet_chosen(&mut self, entry: Entry, care: u16) -> Result<(), Memory> {
         let mut mark: u16 = 1;
-        'arguments: for argument in arguments {
+        'reads: for k in entry.first..entry.end {
             if care & mark != 0 {
-                self.meet(*argument)?;
+                self.meet(self.read_at(k))?;
             }
             mark = mark.wrapping_mul(2);
         }
         Ok(())
     }
 
-    /// The cheapest choice that forces a bit of a node and holds in a lane, if there is one.
-    fn best_choice(
-        &self,
-        number: u32,
-        arguments: &[u32],
-        lane: PoolLane,
-        bit: bool,
-    ) -> Option<Choice> {
-        let span = self.tables.span(self.entry(number).table);
-        let marks = self.marks(arguments, lane);
+    /// The cheapest choice that forces a bit of an entry and holds in a lane, if there is one.
+    fn best_choice(&self, entry: Entry, lane: PoolLane, bit: bool) -> Option<Choice> {
+        let span = self.tables.span(entry.table);
+        let marks = self.marks(entry, lane);
         let mut best = None;
         'choices: for place in span.start(bit)..span.end(bit) {
             let choice = self.tables.choice(place);
@@ -132,24 +124,24 @@ impl Pool {
         best
     }
 
-    /// What is known of what a node reads.
-    fn marks(&self, arguments: &[u32], lane: PoolLane) -> Marks {
+    /// What is known of what an entry reads.
+    fn marks(&self, entry: Entry, lane: PoolLane) -> Marks {
         let mut marks = Marks {
             ones: 0,
             free: 0,
             inner: 0,
         };
         let mut mark: u16 = 1;
-        'arguments: for argument in arguments {
-            self.note(&mut marks, mark, *argument, lane);
+        'reads: for k in entry.first..entry.end {
+            self.note(&mut marks, mark, self.read_at(k), lane);
             mark = mark.wrapping_mul(2);
         }
         marks
     }
 
-    fn note(&self, marks: &mut Marks, mark: u16, node: u32, lane: PoolLane) {
-        let entry = self.entry(node);
-        let bit = self.bits_of(node).in_lane(lane);
+    fn note(&self, marks: &mut Marks, mark: u16, place: u32, lane: PoolLane) {
+        let entry = self.entry(place);
+        let bit = self.bits_of(place).in_lane(lane);
         if bit {
             marks.ones = marks.ones | mark;
         }

@@ -1,48 +1,46 @@
 //! A filling laid over lanes, with its variations.
 
+use crate::entry::Entry;
 use crate::pool::Pool;
 use crate::pool_bits::{PARTS, PoolBits, equal_bits};
 use crate::reads::{item_at, set_item};
 use xr_base::Memory;
-use xr_graph::Graph;
 
 /// So many parts have a filling in each lane as it was found, the others have variations.
 const PLAIN: usize = 4;
 
 impl Pool {
-    /// Lays 0 for each source that a node rests on.
-    pub(crate) fn lay_under(&mut self, graph: &Graph, node: u32) -> Result<(), Memory> {
+    /// Lays 0 for each source that the node of a place rests on.
+    pub(crate) fn lay_under(&mut self, place: u32) -> Result<(), Memory> {
         self.start_walk();
-        self.meet(node)?;
-        'steps: for _ in 0..graph.len() {
+        self.meet(place)?;
+        'steps: for _ in 0..self.entries.len() {
             match self.open.pop() {
                 None => return Ok(()),
-                Some(next) => self.lay_at(graph, next)?,
+                Some(next) => self.lay_at(next)?,
             }
         }
         Ok(())
     }
 
-    /// Lays 0 for a node, if it is a source, and meets what it reads.
-    fn lay_at(&mut self, graph: &Graph, number: u32) -> Result<(), Memory> {
-        let place = number as usize;
-        if place >= graph.len() {
-            return Ok(());
-        }
-        self.lay(number, false);
-        self.meet_chosen(graph.node(place).arguments, u16::MAX)
+    /// Lays 0 for the node of a place, if it is a source, and meets what it reads.
+    fn lay_at(&mut self, place: u32) -> Result<(), Memory> {
+        let entry = self.entry(place);
+        self.lay(entry, false);
+        self.meet_chosen(entry, u16::MAX)
     }
 
     /// Lays 1 for some nodes.
     pub(crate) fn lay_all(&mut self, ones: &[u32]) {
         'ones: for node in ones {
-            self.lay(*node, true);
+            if let Some(place) = self.known(*node) {
+                self.lay(self.entry(place), true);
+            }
         }
     }
 
-    /// Lays a bit for a node, if it is a source.
-    fn lay(&mut self, node: u32, bit: bool) {
-        let entry = self.entry(node);
+    /// Lays a bit for the node of an entry, if it is a source.
+    fn lay(&mut self, entry: Entry, bit: bool) {
         if entry.is_source() {
             let place = entry.given as usize;
             let mut bits = item_at(&self.given, place, PoolBits::all(false));

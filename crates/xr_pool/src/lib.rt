@@ -7,6 +7,9 @@
 //! had. From then on no node counts as evaluated, so each lane stays one filling. If a node has a bit in some lane, a walk
 //! down from it by minimal choices lists the few sources that this rests on.
 //!
+//! Entries are kept of nodes alone that were asked for, and of those that they rest on, and found by a map. Where they reach
+//! a limit, all are forgotten, and what is asked for then is made anew.
+//!
 //! That a filling is right isn't promised, so a caller tests it before it counts: promised is that it lists sources of the
 //! graph, and that each call ends and stays in its lists. Start at `Pool`.
 #![tactic(auto)]
@@ -17,6 +20,7 @@ mod entry;
 mod evaluate;
 mod justify;
 mod lay;
+mod limit;
 mod pool;
 mod pool_bits;
 mod reads;

@@ -10,28 +10,28 @@ use crate::entry::Entry;
 use crate::pool_bits::{PoolBits, PoolLane};
 use crate::reads::item_at;
 use std::alloc::Global;
+use std::collections::HashMap;
 use xr_base::Memory;
 use xr_graph::Graph;
 use xr_guess::NodeBit;
 
-/// Nodes past so many are never in some lane, and the memory stays below some 170 megabytes, and 64 bytes a source.
-const MOST_NODES: usize = 2_097_152;
-
-/// So many tables are kept, at most: then all is forgotten.
-const MOST_TABLES: usize = 65_536;
-
-/// Lanes over the nodes of a graph. It is to be used on one graph that grows. Takes 80 bytes for each node up to the highest
-/// that was asked for, 64 for each source, and some 40 for each table and 4 for each of its minimal choices.
+/// Lanes over the nodes of a graph. It is to be used on one graph that grows. Takes 122 bytes for each node that was
+/// asked for or that such a node rests on, 4 for each node that it reads and 64 for each source, up to 64 megabytes; and
+/// some 40 for each table and 4 for each of its minimal choices. At a limit all is forgotten, and made anew as it is
+/// asked for.
 #[derive(Drop)]
 pub struct Pool {
     pub(crate) tables: Tables,
-    /// By node.
+    /// Where the entries of nodes stand, by their numbers in the graph.
+    pub(crate) places: HashMap<u32, u32>,
     pub(crate) entries: Vec<Entry>,
-    /// By node: its bits, right of the pass of its entry.
+    /// By entry: its bits, right of its pass.
     pub(crate) bits: Vec<PoolBits>,
+    /// The entries of what nodes read, one list after the other.
+    pub(crate) reads: Vec<u32>,
     /// The bits that sources are given, after the first item, which is of no source.
     pub(crate) given: Vec<PoolBits>,
-    /// Nodes that are to be looked at, the next one last.
+    /// Entries that are to be looked at, the next one last.
     pub(crate) open: Vec<u32>,
     pub(crate) pass: u32,
     pub(crate) walk: u32,
@@ -39,6 +39,8 @@ pub struct Pool {
     pub(crate) plain: PoolLane,
     pub(crate) varied: usize,
     pub(crate) draws: Draws,
+    /// How many calls are to be passed over.
+    pub(crate) rest: u32,
 }
 
 impl Pool {
@@ -46,8 +48,10 @@ impl Pool {
     pub fn new(alloc: Global) -> Pool {
         Pool {
             tables: Tables::new(alloc),
+            places: HashMap::new(alloc),
             entries: Vec::new(alloc),
             bits: Vec::new(alloc),
+            reads: Vec::new(alloc),
             given: Vec::new(alloc),
             open: Vec::new(alloc),
             pass: 1,
@@ -55,6 +59,7 @@ impl Pool {
             plain: PoolLane { part: 0, mark: 1 },
             varied: 4,
             draws: Draws::new(),
+            rest: 0,
         }
     }
 
@@ -69,16 +74,13 @@ impl Pool {
     ) -> Result<Option<Vec<u32>>, Memory>
         ensures { IfOk result (λ found. IfSome found (λ ones. All (IsSourceIn graph.now) ones.items)) }
     {
-        if self.tables.len() >= MOST_TABLES {
-            self.forget(alloc);
-        }
-        if !self.evaluate(alloc, graph, wanted.node)? {
+        let Some(place) = self.evaluate(alloc, graph, wanted.node)? else {
             return Ok(None);
-        }
-        match self.bits_of(wanted.node).first(wanted.bit) {
+        };
+        match self.bits_of(place).first(wanted.bit) {
             None => Ok(None),
             Some(lane) => {
-                let ones = self.ones_in(alloc, graph, wanted.node, lane)?;
+                let ones = self.ones_in(alloc, graph, place, lane)?;
                 Ok(Some(ones))
             }
         }
@@ -93,34 +95,34 @@ impl Pool {
         node: u32,
         ones: &[u32],
     ) -> Result<(), Memory> {
-        if self.evaluate(alloc, graph, node)? {
-            self.lay_under(graph, node)?;
+        if let Some(place) = self.evaluate(alloc, graph, node)? {
+            self.lay_under(place)?;
             self.lay_all(ones);
             self.go_on();
         }
         Ok(())
     }
 
-    /// Whether a node can have bits. Takes no memory.
-    pub(crate) fn has_room(&self, graph: &Graph, node: u32) -> bool {
-        let place = node as usize;
-        place < graph.len() && place < MOST_NODES
+    /// Where the entry of a node stands, if it has one. Takes no memory.
+    pub(crate) fn known(&self, node: u32) -> Option<u32> {
+        match self.places.get(&node) {
+            Some(place) => Some(*place),
+            None => None,
+        }
     }
 
-    /// The entry of a node. Takes no memory.
-    pub(crate) fn entry(&self, node: u32) -> Entry {
-        item_at(&self.entries, node as usize, Entry::unread())
+    /// The entry of a place. Takes no memory.
+    pub(crate) fn entry(&self, place: u32) -> Entry {
+        item_at(&self.entries, place as usize, Entry::unread(0))
     }
 
-    /// The bits of a node, 0 where it has none. Takes no memory.
-    pub(crate) fn bits_of(&self, node: u32) -> PoolBits {
-        item_at(&self.bits, node as usize, PoolBits::all(false))
+    /// The place of what is listed as read. Takes no memory.
+    pub(crate) fn read_at(&self, k: u32) -> u32 {
+        item_at(&self.reads, k as usize, 0)
     }
 
-    /// Nothing is known any more, but what is drawn next.
-    fn forget(&mut self, alloc: Global) {
-        let draws = self.draws;
-        *self = Pool::new(alloc);
-        self.draws = draws;
+    /// The bits of a place, 0 where it has none. Takes no memory.
+    pub(crate) fn bits_of(&self, place: u32) -> PoolBits {
+        item_at(&self.bits, place as usize, PoolBits::all(false))
     }
 }
