@@ -29,7 +29,7 @@ impl Pool {
         bytes >= MOST_BYTES || self.tables.len() >= MOST_TABLES
     }
 
-    /// Whether a call is to be passed over.
+    /// Whether a call is to be passed over; then one less is.
     pub(crate) fn rests(&mut self) -> bool {
         let rests = self.rest != 0;
         self.rest = self.rest.saturating_sub(1);
