@@ -2,7 +2,7 @@
 use Rattle.std.proofs.Common.{◌≡◌, ℕ, zero, suc, ◌+◌, ◌-◌, ◌<◌, ◌≤◌, ◌*◌, Bool, true, false, List, [], ◌∷◌, ◌++◌, length, drop, slice_index, refl, sym, ap, ◌∙◌, arith, subst, add-one, append_assoc, drop-cons, ⊎_elim}
 use Rattle.std.specs.Prelude.{Contains, if◌then◌else◌}
 use Rattle.std.specs.List.{flat_map}
-use Rattle.std.proofs.lemmas.Bool.{cases_eq, cases_lt}
+use Rattle.std.proofs.lemmas.Bool.{cases_lt}
 use Rattle.std.proofs.lemmas.Grind.{flat_map-append}
 use Rattle.std.proofs.lemmas.List.{append-nil, drop_all}
 use Rattle.xr_cell.specs.Value.{is_unknown}
@@ -18,7 +18,7 @@ use Rattle.xr_ledger.specs.declared.change.Change.{Change}
 use Rattle.xr_match.specs.BoundBits.{bits_from, moment_bits, moments_bits, variable_bits}
 use Rattle.xr_match.specs.declared.binding.Bound.{Bound}
 use Rattle.xr_replay.specs.Watched.{AreDueTo}
-use Rattle.xr_replay_due.specs.Due.{KeepsOthers, NoneBetween, is_due}
+use Rattle.xr_replay_due.specs.Due.{NoneBetween, is_due}
 use Rattle.xr_replay_due.specs.Readers.{readers_of}
 use Rattle.xr_report.specs.Bits.{bound_line, is_told, told_bit}
 use Rattle.xr_report.specs.Finished.{IsStillAt}
@@ -173,20 +173,6 @@ module _ (c : Contents) (nets : List ℕ) (step : ℕ) where
   unknown_next due set from to known none so_far number less within clear =
       ⊎_elim (λ early. so_far number early within clear) (λ late. known number within (none number late less))
       (cases_lt number from)
-
-  pub unknown_kept : (set : List ℕ) (here : ℕ) → is_unknown_at c step (slice_index nets here) ≡ false
-      → KnownUnlessDueTo c nets step here set → KnownUnlessDueTo c nets step (here + 1) set
-  unknown_kept set here is so_far number less within clear =
-      ⊎_elim (λ same. subst (λ (n : ℕ). is_unknown_at c step (slice_index nets n) ≡ false) (sym same) is)
-      (λ differ. so_far number (omega (arith, less, differ)) within clear) (cases_eq number here)
-
-  pub unknown_more : (old new : List ℕ) (here : ℕ) → is_due new here ≡ true → KeepsOthers old new here
-      → KnownUnlessDueTo c nets step here old → KnownUnlessDueTo c nets step (here + 1) new
-  unknown_more old new here is others so_far number less within clear =
-      ⊎_elim (λ same. absurd (let some : is_due new number ≡ true = ap (is_due new) same ∙ is in
-      let no : true ≡ false = sym some ∙ clear in cc))
-      (λ differ. so_far number (omega (arith, less, differ)) within (sym (others number differ) ∙ clear))
-      (cases_eq number here)
 
   pub unknown_all : (set : List ℕ) (to : ℕ) → length nets ≤ to → KnownUnlessDueTo c nets step to set
       → KnownUnlessDue c nets step set

@@ -13,7 +13,7 @@ use Rattle.xr_design.specs.declared.waveform.Written.{Written}
 use Rattle.xr_fans.specs.Marks.{OnlyMore}
 use Rattle.xr_fans.proofs.Marking.{clear_before}
 use Rattle.xr_report.specs.Bits.{is_told_again, is_told_anew, place_in, recorded_in, result_of, told_bit}
-use Rattle.xr_report.specs.Marked.{IsSame, QuietUnlessDue, SameUnlessDue, ShownUnlessDue, WrittenUnlessDue, bit_of}
+use Rattle.xr_report.specs.Marked.{IsToldSame, QuietUnlessDue, SameUnlessDue, ShownUnlessDue, WrittenUnlessDue, bit_of}
 use Rattle.xr_report.specs.declared.lines.ReportLines.TheVariants as named
 use Rattle.xr_wave.specs.Contents.{Contents, job, written_of}
 
@@ -42,7 +42,7 @@ told_again c place other recorded written =
     ∙ same_self (recorded_in c other) (written_of c other)
 
 untold : (c : Contents) (moment net : ℕ) → 0 < moment
-    → IsSame c (last_step (job c) (moment - 1)) (last_step (job c) moment) net
+    → IsToldSame c (last_step (job c) (moment - 1)) (last_step (job c) moment) net
     → is_told_anew c (bit_of moment net) ≡ false
 untold c moment net later same =
     let first : (moment == 0) ≡ false = ne_eqb moment 0 (λ is. omega (arith, later, is)) in

@@ -55,14 +55,14 @@ QuietUnlessDue c lines moment nets due = (number : ℕ) → number < length nets
     → net_line c lines moment (slice_index nets number) ≡ []
 
 -- A net has at a step what it has at an earlier one, in the history and in the wave.
-pub record IsSame (c : Contents) (earlier step net : ℕ) : Type 0 where
+pub record IsToldSame (c : Contents) (earlier step net : ℕ) : Type 0 where
   pub recorded : recorded_in c (net_place step net) ≡ recorded_in c (net_place earlier net)
   pub written : written_of c (net_place step net) ≡ written_of c (net_place earlier net)
 
 -- Each bit is due, or its net has what it has at an earlier step.
 abbrev pub SameUnlessDue : Contents → List ℕ → ℕ → ℕ → List ℕ → Type 0
 SameUnlessDue c nets earlier step due = (number : ℕ) → number < length nets → is_due due number ≡ false
-    → IsSame c earlier step (slice_index nets number)
+    → IsToldSame c earlier step (slice_index nets number)
 
 -- Each bit is due, or the history shows of its net what it shows one step before. So it is with what the wave has.
 abbrev pub ShownUnlessDue : Contents → List ℕ → ℕ → List ℕ → Type 0

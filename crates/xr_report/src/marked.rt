@@ -13,7 +13,7 @@ ghost use Rattle.xr_wave.specs.Contents.{IsFinished, job};
 use crate::bits::{Reader, put_bit};
 use crate::lines::ReportLines;
 use crate::nets::BitNets;
-use crate::rounds::{mark_shown, mark_written};
+use crate::rounds::{mark_told, mark_unknown};
 use std::alloc::Global;
 use std::mem;
 use xr_base::Memory;
@@ -119,10 +119,10 @@ fn mark_rounds(
         KnownUnlessDue wave.now bits.now.nets.items (last_step (job wave.now) moment) due.new }
 {
     match lines {
-        ReportLines::All => mark_shown(wave, bits, moment, due),
+        ReportLines::All => mark_unknown(wave, bits, moment, due),
         ReportLines::Changes => {
             due.clear();
-            mark_written(wave, bits, moment, due)
+            mark_told(wave, bits, moment, due)
         }
     }
 }

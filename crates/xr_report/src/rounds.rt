@@ -19,7 +19,7 @@ use xr_wave::Wave;
 
 /// Each bit becomes due of which x or z is recorded in a moment behind the first, where each was due of which it is in
 /// the moment before. False where the history doesn't tell. Costs what the history writes in the moment.
-pub fn mark_shown(wave: &Wave<'_>, bits: &BitNets, moment: u32, due: &mut Due) -> bool
+pub fn mark_unknown(wave: &Wave<'_>, bits: &BitNets, moment: u32, due: &mut Due) -> bool
     requires later { 0 < moment }
     requires moment { moment < length wave.now.stim.times }
     requires bits { AreBitNets (length wave.now.design.nets) bits.now }
@@ -34,7 +34,7 @@ pub fn mark_shown(wave: &Wave<'_>, bits: &BitNets, moment: u32, due: &mut Due) -
     let rounds = wave.stim().rounds;
     let first = moment as usize * rounds as usize;
     'rounds: for round in 0..rounds {
-        if !mark_changed(wave, bits, first + round as usize, due) {
+        if !mark_written(wave, bits, first + round as usize, due) {
             return false;
         }
     }
@@ -43,7 +43,7 @@ pub fn mark_shown(wave: &Wave<'_>, bits: &BitNets, moment: u32, due: &mut Due) -
 
 /// Each bit becomes due whose net hasn't in a moment behind the first what it has in the moment before. False where the
 /// history doesn't tell. Costs what the history and the wave write in the moment.
-pub fn mark_written(wave: &Wave<'_>, bits: &BitNets, moment: u32, due: &mut Due) -> bool
+pub fn mark_told(wave: &Wave<'_>, bits: &BitNets, moment: u32, due: &mut Due) -> bool
     requires finished { IsFinished wave.now }
     requires later { 0 < moment }
     requires moment { moment < length wave.now.stim.times }
@@ -77,12 +77,12 @@ fn mark_step(wave: &Wave<'_>, bits: &BitNets, step: usize, due: &mut Due) -> boo
     ensures same { result ≡ true → SameUnlessDue wave.now bits.now.nets.items (step - 1) step due.new }
 {
     mark_anew(wave, bits, step, due);
-    mark_changed(wave, bits, step, due)
+    mark_written(wave, bits, step, due)
 }
 
 /// Each bit becomes due of whose net the history may show something else than one step before. False where it doesn't
 /// tell.
-fn mark_changed(wave: &Wave<'_>, bits: &BitNets, step: usize, due: &mut Due) -> bool
+fn mark_written(wave: &Wave<'_>, bits: &BitNets, step: usize, due: &mut Due) -> bool
     requires later { 0 < step }
     requires step { step < length wave.now.stim.times * wave.now.stim.rounds }
     requires bits { AreBitNets (length wave.now.design.nets) bits.now }

@@ -1,7 +1,7 @@
 -- Each bit that isn't due has after the rounds so far what it had before the first.
 use Rattle.std.proofs.Common.{◌≡◌, ◌+◌, ◌-◌, length}
 use Rattle.xr_report.specs.Marked.{SameUnlessDue}
-use Rattle.xr_report.proofs.rounds.mark_written.Given as goal
+use Rattle.xr_report.proofs.rounds.mark_told.Given as goal
 
 abbrev pub invariant-rounds : goal.invariant-rounds
 invariant-rounds l = record {

@@ -6,7 +6,7 @@ use Rattle.xr_replay.proofs.Watching.{last_before}
 use Rattle.xr_report.specs.Marked.{KnownUnlessDue}
 use Rattle.xr_report.proofs.BitLines.{known_kept}
 use Rattle.xr_wave.specs.Contents.{job}
-use Rattle.xr_report.proofs.rounds.mark_shown.Goals as goal
+use Rattle.xr_report.proofs.rounds.mark_unknown.Goals as goal
 
 pub rounds-init : goal.rounds-init
 rounds-init c =
@@ -30,8 +30,8 @@ rounds-preserved c =
     let step = c.args.moment * c.stim.result.now.rounds + c.rounds.round in
     let next : step ≡ c.args.moment * c.stim.result.now.rounds + (c.rounds.round + 1) - 1 = omega arith in
     record {
-      long = c.mark_changed.ensures.long ∙ c.rounds.invariant.long;
-      known = subst (λ (s : ℕ). KnownUnlessDue wave nets s c.mark_changed.new.due) next
-          (known_kept wave nets step c.rounds.due c.mark_changed.new.due c.mark_changed.ensures.more
-          (c.mark_changed.ensures.shown c.if-not-mark_changed.false) c.rounds.invariant.known);
+      long = c.mark_written.ensures.long ∙ c.rounds.invariant.long;
+      known = subst (λ (s : ℕ). KnownUnlessDue wave nets s c.mark_written.new.due) next
+          (known_kept wave nets step c.rounds.due c.mark_written.new.due c.mark_written.ensures.more
+          (c.mark_written.ensures.shown c.if-not-mark_written.false) c.rounds.invariant.known);
     }
