@@ -2,7 +2,7 @@
 use Rattle.std.proofs.Common.{◌≡◌, ℕ, zero, suc, ◌+◌, ◌-◌, ◌<◌, ◌≤◌, ◌*◌, Bool, true, false, List, [], ◌∷◌, ◌++◌, length, drop, slice_index, refl, sym, ap, ◌∙◌, arith, subst, add-one, append_assoc, drop-cons, ⊎_elim}
 use Rattle.std.specs.Prelude.{Contains, if◌then◌else◌}
 use Rattle.std.specs.List.{flat_map}
-use Rattle.std.proofs.lemmas.Bool.{cases_eq, cases_lt}
+use Rattle.std.proofs.lemmas.Bool.{cases_lt}
 use Rattle.std.proofs.lemmas.Grind.{flat_map-append}
 use Rattle.std.proofs.lemmas.List.{append-nil, drop_all}
 use Rattle.xr_cell.specs.Value.{is_unknown}
@@ -18,10 +18,11 @@ use Rattle.xr_ledger.specs.declared.change.Change.{Change}
 use Rattle.xr_match.specs.BoundBits.{bits_from, moment_bits, moments_bits, variable_bits}
 use Rattle.xr_match.specs.declared.binding.Bound.{Bound}
 use Rattle.xr_replay.specs.Watched.{AreDueTo}
-use Rattle.xr_replay_due.specs.Due.{KeepsOthers, NoneBetween, is_due}
+use Rattle.xr_replay_due.specs.Due.{NoneBetween, is_due}
 use Rattle.xr_replay_due.specs.Readers.{readers_of}
 use Rattle.xr_report.specs.Bits.{bound_line, is_told, told_bit}
-use Rattle.xr_report.specs.Marked.{AreBitNets, KnownUnlessDue, KnownUnlessDueTo, bit_nets, bit_of, is_unknown_at, moment_lines, moments_lines, net_line}
+use Rattle.xr_report.specs.Finished.{IsStillAt}
+use Rattle.xr_report.specs.Marked.{AreBitNets, KnownUnlessDue, KnownUnlessDueTo, QuietUnlessDue, ShownUnlessDue, bit_nets, bit_of, is_unknown_at, moment_lines, moments_lines, net_line}
 use Rattle.xr_report.specs.declared.lines.ReportLines.{ReportLines}
 use Rattle.xr_report.specs.declared.lines.ReportLines.TheVariants as named
 use Rattle.xr_report.specs.declared.nets.BitNets.{BitNets}
@@ -112,11 +113,14 @@ no_line : (c : Contents) (lines : ReportLines) (moment net : ℕ)
 no_line c lines moment net known =
     empty_if (is_told c lines (bit_of moment net)) (told_bit c (bit_of moment net)) (rw known refl)
 
-module _ (c : Contents) (lines : ReportLines) (moment : ℕ) (nets : List ℕ) (due : List ℕ)
-    (known : KnownUnlessDue c nets (last_step (job c) moment) due) where
-  abbrev step : ℕ
-  step = last_step (job c) moment
+-- Where 0 or 1 is recorded of each bit that isn't due, none of these has a line.
+pub quiet_known : (c : Contents) (lines : ReportLines) (moment : ℕ) (nets due : List ℕ)
+    → KnownUnlessDue c nets (last_step (job c) moment) due → QuietUnlessDue c lines moment nets due
+quiet_known c lines moment nets due known number within clear =
+    no_line c lines moment (slice_index nets number) (known number within clear)
 
+module _ (c : Contents) (lines : ReportLines) (moment : ℕ) (nets : List ℕ) (due : List ℕ)
+    (none_of : QuietUnlessDue c lines moment nets due) where
   abbrev lines_from : ℕ → List ℕ
   lines_from number = moment_lines c lines moment (drop number nets)
 
@@ -127,9 +131,8 @@ module _ (c : Contents) (lines : ReportLines) (moment : ℕ) (nets : List ℕ) (
 
   quiet : (number : ℕ) → is_due due number ≡ false → number < length nets → lines_from number ≡ lines_from (number + 1)
   quiet number clear within =
-      let net = slice_index nets number in
       ap (moment_lines c lines moment) (rest_is nets number within)
-      ∙ ap (λ (l : List ℕ). l ++ lines_from (number + 1)) (no_line c lines moment net (known number within clear))
+      ∙ ap (λ (l : List ℕ). l ++ lines_from (number + 1)) (none_of number within clear)
 
   pass : (number : ℕ) → is_due due number ≡ false → lines_from number ≡ lines_from (number + 1)
   pass number clear =
@@ -163,26 +166,13 @@ module _ (c : Contents) (lines : ReportLines) (moment : ℕ) (nets : List ℕ) (
       ∙ moved text (net_line c lines moment net) (lines_from (number + 1)) all grown
       (ap (λ (l : List ℕ). text ++ l) (sym rest) ∙ before) put
 
-  -- The bits of which x or z is recorded, of those so far.
-  pub unknown_next : (set : List ℕ) (from to : ℕ) → NoneBetween due from to → KnownUnlessDueTo c nets step from set
-      → KnownUnlessDueTo c nets step to set
-  unknown_next set from to none so_far number less within clear =
+-- The bits of which x or z is recorded, of those so far.
+module _ (c : Contents) (nets : List ℕ) (step : ℕ) where
+  pub unknown_next : (due set : List ℕ) (from to : ℕ) → KnownUnlessDue c nets step due → NoneBetween due from to
+      → KnownUnlessDueTo c nets step from set → KnownUnlessDueTo c nets step to set
+  unknown_next due set from to known none so_far number less within clear =
       ⊎_elim (λ early. so_far number early within clear) (λ late. known number within (none number late less))
       (cases_lt number from)
-
-  pub unknown_kept : (set : List ℕ) (here : ℕ) → is_unknown_at c step (slice_index nets here) ≡ false
-      → KnownUnlessDueTo c nets step here set → KnownUnlessDueTo c nets step (here + 1) set
-  unknown_kept set here is so_far number less within clear =
-      ⊎_elim (λ same. subst (λ (n : ℕ). is_unknown_at c step (slice_index nets n) ≡ false) (sym same) is)
-      (λ differ. so_far number (omega (arith, less, differ)) within clear) (cases_eq number here)
-
-  pub unknown_more : (old new : List ℕ) (here : ℕ) → is_due new here ≡ true → KeepsOthers old new here
-      → KnownUnlessDueTo c nets step here old → KnownUnlessDueTo c nets step (here + 1) new
-  unknown_more old new here is others so_far number less within clear =
-      ⊎_elim (λ same. absurd (let some : is_due new number ≡ true = ap (is_due new) same ∙ is in
-      let no : true ≡ false = sym some ∙ clear in cc))
-      (λ differ. so_far number (omega (arith, less, differ)) within (sym (others number differ) ∙ clear))
-      (cases_eq number here)
 
   pub unknown_all : (set : List ℕ) (to : ℕ) → length nets ≤ to → KnownUnlessDueTo c nets step to set
       → KnownUnlessDue c nets step set
@@ -197,21 +187,34 @@ history_there c wave step net less low =
     has_place (job c) c.history (net_place step net) (handed_places (job c) c.history wave.handed)
     (record { step = less; net = low })
 
--- A bit that was known and whose net isn't written is known.
-pub known_kept : (c : Contents) (bits : BitNets) (step : ℕ) (changes : List Change) (old new : List ℕ) → IsWave c
+-- A bit that isn't due and whose net isn't written shows what it showed;
+pub shown_kept : (c : Contents) (bits : BitNets) (step : ℕ) (changes : List Change) (due : List ℕ) → IsWave c
     → AreBitNets (length c.design.nets) bits → step < length c.stim.times * c.stim.rounds
-    → AreWritten c.history step changes → OnlyMore old new → AreDueTo bits.readers changes (length changes) new
-    → KnownUnlessDue c bits.nets.items (step - 1) old → KnownUnlessDue c bits.nets.items step new
-known_kept c bits step changes old new wave are less written more marked known number within clear =
-    ap (λ (held : Held). is_unknown held.shown)
+    → AreWritten c.history step changes → AreDueTo bits.readers changes (length changes) due
+    → ShownUnlessDue c bits.nets.items step due
+shown_kept c bits step changes due wave are less written marked number within clear =
+    ap (λ (held : Held). held.shown)
     (written.others net (history_there c wave step net less (are.low number 0 within)) unwritten)
-    ∙ known number within (clear_before old new number more clear)
   where
     net : ℕ
     net = slice_index bits.nets.items number
 
     unwritten : (i : ℕ) → i < length changes → change_position (nth_change changes i) ≡ net → ⊥
     unwritten i low same =
-        let some : is_due new number ≡ true = marked i low number
+        let some : is_due due number ≡ true = marked i low number
         (subst (λ (n : ℕ). Contains (readers_of bits.readers n) number) (sym same) (are.has number within)) in
         let no : true ≡ false = sym some ∙ clear in cc
+
+-- so it is where the history is still;
+pub shown_still : (c : Contents) (bits : BitNets) (step : ℕ) (due : List ℕ) → IsWave c
+    → AreBitNets (length c.design.nets) bits → step < length c.stim.times * c.stim.rounds → IsStillAt c.history step
+    → ShownUnlessDue c bits.nets.items step due
+shown_still c bits step due wave are less still number within clear =
+    let net = slice_index bits.nets.items number in
+    ap (λ (held : Held). held.shown) (still net (history_there c wave step net less (are.low number 0 within)))
+
+-- and where it was known it is.
+pub known_kept : (c : Contents) (nets : List ℕ) (step : ℕ) (old new : List ℕ) → OnlyMore old new
+    → ShownUnlessDue c nets step new → KnownUnlessDue c nets (step - 1) old → KnownUnlessDue c nets step new
+known_kept c nets step old new more shown known number within clear =
+    ap is_unknown (shown number within clear) ∙ known number within (clear_before old new number more clear)

@@ -1,9 +1,11 @@
 -- Lemmas of the report.
 mod Anew
+mod AnewBits
 mod BitLines
 mod BitNets
 mod Changing
 mod Counting
 mod Ending
 mod Reach
+mod SameLines
 pub mod Steps

@@ -1,17 +1,19 @@
 -- The lines of the bits moment by moment, by the nets of the bits. No contract of a public call names these.
-use Rattle.std.specs.Prelude.{◌≡◌, ℕ, zero, suc, ◌+◌, ◌<◌, ◌≤◌, ◌^◌, Bool, false, List, [], ◌++◌, All, Contains, length, slice_index}
+use Rattle.std.specs.Prelude.{◌≡◌, ℕ, zero, suc, ◌+◌, ◌-◌, ◌*◌, ◌<◌, ◌≤◌, ◌^◌, ◌⊎◌, Bool, false, List, [], ◌++◌, All, Contains, length, slice_index}
 use Rattle.std.specs.List.{flat_map}
 use Rattle.xr_cell.specs.Value.{is_unknown}
 use Rattle.xr_design.specs.History.{net_place}
 use Rattle.xr_match.specs.declared.binding.Bound.{Bound}
 use Rattle.xr_match.specs.declared.bound_bits.BoundBit.{BoundBit}
+use Rattle.xr_design.specs.Waveform.{written_at}
+use Rattle.xr_replay.specs.Watched.{AreReadersDue}
 use Rattle.xr_replay_due.specs.Due.{is_due}
 use Rattle.xr_replay_due.specs.Readers.{IsTable, reading_at, readers_of}
 use Rattle.xr_replay_due.specs.declared.readings.Reading.{Reading}
 use Rattle.xr_report.specs.Bits.{bound_line, recorded_in}
 use Rattle.xr_report.specs.declared.lines.ReportLines.{ReportLines}
 use Rattle.xr_report.specs.declared.nets.BitNets.{BitNets}
-use Rattle.xr_wave.specs.Contents.{Contents}
+use Rattle.xr_wave.specs.Contents.{Contents, written_of}
 
 -- The nets of all bits of bound variables, in the order of a report.
 abbrev pub bit_nets : List Bound → List ℕ
@@ -46,6 +48,38 @@ KnownUnlessDue c nets step due = (number : ℕ) → number < length nets → is_
 abbrev pub KnownUnlessDueTo : Contents → List ℕ → ℕ → ℕ → List ℕ → Type 0
 KnownUnlessDueTo c nets step to due = (number : ℕ) → number < to → number < length nets → is_due due number ≡ false
     → is_unknown_at c step (slice_index nets number) ≡ false
+
+-- Each bit is due, or has no line in a moment.
+abbrev pub QuietUnlessDue : Contents → ReportLines → ℕ → List ℕ → List ℕ → Type 0
+QuietUnlessDue c lines moment nets due = (number : ℕ) → number < length nets → is_due due number ≡ false
+    → net_line c lines moment (slice_index nets number) ≡ []
+
+-- A net has at a step what it has at an earlier one, in the history and in the wave.
+pub record IsToldSame (c : Contents) (earlier step net : ℕ) : Type 0 where
+  pub recorded : recorded_in c (net_place step net) ≡ recorded_in c (net_place earlier net)
+  pub written : written_of c (net_place step net) ≡ written_of c (net_place earlier net)
+
+-- Each bit is due, or its net has what it has at an earlier step.
+abbrev pub SameUnlessDue : Contents → List ℕ → ℕ → ℕ → List ℕ → Type 0
+SameUnlessDue c nets earlier step due = (number : ℕ) → number < length nets → is_due due number ≡ false
+    → IsToldSame c earlier step (slice_index nets number)
+
+-- Each bit is due, or the history shows of its net what it shows one step before. So it is with what the wave has.
+abbrev pub ShownUnlessDue : Contents → List ℕ → ℕ → List ℕ → Type 0
+ShownUnlessDue c nets step due = (number : ℕ) → number < length nets → is_due due number ≡ false
+    → recorded_in c (net_place step (slice_index nets number))
+    ≡ recorded_in c (net_place (step - 1) (slice_index nets number))
+
+abbrev pub WrittenUnlessDue : Contents → List ℕ → ℕ → List ℕ → Type 0
+WrittenUnlessDue c nets step due = (number : ℕ) → number < length nets → is_due due number ≡ false
+    → written_of c (net_place step (slice_index nets number))
+    ≡ written_of c (net_place (step - 1) (slice_index nets number))
+
+-- The bits of the net at a position are due, or at its place stands what stands there one step before.
+abbrev pub IsMarkedAt : Contents → BitNets → ℕ → List ℕ → ℕ → Type 0
+IsMarkedAt c bits step due position = AreReadersDue bits.readers (slice_index c.order position) due
+    ⊎ (written_at c.written (step * length c.design.nets + position)
+    ≡ written_at c.written ((step - 1) * length c.design.nets + position))
 
 -- Bits of so many nets, each of which is among the readers of its own. No net and no bit is as great as their room.
 pub record AreBitNets (nets : ℕ) (bits : BitNets) : Type 0 where

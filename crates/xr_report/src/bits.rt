@@ -35,10 +35,10 @@ pub struct Reader<'w, 'a> {
 /// The lines of a report, moment by moment: one for each bit of a bound variable whose recorded value is x or z, where
 /// it is told, with what the wave has at the moment's last round. The recorded value is what the history shows there.
 ///
-/// Takes the text's bytes, those of the name of each net that has a line, once, 44 bytes for each net, or 8 of these for
-/// each bit where there are more bits, and 8 for each bit; on the way 24 more for each. Takes time linear in the text, in
-/// the bits of one moment, in those of all moments of which x or z is recorded and in what the history and the wave
-/// write anew; with more than 2^20 bits, in the bits of all moments.
+/// Takes the text's bytes, those of the name of each net that has a line, once, 44 bytes for each net, or 8 of these
+/// for each bit where there are more bits, and 8 for each bit; on the way 24 more for each. Takes time linear in the
+/// text, in the steps, in the bits of one moment and in what the history and the wave write anew, and with the lines of
+/// all moments in the bits of which x or z is recorded; with more than 2^20 bits, in the bits of all moments.
 pub fn bit_lines(
     alloc: Global,
     wave: &Wave<'_>,

@@ -181,7 +181,7 @@ impl Ends {
 }
 
 /// Whether each place of a step is known to have what its net has a step before.
-fn is_still(history: &History, step: usize) -> bool
+pub fn is_still(history: &History, step: usize) -> bool
     requires { 0 < step }
     ensures { IsTrue result → IsStillAt history.now step }
 {

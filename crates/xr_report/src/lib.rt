@@ -12,6 +12,7 @@ mod names;
 mod nets;
 mod puts;
 mod report;
+mod rounds;
 mod row;
 mod rows;
 mod told;

@@ -1,22 +1,23 @@
 //! The lines moment by moment, each by the bits that may have one: those of which x or z was recorded in the moment
-//! before, and those whose net the history writes in the moment.
+//! before, and those whose net the history writes in the moment. With the lines of changes: those whose net the history
+//! or the wave writes in the moment.
 
 ghost use Rattle.std.specs.Prelude.{◌≡◌, ℕ, ◌+◌, ◌-◌, ◌*◌, ◌<◌, ◌^◌, ◌++◌, true, All, OnOk, length, slice_index};
 ghost use Rattle.xr_design.specs.Settled.{last_step};
 ghost use Rattle.xr_replay_due.specs.Due.{HasRoomFor};
 ghost use Rattle.xr_report.specs.Finished.{HasMoments, IsReaderOf};
 ghost use Rattle.xr_report.specs.Marked as spec;
-ghost use Rattle.xr_report.specs.Marked.{AreBitNets, KnownUnlessDue, KnownUnlessDueTo};
+ghost use Rattle.xr_report.specs.Marked.{AreBitNets, KnownUnlessDue, KnownUnlessDueTo, QuietUnlessDue};
 ghost use Rattle.xr_wave.specs.Contents.{IsFinished, job};
 
 use crate::bits::{Reader, put_bit};
 use crate::lines::ReportLines;
 use crate::nets::BitNets;
+use crate::rounds::{mark_told, mark_unknown};
 use std::alloc::Global;
 use std::mem;
 use xr_base::Memory;
 use xr_match::BoundBit;
-use xr_replay::mark_changes;
 use xr_replay_due::Due;
 use xr_wave::Wave;
 
@@ -29,9 +30,9 @@ struct MomentBits<'m, 'w, 'a> {
     nets: &'m [u32],
 }
 
-/// The lines of all moments. Takes two bits for each bit, or for each net where there are more of these; and time
-/// linear in the text, in the bits of the first moment, in those of which x or z is recorded and in what the history and
-/// the wave write anew.
+/// The lines of all moments. Takes two bits for each bit, or for each net where there are more of these. Takes time
+/// linear in the text, in the steps, in the bits of the first moment and in what the history and the wave write anew,
+/// and with the lines of all moments in the bits of which x or z is recorded.
 pub fn put_moments<'w, 'a>(
     alloc: Global,
     text: &mut Vec<u8>,
@@ -53,7 +54,7 @@ pub fn put_moments<'w, 'a>(
     let mut unknown = Due::none(alloc, bits.room)?;
     let moments = wave.stim().times.as_slice().len() as u32;
     'moments: for moment in 0..moments {
-        mark_moment(alloc, wave, bits, moment, &mut due)?;
+        mark_moment(alloc, wave, lines, bits, moment, &mut due)?;
         unknown.clear();
         let here = MomentBits {
             wave,
@@ -67,25 +68,30 @@ pub fn put_moments<'w, 'a>(
     Ok(())
 }
 
-/// Each bit becomes due of which x or z is recorded in a moment, where each was due of which it is in the moment before.
-/// At the first moment, and where the history doesn't tell what is written, all become due.
+/// Each bit becomes due that may have a line in a moment. With the lines of all moments these are those of which x or z
+/// is recorded in it, where each was due of which it is in the moment before; with those of changes, those whose net is
+/// written in it, and no others are due. At the first moment, and where the history doesn't tell what is written, all
+/// become due.
 fn mark_moment(
     alloc: Global,
     wave: &Wave<'_>,
+    lines: ReportLines,
     bits: &BitNets,
     moment: u32,
     due: &mut Due,
 ) -> Result<(), Memory>
+    requires finished { IsFinished wave.now }
     requires moment { moment < length wave.now.stim.times }
     requires bits { AreBitNets (length wave.now.design.nets) bits.now }
     requires room { HasRoomFor due.old bits.now.room }
-    requires before { 0 < moment →
+    requires before { lines ≡ ReportLines.All → 0 < moment →
         KnownUnlessDue wave.now bits.now.nets.items (last_step (job wave.now) (moment - 1)) due.old }
     ensures room { OnOk result (HasRoomFor due.new bits.now.room) }
-    ensures known { OnOk result
-        (KnownUnlessDue wave.now bits.now.nets.items (last_step (job wave.now) moment) due.new) }
+    ensures quiet { OnOk result (QuietUnlessDue wave.now lines moment bits.now.nets.items due.new) }
+    ensures known { OnOk result (lines ≡ ReportLines.All →
+        KnownUnlessDue wave.now bits.now.nets.items (last_step (job wave.now) moment) due.new) }
 {
-    if moment > 0 && mark_rounds(wave, bits, moment, due) {
+    if moment > 0 && mark_rounds(wave, lines, bits, moment, due) {
         return Ok(());
     }
     *due = Due::all(alloc, bits.room)?;
@@ -93,46 +99,31 @@ fn mark_moment(
 }
 
 /// The same at a later moment. False where the history doesn't tell.
-fn mark_rounds(wave: &Wave<'_>, bits: &BitNets, moment: u32, due: &mut Due) -> bool
+fn mark_rounds(
+    wave: &Wave<'_>,
+    lines: ReportLines,
+    bits: &BitNets,
+    moment: u32,
+    due: &mut Due,
+) -> bool
+    requires finished { IsFinished wave.now }
     requires later { 0 < moment }
     requires moment { moment < length wave.now.stim.times }
     requires bits { AreBitNets (length wave.now.design.nets) bits.now }
     requires room { HasRoomFor due.old bits.now.room }
-    requires before { KnownUnlessDue wave.now bits.now.nets.items (last_step (job wave.now) (moment - 1)) due.old }
+    requires before { lines ≡ ReportLines.All →
+        KnownUnlessDue wave.now bits.now.nets.items (last_step (job wave.now) (moment - 1)) due.old }
     ensures long { length due.new ≡ length due.old }
-    ensures known { result ≡ true →
+    ensures quiet { result ≡ true → QuietUnlessDue wave.now lines moment bits.now.nets.items due.new }
+    ensures known { result ≡ true → lines ≡ ReportLines.All →
         KnownUnlessDue wave.now bits.now.nets.items (last_step (job wave.now) moment) due.new }
 {
-    // With it comes the fact that the history has the places of the wave.
-    let _circuit = wave.circuit();
-    let rounds = wave.stim().rounds;
-    let first = moment as usize * rounds as usize;
-    'rounds: for round in 0..rounds {
-        if !mark_step(wave, bits, first + round as usize, due) {
-            return false;
+    match lines {
+        ReportLines::All => mark_unknown(wave, bits, moment, due),
+        ReportLines::Changes => {
+            due.clear();
+            mark_told(wave, bits, moment, due)
         }
-    }
-    true
-}
-
-/// Each bit becomes due whose net is written at a step. False where the history doesn't tell.
-fn mark_step(wave: &Wave<'_>, bits: &BitNets, step: usize, due: &mut Due) -> bool
-    requires later { 0 < step }
-    requires step { step < length wave.now.stim.times * wave.now.stim.rounds }
-    requires bits { AreBitNets (length wave.now.design.nets) bits.now }
-    requires room { HasRoomFor due.old bits.now.room }
-    requires before { KnownUnlessDue wave.now bits.now.nets.items (step - 1) due.old }
-    ensures long { length due.new ≡ length due.old }
-    ensures known { result ≡ true → KnownUnlessDue wave.now bits.now.nets.items step due.new }
-{
-    // With it comes the fact that the history has the places of the wave.
-    let _circuit = wave.circuit();
-    match wave.replayed().written(step) {
-        Some(changes) => {
-            mark_changes(&bits.readers, bits.room, changes, due);
-            true
-        }
-        None => false,
     }
 }
 
@@ -150,15 +141,15 @@ fn put_due<'w, 'a>(
     requires moment { here.now.moment < length here.now.wave.now.stim.times }
     requires nets { All (λ net. net < length here.now.wave.now.design.nets) here.now.nets.now }
     requires reader { IsReaderOf here.now.wave.now reader.old }
-    requires due { KnownUnlessDue here.now.wave.now here.now.nets.now
-        (last_step (job here.now.wave.now) here.now.moment) due.now }
+    requires due { QuietUnlessDue here.now.wave.now here.now.lines here.now.moment here.now.nets.now due.now }
     requires room { HasRoomFor unknown.old (length here.now.nets.now) }
     ensures text { let lines = spec.moment_lines here.now.wave.now here.now.lines here.now.moment here.now.nets.now in
         OnOk result (text.new.items ≡ text.old.items ++ lines) }
     ensures reader { OnOk result (IsReaderOf here.now.wave.now reader.new) }
     ensures long { OnOk result (length unknown.new ≡ length unknown.old) }
-    ensures unknown { OnOk result (KnownUnlessDue here.now.wave.now here.now.nets.now
-        (last_step (job here.now.wave.now) here.now.moment) unknown.new) }
+    ensures unknown { let step = last_step (job here.now.wave.now) here.now.moment in
+        OnOk result (KnownUnlessDue here.now.wave.now here.now.nets.now step due.now →
+        KnownUnlessDue here.now.wave.now here.now.nets.now step unknown.new) }
 {
     let mut number = due.first_from(0);
     'bits: while number < here.nets.len() {
@@ -183,15 +174,14 @@ fn put_number<'w, 'a>(
     requires number { number < length here.now.nets.now }
     requires reader { IsReaderOf here.now.wave.now reader.old }
     requires room { HasRoomFor unknown.old (length here.now.nets.now) }
-    requires before { KnownUnlessDueTo here.now.wave.now here.now.nets.now
-        (last_step (job here.now.wave.now) here.now.moment) number unknown.old }
     ensures text { let net = slice_index here.now.nets.now number in
         let line = spec.net_line here.now.wave.now here.now.lines here.now.moment net in
         OnOk result (text.new.items ≡ text.old.items ++ line) }
     ensures reader { OnOk result (IsReaderOf here.now.wave.now reader.new) }
     ensures long { OnOk result (length unknown.new ≡ length unknown.old) }
-    ensures unknown { OnOk result (KnownUnlessDueTo here.now.wave.now here.now.nets.now
-        (last_step (job here.now.wave.now) here.now.moment) (number + 1) unknown.new) }
+    ensures unknown { let step = last_step (job here.now.wave.now) here.now.moment in
+        OnOk result (KnownUnlessDueTo here.now.wave.now here.now.nets.now step number unknown.old →
+        KnownUnlessDueTo here.now.wave.now here.now.nets.now step (number + 1) unknown.new) }
 {
     let bit = BoundBit {
         moment: here.moment,

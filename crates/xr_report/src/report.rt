@@ -19,8 +19,9 @@ use xr_wave::Wave;
 ///
 /// Takes the text's bytes twice, those of the name of each net that has a line, once, 44 bytes for each net, or 8 of
 /// these for each bit where there are more bits, and 8 for each bit; on the way 24 more for each. Takes time linear in
-/// the text, in the steps, in the nets, in the bits of one moment, in those of all moments of which x or z is recorded,
-/// and in what the history and the wave write anew; with more than 2^20 bits, in the bits of all moments.
+/// the text, in the steps, in the nets, in the bits of one moment and in what the history and the wave write anew, and
+/// with the lines of all moments in the bits of which x or z is recorded; with more than 2^20 bits, in the bits of all
+/// moments.
 #[tactic(auto, unfolding(crate::specs::Report::report_text))]
 pub fn write_report(
     alloc: Global,

@@ -1,23 +1,19 @@
--- Each round is marked, from the last step of the moment before to that of the moment.
-use Rattle.std.proofs.Common.{◌≡◌, ℕ, ◌+◌, ◌-◌, ◌*◌, ap, arith, refl, subst}
-use Rattle.xr_design.specs.Settled.{last_step}
-use Rattle.xr_design.specs.declared.stim.Stim.{Stim}
-use Rattle.xr_replay.proofs.Watching.{last_before}
-use Rattle.xr_report.specs.Marked.{KnownUnlessDue}
-use Rattle.xr_wave.specs.Contents.{job}
+-- What isn't due has no line.
+use Rattle.std.proofs.Common.{subst, sym}
+use Rattle.xr_report.specs.Marked.{QuietUnlessDue}
+use Rattle.xr_report.specs.declared.lines.ReportLines.{ReportLines}
+use Rattle.xr_report.proofs.BitLines.{quiet_known}
+use Rattle.xr_report.proofs.SameLines.{quiet_same}
 use Rattle.xr_report.proofs.marked.mark_rounds.Goals as goal
 
-pub rounds-init : goal.rounds-init
-rounds-init c =
-    let wave = c.args.wave.now in
-    let moment = c.args.moment in
-    let some = c.circuit-circuit.ensures.wave.fits.fits_job.some_round in
-    let first = ap (λ (s : Stim). moment * s.rounds) c.stim.ensures in
-    let before = last_before wave.stim.rounds moment some c.requires.later in
-    let from : last_step (job wave) (moment - 1) ≡ moment * c.stim.result.now.rounds + 0 - 1 =
-    omega (arith, first, before) in
-    record {
-      long = refl;
-      known = subst (λ (s : ℕ). KnownUnlessDue wave c.args.bits.now.nets.items s c.args.due.now) from
-          c.requires.before;
-    }
+pub returns-in-All-clause-quiet : goal.returns-in-All-clause-quiet
+returns-in-All-clause-quiet c = λ yes.
+    quiet_known c.args.wave.now c.args.lines c.args.moment c.args.bits.now.nets.items c.mark_unknown.new.due
+    (c.mark_unknown.ensures.known yes)
+
+pub returns-in-Changes-clause-quiet : goal.returns-in-Changes-clause-quiet
+returns-in-Changes-clause-quiet c = λ yes.
+    subst (λ (l : ReportLines). QuietUnlessDue c.args.wave.now l c.args.moment c.args.bits.now.nets.items
+    c.mark_told.new.due) (sym c.in-Changes.is)
+    (quiet_same c.args.wave.now c.args.moment c.args.bits.now.nets.items c.mark_told.new.due c.requires.later
+    (c.mark_told.ensures.same yes))

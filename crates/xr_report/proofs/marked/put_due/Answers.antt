@@ -1,6 +1,8 @@
 -- What isn't due between two bits that are has no line.
 use Rattle.std.proofs.Common.{◌+◌, ◌++◌, ◌≤◌, ◌∙◌, List, ℕ, ap, arith, length, refl, sym}
 use Rattle.std.proofs.lemmas.List.{append-nil}
+use Rattle.xr_design.specs.Settled.{last_step}
+use Rattle.xr_wave.specs.Contents.{job}
 use Rattle.xr_report.proofs.BitLines.{bit_put, lines_past, to_next, unknown_all, unknown_next}
 use Rattle.xr_report.proofs.marked.put_due.Goals as goal
 
@@ -14,8 +16,9 @@ bits-init c =
           (omega arith) first.ensures.none));
       reader = c.requires.reader;
       long = refl;
-      unknown = unknown_next here.wave.now here.lines here.moment here.nets.now c.args.due.now c.requires.due
-          c.args.unknown.now 0 first.result first.ensures.none (λ number less. absurd (omega (arith, less)));
+      unknown = λ known. unknown_next here.wave.now here.nets.now (last_step (job here.wave.now) here.moment)
+          c.args.due.now c.args.unknown.now 0 first.result known first.ensures.none
+          (λ number less. absurd (omega (arith, less)));
     }
 
 pub bits-preserved : goal.bits-preserved
@@ -29,8 +32,9 @@ bits-preserved c =
           next.ensures.none c.bits.invariant.lines c.in_ok-put_number.ensures.text;
       reader = c.in_ok-put_number.ensures.reader;
       long = c.in_ok-put_number.ensures.long ∙ c.bits.invariant.long;
-      unknown = unknown_next here.wave.now here.lines here.moment here.nets.now c.args.due.now c.requires.due
-          c.put_number.new.unknown (number + 1) next.result next.ensures.none c.in_ok-put_number.ensures.unknown;
+      unknown = λ known. unknown_next here.wave.now here.nets.now (last_step (job here.wave.now) here.moment)
+          c.args.due.now c.put_number.new.unknown (number + 1) next.result known next.ensures.none
+          (c.in_ok-put_number.ensures.unknown (c.bits.invariant.unknown known));
     }
 
 pub returns-clause-text : goal.returns-clause-text
@@ -47,5 +51,5 @@ pub returns-clause-unknown : goal.returns-clause-unknown
 returns-clause-unknown c =
     let here = c.args.here.now in
     let test = c.bits-test.false in
-    unknown_all here.wave.now here.lines here.moment here.nets.now c.args.due.now c.requires.due c.bits.unknown
-    c.bits.number (omega (arith, test)) c.bits.invariant.unknown
+    λ known. unknown_all here.wave.now here.nets.now (last_step (job here.wave.now) here.moment) c.bits.unknown
+    c.bits.number (omega (arith, test)) (c.bits.invariant.unknown known)

@@ -1,8 +1,9 @@
--- The lines so far and those of the bits that are left are all, and those so far that are unknown are marked.
+-- The lines so far and those of the bits that are left are all, and those so far that are unknown are marked, where all
+-- that are unknown are due.
 use Rattle.std.proofs.Common.{◌≡◌, ◌-◌, ◌++◌, drop, length}
 use Rattle.xr_design.specs.Settled.{last_step}
 use Rattle.xr_report.specs.Finished.{IsReaderOf}
-use Rattle.xr_report.specs.Marked.{KnownUnlessDueTo, moment_lines}
+use Rattle.xr_report.specs.Marked.{KnownUnlessDue, KnownUnlessDueTo, moment_lines}
 use Rattle.xr_wave.specs.Contents.{job}
 use Rattle.xr_report.proofs.marked.put_due.Given as goal
 
@@ -12,7 +13,8 @@ invariant-bits l = record {
       ≡ l.fn.text.items ++ moment_lines l.here.wave.now l.here.lines l.here.moment l.here.nets.now;
   reader : IsReaderOf l.here.wave.now l.reader;
   long : length l.unknown ≡ length l.fn.unknown;
-  unknown : KnownUnlessDueTo l.here.wave.now l.here.nets.now (last_step (job l.here.wave.now) l.here.moment) l.number
+  unknown : KnownUnlessDue l.here.wave.now l.here.nets.now (last_step (job l.here.wave.now) l.here.moment) l.due
+      → KnownUnlessDueTo l.here.wave.now l.here.nets.now (last_step (job l.here.wave.now) l.here.moment) l.number
       l.unknown;
 }
 

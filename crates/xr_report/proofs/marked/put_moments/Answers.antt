@@ -1,7 +1,8 @@
 -- Each moment is put, and what is unknown in it is due in the next one.
 use Rattle.std.proofs.Common.{◌≡◌, ℕ, ◌+◌, ◌-◌, ◌<◌, ◌++◌, ◌∙◌, List, ap, arith, length, rules, subst, sym}
 use Rattle.xr_design.specs.Settled.{last_step}
-use Rattle.xr_report.specs.Marked.{KnownUnlessDue, moment_lines}
+use Rattle.xr_report.specs.Marked.{KnownUnlessDue, QuietUnlessDue, moment_lines}
+use Rattle.xr_report.specs.declared.lines.ReportLines.TheVariants as named
 use Rattle.xr_report.proofs.BitLines.{moment_put}
 use Rattle.xr_report.proofs.Reach.{moments_there}
 use Rattle.xr_wave.specs.Contents.{job}
@@ -13,8 +14,8 @@ put_due-requires-clause-moments c = moments_there c.args.wave.now c.count-count.
 pub put_due-requires-clause-due : goal.put_due-requires-clause-due
 put_due-requires-clause-due c =
     let wave = c.args.wave.now in
-    subst (λ (nets : List ℕ). KnownUnlessDue wave nets (last_step (job wave) c.moments.moment) c.mark_moment.new.due)
-    (sym c.as_slice-nets.ensures.value) c.in_ok-mark_moment.ensures.known
+    subst (λ (nets : List ℕ). QuietUnlessDue wave c.args.lines c.moments.moment nets c.mark_moment.new.due)
+    (sym c.as_slice-nets.ensures.value) c.in_ok-mark_moment.ensures.quiet
 
 pub moments-preserved : goal.moments-preserved
 moments-preserved c =
@@ -34,14 +35,17 @@ moments-preserved c =
     let room = c.moments.invariant.unknown in
     let wide = ap length y in
     let due_room = c.in_ok-mark_moment.ensures.room in
-    let known = subst (λ (l : List ℕ). KnownUnlessDue wave l (last_step (job wave) moment) c.put_due.new.unknown)
-    c.as_slice-nets.ensures.value c.in_ok-put_due.ensures.unknown in
+    let step = last_step (job wave) moment in
+    let known : c.args.lines ≡ named.All → KnownUnlessDue wave nets step c.put_due.new.unknown = λ all.
+    subst (λ (l : List ℕ). KnownUnlessDue wave l step c.mark_moment.new.due
+    → KnownUnlessDue wave l step c.put_due.new.unknown)
+    c.as_slice-nets.ensures.value c.in_ok-put_due.ensures.unknown (c.in_ok-mark_moment.ensures.known all) in
     record {
       lines = moment_put wave c.args.lines nets moment (length wave.stim.times) text _ c.put_due.new.text.items less
           c.moments.invariant.lines put;
       reader = c.in_ok-put_due.ensures.reader;
       due = omega (arith, long, put_long, clear_long, room);
       unknown = omega (arith, wide, due_room);
-      before = λ later. subst (λ (m : ℕ). KnownUnlessDue wave nets (last_step (job wave) m) c.swap.new.x) back
-          (subst (λ (set : List ℕ). KnownUnlessDue wave nets (last_step (job wave) moment) set) (sym x) known);
+      before = λ all later. subst (λ (m : ℕ). KnownUnlessDue wave nets (last_step (job wave) m) c.swap.new.x) back
+          (subst (λ (set : List ℕ). KnownUnlessDue wave nets step set) (sym x) (known all));
     }

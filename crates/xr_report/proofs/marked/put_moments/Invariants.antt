@@ -1,10 +1,11 @@
--- The lines so far and those of the moments that are left are all, and each bit that was unknown in the moment before is
--- due.
+-- The lines so far and those of the moments that are left are all, and with the lines of all moments each bit that was
+-- unknown in the moment before is due.
 use Rattle.std.proofs.Common.{◌≡◌, ◌-◌, ◌<◌, ◌++◌, length}
 use Rattle.xr_design.specs.Settled.{last_step}
 use Rattle.xr_replay_due.specs.Due.{HasRoomFor}
 use Rattle.xr_report.specs.Finished.{IsReaderOf}
 use Rattle.xr_report.specs.Marked.{KnownUnlessDue, moments_lines}
+use Rattle.xr_report.specs.declared.lines.ReportLines.TheVariants as named
 use Rattle.xr_wave.specs.Contents.{job}
 use Rattle.xr_report.proofs.marked.put_moments.Given as goal
 
@@ -16,5 +17,6 @@ invariant-moments l = record {
   reader : IsReaderOf l.wave l.reader;
   due : HasRoomFor l.due l.bits.room;
   unknown : HasRoomFor l.unknown l.bits.room;
-  before : 0 < l.moment → KnownUnlessDue l.wave l.bits.nets.items (last_step (job l.wave) (l.moment - 1)) l.due;
+  before : l.lines ≡ named.All → 0 < l.moment
+      → KnownUnlessDue l.wave l.bits.nets.items (last_step (job l.wave) (l.moment - 1)) l.due;
 }

@@ -1,7 +1,7 @@
 -- Each bit that was unknown after the rounds so far is due.
 use Rattle.std.proofs.Common.{◌≡◌, ◌+◌, ◌-◌, length}
 use Rattle.xr_report.specs.Marked.{KnownUnlessDue}
-use Rattle.xr_report.proofs.marked.mark_rounds.Given as goal
+use Rattle.xr_report.proofs.rounds.mark_unknown.Given as goal
 
 abbrev pub invariant-rounds : goal.invariant-rounds
 invariant-rounds l = record {
