@@ -1,9 +1,10 @@
-//! Runs of the whole program on files in memory, with what each must leave.
+//! Runs of the whole program on files in memory, with what each must leave; those of jobs after a given number of
+//! requests for memory.
 #![tactic(auto)]
 
 use std::alloc::Global;
 use std::io;
-use test_runs::{Program, run_files};
+use test_runs::{Program, run_named};
 use xr_cli::run;
 use xr_shelf::{Shelf, Sink};
 
@@ -17,5 +18,5 @@ impl Program for Xrepair {
 }
 
 fn main(rt: HostRuntime) -> io::Result<()> {
-    run_files::<Xrepair>(&rt)
+    run_named::<Xrepair>(&rt)
 }

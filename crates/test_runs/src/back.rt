@@ -5,7 +5,7 @@ use crate::compared::{compare_found, compare_kept};
 use crate::given::Case;
 use crate::program::Program;
 use crate::setting::Run;
-use std::alloc::{AllocError, Global};
+use std::alloc::AllocError;
 use test_cases::Report;
 
 /// Checks and upgrades the certificate, and replays the code that a repair wrote.
@@ -14,120 +14,91 @@ use test_cases::Report;
 /// is printed of the upgrade of a certificate of form 1 begins with the same report, and the check of what it wrote to
 /// p.xc prints the same as it.
 pub fn run_back<P: Program>(
-    alloc: Global,
     report: &mut Report,
     case: Case<'_>,
     repaired: &Run,
+    run: &mut Run,
 ) -> Result<(), AllocError> {
-    check_back::<P>(alloc, report, case, repaired)?;
-    replay_back::<P>(alloc, report, case, repaired)?;
+    check_back::<P>(report, case, repaired, run)?;
+    replay_back::<P>(report, case, repaired, run)?;
     if case.words().contains("--form 2") {
         return Ok(());
     }
-    upgrade_back::<P>(alloc, report, case, repaired)
+    upgrade_back::<P>(report, case, repaired, run)?;
+    check_upgraded::<P>(report, case, run, &mut Run::new(case))
 }
 
 fn check_back<P: Program>(
-    alloc: Global,
     report: &mut Report,
     case: Case<'_>,
     repaired: &Run,
+    run: &mut Run,
 ) -> Result<(), AllocError> {
     let dropped = ["--vcd", "--code", "--form"];
-    let checked = run_instead::<P>(alloc, case, repaired, "check", &dropped)?;
-    compare_checked(alloc, report, case, repaired, &checked)
+    run_instead::<P>(case, repaired, run, "check", &dropped)?;
+    compare_report(report, case, repaired, run)?;
+    compare_kept(report, case, run)
 }
 
-fn compare_checked(
-    alloc: Global,
-    report: &mut Report,
-    case: Case<'_>,
-    repaired: &Run,
-    checked: &Run,
-) -> Result<(), AllocError> {
-    compare_report(alloc, report, case, repaired, checked)?;
-    compare_kept(report, case, checked)
-}
-
-/// Compares what a check printed with what it must print, that of this run.
+/// Compares what a check printed with what it must print, that of the earlier run.
 fn compare_report(
-    alloc: Global,
     report: &mut Report,
     case: Case<'_>,
+    earlier: &Run,
     run: &Run,
-    checked: &Run,
 ) -> Result<(), AllocError> {
-    compare_ended(alloc, report, case, "check", checked.status)?;
-    let want = run.after.printed();
-    report.compare(case.title(), want, checked.after.printed())
+    compare_ended(report, case, "check", run.status())?;
+    report.compare(case.title(), earlier.printed(), run.printed())
 }
 
 fn replay_back<P: Program>(
-    alloc: Global,
     report: &mut Report,
     case: Case<'_>,
     repaired: &Run,
+    run: &mut Run,
 ) -> Result<(), AllocError> {
     let dropped = ["--vcd", "--cert", "--conflicts", "--form", "--report"];
-    let replayed = run_instead::<P>(alloc, case, repaired, "replay --vcd p.vcd", &dropped)?;
-    compare_replayed(alloc, report, case, &replayed)
-}
-
-fn compare_replayed(
-    alloc: Global,
-    report: &mut Report,
-    case: Case<'_>,
-    replayed: &Run,
-) -> Result<(), AllocError> {
-    compare_ended(alloc, report, case, "replay", replayed.status)?;
-    let want = replayed.before.get("o.vcd");
-    let got = replayed.after.get("p.vcd");
-    compare_found(report, case.title(), "p.vcd", want, got)
+    run_instead::<P>(case, repaired, run, "replay --vcd p.vcd", &dropped)?;
+    compare_ended(report, case, "replay", run.status())?;
+    compare_found(
+        report,
+        case.title(),
+        "p.vcd",
+        run.met("o.vcd"),
+        run.left("p.vcd"),
+    )
 }
 
 fn upgrade_back<P: Program>(
-    alloc: Global,
     report: &mut Report,
     case: Case<'_>,
     repaired: &Run,
+    run: &mut Run,
 ) -> Result<(), AllocError> {
     let dropped = ["--vcd", "--code", "--form"];
-    let upgraded = run_instead::<P>(alloc, case, repaired, "upgrade --to p.xc", &dropped)?;
-    compare_upgraded::<P>(alloc, report, case, repaired, &upgraded)
+    run_instead::<P>(case, repaired, run, "upgrade --to p.xc", &dropped)?;
+    compare_ended(report, case, "upgrade", run.status())?;
+    compare_begun(report, case, repaired.printed(), run.printed())
 }
 
-fn compare_upgraded<P: Program>(
-    alloc: Global,
+/// Compares the beginning of a text with what that must be.
+fn compare_begun(
     report: &mut Report,
     case: Case<'_>,
-    repaired: &Run,
-    upgraded: &Run,
+    want: &[u8],
+    text: &[u8],
 ) -> Result<(), AllocError> {
-    compare_upgrade(alloc, report, case, repaired, upgraded)?;
-    check_upgraded::<P>(alloc, report, case, upgraded)
-}
-
-fn compare_upgrade(
-    alloc: Global,
-    report: &mut Report,
-    case: Case<'_>,
-    repaired: &Run,
-    upgraded: &Run,
-) -> Result<(), AllocError> {
-    compare_ended(alloc, report, case, "upgrade", upgraded.status)?;
-    let want = repaired.after.printed();
-    let printed = upgraded.after.printed();
-    let same = want.len().min(printed.len());
-    report.compare(case.title(), want, &printed[..same])
+    let same = want.len().min(text.len());
+    report.compare(case.title(), want, &text[..same])
 }
 
 fn check_upgraded<P: Program>(
-    alloc: Global,
     report: &mut Report,
     case: Case<'_>,
     upgraded: &Run,
+    run: &mut Run,
 ) -> Result<(), AllocError> {
     let dropped = ["--vcd", "--code", "--form", "--cert"];
-    let checked = run_instead::<P>(alloc, case, upgraded, "check --cert p.xc", &dropped)?;
-    compare_report(alloc, report, case, upgraded, &checked)
+    run_instead::<P>(case, upgraded, run, "check --cert p.xc", &dropped)?;
+    compare_report(report, case, upgraded, run)
 }

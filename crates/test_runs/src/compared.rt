@@ -2,48 +2,35 @@
 
 use crate::given::{Case, OUTPUTS};
 use crate::setting::Run;
-use std::alloc::{AllocError, Global};
+use crate::tabled::{compare_end, next_of};
+use std::alloc::AllocError;
 use test_cases::{Lines, Part, Report};
 
 /// Compares all that a run left.
-pub fn compare_run(
-    alloc: Global,
-    report: &mut Report,
-    case: Case<'_>,
-    run: &Run,
-) -> Result<(), AllocError> {
-    compare_status(alloc, report, case, run.status)?;
-    compare_printed(alloc, report, case, run)?;
+pub fn compare_run(report: &mut Report, case: Case<'_>, run: &Run) -> Result<(), AllocError> {
+    compare_status(report, case, run.status())?;
+    compare_printed(report, case, run)?;
     for name in OUTPUTS {
-        compare_file(alloc, report, case, run, name)?;
+        compare_file(report, case, run, name)?;
     }
     Ok(())
 }
 
 /// Compares a status with that of the case.
-pub fn compare_status(
-    alloc: Global,
-    report: &mut Report,
-    case: Case<'_>,
-    status: u8,
-) -> Result<(), AllocError> {
-    let got = format!(in alloc; "status {status}")?;
-    match case.want_status() {
-        Some(part) => report.compare(part.line, part.head, got.as_bytes()),
-        None => report.compare(case.title(), b"> status", got.as_bytes()),
-    }
+pub fn compare_status(report: &mut Report, case: Case<'_>, status: u8) -> Result<(), AllocError> {
+    let (line, want) = match case.want_status() {
+        Some(part) => (part.line, part.head),
+        None => (case.title(), b"> status".as_slice()),
+    };
+    let got = format!(in case.alloc; "status {status}")?;
+    report.compare(line, want, got.as_bytes())
 }
 
-fn compare_printed(
-    alloc: Global,
-    report: &mut Report,
-    case: Case<'_>,
-    run: &Run,
-) -> Result<(), AllocError> {
-    let printed = run.after.printed();
+fn compare_printed(report: &mut Report, case: Case<'_>, run: &Run) -> Result<(), AllocError> {
+    let printed = run.printed();
     match case.want("printed") {
-        Some(part) => compare_part(alloc, report, part, printed),
-        None if run.status == 0 && has_report(case) => compare_bits(alloc, report, case, printed),
+        Some(part) => compare_part(report, case, part, printed),
+        None if run.status() == 0 && has_report(case) => compare_bits(report, case, printed),
         None => report.compare(case.title(), b"", printed),
     }
 }
@@ -54,17 +41,12 @@ fn has_report(case: Case<'_>) -> bool {
 }
 
 /// Compares what a report has behind its first three lines.
-fn compare_bits(
-    alloc: Global,
-    report: &mut Report,
-    case: Case<'_>,
-    printed: &[u8],
-) -> Result<(), AllocError> {
+fn compare_bits(report: &mut Report, case: Case<'_>, printed: &[u8]) -> Result<(), AllocError> {
     let Some(bits) = behind_three(printed) else {
         return report.compare(case.title(), b"a report", printed);
     };
     match case.want("bits") {
-        Some(part) => compare_part(alloc, report, part, bits),
+        Some(part) => compare_part(report, case, part, bits),
         None => report.compare(case.title(), b"", bits),
     }
 }
@@ -81,49 +63,86 @@ fn behind_line(text: &[u8]) -> Option<&[u8]> {
 
 /// Compares bytes with the lines beneath a part.
 fn compare_part(
-    alloc: Global,
     report: &mut Report,
+    case: Case<'_>,
     part: Part<'_>,
     got: &[u8],
 ) -> Result<(), AllocError> {
-    let content = part.content(alloc)?;
+    let content = part.content(case.alloc)?;
     report.compare(part.line.saturating_add(1), content.as_slice(), got)
 }
 
-/// Compares a file with what the case says of it, or else with the file before the run.
+/// Compares a file with what the case says of it, or else with what must come of one of which it says nothing.
 fn compare_file(
-    alloc: Global,
     report: &mut Report,
     case: Case<'_>,
     run: &Run,
     name: &str,
 ) -> Result<(), AllocError> {
-    let got = run.after.get(name);
+    let got = run.left(name);
     if case.want_of("none ", name).is_some() {
         return compare_found(report, case.title(), name, None, got);
     }
     if let Some(part) = case.want(name) {
-        let content = part.content(alloc)?;
-        let line = part.line.saturating_add(1);
-        return compare_found(report, line, name, Some(content.as_slice()), got);
+        return compare_content(report, case, part, name, got);
     }
     if let Some(part) = case.want_of("heads ", name) {
-        return compare_heads(alloc, report, part, got.unwrap_or(b""));
+        return compare_heads(report, case, part, got.unwrap_or(b""));
     }
-    if run.status == 0 && is_exported(case, name) && got.is_some() {
-        return Ok(());
-    }
-    if run.status == 0 && is_chosen(case, name) {
-        return compare_found(report, case.title(), name, Some(got.unwrap_or(b"")), got);
-    }
-    compare_found(report, case.title(), name, run.before.get(name), got)
+    compare_found(
+        report,
+        case.title(),
+        name,
+        want_unsaid(case, run, name),
+        got,
+    )
 }
 
-/// A repair writes the file, and may choose a part of its text; or it is one that is made.
+/// Compares a file with the lines beneath a part.
+fn compare_content(
+    report: &mut Report,
+    case: Case<'_>,
+    part: Part<'_>,
+    name: &str,
+    got: Option<&[u8]>,
+) -> Result<(), AllocError> {
+    let content = part.content(case.alloc)?;
+    let line = part.line.saturating_add(1);
+    compare_found(report, line, name, Some(content.as_slice()), got)
+}
+
+/// What must come of a file of which a case says nothing: what the run may choose, or else what was there before it.
+fn want_unsaid<'a>(case: Case<'_>, run: &'a Run, name: &str) -> Option<&'a [u8]> {
+    let got = run.left(name);
+    if run.status() != 0 {
+        return run.met(name);
+    }
+    if is_exported(case, name) && got.is_some() {
+        return got;
+    }
+    if is_chosen(case, name) {
+        return Some(got.unwrap_or(b""));
+    }
+    run.met(name)
+}
+
+/// The files that these commands write, with a part of their texts to choose, or all of them.
+const CHOSEN: [(&str, &str); 4] = [
+    ("repair ", "o.v"),
+    ("repair ", "o.xc"),
+    ("make ", "m.v"),
+    ("make ", "r.vcd"),
+];
+
+/// The run writes the file, and may choose a part of its text.
 fn is_chosen(case: Case<'_>, name: &str) -> bool {
     let words = case.words();
-    (words.starts_with("repair ") && (name == "o.v" || name == "o.xc"))
-        || (words.starts_with("make ") && (name == "m.v" || name == "r.vcd"))
+    for (command, file) in CHOSEN {
+        if file == name && words.starts_with(command) {
+            return true;
+        }
+    }
+    false
 }
 
 /// An export may write the file.
@@ -134,8 +153,7 @@ fn is_exported(case: Case<'_>, name: &str) -> bool {
 /// Compares each file with that before the run.
 pub fn compare_kept(report: &mut Report, case: Case<'_>, run: &Run) -> Result<(), AllocError> {
     for name in OUTPUTS {
-        let want = run.before.get(name);
-        compare_found(report, case.title(), name, want, run.after.get(name))?;
+        compare_found(report, case.title(), name, run.met(name), run.left(name))?;
     }
     Ok(())
 }
@@ -158,24 +176,27 @@ pub fn compare_found(
 
 /// Compares lines of a file, each of which must begin with the line beneath the part of its number.
 fn compare_heads(
-    alloc: Global,
     report: &mut Report,
+    case: Case<'_>,
     part: Part<'_>,
     got: &[u8],
 ) -> Result<(), AllocError> {
-    let content = part.content(alloc)?;
-    let mut lines = Lines::new(got);
-    for head in Lines::new(content.as_slice()) {
-        let line = match lines.next() {
-            Some(line) => line.text,
-            None => b"",
-        };
+    let content = part.content(case.alloc)?;
+    compare_begun(report, part, content.as_slice(), Lines::new(got))
+}
+
+fn compare_begun(
+    report: &mut Report,
+    part: Part<'_>,
+    content: &[u8],
+    lines: Lines<'_>,
+) -> Result<(), AllocError> {
+    let mut lines = lines;
+    for head in Lines::new(content) {
+        let line = next_of(&mut lines);
         if !line.starts_with(head.text) {
             report.compare(part.line.saturating_add(head.number), head.text, line)?;
         }
     }
-    match lines.next() {
-        Some(more) => report.compare(part.line, b"", more.text),
-        None => Ok(()),
-    }
+    compare_end(report, part, lines)
 }

@@ -7,48 +7,39 @@ use crate::setting::Run;
 use std::alloc::{AllocError, Global};
 use test_cases::Report;
 
-/// The lines whose files a case may have.
-const NUMBERS: [u32; 4] = [1, 2, 3, 7];
+/// The logs that a case may have, and the words that prove the query of each.
+const LOGS: [(&str, &str); 4] = [
+    ("p-1.log", "prove --cnf p-1.cnf --log p-1.log"),
+    ("p-2.log", "prove --cnf p-2.cnf --log p-2.log"),
+    ("p-3.log", "prove --cnf p-3.cnf --log p-3.log"),
+    ("p-7.log", "prove --cnf p-7.cnf --log p-7.log"),
+];
 
-/// Proves each query by its log. A log that ends with the empty clause must refute the query, and all of its clauses are
-/// counted; another is refused after its last clause.
+/// Proves each query by its log. A log that ends with the empty clause must refute the query, and all of its clauses
+/// are counted; another is refused after its last clause.
 pub fn run_exported<P: Program>(
-    alloc: Global,
     report: &mut Report,
     case: Case<'_>,
     exported: &Run,
+    run: &mut Run,
 ) -> Result<(), AllocError> {
-    for number in NUMBERS {
-        let log = format!(in alloc; "p-{number}.log")?;
-        if let Some(bytes) = exported.after.get(log.as_str()) {
-            prove_back::<P>(alloc, report, case, exported, number, bytes)?;
+    for (log, line) in LOGS {
+        if let Some(bytes) = exported.left(log) {
+            run_line::<P>(case, exported, run, line)?;
+            compare_proved(report, case, bytes, run)?;
         }
     }
     Ok(())
 }
 
-fn prove_back<P: Program>(
-    alloc: Global,
-    report: &mut Report,
-    case: Case<'_>,
-    exported: &Run,
-    number: u32,
-    log: &[u8],
-) -> Result<(), AllocError> {
-    let line = format!(in alloc; "prove --cnf p-{number}.cnf --log p-{number}.log")?;
-    let proved = run_line::<P>(alloc, case, exported, line.as_str())?;
-    compare_proved(alloc, report, case, log, &proved)
-}
-
 fn compare_proved(
-    alloc: Global,
     report: &mut Report,
     case: Case<'_>,
     log: &[u8],
     proved: &Run,
 ) -> Result<(), AllocError> {
-    let want = proved_line(alloc, log)?;
-    report.compare(case.title(), want.as_bytes(), proved.after.printed())
+    let want = proved_line(case.alloc, log)?;
+    report.compare(case.title(), want.as_bytes(), proved.printed())
 }
 
 /// The line that the proof of a log prints.

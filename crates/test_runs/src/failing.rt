@@ -3,9 +3,9 @@
 use crate::compared::{compare_found, compare_kept, compare_run};
 use crate::given::{Case, OUTPUTS, text_of};
 use crate::program::Program;
-use crate::setting::{Run, Setting};
+use crate::setting::Run;
 use crate::tabled::{compare_rows, is_same, put_row};
-use std::alloc::{AllocError, Global};
+use std::alloc::AllocError;
 use test_cases::Report;
 
 /// More calls than a case makes.
@@ -14,111 +14,62 @@ const MOST_CALLS: u64 = 1000;
 /// Runs a case without a fault, and then with the first call failing, the second, and so on, until none fails.
 ///
 /// A run that fails says which name. Where that was read, or couldn't be written, every file is as it was; where it
-/// couldn't be put, the files before it are whole, and it and those after it are as they were. A case may have a table of
-/// all runs too.
+/// couldn't be put, the files before it are whole, and it and those after it are as they were. A case may have a table
+/// of all runs too.
 pub fn run_failing<P: Program>(
-    alloc: Global,
     report: &mut Report,
     case: Case<'_>,
-    words: &[String],
+    whole: &mut Run,
+    run: &mut Run,
 ) -> Result<(), AllocError> {
-    let whole = run_with::<P>(alloc, case, words, 0)?;
-    compare_run(alloc, report, case, &whole)?;
-    run_faults::<P>(alloc, report, case, words, &whole)
+    run_with::<P>(case, whole, 0)?;
+    compare_run(report, case, whole)?;
+    let mut rows = String::new(case.alloc);
+    run_faults::<P>(report, Faults { case, whole }, run, &mut rows)
 }
 
-/// A call that fails in a run of a case, beside the run in which none does.
+/// A case in which calls fail, beside the run in which none does.
 #[derive(Clone, Copy)]
-struct Fault<'a> {
+struct Faults<'a> {
     case: Case<'a>,
-    words: &'a [String],
     whole: &'a Run,
-    call: u64,
 }
 
 fn run_faults<P: Program>(
-    alloc: Global,
     report: &mut Report,
-    case: Case<'_>,
-    words: &[String],
-    whole: &Run,
+    faults: Faults<'_>,
+    run: &mut Run,
+    rows: &mut String,
 ) -> Result<(), AllocError> {
-    let mut rows = String::new(alloc);
     for call in 1..MOST_CALLS {
-        let fault = Fault {
-            case,
-            words,
-            whole,
-            call,
-        };
-        if run_fault::<P>(alloc, report, fault, &mut rows)? {
-            return Ok(());
+        run_with::<P>(faults.case, run, call)?;
+        put_row(rows, call, faults.whole, run)?;
+        if run.status() == 0 {
+            compare_rows(report, faults.case, rows.as_str())?;
+            return compare_run(report, faults.case, run);
         }
+        compare_failed(report, faults, run)?;
     }
-    report.compare(case.title(), b"status 0 at last", b"no such run")
-}
-
-/// Runs with a call failing, and says whether none failed.
-fn run_fault<P: Program>(
-    alloc: Global,
-    report: &mut Report,
-    fault: Fault<'_>,
-    rows: &mut String,
-) -> Result<bool, AllocError> {
-    let run = run_with::<P>(alloc, fault.case, fault.words, fault.call)?;
-    compare_fault(alloc, report, fault, rows, &run)
-}
-
-/// Compares what a run left in which a call fails, and says whether none failed.
-fn compare_fault(
-    alloc: Global,
-    report: &mut Report,
-    fault: Fault<'_>,
-    rows: &mut String,
-    run: &Run,
-) -> Result<bool, AllocError> {
-    put_row(alloc, rows, fault.call, fault.whole, run)?;
-    if run.status != 0 {
-        compare_failed(report, fault.case, fault.whole, run)?;
-        return Ok(false);
-    }
-    compare_rows(alloc, report, fault.case, rows.as_str())?;
-    compare_run(alloc, report, fault.case, run)?;
-    Ok(true)
+    report.compare(faults.case.title(), b"status 0 at last", b"no such run")
 }
 
 /// Runs with this call failing, counted from 1; with 0 none does.
-fn run_with<P: Program>(
-    alloc: Global,
-    case: Case<'_>,
-    words: &[String],
-    call: u64,
-) -> Result<Run, AllocError> {
-    let before = Setting::new(alloc, case)?;
-    let after = Setting::failing(alloc, case, call)?;
-    Ok(Run::of::<P>(alloc, before, after, words))
+fn run_with<P: Program>(case: Case<'_>, run: &mut Run, call: u64) -> Result<(), AllocError> {
+    run.begin(case)?;
+    run.fail_at(call)?;
+    run.run_line::<P>(case.alloc, case.words())
 }
 
-fn compare_failed(
-    report: &mut Report,
-    case: Case<'_>,
-    whole: &Run,
-    run: &Run,
-) -> Result<(), AllocError> {
-    let line = text_of(run.after.printed());
-    match (
-        run.status,
-        name_in(line, "refused: cannot read "),
-        name_in(line, "refused: cannot write "),
-    ) {
-        (3, Some(name), _) => compare_unread(report, case, run, name),
-        (4, _, Some(name)) => compare_unwritten(report, case, whole, run, name),
-        _ => report.compare(
-            case.title(),
-            b"refused: cannot read or write",
-            line.as_bytes(),
-        ),
+fn compare_failed(report: &mut Report, faults: Faults<'_>, run: &Run) -> Result<(), AllocError> {
+    let line = text_of(run.printed());
+    if let (3, Some(name)) = (run.status(), name_in(line, "refused: cannot read ")) {
+        return compare_unread(report, faults.case, run, name);
     }
+    if let (4, Some(name)) = (run.status(), name_in(line, "refused: cannot write ")) {
+        return compare_unwritten(report, faults, run, name);
+    }
+    let want = b"refused: cannot read or write";
+    report.compare(faults.case.title(), want, line.as_bytes())
 }
 
 /// The name that a line of these words names.
@@ -132,9 +83,8 @@ fn compare_unread(
     run: &Run,
     name: &str,
 ) -> Result<(), AllocError> {
-    let given = run.before.get(name);
-    compare_found(report, case.title(), name, given, run.after.get(name))?;
-    if given.is_none() {
+    compare_found(report, case.title(), name, run.met(name), run.left(name))?;
+    if run.met(name).is_none() {
         report.compare(case.title(), b"a file that is there", name.as_bytes())?;
     }
     compare_kept(report, case, run)
@@ -142,34 +92,40 @@ fn compare_unread(
 
 fn compare_unwritten(
     report: &mut Report,
-    case: Case<'_>,
-    whole: &Run,
+    faults: Faults<'_>,
     run: &Run,
     name: &str,
 ) -> Result<(), AllocError> {
-    let changed = has_changed(run);
+    let title = faults.case.title();
+    let mut whole = has_changed(run);
     let mut failed = false;
     for output in OUTPUTS {
         failed = failed || output == name;
-        let from = if changed && !failed {
-            &whole.after
-        } else {
-            &run.before
-        };
-        let got = run.after.get(output);
-        compare_found(report, case.title(), output, from.get(output), got)?;
+        whole = whole && !failed;
+        let want = want_at(faults.whole, run, output, whole);
+        compare_found(report, title, output, want, run.left(output))?;
     }
     if failed {
         return Ok(());
     }
-    report.compare(case.title(), b"a file that is written", name.as_bytes())
+    report.compare(title, b"a file that is written", name.as_bytes())
+}
+
+/// The file as the whole run left it, or as it was.
+fn want_at<'a>(whole: &'a Run, run: &'a Run, name: &str, is_whole: bool) -> Option<&'a [u8]> {
+    if is_whole {
+        whole.left(name)
+    } else {
+        run.met(name)
+    }
 }
 
 /// Some file that a case may write isn't as it was.
 fn has_changed(run: &Run) -> bool {
-    let mut changed = false;
     for output in OUTPUTS {
-        changed = changed || !is_same(run.before.get(output), run.after.get(output));
+        if !is_same(run.met(output), run.left(output)) {
+            return true;
+        }
     }
-    changed
+    false
 }

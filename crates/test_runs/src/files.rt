@@ -10,19 +10,36 @@ use test_cases::{Report, section_cases, shared};
 /// Runs the cases of each file that the words name, and prints how many came as wanted.
 pub fn run_files<P: Program>(rt: &HostRuntime) -> io::Result<()> {
     for name in env::args(rt)?.skip(1) {
-        let text = fs::read(rt, name.as_str())?;
-        let report = run_cases::<P>(rt.alloc(), name.as_str(), text.as_slice())?;
-        rt.print(report)?;
+        run_file::<P>(rt, name.as_str())?;
     }
     Ok(())
 }
 
-/// Runs the cases of a file.
-fn run_cases<P: Program>(alloc: Global, name: &str, text: &[u8]) -> Result<Report, AllocError> {
+/// Runs the cases of a file, and prints how many came as wanted.
+pub fn run_file<P: Program>(rt: &HostRuntime, name: &str) -> io::Result<()> {
+    let text = fs::read(rt, name)?;
+    print_cases::<P>(rt, name, text.as_slice())
+}
+
+fn print_cases<P: Program>(rt: &HostRuntime, name: &str, text: &[u8]) -> io::Result<()> {
+    let report = report_of::<P>(rt.alloc(), name, text)?;
+    rt.print(report)
+}
+
+fn report_of<P: Program>(alloc: Global, name: &str, text: &[u8]) -> Result<Report, AllocError> {
     let mut report = Report::new(alloc, name)?;
+    run_cases::<P>(alloc, &mut report, text)?;
+    Ok(report)
+}
+
+fn run_cases<P: Program>(
+    alloc: Global,
+    report: &mut Report,
+    text: &[u8],
+) -> Result<(), AllocError> {
     let common = shared(text);
     for section in section_cases(text) {
-        run_case::<P>(alloc, &mut report, Case::new(common, section))?;
+        run_case::<P>(report, Case::new(alloc, common, section))?;
     }
-    Ok(report)
+    Ok(())
 }

@@ -1,6 +1,7 @@
 //! What stands in a case: its words, what sets it up, and what must come.
 
-use std::alloc::AllocError;
+use crate::words::is_one_of;
+use std::alloc::{AllocError, Global};
 use std::str;
 use test_cases::{Part, PartKind, Parts, Report, Section};
 
@@ -10,9 +11,13 @@ pub const OUTPUTS: [&str; 15] = [
     "p-2.log", "p-3.cnf", "p-3.log", "p-7.cnf", "p-7.log",
 ];
 
+/// With what a line begins that sets a run up, and is none of its words.
+const MARKS: [&str; 5] = ["put ", "grow ", "fail ", "pieces ", "cut "];
+
 /// A case behind its title, and what holds for all cases of its file.
 #[derive(Clone, Copy)]
 pub struct Case<'a> {
+    pub alloc: Global,
     common: Section<'a>,
     own: Section<'a>,
 }
@@ -23,8 +28,8 @@ pub fn text_of(line: &[u8]) -> &str {
 }
 
 impl<'a> Case<'a> {
-    pub fn new(common: Section<'a>, own: Section<'a>) -> Case<'a> {
-        Case { common, own }
+    pub fn new(alloc: Global, common: Section<'a>, own: Section<'a>) -> Case<'a> {
+        Case { alloc, common, own }
     }
 
     /// The number of its title's line.
@@ -54,7 +59,7 @@ impl<'a> Case<'a> {
 
     /// What must come under this head, as `printed`.
     pub fn want(&self, head: &str) -> Option<Part<'a>> {
-        want_in(self.own(), head).or(want_in(self.common(), head))
+        self.want_of("", head)
     }
 
     /// The line `> status 5`.
@@ -74,13 +79,14 @@ impl<'a> Case<'a> {
     }
 }
 
-/// The line sets a run up, and is none of its words.
+/// The line sets a run up.
 fn sets_up(line: &str) -> bool {
-    line.starts_with("put ")
-        || line.starts_with("grow ")
-        || line.starts_with("fail ")
-        || line.starts_with("pieces ")
-        || line.starts_with("cut ")
+    for mark in MARKS {
+        if line.starts_with(mark) {
+            return true;
+        }
+    }
+    false
 }
 
 fn is_words(part: &Part<'_>) -> bool {
@@ -88,27 +94,31 @@ fn is_words(part: &Part<'_>) -> bool {
 }
 
 fn words_in(parts: Parts<'_>) -> Option<&str> {
-    let mut parts = parts;
-    let part = parts.find(|part| is_words(part))?;
-    Some(text_of(part.head))
+    for part in parts {
+        if is_words(&part) {
+            return Some(text_of(part.head));
+        }
+    }
+    None
 }
 
 fn line_in<'a>(parts: Parts<'a>, mark: &str) -> Option<&'a str> {
-    let mut parts = parts;
-    let part = parts.find(|part| {
-        part.kind == PartKind::Words && text_of(part.head).starts_with(mark)
-    })?;
-    text_of(part.head).strip_prefix(mark)
-}
-
-fn want_in<'a>(parts: Parts<'a>, head: &str) -> Option<Part<'a>> {
-    let mut parts = parts;
-    parts.find(|part| part.kind == PartKind::Want && text_of(part.head) == head)
+    for part in parts {
+        let behind = text_of(part.head).strip_prefix(mark);
+        if part.kind == PartKind::Words && behind.is_some() {
+            return behind;
+        }
+    }
+    None
 }
 
 fn status_in(parts: Parts<'_>) -> Option<Part<'_>> {
-    let mut parts = parts;
-    parts.find(|part| part.kind == PartKind::Want && is_status(text_of(part.head)))
+    for part in parts {
+        if part.kind == PartKind::Want && is_status(text_of(part.head)) {
+            return Some(part);
+        }
+    }
+    None
 }
 
 fn is_status(head: &str) -> bool {
@@ -116,22 +126,31 @@ fn is_status(head: &str) -> bool {
 }
 
 fn marked_in<'a>(parts: Parts<'a>, mark: &str, name: &str) -> Option<Part<'a>> {
-    let mut parts = parts;
-    parts.find(|part| {
-        part.kind == PartKind::Want && text_of(part.head).strip_prefix(mark) == Some(name)
-    })
+    for part in parts {
+        let behind = text_of(part.head).strip_prefix(mark);
+        if part.kind == PartKind::Want && behind == Some(name) {
+            return Some(part);
+        }
+    }
+    None
 }
 
 fn check_parts(report: &mut Report, parts: Parts<'_>) -> Result<(), AllocError> {
     let mut has_words = false;
     for part in parts {
-        let again = has_words && is_words(&part);
-        has_words = has_words || is_words(&part);
-        if again || !is_known(&part) {
-            report.compare(part.line, b"a part of a case", part.head)?;
-        }
+        let is_words = is_words(&part);
+        check_part(report, part, has_words && is_words)?;
+        has_words = has_words || is_words;
     }
     Ok(())
+}
+
+/// Reports a second line of words, and a part at which no run looks.
+fn check_part(report: &mut Report, part: Part<'_>, again: bool) -> Result<(), AllocError> {
+    if !again && is_known(&part) {
+        return Ok(());
+    }
+    report.compare(part.line, b"a part of a case", part.head)
 }
 
 /// The part is one that runs look at.
@@ -144,7 +163,7 @@ fn is_known(part: &Part<'_>) -> bool {
 }
 
 fn is_text(head: &str) -> bool {
-    head == "printed" || head == "bits" || head == "calls"
+    is_one_of(&["printed", "bits", "calls"], head)
 }
 
 fn is_output(head: &str) -> bool {
@@ -152,5 +171,5 @@ fn is_output(head: &str) -> bool {
         .strip_prefix("heads ")
         .or(head.strip_prefix("none "))
         .unwrap_or(head);
-    OUTPUTS.iter().any(|output| *output == name)
+    is_one_of(&OUTPUTS, name)
 }

@@ -1,6 +1,6 @@
 //! Runs of a whole program on files in memory, with what each must leave: cases as texts, and jobs with want of memory.
-//! Start at `Program`, which a program of tests implements by one call, at `run_files` and at `run_jobs`. What a case may
-//! say is at the head of `case.rt`, what sets it up at that of `setting.rt`.
+//! Start at `Program`, which a program of tests implements by one call, at `run_files` and at `run_named`. What a case
+//! may say is at the head of `case.rt`, what sets it up at that of `setting.rt`.
 #![tactic(auto)]
 
 mod after;
@@ -13,13 +13,13 @@ mod failing;
 mod files;
 mod given;
 mod job;
-mod jobs;
 mod made;
+mod named;
 mod program;
 mod setting;
 mod tabled;
 mod words;
 
 pub use files::run_files;
-pub use jobs::run_jobs;
+pub use named::run_named;
 pub use program::Program;

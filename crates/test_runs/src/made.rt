@@ -4,8 +4,8 @@ use crate::after::{compare_ended, run_line};
 use crate::compared::compare_found;
 use crate::given::{Case, OUTPUTS};
 use crate::program::Program;
-use crate::setting::{Run, Setting};
-use std::alloc::{AllocError, Global};
+use crate::setting::Run;
+use std::alloc::AllocError;
 use test_cases::Report;
 
 /// The words of the repair of a made job.
@@ -16,72 +16,59 @@ const REPAIR: &str =
 ///
 /// The second run must leave and print the same, and the report of the repair must begin with what both print.
 pub fn run_made<P: Program>(
-    alloc: Global,
     report: &mut Report,
     case: Case<'_>,
     made: &Run,
-    words: &[String],
+    run: &mut Run,
 ) -> Result<(), AllocError> {
-    make_again::<P>(alloc, report, case, made, words)?;
-    repair_made::<P>(alloc, report, case, made)
+    make_again::<P>(report, case, made, run)?;
+    repair_made::<P>(report, case, made, run)
 }
 
 fn make_again<P: Program>(
-    alloc: Global,
     report: &mut Report,
     case: Case<'_>,
     made: &Run,
-    words: &[String],
+    run: &mut Run,
 ) -> Result<(), AllocError> {
-    let again = run_again::<P>(alloc, case, words)?;
-    compare_again(report, case, made, &again)
-}
-
-fn run_again<P: Program>(
-    alloc: Global,
-    case: Case<'_>,
-    words: &[String],
-) -> Result<Run, AllocError> {
-    let before = Setting::new(alloc, case)?;
-    let after = Setting::new(alloc, case)?;
-    Ok(Run::of::<P>(alloc, before, after, words))
+    run.begin(case)?;
+    run.run_line::<P>(case.alloc, case.words())?;
+    compare_again(report, case, made, run)
 }
 
 fn compare_again(
     report: &mut Report,
     case: Case<'_>,
     made: &Run,
-    again: &Run,
+    run: &Run,
 ) -> Result<(), AllocError> {
-    report.compare(case.title(), made.after.printed(), again.after.printed())?;
+    report.compare(case.title(), made.printed(), run.printed())?;
     for name in OUTPUTS {
-        let want = made.after.get(name);
-        compare_found(report, case.title(), name, want, again.after.get(name))?;
+        compare_found(report, case.title(), name, made.left(name), run.left(name))?;
     }
     Ok(())
 }
 
 fn repair_made<P: Program>(
-    alloc: Global,
     report: &mut Report,
     case: Case<'_>,
     made: &Run,
+    run: &mut Run,
 ) -> Result<(), AllocError> {
-    let repaired = run_line::<P>(alloc, case, made, REPAIR)?;
-    compare_repaired(alloc, report, case, made, &repaired)
+    run_line::<P>(case, made, run, REPAIR)?;
+    compare_ended(report, case, "repair", run.status())?;
+    compare_begins(report, case, made.printed(), run.printed())
 }
 
-fn compare_repaired(
-    alloc: Global,
+/// Compares a text with its beginning, where it begins otherwise.
+fn compare_begins(
     report: &mut Report,
     case: Case<'_>,
-    made: &Run,
-    repaired: &Run,
+    want: &[u8],
+    text: &[u8],
 ) -> Result<(), AllocError> {
-    compare_ended(alloc, report, case, "repair", repaired.status)?;
-    let printed = repaired.after.printed();
-    if printed.starts_with(made.after.printed()) {
+    if text.starts_with(want) {
         return Ok(());
     }
-    report.compare(case.title(), made.after.printed(), printed)
+    report.compare(case.title(), want, text)
 }
