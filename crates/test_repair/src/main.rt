@@ -50,6 +50,7 @@ mod drawn;
 mod facts;
 mod fillings;
 mod forced;
+mod job;
 mod pairs;
 mod places;
 mod recording;

@@ -10,65 +10,24 @@ ghost use Rattle.xr_job.specs.Recorded.{FitsRecorded};
 
 use crate::case::Texts;
 use crate::forced::{forces_of, is_place};
-use crate::repaired::{netlist_of, recorded_of};
 use crate::words::{first_word, is_word, text_of};
 use std::alloc::Global;
 use test_cases::{Lines, Part, Report};
-use xr_base::Memory;
+use xr_base::{Memory, put};
 use xr_cell::Value;
 use xr_design::{Circuit, History, Place, width_of};
 use xr_job::{CompareErr, Netlist, Recorded, put_compare_line, replay_and_compare};
 use xr_replay::replay;
 
-/// Replays a job under its forces, and compares what is found with the lines of a part.
+/// Replays a job under its forces, and compares what is found with the lines of a part; how far the job comes.
 pub fn compare_rows(
-    alloc: Global,
-    report: &mut Report,
-    texts: &Texts,
-    rows: Part<'_>,
-) -> Result<(), Memory> {
-    let end = replay_and_look(alloc, report, texts, rows)?;
-    Ok(report.compare(rows.line, b"a replay", end.as_bytes())?)
-}
-
-/// How far a job comes.
-fn replay_and_look(
-    alloc: Global,
-    report: &mut Report,
-    texts: &Texts,
-    rows: Part<'_>,
-) -> Result<&'static str, Memory> {
-    let Some(netlist) = netlist_of(alloc, texts) else {
-        return Ok("no design");
-    };
-    replay_netlist(alloc, report, texts, rows, netlist)
-}
-
-fn replay_netlist(
-    alloc: Global,
-    report: &mut Report,
-    texts: &Texts,
-    rows: Part<'_>,
-    netlist: Netlist,
-) -> Result<&'static str, Memory>
-    requires { FitsNetlist netlist }
-{
-    let mut netlist = netlist;
-    let Some(recorded) = recorded_of(alloc, &mut netlist, texts)? else {
-        return Ok("no recording");
-    };
-    replay_recorded(alloc, report, texts, rows, &netlist, &recorded)?;
-    Ok("a replay")
-}
-
-fn replay_recorded(
     alloc: Global,
     report: &mut Report,
     texts: &Texts,
     rows: Part<'_>,
     netlist: &Netlist,
     recorded: &Recorded,
-) -> Result<(), Memory>
+) -> Result<&'static str, Memory>
     requires netlist { FitsNetlist netlist.now }
     requires recorded { FitsRecorded netlist.now.design recorded.now }
 {
@@ -83,19 +42,35 @@ fn compare_history(
     netlist: &Netlist,
     recorded: &Recorded,
     history: &History,
-) -> Result<(), Memory>
+) -> Result<&'static str, Memory>
     requires netlist { FitsNetlist netlist.now }
     requires recorded { FitsRecorded netlist.now.design recorded.now }
     requires places { HasPlaces (job_of_texts netlist.now recorded.now) history.now }
 {
     let content = rows.content(alloc)?;
-    for line in Lines::new(content.as_slice()) {
+    compare_lines(alloc, report, rows.line, content.as_slice(), netlist, recorded, history)
+}
+
+fn compare_lines(
+    alloc: Global,
+    report: &mut Report,
+    first: usize,
+    text: &[u8],
+    netlist: &Netlist,
+    recorded: &Recorded,
+    history: &History,
+) -> Result<&'static str, Memory>
+    requires netlist { FitsNetlist netlist.now }
+    requires recorded { FitsRecorded netlist.now.design recorded.now }
+    requires places { HasPlaces (job_of_texts netlist.now recorded.now) history.now }
+{
+    for line in Lines::new(text) {
         if !line.is_idle() {
-            let at = rows.line.saturating_add(line.number);
+            let at = first.saturating_add(line.number);
             compare_row(alloc, report, at, line.text, netlist, recorded, history)?;
         }
     }
-    Ok(())
+    Ok("a replay")
 }
 
 fn compare_row(
@@ -180,25 +155,20 @@ fn put_named(
     requires fits { CircuitFits circuit.now }
     requires places { HasPlaces (job_in circuit.now) history.now }
 {
-    put(out, verb)?;
+    put(out, verb.as_bytes())?;
     match net_named(alloc, circuit, name)? {
         Some(net) => {
             put_head(out, name)?;
             put_row(out, circuit, history, net, is_word(verb, "kept"))
         }
-        None => put(out, " of no net"),
+        None => put(out, b" of no net"),
     }
 }
 
 fn put_head(out: &mut Vec<u8>, name: &str) -> Result<(), Memory> {
-    put(out, " ")?;
-    put(out, name)?;
-    put(out, " =")
-}
-
-fn put(out: &mut Vec<u8>, text: &str) -> Result<(), Memory> {
-    out.extend_from_slice(text.as_bytes())?;
-    Ok(())
+    put(out, b" ")?;
+    put(out, name.as_bytes())?;
+    put(out, b" =")
 }
 
 /// Puts how the recording compares with the replay.
@@ -211,9 +181,9 @@ fn put_compared(
     requires netlist { FitsNetlist netlist.now }
     requires recorded { FitsRecorded netlist.now.design recorded.now }
 {
-    put(out, "compare ")?;
+    put(out, b"compare ")?;
     match replay_and_compare(alloc, netlist, recorded) {
-        Ok(_) => put(out, "agrees"),
+        Ok(_) => put(out, b"agrees"),
         Err(CompareErr::Refused(cause)) => Ok(put_compare_line(alloc, out, &cause)?),
         Err(CompareErr::Memory) => Err(Memory),
     }
