@@ -9,6 +9,7 @@ use crate::repaired::compare_facts;
 use crate::replayed::compare_rows;
 use crate::words::{is_word, text_of};
 use std::alloc::Global;
+use std::slice;
 use test_cases::{Part, Report};
 use xr_base::Memory;
 use xr_design::Bytes;
@@ -91,13 +92,14 @@ fn recorded_of(
     if text.len() > 1 << 28 {
         return Ok(None);
     }
-    let scope = [Bytes::from_vec(Vec::from_slice(alloc, b"dut")?)];
+    let scope = Bytes::from_vec(Vec::from_slice(alloc, b"dut")?);
     let rounds = texts.rounds.clamp(1, 16);
     let rules = Rules {
         registers: texts.rules,
         undriven: UndrivenRule::Released,
     };
-    Ok(read_recording(alloc, netlist, text, &scope, rounds, PLACES, rules).ok())
+    let scope = slice::from_ref(&scope);
+    Ok(read_recording(alloc, netlist, text, scope, rounds, PLACES, rules).ok())
 }
 
 fn run_recorded(

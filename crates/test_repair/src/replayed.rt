@@ -219,13 +219,28 @@ fn put_row(
     requires fits { CircuitFits circuit.now }
     requires places { HasPlaces (job_in circuit.now) history.now }
 {
-    let rounds = circuit.stim.rounds as usize;
-    for step in 0..circuit.stim.times.as_slice().len() * rounds {
-        if step % rounds == 0 {
-            out.push(b' ')?;
-        }
-        let step = step as u32;
-        put_value(out, circuit, history, Place { step, net }, kept)?;
+    for moment in 0..circuit.stim.times.as_slice().len() {
+        let step = (moment as u32).wrapping_mul(circuit.stim.rounds);
+        put_rounds(out, circuit, history, Place { step, net }, kept)?;
+    }
+    Ok(())
+}
+
+/// Puts a space, and a value for each round from a place on.
+fn put_rounds(
+    out: &mut Vec<u8>,
+    circuit: &Circuit<'_>,
+    history: &History,
+    first: Place,
+    kept: bool,
+) -> Result<(), Memory>
+    requires fits { CircuitFits circuit.now }
+    requires places { HasPlaces (job_in circuit.now) history.now }
+{
+    put(out, b" ")?;
+    for round in 0..circuit.stim.rounds {
+        let step = first.step.wrapping_add(round);
+        put_value(out, circuit, history, Place { step, net: first.net }, kept)?;
     }
     Ok(())
 }
