@@ -112,11 +112,7 @@ pub fn run_case(
     compare_parts(alloc, report, &texts, section)
 }
 
-fn texts_of(
-    alloc: Global,
-    common: Section<'_>,
-    section: Section<'_>,
-) -> Result<Texts, AllocError> {
+fn texts_of(alloc: Global, common: Section<'_>, section: Section<'_>) -> Result<Texts, AllocError> {
     let mut texts = Texts::new(alloc);
     texts.take_sections(alloc, common, section)?;
     Ok(texts)
@@ -148,12 +144,7 @@ fn compare_part(
     Ok(compare_content(alloc, report, part, out.as_slice())?)
 }
 
-fn put_part(
-    alloc: Global,
-    out: &mut Vec<u8>,
-    texts: &Texts,
-    part: Part<'_>,
-) -> Result<(), Memory> {
+fn put_part(alloc: Global, out: &mut Vec<u8>, texts: &Texts, part: Part<'_>) -> Result<(), Memory> {
     match text_of(part.head) {
         "read" => put_read(alloc, out, texts),
         "own" => put_job(alloc, out, texts, Task::Own(Form::Lines)),

@@ -68,8 +68,14 @@ pub fn put_own(out: &mut Vec<u8>, job: &Job<'_>, form: Form) -> Result<(), Memor
 {
     match own_text(job, form) {
         Ok(text) => put(out, text.as_slice()),
-        Err(RepairErr::Optimistic(found)) => put_objection(out, job, &found),
-        Err(RepairErr::Memory) => Err(Memory),
+        Err(refusal) => put_unrepaired(out, job, &refusal),
+    }
+}
+
+fn put_unrepaired(out: &mut Vec<u8>, job: &Job<'_>, refusal: &RepairErr) -> Result<(), Memory> {
+    match refusal {
+        RepairErr::Optimistic(found) => put_objection(out, job, found),
+        RepairErr::Memory => Err(Memory),
     }
 }
 
@@ -106,8 +112,7 @@ fn put_own_checked(out: &mut Vec<u8>, job: &Job<'_>, form: Form) -> Result<(), M
 {
     match own_text(job, form) {
         Ok(text) => put_check(out, job, text.as_slice()),
-        Err(RepairErr::Optimistic(found)) => put_objection(out, job, &found),
-        Err(RepairErr::Memory) => Err(Memory),
+        Err(refusal) => put_unrepaired(out, job, &refusal),
     }
 }
 
@@ -127,9 +132,15 @@ fn put_cert(out: &mut Vec<u8>, job: &Job<'_>, text: &[u8], cert: Cert) -> Result
     let form = cert.form;
     match job.checked(cert) {
         Ok(checked) => put_accepted_text(out, job, text, form, &checked),
-        Err(CheckErr::Refused(fault)) => put_fault(out, job, fault),
-        Err(CheckErr::Optimistic(found)) => put_objection(out, job, &found),
-        Err(CheckErr::Memory) => Err(Memory),
+        Err(refusal) => put_refused(out, job, &refusal),
+    }
+}
+
+fn put_refused(out: &mut Vec<u8>, job: &Job<'_>, refusal: &CheckErr) -> Result<(), Memory> {
+    match refusal {
+        CheckErr::Refused(fault) => put_fault(out, job, *fault),
+        CheckErr::Optimistic(found) => put_objection(out, job, found),
+        CheckErr::Memory => Err(Memory),
     }
 }
 

@@ -156,11 +156,7 @@ pub fn run_case(
     Ok(())
 }
 
-fn texts_of(
-    alloc: Global,
-    common: Section<'_>,
-    section: Section<'_>,
-) -> Result<Texts, AllocError> {
+fn texts_of(alloc: Global, common: Section<'_>, section: Section<'_>) -> Result<Texts, AllocError> {
     let mut texts = Texts::new(alloc);
     texts.take_sections(alloc, common, section)?;
     Ok(texts)

@@ -23,7 +23,11 @@ pub fn compare_part(
     texts: &Texts,
     part: Part<'_>,
 ) -> Result<(), Memory> {
-    let want = if is_replay(part) { "a replay" } else { "a repair" };
+    let want = if is_replay(part) {
+        "a replay"
+    } else {
+        "a repair"
+    };
     let end = run_part(alloc, report, texts, part)?;
     Ok(report.compare(part.line, want.as_bytes(), end.as_bytes())?)
 }

@@ -31,7 +31,15 @@ pub fn compare_facts(
 {
     match replay_and_compare(alloc, netlist, recorded).ok() {
         Some(history) => {
-            compare_repair(alloc, report, texts.conflicts, facts, netlist, recorded, &history)
+            compare_repair(
+                alloc,
+                report,
+                texts.conflicts,
+                facts,
+                netlist,
+                recorded,
+                &history,
+            )
         }
         None => Ok("no replay"),
     }

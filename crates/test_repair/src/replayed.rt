@@ -48,7 +48,15 @@ fn compare_history(
     requires places { HasPlaces (job_of_texts netlist.now recorded.now) history.now }
 {
     let content = rows.content(alloc)?;
-    compare_lines(alloc, report, rows.line, content.as_slice(), netlist, recorded, history)
+    compare_lines(
+        alloc,
+        report,
+        rows.line,
+        content.as_slice(),
+        netlist,
+        recorded,
+        history,
+    )
 }
 
 fn compare_lines(
@@ -120,8 +128,8 @@ fn circuit_of<'a>(netlist: &'a Netlist, recorded: &'a Recorded) -> Circuit<'a>
     }
 }
 
-/// Puts what a line should be: `shown NET = 0000 1111`, `kept NET = 0000 1111`, a moment behind the other with a value for
-/// each round, or `compare` and how the recording compares with the replay without forces.
+/// Puts what a line should be: `shown NET = 0000 1111`, `kept NET = 0000 1111`, a moment behind the other with a value
+/// for each round, or `compare` and how the recording compares with the replay without forces.
 fn put_answer(
     alloc: Global,
     out: &mut Vec<u8>,
@@ -181,11 +189,19 @@ fn put_compared(
     requires netlist { FitsNetlist netlist.now }
     requires recorded { FitsRecorded netlist.now.design recorded.now }
 {
-    put(out, b"compare ")?;
     match replay_and_compare(alloc, netlist, recorded) {
-        Ok(_) => put(out, b"agrees"),
-        Err(CompareErr::Refused(cause)) => Ok(put_compare_line(alloc, out, &cause)?),
-        Err(CompareErr::Memory) => Err(Memory),
+        Ok(_) => put(out, b"compare agrees"),
+        Err(fault) => put_fault(alloc, out, &fault),
+    }
+}
+
+fn put_fault(alloc: Global, out: &mut Vec<u8>, fault: &CompareErr) -> Result<(), Memory> {
+    match fault {
+        CompareErr::Refused(cause) => {
+            put(out, b"compare ")?;
+            Ok(put_compare_line(alloc, out, cause)?)
+        }
+        CompareErr::Memory => Err(Memory),
     }
 }
 
@@ -240,7 +256,16 @@ fn put_rounds(
     put(out, b" ")?;
     for round in 0..circuit.stim.rounds {
         let step = first.step.wrapping_add(round);
-        put_value(out, circuit, history, Place { step, net: first.net }, kept)?;
+        put_value(
+            out,
+            circuit,
+            history,
+            Place {
+                step,
+                net: first.net,
+            },
+            kept,
+        )?;
     }
     Ok(())
 }

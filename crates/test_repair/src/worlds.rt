@@ -68,12 +68,20 @@ fn put_tried(
 ) -> Result<(), Memory> {
     let mut given = nothing_given(alloc, wave.count())?;
     match try_fillings(alloc, wave, cones, sources, fillings, given.as_mut_slice())? {
-        Some((number, place)) => {
-            put_number(out, "all worlds of filling ", number, " differ at ")?;
-            put_place(alloc, out, wave, place)
-        }
+        Some((number, place)) => put_differing(alloc, out, wave, number, place),
         None => put_marks(alloc, out, wave, given.as_slice()),
     }
+}
+
+fn put_differing(
+    alloc: Global,
+    out: &mut String,
+    wave: &Wave<'_>,
+    number: u64,
+    place: Place,
+) -> Result<(), Memory> {
+    put_number(out, "all worlds of filling ", number, " differ at ")?;
+    put_place(alloc, out, wave, place)
 }
 
 fn nothing_given(alloc: Global, count: usize) -> Result<Vec<Given>, AllocError> {
@@ -84,7 +92,8 @@ fn nothing_given(alloc: Global, count: usize) -> Result<Vec<Given>, AllocError> 
     vec![in alloc; nothing; count]
 }
 
-/// Notes what the worlds of so many fillings give; the first filling with a place at which its worlds or its cone differ.
+/// Notes what the worlds of so many fillings give; the first filling with a place at which its worlds or its cone
+/// differ.
 fn try_fillings(
     alloc: Global,
     wave: &Wave<'_>,
