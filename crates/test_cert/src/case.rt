@@ -32,15 +32,32 @@ impl Texts {
         }
     }
 
+    fn take_sections(
+        &mut self,
+        alloc: Global,
+        common: Section<'_>,
+        section: Section<'_>,
+    ) -> Result<(), AllocError> {
+        self.take_all(alloc, common.parts())?;
+        self.take_all(alloc, section.parts())
+    }
+
     fn take_all(&mut self, alloc: Global, parts: Parts<'_>) -> Result<(), AllocError> {
         for part in parts {
-            match part.kind {
-                PartKind::Want => {}
-                PartKind::Words => self.take_words(text_of(part.head)),
-                PartKind::File => self.take_file(alloc, part)?,
-            }
+            self.take(alloc, part)?;
         }
         Ok(())
+    }
+
+    fn take(&mut self, alloc: Global, part: Part<'_>) -> Result<(), AllocError> {
+        match part.kind {
+            PartKind::Want => Ok(()),
+            PartKind::Words => {
+                self.take_words(text_of(part.head));
+                Ok(())
+            }
+            PartKind::File => self.take_file(alloc, part),
+        }
     }
 
     fn take_words(&mut self, words: &str) {
@@ -53,16 +70,34 @@ impl Texts {
     }
 
     fn take_file(&mut self, alloc: Global, part: Part<'_>) -> Result<(), AllocError> {
+        match text_of(part.head) {
+            "netlist" => self.take_netlist(alloc, part),
+            "cert" => self.take_cert(alloc, part),
+            _ => self.take_recording(alloc, part),
+        }
+    }
+
+    fn take_netlist(&mut self, alloc: Global, part: Part<'_>) -> Result<(), AllocError> {
+        let content = self.content_of(alloc, part)?;
+        self.netlist.extend_from_slice(content.as_slice())
+    }
+
+    fn take_cert(&mut self, alloc: Global, part: Part<'_>) -> Result<(), AllocError> {
+        self.cert = Some(self.content_of(alloc, part)?);
+        Ok(())
+    }
+
+    fn take_recording(&mut self, alloc: Global, part: Part<'_>) -> Result<(), AllocError> {
+        self.recording = self.content_of(alloc, part)?;
+        Ok(())
+    }
+
+    fn content_of(&self, alloc: Global, part: Part<'_>) -> Result<Vec<u8>, AllocError> {
         let mut content = part.content(alloc)?;
         if self.cut {
             let _ = content.pop();
         }
-        match text_of(part.head) {
-            "netlist" => self.netlist.extend_from_slice(content.as_slice())?,
-            "cert" => self.cert = Some(content),
-            _ => self.recording = content,
-        }
-        Ok(())
+        Ok(content)
     }
 }
 
@@ -73,12 +108,25 @@ pub fn run_case(
     common: Section<'_>,
     section: Section<'_>,
 ) -> Result<(), Memory> {
+    let texts = texts_of(alloc, common, section)?;
+    compare_parts(alloc, report, &texts, section)
+}
+
+fn texts_of(alloc: Global, common: Section<'_>, section: Section<'_>) -> Result<Texts, AllocError> {
     let mut texts = Texts::new(alloc);
-    texts.take_all(alloc, common.parts())?;
-    texts.take_all(alloc, section.parts())?;
+    texts.take_sections(alloc, common, section)?;
+    Ok(texts)
+}
+
+fn compare_parts(
+    alloc: Global,
+    report: &mut Report,
+    texts: &Texts,
+    section: Section<'_>,
+) -> Result<(), Memory> {
     for part in section.parts() {
         if part.kind == PartKind::Want {
-            compare_part(alloc, report, &texts, part)?;
+            compare_part(alloc, report, texts, part)?;
         }
     }
     report.end_case();
@@ -92,13 +140,25 @@ fn compare_part(
     part: Part<'_>,
 ) -> Result<(), Memory> {
     let mut out = Vec::new(alloc);
+    put_part(alloc, &mut out, texts, part)?;
+    Ok(compare_content(alloc, report, part, out.as_slice())?)
+}
+
+fn put_part(alloc: Global, out: &mut Vec<u8>, texts: &Texts, part: Part<'_>) -> Result<(), Memory> {
     match text_of(part.head) {
-        "read" => put_read(alloc, &mut out, texts)?,
-        "own" => put_job(alloc, &mut out, texts, Task::Own(Form::Lines))?,
-        "own 2" => put_job(alloc, &mut out, texts, Task::Own(Form::Turns))?,
-        _ => put_job(alloc, &mut out, texts, Task::Check)?,
+        "read" => put_read(alloc, out, texts),
+        "own" => put_job(alloc, out, texts, Task::Own(Form::Lines)),
+        "own 2" => put_job(alloc, out, texts, Task::Own(Form::Turns)),
+        _ => put_job(alloc, out, texts, Task::Check),
     }
+}
+
+fn compare_content(
+    alloc: Global,
+    report: &mut Report,
+    part: Part<'_>,
+    got: &[u8],
+) -> Result<(), AllocError> {
     let want = part.content(alloc)?;
-    let line = part.line.saturating_add(1);
-    Ok(report.compare(line, want.as_slice(), out.as_slice())?)
+    report.compare(part.line.saturating_add(1), want.as_slice(), got)
 }

@@ -5,8 +5,9 @@ ghost use Rattle.test_cert.specs.Job.{FitsJob};
 use crate::case::Texts;
 use crate::job::Job;
 use crate::refusal::{put_fault, put_objection, put_words};
+use crate::words::put_count;
 use std::alloc::Global;
-use xr_base::{Memory, put, put_number};
+use xr_base::{Memory, put};
 use xr_cert::{Cert, CertErr, CheckErr, Checked, Entry, Form, read_cert, write_cert};
 use xr_cert_text::{put_beginning, put_end, put_line, put_turn};
 use xr_repair::RepairErr;
@@ -40,17 +41,25 @@ fn put_again(alloc: Global, out: &mut Vec<u8>, text: &[u8], cert: &Cert) -> Resu
 
 /// The text of a certificate, line by line.
 fn text_of(alloc: Global, cert: &Cert) -> Result<Vec<u8>, Memory> {
-    let entries = cert.entries.as_slice();
     let mut text = Vec::new(alloc);
-    put_beginning(&mut text, cert.form, cert.head)?;
-    for entry in entries {
-        match entry {
-            Entry::Line(line) => put_line(&mut text, line)?,
-            Entry::Turn(line) => put_turn(&mut text, line.place, &line.turn)?,
-        }
-    }
-    put_end(&mut text, entries.len())?;
+    put_text(&mut text, cert)?;
     Ok(text)
+}
+
+fn put_text(text: &mut Vec<u8>, cert: &Cert) -> Result<(), Memory> {
+    let entries = cert.entries.as_slice();
+    put_beginning(text, cert.form, cert.head)?;
+    for entry in entries {
+        put_entry(text, entry)?;
+    }
+    put_end(text, entries.len())
+}
+
+fn put_entry(text: &mut Vec<u8>, entry: &Entry) -> Result<(), Memory> {
+    match entry {
+        Entry::Line(line) => put_line(text, line),
+        Entry::Turn(line) => put_turn(text, line.place, &line.turn),
+    }
 }
 
 /// Puts the certificate of a form that the repair of a job writes.
@@ -59,8 +68,14 @@ pub fn put_own(out: &mut Vec<u8>, job: &Job<'_>, form: Form) -> Result<(), Memor
 {
     match own_text(job, form) {
         Ok(text) => put(out, text.as_slice()),
-        Err(RepairErr::Optimistic(found)) => put_objection(out, job, &found),
-        Err(RepairErr::Memory) => Err(Memory),
+        Err(refusal) => put_unrepaired(out, job, &refusal),
+    }
+}
+
+fn put_unrepaired(out: &mut Vec<u8>, job: &Job<'_>, refusal: &RepairErr) -> Result<(), Memory> {
+    match refusal {
+        RepairErr::Optimistic(found) => put_objection(out, job, found),
+        RepairErr::Memory => Err(Memory),
     }
 }
 
@@ -68,11 +83,15 @@ fn own_text(job: &Job<'_>, form: Form) -> Result<Vec<u8>, RepairErr>
     requires { FitsJob job.now }
 {
     let wave = job.repaired()?;
+    Ok(text_in(job.alloc, form, &wave)?)
+}
+
+fn text_in(alloc: Global, form: Form, wave: &Wave<'_>) -> Result<Vec<u8>, Memory> {
     let conditions = match form {
-        Form::Lines => Vec::new(job.alloc),
-        Form::Turns => conditions_of(job.alloc, &wave)?,
+        Form::Lines => Vec::new(alloc),
+        Form::Turns => conditions_of(alloc, wave)?,
     };
-    Ok(write_cert(job.alloc, &wave, form, conditions.as_slice())?)
+    write_cert(alloc, wave, form, conditions.as_slice())
 }
 
 /// Puts what the check of a certificate comes to: the case's, or the repair's own where it has none.
@@ -93,8 +112,7 @@ fn put_own_checked(out: &mut Vec<u8>, job: &Job<'_>, form: Form) -> Result<(), M
 {
     match own_text(job, form) {
         Ok(text) => put_check(out, job, text.as_slice()),
-        Err(RepairErr::Optimistic(found)) => put_objection(out, job, &found),
-        Err(RepairErr::Memory) => Err(Memory),
+        Err(refusal) => put_unrepaired(out, job, &refusal),
     }
 }
 
@@ -114,9 +132,15 @@ fn put_cert(out: &mut Vec<u8>, job: &Job<'_>, text: &[u8], cert: Cert) -> Result
     let form = cert.form;
     match job.checked(cert) {
         Ok(checked) => put_accepted_text(out, job, text, form, &checked),
-        Err(CheckErr::Refused(fault)) => put_fault(out, job, fault),
-        Err(CheckErr::Optimistic(found)) => put_objection(out, job, &found),
-        Err(CheckErr::Memory) => Err(Memory),
+        Err(refusal) => put_refused(out, job, &refusal),
+    }
+}
+
+fn put_refused(out: &mut Vec<u8>, job: &Job<'_>, refusal: &CheckErr) -> Result<(), Memory> {
+    match refusal {
+        CheckErr::Refused(fault) => put_fault(out, job, *fault),
+        CheckErr::Optimistic(found) => put_objection(out, job, found),
+        CheckErr::Memory => Err(Memory),
     }
 }
 
@@ -147,9 +171,4 @@ fn put_accepted(alloc: Global, out: &mut Vec<u8>, wave: &Wave<'_>) -> Result<(),
     put_count(out, b" unknown ", counts.unknown)?;
     put_count(out, b" undecided ", counts.undecided)?;
     put(out, b"\n")
-}
-
-fn put_count(out: &mut Vec<u8>, words: &[u8], count: u64) -> Result<(), Memory> {
-    put(out, words)?;
-    put_number(out, count)
 }

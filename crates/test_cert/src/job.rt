@@ -8,6 +8,7 @@ ghost use Rattle.test_cert.specs.Job.{FitsJob};
 use crate::case::Texts;
 use crate::checked::{put_checked, put_own};
 use std::alloc::Global;
+use std::slice;
 use xr_base::{Memory, put};
 use xr_cert::{Cert, CheckErr, Checked, Form, check_cert};
 use xr_design::{Bytes, History, Levels, RegisterRules, StartRule};
@@ -59,7 +60,7 @@ impl<'j> Job<'j> {
 }
 
 /// What is asked of a job.
-#[derive(Clone, Copy, Debug, PartialEq, Eq)]
+#[derive(Clone, Copy)]
 pub enum Task {
     Own(Form),
     Check,
@@ -67,10 +68,16 @@ pub enum Task {
 
 /// Puts what is asked of the job of a case.
 pub fn put_job(alloc: Global, out: &mut Vec<u8>, texts: &Texts, task: Task) -> Result<(), Memory> {
-    match read_netlist(alloc, texts.netlist.as_slice(), "top") {
-        Ok(netlist) => put_netlist(alloc, out, texts, task, netlist),
-        Err(_) => put(out, b"no design\n"),
+    match netlist_of(alloc, texts) {
+        Some(netlist) => put_netlist(alloc, out, texts, task, netlist),
+        None => put(out, b"no design\n"),
     }
+}
+
+fn netlist_of(alloc: Global, texts: &Texts) -> Option<Netlist>
+    ensures { IfSome result FitsNetlist }
+{
+    read_netlist(alloc, texts.netlist.as_slice(), "top").ok()
 }
 
 fn put_netlist(
@@ -83,8 +90,20 @@ fn put_netlist(
     requires { FitsNetlist netlist }
 {
     let mut netlist = netlist;
-    match recorded_of(alloc, &mut netlist, texts)? {
-        Some(recorded) => put_recorded(alloc, out, texts, task, &netlist, &recorded),
+    put_recording(alloc, out, texts, task, &mut netlist)
+}
+
+fn put_recording(
+    alloc: Global,
+    out: &mut Vec<u8>,
+    texts: &Texts,
+    task: Task,
+    netlist: &mut Netlist,
+) -> Result<(), Memory>
+    requires { FitsNetlist netlist.old }
+{
+    match recorded_of(alloc, netlist, texts)? {
+        Some(recorded) => put_recorded(alloc, out, texts, task, netlist, &recorded),
         None => put(out, b"no recording\n"),
     }
 }
@@ -103,7 +122,7 @@ fn recorded_of(
     if text.len() > 1 << 28 {
         return Ok(None);
     }
-    let scope = [Bytes::from_vec(Vec::from_slice(alloc, b"dut")?)];
+    let scope = Bytes::from_vec(Vec::from_slice(alloc, b"dut")?);
     let rounds = texts.rounds.clamp(1, 16);
     let rules = Rules {
         registers: RegisterRules {
@@ -112,7 +131,8 @@ fn recorded_of(
         },
         undriven: UndrivenRule::Released,
     };
-    Ok(read_recording(alloc, netlist, text, &scope, rounds, PLACES, rules).ok())
+    let scope = slice::from_ref(&scope);
+    Ok(read_recording(alloc, netlist, text, scope, rounds, PLACES, rules).ok())
 }
 
 fn put_recorded(
@@ -126,8 +146,8 @@ fn put_recorded(
     requires netlist { FitsNetlist netlist.now }
     requires recorded { FitsRecorded netlist.now.design recorded.now }
 {
-    match replay_and_compare(alloc, netlist, recorded) {
-        Ok(history) => {
+    match replay_and_compare(alloc, netlist, recorded).ok() {
+        Some(history) => {
             let job = Job {
                 alloc,
                 netlist,
@@ -137,7 +157,7 @@ fn put_recorded(
             };
             put_task(out, &job, texts, task)
         }
-        Err(_) => put(out, b"no replay\n"),
+        None => put(out, b"no replay\n"),
     }
 }
 

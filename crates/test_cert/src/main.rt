@@ -40,12 +40,28 @@ use xr_base::Memory;
 
 fn main(rt: HostRuntime) -> io::Result<()> {
     for name in env::args(&rt)?.skip(1) {
-        let text = fs::read(&rt, name.as_str())?;
-        let mut report = Report::new(rt.alloc(), name.as_str())?;
-        run_sections(rt.alloc(), &mut report, text.as_slice()).map_err(|_| AllocError)?;
-        rt.print(report)?;
+        run_file(&rt, name.as_str())?;
     }
     Ok(())
+}
+
+/// Runs the cases of a file, and prints how many came as wanted.
+fn run_file(rt: &HostRuntime, name: &str) -> io::Result<()> {
+    let text = fs::read(rt, name)?;
+    print_cases(rt, name, text.as_slice())
+}
+
+fn print_cases(rt: &HostRuntime, name: &str, text: &[u8]) -> io::Result<()> {
+    let report = report_of(rt.alloc(), name, text)?;
+    rt.print(report)
+}
+
+fn report_of(alloc: Global, name: &str, text: &[u8]) -> Result<Report, AllocError> {
+    let mut report = Report::new(alloc, name)?;
+    match run_sections(alloc, &mut report, text) {
+        Ok(()) => Ok(report),
+        Err(Memory) => Err(AllocError),
+    }
 }
 
 fn run_sections(alloc: Global, report: &mut Report, text: &[u8]) -> Result<(), Memory> {

@@ -1,11 +1,12 @@
 //! The lines of refusals.
 
 use crate::job::Job;
+use crate::words::put_count;
 use std::alloc::Global;
 use std::fmt::Write;
-use xr_base::{Memory, put, put_number};
+use xr_base::{Memory, put};
 use xr_cert::CertFault;
-use xr_design::{Design, Place};
+use xr_design::{Design, Place, Stim};
 use xr_model::Body;
 use xr_wave::Optimistic;
 
@@ -29,18 +30,29 @@ pub fn put_words(alloc: Global, out: &mut Vec<u8>, fault: CertFault) -> Result<(
 pub fn put_objection(out: &mut Vec<u8>, job: &Job<'_>, found: &Optimistic) -> Result<(), Memory> {
     put(out, b"refused: optimistic")?;
     put_place(out, job, found.place)?;
-    put(out, b" replayed ")?;
-    put(out, &[found.replayed.letter()])?;
-    put(out, b" found ")?;
-    put(out, &[found.found.letter()])?;
-    put(out, b" undecided ")?;
-    put_number(out, count_undecided(found) as u64)?;
+    put_found(out, found)
+}
+
+fn put_found(out: &mut Vec<u8>, found: &Optimistic) -> Result<(), Memory> {
+    put_letter(out, b" replayed ", found.replayed.letter())?;
+    put_letter(out, b" found ", found.found.letter())?;
+    put_count(out, b" undecided ", count_undecided(found))?;
     put(out, b"\n")
 }
 
-fn count_undecided(found: &Optimistic) -> usize {
-    let lines = found.lines.as_slice();
-    lines.iter().filter(|line| is_undecided(&line.body)).count()
+fn put_letter(out: &mut Vec<u8>, words: &[u8], letter: u8) -> Result<(), Memory> {
+    put(out, words)?;
+    put(out, &[letter])
+}
+
+fn count_undecided(found: &Optimistic) -> u64 {
+    let mut count = 0u64;
+    for line in found.lines.as_slice() {
+        if is_undecided(&line.body) {
+            count = count.saturating_add(1);
+        }
+    }
+    count
 }
 
 fn is_undecided(body: &Body) -> bool {
@@ -52,16 +64,17 @@ fn is_undecided(body: &Body) -> bool {
 
 /// Puts a place by its time, its round and its net's written name, after a space.
 fn put_place(out: &mut Vec<u8>, job: &Job<'_>, place: Place) -> Result<(), Memory> {
-    let stim = &job.recorded.stim;
-    let moment = place.step.checked_div(stim.rounds).unwrap_or(0);
-    let round = place.step.checked_rem(stim.rounds).unwrap_or(0);
-    let time = stim.times.as_slice().get(moment as usize).copied();
-    put(out, b" #")?;
-    put_number(out, time.unwrap_or(0))?;
-    put(out, b" round ")?;
-    put_number(out, u64::from(round))?;
-    put(out, b" ")?;
+    put_step(out, &job.recorded.stim, place.step)?;
     put_net(job.alloc, out, &job.netlist.design, place.net)
+}
+
+fn put_step(out: &mut Vec<u8>, stim: &Stim, step: u32) -> Result<(), Memory> {
+    let moment = step.checked_div(stim.rounds).unwrap_or(0);
+    let round = step.checked_rem(stim.rounds).unwrap_or(0);
+    let time = stim.times.as_slice().get(moment as usize).copied();
+    put_count(out, b" #", time.unwrap_or(0))?;
+    put_count(out, b" round ", u64::from(round))?;
+    put(out, b" ")
 }
 
 fn put_net(alloc: Global, out: &mut Vec<u8>, design: &Design, net: u32) -> Result<(), Memory> {

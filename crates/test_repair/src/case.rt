@@ -2,10 +2,9 @@
 
 use crate::chain::put_chain;
 use crate::drawn::put_drawn;
-use crate::recording::vcd_of;
-use crate::repaired::compare_facts;
-use crate::replayed::compare_rows;
-use crate::words::{first_word, is_word, number_of, text_of};
+use crate::job::compare_part;
+use crate::recording::put_vcd;
+use crate::words::{first_word, number_of, text_of};
 use std::alloc::{AllocError, Global};
 use test_cases::{Part, PartKind, Parts, Report, Section};
 use xr_base::Memory;
@@ -43,19 +42,19 @@ impl Texts {
         alloc: Global,
         common: Section<'_>,
         section: Section<'_>,
-    ) -> Result<(), Memory> {
+    ) -> Result<(), AllocError> {
         self.take_all(alloc, common.parts())?;
         self.take_all(alloc, section.parts())
     }
 
-    fn take_all(&mut self, alloc: Global, parts: Parts<'_>) -> Result<(), Memory> {
+    fn take_all(&mut self, alloc: Global, parts: Parts<'_>) -> Result<(), AllocError> {
         for part in parts {
             self.take(alloc, part)?;
         }
         Ok(())
     }
 
-    fn take(&mut self, alloc: Global, part: Part<'_>) -> Result<(), Memory> {
+    fn take(&mut self, alloc: Global, part: Part<'_>) -> Result<(), AllocError> {
         match part.kind {
             PartKind::Want => Ok(()),
             PartKind::Words => self.take_words(alloc, text_of(part.head)),
@@ -63,39 +62,49 @@ impl Texts {
         }
     }
 
-    fn take_words(&mut self, alloc: Global, words: &str) -> Result<(), Memory> {
+    fn take_words(&mut self, alloc: Global, words: &str) -> Result<(), AllocError> {
         let (word, rest) = first_word(words);
         match setting_of(word) {
-            Setting::Rounds => self.rounds = number_of(rest).clamp(1, 16) as u32,
-            Setting::Conflicts => self.conflicts = number_of(rest).clamp(1, 100_000) as u32,
-            Setting::Start => self.rules.start = StartRule::Recorded,
-            Setting::Levels => self.rules.levels = Levels::Hold,
-            Setting::Chain => put_chain(alloc, &mut self.netlist, rest)?,
-            Setting::Drawn => self.take_drawn(alloc, rest)?,
-            Setting::Force => self.take_force(words)?,
+            Setting::Chain => put_chain(alloc, &mut self.netlist, rest),
+            Setting::Drawn => self.take_drawn(alloc, rest),
+            Setting::Force => self.take_force(words),
+            setting => {
+                self.set(setting, number_of(rest));
+                Ok(())
+            }
         }
-        Ok(())
+    }
+
+    fn set(&mut self, setting: Setting, number: u64) {
+        match setting {
+            Setting::Rounds => self.rounds = number.clamp(1, 16) as u32,
+            Setting::Conflicts => self.conflicts = number.clamp(1, 100_000) as u32,
+            Setting::Start => self.rules.start = StartRule::Recorded,
+            _ => self.rules.levels = Levels::Hold,
+        }
     }
 
     fn take_force(&mut self, words: &str) -> Result<(), AllocError> {
         self.forced.extend_from_slice(words.as_bytes())?;
-        self.forced.push(b'\n')?;
-        Ok(())
+        self.forced.extend_from_slice(b"\n")
     }
 
-    fn take_drawn(&mut self, alloc: Global, words: &str) -> Result<(), Memory> {
+    fn take_drawn(&mut self, alloc: Global, words: &str) -> Result<(), AllocError> {
         let (seed, gates) = first_word(words);
-        let short = put_drawn(alloc, &mut self.netlist, number_of(seed), number_of(gates))?;
-        self.recording = vcd_of(alloc, short.as_str())?;
-        Ok(())
+        let (seed, gates) = (number_of(seed), number_of(gates));
+        put_drawn(alloc, &mut self.netlist, &mut self.recording, seed, gates)
     }
 
-    fn take_file(&mut self, alloc: Global, part: Part<'_>) -> Result<(), Memory> {
+    fn take_file(&mut self, alloc: Global, part: Part<'_>) -> Result<(), AllocError> {
         match text_of(part.head) {
-            "netlist" => self.take_netlist(alloc, part)?,
-            "recording" => self.take_short(alloc, part)?,
-            _ => self.recording = part.content(alloc)?,
+            "netlist" => self.take_netlist(alloc, part),
+            "recording" => self.take_short(alloc, part),
+            _ => self.take_recording(alloc, part),
         }
+    }
+
+    fn take_recording(&mut self, alloc: Global, part: Part<'_>) -> Result<(), AllocError> {
+        self.recording = part.content(alloc)?;
         Ok(())
     }
 
@@ -106,8 +115,7 @@ impl Texts {
 
     fn take_short(&mut self, alloc: Global, part: Part<'_>) -> Result<(), AllocError> {
         let content = part.content(alloc)?;
-        self.recording = vcd_of(alloc, text_of(content.as_slice()))?;
-        Ok(())
+        put_vcd(alloc, &mut self.recording, text_of(content.as_slice()))
     }
 }
 
@@ -148,7 +156,7 @@ pub fn run_case(
     Ok(())
 }
 
-fn texts_of(alloc: Global, common: Section<'_>, section: Section<'_>) -> Result<Texts, Memory> {
+fn texts_of(alloc: Global, common: Section<'_>, section: Section<'_>) -> Result<Texts, AllocError> {
     let mut texts = Texts::new(alloc);
     texts.take_sections(alloc, common, section)?;
     Ok(texts)
@@ -166,17 +174,4 @@ fn compare_parts(
         }
     }
     Ok(())
-}
-
-fn compare_part(
-    alloc: Global,
-    report: &mut Report,
-    texts: &Texts,
-    part: Part<'_>,
-) -> Result<(), Memory> {
-    if is_word(text_of(part.head), "replay") {
-        compare_rows(alloc, report, texts, part)
-    } else {
-        compare_facts(alloc, report, texts, part)
-    }
 }

@@ -12,8 +12,8 @@ struct Link {
     ports: &'static str,
 }
 
-/// Puts a module `top` with a chain of so many gates or registers, `gates 5` or `registers 5`, from `a` through `n[1]` and
-/// so on, the registers with the clock `ck`.
+/// Puts a module `top` with a chain of so many gates or registers, `gates 5` or `registers 5`, from `a` through `n[1]`
+/// and so on, the registers with the clock `ck`.
 pub fn put_chain(alloc: Global, netlist: &mut Vec<u8>, words: &str) -> Result<(), AllocError> {
     let mut text = String::new(alloc);
     put_module(&mut text, words)?;

@@ -157,10 +157,12 @@ fn mark_word(mark: Mark) -> &'static str {
 }
 
 fn put_line(out: &mut String, wave: &Wave<'_>, place: Place) -> Result<(), Memory> {
-    match wave.lines().iter().find(|line| line.place == place) {
-        Some(line) => put(out, body_word(&line.body)),
-        None => put(out, "none"),
+    for line in wave.lines() {
+        if line.place == place {
+            return put(out, body_word(&line.body));
+        }
     }
+    put(out, "none")
 }
 
 fn body_word(body: &Body) -> &'static str {

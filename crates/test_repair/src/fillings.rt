@@ -43,12 +43,15 @@ pub fn bits_of(
     let mut bits = Vec::with_capacity(alloc, sources.len())?;
     let mut left = number;
     for source in sources {
-        if *source {
-            bits.push(left % 2 == 1)?;
-            left /= 2;
-        } else {
-            bits.push(others)?;
-        }
+        let bit = if *source { take_bit(&mut left) } else { others };
+        bits.push(bit)?;
     }
     Ok(bits)
+}
+
+/// Takes the lowest bit of a number away.
+fn take_bit(number: &mut u64) -> bool {
+    let bit = *number % 2 == 1;
+    *number /= 2;
+    bit
 }

@@ -15,8 +15,8 @@ use xr_base::Memory;
 use xr_cell::Value;
 use xr_design::{Circuit, Event, Forces, Place, width_of};
 
-/// The forces of two lines, `force #TIME round ROUND NET VALUE` and `release #TIME round ROUND NET`, the first at a place
-/// before that of the other; none where that isn't so.
+/// The forces of two lines, `force #TIME round ROUND NET VALUE` and `release #TIME round ROUND NET`, the first at a
+/// place before that of the other; none where that isn't so.
 pub fn forces_of(alloc: Global, circuit: &Circuit<'_>, lines: &str) -> Result<Forces, Memory>
     requires { CircuitFits circuit.now }
     ensures { IfOk result (AreEvents (job_in circuit.now)) }

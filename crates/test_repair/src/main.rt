@@ -1,10 +1,10 @@
 //! Jobs, and what is found of their places: a netlist and a recording of it, and beneath them what must come.
 //!
-//! A case is a section. What stands before the first title holds for all: `< netlist` texts are joined. `< r.vcd` is a whole
-//! recording in the scope `dut`, `< recording` the same in short, `#10 ck=1 d=x` for each moment, the first with all nets. The
-//! module is `top`.
-//! `rounds 1` and `conflicts 1` stand for 4 and 1000, `start recorded` for a cold start; `made SEED GATES` is a job that is
-//! drawn, and `chain gates 5` or `chain registers 5` a netlist.
+//! A case is a section. What stands before the first title holds for all: `< netlist` texts are joined. `< r.vcd` is a
+//! whole recording in the scope `dut`, `< recording` the same in short, `#10 ck=1 d=x` for each moment, the first with
+//! all nets. The module is `top`.
+//! `rounds 1` and `conflicts 1` stand for 4 and 1000, `start recorded` for a cold start; `made SEED GATES` is a job
+//! that is drawn, and `chain gates 5` or `chain registers 5` a netlist.
 //!
 //! ```text
 //! = xor_of_itself
@@ -31,16 +31,16 @@
 //! - `pair PLACE = nothing and PLACE, PLACE`: the two fillings of an unknown place.
 //! - `check_pair PLACE not one`: what two empty fillings are refused with, at the first place whose class is line.
 //!
-//! `all N places agree`: the worlds of all fillings of at most 10 sources give each place what its mark says, and they are
-//! the same where every other place is filled with 1; the fillings of an unknown place give 0 and 1; the cone of each line
-//! gives the bit of the world.
+//! `all N places agree`: the worlds of all fillings of at most 10 sources give each place what its mark says, and they
+//! are the same where every other place is filled with 1; the fillings of an unknown place give 0 and 1; the cone of
+//! each line gives the bit of the world.
 //!
-//! `> replay` has rows of the replay: `shown NET = 0000 1111` and `kept NET = 0000 1111`, a value for each round of each
-//! moment, and `compare agrees`, or the line of the first fault of the recording. The job is replayed under
+//! `> replay` has rows of the replay: `shown NET = 0000 1111` and `kept NET = 0000 1111`, a value for each round of
+//! each moment, and `compare agrees`, or the line of the first fault of the recording. The job is replayed under
 //! `force #TIME round ROUND NET VALUE` and a `release #TIME round ROUND NET` beneath it, where they stand.
 //!
-//! In `choices.txt` a line has a table, the value of the arguments' bits from 0 up, the bit that is forced, and behind ` = `
-//! its minimal choices, the first argument on the left and `-` where it isn't chosen.
+//! In `choices.txt` a line has a table, the value of the arguments' bits from 0 up, the bit that is forced, and behind
+//! ` = ` its minimal choices, the first argument on the left and `-` where it isn't chosen.
 #![tactic(auto)]
 
 mod case;
@@ -50,6 +50,7 @@ mod drawn;
 mod facts;
 mod fillings;
 mod forced;
+mod job;
 mod pairs;
 mod places;
 mod recording;
@@ -67,17 +68,36 @@ use xr_base::Memory;
 
 fn main(rt: HostRuntime) -> io::Result<()> {
     for name in env::args(&rt)?.skip(1) {
-        let text = fs::read(&rt, name.as_str())?;
-        let mut report = Report::new(rt.alloc(), name.as_str())?;
-        let ran = if name.as_str().ends_with("choices.txt") {
-            run_choices(rt.alloc(), &mut report, text.as_slice())
-        } else {
-            run_sections(rt.alloc(), &mut report, text.as_slice())
-        };
-        ran.map_err(|_| AllocError)?;
-        rt.print(report)?;
+        run_file(&rt, name.as_str())?;
     }
     Ok(())
+}
+
+/// Runs the cases of a file, and prints how many came as wanted.
+fn run_file(rt: &HostRuntime, name: &str) -> io::Result<()> {
+    let text = fs::read(rt, name)?;
+    print_cases(rt, name, text.as_slice())
+}
+
+fn print_cases(rt: &HostRuntime, name: &str, text: &[u8]) -> io::Result<()> {
+    let report = report_of(rt.alloc(), name, text)?;
+    rt.print(report)
+}
+
+fn report_of(alloc: Global, name: &str, text: &[u8]) -> Result<Report, AllocError> {
+    let mut report = Report::new(alloc, name)?;
+    match run_cases(alloc, &mut report, name, text) {
+        Ok(()) => Ok(report),
+        Err(Memory) => Err(AllocError),
+    }
+}
+
+fn run_cases(alloc: Global, report: &mut Report, name: &str, text: &[u8]) -> Result<(), Memory> {
+    if name.ends_with("choices.txt") {
+        run_choices(alloc, report, text)
+    } else {
+        run_sections(alloc, report, text)
+    }
 }
 
 fn run_sections(alloc: Global, report: &mut Report, text: &[u8]) -> Result<(), Memory> {

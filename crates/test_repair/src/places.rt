@@ -53,13 +53,22 @@ fn place_in(alloc: Global, wave: &Wave<'_>, step: u32, name: &str) -> Result<Opt
 
 pub fn step_of(stim: &Stim, time: &str, round: &str) -> Option<u32> {
     let time = number_of(time.strip_prefix("#")?);
-    let moment = stim.times.as_slice().iter().position(|t| *t == time)?;
+    let moment = moment_of(stim.times.as_slice(), time)?;
     let round = number_of(round);
     if round >= u64::from(stim.rounds) {
         return None;
     }
     let first = (moment as u64).checked_mul(u64::from(stim.rounds))?;
     u32::try_from(first.checked_add(round)?).ok()
+}
+
+fn moment_of(times: &[u64], time: u64) -> Option<usize> {
+    for moment in 0..times.len() {
+        if times[moment] == time {
+            return Some(moment);
+        }
+    }
+    None
 }
 
 /// Whether a net has this written name.

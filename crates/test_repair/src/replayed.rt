@@ -10,65 +10,24 @@ ghost use Rattle.xr_job.specs.Recorded.{FitsRecorded};
 
 use crate::case::Texts;
 use crate::forced::{forces_of, is_place};
-use crate::repaired::{netlist_of, recorded_of};
 use crate::words::{first_word, is_word, text_of};
 use std::alloc::Global;
 use test_cases::{Lines, Part, Report};
-use xr_base::Memory;
+use xr_base::{Memory, put};
 use xr_cell::Value;
 use xr_design::{Circuit, History, Place, width_of};
 use xr_job::{CompareErr, Netlist, Recorded, put_compare_line, replay_and_compare};
 use xr_replay::replay;
 
-/// Replays a job under its forces, and compares what is found with the lines of a part.
+/// Replays a job under its forces, and compares what is found with the lines of a part; how far the job comes.
 pub fn compare_rows(
-    alloc: Global,
-    report: &mut Report,
-    texts: &Texts,
-    rows: Part<'_>,
-) -> Result<(), Memory> {
-    let end = replay_and_look(alloc, report, texts, rows)?;
-    Ok(report.compare(rows.line, b"a replay", end.as_bytes())?)
-}
-
-/// How far a job comes.
-fn replay_and_look(
-    alloc: Global,
-    report: &mut Report,
-    texts: &Texts,
-    rows: Part<'_>,
-) -> Result<&'static str, Memory> {
-    let Some(netlist) = netlist_of(alloc, texts) else {
-        return Ok("no design");
-    };
-    replay_netlist(alloc, report, texts, rows, netlist)
-}
-
-fn replay_netlist(
-    alloc: Global,
-    report: &mut Report,
-    texts: &Texts,
-    rows: Part<'_>,
-    netlist: Netlist,
-) -> Result<&'static str, Memory>
-    requires { FitsNetlist netlist }
-{
-    let mut netlist = netlist;
-    let Some(recorded) = recorded_of(alloc, &mut netlist, texts)? else {
-        return Ok("no recording");
-    };
-    replay_recorded(alloc, report, texts, rows, &netlist, &recorded)?;
-    Ok("a replay")
-}
-
-fn replay_recorded(
     alloc: Global,
     report: &mut Report,
     texts: &Texts,
     rows: Part<'_>,
     netlist: &Netlist,
     recorded: &Recorded,
-) -> Result<(), Memory>
+) -> Result<&'static str, Memory>
     requires netlist { FitsNetlist netlist.now }
     requires recorded { FitsRecorded netlist.now.design recorded.now }
 {
@@ -83,19 +42,43 @@ fn compare_history(
     netlist: &Netlist,
     recorded: &Recorded,
     history: &History,
-) -> Result<(), Memory>
+) -> Result<&'static str, Memory>
     requires netlist { FitsNetlist netlist.now }
     requires recorded { FitsRecorded netlist.now.design recorded.now }
     requires places { HasPlaces (job_of_texts netlist.now recorded.now) history.now }
 {
     let content = rows.content(alloc)?;
-    for line in Lines::new(content.as_slice()) {
+    compare_lines(
+        alloc,
+        report,
+        rows.line,
+        content.as_slice(),
+        netlist,
+        recorded,
+        history,
+    )
+}
+
+fn compare_lines(
+    alloc: Global,
+    report: &mut Report,
+    first: usize,
+    text: &[u8],
+    netlist: &Netlist,
+    recorded: &Recorded,
+    history: &History,
+) -> Result<&'static str, Memory>
+    requires netlist { FitsNetlist netlist.now }
+    requires recorded { FitsRecorded netlist.now.design recorded.now }
+    requires places { HasPlaces (job_of_texts netlist.now recorded.now) history.now }
+{
+    for line in Lines::new(text) {
         if !line.is_idle() {
-            let at = rows.line.saturating_add(line.number);
+            let at = first.saturating_add(line.number);
             compare_row(alloc, report, at, line.text, netlist, recorded, history)?;
         }
     }
-    Ok(())
+    Ok("a replay")
 }
 
 fn compare_row(
@@ -145,8 +128,8 @@ fn circuit_of<'a>(netlist: &'a Netlist, recorded: &'a Recorded) -> Circuit<'a>
     }
 }
 
-/// Puts what a line should be: `shown NET = 0000 1111`, `kept NET = 0000 1111`, a moment behind the other with a value for
-/// each round, or `compare` and how the recording compares with the replay without forces.
+/// Puts what a line should be: `shown NET = 0000 1111`, `kept NET = 0000 1111`, a moment behind the other with a value
+/// for each round, or `compare` and how the recording compares with the replay without forces.
 fn put_answer(
     alloc: Global,
     out: &mut Vec<u8>,
@@ -180,25 +163,20 @@ fn put_named(
     requires fits { CircuitFits circuit.now }
     requires places { HasPlaces (job_in circuit.now) history.now }
 {
-    put(out, verb)?;
+    put(out, verb.as_bytes())?;
     match net_named(alloc, circuit, name)? {
         Some(net) => {
             put_head(out, name)?;
             put_row(out, circuit, history, net, is_word(verb, "kept"))
         }
-        None => put(out, " of no net"),
+        None => put(out, b" of no net"),
     }
 }
 
 fn put_head(out: &mut Vec<u8>, name: &str) -> Result<(), Memory> {
-    put(out, " ")?;
-    put(out, name)?;
-    put(out, " =")
-}
-
-fn put(out: &mut Vec<u8>, text: &str) -> Result<(), Memory> {
-    out.extend_from_slice(text.as_bytes())?;
-    Ok(())
+    put(out, b" ")?;
+    put(out, name.as_bytes())?;
+    put(out, b" =")
 }
 
 /// Puts how the recording compares with the replay.
@@ -211,11 +189,19 @@ fn put_compared(
     requires netlist { FitsNetlist netlist.now }
     requires recorded { FitsRecorded netlist.now.design recorded.now }
 {
-    put(out, "compare ")?;
     match replay_and_compare(alloc, netlist, recorded) {
-        Ok(_) => put(out, "agrees"),
-        Err(CompareErr::Refused(cause)) => Ok(put_compare_line(alloc, out, &cause)?),
-        Err(CompareErr::Memory) => Err(Memory),
+        Ok(_) => put(out, b"compare agrees"),
+        Err(fault) => put_fault(alloc, out, &fault),
+    }
+}
+
+fn put_fault(alloc: Global, out: &mut Vec<u8>, fault: &CompareErr) -> Result<(), Memory> {
+    match fault {
+        CompareErr::Refused(cause) => {
+            put(out, b"compare ")?;
+            Ok(put_compare_line(alloc, out, cause)?)
+        }
+        CompareErr::Memory => Err(Memory),
     }
 }
 
@@ -249,13 +235,37 @@ fn put_row(
     requires fits { CircuitFits circuit.now }
     requires places { HasPlaces (job_in circuit.now) history.now }
 {
-    let rounds = circuit.stim.rounds as usize;
-    for step in 0..circuit.stim.times.as_slice().len() * rounds {
-        if step % rounds == 0 {
-            out.push(b' ')?;
-        }
-        let step = step as u32;
-        put_value(out, circuit, history, Place { step, net }, kept)?;
+    for moment in 0..circuit.stim.times.as_slice().len() {
+        let step = (moment as u32).wrapping_mul(circuit.stim.rounds);
+        put_rounds(out, circuit, history, Place { step, net }, kept)?;
+    }
+    Ok(())
+}
+
+/// Puts a space, and a value for each round from a place on.
+fn put_rounds(
+    out: &mut Vec<u8>,
+    circuit: &Circuit<'_>,
+    history: &History,
+    first: Place,
+    kept: bool,
+) -> Result<(), Memory>
+    requires fits { CircuitFits circuit.now }
+    requires places { HasPlaces (job_in circuit.now) history.now }
+{
+    put(out, b" ")?;
+    for round in 0..circuit.stim.rounds {
+        let step = first.step.wrapping_add(round);
+        put_value(
+            out,
+            circuit,
+            history,
+            Place {
+                step,
+                net: first.net,
+            },
+            kept,
+        )?;
     }
     Ok(())
 }

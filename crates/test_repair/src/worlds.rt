@@ -42,11 +42,19 @@ fn put_agreeing(
     cones: &[Option<Cone>],
 ) -> Result<(), Memory> {
     let sources = sources_of(alloc, wave, cones)?;
-    let count = sources.iter().filter(|source| **source).count();
+    let count = count_true(sources.as_slice());
     if count > SOURCES {
         return put_number(out, "all ", count as u64, " sources are too many");
     }
     put_tried(alloc, out, wave, cones, sources.as_slice(), 1 << count)
+}
+
+fn count_true(bits: &[bool]) -> usize {
+    let mut count = 0usize;
+    for bit in bits {
+        count = count.saturating_add(usize::from(*bit));
+    }
+    count
 }
 
 /// The same, with so many fillings of the sources.
@@ -60,12 +68,20 @@ fn put_tried(
 ) -> Result<(), Memory> {
     let mut given = nothing_given(alloc, wave.count())?;
     match try_fillings(alloc, wave, cones, sources, fillings, given.as_mut_slice())? {
-        Some((number, place)) => {
-            put_number(out, "all worlds of filling ", number, " differ at ")?;
-            put_place(alloc, out, wave, place)
-        }
+        Some((number, place)) => put_differing(alloc, out, wave, number, place),
         None => put_marks(alloc, out, wave, given.as_slice()),
     }
+}
+
+fn put_differing(
+    alloc: Global,
+    out: &mut String,
+    wave: &Wave<'_>,
+    number: u64,
+    place: Place,
+) -> Result<(), Memory> {
+    put_number(out, "all worlds of filling ", number, " differ at ")?;
+    put_place(alloc, out, wave, place)
 }
 
 fn nothing_given(alloc: Global, count: usize) -> Result<Vec<Given>, AllocError> {
@@ -76,7 +92,8 @@ fn nothing_given(alloc: Global, count: usize) -> Result<Vec<Given>, AllocError> 
     vec![in alloc; nothing; count]
 }
 
-/// Notes what the worlds of so many fillings give; the first filling with a place at which its worlds or its cone differ.
+/// Notes what the worlds of so many fillings give; the first filling with a place at which its worlds or its cone
+/// differ.
 fn try_fillings(
     alloc: Global,
     wave: &Wave<'_>,
@@ -137,7 +154,10 @@ fn is_source(wave: &Wave<'_>, cones: &[Option<Cone>], number: usize) -> bool
 }
 
 fn is_own_source(cone: &Cone) -> bool {
-    cone.nodes().last().is_some_and(|node| node.is_source())
+    match cone.nodes().last() {
+        Some(node) => node.is_source(),
+        None => false,
+    }
 }
 
 /// Notes what the world of a filling gives; a place that has another bit where all that are no sources are filled, or
@@ -151,10 +171,25 @@ fn try_filling(
     given: &mut [Given],
 ) -> Result<Option<Place>, Memory> {
     let filling = numbered_filling(alloc, wave, sources, number, false)?;
-    let world = fill(alloc, wave, &filling)?;
-    match note_world(alloc, wave, &world, sources, number, given)? {
+    let other = numbered_filling(alloc, wave, sources, number, true)?;
+    try_worlds(alloc, wave, cones, &filling, &other, given)
+}
+
+fn try_worlds(
+    alloc: Global,
+    wave: &Wave<'_>,
+    cones: &[Option<Cone>],
+    filling: &Filling,
+    other: &Filling,
+    given: &mut [Given],
+) -> Result<Option<Place>, Memory>
+    requires filling { IsFilling (job wave.now) filling.now }
+    requires other { IsFilling (job wave.now) other.now }
+{
+    let world = fill(alloc, wave, filling)?;
+    match note_world(alloc, wave, &world, other, given)? {
         Some(place) => Ok(Some(place)),
-        None => first_other(alloc, wave, cones, &filling, &world),
+        None => first_other(alloc, wave, cones, filling, &world),
     }
 }
 
@@ -172,19 +207,18 @@ fn numbered_filling(
     filling_of(alloc, wave, bits.as_slice())
 }
 
-/// Notes the bits of a world, up to the first that is another where all that are no sources are filled.
+/// Notes the bits of a world, up to the first that is another in the world of another filling.
 fn note_world(
     alloc: Global,
     wave: &Wave<'_>,
     world: &World,
-    sources: &[bool],
-    number: u64,
+    filling: &Filling,
     given: &mut [Given],
 ) -> Result<Option<Place>, Memory>
-    requires { HasWritten wave.now world.now }
+    requires world { HasWritten wave.now world.now }
+    requires filling { IsFilling (job wave.now) filling.now }
 {
-    let filling = numbered_filling(alloc, wave, sources, number, true)?;
-    let other = fill(alloc, wave, &filling)?;
+    let other = fill(alloc, wave, filling)?;
     Ok(note_worlds(wave, world, &other, given))
 }
 

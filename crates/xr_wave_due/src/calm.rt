@@ -1,11 +1,24 @@
 //! Whether the class of a place tells that it leaves its net's next place nothing to be due for.
 
-ghost use Rattle.std.specs.Prelude.{◌≡◌};
+ghost use Rattle.std.specs.Prelude.{◌≡◌, true};
+ghost use Rattle.xr_design.specs.declared.design.Driver.{Driver};
 ghost use Rattle.xr_wave_bytes.specs.OfQuiet.{by_change, cell_tells, register_tells, tells_calm_of};
 
 use xr_design::{Driver, Levels, Pin, Table};
 use xr_model::ClassByNumber;
 use xr_wave_bytes::cell_chooses;
+
+/// Whether it does at a step, whatever drives the net: mostly so, and then no driver is looked up.
+pub fn tells_by_class(levels: Levels, step: usize, class: ClassByNumber) -> bool
+    ensures { result ≡ true → (driver : Driver) → tells_calm_of levels step driver class ≡ true }
+{
+    match class {
+        ClassByNumber::Local(_) => step != 0 && by_change(levels),
+        ClassByNumber::Free => false,
+        ClassByNumber::Carried(_, _) => step != 0,
+        ClassByNumber::Line => false,
+    }
+}
 
 /// Whether it does, at a step, by its driver.
 pub fn tells_calm(levels: Levels, step: usize, driver: &Driver, class: ClassByNumber) -> bool

@@ -10,7 +10,7 @@ ghost use Rattle.xr_design.specs.Handed.{HasPlaces, shown_of};
 ghost use Rattle.xr_design.specs.Fits.{place_at};
 ghost use Rattle.xr_fans.specs.Marks.{OnlyMore};
 ghost use Rattle.xr_fans.specs.Readings.{AreFans};
-ghost use Rattle.xr_wave_bytes.specs.OfQuiet.{IsRun};
+ghost use Rattle.xr_wave_bytes.specs.OfQuiet.{IsRun, tells_calm_of};
 ghost use Rattle.xr_replay_due.specs.Due.{HasRoom, HasRoomFor, is_due};
 ghost use Rattle.xr_replay_due.specs.Readers.{readers_of};
 ghost use Rattle.xr_wave_bytes.specs.Kept.{ValuesAgree};
@@ -20,12 +20,13 @@ ghost use Rattle.xr_wave_due.specs.Walk.{AreReadersIn, HasTables, IsHeld, IsHeld
 ghost use Rattle.xr_wave_due.specs.Walk.{IsWalkAt, IsWalkOf, TellsCalm, shown_by};
 
 use crate::begin::mark_history;
-use crate::calm::tells_calm;
+use crate::calm::{tells_by_class, tells_calm};
 use crate::sources::{mark_sources, sources_of};
 use std::alloc::Global;
 use xr_base::Memory;
 use xr_design::{Circuit, History, HistoryRow, Place, Written, count_places, driver_at, width_of};
 use xr_fans::{Fans, Waiting, mark_readers};
+use xr_model::ClassByNumber;
 use xr_wave_bytes::Waveform;
 
 /// Who reads which net, on which positions the recording acts, which positions are due in the step and in the next one,
@@ -189,16 +190,22 @@ fn tells_next(waveform: &Waveform<'_>, place: Place) -> bool
     requires place { place ≡ place_at (view.job waveform.now) (length waveform.now.written) }
     ensures { IsTrue result → TellsCalm (view.job waveform.now) waveform.now.written (length waveform.now.written) }
 {
-    let circuit = waveform.circuit();
     match waveform.next_class() {
-        Some(class) => tells_calm(
-            circuit.stim.rules.levels,
-            place.step as usize,
-            driver_at(&circuit, place.net as usize),
-            class,
-        ),
+        Some(class) => tells_there(&waveform.circuit(), place, class),
         None => false,
     }
+}
+
+/// Whether a class tells that its place is calm.
+fn tells_there(circuit: &Circuit<'_>, place: Place, class: ClassByNumber) -> bool
+    requires net { place.net < (job_in circuit.now).width }
+    ensures { let j = job_in circuit.now in
+        result ≡ true → tells_calm_of j.levels place.step (j.driver place.net) class ≡ true }
+{
+    let levels = circuit.stim.rules.levels;
+    let step = place.step as usize;
+    tells_by_class(levels, step, class)
+        || tells_calm(levels, step, driver_at(circuit, place.net as usize), class)
 }
 
 /// The copies and cells that read a net become due, and one step later the registers that look back at it, unless it
