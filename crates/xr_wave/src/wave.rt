@@ -61,7 +61,7 @@ impl<'a> Model for Wave<'a> {
 
 impl<'a> Wave<'a> {
     /// A wave of which nothing is written. `limit` is how many clauses the log of a licence has, 1 to 100,000. Takes
-    /// some 80 bytes for each net, 4 more for one on which the recording acts, 12 to 28 for each pin, and on the way 16
+    /// some 88 bytes for each net, 4 more for one on which the recording acts, 12 to 28 for each pin, and on the way 16
     /// more for each pin; what is written takes 16 to 32 for each place that has something else than its net's a step
     /// before.
     pub fn new(

@@ -72,7 +72,7 @@ impl<'a> Model for Waveform<'a> {
 }
 
 impl<'a> Waveform<'a> {
-    /// One of which nothing is written. Takes 40 bytes for each net, 8 to 24 for each pin. What is written takes 16
+    /// One of which nothing is written. Takes 48 bytes for each net, 8 to 24 for each pin. What is written takes 16
     /// to 32 bytes for each place that has not what its net's place a step before has, as each of the first step.
     pub fn new(alloc: Global, circuit: Circuit<'a>) -> Result<Waveform<'a>, Memory>
         requires { CircuitFits circuit }
