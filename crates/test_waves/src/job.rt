@@ -60,7 +60,7 @@ impl Job {
             &self.netlist.order,
             &self.recorded.stim,
             &self.history,
-            1,
+            LIMITS,
         )?;
         Ok(wave)
     }
@@ -77,7 +77,7 @@ impl Job {
             &self.netlist.order,
             &self.recorded.stim,
             &self.history,
-            1,
+            LIMITS,
         )?;
         Ok(wave)
     }
