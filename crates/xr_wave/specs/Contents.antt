@@ -1,5 +1,6 @@
 -- What a wave holds, and what is always true of it.
 use Rattle.std.specs.Prelude.{◌≡◌, ℕ, ◌<◌, ◌≤◌, ◌^◌, Option, None, Some, List, [], length, nat_lt, if◌then◌else◌}
+use Rattle.std.specs.Coded.{le_prop}
 use Rattle.xr_cell.specs.declared.value.Value.{Value}
 use Rattle.xr_design.specs.declared.design.Design.{Design}
 use Rattle.xr_design.specs.declared.stim.Stim.{Stim}
@@ -75,6 +76,14 @@ pub record AreLimits (limits : Limits) : Type 0 where
   pub few : limits.conflicts ≤ 100000
   pub least : 12 ≤ limits.enumerated
   pub most : limits.enumerated ≤ 16
+
+pub AreLimits-prop : (limits : Limits) → IsProp (AreLimits limits)
+AreLimits-prop limits x y = λ i. record {
+  some = le_prop x.some y.some i;
+  few = le_prop x.few y.few i;
+  least = le_prop x.least y.least i;
+  most = le_prop x.most y.most i;
+}
 
 -- It is of a circuit that fits and has at most 2^40 places, a history of its job and limits; it is sound, and its
 -- lines yield it.

@@ -1,7 +1,7 @@
 //! `audit`: reads a netlist and a recording of it, and prints the places that the replay knows otherwise.
 
 ghost use Rattle.std.specs.Prelude.{◌≤◌};
-ghost use Rattle.xr_wave.specs.Contents.{AreLimits};
+ghost use Rattle.xr_wave.specs.Contents.{AreLimits, AreLimits-prop};
 
 use crate::audited::audited;
 use crate::limits::limits_of;
@@ -22,7 +22,7 @@ pub struct Audit<'a> {
     pub job: JobWords<'a>,
     /// How places are decided.
     pub limits: Limits,
-    ghost limits_fit: { AreLimits limits },
+    ghost limits_fit: { AreLimits limits } by { AreLimits-prop limits },
 }
 
 impl<'a> AfterAgreed for Audit<'a> {

@@ -1,7 +1,7 @@
 //! `check`: reads a netlist, a recording of it and a certificate, and prints the report of what the certificate shows.
 
 ghost use Rattle.std.specs.Prelude.{◌≤◌};
-ghost use Rattle.xr_wave.specs.Contents.{AreLimits};
+ghost use Rattle.xr_wave.specs.Contents.{AreLimits, AreLimits-prop};
 
 use crate::checked::check_agreed;
 use crate::limits::limits_of;
@@ -28,7 +28,7 @@ pub struct Check<'a> {
     pub limits: Limits,
     /// The lines of bits in the report.
     pub lines: ReportLines,
-    ghost limits_fit: { AreLimits limits },
+    ghost limits_fit: { AreLimits limits } by { AreLimits-prop limits },
 }
 
 impl<'a> AfterAgreed for Check<'a> {

@@ -4,7 +4,7 @@
 ghost use Rattle.std.specs.Prelude.{◌↔◌, ◌≤◌, ◌∷◌, IsTrue, map, string_bytes};
 ghost use Rattle.std.specs.List.{All};
 ghost use Rattle.xr_cli.specs.Free.{AreFree, BeginsWith, IsEnding, IsFree};
-ghost use Rattle.xr_wave.specs.Contents.{AreLimits};
+ghost use Rattle.xr_wave.specs.Contents.{AreLimits, AreLimits-prop};
 
 use crate::exported::exported;
 use crate::limits::limits_of;
@@ -27,7 +27,7 @@ pub struct Export<'a> {
     pub prefix: &'a str,
     /// How places are decided.
     pub limits: Limits,
-    ghost limits_fit: { AreLimits limits },
+    ghost limits_fit: { AreLimits limits } by { AreLimits-prop limits },
 }
 
 impl<'a> AfterAgreed for Export<'a> {

@@ -1,7 +1,7 @@
 //! `fix`: reads a netlist and a recording of it, and prints which bits become known where unknown starts are set.
 
 ghost use Rattle.std.specs.Prelude.{◌≤◌};
-ghost use Rattle.xr_wave.specs.Contents.{AreLimits};
+ghost use Rattle.xr_wave.specs.Contents.{AreLimits, AreLimits-prop};
 
 use crate::fixed::fixed;
 use crate::limits::limits_of;
@@ -24,7 +24,7 @@ pub struct Fix<'a> {
     pub sets: &'a str,
     /// How places are decided.
     pub limits: Limits,
-    ghost limits_fit: { AreLimits limits },
+    ghost limits_fit: { AreLimits limits } by { AreLimits-prop limits },
 }
 
 impl<'a> AfterAgreed for Fix<'a> {

@@ -3,7 +3,7 @@
 
 ghost use Rattle.std.specs.Prelude.{◌↔◌, ◌≤◌, [], ◌∷◌, IsTrue, map, string_bytes};
 ghost use Rattle.xr_line.specs.Apart.{AreApart};
-ghost use Rattle.xr_wave.specs.Contents.{AreLimits};
+ghost use Rattle.xr_wave.specs.Contents.{AreLimits, AreLimits-prop};
 
 use crate::limits::limits_of;
 use crate::lines::lines_of;
@@ -38,7 +38,7 @@ pub struct Upgrade<'a> {
     pub limits: Limits,
     /// The lines of bits in the report.
     pub lines: ReportLines,
-    ghost limits_fit: { AreLimits limits },
+    ghost limits_fit: { AreLimits limits } by { AreLimits-prop limits },
 }
 
 impl<'a> AfterAgreed for Upgrade<'a> {
