@@ -87,10 +87,10 @@ run_wave c many wave run = record {
 pub goes_pushed : (start : Contents) (written new : WaveformView) (old after : HistoryView) (limits now : Limits)
     (lines kept : List ALine) → new ≡ written → after ≡ old → now ≡ limits → kept ≡ lines
     → GoesOn start (contents_of written old limits lines) → GoesOn start (contents_of new after now kept)
-goes_pushed start written new old after limits now lines kept new_is history_is limit_is lines_is goes =
+goes_pushed start written new old after limits now lines kept new_is history_is limits_are lines_is goes =
     subst (λ (w : WaveformView). GoesOn start (contents_of w after now kept)) (sym new_is)
     (subst (λ (h : HistoryView). GoesOn start (contents_of written h now kept)) (sym history_is)
-    (subst (λ (n : ℕ). GoesOn start (contents_of written old n kept)) (sym limit_is)
+    (subst (λ (n : Limits). GoesOn start (contents_of written old n kept)) (sym limits_are)
     (subst (λ (ls : List ALine). GoesOn start (contents_of written old limits ls)) (sym lines_is) goes)))
 
 -- Going on twice is going on.

@@ -8,6 +8,7 @@ use Rattle.xr_model.specs.Sound.{Sound}
 use Rattle.xr_model.specs.Yields.{Yields}
 use Rattle.xr_model.specs.declared.line.Line.{Line as ALine}
 use Rattle.xr_model.proofs.Uniqueness.{sound_exact, unique_certain, yields_one}
+use Rattle.xr_model.specs.declared.limits.Limits.{Limits}
 use Rattle.xr_wave.specs.Contents.{Contents, job, shown_in}
 use Rattle.xr_wave.specs.Laws.{AreOfOneJob, OneByLines, OneMarked, OneWave}
 
@@ -43,7 +44,7 @@ one_by_lines c d alike history limits lines =
     let shown : Yields (job c) d.limits (shown_in c) d.written d.lines =
     subst (λ (h : HistoryView). Yields (job c) d.limits (shown_of (job c) h) d.written d.lines) (sym history) over in
     let limited : Yields (job c) c.limits (shown_in c) d.written d.lines =
-    subst (λ (l : ℕ). Yields (job c) l (shown_in c) d.written d.lines) (sym limits) shown in
+    subst (λ (l : Limits). Yields (job c) l (shown_in c) d.written d.lines) (sym limits) shown in
     let lined : Yields (job c) c.limits (shown_in c) d.written c.lines =
     subst (λ (ls : List ALine). Yields (job c) c.limits (shown_in c) d.written ls) (sym lines) limited in
     yields_one (job c) c.limits alike.first.fits.fits_job (shown_in c) c.written d.written c.lines alike.long

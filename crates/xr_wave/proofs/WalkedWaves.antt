@@ -19,10 +19,10 @@ pub wave_pushed : (written new : WaveformView) (old after : Walk) (limits now : 
     → new ≡ written → after.replayed.history ≡ old.replayed.history → now ≡ limits → kept ≡ lines
     → IsWave (contents_of written old.replayed.history limits lines) → IsWalkOf new after
     → IsWaveAt (contents_of new after.replayed.history now kept) after
-wave_pushed written new old after limits now lines kept new_is history_is limit_is lines_is wave walk = record {
+wave_pushed written new old after limits now lines kept new_is history_is limits_are lines_is wave walk = record {
   wave = subst (λ (w : WaveformView). IsWave (contents_of w after.replayed.history now kept)) (sym new_is)
       (subst (λ (h : HistoryView). IsWave (contents_of written h now kept)) (sym history_is)
-      (subst (λ (n : ℕ). IsWave (contents_of written old.replayed.history n kept)) (sym limit_is)
+      (subst (λ (n : Limits). IsWave (contents_of written old.replayed.history n kept)) (sym limits_are)
       (subst (λ (ls : List ALine). IsWave (contents_of written old.replayed.history limits ls)) (sym lines_is) wave)));
   walk = walk;
 }
