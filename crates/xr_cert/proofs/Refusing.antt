@@ -52,7 +52,7 @@ sources_long c nodes cone =
     ap length (sources_law c (next_number c) nodes cone) ∙ length-map (sources_in c (next_number c)) (place_at (job c))
 
 -- More sources than the limit aren't enumerated,
-pub many_refuse : (c : Contents) (nodes : List Node) (bit : Bool) → IsNextCone c nodes 
+pub many_refuse : (c : Contents) (nodes : List Node) (bit : Bool) → IsNextCone c nodes
     → c.limits.enumerated < length (sources_of nodes)
     → AcceptsLine c (next_line c (Enumerated bit)) → ⊥
 many_refuse c nodes bit cone many accepts =
@@ -61,7 +61,7 @@ many_refuse c nodes bit cone many accepts =
     absurd (omega (arith, few, long, many))
 
 -- and no more don't leave a place undecided.
-pub few_refuse : (c : Contents) (nodes : List Node) (log : List (List ℤ)) → IsNextCone c nodes 
+pub few_refuse : (c : Contents) (nodes : List Node) (log : List (List ℤ)) → IsNextCone c nodes
     → length (sources_of nodes) ≤ c.limits.enumerated
     → AcceptsLine c (next_line c (Undecided log)) → ⊥
 few_refuse c nodes log cone few accepts =

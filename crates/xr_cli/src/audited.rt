@@ -56,14 +56,7 @@ fn blank_wave<'b, O: Sink>(
     ensures refused { IfErr result (IsJudgedBy (AuditComes limits job.now.netlist job.now.recorded) no_cause) }
     ensures out { O.view out.new ≡ O.view out.old }
 {
-    wave_under(
-        alloc,
-        &job.netlist,
-        &job.recorded.stim,
-        blank,
-        limits,
-        out,
-    )
+    wave_under(alloc, &job.netlist, &job.recorded.stim, blank, limits, out)
 }
 
 /// The audit of a finished wave beside the replay.

@@ -28,7 +28,13 @@ impl Condition {
     {
         let listed = certain_boundary(alloc, wave, &cone)?;
         let next = next_of(alloc, wave, &cone, listed.as_slice())?;
-        Condition::begin(alloc, last_place(&cone), listed, next, wave.limits().conflicts)
+        Condition::begin(
+            alloc,
+            last_place(&cone),
+            listed,
+            next,
+            wave.limits().conflicts,
+        )
     }
 }
 

@@ -72,7 +72,9 @@ fn settled_as(wave: &Wave<'_>, place: usize, sources: Option<&[u32]>, bit: bool)
     ensures { IsShownNext wave.now result }
 {
     match sources {
-        Some(list) if list.len() <= wave.limits().enumerated as usize => settled_if_few(wave, list, bit),
+        Some(list) if list.len() <= wave.limits().enumerated as usize => settled_if_few(
+            wave, list, bit,
+        ),
         Some(_) => Shown::Earlier(place),
         None => Shown::Earlier(place),
     }

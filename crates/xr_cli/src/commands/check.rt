@@ -16,7 +16,12 @@ use xr_set::{Form, Inputs, Run};
 use xr_shelf::{Shelf, Sink};
 use xr_words::{CONFLICTS, ENUMERATE, JobWords, REPORT, job_of, job_options, needs};
 
-static OPTIONS: &[Opt<'static>] = job_options![needs!("cert", Kind::Reads), CONFLICTS, ENUMERATE, REPORT];
+static OPTIONS: &[Opt<'static>] = job_options![
+    needs!("cert", Kind::Reads),
+    CONFLICTS,
+    ENUMERATE,
+    REPORT
+];
 
 /// The words of `check`.
 #[derive(Clone, Copy, Debug, Drop)]

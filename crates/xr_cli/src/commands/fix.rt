@@ -71,11 +71,7 @@ impl<'a> Run<'a> for Fix<'a> {
         let job = job_of(line, files)?;
         let sets = line.get("set")?;
         let limits = limits_of(line)?;
-        Some(Fix {
-            job,
-            sets,
-            limits,
-        })
+        Some(Fix { job, sets, limits })
     }
 
     fn inputs(&self) -> Inputs<'a> {

@@ -17,8 +17,8 @@ use xr_run::{Ready, Refusal};
 use xr_set::{Form, Inputs, Run};
 use xr_shelf::{Shelf, Sink};
 use xr_words::{
-    CONFLICTS, ENUMERATE, Form as CertForm, JobWords, REPORT, form_of, job_of, job_options,
-    needs, takes,
+    CONFLICTS, ENUMERATE, Form as CertForm, JobWords, REPORT, form_of, job_of, job_options, needs,
+    takes,
 };
 
 static OPTIONS: &[Opt<'static>] = job_options![
