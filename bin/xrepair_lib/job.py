@@ -8,7 +8,7 @@ import time
 
 HERE = os.path.dirname(os.path.dirname(os.path.realpath(__file__)))
 MARKER = "written-by-xrepair-quick"  # the file that lists what was written into a folder
-JOB_OPTIONS = ("rounds", "places", "conflicts", "start", "levels", "undriven")  # of commands with a job; replay has no conflicts
+JOB_OPTIONS = ("rounds", "places", "conflicts", "enumerate", "start", "levels", "undriven")  # of commands with a job; replay decides nothing
 
 
 class Refused(Exception):

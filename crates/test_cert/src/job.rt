@@ -14,17 +14,18 @@ use xr_cert::{Cert, CheckErr, Checked, Form, check_cert};
 use xr_design::{Bytes, History, Levels, RegisterRules, StartRule};
 use xr_job::{Netlist, PLACES, Recorded, Rules, read_netlist, read_recording, replay_and_compare};
 use xr_match::UndrivenRule;
+use xr_model::Limits;
 use xr_repair::{RepairErr, repair};
 use xr_wave::Wave;
 
-/// A job with its replay, and how many clauses the log of a search has.
+/// A job with its replay, and the limits of its decisions.
 #[derive(Clone, Copy)]
 pub struct Job<'j> {
     pub alloc: Global,
     pub netlist: &'j Netlist,
     pub recorded: &'j Recorded,
     history: &'j History,
-    limit: u32,
+    limits: Limits,
 }
 
 impl<'j> Job<'j> {
@@ -39,7 +40,7 @@ impl<'j> Job<'j> {
             &self.netlist.order,
             stim,
             self.history,
-            self.limit,
+            self.limits,
         )
     }
 
@@ -54,7 +55,7 @@ impl<'j> Job<'j> {
             &self.netlist.order,
             &self.recorded.stim,
             self.history,
-            self.limit,
+            self.limits,
         )
     }
 }
@@ -153,7 +154,10 @@ fn put_recorded(
                 netlist,
                 recorded,
                 history: &history,
-                limit: texts.conflicts.clamp(1, 100_000),
+                limits: Limits {
+                    conflicts: texts.conflicts.clamp(1, 100_000),
+                    enumerated: 12,
+                },
             };
             put_task(out, &job, texts, task)
         }

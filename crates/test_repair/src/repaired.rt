@@ -4,7 +4,7 @@ ghost use Rattle.xr_design.specs.Handed.{IsReplay};
 ghost use Rattle.xr_job.specs.Compared.{job_for};
 ghost use Rattle.xr_job.specs.Netlist.{FitsNetlist};
 ghost use Rattle.xr_job.specs.Recorded.{FitsRecorded};
-ghost use Rattle.xr_wave.specs.Contents.{IsLimit};
+ghost use Rattle.xr_wave.specs.Contents.{AreLimits};
 
 use crate::case::Texts;
 use crate::facts::answer;
@@ -14,6 +14,7 @@ use test_cases::{Line, Lines, Part, Report};
 use xr_base::Memory;
 use xr_design::History;
 use xr_job::{Netlist, Recorded, replay_and_compare};
+use xr_model::Limits;
 use xr_repair::{RepairErr, repair};
 use xr_wave::Wave;
 
@@ -81,15 +82,18 @@ fn wave_of<'a>(
         &netlist.order,
         &recorded.stim,
         history,
-        limit_of(conflicts),
+        limits_of(conflicts),
     )
 }
 
-/// The nearest limit that a search may have.
-fn limit_of(conflicts: u32) -> u32
-    ensures { IsLimit result }
+/// The nearest limits that decisions may have.
+fn limits_of(conflicts: u32) -> Limits
+    ensures { AreLimits result }
 {
-    conflicts.clamp(1, 100_000)
+    Limits {
+        conflicts: conflicts.clamp(1, 100_000),
+        enumerated: 12,
+    }
 }
 
 fn compare_wave(

@@ -57,7 +57,14 @@ fn replay_back<P: Program>(
     repaired: &Run,
     run: &mut Run,
 ) -> Result<(), AllocError> {
-    let dropped = ["--vcd", "--cert", "--conflicts", "--form", "--report"];
+    let dropped = [
+        "--vcd",
+        "--cert",
+        "--conflicts",
+        "--enumerate",
+        "--form",
+        "--report",
+    ];
     run_instead::<P>(case, repaired, run, "replay --vcd p.vcd", &dropped)?;
     compare_ended(report, case, "replay", run.status())?;
     compare_found(

@@ -43,7 +43,7 @@ fn cone_of_last(alloc: Global, wave: &Wave<'_>) -> Result<Cone, Fail>
 /// The output needs `c` alone.
 fn check_needs(rt: &impl Abort, alloc: Global, wave: &Wave<'_>) -> Result<(), Fail> {
     let cone = cone_of_last(alloc, wave)?;
-    let condition = condition_of(alloc, wave, cone, wave.limit())?;
+    let condition = condition_of(alloc, wave, cone, wave.limits().conflicts)?;
     assert_eq!(rt; condition.place(), Place { step: 0, net: 2 });
     assert_eq!(rt; condition.places(), [Place { step: 0, net: 1 }].as_slice());
     assert_eq!(rt; condition.turns().len(), 1);

@@ -16,6 +16,7 @@ use xr_job::{
     read_recording, replay_and_compare,
 };
 use xr_match::UndrivenRule;
+use xr_model::Limits;
 use xr_repair::repair;
 use xr_replay::replay;
 use xr_wave::Wave;
@@ -60,7 +61,10 @@ impl Job {
             &self.netlist.order,
             &self.recorded.stim,
             &self.history,
-            1,
+            Limits {
+                conflicts: 1,
+                enumerated: 12,
+            },
         )?;
         Ok(wave)
     }
@@ -77,7 +81,10 @@ impl Job {
             &self.netlist.order,
             &self.recorded.stim,
             &self.history,
-            1,
+            Limits {
+                conflicts: 1,
+                enumerated: 12,
+            },
         )?;
         Ok(wave)
     }

@@ -6,23 +6,24 @@ use Rattle.xr_model.specs.Growth.{NextHolds, NextLines}
 use Rattle.xr_model.specs.declared.class.ClassByNumber.{ClassByNumber}
 use Rattle.xr_model.specs.declared.class.ClassByNumber.TheVariants.{Local, Free, Carried, Line}
 use Rattle.xr_model.proofs.WaveInvariant.{grown}
+use Rattle.xr_model.specs.declared.limits.Limits.{Limits}
 use Rattle.xr_wave.specs.Advance.{Contradicts, GoesOn, IsPlain, more, plain_written, stays}
 use Rattle.xr_wave.specs.Contents.{Contents, IsWave, class_in, job, next_number, next_seen, shown_in}
 use Rattle.xr_along.proofs.Fitted.{next_plain_is}
 
-no_lines : (j : Job) (limit : ℕ) (waveform : List Written) (class : ClassByNumber) → (class ≡ Line → ⊥)
-    → NextLines j limit waveform [] class
-no_lines j limit waveform (Local bit) plain = refl
-no_lines j limit waveform Free plain = refl
-no_lines j limit waveform (Carried from inverted) plain = refl
-no_lines j limit waveform Line plain = absurd (plain refl)
+no_lines : (j : Job) (limits : Limits) (waveform : List Written) (class : ClassByNumber) → (class ≡ Line → ⊥)
+    → NextLines j limits waveform [] class
+no_lines j limits waveform (Local bit) plain = refl
+no_lines j limits waveform Free plain = refl
+no_lines j limits waveform (Carried from inverted) plain = refl
+no_lines j limits waveform Line plain = absurd (plain refl)
 
 plain_next : (c : Contents) → IsPlain (next_seen c) → (Contradicts c (plain_written c) → ⊥)
-    → NextHolds (job c) c.limit (shown_in c) c.written (plain_written c) []
+    → NextHolds (job c) c.limits (shown_in c) c.written (plain_written c) []
 plain_next c plain honest = record {
   said = record {
     within = (next_plain_is c plain).0;
-    lines = no_lines (job c) c.limit c.written (class_in c (next_number c)) (next_plain_is c plain).1;
+    lines = no_lines (job c) c.limits c.written (class_in c (next_number c)) (next_plain_is c plain).1;
     as_said = refl;
   };
   honest = honest;
@@ -39,6 +40,6 @@ goes_wave (more {c = c} goes plain agrees) wave =
       few = is.few;
       handed = is.handed;
       limited = is.limited;
-      holds = grown (job c) c.limit is.fits.fits_job (shown_in c) c.written c.lines (plain_written c) [] is.holds
+      holds = grown (job c) c.limits is.fits.fits_job (shown_in c) c.written c.lines (plain_written c) [] is.holds
           (plain_next c plain agrees);
     })

@@ -159,7 +159,7 @@ module _ (c : Contents) (replayed : HistoryView) where
 
     audited : IsDecided c.written → IsAudited (job c) c.written c.lines
     audited decided = record {
-      limit = c.limit;
+      limits = c.limits;
       shown = shown_in c;
       holds = wave.holds;
       whole = audit.finished;

@@ -34,54 +34,55 @@ use Rattle.xr_design.proofs.Worlds.{world_prefix, world_rule}
 use Rattle.xr_model.specs.Sound.{SoundBy}
 use Rattle.xr_model.specs.declared.line.Line.{Line as ALine}
 use Rattle.xr_model.proofs.CarryLaw.{net_at, step_at}
+use Rattle.xr_model.specs.declared.limits.Limits.{Limits}
 use Rattle.xr_wave.specs.Contents.{Contents, IsWave, job, written_of}
 use Rattle.xr_audit.specs.Listed.{IsAudit, is_listed, is_open, is_suspect, leaves_open, lists, place_in, replay_arguments, replay_arguments_of, replayed_at}
 use Rattle.xr_audit.proofs.Audited.{replay_shows}
 
 -- A place that is neither listed nor open has, in each world, what the replay knows there.
-kept_so : (j : Job) (limit : ℕ) (waveform : List Written) (lines : List ALine) (n : ℕ) (mark : Mark) (value shown : Value)
-    → lists mark value shown ≡ false → leaves_open mark shown ≡ false → SoundBy j limit waveform lines n mark value
+kept_so : (j : Job) (limits : Limits) (waveform : List Written) (lines : List ALine) (n : ℕ) (mark : Mark) (value shown : Value)
+    → lists mark value shown ≡ false → leaves_open mark shown ≡ false → SoundBy j limits waveform lines n mark value
     → (filling : List Place) → IsFilling j filling
     → FollowsAt shown (bit_value (world_bit j (certain waveform) (bit_of j filling) n))
-kept_so j limit waveform lines n mark value X told open_ sound filling is = λ known. absurd known
-kept_so j limit waveform lines n mark value Z told open_ sound filling is = λ known. absurd known
-kept_so j limit waveform lines n Certain Zero Zero told open_ sound filling is = λ known. ap bit_value (sound filling is)
-kept_so j limit waveform lines n Certain One One told open_ sound filling is = λ known. ap bit_value (sound filling is)
-kept_so j limit waveform lines n Certain One Zero told open_ sound filling is = cc
-kept_so j limit waveform lines n Certain Zero One told open_ sound filling is = cc
-kept_so j limit waveform lines n Certain X Zero told open_ sound filling is = absurd sound
-kept_so j limit waveform lines n Certain X One told open_ sound filling is = absurd sound
-kept_so j limit waveform lines n Certain Z Zero told open_ sound filling is = absurd sound
-kept_so j limit waveform lines n Certain Z One told open_ sound filling is = absurd sound
-kept_so j limit waveform lines n Unknown value Zero told open_ sound filling is = cc
-kept_so j limit waveform lines n Unknown value One told open_ sound filling is = cc
-kept_so j limit waveform lines n Undecided value Zero told open_ sound filling is = cc
-kept_so j limit waveform lines n Undecided value One told open_ sound filling is = cc
+kept_so j limits waveform lines n mark value X told open_ sound filling is = λ known. absurd known
+kept_so j limits waveform lines n mark value Z told open_ sound filling is = λ known. absurd known
+kept_so j limits waveform lines n Certain Zero Zero told open_ sound filling is = λ known. ap bit_value (sound filling is)
+kept_so j limits waveform lines n Certain One One told open_ sound filling is = λ known. ap bit_value (sound filling is)
+kept_so j limits waveform lines n Certain One Zero told open_ sound filling is = cc
+kept_so j limits waveform lines n Certain Zero One told open_ sound filling is = cc
+kept_so j limits waveform lines n Certain X Zero told open_ sound filling is = absurd sound
+kept_so j limits waveform lines n Certain X One told open_ sound filling is = absurd sound
+kept_so j limits waveform lines n Certain Z Zero told open_ sound filling is = absurd sound
+kept_so j limits waveform lines n Certain Z One told open_ sound filling is = absurd sound
+kept_so j limits waveform lines n Unknown value Zero told open_ sound filling is = cc
+kept_so j limits waveform lines n Unknown value One told open_ sound filling is = cc
+kept_so j limits waveform lines n Undecided value Zero told open_ sound filling is = cc
+kept_so j limits waveform lines n Undecided value One told open_ sound filling is = cc
 
 -- A place that has in each world what the replay knows there isn't listed.
-not_so : (j : Job) (limit : ℕ) (waveform : List Written) (lines : List ALine) (n : ℕ) (mark : Mark) (value shown : Value)
-    → lists mark value shown ≡ true → SoundBy j limit waveform lines n mark value
+not_so : (j : Job) (limits : Limits) (waveform : List Written) (lines : List ALine) (n : ℕ) (mark : Mark) (value shown : Value)
+    → lists mark value shown ≡ true → SoundBy j limits waveform lines n mark value
     → ((filling : List Place) → IsFilling j filling
     → FollowsAt shown (bit_value (world_bit j (certain waveform) (bit_of j filling) n))) → ⊥
-not_so j limit waveform lines n Certain Zero Zero told sound follows = cc
-not_so j limit waveform lines n Certain One One told sound follows = cc
-not_so j limit waveform lines n Certain Zero One told sound follows =
+not_so j limits waveform lines n Certain Zero Zero told sound follows = cc
+not_so j limits waveform lines n Certain One One told sound follows = cc
+not_so j limits waveform lines n Certain Zero One told sound follows =
     let here = follows [] (empty_filling j) tt in let other = sound [] (empty_filling j) in cc
-not_so j limit waveform lines n Certain One Zero told sound follows =
+not_so j limits waveform lines n Certain One Zero told sound follows =
     let here = follows [] (empty_filling j) tt in let other = sound [] (empty_filling j) in cc
-not_so j limit waveform lines n Certain X Zero told sound follows = absurd sound
-not_so j limit waveform lines n Certain X One told sound follows = absurd sound
-not_so j limit waveform lines n Certain Z Zero told sound follows = absurd sound
-not_so j limit waveform lines n Certain Z One told sound follows = absurd sound
-not_so j limit waveform lines n Certain value X told sound follows = cc
-not_so j limit waveform lines n Certain value Z told sound follows = cc
-not_so j limit waveform lines n Unknown value Zero told sound follows =
+not_so j limits waveform lines n Certain X Zero told sound follows = absurd sound
+not_so j limits waveform lines n Certain X One told sound follows = absurd sound
+not_so j limits waveform lines n Certain Z Zero told sound follows = absurd sound
+not_so j limits waveform lines n Certain Z One told sound follows = absurd sound
+not_so j limits waveform lines n Certain value X told sound follows = cc
+not_so j limits waveform lines n Certain value Z told sound follows = cc
+not_so j limits waveform lines n Unknown value Zero told sound follows =
     let here = follows _ sound.one_filling tt in let other = sound.gives_one in cc
-not_so j limit waveform lines n Unknown value One told sound follows =
+not_so j limits waveform lines n Unknown value One told sound follows =
     let here = follows _ sound.zero_filling tt in let other = sound.gives_zero in cc
-not_so j limit waveform lines n Unknown value X told sound follows = cc
-not_so j limit waveform lines n Unknown value Z told sound follows = cc
-not_so j limit waveform lines n Undecided value shown told sound follows = cc
+not_so j limits waveform lines n Unknown value X told sound follows = cc
+not_so j limits waveform lines n Unknown value Z told sound follows = cc
+not_so j limits waveform lines n Undecided value shown told sound follows = cc
 
 -- Pins follow where their nets do.
 pins_follow : (j : Job) (shown : ℕ → Value) (b : ℕ → Bool) (step : ℕ) (pins : List Pin)
@@ -148,7 +149,7 @@ module _ (c : Contents) (replayed : HistoryView) (wave : IsWave c) (audit : IsAu
       let sound = wave.holds.sound.exact n (numbered place is) in
       subst (λ (v : Value). FollowsAt v (bit_value (world_bit j (certain c.written) (bit_of j filling) n)))
       (replay_shows c replayed wave audit place is)
-      (kept_so j c.limit c.written c.lines n (written_of c place).mark (written_of c place).value (replayed_at replayed place)
+      (kept_so j c.limits c.written c.lines n (written_of c place).mark (written_of c place).value (replayed_at replayed place)
       parts.0 parts.1 sound filling fills)
 
   nets_follow : (step : ℕ) (n : ℕ) (p : ℕ) → step < j.moments * j.rounds → step * j.width + p ≡ n → (nets : List ℕ)
@@ -207,7 +208,7 @@ module _ (c : Contents) (replayed : HistoryView) (wave : IsWave c) (audit : IsAu
       → list_any (is_suspect c replayed) (replay_arguments j place) ≡ false → IsPlain (j.driver place.net) → ⊥
   origin_driven place is told clear plain =
       let n = number_of j place in
-      not_so j c.limit c.written c.lines n (written_of c place).mark (written_of c place).value (replayed_at replayed place)
+      not_so j c.limits c.written c.lines n (written_of c place).mark (written_of c place).value (replayed_at replayed place)
       told (wave.holds.sound.exact n (numbered place is))
       (λ filling fills. subst (λ (v : Value). FollowsAt v (bit_value (world_bit j (certain c.written) (bit_of j filling) n)))
       (sym (replay_shows c replayed wave audit place is)) (place_follows place is plain clear filling fills))

@@ -25,6 +25,7 @@ use Rattle.xr_model.specs.declared.class.ClassByNumber.{ClassByNumber}
 use Rattle.xr_model.specs.declared.class.ClassByNumber.TheVariants.{Local, Free, Carried, Line}
 use Rattle.xr_model.specs.declared.line.Body.{Body}
 use Rattle.xr_model.specs.declared.line.Line.{Line as ALine}
+use Rattle.xr_model.specs.declared.limits.Limits.{Limits}
 use Rattle.xr_wave.specs.Contents.{Contents, IsWave, IsWritten, class_in, job, shown_in}
 use Rattle.xr_wave.specs.Pairs.{GiveBoth, IsRootOf, IsUnknown, root_in}
 use Rattle.xr_blame.specs.Joined.{IsJoined, joined_bit, stands_below, stands_from}
@@ -117,12 +118,12 @@ root_blames c wave number place inverted source others within low follows blame 
           ∙ same_at place low);
     }
 
-both_by : (j : Job) (limit : ℕ) (waveform : List Written) (lines : List ALine) (place : ℕ) (mark : Mark) (value : Value)
-    → mark ≡ Unknown → SoundBy j limit waveform lines place mark value
+both_by : (j : Job) (limits : Limits) (waveform : List Written) (lines : List ALine) (place : ℕ) (mark : Mark) (value : Value)
+    → mark ≡ Unknown → SoundBy j limits waveform lines place mark value
     → GivesBoth j waveform place (stated j (certain waveform) lines place)
-both_by j limit waveform lines place Certain value is sound = cc
-both_by j limit waveform lines place Unknown value is sound = sound
-both_by j limit waveform lines place Undecided value is sound = cc
+both_by j limits waveform lines place Certain value is sound = cc
+both_by j limits waveform lines place Unknown value is sound = sound
+both_by j limits waveform lines place Undecided value is sound = cc
 
 free_at : (c : Contents) (number : ℕ) (at : ℕ) (class : ClassByNumber) (inverted : Bool) (body : Option Body)
     → (class ≡ Line → ⊥) → GivesBoth (job c) c.written number (swapped inverted (stated_by (job c) class body at))
@@ -147,7 +148,7 @@ module _ (c : Contents) (wave : IsWave c) (place : Place) (root : Place × Bool)
       let low = written.written in
       let up = wave.holds.sound.within in
       let reach : InReach j c.written n = record { written = omega (arith, low); within = omega (arith, low, up) } in
-      root_law j c.limit (shown_in c) c.written c.lines wave.fits.fits_job wave.holds.sound n filling reach filled
+      root_law j c.limits (shown_in c) c.written c.lines wave.fits.fits_job wave.holds.sound n filling reach filled
       ∙ ap (λ (b : Bool). flipped b (bit_in c (bit_of j filling) (root_in c n).place)) (sym is.inverted)
       ∙ ap (λ (k : ℕ). flipped root.1 (bit_in c (bit_of j filling) k)) (sym is.place)
 
@@ -171,7 +172,7 @@ module _ (c : Contents) (wave : IsWave c) (place : Place) (root : Place × Bool)
       let own = root_in c n in
       let up = wave.holds.sound.within in
       let root_low = is.written.written in
-      let both = both_by j c.limit c.written c.lines n (written_at c.written n).mark (written_at c.written n).value unknown
+      let both = both_by j c.limits c.written c.lines n (written_at c.written n).mark (written_at c.written n).value unknown
       (wave.holds.sound.exact n written.written) in
       let line : class_in c own.place ≡ Line → ⊥ = subst (λ (r : ℕ). class_in c r ≡ Line → ⊥) is.place other in
       let low : own.place < places_of j =

@@ -58,7 +58,7 @@ fits_next c v (Undecided log) same fits = subst (λ (vs : List ℕ). NamesVariab
 -- Lines that are left, with the waveform that they and those of the wave yield.
 pub record IsYielded (c : Contents) (rest : List ALine) (v : List Written) : Type 0 where
   pub long : length v ≡ places_of (job c)
-  pub yields : Yields (job c) c.limit (shown_in c) v (c.lines ++ rest)
+  pub yields : Yields (job c) c.limits (shown_in c) v (c.lines ++ rest)
   pub honest : IsHonest (shown_in c) v
   pub logs : (place : ℕ) (body : Body) → place < length v → body_at (job c) (c.lines ++ rest) place ≡ Some body
       → BodyFitsAt c v place body
@@ -175,7 +175,7 @@ begun_same (by_line goes l next accepts agrees) = begun_same goes
 -- What an accepted certificate is from there.
 record IsAcceptedFrom (c : Contents) (cert : ACert) (v : List Written) (rest : List ALine) : Type 0 where
   yielded : IsYielded c rest v
-  turned : AreTurned cert.form (job c) c.limit v cert.entries
+  turned : AreTurned cert.form (job c) c.limits.conflicts v cert.entries
 
 accepted_there : (a b : Contents) (cert : ACert) (v : List Written) (rest : List ALine) → GoesAlong a b
     → IsAccepted a cert v
@@ -186,7 +186,7 @@ accepted_there a b cert v rest goes accepted are =
     record {
       yielded = record {
         long = moved.long;
-        yields = subst (λ (ls : List ALine). Yields (job b) b.limit (shown_in b) v ls) are moved.yields;
+        yields = subst (λ (ls : List ALine). Yields (job b) b.limits (shown_in b) v ls) are moved.yields;
         honest = moved.honest;
         logs = subst (λ (ls : List ALine). (place : ℕ) (body : Body) → place < length v
             → body_at (job b) ls place ≡ Some body
@@ -213,7 +213,7 @@ none_left start cert v c done rest none parted up accepted =
     let y = accepted.yielded in
     let agree = agree_there c up.wave (lines_in rest) v y.long y.yields in
     let each = accepted.turned.each in
-    let all = each_long cert.form j c.limit v cert.entries each in
+    let all = each_long cert.form j c.limits.conflicts v cert.entries each in
     let front = ap length accepted.turned.none_in_front in
     let lines = ap (span_of cert.form j v) (left_lines start cert.form cert.entries c done rest none parted up)
     ∙ span_append cert.form j v c.lines (lines_in rest) in
@@ -221,8 +221,8 @@ none_left start cert v c done rest none parted up accepted =
     let same = span_there j up.wave.fits.fits_job c.written v (length c.written) up.wave.holds.yields.within agree
     cert.form c.lines
     (lines_below c up.wave) in
-    let long_rest = each_long cert.form j c.limit v rest
-    (each_behind_all cert.form j c.limit v done rest (subst (EachHasTurns cert.form j c.limit v) parted each)) in
+    let long_rest = each_long cert.form j c.limits.conflicts v rest
+    (each_behind_all cert.form j c.limits.conflicts v done rest (subst (EachHasTurns cert.form j c.limits.conflicts v) parted each)) in
     let long = ap length parted ∙ length-append done rest in
     nil_from_length (turns_in_front rest) (omega (arith, all, front, lines, long_done, same, long_rest, long))
 
@@ -261,11 +261,11 @@ first_memory start cert v e none accepted (turn c done l stated rest is_form par
     let others : List Entry = turned_lines stated ++ rest in
     let parts : cert.entries ≡ done ++ Line l ∷ others = parted ∙ append_assoc done (with_turns l stated) rest in
     let from = turned_faultless start cert v c done l others none accepted parts up in
-    let each : EachHasTurns Turns (job c) c.limit v (Line l ∷ others) =
-    subst (λ f. EachHasTurns f (job c) c.limit v (Line l ∷ others)) is_form
-    (each_behind_all cert.form (job c) c.limit v done (Line l ∷ others)
-    (subst (EachHasTurns cert.form (job c) c.limit v) parts from.turned.each)) in
-    absurd (not_behind c l stated rest others [] (job c) c.limit v up.wave accepts gives lacks refl refl
+    let each : EachHasTurns Turns (job c) c.limits.conflicts v (Line l ∷ others) =
+    subst (λ f. EachHasTurns f (job c) c.limits.conflicts v (Line l ∷ others)) is_form
+    (each_behind_all cert.form (job c) c.limits.conflicts v done (Line l ∷ others)
+    (subst (EachHasTurns cert.form (job c) c.limits.conflicts v) parts from.turned.each)) in
+    absurd (not_behind c l stated rest others [] (job c) c.limits.conflicts v up.wave accepts gives lacks refl refl
     (agree_line c l (lines_in others) v up.wave from.yielded next accepts) each.0 (sym (append-nil others)))
 first_memory start cert v e none accepted no_memory = refl
 
@@ -289,9 +289,9 @@ checked_waveform start cert v found accepted checked =
     let y = (accepted_there start c cert v [] checked.goes accepted (sym checked.lines
     ∙ sym (append-nil c.lines))).yielded in
     let all = checked.finished in
-    yields_one (job c) c.limit checked.wave.fits.fits_job (shown_in c) c.written v c.lines (all
+    yields_one (job c) c.limits checked.wave.fits.fits_job (shown_in c) c.written v c.lines (all
     ∙ sym y.long) (omega (arith, all))
-    checked.wave.holds.yields (subst (λ (ls : List ALine). Yields (job c) c.limit (shown_in c) v ls)
+    checked.wave.holds.yields (subst (λ (ls : List ALine). Yields (job c) c.limits (shown_in c) v ls)
     (append-nil c.lines) y.yields)
 
 pub accepts_all : (start : Contents) (cert : ACert) (v : List Written) (result : Result Checked CheckErr)

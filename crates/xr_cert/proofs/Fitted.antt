@@ -33,9 +33,9 @@ checked_accepted start cert c conditions written lines checked =
     let there : IsAccepted (record c { written = start.written; lines = start.lines }) cert c.written = record {
       numbers = subst (λ (d : Contents). HasNumbers d cert.head) (sym same) checked.numbers;
       long = checked.finished;
-      yields = subst (λ (ls : List ALine). Yields j c.limit (shown_in c) c.written ls) checked.lines
+      yields = subst (λ (ls : List ALine). Yields j c.limits (shown_in c) c.written ls) checked.lines
           checked.wave.holds.yields;
-      honest = sound_honest j c.limit (shown_in c) c.written c.lines checked.wave.holds.sound;
+      honest = sound_honest j c.limits (shown_in c) c.written c.lines checked.wave.holds.sound;
       logs = subst (λ (ls : List ALine). (place : ℕ) (body : Body) → place < length c.written
           → body_at j ls place ≡ Some body
           → BodyFitsAt c c.written place body) checked.lines fitted;
@@ -61,8 +61,8 @@ own_accepted form start c conditions written lines goes wave finished are =
     (cert_in form c conditions) c.written = record {
       numbers = record { rounds = refl; conflicts = refl; moments = refl; nets = refl };
       long = finished;
-      yields = subst (λ (ls : List ALine). Yields (job c) c.limit (shown_in c) c.written ls) own wave.holds.yields;
-      honest = sound_honest (job c) c.limit (shown_in c) c.written c.lines wave.holds.sound;
+      yields = subst (λ (ls : List ALine). Yields (job c) c.limits (shown_in c) c.written ls) own wave.holds.yields;
+      honest = sound_honest (job c) c.limits (shown_in c) c.written c.lines wave.holds.sound;
       logs = subst (λ (ls : List ALine). (place : ℕ) (body : Body) → place < length c.written
           → body_at (job c) ls place ≡ Some body
           → BodyFitsAt c c.written place body) own (logs_along_fit start c goes fits written lines);

@@ -117,7 +117,7 @@ turns_of j limit w root gives turns is has = subst (λ g. HasTurnsBy g j limit w
 pub not_behind : (b : Contents) (l : ALine) (stated : List TurnLine) (rest others behind : List Entry) (j : Job)
     (limit : ℕ)
     (w : List Written) → IsWave b → AcceptsLine b l → gives_bit l.body ≡ true
-    → LacksTurn (with_line b l) (next_number b) stated rest → j ≡ job b → limit ≡ b.limit
+    → LacksTurn (with_line b l) (next_number b) stated rest → j ≡ job b → limit ≡ b.limits.conflicts
     → AgreeBelow (certain (with_line b l).written) (certain w) (next_number b + 1)
     → HasTurnsBy (gives_bit l.body) j limit w (number_of j l.place) (turns_in_front others)
     → turned_lines stated ++ rest ≡ others ++ behind → ⊥
@@ -127,8 +127,8 @@ not_behind b l stated rest others behind j limit w wave accepts gives lacks job_
     let within = accepts.line_holds.within in
     let number : number_of k l.place ≡ next_number b =
     ap (number_of k) accepts.line_holds.place_is ∙ number_of_place_at k (next_number b) fits.ordering fits.all within in
-    let all : AreAllTurnLines k b.limit w (next_number b) (turns_in_front others) =
-    subst (λ n. AreAllTurnLines k b.limit w n (turns_in_front others)) number
+    let all : AreAllTurnLines k b.limits.conflicts w (next_number b) (turns_in_front others) =
+    subst (λ n. AreAllTurnLines k b.limits.conflicts w n (turns_in_front others)) number
     (subst (λ m. AreAllTurnLines k m w (number_of k l.place) (turns_in_front others)) limit_is
     (subst (λ i. AreAllTurnLines i limit w (number_of i l.place) (turns_in_front others)) job_is
     (turns_of j limit w (number_of j l.place) (gives_bit l.body) (turns_in_front others) gives has))) in
@@ -152,15 +152,15 @@ past_turn form start entries b done l stated rest c dun rust none lacked at_c go
     let first = line_first b c l done dun (with_turns l stated ++ rest) rust goes far in
     let grow = grows_along goes in
     let long = length-append b.written (written_by_line b l ∷ []) in
-    let each : EachHasTurns form (job c) c.limit c.written far.on.extra =
-    each_behind_all form (job c) c.limit c.written done far.on.extra
-    (subst (EachHasTurns form (job c) c.limit c.written) far.on.longer_is at_c.up.turned.each) in
-    let has : EachHasTurns Turns (job c) c.limit c.written (Line l ∷ first.begins.others) =
-    subst (λ f. EachHasTurns f (job c) c.limit c.written (Line l ∷ first.begins.others)) lacked.is_form
-    (subst (EachHasTurns form (job c) c.limit c.written) first.begins.is each) in
-    not_behind b l stated rest first.begins.others rust (job c) c.limit c.written lacked.at.up.wave lacked.accepts
+    let each : EachHasTurns form (job c) c.limits.conflicts c.written far.on.extra =
+    each_behind_all form (job c) c.limits.conflicts c.written done far.on.extra
+    (subst (EachHasTurns form (job c) c.limits.conflicts c.written) far.on.longer_is at_c.up.turned.each) in
+    let has : EachHasTurns Turns (job c) c.limits.conflicts c.written (Line l ∷ first.begins.others) =
+    subst (λ f. EachHasTurns f (job c) c.limits.conflicts c.written (Line l ∷ first.begins.others)) lacked.is_form
+    (subst (EachHasTurns form (job c) c.limits.conflicts c.written) first.begins.is each) in
+    not_behind b l stated rest first.begins.others rust (job c) c.limits.conflicts c.written lacked.at.up.wave lacked.accepts
     lacked.gives lacked.lacks
-    (along_job goes) grow.limit (λ k less. grow.agree k (omega (arith, less, long))) has.0
+    (along_job goes) (ap (λ l. l.conflicts) grow.limits) (λ k less. grow.agree k (omega (arith, less, long))) has.0
     (same_tail (Line l) (Line l) (turned_lines stated ++ rest) (first.begins.others ++ rust) first.rest_is)
 
 -- So a way from before the line ends there.
@@ -186,7 +186,7 @@ lacks_first b l stated more rest rust wave accepts lacks other is less =
     none_lacks (with_line b l) (with_line b l).written (next_number b) stated rest
     (turned_lines more) rust wave.fits.fits_job
     accepts.line_holds.within (λ k low. refl) lacks
-    (subst (AreTurnLines (job b) b.limit (with_line b l).written (next_number b)) (sym front) other.so_far)
+    (subst (AreTurnLines (job b) b.limits.conflicts (with_line b l).written (next_number b)) (sym front) other.so_far)
     (subst (λ ts. length stated < length ts) (sym front) less) is
 
 stated_same : (stated more : List TurnLine) (rest rust : List Entry)

@@ -56,7 +56,7 @@ own_front (l ∷ lines) (v ∷ views) = refl
 
 -- Behind each stand its turns, where the conditions are those of the certain places.
 all_stated : (c : Contents) (place : Place) (view : ConditionView) → IsFinishedAt c place view
-    → AreAllTurnLines (job c) c.limit c.written (number_of (job c) place) (turn_lines view)
+    → AreAllTurnLines (job c) c.limits.conflicts c.written (number_of (job c) place) (turn_lines view)
 all_stated c place view is =
     let states = states_turns c (number_of (job c) place) view is.is in
     let count = states.count in
@@ -64,10 +64,10 @@ all_stated c place view is =
     record { are = states.are; all = omega (arith, count, none) }
 
 abbrev EachIn : Contents → List Entry → Type 0
-EachIn c entries = EachHasTurns Turns (job c) c.limit c.written entries
+EachIn c entries = EachHasTurns Turns (job c) c.limits.conflicts c.written entries
 
 abbrev HasIn : Contents → Bool → Place → List TurnLine → Type 0
-HasIn c gives place turns = HasTurnsBy gives (job c) c.limit c.written (number_of (job c) place) turns
+HasIn c gives place turns = HasTurnsBy gives (job c) c.limits.conflicts c.written (number_of (job c) place) turns
 
 abbrev pub settled_by : Bool → ALine → List ALine → List Place
 settled_by gives l lines =
@@ -94,7 +94,7 @@ own_each c (l ∷ lines) (v ∷ views) are =
             (sym (front_behind (turn_lines v) (entries_of lines views)
             ∙ (ap (λ ts. turn_lines v ++ ts) (own_front lines views) ∙ append-nil (turn_lines v))))
             (all_stated c l.place v all.0),
-        each_behind Turns (job c) c.limit c.written (turn_lines v) (entries_of lines views)
+        each_behind Turns (job c) c.limits.conflicts c.written (turn_lines v) (entries_of lines views)
             (own_each c lines views all.1),
       )
       | false ↦ λ all. (own_front lines (v ∷ views), own_each c lines (v ∷ views) all)
@@ -109,8 +109,8 @@ pub own_turned : (form : Form) (c : Contents) (views : List ConditionView) → A
     → AreTurnedIn form c (entries_of c.lines views)
 own_turned Lines c views none = record {
   none_in_front = own_front c.lines views;
-  each = subst (λ vs. EachHasTurns Lines (job c) c.limit c.written (entries_of c.lines vs)) (sym none)
-      (plain_each (job c) c.limit c.written c.lines);
+  each = subst (λ vs. EachHasTurns Lines (job c) c.limits.conflicts c.written (entries_of c.lines vs)) (sym none)
+      (plain_each (job c) c.limits.conflicts c.written c.lines);
 }
 own_turned Turns c views are = record { none_in_front = own_front c.lines views; each = own_each c c.lines views are }
 

@@ -18,7 +18,7 @@ use Rattle.xr_model.specs.declared.line.Body.TheVariants.{Enumerated, Refuted, P
 use Rattle.xr_model.specs.declared.line.Line.{Line as ALine}
 use Rattle.xr_proof.specs.Assignment.{HasNoZero}
 use Rattle.xr_proof.specs.Log.{Fit}
-use Rattle.xr_wave.specs.Contents.{Contents, IsLimit, IsWave, job, next_number}
+use Rattle.xr_wave.specs.Contents.{Contents, AreLimits, IsWave, job, next_number}
 use Rattle.xr_wave.specs.Token.{HoldsNext}
 use Rattle.xr_along.proofs.Fitted.{along_job}
 use Rattle.xr_along.specs.Accepted.{AcceptsLine, BodyFits, NamesVariables, variables_next}
@@ -65,7 +65,7 @@ pub log_fits : (count : ℕ) (log : List (List ℤ)) → count < 2 ^ 31 → 0 < 
 log_fits count log few some names = record { some = some; literals = clauses_fit count log few names.no_zero names.fit }
 
 -- A body that is accepted at the next place has words.
-body_fits : (c : Contents) → Fits (job c) → (job c).moments * (job c).rounds ≤ 2 ^ 32 → IsLimit c.limit → (body : Body)
+body_fits : (c : Contents) → Fits (job c) → (job c).moments * (job c).rounds ≤ 2 ^ 32 → AreLimits c.limits → (body : Body)
     → HoldsNext c body → BodyFits c body → FitsBody body
 body_fits c fits most limited (Enumerated bit) holds names = tt
 body_fits c fits most limited (Refuted bit log) holds names =
@@ -84,7 +84,7 @@ body_fits c fits most limited (Undecided log) holds names =
     let some = limited.some in
     log_fits (variables_next c) log (omega (arith, few, vars)) (omega (arith, long, some)) names
 
-line_fits : (c : Contents) → Fits (job c) → (job c).moments * (job c).rounds ≤ 2 ^ 32 → IsLimit c.limit → (line : ALine)
+line_fits : (c : Contents) → Fits (job c) → (job c).moments * (job c).rounds ≤ 2 ^ 32 → AreLimits c.limits → (line : ALine)
     → AcceptsLine c line → FitsLine line
 line_fits c fits most limited line accepts =
     let next = accepts.line_holds.within in
@@ -95,10 +95,10 @@ line_fits c fits most limited line accepts =
       body = body_fits c fits most limited line.body accepts.line_holds.holds accepts.fits;
     }
 
-pub along_limit : {a b : Contents} → GoesAlong a b → b.limit ≡ a.limit
-along_limit walk.stays = refl
-along_limit (by_class goes plain agrees) = along_limit goes
-along_limit (by_line goes line next accepts agrees) = along_limit goes
+pub along_limits : {a b : Contents} → GoesAlong a b → b.limits ≡ a.limits
+along_limits walk.stays = refl
+along_limits (by_class goes plain agrees) = along_limits goes
+along_limits (by_line goes line next accepts agrees) = along_limits goes
 
 fits_more : (lines : List ALine) (line : ALine) → AllByRecursion FitsLine lines → FitsLine line
     → AllByRecursion FitsLine (lines ++ line ∷ [])
@@ -106,7 +106,7 @@ fits_more [] line all last = (last, tt)
 fits_more (l ∷ lines) line all last = (all.0, fits_more lines line all.1 last)
 
 pub lines_fit : (start c : Contents) → GoesAlong start c → Fits (job start)
-    → (job start).moments * (job start).rounds ≤ 2 ^ 32 → IsLimit start.limit → start.lines ≡ [] → AllByRecursion FitsLine c.lines
+    → (job start).moments * (job start).rounds ≤ 2 ^ 32 → AreLimits start.limits → start.lines ≡ [] → AllByRecursion FitsLine c.lines
 lines_fit start c walk.stays fits most limited none = subst (AllByRecursion FitsLine) (sym none) tt
 lines_fit start c (by_class {c = d} goes plain agrees) fits most limited none =
     lines_fit start d goes fits most limited none
@@ -114,7 +114,7 @@ lines_fit start c (by_line {c = d} goes line next accepts agrees) fits most limi
     fits_more d.lines line (lines_fit start d goes fits most limited none)
     (line_fits d (subst Fits (sym (along_job goes)) fits)
     (subst (λ (j : Job). j.moments * j.rounds ≤ 2 ^ 32) (sym (along_job goes)) most)
-    (subst IsLimit (sym (along_limit goes)) limited) line accepts)
+    (subst AreLimits (sym (along_limits goes)) limited) line accepts)
 
 -- There are no more lines than places.
 picked_few : (test : ℕ → Bool) (n : ℕ) → length (places_where test n) ≤ n

@@ -6,7 +6,7 @@ use Rattle.xr_design.specs.Fits.{Fits}
 use Rattle.xr_design.specs.Job.{Job, number_of}
 use Rattle.xr_model.specs.declared.line.Line.{Line as ALine}
 use Rattle.xr_model.specs.declared.turn.TurnLine.{TurnLine}
-use Rattle.xr_wave.specs.Contents.{Contents, IsLimit, job}
+use Rattle.xr_wave.specs.Contents.{Contents, AreLimits, job}
 use Rattle.xr_along.proofs.Fitted.{along_job}
 use Rattle.xr_turns.specs.View.{ConditionView}
 use Rattle.xr_turns.specs.Conditions.{AreConditionsOf, gives_bit, settled_places}
@@ -19,7 +19,7 @@ use Rattle.xr_cert_text.specs.declared.cert.Form.TheVariants.{Lines, Turns}
 use Rattle.xr_cert.specs.Entries.{AreConditionsFor, entries_of}
 use Rattle.xr_cert.specs.Laws.{OwnTextStands}
 use Rattle.xr_cert.proofs.OwnEntries.{settled_by, turned_lines}
-use Rattle.xr_cert.proofs.OwnLines.{along_limit, few_lines, lines_fit}
+use Rattle.xr_cert.proofs.OwnLines.{along_limits, few_lines, lines_fit}
 use Rattle.xr_cert.proofs.OwnTurns.{few_turn_lines, turn_lines_fit}
 use Rattle.xr_cert.proofs.TurnCounts.{turned_long}
 
@@ -91,7 +91,7 @@ pub own_text_stands : OwnTextStands
 own_text_stands form start c conditions none goes wave are =
     let fits : Fits (job start) = subst Fits (along_job goes) wave.fits.fits_job in
     let most : (job start).moments * (job start).rounds ≤ 2 ^ 32 = few_steps start.stim in
-    let limited : IsLimit start.limit = subst IsLimit (along_limit goes) wave.limited in
+    let limited : AreLimits start.limits = subst AreLimits (along_limits goes) wave.limited in
     let rounds = c.stim.few_rounds in
     let moments = c.stim.few_moments in
     let nets = wave.fits.fits_job.few_nets in

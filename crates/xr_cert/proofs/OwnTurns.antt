@@ -101,7 +101,7 @@ turn_lines_fit c root view is =
     stated_fit view.boundary view.turns
     (subst (AllByRecursion FitsPlace) (sym is.boundary)
     (boundary_fits j fits (few_steps c.stim) (certain c.written) root is.has.within))
-    (turns_fit j fits (certain c.written) root is.has.within is.has.free (settled_bit c root) c.limit
+    (turns_fit j fits (certain c.written) root is.has.within is.has.free (settled_bit c root) c.limits.conflicts
     (first_kept b) (first_due b)
     view.turns is.wave.limited.some is.turns)
 

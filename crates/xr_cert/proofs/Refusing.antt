@@ -51,16 +51,18 @@ pub sources_long : (c : Contents) (nodes : List Node) → IsNextCone c nodes
 sources_long c nodes cone =
     ap length (sources_law c (next_number c) nodes cone) ∙ length-map (sources_in c (next_number c)) (place_at (job c))
 
--- More than 12 sources aren't enumerated,
-pub many_refuse : (c : Contents) (nodes : List Node) (bit : Bool) → IsNextCone c nodes → 12 < length (sources_of nodes)
+-- More sources than the limit aren't enumerated,
+pub many_refuse : (c : Contents) (nodes : List Node) (bit : Bool) → IsNextCone c nodes
+    → c.limits.enumerated < length (sources_of nodes)
     → AcceptsLine c (next_line c (Enumerated bit)) → ⊥
 many_refuse c nodes bit cone many accepts =
     let few = accepts.line_holds.holds.few in
     let long = sources_long c nodes cone in
     absurd (omega (arith, few, long, many))
 
--- and at most 12 don't leave a place undecided.
-pub few_refuse : (c : Contents) (nodes : List Node) (log : List (List ℤ)) → IsNextCone c nodes → length (sources_of nodes) ≤ 12
+-- and no more don't leave a place undecided.
+pub few_refuse : (c : Contents) (nodes : List Node) (log : List (List ℤ)) → IsNextCone c nodes
+    → length (sources_of nodes) ≤ c.limits.enumerated
     → AcceptsLine c (next_line c (Undecided log)) → ⊥
 few_refuse c nodes log cone few accepts =
     let many = accepts.line_holds.holds.many in
@@ -68,15 +70,15 @@ few_refuse c nodes log cone few accepts =
     absurd (omega (arith, few, long, many))
 
 -- Whatever gives the bit of the next place gives it under the empty filling.
-enumerated_settles : (c : Contents) (bit : Bool) → IsWave c → HasNext c → IsEnumerated (job c) c.written (next_number c) bit
+enumerated_settles : (c : Contents) (bit : Bool) → IsWave c → HasNext c → IsEnumerated (job c) c.limits c.written (next_number c) bit
     → Settles (job c) c.written (next_number c) bit
 enumerated_settles c bit wave next holds =
-    body_gives (job c) c.limit wave.fits.fits_job (shown_in c) c.written c.lines wave.holds.sound (next_number c) (omega arith) next c.limit
+    body_gives (job c) c.limits wave.fits.fits_job (shown_in c) c.written c.lines wave.holds.sound (next_number c) (omega arith) next c.limits
     (Enumerated bit) holds
 
 -- Every filling gives another bit,
 pub other_refuses : (c : Contents) (bit other : Bool) → IsWave c → HasNext c → other ≢ bit
-    → IsEnumerated (job c) c.written (next_number c) other → AcceptsLine c (next_line c (Enumerated bit)) → ⊥
+    → IsEnumerated (job c) c.limits c.written (next_number c) other → AcceptsLine c (next_line c (Enumerated bit)) → ⊥
 other_refuses c bit other wave next differ holds accepts =
     let first = enumerated_settles c other wave next holds [] (empty_filling (job c)) in
     let second = enumerated_settles c bit wave next accepts.line_holds.holds [] (empty_filling (job c)) in
@@ -157,7 +159,7 @@ one_unfilled c zero one none accepts = none accepts.line_holds.holds.one_filling
 
 -- A log that isn't fresh for the query isn't for any other list of its clauses.
 pub stale_refuses : (c : Contents) (nodes : List Node) (cnf : Cnf) (log : List (List ℤ)) → IsNextCone c nodes
-    → IsQueryOfNodes nodes cnf → (AreFresh cnf.clauses log × (length log ≡ c.limit) → ⊥)
+    → IsQueryOfNodes nodes cnf → (AreFresh cnf.clauses log × (length log ≡ c.limits.conflicts) → ⊥)
     → AcceptsLine c (next_line c (Undecided log)) → ⊥
 stale_refuses c nodes cnf log cone query not accepts =
     let holds = accepts.line_holds.holds in
@@ -227,7 +229,7 @@ pub enumeration_made : (c : Contents) (token : SettledToken) (bit : Bool) → Li
 enumeration_made c token bit holds is same = enumerated_made c token bit holds (how_is token.how bit is same)
 
 enumeration_holds : (c : Contents) (how : How) → IsEnumeration how → HoldsNext c (body_of how)
-    → IsEnumerated (job c) c.written (next_number c) (bit_of how)
+    → IsEnumerated (job c) c.limits c.written (next_number c) (bit_of how)
 enumeration_holds c (HowEnumerated b) is holds = holds
 enumeration_holds c (HowRefuted b log) is holds = absurd is
 

@@ -67,18 +67,18 @@ up_to form start done c views is = record {
 
 -- Conditions stay as a wave grows.
 pub conditions_still : (c d : Contents) (places : List Place) (views : List ConditionView) → IsGrown c d
-    → d.limit ≡ c.limit
+    → d.limits ≡ c.limits
     → IsWave d → AreConditionsOf c places views → AreConditionsOf d places views
-conditions_still c d [] [] grown limit wave are = tt
-conditions_still c d [] (v ∷ views) grown limit wave are = absurd are
-conditions_still c d (p ∷ places) [] grown limit wave are = absurd are
-conditions_still c d (p ∷ places) (v ∷ views) grown limit wave are = (
+conditions_still c d [] [] grown limits wave are = tt
+conditions_still c d [] (v ∷ views) grown limits wave are = absurd are
+conditions_still c d (p ∷ places) [] grown limits wave are = absurd are
+conditions_still c d (p ∷ places) (v ∷ views) grown limits wave are = (
   record {
     is = subst (λ (j : Job). IsConditionOf d (number_of j p) v) (sym grown.same)
-        (conditions_stay c d (number_of (job c) p) v grown limit wave are.0.is);
+        (conditions_stay c d (number_of (job c) p) v grown limits wave are.0.is);
     none_due = are.0.none_due;
   },
-  conditions_still c d places views grown limit wave are.1,
+  conditions_still c d places views grown limits wave are.1,
 )
 
 grown_on : (a b : Contents) → GoesOn a b → IsGrown a b
@@ -96,16 +96,16 @@ pub lines_on : {a b : Contents} → GoesOn a b → b.lines ≡ a.lines
 lines_on stays = refl
 lines_on (more goes plain agrees) = lines_on goes
 
-limit_on : {a b : Contents} → GoesOn a b → b.limit ≡ a.limit
-limit_on stays = refl
-limit_on (more goes plain agrees) = limit_on goes
+limits_on : {a b : Contents} → GoesOn a b → b.limits ≡ a.limits
+limits_on stays = refl
+limits_on (more goes plain agrees) = limits_on goes
 
 conditions_on : (form : Form) (a b : Contents) (views : List ConditionView) → GoesOn a b → IsWave b
     → AreConditionsFor form a views → AreConditionsFor form b views
 conditions_on Lines a b views goes wave are = are
 conditions_on Turns a b views goes wave are =
     subst (λ ls. AreConditionsOf b (settled_places ls) views) (sym (lines_on goes))
-    (conditions_still a b (settled_places a.lines) views (grown_on a b goes) (limit_on goes) wave are)
+    (conditions_still a b (settled_places a.lines) views (grown_on a b goes) (limits_on goes) wave are)
 
 -- It goes on by places whose class says what they are,
 pub goes_between : (form : Form) (start : Contents) (done : List Entry) (a b : Contents) (views : List ConditionView)
@@ -317,8 +317,8 @@ done_between form start done c views finished is =
       conditions_are = is.conditions_are;
       finished = finished;
       wave = is.wave;
-      one = one_law j c.limit (shown_in c) c.written c.lines is.wave.fits.fits_job is.wave.holds.sound;
-      alike = alike_law j c.limit (shown_in c) c.written c.lines is.wave.fits.fits_job is.wave.holds.sound;
+      one = one_law j c.limits (shown_in c) c.written c.lines is.wave.fits.fits_job is.wave.holds.sound;
+      alike = alike_law j c.limits (shown_in c) c.written c.lines is.wave.fits.fits_job is.wave.holds.sound;
     }
 
 -- A place is left, and no line.

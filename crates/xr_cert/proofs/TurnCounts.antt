@@ -235,16 +235,16 @@ turned_long (t ∷ ts) = ap suc (turned_long ts)
 pub none_lacks : (after : Contents) (v : List Written) (root : ℕ) (stated : List TurnLine)
     (rest entries behind : List Entry)
     → Fits (job after) → root < places_of (job after) → AgreeBelow (certain v) (certain after.written) (root + 1)
-    → LacksTurn after root stated rest → AreTurnLines (job after) after.limit v root (turns_in_front entries)
+    → LacksTurn after root stated rest → AreTurnLines (job after) after.limits.conflicts v root (turns_in_front entries)
     → length stated < length (turns_in_front entries) → turned_lines stated ++ rest ≡ entries ++ behind → ⊥
 none_lacks after v root stated rest entries behind fits within agree lacks are less is =
     lacks.stops some.0 (one.0 ++ (p.behind ++ behind))
     (on.rest_is ∙ ap (λ es. es ++ (p.behind ++ behind)) one.1)
-    (turn_lines_there (job after) fits v after.written (root + 1) (omega (arith, within)) agree after.limit root
+    (turn_lines_there (job after) fits v after.written (root + 1) (omega (arith, within)) agree after.limits.conflicts root
     (stated ++ some.0 ∷ [])
     (omega arith)
-    (first_turn_lines (job after) after.limit v root (stated ++ some.0 ∷ []) some.1
-    (subst (AreTurnLines (job after) after.limit v root)
+    (first_turn_lines (job after) after.limits.conflicts v root (stated ++ some.0 ∷ []) some.1
+    (subst (AreTurnLines (job after) after.limits.conflicts v root)
     (front ∙ (ap (λ ts. stated ++ ts) some.2 ∙ sym (append_assoc stated (some.0 ∷ []) some.1))) are)))
   where
     p : Parted entries

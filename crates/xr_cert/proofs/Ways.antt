@@ -153,7 +153,7 @@ one_way a b c r s (by_line {c = d} goes l next accepts agrees) second is =
 pub record GrowsAlong (b c : Contents) : Type 0 where
   pub agree : AgreeBelow (certain b.written) (certain c.written) (length b.written)
   pub longer : length b.written ≤ length c.written
-  pub limit : c.limit ≡ b.limit
+  pub limits : c.limits ≡ b.limits
 
 grows_more : (b c : Contents) (w : Written) (lines : List ALine) → GrowsAlong b c
     → GrowsAlong b (record c { written = c.written ++ w ∷ []; lines = lines })
@@ -163,11 +163,11 @@ grows_more b c w lines before =
     record {
       agree = λ k less. before.agree k less ∙ certain_grown c.written w k (omega (arith, less, up));
       longer = omega (arith, up, long);
-      limit = before.limit;
+      limits = before.limits;
     }
 
 pub grows_along : {b c : Contents} → GoesAlong b c → GrowsAlong b c
-grows_along walk.stays = record { agree = λ k less. refl; longer = omega arith; limit = refl }
+grows_along walk.stays = record { agree = λ k less. refl; longer = omega arith; limits = refl }
 grows_along {b} (by_class {c = d} goes plain agrees) = grows_more b d (plain_written d) d.lines (grows_along goes)
 grows_along {b} (by_line {c = d} goes l next accepts agrees) =
     grows_more b d (written_by_line d l) (d.lines ++ l ∷ []) (grows_along goes)
@@ -199,7 +199,7 @@ pub up_long : (form : Form) (start : Contents) (done : List Entry) (c : Contents
     → IsUpTo form start done c
     → length done ≡ span_of form (job c) c.written c.lines
 up_long form start done c none up =
-    let long = each_long form (job c) c.limit c.written done up.turned.each in
+    let long = each_long form (job c) c.limits.conflicts c.written done up.turned.each in
     let front = ap length up.turned.none_in_front in
     let same = ap (span_of form (job c) c.written) (up_lines form start done c none up) in
     omega (arith, long, front, same)
@@ -252,15 +252,15 @@ ahead form start b c done dun rest rust none up_b up_c goes parted = record {
         ∙ (lines_append done on.extra ∙ ap (λ ls. ls ++ lines_in on.extra) (sym (up_lines form start done b none
         up_b))))
 
-    each : EachHasTurns form (job c) c.limit c.written on.extra
-    each = each_behind_all form (job c) c.limit c.written done on.extra
-        (subst (EachHasTurns form (job c) c.limit c.written) on.longer_is up_c.turned.each)
+    each : EachHasTurns form (job c) c.limits.conflicts c.written on.extra
+    each = each_behind_all form (job c) c.limits.conflicts c.written done on.extra
+        (subst (EachHasTurns form (job c) c.limits.conflicts c.written) on.longer_is up_c.turned.each)
 
     front : turns_in_front on.extra ≡ []
     front =
         let long_b = up_long form start done b none up_b in
         let long_dun = ap length on.longer_is ∙ length-append done on.extra in
-        let long_extra = each_long form (job c) c.limit c.written on.extra each in
+        let long_extra = each_long form (job c) c.limits.conflicts c.written on.extra each in
         let span_extra = spans (lines_in on.extra) in
         let sum = ap (span_of form j c.written) lines ∙ span_append form j c.written b.lines (lines_in on.extra) in
         nil_from_length (turns_in_front on.extra) (omega (

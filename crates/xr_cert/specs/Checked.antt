@@ -40,14 +40,14 @@ IsReadRefusal text (Unread fault) = IsSyntax text fault
 IsReadRefusal text Memory = Unit {0}
 
 -- The numbers of the second line are those of the run.
-pub record AreNumbers (design : Design) (stim : Stim) (limit : ℕ) (head : Head) : Type 0 where
+pub record AreNumbers (design : Design) (stim : Stim) (conflicts : ℕ) (head : Head) : Type 0 where
   pub rounds : head.rounds ≡ stim.rounds
-  pub conflicts : head.conflicts ≡ limit
+  pub log_length : head.conflicts ≡ conflicts
   pub moments : head.moments ≡ length stim.times
   pub nets : head.nets ≡ length design.nets
 
 abbrev pub HasNumbers : Contents → Head → Type 0
-HasNumbers start head = AreNumbers start.design start.stim start.limit head
+HasNumbers start head = AreNumbers start.design start.stim start.limits.conflicts head
 
 -- A certificate is checked: its numbers are those of the run, a finished wave went on by its lines of Line places,
 -- which are the wave's, behind each of these stand its turns, which the conditions keep, and these are those of its
@@ -76,8 +76,8 @@ pub data IsRefusalOf (start : Contents) (cert : Cert) : CheckErr → Type 0 wher
 pub record IsAccepted (start : Contents) (cert : Cert) (waveform : List Written) : Type 0 where
   pub numbers : HasNumbers start cert.head
   pub long : length waveform ≡ places_of (job start)
-  pub yields : Yields (job start) start.limit (shown_in start) waveform (lines_in cert.entries)
+  pub yields : Yields (job start) start.limits (shown_in start) waveform (lines_in cert.entries)
   pub honest : IsHonest (shown_in start) waveform
   pub logs : (place : ℕ) (body : Body) → place < length waveform
       → body_at (job start) (lines_in cert.entries) place ≡ Some body → BodyFitsAt start waveform place body
-  pub turned : AreTurned cert.form (job start) start.limit waveform cert.entries
+  pub turned : AreTurned cert.form (job start) start.limits.conflicts waveform cert.entries

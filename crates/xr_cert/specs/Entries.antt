@@ -49,7 +49,7 @@ pub record AreTurned (form : Form) (j : Job) (limit : ℕ) (waveform : List Writ
   pub each : EachHasTurns form j limit waveform entries
 
 abbrev pub AreTurnedIn : Form → Contents → List Entry → Type 0
-AreTurnedIn form c entries = AreTurned form (job c) c.limit c.written entries
+AreTurnedIn form c entries = AreTurned form (job c) c.limits.conflicts c.written entries
 
 -- The conditions that a certificate of a form goes with: those of the certain Line places in form 2, none in form 1.
 abbrev pub AreConditionsFor : Form → Contents → List ConditionView → Type 0

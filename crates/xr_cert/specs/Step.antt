@@ -28,7 +28,7 @@ cert_in form c conditions = record {
   form = form;
   head = record {
     rounds = c.stim.rounds;
-    conflicts = c.limit;
+    conflicts = c.limits.conflicts;
     moments = length c.stim.times;
     nets = length c.design.nets;
   };

@@ -13,14 +13,11 @@ use crate::refusal::{CertFault, CheckErr};
 use crate::spend::{spend_budget, spend_pair, spend_settled};
 use std::alloc::Global;
 use xr_design::Filling;
-use xr_enum::{Decided, decide};
+use xr_enum::{Decided, decide, has_few_sources};
 use xr_model::Body;
 use xr_proof::Log;
 use xr_turns::Cone;
 use xr_wave::{Settled, Wave};
-
-/// Up to this many sources, every filling of them is tried.
-const ENUMERATED: usize = 12;
 
 /// Checks a body at the next place, and writes that by it. `line` is the number of its line.
 pub fn spend_body<'a>(
@@ -43,7 +40,7 @@ pub fn spend_body<'a>(
     }
 }
 
-/// Every filling of at most 12 sources gives the bit.
+/// Every filling of few sources gives the bit.
 fn spend_enumerated<'a>(
     alloc: Global,
     wave: Wave<'a>,
@@ -56,7 +53,7 @@ fn spend_enumerated<'a>(
     ensures ok { IfOk result (IsSpentBy wave.entry (body.Enumerated bit)) }
     ensures err { IfErr result (BodyStops wave.entry line (body.Enumerated bit)) }
 {
-    if cone.sources().len() > ENUMERATED {
+    if !has_few_sources(&wave, cone) {
         return Err(CheckErr::Refused(CertFault::BadEnum { line }));
     }
     match decide(alloc, &wave, cone) {
@@ -132,7 +129,7 @@ fn spend_fillings<'a>(
     }
 }
 
-/// There are more than 12 sources, and the log is fresh for the query and as long as the limit.
+/// There are more sources than are enumerated, and the log is fresh for the query and as long as the limits say.
 fn spend_undecided<'a>(
     alloc: Global,
     wave: Wave<'a>,

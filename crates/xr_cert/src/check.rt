@@ -5,7 +5,7 @@ ghost use Rattle.xr_design.specs.declared.waveform.Written.{Written};
 ghost use Rattle.xr_design.specs.Circuit.{PartsFit};
 ghost use Rattle.xr_design.specs.Handed.{IsHandedIn};
 ghost use Rattle.xr_design.specs.Job.{job_of};
-ghost use Rattle.xr_wave.specs.Contents.{IsLimit, nothing_written};
+ghost use Rattle.xr_wave.specs.Contents.{AreLimits, nothing_written};
 ghost use Rattle.xr_cert.specs.declared.refusal.CheckErr.TheVariants.{Memory as OutOfMemory};
 ghost use Rattle.xr_cert.specs.Checked.{AreNumbers, IsAccepted, IsChecked, IsRefusalOf};
 
@@ -15,6 +15,7 @@ use std::alloc::Global;
 use xr_base::Items;
 use xr_cert_text::{Cert, Head};
 use xr_design::{Design, History, Order, Stim};
+use xr_model::Limits;
 use xr_turns::Condition;
 use xr_wave::Wave;
 
@@ -27,7 +28,7 @@ pub struct Checked<'a> {
 }
 
 /// A finished wave whose lines are those of the certificate, with the conditions that its turns make; or why there is
-/// none, its first fault. `limit` is how many clauses the log of an undecided place has. Takes the memory of the
+/// none, its first fault. `limits` say how places were decided. Takes the memory of the
 /// wave, of the lines and of the conditions, and that of one check of a log at a time.
 pub fn check_cert<'a>(
     alloc: Global,
@@ -36,22 +37,22 @@ pub fn check_cert<'a>(
     order: &'a Order,
     stim: &'a Stim,
     replayed: &'a History,
-    limit: u32,
+    limits: Limits,
 ) -> Result<Checked<'a>, CheckErr>
     requires fits { PartsFit design.now order.now stim.now }
     requires handed { IsHandedIn (job_of design.now order.now stim.now) replayed.now }
-    requires limit { IsLimit limit }
-    ensures checked { let start = nothing_written design.now order.now stim.now replayed.now limit in
+    requires limits { AreLimits limits }
+    ensures checked { let start = nothing_written design.now order.now stim.now replayed.now limits in
         IfOk result (λ checked. IsChecked start cert checked.wave checked.conditions) }
-    ensures refused { let start = nothing_written design.now order.now stim.now replayed.now limit in
+    ensures refused { let start = nothing_written design.now order.now stim.now replayed.now limits in
         IfErr result (IsRefusalOf start cert) }
-    ensures accepted { let start = nothing_written design.now order.now stim.now replayed.now limit in
+    ensures accepted { let start = nothing_written design.now order.now stim.now replayed.now limits in
         (waveform : List Written) → IsAccepted start cert waveform
         → MatchResult result (λ checked. checked.wave.written ≡ waveform) (λ e. e ≡ OutOfMemory) }
-    ensures only { let start = nothing_written design.now order.now stim.now replayed.now limit in
+    ensures only { let start = nothing_written design.now order.now stim.now replayed.now limits in
         IfOk result (λ checked. IsAccepted start cert checked.wave.written) }
 {
-    checked_wave(alloc, cert, design, order, stim, replayed, limit)
+    checked_wave(alloc, cert, design, order, stim, replayed, limits)
 }
 
 /// The same without the last two clauses, which follow from the others.
@@ -62,14 +63,14 @@ fn checked_wave<'a>(
     order: &'a Order,
     stim: &'a Stim,
     replayed: &'a History,
-    limit: u32,
+    limits: Limits,
 ) -> Result<Checked<'a>, CheckErr>
     requires fits { PartsFit design.now order.now stim.now }
     requires handed { IsHandedIn (job_of design.now order.now stim.now) replayed.now }
-    requires limit { IsLimit limit }
-    ensures checked { let start = nothing_written design.now order.now stim.now replayed.now limit in
+    requires limits { AreLimits limits }
+    ensures checked { let start = nothing_written design.now order.now stim.now replayed.now limits in
         IfOk result (λ checked. IsChecked start cert checked.wave checked.conditions) }
-    ensures refused { let start = nothing_written design.now order.now stim.now replayed.now limit in
+    ensures refused { let start = nothing_written design.now order.now stim.now replayed.now limits in
         IfErr result (IsRefusalOf start cert) }
 {
     let Cert {
@@ -77,21 +78,21 @@ fn checked_wave<'a>(
         head,
         entries,
     } = cert;
-    if !has_numbers(design, stim, limit, head) {
+    if !has_numbers(design, stim, limits.conflicts, head) {
         return Err(CheckErr::Refused(CertFault::Header { line: 2 }));
     }
-    match Wave::new(alloc, design, order, stim, replayed, limit) {
+    match Wave::new(alloc, design, order, stim, replayed, limits) {
         Ok(wave) => walk(alloc, form, wave, entries.into_vec()),
         Err(_) => Err(CheckErr::Memory),
     }
 }
 
 /// Whether the numbers of a certificate's second line are those of the run.
-fn has_numbers(design: &Design, stim: &Stim, limit: u32, head: Head) -> bool
-    ensures { IsTrue result ↔ AreNumbers design.now stim.now limit head }
+fn has_numbers(design: &Design, stim: &Stim, conflicts: u32, head: Head) -> bool
+    ensures { IsTrue result ↔ AreNumbers design.now stim.now conflicts head }
 {
     head.rounds == stim.rounds
-        && head.conflicts == limit
+        && head.conflicts == conflicts
         && head.moments as usize == stim.times.as_slice().len()
         && head.nets as usize == design.nets.as_slice().len()
 }

@@ -12,13 +12,11 @@ ghost use Rattle.xr_cert.specs.Step.{IsTokenOf, Refuses};
 use std::alloc::Global;
 use xr_base::Memory;
 use xr_cnf::{clauses, conclude, give_up};
+use xr_enum::has_few_sources;
 use xr_proof::{Cnf, Log};
 use xr_turns::Cone;
 use xr_turns::logs::{checker_for, fits};
 use xr_wave::{Budget, Settled, Wave};
-
-/// A place isn't undecided with up to this many sources.
-const ENUMERATED: usize = 12;
 
 /// The token of a log that refutes the query of the next place, which denies the bit, where that body is accepted.
 pub fn refuted_token(
@@ -85,7 +83,7 @@ pub fn exhausted_token(
     ensures token { IfOk result (λ found. IfSome found (λ t. IsTokenOf wave.now (body.Undecided log) (budget_line t))) }
     ensures none { IfOk result (λ found. IfNone found (Refuses wave.now (body.Undecided log))) }
 {
-    if cone.sources().len() <= ENUMERATED {
+    if has_few_sources(wave, cone) {
         return Ok(None);
     }
     let query = clauses(alloc, cone)?;
@@ -96,7 +94,7 @@ pub fn exhausted_token(
     }
 }
 
-/// The same where there are more than 12 sources, and the log names the query's variables alone.
+/// The same where there are more sources than are enumerated, and the log names the query's variables alone.
 fn fresh_token(
     alloc: Global,
     wave: &Wave<'_>,
@@ -105,7 +103,7 @@ fn fresh_token(
     log: Log,
 ) -> Result<Option<Budget>, Memory>
     requires cone { IsNextCone wave.now cone.now.nodes }
-    requires many { 12 < length (sources_of cone.now.nodes) }
+    requires many { wave.now.limits.enumerated < length (sources_of cone.now.nodes) }
     requires query { IsQueryOfNodes cone.now.nodes query.now }
     requires few { query.now.vars ≤ 2 ^ 27 }
     requires fit { Fit query.now.vars log }
@@ -113,7 +111,7 @@ fn fresh_token(
     ensures none { IfOk result (λ found. IfNone found (Refuses wave.now (body.Undecided log))) }
 {
     let mut checker = checker_for(alloc, query, &log)?;
-    match checker.check_fresh(query, log, wave.limit()) {
+    match checker.check_fresh(query, log, wave.limits().conflicts) {
         Ok(proof) => Ok(Some(give_up(wave, cone, proof))),
         Err(_) => Ok(None),
     }

@@ -19,11 +19,11 @@ pub enum CertFault {
     Missing { place: Place },
     /// Any other line that doesn't name the place that is due.
     Stray { line: usize },
-    /// The log doesn't hold, or names a variable that the query hasn't, or the place has at most 12 sources.
+    /// The log doesn't hold, or names a variable that the query hasn't, or all fillings of the place's sources are tried.
     BadLog { line: usize },
     /// The fillings are none, or don't give 0 and 1.
     BadPair { line: usize },
-    /// The place has more than 12 sources, or some filling gives the other bit.
+    /// The place has more sources than are enumerated, or some filling gives the other bit.
     BadEnum { line: usize },
     /// A turn is due, and this line isn't the turn line of its place, or what it says doesn't hold; or it is the last
     /// one.

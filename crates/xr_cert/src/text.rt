@@ -31,7 +31,7 @@ pub fn write_cert(
     let circuit = wave.circuit();
     let head = Head {
         rounds: circuit.stim.rounds,
-        conflicts: wave.limit(),
+        conflicts: wave.limits().conflicts,
         moments: circuit.stim.times.as_slice().len() as u32,
         nets: width_of(&circuit) as u32,
     };

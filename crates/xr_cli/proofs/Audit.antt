@@ -19,12 +19,13 @@ use Rattle.xr_set.proofs.Lawful.{IsLawful}
 use Rattle.xr_shelf.specs.Shelf.{Files}
 use Rattle.xr_words.proofs.OneJob.{one_count, one_job}
 use Rattle.xr_words.specs.Words.{job_reads}
+use Rattle.xr_cli.proofs.OneLimits.{one_limits}
 
 one_audit : (option : Text → Option Text) (a b : AuditValues) → GivesAudit option a → GivesAudit option b → a.job.netlists ≡ b.job.netlists → a ≡ b
 one_audit option a b first second netlists =
     let job = one_job option a.job b.job first.job second.job netlists in
-    let conflicts = one_count (option (codes "conflicts")) 1000 100000 a.conflicts b.conflicts first.conflicts second.conflicts in
-    λ i. record { job = job i; conflicts = conflicts i }
+    let limits = one_limits option a.limits b.limits first.limits second.limits in
+    λ i. record { job = job i; limits = limits i }
 
 -- ---- what it finds
 

@@ -13,6 +13,7 @@ use Rattle.xr_job.specs.Compared.{job_for}
 use Rattle.xr_job.specs.declared.netlist.Netlist.{Netlist as ANetlist}
 use Rattle.xr_job.specs.declared.recorded.Recorded.{Recorded}
 use Rattle.xr_model.specs.Sound.{IsOptimistic}
+use Rattle.xr_model.specs.declared.limits.Limits.{Limits}
 use Rattle.xr_phases.proofs.AgreeingObjections.{objections_object}
 use Rattle.xr_run.specs.Prepared.{IsJudgedBy, PreparedAlone, answer_of}
 use Rattle.xr_run.specs.Phases.{Answer}
@@ -35,18 +36,18 @@ unknown_stands Certain value shown is objects = subst IsKnown is objects.0
 unknown_stands Unknown value shown is objects = subst IsKnown is objects
 unknown_stands Undecided value shown is objects = objects
 
-module _ (conflicts : ℕ) (n : ANetlist) (r : Recorded) (blank : HistoryView) (is : IsBlank (job_for n r) blank) where
-  none_objects : (o : Objection) → IsObjectionBy conflicts n r.stim blank o → ⊥
+module _ (limits : Limits) (n : ANetlist) (r : Recorded) (blank : HistoryView) (is : IsBlank (job_for n r) blank) where
+  none_objects : (o : Objection) → IsObjectionBy limits n r.stim blank o → ⊥
   none_objects o by =
-      let start = nothing_written n.design n.order r.stim blank conflicts in
+      let start = nothing_written n.design n.order r.stim blank limits in
       let objects = objections_object start by.otherwise by.objects in
       unknown_stands by.objects.written.mark by.objects.written.value _
       (ap (λ (h : Held). h.shown) (is.held (length by.objects.before.written) objects.said.within)) objects.optimistic
 
   -- So a walk over a blank history is refused for no text.
   pub blank_refused : {X : Type 0} (result : Result X (Refusal Refused))
-      → IfErr result (IsJudgedBy (WaveComes conflicts n r.stim blank) walk_cause)
-      → IfErr result (IsJudgedBy (AuditComes conflicts n r) no_cause)
+      → IfErr result (IsJudgedBy (WaveComes limits n r.stim blank) walk_cause)
+      → IfErr result (IsJudgedBy (AuditComes limits n r) no_cause)
   blank_refused (Ok x) refused = refused
   blank_refused (Err (Read file)) refused = refused
   blank_refused (Err (Long cause)) refused = refused
@@ -54,17 +55,17 @@ module _ (conflicts : ℕ) (n : ANetlist) (r : Recorded) (blank : HistoryView) (
   blank_refused (Err Memory) refused = refused
 
   -- The wave over it is one of the job with what it wrote.
-  pub wave_same : (wave : Contents) → IsRepairedBy conflicts n r.stim blank wave
-      → wave ≡ wave_of n r blank conflicts wave.written wave.lines
+  pub wave_same : (wave : Contents) → IsRepairedBy limits n r.stim blank wave
+      → wave ≡ wave_of n r blank limits wave.written wave.lines
   wave_same wave repaired =
       let a = repaired.of_job.design in
       let b = repaired.of_job.order in
       let d = repaired.of_job.stim in
       let e = repaired.of_job.history in
-      let f = repaired.of_job.limit in
+      let f = repaired.of_job.limits in
       rw (← a, ← b, ← d, ← e, ← f) refl
 
-  pub is_audit : (wave : Contents) (replay : HistoryView) → IsRepairedBy conflicts n r.stim blank wave
+  pub is_audit : (wave : Contents) (replay : HistoryView) → IsRepairedBy limits n r.stim blank wave
       → IsReplay (job_for n r) replay → IsAudit wave replay
   is_audit wave replay repaired is_replay =
       let same = wave_same wave repaired in
@@ -76,17 +77,17 @@ module _ (conflicts : ℕ) (n : ANetlist) (r : Recorded) (blank : HistoryView) (
 
 -- An audit that is printed.
 pub audit_found : (w : AuditValues) (n : ANetlist) (r : Recorded) (ready : Ready)
-    → ListsAudit w.conflicts n r (answer_of ready) → PreparedAlone (walk_audited w (parts n r)) answer_of (Ok ready)
+    → ListsAudit w.limits n r (answer_of ready) → PreparedAlone (walk_audited w (parts n r)) answer_of (Ok ready)
 audit_found w n r ready lists = λ told v.
-    searched_prepared told (AuditComes w.conflicts n r) no_cause answer_of v (Ok ready) record { found = lists; refused = tt }
+    searched_prepared told (AuditComes w.limits n r) no_cause answer_of v (Ok ready) record { found = lists; refused = tt }
 
 -- What it promises.
 pub audits : (w : AuditValues) (netlist recording : List ℕ) (answer : Answer) (n : ANetlist) (r : Recorded)
-    → IsJob w.job netlist recording n r → IsAgreed (parts n r) → ListsAudit w.conflicts n r answer
+    → IsJob w.job netlist recording n r → IsAgreed (parts n r) → ListsAudit w.limits n r answer
     → Audits w netlist recording answer
 audits w netlist recording answer n r job_is agreed lists =
     let wave = lists.wave in
-    let same = wave_same w.conflicts n r lists.blank lists.is_blank wave lists.repaired in
+    let same = wave_same w.limits n r lists.blank lists.is_blank wave lists.repaired in
     record {
       n = n;
       r = r;

@@ -22,12 +22,13 @@ use Rattle.xr_wave.specs.Contents.{Contents}
 use Rattle.xr_words.proofs.OneJob.{one_count, one_job}
 use Rattle.xr_words.specs.Words.{job_reads}
 use Rattle.xr_cli.proofs.Headlines as headlines
+use Rattle.xr_cli.proofs.OneLimits.{one_limits}
 
 one_blame : (option : Text → Option Text) (a b : BlameValues) → GivesBlame option a → GivesBlame option b → a.job.netlists ≡ b.job.netlists → a ≡ b
 one_blame option a b first second netlists =
     let job = one_job option a.job b.job first.job second.job netlists in
-    let conflicts = one_count (option (codes "conflicts")) 1000 100000 a.conflicts b.conflicts first.conflicts second.conflicts in
-    λ i. record { job = job i; conflicts = conflicts i }
+    let limits = one_limits option a.limits b.limits first.limits second.limits in
+    λ i. record { job = job i; limits = limits i }
 
 -- ---- what it finds
 
@@ -57,11 +58,11 @@ module _ (told : Bool) (files : Files) (t : IsTrue told) where
 -- ---- what it refuses
 
 blame_fails : (told : Bool) (files : Files) (job : Parts) (w : BlameValues) (cause : Refused) → ComesTo told files (compared_then (walk_blamed w) job) (Err cause)
-    → RepairFails w.conflicts job cause
+    → RepairFails w.limits job cause
 blame_fails told files job w cause (inl (e, refused, is)) =
-    subst (RepairFails w.conflicts job) (sym (err_same {B = Answer} cause (Compare e) is)) (RepairFails.disagrees refused)
+    subst (RepairFails w.limits job) (sym (err_same {B = Answer} cause (Compare e) is)) (RepairFails.disagrees refused)
 blame_fails told files job w cause (inr (agreed, faultless, inl (o, refused, is))) =
-    subst (RepairFails w.conflicts job) (sym (err_same {B = Answer} cause (Optimistic o) is)) (RepairFails.objected record { faultless = faultless; objects = refused })
+    subst (RepairFails w.limits job) (sym (err_same {B = Answer} cause (Optimistic o) is)) (RepairFails.objected record { faultless = faultless; objects = refused })
 blame_fails told files job w cause (inr (agreed, faultless, inr (found, is, inl (none, never, same)))) = absurd never
 blame_fails told files job w cause (inr (agreed, faultless, inr (found, is, inr (answer, lists, same)))) = absurd (ok_err answer cause (sym same))
 
@@ -85,9 +86,9 @@ lawful_blame = record {
         ),
       ));
   says = λ told rest files w answer t line comes. blame_says told files t w answer (job_found told files t w.job (compared_then (walk_blamed w)) answer comes);
-  fails = λ told files w cause t comes. as_repair w.job w.conflicts files cause
-      (refused_by told files t w.job (compared_then (walk_blamed w)) (RepairFails w.conflicts) cause (λ n r. blame_fails told files (parts n r) w cause) comes);
-  unrefused = λ told files w t is. (let objected = not_objected w.job w.conflicts (netlist_held files w.job) (recording_held files w.job) is in
+  fails = λ told files w cause t comes. as_repair w.job w.limits files cause
+      (refused_by told files t w.job (compared_then (walk_blamed w)) (RepairFails w.limits) cause (λ n r. blame_fails told files (parts n r) w cause) comes);
+  unrefused = λ told files w t is. (let objected = not_objected w.job w.limits (netlist_held files w.job) (recording_held files w.job) is in
       never_refused told files (blame_phases w) t (blame_exact w) (job_passes files w.job (compared_then (walk_blamed w)) is.n is.r is.job
       (tt, is.faultless, (objected, λ found there. ((λ none never. never), λ answer lists. tt)))));
   only = λ w. job_among (job_reads w.job) w.job (itself_in (job_reads w.job)) (compared_then (walk_blamed w)) (λ job agreed found answer. tt);

@@ -15,6 +15,7 @@ use Rattle.xr_job.specs.declared.netlist.Netlist.{Netlist as ANetlist}
 use Rattle.xr_job.specs.declared.recorded.Recorded.{Recorded}
 use Rattle.xr_phases.specs.OfListing.{conditions_text}
 use Rattle.xr_model.specs.declared.line.Line.{Line as ALine}
+use Rattle.xr_model.specs.declared.limits.Limits.{Limits}
 use Rattle.xr_report.specs.Report.{report_text}
 use Rattle.xr_report.specs.declared.lines.ReportLines.{ReportLines}
 use Rattle.xr_wave.specs.Contents.{Contents, IsFinished, IsWave}
@@ -32,18 +33,18 @@ use Rattle.xr_cli.specs.Repair.{forces_in, whole_report}
 use Rattle.xr_cli.proofs.Conditioned.{conditions_of, have_conditions, same_cert, same_entries, same_lines, same_printed}
 use Rattle.xr_cli.proofs.Needing.{each_needs}
 
-module _ (conflicts : ℕ) (n : ANetlist) (r : Recorded) (cert : Cert) (wave : Contents) (conditions : List ConditionView)
-    (certified : IsCertified conflicts (parts n r) cert wave conditions) where
+module _ (limits : Limits) (n : ANetlist) (r : Recorded) (cert : Cert) (wave : Contents) (conditions : List ConditionView)
+    (certified : IsCertified limits (parts n r) cert wave conditions) where
   abbrev TheStart : Contents
-  TheStart = beginning conflicts n r wave.history
+  TheStart = beginning limits n r wave.history
 
   abbrev TheWave : Contents
-  TheWave = wave_of n r wave.history conflicts wave.written (lines_in cert.entries)
+  TheWave = wave_of n r wave.history limits wave.written (lines_in cert.entries)
 
   wave_same : wave ≡ TheWave
   wave_same =
       ap (λ (c : Contents). record c { written = wave.written; lines = wave.lines }) (begun_same certified.checked.goes)
-      ∙ ap (λ (ls : List ALine). wave_of n r wave.history conflicts wave.written ls) certified.checked.lines
+      ∙ ap (λ (ls : List ALine). wave_of n r wave.history limits wave.written ls) certified.checked.lines
 
   sound : IsWave TheWave
   sound = subst IsWave wave_same certified.checked.wave
@@ -58,10 +59,10 @@ module _ (conflicts : ℕ) (n : ANetlist) (r : Recorded) (cert : Cert) (wave : C
   conditions_there = subst (λ (c : Contents). AreConditionsFor cert.form c conditions) wave_same certified.checked.conditions_are
 
 -- The job is repaired by the lines of the certificate.
-abbrev certified_job : (w : JobValues) (conflicts : ℕ) (n : ANetlist) (r : Recorded) (cert : Cert) (wave : Contents) (conditions : List ConditionView)
-    → IsCertified conflicts (parts n r) cert wave conditions → (netlist recording : List ℕ) → IsJob w netlist recording n r → IsAgreed (parts n r)
-    → RepairedJob w conflicts netlist recording
-certified_job w conflicts n r cert wave conditions certified netlist recording job faultless = record {
+abbrev certified_job : (w : JobValues) (limits : Limits) (n : ANetlist) (r : Recorded) (cert : Cert) (wave : Contents) (conditions : List ConditionView)
+    → IsCertified limits (parts n r) cert wave conditions → (netlist recording : List ℕ) → IsJob w netlist recording n r → IsAgreed (parts n r)
+    → RepairedJob w limits netlist recording
+certified_job w limits n r cert wave conditions certified netlist recording job faultless = record {
   n = n;
   r = r;
   is = job;
@@ -69,8 +70,8 @@ certified_job w conflicts n r cert wave conditions certified netlist recording j
   agrees = record { replay = certified.replay; faultless = faultless };
   waveform = wave.written;
   lines = lines_in cert.entries;
-  whole = whole conflicts n r cert wave conditions certified;
-  holds = (sound conflicts n r cert wave conditions certified).holds;
+  whole = whole limits n r cert wave conditions certified;
+  holds = (sound limits n r cert wave conditions certified).holds;
 }
 
 -- The report with the lines of its conditions.
@@ -80,46 +81,46 @@ printed_there c r report views = ap (λ (text : List ℕ). report_text c r.bindi
 
 -- What a check promises.
 pub checks : (w : CheckValues) (n : ANetlist) (r : Recorded) (cert : Cert) (wave : Contents) (conditions : List ConditionView)
-    → IsCertified w.conflicts (parts n r) cert wave conditions → (netlist recording text : List ℕ) → IsJob w.job netlist recording n r
+    → IsCertified w.limits (parts n r) cert wave conditions → (netlist recording text : List ℕ) → IsJob w.job netlist recording n r
     → IsAgreed (parts n r) → IsTextOf text cert
     → Checks w netlist recording text (report_text wave r.binding w.lines (forces_in wave) ++ conditions_text wave conditions)
 checks w n r cert wave conditions certified netlist recording text job faultless stands =
-    let there = conditions_there w.conflicts n r cert wave conditions certified in
+    let there = conditions_there w.limits n r cert wave conditions certified in
     record {
-      job = certified_job w.job w.conflicts n r cert wave conditions certified netlist recording job faultless;
+      job = certified_job w.job w.limits n r cert wave conditions certified netlist recording job faultless;
       fits = certified.fits;
       certificate = cert;
       stands = stands;
       lines_are = refl;
-      accepted = checked_accepted (beginning w.conflicts n r wave.history) cert wave conditions refl refl certified.checked;
+      accepted = checked_accepted (beginning w.limits n r wave.history) cert wave conditions refl refl certified.checked;
       conditions = conditions_of conditions;
-      conditions_are = have_conditions cert.form (TheWave w.conflicts n r cert wave conditions certified) conditions there;
+      conditions_are = have_conditions cert.form (TheWave w.limits n r cert wave conditions certified) conditions there;
       stated = certified.checked.stated ∙ ap (λ (ls : List ALine). entries_of ls conditions) certified.checked.lines
           ∙ same_entries (lines_in cert.entries) conditions;
       events = forces_of (job_for n r) (value_in wave.written);
       are = forces_exist (job_for n r) (value_in wave.written) (fits_job n r certified.fits);
       report_is = ap (λ (c : Contents). report_text c r.binding w.lines (forces_in c) ++ conditions_text c conditions)
-          (wave_same w.conflicts n r cert wave conditions certified)
-          ∙ printed_there (TheWave w.conflicts n r cert wave conditions certified) r w.lines conditions;
-      needs = each_needs cert.form (TheWave w.conflicts n r cert wave conditions certified) conditions there;
+          (wave_same w.limits n r cert wave conditions certified)
+          ∙ printed_there (TheWave w.limits n r cert wave conditions certified) r w.lines conditions;
+      needs = each_needs cert.form (TheWave w.limits n r cert wave conditions certified) conditions there;
     }
 
 -- And an upgrade, whichever turns were found.
 upgrades_there : (w : UpgradeValues) (n : ANetlist) (r : Recorded) (cert : Cert) (wave : Contents) (conditions : List ConditionView)
-    (certified : IsCertified w.conflicts (parts n r) cert wave conditions) (found : List ConditionView)
-    → AreConditionsFor Turns (TheWave w.conflicts n r cert wave conditions certified) found → (netlist recording text : List ℕ)
+    (certified : IsCertified w.limits (parts n r) cert wave conditions) (found : List ConditionView)
+    → AreConditionsFor Turns (TheWave w.limits n r cert wave conditions certified) found → (netlist recording text : List ℕ)
     → IsJob w.job netlist recording n r → IsAgreed (parts n r) → IsTextOf text cert → cert.form ≡ Lines
-    → Upgrades w netlist recording text (cert_text (cert_in Turns (TheWave w.conflicts n r cert wave conditions certified) found))
-    (whole_report (TheWave w.conflicts n r cert wave conditions certified) r.binding w.lines found)
+    → Upgrades w netlist recording text (cert_text (cert_in Turns (TheWave w.limits n r cert wave conditions certified) found))
+    (whole_report (TheWave w.limits n r cert wave conditions certified) r.binding w.lines found)
 upgrades_there w n r cert wave conditions certified found are netlist recording text job faultless stands form =
-    let start = beginning w.conflicts n r wave.history in
-    let there = TheWave w.conflicts n r cert wave conditions certified in
-    let along = goes w.conflicts n r cert wave conditions certified in
-    let is_wave = sound w.conflicts n r cert wave conditions certified in
-    let finished = whole w.conflicts n r cert wave conditions certified in
+    let start = beginning w.limits n r wave.history in
+    let there = TheWave w.limits n r cert wave conditions certified in
+    let along = goes w.limits n r cert wave conditions certified in
+    let is_wave = sound w.limits n r cert wave conditions certified in
+    let finished = whole w.limits n r cert wave conditions certified in
     let same = same_cert Turns there found in
     record {
-      job = certified_job w.job w.conflicts n r cert wave conditions certified netlist recording job faultless;
+      job = certified_job w.job w.limits n r cert wave conditions certified netlist recording job faultless;
       fits = certified.fits;
       certificate = cert;
       stands = stands;
@@ -142,11 +143,11 @@ upgrades_there w n r cert wave conditions certified found are netlist recording 
     }
 
 pub upgrades : (w : UpgradeValues) (n : ANetlist) (r : Recorded) (cert : Cert) (wave : Contents) (conditions : List ConditionView)
-    → IsCertified w.conflicts (parts n r) cert wave conditions → (found : List ConditionView) → AreConditionsFor Turns wave found
+    → IsCertified w.limits (parts n r) cert wave conditions → (found : List ConditionView) → AreConditionsFor Turns wave found
     → (netlist recording text : List ℕ) → IsJob w.job netlist recording n r → IsAgreed (parts n r) → IsTextOf text cert → cert.form ≡ Lines
     → Upgrades w netlist recording text (cert_text (cert_in Turns wave found)) (whole_report wave r.binding w.lines found)
 upgrades w n r cert wave conditions certified found are netlist recording text job faultless stands form =
-    let same = wave_same w.conflicts n r cert wave conditions certified in
+    let same = wave_same w.limits n r cert wave conditions certified in
     subst (λ (c : Contents). Upgrades w netlist recording text (cert_text (cert_in Turns c found)) (whole_report c r.binding w.lines found)) (sym same)
     (upgrades_there w n r cert wave conditions certified found (subst (λ (c : Contents). AreConditionsFor Turns c found) same are)
     netlist recording text job faultless stands form)

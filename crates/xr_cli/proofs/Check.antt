@@ -28,14 +28,15 @@ use Rattle.xr_set.proofs.Lawful.{IsLawful}
 use Rattle.xr_shelf.specs.Shelf.{Files}
 use Rattle.xr_words.proofs.OneJob.{one_count, one_job, some_same}
 use Rattle.xr_words.specs.Words.{job_reads}
+use Rattle.xr_cli.proofs.OneLimits.{one_limits}
 
 one_values : (option : Text → Option Text) (a b : CheckValues) → GivesCheck option a → GivesCheck option b → a.job.netlists ≡ b.job.netlists → a ≡ b
 one_values option a b first second netlists =
     let job = one_job option a.job b.job first.job second.job netlists in
     let cert = some_same a.cert b.cert (option (codes "cert")) first.cert second.cert in
-    let conflicts = one_count (option (codes "conflicts")) 1000 100000 a.conflicts b.conflicts first.conflicts second.conflicts in
+    let limits = one_limits option a.limits b.limits first.limits second.limits in
     let lines = one_lines (option (codes "report")) a.lines b.lines first.lines second.lines in
-    λ i. record { job = job i; cert = cert i; conflicts = conflicts i; lines = lines i }
+    λ i. record { job = job i; cert = cert i; limits = limits i; lines = lines i }
 
 -- ---- what it finds
 
@@ -61,24 +62,24 @@ module _ (told : Bool) (files : Files) (t : IsTrue told) where
 -- ---- what it refuses
 
 module _ (told : Bool) (files : Files) (t : IsTrue told) (job : Parts) where
-  check_fails : (w : CheckValues) (cause : Refused) → ComesTo told files (compared_then (certified_phases w) job) (Err cause) → CheckFails w.conflicts (text_held files (w.cert ∷ [])) job cause
+  check_fails : (w : CheckValues) (cause : Refused) → ComesTo told files (compared_then (certified_phases w) job) (Err cause) → CheckFails w.limits (text_held files (w.cert ∷ [])) job cause
   check_fails w cause (inl (e, refused, is)) =
-      subst (CheckFails w.conflicts (text_held files (w.cert ∷ [])) job) (sym (err_same {B = Answer} cause (Compare e) is)) (CheckFails.disagrees refused)
+      subst (CheckFails w.limits (text_held files (w.cert ∷ [])) job) (sym (err_same {B = Answer} cause (Compare e) is)) (CheckFails.disagrees refused)
   check_fails w cause (inr (agreed, faultless, inl first)) =
-      subst (CheckFails w.conflicts (text_held files (w.cert ∷ [])) job) (sym (err_same {B = Answer} cause LongCertificate first.1)) (CheckFails.too_long faultless (first.0 t))
+      subst (CheckFails w.limits (text_held files (w.cert ∷ [])) job) (sym (err_same {B = Answer} cause LongCertificate first.1)) (CheckFails.too_long faultless (first.0 t))
   check_fails w cause (inr (agreed, faultless, inr (text, read, inl (wrong, is, same)))) =
-      subst (CheckFails w.conflicts (text_held files (w.cert ∷ [])) job) (sym (err_same {B = Answer} cause (Certificate wrong) same))
+      subst (CheckFails w.limits (text_held files (w.cert ∷ [])) job) (sym (err_same {B = Answer} cause (Certificate wrong) same))
       (CheckFails.wrong faultless (subst (λ (l : List ℕ). IsWrong l wrong) (read.is t) is))
   check_fails w cause (inr (agreed, faultless, inr (text, read, inr (cert, stands, inl (refused, is, same))))) =
-      subst (CheckFails w.conflicts (text_held files (w.cert ∷ [])) job) (sym (err_same {B = Answer} cause refused same))
+      subst (CheckFails w.limits (text_held files (w.cert ∷ [])) job) (sym (err_same {B = Answer} cause refused same))
       (CheckFails.unaccepted faultless cert (subst (λ (l : List ℕ). IsTextOf l cert) (read.is t) stands) is)
   check_fails w cause (inr (agreed, faultless, inr (text, read, inr (cert, stands, inr (shows, is, same))))) = absurd (ok_err (check_answer w job shows) cause (sym same))
 
 module _ (told : Bool) (files : Files) (t : IsTrue told) where
   check_refused : (w : CheckValues) (cause : Refused) → ComesTo told files (check_phases w) (Err cause)
-      → AreRefused w.job (netlist_held files w.job) (recording_held files w.job) (CheckFails w.conflicts (text_held files (w.cert ∷ []))) cause
+      → AreRefused w.job (netlist_held files w.job) (recording_held files w.job) (CheckFails w.limits (text_held files (w.cert ∷ []))) cause
   check_refused w cause comes =
-      refused_by told files t w.job (compared_then (certified_phases w)) (CheckFails w.conflicts (text_held files (w.cert ∷ []))) cause
+      refused_by told files t w.job (compared_then (certified_phases w)) (CheckFails w.limits (text_held files (w.cert ∷ []))) cause
       (λ n r. check_fails told files t (parts n r) w cause) comes
 
 -- ---- its laws
@@ -89,7 +90,7 @@ check_sure w name (suc k, less, is) = job_sure w.job (compared_then (certified_p
 
 check_exact : (w : CheckValues) → AreExact (check_phases w)
 check_exact w = job_exact w.job (compared_then (certified_phases w))
-    (λ n r orders. (one_compared n r orders, λ agreed faultless text. (one_certificate text, λ cert stands. (one_check w.conflicts (parts n r) cert, λ wave is. tt))))
+    (λ n r orders. (one_compared n r orders, λ agreed faultless text. (one_certificate text, λ cert stands. (one_check w.limits (parts n r) cert, λ wave is. tt))))
 
 pub lawful_check : IsLawful IsOfTexts check
 lawful_check = record {
@@ -110,7 +111,7 @@ lawful_check = record {
   says = λ told rest files w answer t line comes. check_says told files t w answer (job_found told files t w.job (compared_then (certified_phases w)) answer comes);
   fails = λ told files w cause t comes. check_refused told files t w cause comes;
   unrefused = λ told files w t is. λ cause comes.
-      check_unrefused w.job (netlist_held files w.job) (recording_held files w.job) is.n is.r is.job w.conflicts
+      check_unrefused w.job (netlist_held files w.job) (recording_held files w.job) is.n is.r is.job w.limits
       (text_held files (w.cert ∷ [])) is.replay is.agrees is.fits is.certificate is.stands is.waveform is.accepted cause
       (check_refused told files t w cause comes);
   only = λ w. job_among (w.cert ∷ job_reads w.job) w.job (later w.cert (job_reads w.job)) (compared_then (certified_phases w)) (λ job agreed. (own_in w.cert (job_reads w.job), λ text cert shows. tt));

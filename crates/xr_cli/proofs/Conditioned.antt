@@ -32,7 +32,7 @@ conditions_of views = map condition_of views
 
 -- Its place has it.
 has_condition : (c : Contents) (root : ℕ) (view : ConditionView) → IsConditionOf c root view → view.due ≡ 0
-    → HasCondition (job c) c.limit c.written root (condition_of view)
+    → HasCondition (job c) c.limits.conflicts c.written root (condition_of view)
 has_condition c root view is none = record {
   place_is = is.place;
   bit = settled_bit c root;
@@ -48,7 +48,7 @@ has_condition c root view is none = record {
 }
 
 each_has : (c : Contents) (places : List Place) (views : List ConditionView) → AreConditionsOf c places views
-    → EachHasCondition (job c) c.limit c.written places (conditions_of views)
+    → EachHasCondition (job c) c.limits.conflicts c.written places (conditions_of views)
 each_has c [] [] are = tt
 each_has c [] (view ∷ views) are = absurd are
 each_has c (place ∷ places) [] are = absurd are
@@ -56,7 +56,7 @@ each_has c (place ∷ places) (view ∷ views) are =
     (has_condition c (number_of (job c) place) view are.0.is are.0.none_due, each_has c places views are.1)
 
 pub have_conditions : (form : Form) (c : Contents) (views : List ConditionView) → AreConditionsFor form c views
-    → HaveConditions form (job c) c.limit c.written c.lines (conditions_of views)
+    → HaveConditions form (job c) c.limits.conflicts c.written c.lines (conditions_of views)
 have_conditions Lines c views none = ap conditions_of none
 have_conditions Turns c views are = each_has c (settled_places c.lines) views are
 

@@ -30,23 +30,25 @@ use Rattle.xr_shelf.specs.Shelf.{Files}
 use Rattle.xr_wave.specs.Contents.{Contents, IsFinished, IsWave}
 use Rattle.xr_words.proofs.OneJob.{one_count, one_job, some_same}
 use Rattle.xr_words.specs.Words.{job_reads}
+use Rattle.xr_model.specs.declared.limits.Limits.{Limits}
+use Rattle.xr_cli.proofs.OneLimits.{one_limits}
 
 one_fix : (option : Text → Option Text) (a b : FixValues) → GivesFix option a → GivesFix option b → a.job.netlists ≡ b.job.netlists → a ≡ b
 one_fix option a b first second netlists =
     let job = one_job option a.job b.job first.job second.job netlists in
     let sets = some_same a.sets b.sets (option (codes "set")) first.sets second.sets in
-    let conflicts = one_count (option (codes "conflicts")) 1000 100000 a.conflicts b.conflicts first.conflicts second.conflicts in
-    λ i. record { job = job i; sets = sets i; conflicts = conflicts i }
+    let limits = one_limits option a.limits b.limits first.limits second.limits in
+    λ i. record { job = job i; sets = sets i; limits = limits i }
 
 -- ---- a walk's wave
 
-module _ (conflicts : ℕ) (n : ANetlist) (stim : Stim) (walked : Walked) (is : IsWalked conflicts n stim walked) where
-  wave_same : walked.wave ≡ wave_under n stim walked.history conflicts walked.wave.written walked.wave.lines
+module _ (limits : Limits) (n : ANetlist) (stim : Stim) (walked : Walked) (is : IsWalked limits n stim walked) where
+  wave_same : walked.wave ≡ wave_under n stim walked.history limits walked.wave.written walked.wave.lines
   wave_same =
       let of_job = is.repaired.of_job in
-      wave_is walked.wave n.design n.order stim walked.history conflicts of_job.design of_job.order of_job.stim of_job.history of_job.limit
+      wave_is walked.wave n.design n.order stim walked.history limits of_job.design of_job.order of_job.stim of_job.history of_job.limits
 
-  abbrev has_wave : HasWave conflicts n stim
+  abbrev has_wave : HasWave limits n stim
   has_wave = record {
     history = walked.history;
     replay = is.replay;
@@ -74,32 +76,32 @@ module _ (told : Bool) (files : Files) (t : IsTrue told) where
             n = found.n;
             r = found.r;
             job = found.job;
-            before = has_wave w.conflicts found.n found.r.stim before walked;
+            before = has_wave w.limits found.n found.r.stim before walked;
             agrees = record { replay = walked.replay; faultless = faultless };
             list_is = sets_text (pieces_of 44 w.sets) sets;
             stim = stim;
             started = started;
-            after = has_wave w.conflicts found.n stim after again;
+            after = has_wave w.limits found.n stim after again;
             files_are = ap (λ (a : Answer). a.files) answered;
             printed_is = ap (λ (a : Answer). a.printed) answered
-                ∙ ap (λ (c : Contents). fix_text (length (sets_of w.sets)) c after.wave found.r.binding) (wave_same w.conflicts found.n found.r.stim before walked)
-                ∙ ap (λ (c : Contents). fix_text (length (sets_of w.sets)) (wave_under found.n found.r.stim before.history w.conflicts before.wave.written before.wave.lines) c found.r.binding)
-                (wave_same w.conflicts found.n stim after again);
+                ∙ ap (λ (c : Contents). fix_text (length (sets_of w.sets)) c after.wave found.r.binding) (wave_same w.limits found.n found.r.stim before walked)
+                ∙ ap (λ (c : Contents). fix_text (length (sets_of w.sets)) (wave_under found.n found.r.stim before.history w.limits before.wave.written before.wave.lines) c found.r.binding)
+                (wave_same w.limits found.n stim after again);
           }
 
 -- ---- what it refuses
 
 fix_fails : (told : Bool) (files : Files) (job : Parts) (w : FixValues) (cause : Refused) → ComesTo told files (compared_then (set_phases w) job) (Err cause)
-    → FixFails w.conflicts (sets_of w.sets) job cause
+    → FixFails w.limits (sets_of w.sets) job cause
 fix_fails told files job w cause (inl (e, refused, is)) =
-    subst (FixFails w.conflicts (sets_of w.sets) job) (sym (err_same {B = Answer} cause (Compare e) is)) (FixFails.disagrees refused)
+    subst (FixFails w.limits (sets_of w.sets) job) (sym (err_same {B = Answer} cause (Compare e) is)) (FixFails.disagrees refused)
 fix_fails told files job w cause (inr (agreed, faultless, inl (fault, first, is))) =
-    subst (FixFails w.conflicts (sets_of w.sets) job) (sym (err_same {B = Answer} cause (Start fault) is)) (FixFails.unset faultless first)
+    subst (FixFails w.limits (sets_of w.sets) job) (sym (err_same {B = Answer} cause (Start fault) is)) (FixFails.unset faultless first)
 fix_fails told files job w cause (inr (agreed, faultless, inr (stim, started, inl (o, objects, is)))) =
-    subst (FixFails w.conflicts (sets_of w.sets) job) (sym (err_same {B = Answer} cause (Optimistic o) is))
+    subst (FixFails w.limits (sets_of w.sets) job) (sym (err_same {B = Answer} cause (Optimistic o) is))
     (FixFails.objected stim started record { faultless = faultless; objects = objects })
 fix_fails told files job w cause (inr (agreed, faultless, inr (stim, started, inr (before, walked, inl (o, objects, is))))) =
-    subst (FixFails w.conflicts (sets_of w.sets) job) (sym (err_same {B = Answer} cause (Optimistic o) is))
+    subst (FixFails w.limits (sets_of w.sets) job) (sym (err_same {B = Answer} cause (Optimistic o) is))
     (FixFails.objected_set record { agreed = faultless; before = before; walked = walked; found = record { stim = stim; started = started; objects = objects } })
 fix_fails told files job w cause (inr (agreed, faultless, inr (stim, started, inr (before, walked, inr (after, again, same))))) =
     absurd (ok_err (fix_answer w job.recorded before.wave after.wave) cause (sym same))
@@ -132,8 +134,8 @@ lawful_fix = record {
   says = λ told rest files w answer t line comes. fix_says told files t w answer
       (value_fits fix rest w line (codes "set") w.sets line.gives.sets (needs (codes "set") Sets) refl)
       (job_found told files t w.job (compared_then (set_phases w)) answer comes);
-  fails = λ told files w cause t comes. (let refused = refused_by told files t w.job (compared_then (set_phases w)) (FixFails w.conflicts (sets_of w.sets)) cause (λ n r. fix_fails told files (parts n r) w cause) comes in
-      record { refused = refused; one = one_fix_cause w.conflicts (sets_of w.sets) w.job (netlist_held files w.job) (recording_held files w.job) cause refused });
+  fails = λ told files w cause t comes. (let refused = refused_by told files t w.job (compared_then (set_phases w)) (FixFails w.limits (sets_of w.sets)) cause (λ n r. fix_fails told files (parts n r) w cause) comes in
+      record { refused = refused; one = one_fix_cause w.limits (sets_of w.sets) w.job (netlist_held files w.job) (recording_held files w.job) cause refused });
   unrefused = λ told files w t is. never_refused told files (fix_phases w) t (fix_exact w) (job_passes files w.job (compared_then (set_phases w)) is.n is.r is.job
       (tt, is.faultless, (is.stim, is.started, (is.none, λ before walked. (is.none_set, λ after again. tt)))));
   only = λ w. job_among (job_reads w.job) w.job (itself_in (job_reads w.job)) (compared_then (set_phases w)) (λ job agreed stim before after. tt);

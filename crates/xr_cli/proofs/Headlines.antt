@@ -24,6 +24,7 @@ use Rattle.xr_model.specs.Line.{GivesBoth}
 use Rattle.xr_model.specs.Sound.{HasLicence, IsDecided, Sound, SoundBy}
 use Rattle.xr_model.specs.Stated.{stated}
 use Rattle.xr_model.specs.declared.line.Line.{Line as ALine}
+use Rattle.xr_model.specs.declared.limits.Limits.{Limits}
 use Rattle.xr_replay.specs.Fault.{BitAgrees, IsFaultless}
 use Rattle.xr_vcd.specs.Recording.{value_at}
 use Rattle.xr_wave.specs.Contents.{Contents, IsFinished, IsWave}
@@ -64,61 +65,61 @@ use Rattle.xr_phases.proofs.Jobs.{circuit_fits, fits_job, last_place, number_bac
 
 -- ---- what is known of a place by its mark
 
-known_settles : (j : Job) (limit : ℕ) (waveform : List Written) (lines : List ALine) (place : ℕ) (mark : Mark)
-    (value shown : Value) (bit : Bool) → SoundBy j limit waveform lines place mark value
+known_settles : (j : Job) (limits : Limits) (waveform : List Written) (lines : List ALine) (place : ℕ) (mark : Mark)
+    (value shown : Value) (bit : Bool) → SoundBy j limits waveform lines place mark value
     → ((mark ≡ Certain → ⊥) → value ≡ shown) → (mark ≡ Unknown → IsKnown shown → ⊥) → value ≡ bit_value bit
     → (mark ≡ Undecided → ⊥) → Settles j waveform place bit
-known_settles j limit waveform lines place Certain Zero shown false exact shows open_ is ended = exact
-known_settles j limit waveform lines place Certain Zero shown true exact shows open_ is ended = cc
-known_settles j limit waveform lines place Certain One shown false exact shows open_ is ended = cc
-known_settles j limit waveform lines place Certain One shown true exact shows open_ is ended = exact
-known_settles j limit waveform lines place Certain X shown bit exact shows open_ is ended = absurd exact
-known_settles j limit waveform lines place Certain Z shown bit exact shows open_ is ended = absurd exact
-known_settles j limit waveform lines place Unknown value shown bit exact shows open_ is ended =
+known_settles j limits waveform lines place Certain Zero shown false exact shows open_ is ended = exact
+known_settles j limits waveform lines place Certain Zero shown true exact shows open_ is ended = cc
+known_settles j limits waveform lines place Certain One shown false exact shows open_ is ended = cc
+known_settles j limits waveform lines place Certain One shown true exact shows open_ is ended = exact
+known_settles j limits waveform lines place Certain X shown bit exact shows open_ is ended = absurd exact
+known_settles j limits waveform lines place Certain Z shown bit exact shows open_ is ended = absurd exact
+known_settles j limits waveform lines place Unknown value shown bit exact shows open_ is ended =
     absurd (open_ refl (subst IsKnown (sym is ∙ shows (λ e. cc)) (bit_known bit)))
   where
     bit_known : (bit : Bool) → IsKnown (bit_value bit)
     bit_known false = tt
     bit_known true = tt
-known_settles j limit waveform lines place Undecided value shown bit exact shows open_ is ended = absurd (ended refl)
+known_settles j limits waveform lines place Undecided value shown bit exact shows open_ is ended = absurd (ended refl)
 
-unknown_both : (j : Job) (limit : ℕ) (waveform : List Written) (lines : List ALine) (place : ℕ) (mark : Mark) (value : Value)
-    → SoundBy j limit waveform lines place mark value → is_unknown value ≡ true → (mark ≡ Undecided → ⊥)
+unknown_both : (j : Job) (limits : Limits) (waveform : List Written) (lines : List ALine) (place : ℕ) (mark : Mark) (value : Value)
+    → SoundBy j limits waveform lines place mark value → is_unknown value ≡ true → (mark ≡ Undecided → ⊥)
     → GivesBoth j waveform place (stated j (certain waveform) lines place)
-unknown_both j limit waveform lines place Certain Zero exact is ended = cc
-unknown_both j limit waveform lines place Certain One exact is ended = cc
-unknown_both j limit waveform lines place Certain X exact is ended = absurd exact
-unknown_both j limit waveform lines place Certain Z exact is ended = absurd exact
-unknown_both j limit waveform lines place Unknown value exact is ended = exact
-unknown_both j limit waveform lines place Undecided value exact is ended = absurd (ended refl)
+unknown_both j limits waveform lines place Certain Zero exact is ended = cc
+unknown_both j limits waveform lines place Certain One exact is ended = cc
+unknown_both j limits waveform lines place Certain X exact is ended = absurd exact
+unknown_both j limits waveform lines place Certain Z exact is ended = absurd exact
+unknown_both j limits waveform lines place Unknown value exact is ended = exact
+unknown_both j limits waveform lines place Undecided value exact is ended = absurd (ended refl)
 
-undecided_licence : (j : Job) (limit : ℕ) (waveform : List Written) (lines : List ALine) (place : ℕ) (mark : Mark) (value : Value)
-    → SoundBy j limit waveform lines place mark value → mark ≡ Undecided → HasLicence j limit waveform lines place
-undecided_licence j limit waveform lines place Certain value exact is = absurd cc
-undecided_licence j limit waveform lines place Unknown value exact is = absurd cc
-undecided_licence j limit waveform lines place Undecided value exact is = exact
+undecided_licence : (j : Job) (limits : Limits) (waveform : List Written) (lines : List ALine) (place : ℕ) (mark : Mark) (value : Value)
+    → SoundBy j limits waveform lines place mark value → mark ≡ Undecided → HasLicence j limits waveform lines place
+undecided_licence j limits waveform lines place Certain value exact is = absurd cc
+undecided_licence j limits waveform lines place Unknown value exact is = absurd cc
+undecided_licence j limits waveform lines place Undecided value exact is = exact
 
 -- ---- a wave of a job
 
 abbrev pub wave_with : Design → List ℕ → Stim → HistoryView → ℕ → List Written → List ALine → Contents
-wave_with design order stim history limit written lines = record {
+wave_with design order stim history limits written lines = record {
   design = design;
   order = order;
   stim = stim;
   history = history;
-  limit = limit;
+  limits = limits;
   written = written;
   lines = lines;
 }
 
-pub wave_is : (c : Contents) (design : Design) (order : List ℕ) (stim : Stim) (history : HistoryView) (limit : ℕ)
-    → c.design ≡ design → c.order ≡ order → c.stim ≡ stim → c.history ≡ history → c.limit ≡ limit
-    → c ≡ wave_with design order stim history limit c.written c.lines
-wave_is c design order stim history limit a b d e f = rw (← a, ← b, ← d, ← e, ← f) refl
+pub wave_is : (c : Contents) (design : Design) (order : List ℕ) (stim : Stim) (history : HistoryView) (limits : Limits)
+    → c.design ≡ design → c.order ≡ order → c.stim ≡ stim → c.history ≡ history → c.limits ≡ limits
+    → c ≡ wave_with design order stim history limits c.written c.lines
+wave_is c design order stim history limits a b d e f = rw (← a, ← b, ← d, ← e, ← f) refl
 
-module _ (n : ANetlist) (r : Recorded) (history : HistoryView) (conflicts : ℕ) (written : List Written) (lines : List ALine) where
+module _ (n : ANetlist) (r : Recorded) (history : HistoryView) (limits : Limits) (written : List Written) (lines : List ALine) where
   abbrev Whole : Contents
-  Whole = wave_with n.design n.order r.stim history conflicts written lines
+  Whole = wave_with n.design n.order r.stim history limits written lines
 
   -- The history that it shows has what it has.
   shown_there : (shown : HistoryView) → Fits (job_for n r) → IsFinished Whole → ShowsWave Whole shown
@@ -156,17 +157,17 @@ pub record Made (w : RepairValues) (netlist recording : List ℕ) : Type 0 where
   pub job : IsJob w.job netlist recording n r
   pub faultless : IsFaultless (job_for n r) r.recording r.binding
   pub found : Found
-  pub is : IsFound w.conflicts n r found
+  pub is : IsFound w.limits n r found
 
 module _ (w : RepairValues) (netlist recording : List ℕ) (is : Made w netlist recording) where
   abbrev pub TheWave : Contents
-  TheWave = wave_with is.n.design is.n.order is.r.stim is.found.history w.conflicts is.found.wave.written is.found.wave.lines
+  TheWave = wave_with is.n.design is.n.order is.r.stim is.found.history w.limits is.found.wave.written is.found.wave.lines
 
   pub same : is.found.wave ≡ TheWave
   same =
       let of_job = is.is.repaired.of_job in
-      wave_is is.found.wave is.n.design is.n.order is.r.stim is.found.history w.conflicts
-      of_job.design of_job.order of_job.stim of_job.history of_job.limit
+      wave_is is.found.wave is.n.design is.n.order is.r.stim is.found.history w.limits
+      of_job.design of_job.order of_job.stim of_job.history of_job.limits
 
   fits : Fits (job_for is.n is.r)
   fits = fits_job is.n is.r is.is.fits
@@ -178,7 +179,7 @@ module _ (w : RepairValues) (netlist recording : List ℕ) (is : Made w netlist 
   finished = subst IsFinished same is.is.repaired.finished
 
   -- The job is repaired.
-  abbrev pub repaired_job : RepairedJob w.job w.conflicts netlist recording
+  abbrev pub repaired_job : RepairedJob w.job w.limits netlist recording
   repaired_job = record {
     n = is.n;
     r = is.r;
@@ -191,14 +192,14 @@ module _ (w : RepairValues) (netlist recording : List ℕ) (is : Made w netlist 
     holds = wave.holds;
   }
 
-  sound : Sound (job_for is.n is.r) w.conflicts (shown_of (job_for is.n is.r) is.found.history) is.found.wave.written is.found.wave.lines
+  sound : Sound (job_for is.n is.r) w.limits (shown_of (job_for is.n is.r) is.found.history) is.found.wave.written is.found.wave.lines
   sound = wave.holds.sound
 
   replay : IsReplay (job_for is.n is.r) is.found.history
   replay = is.is.replay
 
   exact_at : (place : ℕ) → place < places_of (job_for is.n is.r)
-      → SoundBy (job_for is.n is.r) w.conflicts is.found.wave.written is.found.wave.lines place
+      → SoundBy (job_for is.n is.r) w.limits is.found.wave.written is.found.wave.lines place
       (written_at is.found.wave.written place).mark (written_at is.found.wave.written place).value
   exact_at place within = sound.exact place (omega (arith, finished, within))
 
@@ -233,14 +234,14 @@ module _ (w : RepairValues) (netlist recording : List ℕ) (is : Made w netlist 
   V = is.found.shown
 
   v_shows : ShowsWaveform j written V
-  v_shows = shown_there is.n is.r is.found.history w.conflicts written lines V fits finished
+  v_shows = shown_there is.n is.r is.found.history w.limits written lines V fits finished
       (subst (λ (c : Contents). ShowsWave c V) same is.is.shows)
 
   known_so : (place : ℕ) → place < places_of j → (bit : Bool) → shown_of j V place ≡ bit_value bit
       → ((written_at written place).mark ≡ Undecided → ⊥) → Settles j written place bit
   known_so place within bit shown ended =
       let less : place < length written = omega (arith, finished, within) in
-      known_settles j w.conflicts written lines place (written_at written place).mark (written_at written place).value
+      known_settles j w.limits written lines place (written_at written place).mark (written_at written place).value
       (shown_at_place place) bit (exact_at place within) (sound.shows.uncertain place less) (sound.shows.open_ place less)
       (sym (v_shows place within) ∙ shown) ended
 
@@ -248,15 +249,15 @@ module _ (w : RepairValues) (netlist recording : List ℕ) (is : Made w netlist 
       → ((written_at written place).mark ≡ Undecided → ⊥)
       → GivesBoth j written place (stated j (certain written) lines place)
   unknown_so place within shown ended =
-      unknown_both j w.conflicts written lines place (written_at written place).mark (written_at written place).value
+      unknown_both j w.limits written lines place (written_at written place).mark (written_at written place).value
       (exact_at place within) (ap is_unknown (sym (v_shows place within)) ∙ shown) ended
 
-  pub only_so : IsDecided written → (limit : ℕ) (other : List Written) (more : List ALine) → length other ≡ places_of j
-      → Sound j limit shown_at_place other more → IsDecided other → other ≡ written
-  only_so decided limit other more long others_sound others_decided =
+  pub only_so : IsDecided written → (limits : Limits) (other : List Written) (more : List ALine) → length other ≡ places_of j
+      → Sound j limits shown_at_place other more → IsDecided other → other ≡ written
+  only_so decided limits other more long others_sound others_decided =
       one_exact j shown_at_place other written fits (long ∙ sym finished) others_sound.within
-      (sound_exact j limit shown_at_place other more others_decided others_sound)
-      (sound_exact j w.conflicts shown_at_place written lines decided sound) others_sound.shows sound.shows
+      (sound_exact j limits shown_at_place other more others_decided others_sound)
+      (sound_exact j w.limits shown_at_place written lines decided sound) others_sound.shows sound.shows
 
   parts_fit : PartsFit is.n.design is.n.order is.r.stim
   parts_fit = circuit_fits is.n is.r is.is.fits
@@ -281,21 +282,21 @@ module _ (w : RepairValues) (netlist recording : List ℕ) (is : Made w netlist 
         are_forces forced v_shows;
   }
 
-  along_there : GoesAlong (beginning w.conflicts is.n is.r is.found.history) TheWave
-  along_there = subst (GoesAlong (beginning w.conflicts is.n is.r is.found.history)) same is.is.repaired.along
+  along_there : GoesAlong (beginning w.limits is.n is.r is.found.history) TheWave
+  along_there = subst (GoesAlong (beginning w.limits is.n is.r is.found.history)) same is.is.repaired.along
 
   -- Of conditions that the form of the words asks for.
   module _ (conditions : List ConditionView) (are : AreConditionsFor (form_of w.form) TheWave conditions) where
-    accepted_so : IsAccepted (beginning w.conflicts is.n is.r is.found.history) (cert_by (form_of w.form) TheWave (conditions_of conditions)) written
-    accepted_so = subst (λ (cert : Cert). IsAccepted (beginning w.conflicts is.n is.r is.found.history) cert written) (same_cert (form_of w.form) TheWave conditions)
-        (own_accepted (form_of w.form) (beginning w.conflicts is.n is.r is.found.history) TheWave conditions refl refl along_there wave finished are)
+    accepted_so : IsAccepted (beginning w.limits is.n is.r is.found.history) (cert_by (form_of w.form) TheWave (conditions_of conditions)) written
+    accepted_so = subst (λ (cert : Cert). IsAccepted (beginning w.limits is.n is.r is.found.history) cert written) (same_cert (form_of w.form) TheWave conditions)
+        (own_accepted (form_of w.form) (beginning w.limits is.n is.r is.found.history) TheWave conditions refl refl along_there wave finished are)
 
     pub certifies_so : Certifies w is.n is.r is.found.history written lines (conditions_of conditions) (cert_text (cert_in (form_of w.form) TheWave conditions))
     certifies_so = record {
       stands = subst (IsTextOf (cert_text (cert_in (form_of w.form) TheWave conditions))) (same_cert (form_of w.form) TheWave conditions)
-          (own_text_stands (form_of w.form) (beginning w.conflicts is.n is.r is.found.history) TheWave conditions refl along_there wave are);
+          (own_text_stands (form_of w.form) (beginning w.limits is.n is.r is.found.history) TheWave conditions refl along_there wave are);
       accepted = accepted_so;
-      one = λ other long yields. yields_one j w.conflicts fits shown_at_place other written lines (long ∙ sym finished)
+      one = λ other long yields. yields_one j w.limits fits shown_at_place other written lines (long ∙ sym finished)
           (omega (arith, long)) yields wave.holds.yields;
     }
 
@@ -318,7 +319,7 @@ module _ (w : RepairValues) (netlist recording : List ℕ) (is : Made w netlist 
       known = λ moment b bit there. known_so (place_of_bit is.n is.r moment b bit) (within_at moment b bit there);
       unknown = λ moment b bit there. unknown_so (place_of_bit is.n is.r moment b bit) (within_at moment b bit there);
       undecided = λ moment b bit there.
-          undecided_licence j w.conflicts written lines (place_of_bit is.n is.r moment b bit)
+          undecided_licence j w.limits written lines (place_of_bit is.n is.r moment b bit)
           (written_at written (place_of_bit is.n is.r moment b bit)).mark (written_at written (place_of_bit is.n is.r moment b bit)).value
           (exact_at (place_of_bit is.n is.r moment b bit) (within_at moment b bit there));
       stand = λ moment b bit there recorded. v_shows (place_of_bit is.n is.r moment b bit) (within_at moment b bit there)

@@ -14,6 +14,7 @@ pub mod Lawful
 mod Make
 mod Making
 mod Needing
+mod OneLimits
 mod OneLines
 mod OwnChecks
 mod OwnForces

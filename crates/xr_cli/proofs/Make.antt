@@ -2,7 +2,7 @@
 use Rattle.std.proofs.Common.{◌∙◌, ◌≡◌, ◌≤◌, Bool, Err, List, None, Option, Some, arith, codes, inl, inr, length, refl, subst, sym, true, ℕ}
 use Rattle.xr_cli.proofs.Making.{made_is_one, make_says, one_length, one_made}
 use Rattle.xr_cli.proofs.Repair.{job_of}
-use Rattle.xr_cli.specs.Make.{GivesMake, IsMadeOf, IsMadeRefused, IsMakeable, IsNumberTo, IsOneMade, IsRecordingOf, MakeValues, made_conflicts, made_job, made_netlist, make, make_answer, make_phases, recorded_made, repaired_made}
+use Rattle.xr_cli.specs.Make.{GivesMake, IsMadeOf, IsMadeRefused, IsMakeable, IsNumberTo, IsOneMade, IsRecordingOf, MakeValues, made_limits, made_job, made_netlist, make, make_answer, make_phases, recorded_made, repaired_made}
 use Rattle.xr_job.proofs.OneNetlist.{one_outcome}
 use Rattle.xr_job.specs.Compared.{job_for}
 use Rattle.xr_job.specs.declared.netlist.Netlist.{Netlist as ANetlist}
@@ -41,14 +41,14 @@ one_make option a b first second =
 
 module _ (told : Bool) (files : Files) (w : MakeValues) (cause : Refused) where
   abbrev MadeBy : List ℕ → Refused → Type 0
-  MadeBy text c = AreRefused made_job (made_netlist w) text (RepairFails made_conflicts) c
+  MadeBy text c = AreRefused made_job (made_netlist w) text (RepairFails made_limits) c
 
   repair_of_made_fails : (text : List ℕ) (n : ANetlist) (r : Recorded) → ComesTo told files (repaired_made w text n r) (Err cause)
-      → RepairFails made_conflicts (parts n r) cause
+      → RepairFails made_limits (parts n r) cause
   repair_of_made_fails text n r (inl (e, refused, is)) =
-      subst (RepairFails made_conflicts (parts n r)) (sym (err_same {B = Answer} cause (Compare e) is)) (RepairFails.disagrees refused)
+      subst (RepairFails made_limits (parts n r)) (sym (err_same {B = Answer} cause (Compare e) is)) (RepairFails.disagrees refused)
   repair_of_made_fails text n r (inr (agreed, faultless, inl (o, refused, is))) =
-      subst (RepairFails made_conflicts (parts n r)) (sym (err_same {B = Answer} cause (Optimistic o) is))
+      subst (RepairFails made_limits (parts n r)) (sym (err_same {B = Answer} cause (Optimistic o) is))
       (RepairFails.objected record { faultless = faultless; objects = refused })
   repair_of_made_fails text n r (inr (agreed, faultless, inr (found, is, same))) = absurd (ok_err (make_answer w text found.wave) cause (sym same))
 
@@ -80,16 +80,16 @@ module _ (told : Bool) (files : Files) (w : MakeValues) (cause : Refused) where
 
 -- A place that is found otherwise in a made job is of the one recording.
 made_objected : (w : MakeValues) (o : Objection) → IsMadeRefused w (Optimistic o) → (recording : List ℕ) → IsMadeOf w recording
-    → AreRefused made_job (made_netlist w) recording (RepairFails made_conflicts) (Optimistic o)
+    → AreRefused made_job (made_netlist w) recording (RepairFails made_limits) (Optimistic o)
 made_objected w o (IsMadeRefused.recording_fails text of refused) recording is =
-    subst (λ (l : List ℕ). AreRefused made_job (made_netlist w) l (RepairFails made_conflicts) (Optimistic o)) (made_is_one w text recording of is) refused
+    subst (λ (l : List ℕ). AreRefused made_job (made_netlist w) l (RepairFails made_limits) (Optimistic o)) (made_is_one w text recording of is) refused
 
 the_one_made : (w : MakeValues) (cause : Refused) → IsMadeRefused w cause → IsOneMade w cause
 the_one_made w cause refused = λ recording is.
-    one_cause made_job (made_netlist w) recording made_conflicts cause
-    (λ o same. job_of made_job (made_netlist w) recording made_conflicts o (made_objected w o (subst (IsMadeRefused w) same refused) recording is))
+    one_cause made_job (made_netlist w) recording made_limits cause
+    (λ o same. job_of made_job (made_netlist w) recording made_limits o (made_objected w o (subst (IsMadeRefused w) same refused) recording is))
 
-made_not_objected : (w : MakeValues) (is : IsMakeable w) (o : Objection) → IsObjectionIn made_conflicts is.n is.r.stim o → ⊥
+made_not_objected : (w : MakeValues) (is : IsMakeable w) (o : Objection) → IsObjectionIn made_limits is.n is.r.stim o → ⊥
 made_not_objected w is o objects = is.none objects.history objects.objects.otherwise objects.replay objects.objects.objects
 
 -- ---- its laws
@@ -130,8 +130,8 @@ made_passes files w is = (
     faultless : IsFaultless (job_for is.job.elaborated is.r) is.r.recording is.r.binding
     faultless = subst (λ (x : ANetlist). IsFaultless (job_for x is.r) is.r.recording is.r.binding) is.job.job_is is.faultless
 
-    not_found : (o : Objection) → IsObjectionIn made_conflicts is.job.elaborated is.r.stim o → ⊥
-    not_found = subst (λ (x : ANetlist). (o : Objection) → IsObjectionIn made_conflicts x is.r.stim o → ⊥) is.job.job_is (made_not_objected w is)
+    not_found : (o : Objection) → IsObjectionIn made_limits is.job.elaborated is.r.stim o → ⊥
+    not_found = subst (λ (x : ANetlist). (o : Objection) → IsObjectionIn made_limits x is.r.stim o → ⊥) is.job.job_is (made_not_objected w is)
 
 pub lawful_make : IsLawful IsOfTexts make
 lawful_make = record {

@@ -21,7 +21,7 @@ use Rattle.xr_run.specs.declared.refusal.Refusal.{Refusal}
 use Rattle.xr_run.proofs.Then.{prepared_refused, prepared_then}
 use Rattle.xr_shelf.specs.Shelf.{Files}
 use Rattle.xr_wave.specs.Contents.{Contents}
-use Rattle.xr_cli.specs.Make.{MakeValues, SaysMake, IsRecordingOf, MadeComes, made_conflicts, made_job, made_netlist, Makes, make_answer, make_phases, IsMadeOf}
+use Rattle.xr_cli.specs.Make.{MakeValues, SaysMake, IsRecordingOf, MadeComes, made_limits, made_job, made_netlist, Makes, make_answer, make_phases, IsMadeOf}
 use Rattle.xr_cli.specs.Repair.{RepairValues, forces_in}
 use Rattle.xr_words.specs.declared.words.Form.TheVariants.{Lines}
 use Rattle.xr_phases.specs.Repair.{LengthComes}
@@ -68,7 +68,7 @@ made_is_one w a b first second =
 -- ---- what is found
 
 abbrev made_repair : RepairValues
-made_repair = record { job = made_job; vcd = []; code = []; cert = []; form = Lines; conflicts = made_conflicts; lines = report.All }
+made_repair = record { job = made_job; vcd = []; code = []; cert = []; form = Lines; limits = made_limits; lines = report.All }
 
 makes : (w : MakeValues) (recording : List ℕ) (is : headlines.Made made_repair (made_netlist w) recording) → IsRecordingOf w is.n recording
     → Makes w (made_netlist w) recording (head_text is.found.wave (forces_in is.found.wave))

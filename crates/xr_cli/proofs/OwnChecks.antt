@@ -11,13 +11,14 @@ use Rattle.xr_cli.specs.Repair.{RepairValues}
 use Rattle.xr_cli.specs.Conditions.{cert_by}
 use Rattle.xr_cli.specs.Headline.{Headline, wave_of}
 use Rattle.xr_cli.specs.Laws.{IsCheckOf}
+use Rattle.xr_model.specs.declared.limits.Limits.{Limits}
 
 pub own_checkable : (w : RepairValues) (check : CheckValues) (netlist recording vcd code cert report : List ℕ)
     → Headline w netlist recording vcd code cert report → IsCheckOf w check → length cert ≤ text_limit
     → IsCheckable check netlist recording cert
 own_checkable w check netlist recording vcd code cert report headline is fits =
     let there = headline.job in
-    let wave = wave_of there.n there.r there.replay w.conflicts there.waveform there.lines in
+    let wave = wave_of there.n there.r there.replay w.limits there.waveform there.lines in
     record {
       n = there.n;
       r = there.r;
@@ -28,6 +29,6 @@ own_checkable w check netlist recording vcd code cert report headline is fits =
       certificate = cert_by (form_of w.form) wave headline.conditions;
       stands = headline.certifies.stands;
       waveform = there.waveform;
-      accepted = subst (λ (limit : ℕ). IsAccepted (beginning limit there.n there.r there.replay)
-          (cert_by (form_of w.form) wave headline.conditions) there.waveform) (sym is.conflicts) headline.certifies.accepted;
+      accepted = subst (λ (limits : Limits). IsAccepted (beginning limits there.n there.r there.replay)
+          (cert_by (form_of w.form) wave headline.conditions) there.waveform) (sym is.limits) headline.certifies.accepted;
     }

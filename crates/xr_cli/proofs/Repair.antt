@@ -31,6 +31,8 @@ use Rattle.xr_set.proofs.Taken.{value_fits}
 use Rattle.xr_shelf.specs.Shelf.{Files}
 use Rattle.xr_words.proofs.OneJob.{one_count, one_form, one_job, some_same}
 use Rattle.xr_words.specs.Words.{JobValues, job_reads}
+use Rattle.xr_model.specs.declared.limits.Limits.{Limits}
+use Rattle.xr_cli.proofs.OneLimits.{one_limits}
 
 one_repair : (option : Text → Option Text) (a b : RepairValues) → GivesRepair option a → GivesRepair option b → a.job.netlists ≡ b.job.netlists → a ≡ b
 one_repair option a b first second netlists =
@@ -38,10 +40,10 @@ one_repair option a b first second netlists =
     let vcd = some_same a.vcd b.vcd (option (codes "vcd")) first.vcd second.vcd in
     let code = some_same a.code b.code (option (codes "code")) first.code second.code in
     let cert = some_same a.cert b.cert (option (codes "cert")) first.cert second.cert in
-    let conflicts = one_count (option (codes "conflicts")) 1000 100000 a.conflicts b.conflicts first.conflicts second.conflicts in
+    let limits = one_limits option a.limits b.limits first.limits second.limits in
     let form = one_form (option (codes "form")) a.form b.form first.form second.form in
     let lines = one_lines (option (codes "report")) a.lines b.lines first.lines second.lines in
-    λ i. record { job = job i; vcd = vcd i; code = code i; cert = cert i; form = form i; conflicts = conflicts i; lines = lines i }
+    λ i. record { job = job i; vcd = vcd i; code = code i; cert = cert i; form = form i; limits = limits i; lines = lines i }
 
 -- ---- what it finds
 
@@ -68,36 +70,36 @@ module _ (told : Bool) (files : Files) (t : IsTrue told) where
 -- ---- what it refuses
 
 module _ (told : Bool) (files : Files) (t : IsTrue told) (job : Parts) where
-  repair_fails : (w : RepairValues) (cause : Refused) → ComesTo told files (compared_then (walk_phases w) job) (Err cause) → RepairFails w.conflicts job cause
-  repair_fails w cause (inl (e, refused, is)) = subst (RepairFails w.conflicts job) (sym (err_same {B = Answer} cause (Compare e) is)) (RepairFails.disagrees refused)
+  repair_fails : (w : RepairValues) (cause : Refused) → ComesTo told files (compared_then (walk_phases w) job) (Err cause) → RepairFails w.limits job cause
+  repair_fails w cause (inl (e, refused, is)) = subst (RepairFails w.limits job) (sym (err_same {B = Answer} cause (Compare e) is)) (RepairFails.disagrees refused)
   repair_fails w cause (inr (agreed, faultless, inl (o, refused, is))) =
-      subst (RepairFails w.conflicts job) (sym (err_same {B = Answer} cause (Optimistic o) is)) (RepairFails.objected record { faultless = faultless; objects = refused })
+      subst (RepairFails w.limits job) (sym (err_same {B = Answer} cause (Optimistic o) is)) (RepairFails.objected record { faultless = faultless; objects = refused })
   repair_fails w cause (inr (agreed, faultless, inr (found, is, inl (none, never, same)))) = absurd never
   repair_fails w cause (inr (agreed, faultless, inr (found, is, inr (conditions, are, same)))) =
       absurd (ok_err (repair_answer w job.netlist job.recorded found conditions) cause (sym same))
 
 -- A place that a repair finds otherwise is of a job that agrees.
-objected_of : (conflicts : ℕ) (job : Parts) (o : Objection) → RepairFails conflicts job (Optimistic o) → IsObjected conflicts o job.netlist job.recorded
-objected_of conflicts job o (RepairFails.objected is) = is
+objected_of : (limits : Limits) (job : Parts) (o : Objection) → RepairFails limits job (Optimistic o) → IsObjected limits o job.netlist job.recorded
+objected_of limits job o (RepairFails.objected is) = is
 
-pub job_of : (w : JobValues) (netlist recording : List ℕ) (conflicts : ℕ) (o : Objection) → AreRefused w netlist recording (RepairFails conflicts) (Optimistic o)
-    → HasJob w netlist recording (IsObjected conflicts o)
-job_of w netlist recording conflicts o (AreRefused.job_fails has) =
-    record { n = has.n; r = has.r; job = has.job; holds = objected_of conflicts (parts has.n has.r) o has.holds }
+pub job_of : (w : JobValues) (netlist recording : List ℕ) (limits : Limits) (o : Objection) → AreRefused w netlist recording (RepairFails limits) (Optimistic o)
+    → HasJob w netlist recording (IsObjected limits o)
+job_of w netlist recording limits o (AreRefused.job_fails has) =
+    record { n = has.n; r = has.r; job = has.job; holds = objected_of limits (parts has.n has.r) o has.holds }
 
 -- What is refused as a repair is, is refused so; and a place that is found otherwise is the one.
-pub as_repair : (w : JobValues) (conflicts : ℕ) (files : Files) (cause : Refused) → AreRefused w (netlist_held files w) (recording_held files w) (RepairFails conflicts) cause
-    → FailsAsRepair w conflicts files cause
-as_repair w conflicts files cause refused = record {
+pub as_repair : (w : JobValues) (limits : Limits) (files : Files) (cause : Refused) → AreRefused w (netlist_held files w) (recording_held files w) (RepairFails limits) cause
+    → FailsAsRepair w limits files cause
+as_repair w limits files cause refused = record {
   refused = refused;
-  one = one_cause w (netlist_held files w) (recording_held files w) conflicts cause
-      (λ o is. job_of w (netlist_held files w) (recording_held files w) conflicts o
-      (subst (AreRefused w (netlist_held files w) (recording_held files w) (RepairFails conflicts)) is refused));
+  one = one_cause w (netlist_held files w) (recording_held files w) limits cause
+      (λ o is. job_of w (netlist_held files w) (recording_held files w) limits o
+      (subst (AreRefused w (netlist_held files w) (recording_held files w) (RepairFails limits)) is refused));
 }
 
-pub not_objected : (w : JobValues) (conflicts : ℕ) (netlist recording : List ℕ) (is : IsRepairable w conflicts netlist recording) (o : Objection)
-    → IsObjectionIn conflicts is.n is.r.stim o → ⊥
-not_objected w conflicts netlist recording is o objects = is.none objects.history objects.objects.otherwise objects.replay objects.objects.objects
+pub not_objected : (w : JobValues) (limits : Limits) (netlist recording : List ℕ) (is : IsRepairable w limits netlist recording) (o : Objection)
+    → IsObjectionIn limits is.n is.r.stim o → ⊥
+not_objected w limits netlist recording is o objects = is.none objects.history objects.objects.otherwise objects.replay objects.objects.objects
 
 -- ---- its laws
 
@@ -121,9 +123,9 @@ lawful_repair = record {
   says = λ told rest files w answer t line comes. repair_says told files t w answer
       (value_fits repair rest w line (codes "scope") w.job.scope line.gives.job.scope (needs (codes "scope") Scope) refl)
       (job_found told files t w.job (compared_then (walk_phases w)) answer comes);
-  fails = λ told files w cause t comes. as_repair w.job w.conflicts files cause
-      (refused_by told files t w.job (compared_then (walk_phases w)) (RepairFails w.conflicts) cause (λ n r. repair_fails told files t (parts n r) w cause) comes);
-  unrefused = λ told files w t is. (let objected = not_objected w.job w.conflicts (netlist_held files w.job) (recording_held files w.job) is in
+  fails = λ told files w cause t comes. as_repair w.job w.limits files cause
+      (refused_by told files t w.job (compared_then (walk_phases w)) (RepairFails w.limits) cause (λ n r. repair_fails told files t (parts n r) w cause) comes);
+  unrefused = λ told files w t is. (let objected = not_objected w.job w.limits (netlist_held files w.job) (recording_held files w.job) is in
       never_refused told files (repair_phases w) t (repair_exact w) (job_passes files w.job (compared_then (walk_phases w)) is.n is.r is.job
       (tt, is.faultless, (objected, λ found there. ((λ none never. never), λ conditions are. tt)))));
   only = λ w. job_among (job_reads w.job) w.job (itself_in (job_reads w.job)) (compared_then (walk_phases w)) (λ job agreed found conditions. tt);

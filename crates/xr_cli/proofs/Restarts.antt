@@ -13,6 +13,7 @@ use Rattle.xr_laws.specs.Starts.{DifferInStarts}
 use Rattle.xr_match.specs.Binding.{FitsBinding}
 use Rattle.xr_wave.specs.Contents.{Contents}
 use Rattle.xr_phases.specs.Repair.{FitsJob, IsRepairedBy}
+use Rattle.xr_model.specs.declared.limits.Limits.{Limits}
 
 pub set_fits : (n : ANetlist) (r : Recorded) (stim : Stim) → FitsJob n r → FitsStim n.design stim → DifferInStarts r.stim stim → PartsFit n.design n.order stim
 set_fits n r stim fits fits_stim others = record {
@@ -21,9 +22,9 @@ set_fits n r stim fits fits_stim others = record {
   fits_stim = fits_stim;
 }
 
-pub are_beside : (conflicts : ℕ) (n : ANetlist) (old new : Stim) (h i : HistoryView) (before after : Contents) → DifferInStarts old new
-    → IsRepairedBy conflicts n old h before → IsRepairedBy conflicts n new i after → AreBeside before after
-are_beside conflicts n old new h i before after others first second = record {
+pub are_beside : (limits : Limits) (n : ANetlist) (old new : Stim) (h i : HistoryView) (before after : Contents) → DifferInStarts old new
+    → IsRepairedBy limits n old h before → IsRepairedBy limits n new i after → AreBeside before after
+are_beside limits n old new h i before after others first second = record {
   design = second.of_job.design ∙ sym first.of_job.design;
   order = second.of_job.order ∙ sym first.of_job.order;
   moments = ap (λ (s : Stim). length s.times) second.of_job.stim ∙ ap (λ (times : List ℕ). length times) others.times ∙ sym (ap (λ (s : Stim). length s.times) first.of_job.stim);
@@ -32,6 +33,6 @@ are_beside conflicts n old new h i before after others first second = record {
   finished_too = second.finished;
 }
 
-pub bound_there : (conflicts : ℕ) (n : ANetlist) (r : Recorded) (h : HistoryView) (before : Contents) → FitsJob n r → IsRepairedBy conflicts n r.stim h before
+pub bound_there : (limits : Limits) (n : ANetlist) (r : Recorded) (h : HistoryView) (before : Contents) → FitsJob n r → IsRepairedBy limits n r.stim h before
     → FitsBinding before.design r.binding
-bound_there conflicts n r h before fits first = subst (λ (d : Design). FitsBinding d r.binding) (sym first.of_job.design) fits.recorded.binding
+bound_there limits n r h before fits first = subst (λ (d : Design). FitsBinding d r.binding) (sym first.of_job.design) fits.recorded.binding

@@ -31,15 +31,16 @@ use Rattle.xr_set.proofs.Lawful.{IsLawful}
 use Rattle.xr_shelf.specs.Shelf.{Files}
 use Rattle.xr_words.proofs.OneJob.{one_count, one_job, some_same}
 use Rattle.xr_words.specs.Words.{job_reads}
+use Rattle.xr_cli.proofs.OneLimits.{one_limits}
 
 one_upgrade : (option : Text → Option Text) (a b : UpgradeValues) → GivesUpgrade option a → GivesUpgrade option b → a.job.netlists ≡ b.job.netlists → a ≡ b
 one_upgrade option a b first second netlists =
     let job = one_job option a.job b.job first.job second.job netlists in
     let cert = some_same a.cert b.cert (option (codes "cert")) first.cert second.cert in
     let to = some_same a.to b.to (option (codes "to")) first.to second.to in
-    let conflicts = one_count (option (codes "conflicts")) 1000 100000 a.conflicts b.conflicts first.conflicts second.conflicts in
+    let limits = one_limits option a.limits b.limits first.limits second.limits in
     let lines = one_lines (option (codes "report")) a.lines b.lines first.lines second.lines in
-    λ i. record { job = job i; cert = cert i; to = to i; conflicts = conflicts i; lines = lines i }
+    λ i. record { job = job i; cert = cert i; to = to i; limits = limits i; lines = lines i }
 
 -- ---- what it finds
 
@@ -67,20 +68,20 @@ module _ (told : Bool) (files : Files) (t : IsTrue told) where
 
 module _ (told : Bool) (files : Files) (t : IsTrue told) (job : Parts) where
   upgrade_fails : (w : UpgradeValues) (cause : Refused) → ComesTo told files (compared_then (certified_upgrade w) job) (Err cause)
-      → UpgradeFails w.conflicts (text_held files (w.cert ∷ [])) job cause
+      → UpgradeFails w.limits (text_held files (w.cert ∷ [])) job cause
   upgrade_fails w cause (inl (e, refused, is)) =
-      subst (UpgradeFails w.conflicts (text_held files (w.cert ∷ [])) job) (sym (err_same {B = Answer} cause (Compare e) is)) (UpgradeFails.disagrees refused)
+      subst (UpgradeFails w.limits (text_held files (w.cert ∷ [])) job) (sym (err_same {B = Answer} cause (Compare e) is)) (UpgradeFails.disagrees refused)
   upgrade_fails w cause (inr (agreed, faultless, inl first)) =
-      subst (UpgradeFails w.conflicts (text_held files (w.cert ∷ [])) job) (sym (err_same {B = Answer} cause LongCertificate first.1)) (UpgradeFails.too_long faultless (first.0 t))
+      subst (UpgradeFails w.limits (text_held files (w.cert ∷ [])) job) (sym (err_same {B = Answer} cause LongCertificate first.1)) (UpgradeFails.too_long faultless (first.0 t))
   upgrade_fails w cause (inr (agreed, faultless, inr (text, read, inl (wrong, is, same)))) =
-      subst (UpgradeFails w.conflicts (text_held files (w.cert ∷ [])) job) (sym (err_same {B = Answer} cause (Certificate wrong) same))
+      subst (UpgradeFails w.limits (text_held files (w.cert ∷ [])) job) (sym (err_same {B = Answer} cause (Certificate wrong) same))
       (UpgradeFails.wrong faultless (subst (λ (l : List ℕ). IsWrong l wrong) (read.is t) is))
   upgrade_fails w cause (inr (agreed, faultless, inr (text, read, inr (cert, stands, inl (wrong, is, same))))) =
-      subst (UpgradeFails w.conflicts (text_held files (w.cert ∷ [])) job)
+      subst (UpgradeFails w.limits (text_held files (w.cert ∷ [])) job)
       (sym (err_same {B = Answer} cause (Certificate wrong) same ∙ ap (λ (u : Uncertified). Certificate u) is.1))
       (UpgradeFails.turned faultless cert (subst (λ (l : List ℕ). IsTextOf l cert) (read.is t) stands) is.0)
   upgrade_fails w cause (inr (agreed, faultless, inr (text, read, inr (cert, stands, inr (plain, form, inl (refused, is, same)))))) =
-      subst (UpgradeFails w.conflicts (text_held files (w.cert ∷ [])) job) (sym (err_same {B = Answer} cause refused same))
+      subst (UpgradeFails w.limits (text_held files (w.cert ∷ [])) job) (sym (err_same {B = Answer} cause refused same))
       (UpgradeFails.unaccepted faultless cert (subst (λ (l : List ℕ). IsTextOf l cert) (read.is t) stands) form is)
   upgrade_fails w cause (inr (agreed, faultless, inr (text, read, inr (cert, stands, inr (plain, form, inr (shows, is, inl (none, never, same))))))) = absurd never
   upgrade_fails w cause (inr (agreed, faultless, inr (text, read, inr (cert, stands, inr (plain, form, inr (shows, is, inr (conditions, are, same))))))) =
@@ -88,9 +89,9 @@ module _ (told : Bool) (files : Files) (t : IsTrue told) (job : Parts) where
 
 module _ (told : Bool) (files : Files) (t : IsTrue told) where
   upgrade_refused : (w : UpgradeValues) (cause : Refused) → ComesTo told files (upgrade_phases w) (Err cause)
-      → AreRefused w.job (netlist_held files w.job) (recording_held files w.job) (UpgradeFails w.conflicts (text_held files (w.cert ∷ []))) cause
+      → AreRefused w.job (netlist_held files w.job) (recording_held files w.job) (UpgradeFails w.limits (text_held files (w.cert ∷ []))) cause
   upgrade_refused w cause comes =
-      refused_by told files t w.job (compared_then (certified_upgrade w)) (UpgradeFails w.conflicts (text_held files (w.cert ∷ []))) cause
+      refused_by told files t w.job (compared_then (certified_upgrade w)) (UpgradeFails w.limits (text_held files (w.cert ∷ []))) cause
       (λ n r. upgrade_fails told files t (parts n r) w cause) comes
 
 -- ---- its laws
@@ -105,7 +106,7 @@ upgrade_exact w = job_exact w.job (compared_then (certified_upgrade w))
       one_compared n r orders,
       λ agreed faultless text. (
         one_certificate text,
-        λ cert stands. (one_form cert, λ plain form. (one_check w.conflicts (parts n r) cert, λ shows is conditions are. tt)),
+        λ cert stands. (one_form cert, λ plain form. (one_check w.limits (parts n r) cert, λ shows is conditions are. tt)),
       ),
     ))
 
@@ -134,7 +135,7 @@ lawful_upgrade = record {
   says = λ told rest files w answer t line comes. upgrade_says told files t w answer (job_found told files t w.job (compared_then (certified_upgrade w)) answer comes);
   fails = λ told files w cause t comes. upgrade_refused told files t w cause comes;
   unrefused = λ told files w t is. λ cause comes.
-      upgrade_unrefused w.job (netlist_held files w.job) (recording_held files w.job) is.n is.r is.job w.conflicts
+      upgrade_unrefused w.job (netlist_held files w.job) (recording_held files w.job) is.n is.r is.job w.limits
       (text_held files (w.cert ∷ [])) is.replay is.agrees is.fits is.certificate is.stands is.waveform is.accepted is.form_is cause
       (upgrade_refused told files t w cause comes);
   only = λ w. job_among (w.cert ∷ job_reads w.job) w.job (later w.cert (job_reads w.job)) (compared_then (certified_upgrade w)) (λ job agreed. (own_in w.cert (job_reads w.job), λ text cert plain shows conditions. tt));

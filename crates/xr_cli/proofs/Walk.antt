@@ -18,7 +18,7 @@ use Rattle.xr_job.specs.declared.netlist.Netlist.{Netlist as ANetlist}
 use Rattle.xr_job.specs.declared.recorded.Recorded.{Recorded}
 use Rattle.xr_prove.specs.Proof.{ProofComes}
 use Rattle.xr_cli.specs.Check.{CheckValues, check_answer, checked_phases}
-use Rattle.xr_cli.specs.Make.{MakeValues, made_conflicts, make_answer, walk_made}
+use Rattle.xr_cli.specs.Make.{MakeValues, made_limits, make_answer, walk_made}
 use Rattle.xr_cli.specs.Repair.{RepairValues, forces_in, repair_answer, texts_phases, walk_phases}
 use Rattle.xr_cli.specs.Replay.{ReplayValues, forced_phases, replay_answer}
 use Rattle.xr_cli.specs.Upgrade.{UpgradeValues, checked_upgrade, turned_phases, upgrade_answer}
@@ -28,21 +28,22 @@ use Rattle.xr_cli.specs.Prove.{proof_phases, prove_answer}
 use Rattle.xr_phases.specs.Phases.{itself, no_cause, parts, proof_cause, walk_cause}
 use Rattle.xr_phases.specs.Repair.{Found, IsFound, WalkComes}
 use Rattle.xr_phases.specs.declared.parts.Parts.{Parts}
+use Rattle.xr_model.specs.declared.limits.Limits.{Limits}
 
 -- A wave that is found, with its texts.
 pub walk_found : (w : RepairValues) (n : ANetlist) (r : Recorded) (found : Found) (conditions : List ConditionView) (ready : Ready)
-    → IsFound w.conflicts n r found → AreConditionsFor (form_of w.form) found.wave conditions → answer_of ready ≡ repair_answer w n r found conditions
+    → IsFound w.limits n r found → AreConditionsFor (form_of w.form) found.wave conditions → answer_of ready ≡ repair_answer w n r found conditions
     → PreparedAlone (walk_phases w (parts n r)) answer_of (Ok ready)
 walk_found w n r found conditions ready is are same =
-    searched_then (WalkComes w.conflicts n r) walk_cause (texts_phases w n r) itself answer_of found (Ok ready) record { found = is; refused = tt }
+    searched_then (WalkComes w.limits n r) walk_cause (texts_phases w n r) itself answer_of found (Ok ready) record { found = is; refused = tt }
     (searched_then (ConditionsCome (form_of w.form) found.wave) no_cause (λ (x : List ConditionView). Phases.Finds (repair_answer w n r found x)) itself answer_of
     conditions (Ok ready) record { found = are; refused = tt } (λ told v. found_prepared told answer_of (repair_answer w n r found conditions) v ready same))
 
 -- A wave of a made job that is found, with what is printed of it.
-pub made_found : (w : MakeValues) (recording : List ℕ) (n : ANetlist) (r : Recorded) (found : Found) (ready : Ready) → IsFound made_conflicts n r found
+pub made_found : (w : MakeValues) (recording : List ℕ) (n : ANetlist) (r : Recorded) (found : Found) (ready : Ready) → IsFound made_limits n r found
     → answer_of ready ≡ make_answer w recording found.wave → PreparedAlone (walk_made w recording n r) answer_of (Ok ready)
 made_found w recording n r found ready is same =
-    searched_then (WalkComes made_conflicts n r) walk_cause (λ (x : Found). Phases.Finds (make_answer w recording x.wave)) itself answer_of
+    searched_then (WalkComes made_limits n r) walk_cause (λ (x : Found). Phases.Finds (make_answer w recording x.wave)) itself answer_of
     found (Ok ready) record { found = is; refused = tt } (λ told v. found_prepared told answer_of (make_answer w recording found.wave) v ready same)
 
 -- A replay that is found, with its texts.
@@ -54,34 +55,34 @@ replay_found w job forces history ready is same = λ told v.
     (found_prepared told answer_of (replay_answer w job history) v ready same)
 
 -- What a check shows of a certified wave and its conditions.
-shown : (conflicts : ℕ) (job : Parts) (cert : Cert) (wave : Contents) (conditions : List ConditionView) → IsCertified conflicts job cert wave conditions
-    → CheckComes conflicts job cert (Ok (check_shows wave conditions))
-shown conflicts job cert wave conditions is = record { conditions = conditions; certified = is; listing_is = refl }
+shown : (limits : Limits) (job : Parts) (cert : Cert) (wave : Contents) (conditions : List ConditionView) → IsCertified limits job cert wave conditions
+    → CheckComes limits job cert (Ok (check_shows wave conditions))
+shown limits job cert wave conditions is = record { conditions = conditions; certified = is; listing_is = refl }
 
 -- A certified wave, with its report.
 pub check_found : (w : CheckValues) (job : Parts) (cert : Cert) (wave : Contents) (conditions : List ConditionView) (ready : Ready)
-    → IsCertified w.conflicts job cert wave conditions → answer_of ready ≡ check_answer w job (check_shows wave conditions)
+    → IsCertified w.limits job cert wave conditions → answer_of ready ≡ check_answer w job (check_shows wave conditions)
     → PreparedAlone (checked_phases w job cert) answer_of (Ok ready)
 check_found w job cert wave conditions ready is same =
-    judged_then (CheckComes w.conflicts job cert) itself (λ (x : CheckShows). Phases.Finds (check_answer w job x)) itself answer_of
-    (check_shows wave conditions) (Ok ready) record { found = shown w.conflicts job cert wave conditions is; refused = tt }
+    judged_then (CheckComes w.limits job cert) itself (λ (x : CheckShows). Phases.Finds (check_answer w job x)) itself answer_of
+    (check_shows wave conditions) (Ok ready) record { found = shown w.limits job cert wave conditions is; refused = tt }
     (λ told v. found_prepared told answer_of (check_answer w job (check_shows wave conditions)) v ready same)
 
 -- A certified wave, with the certificate of form 2 of it and of conditions, and its report.
 pub upgrade_found : (w : UpgradeValues) (job : Parts) (cert : Cert) (wave : Contents) (conditions found : List ConditionView) (ready : Ready)
-    → IsCertified w.conflicts job cert wave conditions → AreConditionsFor Turns wave found → answer_of ready ≡ upgrade_answer w job wave found
+    → IsCertified w.limits job cert wave conditions → AreConditionsFor Turns wave found → answer_of ready ≡ upgrade_answer w job wave found
     → PreparedAlone (checked_upgrade w job cert) answer_of (Ok ready)
 upgrade_found w job cert wave conditions found ready is are same =
-    judged_then (CheckComes w.conflicts job cert) itself (λ (x : CheckShows). turned_phases w job x.wave) itself answer_of
-    (check_shows wave conditions) (Ok ready) record { found = shown w.conflicts job cert wave conditions is; refused = tt }
+    judged_then (CheckComes w.limits job cert) itself (λ (x : CheckShows). turned_phases w job x.wave) itself answer_of
+    (check_shows wave conditions) (Ok ready) record { found = shown w.limits job cert wave conditions is; refused = tt }
     (searched_then (ConditionsCome Turns wave) no_cause (λ (x : List ConditionView). Phases.Finds (upgrade_answer w job wave x)) itself answer_of
     found (Ok ready) record { found = are; refused = tt } (λ told v. found_prepared told answer_of (upgrade_answer w job wave found) v ready same))
 
 -- A wave that is found, with what is then found of it.
-pub listed_found : (conflicts : ℕ) (n : ANetlist) (r : Recorded) (Comes : Contents → Result Answer ⊥ → Type 0) (found : Found) (ready : Ready) → IsFound conflicts n r found
-    → Comes found.wave (Ok (answer_of ready)) → PreparedAlone (searches (WalkComes conflicts n r) walk_cause >>= (λ (x : Found). searches (Comes x.wave) no_cause)) answer_of (Ok ready)
-listed_found conflicts n r Comes found ready is lists =
-    searched_then (WalkComes conflicts n r) walk_cause (λ (x : Found). searches (Comes x.wave) no_cause) itself answer_of
+pub listed_found : (limits : Limits) (n : ANetlist) (r : Recorded) (Comes : Contents → Result Answer ⊥ → Type 0) (found : Found) (ready : Ready) → IsFound limits n r found
+    → Comes found.wave (Ok (answer_of ready)) → PreparedAlone (searches (WalkComes limits n r) walk_cause >>= (λ (x : Found). searches (Comes x.wave) no_cause)) answer_of (Ok ready)
+listed_found limits n r Comes found ready is lists =
+    searched_then (WalkComes limits n r) walk_cause (λ (x : Found). searches (Comes x.wave) no_cause) itself answer_of
     found (Ok ready) record { found = is; refused = tt }
     (λ told v. searched_prepared told (Comes found.wave) no_cause answer_of v (Ok ready) record { found = lists; refused = tt })
 

@@ -14,6 +14,7 @@ use Rattle.xr_line.specs.Line.{Text}
 use Rattle.xr_phases.specs.OfListing.{TellsAudit}
 use Rattle.xr_model.specs.Growth.{Holds}
 use Rattle.xr_model.specs.declared.line.Line.{Line as ALine}
+use Rattle.xr_model.specs.declared.limits.Limits.{Limits}
 use Rattle.xr_phases.specs.Phases.{agreed_then, no_cause}
 use Rattle.xr_phases.specs.Repair.{AgreesThroughout, FitsJob, IsRepairedBy, recording_limit}
 use Rattle.xr_phases.specs.Texts.{AreRefused, IsJob, netlist_held, recording_held}
@@ -27,20 +28,21 @@ use Rattle.xr_shelf.specs.Shelf.{Files}
 use Rattle.xr_wave.specs.Contents.{Contents}
 use Rattle.xr_words.specs.Words.{GivesJob, IsCount, JobValues, job_reads, job_values}
 use Rattle.xr_words.specs.Forms as shared
+use Rattle.xr_cli.specs.Limits.{AreLimitsOf}
 
 -- ---- words
 
 pub record AuditValues : Type 0 where
   pub job : JobValues
-  pub conflicts : ℕ
+  pub limits : Limits
 
 -- These are those of `audit`, which writes no file.
 pub record GivesAudit (option : Text → Option Text) (v : AuditValues) : Type 0 where
   pub job : GivesJob option v.job
-  pub conflicts : IsCount (option (codes "conflicts")) 1000 100000 v.conflicts
+  pub limits : AreLimitsOf option v.limits
 
 abbrev pub audit_values : Audit → AuditValues
-audit_values words = record { job = job_values words.job; conflicts = words.conflicts }
+audit_values words = record { job = job_values words.job; limits = words.limits }
 
 -- ---- phases
 
@@ -50,24 +52,24 @@ pub record PrintsAudit (wave : Contents) (replay : HistoryView) (answer : Answer
   pub tells : TellsAudit wave replay answer.printed
 
 -- It is that of a finished wave of the job over a blank history, beside the job's replay.
-pub record ListsAudit (conflicts : ℕ) (n : ANetlist) (r : Recorded) (answer : Answer) : Type 0 where
+pub record ListsAudit (limits : Limits) (n : ANetlist) (r : Recorded) (answer : Answer) : Type 0 where
   pub fits : FitsJob n r
   pub replay : HistoryView
   pub is_replay : IsReplay (job_for n r) replay
   pub blank : HistoryView
   pub is_blank : IsBlank (job_for n r) blank
   pub wave : Contents
-  pub repaired : IsRepairedBy conflicts n r.stim blank wave
+  pub repaired : IsRepairedBy limits n r.stim blank wave
   pub prints : PrintsAudit wave replay answer
 
 -- That is found; it comes to nothing else.
-abbrev pub AuditComes : ℕ → ANetlist → Recorded → Result Answer ⊥ → Type 0
-AuditComes conflicts n r (Ok answer) = ListsAudit conflicts n r answer
-AuditComes conflicts n r (Err none) = ⊥
+abbrev pub AuditComes : Limits → ANetlist → Recorded → Result Answer ⊥ → Type 0
+AuditComes limits n r (Ok answer) = ListsAudit limits n r answer
+AuditComes limits n r (Err none) = ⊥
 
 -- The places that the replay knows otherwise are printed. Over a blank history the walk finds no place otherwise.
 abbrev pub walk_audited : AuditValues → Parts → Phases Answer Refused
-walk_audited w job = searches (AuditComes w.conflicts job.netlist job.recorded) no_cause
+walk_audited w job = searches (AuditComes w.limits job.netlist job.recorded) no_cause
 
 abbrev pub audit_phases : AuditValues → Phases Answer Refused
 audit_phases w = agreed_then w.job (walk_audited w)
@@ -88,10 +90,10 @@ pub record Audits (w : AuditValues) (netlist recording : List ℕ) (answer : Ans
   pub lines : List ALine
   pub whole : length waveform ≡ places_of (job_for n r)
   -- The waveform is sound for the history that knows nothing, and the lines yield it.
-  pub holds : Holds (job_for n r) w.conflicts (shown_of (job_for n r) blank) waveform lines
+  pub holds : Holds (job_for n r) w.limits (shown_of (job_for n r) blank) waveform lines
   -- No file is written. What is printed has exactly the places that the replay knows and the waveform has otherwise,
   -- with what is found there, the rows of primitives that gave the origins among them, and how many places are open.
-  pub prints : PrintsAudit (wave_of n r blank w.conflicts waveform lines) replay answer
+  pub prints : PrintsAudit (wave_of n r blank w.limits waveform lines) replay answer
 
 -- No file is written, and what is printed is of the texts that the files hold.
 abbrev pub SaysAudit : Files → AuditValues → Answer → Type 0
@@ -113,7 +115,7 @@ pub data AuditFails (job : Parts) : Refused → Type 0 where
 abbrev pub audit : Command Refused
 audit = record {
   word = codes "audit";
-  table = shared.job (shared.conflicts ∷ []);
+  table = shared.job (shared.conflicts ∷ shared.enumerate ∷ []);
   has_files = true;
   Values = AuditValues;
   files = λ v. v.job.netlists;

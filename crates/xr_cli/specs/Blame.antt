@@ -19,20 +19,22 @@ use Rattle.xr_wave.specs.Contents.{Contents}
 use Rattle.xr_words.specs.Words.{GivesJob, IsCount, JobValues, job_reads, job_values}
 use Rattle.xr_words.specs.declared.words.Form.TheVariants.{Lines}
 use Rattle.xr_words.specs.Forms as shared
+use Rattle.xr_model.specs.declared.limits.Limits.{Limits}
+use Rattle.xr_cli.specs.Limits.{AreLimitsOf}
 
 -- ---- words
 
 pub record BlameValues : Type 0 where
   pub job : JobValues
-  pub conflicts : ℕ
+  pub limits : Limits
 
 -- These are those of `blame`, which writes no file.
 pub record GivesBlame (option : Text → Option Text) (v : BlameValues) : Type 0 where
   pub job : GivesJob option v.job
-  pub conflicts : IsCount (option (codes "conflicts")) 1000 100000 v.conflicts
+  pub limits : AreLimitsOf option v.limits
 
 abbrev pub blame_values : Blame → BlameValues
-blame_values words = record { job = job_values words.job; conflicts = words.conflicts }
+blame_values words = record { job = job_values words.job; limits = words.limits }
 
 -- ---- phases
 
@@ -44,7 +46,7 @@ repair_to_blame w = record {
   code = [];
   cert = [];
   form = Lines;
-  conflicts = w.conflicts;
+  limits = w.limits;
   lines = report.All;
 }
 
@@ -61,7 +63,7 @@ BlameComes bound wave (Err none) = ⊥
 -- What is to blame for the unknown bits is printed.
 abbrev pub walk_blamed : BlameValues → Parts → Phases Answer Refused
 walk_blamed w job = do
-  found ← searches (WalkComes w.conflicts job.netlist job.recorded) walk_cause
+  found ← searches (WalkComes w.limits job.netlist job.recorded) walk_cause
   searches (BlameComes job.recorded.binding.bound found.wave) no_cause
 
 abbrev pub blame_phases : BlameValues → Phases Answer Refused
@@ -71,7 +73,7 @@ blame_phases w = agreed_then w.job (walk_blamed w)
 
 -- The texts stand for a job that is repaired, so that:
 pub record Blames (w : BlameValues) (netlist recording : List ℕ) (answer : Answer) : Type 0 where
-  pub job : RepairedJob w.job w.conflicts netlist recording
+  pub job : RepairedJob w.job w.limits netlist recording
   -- No file is written. What is printed has each bound bit that is unknown at the last round of a moment once, with a
   -- source and a filling to blame for it, and no other bit; and each source once, with the number of its bits.
   pub lists : ListsBlame job.r.binding.bound (wave_of_job job) answer
@@ -84,7 +86,7 @@ SaysBlame files w answer = Blames w (netlist_held files w.job) (recording_held f
 abbrev pub blame : Command Refused
 blame = record {
   word = codes "blame";
-  table = shared.job (shared.conflicts ∷ []);
+  table = shared.job (shared.conflicts ∷ shared.enumerate ∷ []);
   has_files = true;
   Values = BlameValues;
   files = λ v. v.job.netlists;
@@ -92,7 +94,7 @@ blame = record {
   inputs = λ v. job_reads v.job;
   most = recording_limit;
   phases = blame_phases;
-  InOrder = λ files v. IsRepairable v.job v.conflicts (netlist_held files v.job) (recording_held files v.job);
+  InOrder = λ files v. IsRepairable v.job v.limits (netlist_held files v.job) (recording_held files v.job);
   Says = SaysBlame;
-  Fails = λ files v cause. FailsAsRepair v.job v.conflicts files cause;
+  Fails = λ files v cause. FailsAsRepair v.job v.limits files cause;
 }

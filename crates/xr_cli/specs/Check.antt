@@ -31,27 +31,29 @@ use Rattle.xr_set.specs.Command.{Command}
 use Rattle.xr_shelf.specs.Shelf.{Files}
 use Rattle.xr_words.specs.Words.{GivesJob, IsCount, JobValues, job_reads, job_values}
 use Rattle.xr_words.specs.Forms as shared
+use Rattle.xr_model.specs.declared.limits.Limits.{Limits}
+use Rattle.xr_cli.specs.Limits.{AreLimitsOf}
 
 -- ---- words
 
 pub record CheckValues : Type 0 where
   pub job : JobValues
   pub cert : Text
-  pub conflicts : ℕ
+  pub limits : Limits
   pub lines : ReportLines
 
 -- These are those of `check`, which writes no file.
 pub record GivesCheck (option : Text → Option Text) (v : CheckValues) : Type 0 where
   pub job : GivesJob option v.job
   pub cert : option (codes "cert") ≡ Some v.cert
-  pub conflicts : IsCount (option (codes "conflicts")) 1000 100000 v.conflicts
+  pub limits : AreLimitsOf option v.limits
   pub lines : IsLines (option (codes "report")) v.lines
 
 abbrev pub check_values : Check → CheckValues
 check_values words = record {
   job = job_values words.job;
   cert = words.cert.now;
-  conflicts = words.conflicts;
+  limits = words.limits;
   lines = words.lines;
 }
 
@@ -66,7 +68,7 @@ check_answer w job shows = record {
 
 abbrev pub checked_phases : CheckValues → Parts → Cert → Phases Answer Refused
 checked_phases w job cert = do
-  shows ← judges (CheckComes w.conflicts job cert) itself
+  shows ← judges (CheckComes w.limits job cert) itself
   Phases.Finds (check_answer w job shows)
 
 abbrev pub certified_phases : CheckValues → Parts → Phases Answer Refused
@@ -81,16 +83,16 @@ check_phases w = agreed_then w.job (certified_phases w)
 
 -- The texts stand for a job that is repaired by a certificate.
 pub record Checks (w : CheckValues) (netlist recording cert report : List ℕ) : Type 0 where
-  pub job : RepairedJob w.job w.conflicts netlist recording
+  pub job : RepairedJob w.job w.limits netlist recording
   pub fits : FitsJob job.n job.r
   -- The text stands for this one, which is accepted, whoever wrote it: its lines yield the waveform.
   pub certificate : Cert
   pub stands : IsTextOf cert certificate
   pub lines_are : job.lines ≡ lines_in certificate.entries
-  pub accepted : IsAccepted (beginning w.conflicts job.n job.r job.replay) certificate job.waveform
+  pub accepted : IsAccepted (beginning w.limits job.n job.r job.replay) certificate job.waveform
   -- In form 2 there is a condition for each certain Line place, whose turns stand in the text; in form 1 there is none.
   pub conditions : List Condition
-  pub conditions_are : HaveConditions certificate.form (circuit_of job) w.conflicts job.waveform job.lines
+  pub conditions_are : HaveConditions certificate.form (circuit_of job) w.limits.conflicts job.waveform job.lines
       conditions
   pub stated : certificate.entries ≡ entries_by job.lines conditions
   -- What is printed is the report of that waveform, and the lines of the conditions.
@@ -118,14 +120,14 @@ pub record IsCheckable (w : CheckValues) (netlist recording cert : List ℕ) : T
   pub certificate : Cert
   pub stands : IsTextOf cert certificate
   pub waveform : List Written
-  pub accepted : IsAccepted (beginning w.conflicts n r replay) certificate waveform
+  pub accepted : IsAccepted (beginning w.limits n r replay) certificate waveform
 
 -- ---- the command
 
 abbrev pub check : Command Refused
 check = record {
   word = codes "check";
-  table = shared.job (needs (codes "cert") Reads ∷ shared.conflicts ∷ shared.report ∷ []);
+  table = shared.job (needs (codes "cert") Reads ∷ shared.conflicts ∷ shared.enumerate ∷ shared.report ∷ []);
   has_files = true;
   Values = CheckValues;
   files = λ v. v.job.netlists;
@@ -137,5 +139,5 @@ check = record {
       (text_held files (v.cert ∷ []));
   Says = SaysCheck;
   Fails = λ files v cause. AreRefused v.job (netlist_held files v.job) (recording_held files v.job)
-      (CheckFails v.conflicts (text_held files (v.cert ∷ []))) cause;
+      (CheckFails v.limits (text_held files (v.cert ∷ []))) cause;
 }

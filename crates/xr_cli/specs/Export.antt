@@ -22,23 +22,25 @@ use Rattle.xr_wave.specs.Contents.{Contents}
 use Rattle.xr_words.specs.Words.{GivesJob, IsCount, JobValues, job_reads, job_values}
 use Rattle.xr_words.specs.declared.words.Form.TheVariants.{Lines}
 use Rattle.xr_words.specs.Forms as shared
+use Rattle.xr_model.specs.declared.limits.Limits.{Limits}
+use Rattle.xr_cli.specs.Limits.{AreLimitsOf}
 
 -- ---- words
 
 pub record ExportValues : Type 0 where
   pub job : JobValues
   pub prefix : Text
-  pub conflicts : ℕ
+  pub limits : Limits
 
 -- These are those of `export`, and no file that is read has a name of those that may be written.
 pub record GivesExport (option : Text → Option Text) (v : ExportValues) : Type 0 where
   pub job : GivesJob option v.job
   pub prefix : option (codes "to") ≡ Some v.prefix
-  pub conflicts : IsCount (option (codes "conflicts")) 1000 100000 v.conflicts
+  pub limits : AreLimitsOf option v.limits
   pub free : AreFree v.prefix (v.job.recording ∷ v.job.netlists)
 
 abbrev pub export_values : Export → ExportValues
-export_values words = record { job = job_values words.job; prefix = words.prefix.now; conflicts = words.conflicts }
+export_values words = record { job = job_values words.job; prefix = words.prefix.now; limits = words.limits }
 
 -- ---- phases
 
@@ -50,7 +52,7 @@ repair_for w = record {
   code = [];
   cert = [];
   form = Lines;
-  conflicts = w.conflicts;
+  limits = w.limits;
   lines = report.All;
 }
 
@@ -62,7 +64,7 @@ ExportComes prefix wave (Err none) = ⊥
 -- The certificate, the queries and the logs are written, and what is printed tells how many there are.
 abbrev pub walk_exported : ExportValues → Parts → Phases Answer Refused
 walk_exported w job = do
-  found ← searches (WalkComes w.conflicts job.netlist job.recorded) walk_cause
+  found ← searches (WalkComes w.limits job.netlist job.recorded) walk_cause
   searches (ExportComes w.prefix found.wave) no_cause
 
 abbrev pub export_phases : ExportValues → Phases Answer Refused
@@ -72,7 +74,7 @@ export_phases w = agreed_then w.job (walk_exported w)
 
 -- The texts stand for a job that is repaired, so that:
 pub record Exported (w : ExportValues) (netlist recording : List ℕ) (answer : Answer) : Type 0 where
-  pub job : RepairedJob w.job w.conflicts netlist recording
+  pub job : RepairedJob w.job w.limits netlist recording
   -- The certificate of these lines is accepted for the job: they yield the waveform.
   pub certifies : Certifies (repair_for w) job.n job.r job.replay job.waveform job.lines []
       (cert_text (cert_of (wave_of_job job)))
@@ -89,7 +91,7 @@ SaysExport files w answer = Exported w (netlist_held files w.job) (recording_hel
 abbrev pub export : Command Refused
 export = record {
   word = codes "export";
-  table = shared.job (needs (codes "to") Prefix ∷ shared.conflicts ∷ []);
+  table = shared.job (needs (codes "to") Prefix ∷ shared.conflicts ∷ shared.enumerate ∷ []);
   has_files = true;
   Values = ExportValues;
   files = λ v. v.job.netlists;
@@ -97,7 +99,7 @@ export = record {
   inputs = λ v. job_reads v.job;
   most = recording_limit;
   phases = export_phases;
-  InOrder = λ files v. IsRepairable v.job v.conflicts (netlist_held files v.job) (recording_held files v.job);
+  InOrder = λ files v. IsRepairable v.job v.limits (netlist_held files v.job) (recording_held files v.job);
   Says = SaysExport;
-  Fails = λ files v cause. FailsAsRepair v.job v.conflicts files cause;
+  Fails = λ files v cause. FailsAsRepair v.job v.limits files cause;
 }

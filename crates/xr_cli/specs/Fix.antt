@@ -15,6 +15,7 @@ use Rattle.xr_line.specs.Tables.{Sets, needs}
 use Rattle.xr_phases.specs.OfListing.{fix_text}
 use Rattle.xr_model.specs.Growth.{Holds}
 use Rattle.xr_model.specs.declared.line.Line.{Line as ALine}
+use Rattle.xr_model.specs.declared.limits.Limits.{Limits}
 use Rattle.xr_phases.specs.Phases.{agreed_then, start_cause, walk_cause}
 use Rattle.xr_phases.specs.Repair.{AgreesThroughout, IsObjectionIn, ReplayWalkComes, recording_limit}
 use Rattle.xr_phases.specs.Sets.{StartsCome, piece_text, sets_of}
@@ -29,22 +30,23 @@ use Rattle.xr_shelf.specs.Shelf.{Files}
 use Rattle.xr_wave.specs.Contents.{Contents}
 use Rattle.xr_words.specs.Words.{GivesJob, IsCount, JobValues, job_reads, job_values}
 use Rattle.xr_words.specs.Forms as shared
+use Rattle.xr_cli.specs.Limits.{AreLimitsOf}
 
 -- ---- words
 
 pub record FixValues : Type 0 where
   pub job : JobValues
   pub sets : Text
-  pub conflicts : ℕ
+  pub limits : Limits
 
 -- These are those of `fix`, which writes no file.
 pub record GivesFix (option : Text → Option Text) (v : FixValues) : Type 0 where
   pub job : GivesJob option v.job
   pub sets : option (codes "set") ≡ Some v.sets
-  pub conflicts : IsCount (option (codes "conflicts")) 1000 100000 v.conflicts
+  pub limits : AreLimitsOf option v.limits
 
 abbrev pub fix_values : Fix → FixValues
-fix_values words = record { job = job_values words.job; sets = words.sets.now; conflicts = words.conflicts }
+fix_values words = record { job = job_values words.job; sets = words.sets.now; limits = words.limits }
 
 -- ---- phases
 
@@ -55,12 +57,12 @@ fix_answer w r before after =
 
 abbrev pub walk_set : FixValues → ANetlist → Recorded → Stim → Contents → Phases Answer Refused
 walk_set w n r stim before = do
-  after ← searches (ReplayWalkComes w.conflicts n stim) walk_cause
+  after ← searches (ReplayWalkComes w.limits n stim) walk_cause
   Phases.Finds (fix_answer w r before after.wave)
 
 abbrev pub walk_fixed : FixValues → ANetlist → Recorded → Stim → Phases Answer Refused
 walk_fixed w n r stim = do
-  before ← searches (ReplayWalkComes w.conflicts n r.stim) walk_cause
+  before ← searches (ReplayWalkComes w.limits n r.stim) walk_cause
   walk_set w n r stim before.wave
 
 abbrev pub set_phases : FixValues → Parts → Phases Answer Refused
@@ -74,37 +76,37 @@ fix_phases w = agreed_then w.job (set_phases w)
 -- ---- promises
 
 -- The wave of a design under a stimulus, over a history, with what is written and the lines.
-abbrev pub wave_under : ANetlist → Stim → HistoryView → ℕ → List Written → List ALine → Contents
-wave_under n stim history conflicts waveform lines = record {
+abbrev pub wave_under : ANetlist → Stim → HistoryView → Limits → List Written → List ALine → Contents
+wave_under n stim history limits waveform lines = record {
   design = n.design;
   order = n.order;
   stim = stim;
   history = history;
-  limit = conflicts;
+  limits = limits;
   written = waveform;
   lines = lines;
 }
 
 -- A history is the replay of a design under a stimulus; and there are a waveform of all its places and lines that yield
 -- it, and it is sound for the replay.
-pub record HasWave (conflicts : ℕ) (n : ANetlist) (stim : Stim) : Type 0 where
+pub record HasWave (limits : Limits) (n : ANetlist) (stim : Stim) : Type 0 where
   pub history : HistoryView
   pub replay : IsReplay (job_of n.design n.order stim) history
   pub waveform : List Written
   pub lines : List ALine
   pub whole : length waveform ≡ places_of (job_of n.design n.order stim)
-  pub holds : Holds (job_of n.design n.order stim) conflicts (shown_of (job_of n.design n.order stim) history)
+  pub holds : Holds (job_of n.design n.order stim) limits (shown_of (job_of n.design n.order stim) history)
       waveform lines
 
-abbrev pub wave_in : (conflicts : ℕ) (n : ANetlist) (stim : Stim) → HasWave conflicts n stim → Contents
-wave_in conflicts n stim has = wave_under n stim has.history conflicts has.waveform has.lines
+abbrev pub wave_in : (limits : Limits) (n : ANetlist) (stim : Stim) → HasWave limits n stim → Contents
+wave_in limits n stim has = wave_under n stim has.history limits has.waveform has.lines
 
 -- The texts stand for a job whose recording agrees with its replay.
 pub record Fixes (w : FixValues) (netlist recording : List ℕ) (answer : Answer) : Type 0 where
   pub n : ANetlist
   pub r : Recorded
   pub job : IsJob w.job netlist recording n r
-  pub before : HasWave w.conflicts n r.stim
+  pub before : HasWave w.limits n r.stim
   pub agrees : AgreesThroughout n r before.history
   -- The list is names and bits, each `NAME=B`, joined by commas. Each is the written name of a register whose start is
   -- unknown, no name comes twice, and under the second stimulus these start with their bits, and all else is equal.
@@ -112,13 +114,13 @@ pub record Fixes (w : FixValues) (netlist recording : List ℕ) (answer : Answer
   pub stim : Stim
   pub started : IsStarted n.design r.stim (sets_of w.sets) stim
   -- It has a waveform too, for a replay of its own.
-  pub after : HasWave w.conflicts n stim
+  pub after : HasWave w.limits n stim
   -- No file is written. What is printed has each bound bit at the last round of a moment that is certain in the second
   -- waveform and not in the first, with its new value, and each that was certain in the first and isn't with that value
   -- in the second, with its old one.
   pub files_are : answer.files ≡ []
   pub printed_is : answer.printed
-      ≡ fix_text (length (sets_of w.sets)) (wave_in w.conflicts n r.stim before) (wave_in w.conflicts n stim after)
+      ≡ fix_text (length (sets_of w.sets)) (wave_in w.limits n r.stim before) (wave_in w.limits n stim after)
       r.binding
 
 -- No file is written, and what is printed is of the texts that the files hold.
@@ -134,23 +136,23 @@ pub record IsFixable (w : FixValues) (netlist recording : List ℕ) : Type 0 whe
   pub faultless : IsFaultless (job_for n r) r.recording r.binding
   pub stim : Stim
   pub started : IsStarted n.design r.stim (sets_of w.sets) stim
-  pub none : (objection : Objection) → IsObjectionIn w.conflicts n r.stim objection → ⊥
-  pub none_set : (objection : Objection) → IsObjectionIn w.conflicts n stim objection → ⊥
+  pub none : (objection : Objection) → IsObjectionIn w.limits n r.stim objection → ⊥
+  pub none_set : (objection : Objection) → IsObjectionIn w.limits n stim objection → ⊥
 
 -- What the texts are refused for; and a place that is found otherwise without an undecided line before it is the one of
 -- the recorded starts, or else of the set ones.
 pub record FailsFix (files : Files) (w : FixValues) (cause : Refused) : Type 0 where
   pub refused : AreRefused w.job (netlist_held files w.job) (recording_held files w.job)
-      (FixFails w.conflicts (sets_of w.sets)) cause
+      (FixFails w.limits (sets_of w.sets)) cause
   pub one : IfOptimistic
-      (IsOneOfWalks w.conflicts (sets_of w.sets) w.job (netlist_held files w.job) (recording_held files w.job)) cause
+      (IsOneOfWalks w.limits (sets_of w.sets) w.job (netlist_held files w.job) (recording_held files w.job)) cause
 
 -- ---- the command
 
 abbrev pub fix : Command Refused
 fix = record {
   word = codes "fix";
-  table = shared.job (needs (codes "set") Sets ∷ shared.conflicts ∷ []);
+  table = shared.job (needs (codes "set") Sets ∷ shared.conflicts ∷ shared.enumerate ∷ []);
   has_files = true;
   Values = FixValues;
   files = λ v. v.job.netlists;

@@ -29,6 +29,7 @@ use Rattle.xr_model.specs.Sound.{HasLicence, IsDecided, Sound}
 use Rattle.xr_model.specs.Stated.{stated}
 use Rattle.xr_model.specs.Yields.{Yields}
 use Rattle.xr_model.specs.declared.line.Line.{Line as ALine}
+use Rattle.xr_model.specs.declared.limits.Limits.{Limits}
 use Rattle.xr_out.specs.Text.{vcd_text}
 use Rattle.xr_phases.specs.Certificate.{form_of}
 use Rattle.xr_phases.specs.Code.{IsForced, code_in}
@@ -65,13 +66,13 @@ ShowsWaveform j waveform history =
     (place : ℕ) → place < places_of j → shown_of j history place ≡ (written_at waveform place).value
 
 -- The wave of a job with what is written and the lines.
-abbrev pub wave_of : ANetlist → Recorded → HistoryView → ℕ → List Written → List ALine → Contents
-wave_of n r replay conflicts waveform lines = record {
+abbrev pub wave_of : ANetlist → Recorded → HistoryView → Limits → List Written → List ALine → Contents
+wave_of n r replay limits waveform lines = record {
   design = n.design;
   order = n.order;
   stim = r.stim;
   history = replay;
-  limit = conflicts;
+  limits = limits;
   written = waveform;
   lines = lines;
 }
@@ -99,16 +100,16 @@ pub record IsForceCode (w : RepairValues) (n : ANetlist) (r : Recorded) (wavefor
 pub record Certifies (w : RepairValues) (n : ANetlist) (r : Recorded) (replay : HistoryView) (waveform : List Written)
     (lines : List ALine) (conditions : List Condition) (cert : List ℕ) : Type 0 where
   pub stands : IsTextOf cert
-      (cert_by (form_of w.form) (wave_of n r replay w.conflicts waveform lines) conditions)
-  pub accepted : IsAccepted (beginning w.conflicts n r replay)
-      (cert_by (form_of w.form) (wave_of n r replay w.conflicts waveform lines) conditions) waveform
+      (cert_by (form_of w.form) (wave_of n r replay w.limits waveform lines) conditions)
+  pub accepted : IsAccepted (beginning w.limits n r replay)
+      (cert_by (form_of w.form) (wave_of n r replay w.limits waveform lines) conditions) waveform
   -- The lines yield no other waveform of all places.
   pub one : (other : List Written) → length other ≡ places_of (job_for n r)
-      → Yields (job_for n r) w.conflicts (shown_of (job_for n r) replay) other lines → other ≡ waveform
+      → Yields (job_for n r) w.limits (shown_of (job_for n r) replay) other lines → other ≡ waveform
 
 -- The texts stand for a job whose recording agrees with its replay; there are a waveform of all its places and lines:
 -- the waveform is sound for the replay, and the lines yield it.
-pub record RepairedJob (w : JobValues) (conflicts : ℕ) (netlist recording : List ℕ) : Type 0 where
+pub record RepairedJob (w : JobValues) (limits : Limits) (netlist recording : List ℕ) : Type 0 where
   pub n : ANetlist
   pub r : Recorded
   pub is : IsJob w netlist recording n r
@@ -117,20 +118,20 @@ pub record RepairedJob (w : JobValues) (conflicts : ℕ) (netlist recording : Li
   pub waveform : List Written
   pub lines : List ALine
   pub whole : length waveform ≡ places_of (job_for n r)
-  pub holds : Holds (job_for n r) conflicts (shown_of (job_for n r) replay) waveform lines
+  pub holds : Holds (job_for n r) limits (shown_of (job_for n r) replay) waveform lines
 
 -- Its circuit, and its wave.
-abbrev pub circuit_of : {w : JobValues} {conflicts : ℕ} {netlist recording : List ℕ}
-    → RepairedJob w conflicts netlist recording → Job
+abbrev pub circuit_of : {w : JobValues} {limits : Limits} {netlist recording : List ℕ}
+    → RepairedJob w limits netlist recording → Job
 circuit_of job = job_for job.n job.r
 
-abbrev pub wave_of_job : {w : JobValues} {conflicts : ℕ} {netlist recording : List ℕ}
-    → RepairedJob w conflicts netlist recording → Contents
-wave_of_job {w} {conflicts} job = wave_of job.n job.r job.replay conflicts job.waveform job.lines
+abbrev pub wave_of_job : {w : JobValues} {limits : Limits} {netlist recording : List ℕ}
+    → RepairedJob w limits netlist recording → Contents
+wave_of_job {w} {limits} job = wave_of job.n job.r job.replay limits job.waveform job.lines
 
 -- The texts stand for a job that is repaired, so that:
 pub record Headline (w : RepairValues) (netlist recording : List ℕ) (vcd code cert report : List ℕ) : Type 0 where
-  pub job : RepairedJob w.job w.conflicts netlist recording
+  pub job : RepairedJob w.job w.limits netlist recording
   pub fits : FitsJob job.n job.r
   -- V is the text of what the waveform shows.
   pub shown : HistoryView
@@ -140,7 +141,8 @@ pub record Headline (w : RepairValues) (netlist recording : List ℕ) (vcd code 
   pub forces : IsForceCode w job.n job.r job.waveform vcd code
   -- In form 2 there is a condition for each certain Line place, in form 1 there is none.
   pub conditions : List Condition
-  pub conditions_are : HaveConditions (form_of w.form) (circuit_of job) w.conflicts job.waveform job.lines conditions
+  pub conditions_are : HaveConditions (form_of w.form) (circuit_of job) w.limits.conflicts job.waveform job.lines
+      conditions
   -- The certificate X names the waveform: it is the one that its lines yield. It has the turns of the conditions.
   pub certifies : Certifies w job.n job.r job.replay job.waveform job.lines conditions cert
   -- The report tells how many places have which end, and what became of each recorded bit that is x or z, in each
@@ -160,14 +162,14 @@ pub record Headline (w : RepairValues) (netlist recording : List ℕ) (vcd code 
       → GivesBoth (circuit_of job) job.waveform place (stated (circuit_of job) (certain job.waveform) job.lines place))
   -- Each other bit is marked undecided, with its licence: over 12 sources, and a log of the words' number of clauses.
   pub undecided : ForBits job.n job.r (λ place recorded. (written_at job.waveform place).mark ≡ Undecided
-      → HasLicence (circuit_of job) w.conflicts job.waveform job.lines place)
+      → HasLicence (circuit_of job) w.limits job.waveform job.lines place)
   -- The bits that the recording knows stand.
   pub stand : ForBits job.n job.r (λ place recorded. IsKnown recorded
       → shown_of (circuit_of job) shown place ≡ recorded)
   -- Where no place is undecided, no other waveform without undecided places is sound, whatever its lines and its limit.
-  pub only : IsDecided job.waveform → (limit : ℕ) (other : List Written) (more : List ALine)
+  pub only : IsDecided job.waveform → (limits : Limits) (other : List Written) (more : List ALine)
       → length other ≡ places_of (circuit_of job)
-      → Sound (circuit_of job) limit (shown_of (circuit_of job) job.replay) other more
+      → Sound (circuit_of job) limits (shown_of (circuit_of job) job.replay) other more
       → IsDecided other → other ≡ job.waveform
 
 -- V, C and X are written in this order and the report printed; of them and the files' texts the headline holds.
@@ -185,7 +187,7 @@ abbrev pub repair : Command Refused
 repair = record {
   word = codes "repair";
   table = shared.job (needs (codes "vcd") Writes ∷ needs (codes "code") Writes ∷ needs (codes "cert") Writes
-      ∷ takes (codes "form") (Number 1 2) ∷ shared.conflicts ∷ shared.report ∷ []);
+      ∷ takes (codes "form") (Number 1 2) ∷ shared.conflicts ∷ shared.enumerate ∷ shared.report ∷ []);
   has_files = true;
   Values = RepairValues;
   files = λ v. v.job.netlists;
@@ -193,7 +195,7 @@ repair = record {
   inputs = λ v. job_reads v.job;
   most = recording_limit;
   phases = repair_phases;
-  InOrder = λ files v. IsRepairable v.job v.conflicts (netlist_held files v.job) (recording_held files v.job);
+  InOrder = λ files v. IsRepairable v.job v.limits (netlist_held files v.job) (recording_held files v.job);
   Says = SaysRepair;
-  Fails = λ files v cause. FailsAsRepair v.job v.conflicts files cause;
+  Fails = λ files v cause. FailsAsRepair v.job v.limits files cause;
 }

@@ -25,7 +25,7 @@ AnswersSay = (told : Bool) (files : Files) (line : List (List ℕ)) (words : Val
 -- A check of what a repair wrote: of the same job, with logs of as many clauses.
 pub record IsCheckOf (w : RepairValues) (check : CheckValues) : Type 0 where
   pub job : check.job ≡ w.job
-  pub conflicts : check.conflicts ≡ w.conflicts
+  pub limits : check.limits ≡ w.limits
 
 -- Its certificate, where it isn't too long, is in order for such a check: which so ends with status 0, faults of files
 -- and want of memory aside.

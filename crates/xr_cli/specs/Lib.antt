@@ -1,6 +1,7 @@
 -- Definitions of the program.
 pub mod Free
 pub mod Restarts
+pub mod Limits
 pub mod Lines
 pub mod Repair
 pub mod Conditions

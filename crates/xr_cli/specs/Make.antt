@@ -24,6 +24,7 @@ use Rattle.xr_make.specs.Netlist.{netlist_text}
 use Rattle.xr_make.specs.Recording.{IsMadeRecording}
 use Rattle.xr_model.specs.Sound.{IsDecided, Sound}
 use Rattle.xr_model.specs.declared.line.Line.{Line as ALine}
+use Rattle.xr_model.specs.declared.limits.Limits.{Limits}
 use Rattle.xr_phases.specs.Phases.{compare_cause, netlist_cause, no_cause, recording_cause, scope_of, walk_cause}
 use Rattle.xr_phases.specs.Repair.{CompareComes, LengthComes, WalkComes, beginning, netlist_limit}
 use Rattle.xr_phases.specs.Repair.{recording_limit, rules_of}
@@ -88,9 +89,9 @@ made_job = record {
   netlists = [];
 }
 
--- The clauses of a search.
-abbrev pub made_conflicts : ℕ
-made_conflicts = 1000
+-- The limits of its decisions.
+abbrev pub made_limits : Limits
+made_limits = record { conflicts = 1000; enumerated = 12 }
 
 -- The text of its netlist.
 abbrev pub made_netlist : MakeValues → List ℕ
@@ -141,7 +142,7 @@ recording_made w n = do
 
 abbrev pub walk_made : MakeValues → List ℕ → ANetlist → Recorded → Phases Answer Refused
 walk_made w recording n r = do
-  found ← searches (WalkComes made_conflicts n r) walk_cause
+  found ← searches (WalkComes made_limits n r) walk_cause
   Phases.Finds (make_answer w recording found.wave)
 
 abbrev pub repaired_made : MakeValues → List ℕ → ANetlist → Recorded → Phases Answer Refused
@@ -169,7 +170,7 @@ make_phases w = do
 
 -- The texts stand for a job that is repaired, so that:
 pub record Makes (w : MakeValues) (netlist recording printed : List ℕ) : Type 0 where
-  pub job : RepairedJob made_job made_conflicts netlist recording
+  pub job : RepairedJob made_job made_limits netlist recording
   -- F is the netlist of the number, and R the recording that is made of its design.
   pub netlist_is : netlist ≡ made_netlist w
   pub made : IsRecordingOf w job.n recording
@@ -178,9 +179,9 @@ pub record Makes (w : MakeValues) (netlist recording printed : List ℕ) : Type 
   pub are : AreForcesOf (circuit_of job) (value_in job.waveform) events
   pub printed_is : printed ≡ head_text (wave_of_job job) events
   -- Where no place is undecided, no other waveform without undecided places is sound, whatever its lines and its limit.
-  pub only : IsDecided job.waveform → (limit : ℕ) (other : List Written) (more : List ALine)
+  pub only : IsDecided job.waveform → (limits : Limits) (other : List Written) (more : List ALine)
       → length other ≡ places_of (circuit_of job)
-      → Sound (circuit_of job) limit (shown_of (circuit_of job) job.replay) other more
+      → Sound (circuit_of job) limits (shown_of (circuit_of job) job.replay) other more
       → IsDecided other → other ≡ job.waveform
 
 -- F and R are written in this order, and what is printed is of the job that they stand for.
@@ -200,7 +201,7 @@ pub record IsMakeable (w : MakeValues) : Type 0 where
   pub job : IsJob made_job (made_netlist w) recording n r
   pub faultless : IsFaultless (job_for n r) r.recording r.binding
   pub none : (history : HistoryView) (found : Found) → IsReplay (job_for n r) history
-      → IsObjection (beginning made_conflicts n r history) found → ⊥
+      → IsObjection (beginning made_limits n r history) found → ⊥
 
 -- A text is the recording that is made of the design that the made netlist stands for.
 pub record IsMadeOf (w : MakeValues) (recording : List ℕ) : Type 0 where
@@ -214,7 +215,7 @@ pub data IsMadeRefused (w : MakeValues) : Refused → Type 0 where
   long_netlist : netlist_limit < length (made_netlist w) → IsMadeRefused w LongNetlist
   netlist_fails : {e : NetlistRefusal} → IsRefusedNetlist made_job (made_netlist w) e → IsMadeRefused w (Netlist e)
   recording_fails : {cause : Refused} → (recording : List ℕ) → IsMadeOf w recording
-      → AreRefused made_job (made_netlist w) recording (RepairFails made_conflicts) cause → IsMadeRefused w cause
+      → AreRefused made_job (made_netlist w) recording (RepairFails made_limits) cause → IsMadeRefused w cause
 
 -- So it is for a made job, whose recording is one.
 abbrev pub IsOneMade : MakeValues → Refused → Type 0

@@ -37,6 +37,8 @@ use Rattle.xr_wave.specs.Shown.{ShowsWave}
 use Rattle.xr_wave.specs.declared.advance.Optimistic.{Optimistic as Otherwise}
 use Rattle.xr_words.specs.Words.{GivesJob, IsCount, IsForm, JobValues, job_values}
 use Rattle.xr_words.specs.declared.words.Form.{Form}
+use Rattle.xr_model.specs.declared.limits.Limits.{Limits}
+use Rattle.xr_cli.specs.Limits.{AreLimitsOf}
 
 -- ---- words
 
@@ -46,7 +48,7 @@ pub record RepairValues : Type 0 where
   pub code : Text
   pub cert : Text
   pub form : Form
-  pub conflicts : ℕ
+  pub limits : Limits
   pub lines : ReportLines
 
 -- These are those of `repair`, and each file that is written has a name of its own.
@@ -56,7 +58,7 @@ pub record GivesRepair (option : Text → Option Text) (v : RepairValues) : Type
   pub code : option (codes "code") ≡ Some v.code
   pub cert : option (codes "cert") ≡ Some v.cert
   pub form : IsForm (option (codes "form")) v.form
-  pub conflicts : IsCount (option (codes "conflicts")) 1000 100000 v.conflicts
+  pub limits : AreLimitsOf option v.limits
   pub lines : IsLines (option (codes "report")) v.lines
   pub apart : AreApart (v.vcd ∷ v.code ∷ v.cert ∷ []) (v.job.recording ∷ v.job.netlists)
 
@@ -67,7 +69,7 @@ repair_values words = record {
   code = words.code.now;
   cert = words.cert.now;
   form = words.form;
-  conflicts = words.conflicts;
+  limits = words.limits;
   lines = words.lines;
 }
 
@@ -117,7 +119,7 @@ texts_phases w n r found = do
 
 abbrev pub walk_phases : RepairValues → Parts → Phases Answer Refused
 walk_phases w job = do
-  found ← searches (WalkComes w.conflicts job.netlist job.recorded) walk_cause
+  found ← searches (WalkComes w.limits job.netlist job.recorded) walk_cause
   texts_phases w job.netlist job.recorded found
 
 abbrev pub repair_phases : RepairValues → Phases Answer Refused
@@ -126,15 +128,15 @@ repair_phases w = agreed_then w.job (walk_phases w)
 -- ---- texts in order, and texts that are refused
 
 -- The texts stand for a job that agrees, and no place is found otherwise.
-pub record IsRepairable (w : JobValues) (conflicts : ℕ) (netlist recording : List ℕ) : Type 0 where
+pub record IsRepairable (w : JobValues) (limits : Limits) (netlist recording : List ℕ) : Type 0 where
   pub n : ANetlist
   pub r : Recorded
   pub job : IsJob w netlist recording n r
   pub faultless : IsFaultless (job_for n r) r.recording r.binding
   pub none : (history : HistoryView) (found : Otherwise) → IsReplay (job_for n r) history
-      → IsObjection (beginning conflicts n r history) found → ⊥
+      → IsObjection (beginning limits n r history) found → ⊥
 
 -- What the texts are refused for; a place found otherwise without an undecided line before it is that of the texts.
-pub record FailsAsRepair (w : JobValues) (conflicts : ℕ) (files : Files) (cause : Refused) : Type 0 where
-  pub refused : AreRefused w (netlist_held files w) (recording_held files w) (RepairFails conflicts) cause
+pub record FailsAsRepair (w : JobValues) (limits : Limits) (files : Files) (cause : Refused) : Type 0 where
+  pub refused : AreRefused w (netlist_held files w) (recording_held files w) (RepairFails limits) cause
   pub one : IsOneCause w (netlist_held files w) (recording_held files w) cause

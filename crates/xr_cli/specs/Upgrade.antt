@@ -36,6 +36,8 @@ use Rattle.xr_shelf.specs.Shelf.{Files}
 use Rattle.xr_wave.specs.Contents.{Contents}
 use Rattle.xr_words.specs.Words.{GivesJob, IsCount, JobValues, job_reads, job_values}
 use Rattle.xr_words.specs.Forms as shared
+use Rattle.xr_model.specs.declared.limits.Limits.{Limits}
+use Rattle.xr_cli.specs.Limits.{AreLimitsOf}
 
 -- ---- words
 
@@ -43,7 +45,7 @@ pub record UpgradeValues : Type 0 where
   pub job : JobValues
   pub cert : Text
   pub to : Text
-  pub conflicts : ℕ
+  pub limits : Limits
   pub lines : ReportLines
 
 -- These are those of `upgrade`, and the file that is written has another name than each that is read.
@@ -51,7 +53,7 @@ pub record GivesUpgrade (option : Text → Option Text) (v : UpgradeValues) : Ty
   pub job : GivesJob option v.job
   pub cert : option (codes "cert") ≡ Some v.cert
   pub to : option (codes "to") ≡ Some v.to
-  pub conflicts : IsCount (option (codes "conflicts")) 1000 100000 v.conflicts
+  pub limits : AreLimitsOf option v.limits
   pub lines : IsLines (option (codes "report")) v.lines
   pub apart : AreApart (v.to ∷ []) (v.job.recording ∷ v.cert ∷ v.job.netlists)
 
@@ -60,7 +62,7 @@ upgrade_values words = record {
   job = job_values words.job;
   cert = words.cert.now;
   to = words.to.now;
-  conflicts = words.conflicts;
+  limits = words.limits;
   lines = words.lines;
 }
 
@@ -80,7 +82,7 @@ turned_phases w job wave = do
 
 abbrev pub checked_upgrade : UpgradeValues → Parts → Cert → Phases Answer Refused
 checked_upgrade w job cert = do
-  shows ← judges (CheckComes w.conflicts job cert) itself
+  shows ← judges (CheckComes w.limits job cert) itself
   turned_phases w job shows.wave
 
 abbrev pub formed_upgrade : UpgradeValues → Parts → Cert → Phases Answer Refused
@@ -104,24 +106,24 @@ pub record IsUpgrade (w : UpgradeValues) (n : ANetlist) (r : Recorded) (replay :
     (waveform : List Written) (certificate : Cert) (conditions : List Condition) (upgraded : Cert)
     (text : List ℕ) : Type 0 where
   pub is : upgraded
-      ≡ cert_by Turns (wave_of n r replay w.conflicts waveform (lines_in certificate.entries)) conditions
+      ≡ cert_by Turns (wave_of n r replay w.limits waveform (lines_in certificate.entries)) conditions
   pub stands : IsTextOf text upgraded
-  pub accepted : IsAccepted (beginning w.conflicts n r replay) upgraded waveform
+  pub accepted : IsAccepted (beginning w.limits n r replay) upgraded waveform
   pub lines_are : lines_in upgraded.entries ≡ lines_in certificate.entries
 
 -- The texts stand for a job that is repaired by a certificate.
 pub record Upgrades (w : UpgradeValues) (netlist recording cert text report : List ℕ) : Type 0 where
-  pub job : RepairedJob w.job w.conflicts netlist recording
+  pub job : RepairedJob w.job w.limits netlist recording
   pub fits : FitsJob job.n job.r
   -- X stands for this one, which is of form 1 and accepted, whoever wrote it: its lines yield the waveform.
   pub certificate : Cert
   pub stands : IsTextOf cert certificate
   pub lines_are : job.lines ≡ lines_in certificate.entries
   pub form_is : certificate.form ≡ Lines
-  pub accepted : IsAccepted (beginning w.conflicts job.n job.r job.replay) certificate job.waveform
+  pub accepted : IsAccepted (beginning w.limits job.n job.r job.replay) certificate job.waveform
   -- There is a condition for each certain Line place.
   pub conditions : List Condition
-  pub conditions_are : HaveConditions Turns (circuit_of job) w.conflicts job.waveform job.lines
+  pub conditions_are : HaveConditions Turns (circuit_of job) w.limits.conflicts job.waveform job.lines
       conditions
   -- Y is the certificate of form 2 of the same lines, with the turns of the conditions, and is accepted too.
   pub upgraded : Cert
@@ -154,14 +156,14 @@ pub record IsUpgradable (w : UpgradeValues) (netlist recording cert : List ℕ) 
   pub stands : IsTextOf cert certificate
   pub form_is : certificate.form ≡ Lines
   pub waveform : List Written
-  pub accepted : IsAccepted (beginning w.conflicts n r replay) certificate waveform
+  pub accepted : IsAccepted (beginning w.limits n r replay) certificate waveform
 
 -- ---- the command
 
 abbrev pub upgrade : Command Refused
 upgrade = record {
   word = codes "upgrade";
-  table = shared.job (needs (codes "cert") Reads ∷ needs (codes "to") Writes ∷ shared.conflicts ∷ shared.report ∷ []);
+  table = shared.job (needs (codes "cert") Reads ∷ needs (codes "to") Writes ∷ shared.conflicts ∷ shared.enumerate ∷ shared.report ∷ []);
   has_files = true;
   Values = UpgradeValues;
   files = λ v. v.job.netlists;
@@ -173,5 +175,5 @@ upgrade = record {
       (text_held files (v.cert ∷ []));
   Says = SaysUpgrade;
   Fails = λ files v cause. AreRefused v.job (netlist_held files v.job) (recording_held files v.job)
-      (UpgradeFails v.conflicts (text_held files (v.cert ∷ []))) cause;
+      (UpgradeFails v.limits (text_held files (v.cert ∷ []))) cause;
 }

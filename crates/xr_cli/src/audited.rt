@@ -5,7 +5,7 @@ ghost use Rattle.xr_audit.specs.Listed.{IsAudit};
 ghost use Rattle.xr_design.specs.Handed.{IsBlank, IsReplay};
 ghost use Rattle.xr_job.specs.Compared.{job_for};
 ghost use Rattle.xr_run.specs.Prepared.{IsJudgedBy, PreparedAlone, answer_of};
-ghost use Rattle.xr_wave.specs.Contents.{IsLimit};
+ghost use Rattle.xr_wave.specs.Contents.{AreLimits};
 ghost use Rattle.xr_cli.specs.Audit.{audit_values, AuditComes, PrintsAudit, walk_audited};
 ghost use Rattle.xr_phases.specs.Phases.{no_cause};
 ghost use Rattle.xr_phases.specs.Repair.{FitsParts, IsRepairedBy};
@@ -15,6 +15,7 @@ use crate::commands::audit::Audit;
 use std::alloc::Global;
 use xr_base::Memory;
 use xr_design::History;
+use xr_model::Limits;
 use xr_phases::{Parts, Refused, audit_text, wave_under};
 use xr_run::{Ready, Refusal, Report};
 use xr_shelf::Sink;
@@ -34,9 +35,9 @@ pub fn audited<'a, O: Sink>(
         answer_of result }
     ensures out { O.view out.new ≡ O.view out.old }
 {
-    let conflicts = words.conflicts;
+    let limits = words.limits;
     let blank = History::blank(alloc, &job.netlist.design, &job.recorded.stim)?;
-    let wave = blank_wave(alloc, job, &blank, conflicts, out)?;
+    let wave = blank_wave(alloc, job, &blank, limits, out)?;
     Ok(listed(alloc, &wave, history)?)
 }
 
@@ -45,24 +46,17 @@ fn blank_wave<'b, O: Sink>(
     alloc: Global,
     job: &'b Parts,
     blank: &'b History,
-    conflicts: u32,
+    limits: Limits,
     out: &mut O,
 ) -> Result<Wave<'b>, Refusal<Refused>>
     requires fits { FitsParts job.now }
     requires blank { IsBlank (job_for job.now.netlist job.now.recorded) blank.now }
-    requires conflicts { IsLimit conflicts }
-    ensures repaired { IfOk result (IsRepairedBy conflicts job.now.netlist job.now.recorded.stim blank.now) }
-    ensures refused { IfErr result (IsJudgedBy (AuditComes conflicts job.now.netlist job.now.recorded) no_cause) }
+    requires limits { AreLimits limits }
+    ensures repaired { IfOk result (IsRepairedBy limits job.now.netlist job.now.recorded.stim blank.now) }
+    ensures refused { IfErr result (IsJudgedBy (AuditComes limits job.now.netlist job.now.recorded) no_cause) }
     ensures out { O.view out.new ≡ O.view out.old }
 {
-    wave_under(
-        alloc,
-        &job.netlist,
-        &job.recorded.stim,
-        blank,
-        conflicts,
-        out,
-    )
+    wave_under(alloc, &job.netlist, &job.recorded.stim, blank, limits, out)
 }
 
 /// The audit of a finished wave beside the replay.

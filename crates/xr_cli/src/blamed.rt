@@ -32,8 +32,8 @@ pub fn blamed<'a, O: Sink>(
         answer_of result }
     ensures out { O.view out.new ≡ O.view out.old }
 {
-    let conflicts = words.conflicts;
-    let wave = wave_of(alloc, &job.netlist, &job.recorded, history, conflicts, out)?;
+    let limits = words.limits;
+    let wave = wave_of(alloc, &job.netlist, &job.recorded, history, limits, out)?;
     // With it comes the fact that the times are numbers of 64 bits.
     read_times(&job.recorded.stim);
     Ok(listed(alloc, job, &wave)?)

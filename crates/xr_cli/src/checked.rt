@@ -50,7 +50,7 @@ fn checked<'a>(
     requires replay { IsReplay (job_for job.now.netlist job.now.recorded) history.now }
     ensures { PreparedAlone (checked_phases (check_values words.now) job.now cert) answer_of result }
 {
-    let checked = certified_wave(alloc, job, history, cert, words.conflicts)?;
+    let checked = certified_wave(alloc, job, history, cert, words.limits)?;
     let conditions = checked.conditions.as_slice();
     Ok(report_of(alloc, words, job, &checked.wave, conditions)?)
 }

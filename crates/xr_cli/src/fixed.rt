@@ -60,7 +60,7 @@ fn walked<'a, O: Sink>(
 {
     let netlist = &set.job.netlist;
     let stim = &set.job.recorded.stim;
-    let before = replay_wave(alloc, netlist, stim, set.history, set.words.conflicts, out)?;
+    let before = replay_wave(alloc, netlist, stim, set.history, set.words.limits, out)?;
     walked_set(alloc, set, &before, out)
 }
 
@@ -72,7 +72,7 @@ fn walked_set<'a, O: Sink>(
     out: &mut O,
 ) -> Result<Ready<'a>, Refusal<Refused>>
     requires set { IsRestarted set.now }
-    requires before { IsRepairedBy set.now.words.conflicts set.now.job.now.netlist set.now.job.now.recorded.stim
+    requires before { IsRepairedBy set.now.words.limits set.now.job.now.netlist set.now.job.now.recorded.stim
         set.now.history.now before.now }
     ensures prepared { PreparedAlone (walk_set (fix_values set.now.words) set.now.job.now.netlist
         set.now.job.now.recorded set.now.stim.now before.now) answer_of result }
@@ -80,7 +80,7 @@ fn walked_set<'a, O: Sink>(
 {
     let netlist = &set.job.netlist;
     let history = replay_of(alloc, netlist, set.stim)?;
-    let after = replay_wave(alloc, netlist, set.stim, &history, set.words.conflicts, out)?;
+    let after = replay_wave(alloc, netlist, set.stim, &history, set.words.limits, out)?;
     Ok(listed(alloc, set, before, &after)?)
 }
 

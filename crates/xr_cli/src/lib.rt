@@ -24,6 +24,7 @@ mod exported;
 mod fixed;
 mod gates;
 mod laws;
+mod limits;
 mod lines;
 mod made;
 mod made_texts;

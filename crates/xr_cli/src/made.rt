@@ -23,6 +23,7 @@ use xr_forces::forces_of;
 use xr_job::{Netlist, PLACES, Recorded, Rules};
 use xr_make::{made_netlist, made_recording};
 use xr_match::UndrivenRule;
+use xr_model::Limits;
 use xr_phases::{
     NETLIST_BYTES, Parts, RECORDING_BYTES, Refused, compared, names_of, netlist_in, recorded_in,
     short_in, wave_of,
@@ -37,9 +38,6 @@ const NAME: &str = "made";
 
 /// The rounds of a moment.
 const ROUNDS: u32 = 4;
-
-/// The clauses of a search.
-const CONFLICTS: u32 = 1_000;
 
 /// What the words ask. The sink is told how far the walk has come.
 pub fn made<'a, O: Sink>(
@@ -186,7 +184,11 @@ fn walked<'a, O: Sink>(
         job.now.netlist job.now.recorded) answer_of result }
     ensures out { O.view out.new ≡ O.view out.old }
 {
-    let wave = wave_of(alloc, &job.netlist, &job.recorded, history, CONFLICTS, out)?;
+    let limits = Limits {
+        conflicts: 1_000,
+        enumerated: 12,
+    };
+    let wave = wave_of(alloc, &job.netlist, &job.recorded, history, limits, out)?;
     // With it comes the fact that the times are numbers of 64 bits.
     read_times(&job.recorded.stim);
     Ok(answered(alloc, texts, &wave)?)

@@ -31,6 +31,6 @@ pub fn repaired<'a, O: Sink>(
 {
     let netlist = &job.netlist;
     let recorded = &job.recorded;
-    let wave = wave_of(alloc, netlist, recorded, history, words.conflicts, out)?;
+    let wave = wave_of(alloc, netlist, recorded, history, words.limits, out)?;
     Ok(texts_of(alloc, words, netlist, recorded, &wave)?)
 }

@@ -70,7 +70,7 @@ fn with_turns<'a>(
     requires replay { IsReplay (job_for job.now.netlist job.now.recorded) history.now }
     ensures { PreparedAlone (checked_upgrade (upgrade_values words.now) job.now cert) answer_of result }
 {
-    let checked = certified_wave(alloc, job, history, cert, words.conflicts)?;
+    let checked = certified_wave(alloc, job, history, cert, words.limits)?;
     let wave = checked.wave;
     let conditions = conditions_for(alloc, Form::Turns, &wave)?;
     Ok(texts_of(alloc, words, job, &wave, conditions.as_slice())?)

@@ -25,11 +25,11 @@ refuted_next c nodes log is refutes no_zero = record {
   refutes = refutes.refutes;
 }
 
--- A fresh log as long as the limit is a licence where there are more than 12 sources.
+-- A fresh log as long as the limits say is a licence where there are more sources than are enumerated.
 pub licence_next : (c : Contents) (nodes : List Node) (log : List (List ℤ)) → IsNextCone c nodes → IsFreshNext c log
-    → 12 < length (sources_of nodes) → length log ≡ c.limit → HoldsNext c (Undecided log)
+    → c.limits.enumerated < length (sources_of nodes) → length log ≡ c.limits.conflicts → HoldsNext c (Undecided log)
 licence_next c nodes log is fresh many long = record {
-  many = subst (λ n. 12 < n) (ap length (sources_law c (next_number c) nodes is)
+  many = subst (λ n. c.limits.enumerated < n) (ap length (sources_law c (next_number c) nodes is)
       ∙ length-map (sources_in c (next_number c)) (place_at (job c))) many;
   query = fresh.query;
   is_query = fresh.is_query;

@@ -26,13 +26,13 @@ pub fn conclude(wave: &Wave<'_>, cone: &Cone, proof: Refuted) -> Settled
     Settled::from_law(wave, How::Refuted(cone.base(), proof.into_log()))
 }
 
-/// A fresh log as long as the wave's limit lets the next place be undecided where it has more than 12 sources. Takes no
-/// memory.
+/// A fresh log as long as the wave's limits say lets the next place be undecided where it has more sources than are
+/// enumerated.
 pub fn give_up(wave: &Wave<'_>, cone: &Cone, proof: Exhausted) -> Budget
     requires cone { IsNextCone wave.now cone.now.nodes }
-    requires many { 12 < length (sources_of cone.now.nodes) }
+    requires many { wave.now.limits.enumerated < length (sources_of cone.now.nodes) }
     requires fresh { IsFreshNext wave.now proof }
-    requires long { length proof ≡ wave.now.limit }
+    requires long { length proof ≡ wave.now.limits.conflicts }
     ensures log { result.log ≡ proof }
     ensures no_zero { All HasNoZero proof }
     ensures holds { LineHolds wave.now (budget_line result) }

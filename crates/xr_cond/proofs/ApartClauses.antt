@@ -30,6 +30,7 @@ use Rattle.xr_model.proofs.LawProofs.{worlds_are_consistent}
 use Rattle.xr_model.proofs.PlacesWhere.{among_contains, in_picked, or_left, or_right}
 use Rattle.xr_model.proofs.Roots.{root_within}
 use Rattle.xr_model.proofs.SoundWorlds.{certain_settles}
+use Rattle.xr_model.specs.declared.limits.Limits.{Limits}
 use Rattle.xr_cone.specs.Boundary.{is_boundary}
 use Rattle.xr_cond.specs.Condition.{AreOfBoundary}
 use Rattle.xr_cond.specs.Laws.{HasCertainBit}
@@ -211,20 +212,20 @@ module _ (j : Job) (fits : Fits j) (c : ℕ → Value) (root : ℕ) (within : ro
       (is.choice.forces bits (λ k taken. absurd (none_chosen k taken)))
       ∙ ap bit_value bit_other
 
-module _ (j : Job) (limit : ℕ) (shown : ℕ → Value) (waveform : List Written) (lines : List ALine) (fits : Fits j)
-    (sound : Sound j limit shown waveform lines) (root : ℕ) (value : Bool) (has : HasCertainBit j waveform root value) where
+module _ (j : Job) (limits : Limits) (shown : ℕ → Value) (waveform : List Written) (lines : List ALine) (fits : Fits j)
+    (sound : Sound j limits shown waveform lines) (root : ℕ) (value : Bool) (has : HasCertainBit j waveform root value) where
   -- So the denial is no clause of the cone: the world of the empty filling gives the value.
   denial_not_whole : IsWholeClause j (certain waveform) root (turn_denial j (certain waveform) root value) → ⊥
   unfolding table
   denial_not_whole is =
-      let world = worlds_are_consistent j limit shown waveform lines fits sound root []
+      let world = worlds_are_consistent j limits shown waveform lines fits sound root []
       (record { written = (let less = has.written in omega (arith, less)); within = has.within }) (empty_filling j) in
       let other : world_over j waveform [] root ≡ not value =
       world.ruled root (not value) (cone_self j fits (certain waveform) root has.within) has.free
       (always_other j fits (certain waveform) root has.within value has.free is
       (assigned (certain waveform) (only (essentials j (certain waveform) root) (world_over j waveform [])))) in
       never_not value
-      (sym (certain_settles j limit shown waveform lines sound root value has.written has.has [] (empty_filling j)) ∙ other)
+      (sym (certain_settles j limits shown waveform lines sound root value has.written has.has [] (empty_filling j)) ∙ other)
 
   -- Clauses of the cone, unit clauses and denial together.
   module _ (listed : List ℕ) (all : AreOfBoundary j (certain waveform) root listed) (apart : AllPairs (λ a b. a ≢ b) listed)

@@ -66,11 +66,11 @@ first_listed places = by (nat_lt 64 (length places))
     by false = refl
 
 pub turns_law : TurnsLaw
-turns_law j limit shown waveform lines fits sound root bound value turns has are =
+turns_law j limits shown waveform lines fits sound root bound value turns has are =
     turns_keep j fits (certain waveform) root value bound (first_kept (certain_boundary j (certain waveform) root))
     (first_due (certain_boundary j (certain waveform) root)) turns has.within
     (subst (IsCondition j (certain waveform) root value) (sym (first_listed (certain_boundary j (certain waveform) root)))
-    (whole_list_law j limit shown waveform lines fits sound root value has)) are
+    (whole_list_law j limits shown waveform lines fits sound root value has)) are
 
 -- One more turn behind turns.
 pub record IsMore (j : Job) (c : ℕ → Value) (root : ℕ) (value : Bool) (limit : ℕ) (kept due : List ℕ)

@@ -41,7 +41,8 @@ cut_map f (x ∷ kept) due = ap (λ ys. f x ∷ ys) (cut_map f kept due)
 -- The list of a condition under way is a condition.
 pub condition_holds : HeldLaw
 condition_holds c root view is =
-    turns_law (job c) c.limit (shown_in c) c.written c.lines is.wave.fits.fits_job is.wave.holds.sound root c.limit
+    turns_law (job c) c.limits (shown_in c) c.written c.lines is.wave.fits.fits_job is.wave.holds.sound root
+    c.limits.conflicts
     (settled_bit c root) view.turns is.has is.turns
 
 skipped_listed : (j : Job) (known : ℕ → Value) (root : ℕ) (kept due : List ℕ) → AreOfBoundary j known root (kept ++ due)
@@ -93,7 +94,7 @@ next_query view query some same c root is =
     let waiting : List ℕ = due_in c root view.turns in
     let first = first_of waiting (let long = is.due in omega (arith, some, long)) in
     let about = is.about first.0 first.1 first.2 in
-    turn_query_is (job c) c.limit (shown_in c) c.written c.lines is.wave.fits.fits_job is.wave.holds.sound root
+    turn_query_is (job c) c.limits (shown_in c) c.written c.lines is.wave.fits.fits_job is.wave.holds.sound root
     (settled_bit c root) is.has (next_in c root view.turns)
     (skipped_listed (job c) (certain c.written) root before waiting (condition_holds c root view is).places)
     (skipped_one before waiting (listed_apart c root view.turns)) about.whole about.are_whole query
@@ -180,7 +181,7 @@ turned old turn new some next parts = record {
         let before : List ℕ = kept_in c root old.turns in
         let waiting : List ℕ = due_in c root old.turns in
         let first = first_of waiting (let same = is.due in omega (arith, some, same)) in
-        let more = turns_more j (certain c.written) root (settled_bit c root) c.limit (first_kept b) (first_due b) old.turns
+        let more = turns_more j (certain c.written) root (settled_bit c root) c.limits.conflicts (first_kept b) (first_due b) old.turns
         first.0 first.1 turn is.turns first.2 (next c root is) in
         let kept_now : kept_in c root new.turns ≡ kept_with before first.0 turn =
         ap (kept_in c root) parts.turns_are ∙ more.kept_is in
@@ -192,7 +193,7 @@ turned old turn new some next parts = record {
           place = parts.place_is ∙ is.place;
           boundary = parts.boundary_is ∙ is.boundary;
           limit = parts.limit_is ∙ is.limit;
-          turns = subst (AreTurnsOf j (certain c.written) root (settled_bit c root) c.limit) (sym parts.turns_are) more.are;
+          turns = subst (AreTurnsOf j (certain c.written) root (settled_bit c root) c.limits.conflicts) (sym parts.turns_are) more.are;
           kept = parts.kept_is c root first.0 first.1 is first.2 ∙ ap length (sym kept_now);
           due = (let long : length waiting ≡ length first.1 + 1 = ap length first.2
               ∙ (let e : suc (length first.1) ≡ length first.1 + 1 = omega arith in e) in
@@ -344,7 +345,7 @@ begun here listed next limit new none kept_is due_is listed_is limit_is next_is 
       place = place_is ∙ from.place_is;
       boundary = boundary_is ∙ from.listed_are;
       limit = limit_is ∙ from.limit_is;
-      turns = subst (AreTurnsOf (job c) (certain c.written) root (settled_bit c root) c.limit) (sym none) tt;
+      turns = subst (AreTurnsOf (job c) (certain c.written) root (settled_bit c root) c.limits.conflicts) (sym none) tt;
       kept = kept_is ∙ ap first_count long ∙ sym (first_long b) ∙ ap (λ ts. length (kept_in c root ts)) (sym none);
       due = due_is ∙ ap due_count long ∙ sym (due_long b) ∙ ap (λ ts. length (due_in c root ts)) (sym none);
       listed = listed_is ∙ from.listed_are ∙ ap (map (place_at (job c))) (sym (first_listed b))

@@ -36,7 +36,7 @@ place_there : (kept rest : List ℕ) (place : ℕ) → among (kept ++ place ∷ 
 place_there kept rest place = list_any-append (λ i. i == place) kept (place ∷ rest)
     ∙ or_right (among kept place) (among (place ∷ rest) place) (among_itself place rest)
 
-module _ (c d : Contents) (root : ℕ) (view : ConditionView) (grown : IsGrown c d) (limit : d.limit ≡ c.limit)
+module _ (c d : Contents) (root : ℕ) (view : ConditionView) (grown : IsGrown c d) (limits : d.limits ≡ c.limits)
     (wave : IsWave d) (is : IsConditionOf c root view) where
   fits : Fits (job c)
   fits = is.wave.fits.fits_job
@@ -75,14 +75,14 @@ module _ (c d : Contents) (root : ℕ) (view : ConditionView) (grown : IsGrown c
   due_still : due_in c root view.turns ≡ due_in d root view.turns
   due_still = ap (λ b. due_after (first_due b) view.turns) boundary_still
 
-  turns_still : AreTurnsOf (job d) (certain d.written) root (settled_bit d root) d.limit view.turns
+  turns_still : AreTurnsOf (job d) (certain d.written) root (settled_bit d root) d.limits.conflicts view.turns
   turns_still =
-      subst (λ (j : Job). AreTurnsOf j (certain d.written) root (settled_bit d root) d.limit view.turns)
+      subst (λ (j : Job). AreTurnsOf j (certain d.written) root (settled_bit d root) d.limits.conflicts view.turns)
       (sym grown.same)
-      (subst (λ n. AreTurnsOf (job c) (certain d.written) root (settled_bit d root) n view.turns) (sym limit)
-      (subst (λ b. AreTurnsOf (job c) (certain d.written) root b c.limit view.turns) settled_same
+      (subst (λ n. AreTurnsOf (job c) (certain d.written) root (settled_bit d root) n view.turns) (sym (ap (λ l. l.conflicts) limits))
+      (subst (λ b. AreTurnsOf (job c) (certain d.written) root b c.limits.conflicts view.turns) settled_same
       (turns_of_moved (job c) fits (certain c.written) (certain d.written) root within agree (settled_bit c root)
-      c.limit view.turns is.turns)))
+      c.limits.conflicts view.turns is.turns)))
 
   placed : (numbers : List ℕ) → map (place_at (job c)) numbers ≡ map (place_at (job d)) numbers
   placed numbers = ap (λ (j : Job). map (place_at j) numbers) (sym grown.same)
@@ -150,7 +150,7 @@ module _ (c d : Contents) (root : ℕ) (view : ConditionView) (grown : IsGrown c
     has = has_still;
     place = is.place ∙ ap (λ (j : Job). place_at j root) (sym grown.same);
     boundary = is.boundary ∙ ap (map (place_at (job c))) boundary_still ∙ placed (certain_boundary_in d root);
-    limit = is.limit ∙ sym limit;
+    limit = is.limit ∙ sym (ap (λ l. l.conflicts) limits);
     turns = turns_still;
     kept = is.kept ∙ ap length kept_still;
     due = is.due ∙ ap length due_still;
@@ -162,4 +162,4 @@ module _ (c d : Contents) (root : ℕ) (view : ConditionView) (grown : IsGrown c
   }
 
 pub conditions_stay : StayLaw
-conditions_stay c d root view grown limit wave is = condition_still c d root view grown limit wave is
+conditions_stay c d root view grown limits wave is = condition_still c d root view grown limits wave is

@@ -27,6 +27,7 @@ use Rattle.xr_model.proofs.PlacesWhere.{among_all, among_itself, any_in, in_pick
 use Rattle.xr_model.proofs.Roots.{root_carried}
 use Rattle.xr_model.proofs.SoundWorlds.{certain_settles}
 use Rattle.xr_model.proofs.TracedCones.{cone_uncertain, sound_carries}
+use Rattle.xr_model.specs.declared.limits.Limits.{Limits}
 use Rattle.xr_cone.specs.Boundary.{certain_boundary, reads}
 use Rattle.xr_cond.specs.Condition.{Obeys}
 use Rattle.xr_cond.specs.Laws.{HasCertainBit, WholeListLaw}
@@ -48,8 +49,8 @@ open_bit One bit h = cc
 open_bit X bit h = refl
 open_bit Z bit h = refl
 
-module _ (j : Job) (limit : ℕ) (shown : ℕ → Value) (waveform : List Written) (lines : List ALine) (fits : Fits j)
-    (sound : Sound j limit shown waveform lines) (root : ℕ) (value : Bool) (has : HasCertainBit j waveform root value)
+module _ (j : Job) (limits : Limits) (shown : ℕ → Value) (waveform : List Written) (lines : List ALine) (fits : Fits j)
+    (sound : Sound j limits shown waveform lines) (root : ℕ) (value : Bool) (has : HasCertainBit j waveform root value)
     (bits : ℕ → Bool) (obeyed : Obeys j (certain waveform) root (certain_boundary j (certain waveform) root) bits) where
   -- what a place of the cone reads and is certain is in the certain boundary
   outside : (k : ℕ) → k < root → is_unknown (certain waveform k) ≡ false
@@ -60,7 +61,7 @@ module _ (j : Job) (limit : ℕ) (shown : ℕ → Value) (waveform : List Writte
       (λ (under : (k < root) × (is_unknown (certain waveform k) ≡ true)).
       (let e : true ≡ false = sym under.1 ∙ known in cc))
       (cone_uncertain j fits (certain waveform) root k has.within
-      (λ place from inverted low is open_. sound_carries j limit fits shown waveform lines sound place from inverted
+      (λ place from inverted low is open_. sound_carries j limits fits shown waveform lines sound place from inverted
       (let up = has.written in omega (arith, low, up)) is open_) has.free
       (cone_reaches j fits (certain waveform) root k has.within h)))
       (λ (h : in_cone j (certain waveform) root k ≡ false). h)
@@ -134,14 +135,14 @@ module _ (j : Job) (limit : ℕ) (shown : ℕ → Value) (waveform : List Writte
 
   root_settled : bits root ≡ value
   root_settled =
-      let world = consistent_are_worlds j limit shown waveform lines fits sound root bits
+      let world = consistent_are_worlds j limits shown waveform lines fits sound root bits
       (record { written = (let less = has.written in omega (arith, less)); within = has.within }) consistent in
       sym (world.world root (cone_self j fits (certain waveform) root has.within))
-      ∙ certain_settles j limit shown waveform lines sound root value has.written has.has
+      ∙ certain_settles j limits shown waveform lines sound root value has.written has.has
       (source_filling j (certain waveform) root bits) world.filling
 
 pub whole_list_law : WholeListLaw
-whole_list_law j limit shown waveform lines fits sound root value has = record {
+whole_list_law j limits shown waveform lines fits sound root value has = record {
   places = λ k at. at;
-  holds = λ bits obeyed. root_settled j limit shown waveform lines fits sound root value has bits obeyed;
+  holds = λ bits obeyed. root_settled j limits shown waveform lines fits sound root value has bits obeyed;
 }

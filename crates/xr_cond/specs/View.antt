@@ -57,7 +57,7 @@ abbrev pub IsTurnQueryIn : Contents → ℕ → List ℕ → Cnf → Type 0
 IsTurnQueryIn c root listed query = IsTurnQuery (job c) (certain c.written) root (settled_bit c root) listed query
 
 abbrev pub IsTurnIn : Contents → ℕ → List ℕ → Turn → Type 0
-IsTurnIn c root listed turn = IsTurn (job c) (certain c.written) root (settled_bit c root) c.limit listed turn
+IsTurnIn c root listed turn = IsTurn (job c) (certain c.written) root (settled_bit c root) c.limits.conflicts listed turn
 
 -- The query that is kept about about a list, and the unit clause of a place is away: the clauses of the cone come
 -- first.
@@ -78,8 +78,8 @@ pub record IsConditionOf (c : Contents) (root : ℕ) (view : ConditionView) : Ty
   pub has : HasCertainBit (job c) c.written root (settled_bit c root)
   pub place : view.place ≡ place_at (job c) root
   pub boundary : view.boundary ≡ map (place_at (job c)) (certain_boundary_in c root)
-  pub limit : view.limit ≡ c.limit
-  pub turns : AreTurnsOf (job c) (certain c.written) root (settled_bit c root) c.limit view.turns
+  pub limit : view.limit ≡ c.limits.conflicts
+  pub turns : AreTurnsOf (job c) (certain c.written) root (settled_bit c root) c.limits.conflicts view.turns
   pub kept : view.kept ≡ length (kept_in c root view.turns)
   pub due : view.due ≡ length (due_in c root view.turns)
   pub listed : view.listed ≡ map (place_at (job c)) (current_list c root view.turns)
@@ -146,7 +146,7 @@ pub record IsBeginning (c : Contents) (root : ℕ) (place : Place) (listed : Lis
   pub wave : IsWave c
   pub has : HasCertainBit (job c) c.written root (settled_bit c root)
   pub place_is : place ≡ place_at (job c) root
-  pub limit_is : limit ≡ c.limit
+  pub limit_is : limit ≡ c.limits.conflicts
   pub listed_are : listed ≡ map (place_at (job c)) (certain_boundary_in c root)
   pub about : (first : ℕ) (rest : List ℕ) → due_in c root [] ≡ first ∷ rest → IsAbout c root next rest first
 
@@ -163,7 +163,7 @@ due_count count = if nat_lt 64 count then 0 else count
 
 -- A condition stays that of its place, whatever is written next.
 abbrev pub StayLaw : Type 0
-StayLaw = (c d : Contents) (root : ℕ) (view : ConditionView) → IsGrown c d → d.limit ≡ c.limit → IsWave d
+StayLaw = (c d : Contents) (root : ℕ) (view : ConditionView) → IsGrown c d → d.limits ≡ c.limits → IsWave d
     → IsConditionOf c root view → IsConditionOf d root view
 
 -- The list of a condition, under way or finished, is a condition of its place.

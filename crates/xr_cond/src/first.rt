@@ -24,11 +24,17 @@ impl Condition {
         requires { IsCertainCone wave.now cone.nodes }
         ensures condition { IfOk result (IsConditionOfCone wave.now cone.nodes) }
         ensures none { IfOk result (λ condition. condition.turns ≡ []) }
-        ensures limit { IfOk result (λ condition. condition.limit ≡ wave.now.limit) }
+        ensures limit { IfOk result (λ condition. condition.limit ≡ wave.now.limits.conflicts) }
     {
         let listed = certain_boundary(alloc, wave, &cone)?;
         let next = next_of(alloc, wave, &cone, listed.as_slice())?;
-        Condition::begin(alloc, last_place(&cone), listed, next, wave.limit())
+        Condition::begin(
+            alloc,
+            last_place(&cone),
+            listed,
+            next,
+            wave.limits().conflicts,
+        )
     }
 }
 

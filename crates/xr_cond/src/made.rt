@@ -20,7 +20,7 @@ pub fn condition_of(
     limit: u32,
 ) -> Result<Condition, Memory>
     requires cone { IsCertainCone wave.now cone.nodes }
-    requires limit { limit ≡ wave.now.limit }
+    requires limit { limit ≡ wave.now.limits.conflicts }
     ensures condition { IfOk result (IsConditionOfCone wave.now cone.nodes) }
     ensures finished { IfOk result (λ condition. condition.due ≡ 0) }
 {

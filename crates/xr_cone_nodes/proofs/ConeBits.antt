@@ -69,7 +69,7 @@ module _ (c : Contents) (root : ℕ) (nodes : List Node) (is : IsConeOf c root n
   fits = is.wave.fits.fits_job
 
   pub seen : AllTrueWorlds (job c) c.written root
-  seen = true_world (job c) c.limit fits (shown_in c) c.written c.lines is.wave.holds.sound root is.reach.written
+  seen = true_world (job c) c.limits fits (shown_in c) c.written c.lines is.wave.holds.sound root is.reach.written
       is.reach.within
 
   pub count : length spots ≡ length nodes

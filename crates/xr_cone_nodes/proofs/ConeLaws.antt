@@ -129,7 +129,7 @@ listed_law c root nodes filling bits is filled listed =
 
 pub enumerated_law : EnumeratedLaw
 enumerated_law c root nodes bit is few each =
-    numbers_enumerate (job c) (fits c root nodes is) c.written root bit is.reach.within (seen c root nodes is)
+    numbers_enumerate (job c) c.limits (fits c root nodes is) c.written root bit is.reach.within (seen c root nodes is)
     (let l = long in omega (arith, l, few)) (λ number small.
     sym (root_world c root nodes is (by_sources nodes (number_bits number)) (own number)
     (source_filling_is (job c) (fits c root nodes is) (certain c.written) root (masked all number) is.reach.within)

@@ -129,13 +129,12 @@ ListedLaw = (c : Contents) (root : ℕ) (nodes : List Node) (filling : List Plac
     → IsConeOf c root nodes → IsFilling (job c) filling → AreListed nodes filling bits
     → root_bit (by_sources nodes bits) nodes ≡ world_in c filling root
 
--- Numbers stand for all fillings of the sources: where each gives the root one bit, every filling of at most 12 sources
--- does.
+-- Numbers stand for all fillings of the sources: where each gives the root one bit, every filling of few sources does.
 abbrev pub EnumeratedLaw : Type 0
 EnumeratedLaw = (c : Contents) (root : ℕ) (nodes : List Node) (bit : Bool) → IsConeOf c root nodes
-    → length (sources_of nodes) ≤ 12
+    → length (sources_of nodes) ≤ c.limits.enumerated
     → ((number : ℕ) → number < 2 ^ length (sources_of nodes)
-    → root_bit (by_sources nodes (number_bits number)) nodes ≡ bit) → IsEnumerated (job c) c.written root bit
+    → root_bit (by_sources nodes (number_bits number)) nodes ≡ bit) → IsEnumerated (job c) c.limits c.written root bit
 
 -- A bit is that of a place in the world of a filling, whichever place of a wave the nodes are the cone of.
 abbrev pub IsWorldBit : List Node → List Place → Bool → Type 0

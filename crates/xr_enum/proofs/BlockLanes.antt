@@ -69,6 +69,3 @@ some_blocks sources low few =
     let small = power_small (sources - 8) (omega arith) in
     let some = power_some (sources - 8) (omega arith) in
     omega (arith, small, some)
-
-pub few_blocks : (sources : ℕ) → 8 ≤ sources → sources ≤ 12 → 1 * 2 ^ (sources - 8) % 2 ^ 64 ≤ 16
-few_blocks sources low few = (let small = power_smaller (sources - 8) (omega arith) in omega (arith, small))

@@ -8,9 +8,9 @@ use Rattle.xr_cone_nodes.specs.Nodes.{number_bits}
 abbrev pub AreLanesOf : ℕ → ℕ → List ℕ → Type 0
 AreLanesOf block source lane_bits = HasLanes lane_bits (λ lane. number_bits (256 * block + lane) source)
 
--- The lanes of the first n sources, and of the first 12.
+-- The lanes of the first n sources, and of the first 16.
 abbrev pub IsLaneTableOf : ℕ → List (List ℕ) → ℕ → Type 0
 IsLaneTableOf block given n = (source : ℕ) → source < n → AreLanesOf block source (slice_index_or given source [])
 
 abbrev pub IsBlock : ℕ → List (List ℕ) → Type 0
-IsBlock block given = IsLaneTableOf block given 12
+IsBlock block given = IsLaneTableOf block given 16

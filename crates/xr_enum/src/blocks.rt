@@ -11,17 +11,16 @@ pub fn number_blocks(sources: usize) -> usize
     ensures enough { 2 ^ sources ≤ 256 * result }
     ensures some { 0 < result }
     ensures few { result ≤ 256 }
-    ensures fewer { sources ≤ 12 → result ≤ 16 }
 {
     if sources < 8 { 1 } else { 1 << (sources - 8) }
 }
 
-/// The lanes of the first 12 sources in a block.
-pub fn fill_block(given: &mut [LaneBits; 12], block: usize)
+/// The lanes of the first 16 sources in a block.
+pub fn fill_block(given: &mut [LaneBits; 16], block: usize)
     ensures lane_table { IsBlock block given.new }
-    ensures long { length given.new ≡ 12 }
+    ensures long { length given.new ≡ 16 }
 {
-    'sources: for source in 0..12 {
+    'sources: for source in 0..16 {
         given[source] = source_lanes(block, source);
     }
 }

@@ -1,6 +1,6 @@
 //! All fillings of the sources, and whether one gives the place another bit than the empty one.
 
-ghost use Rattle.std.specs.Prelude.{◌≡◌, ◌<◌, ◌≤◌, ◌^◌, IfOk, length};
+ghost use Rattle.std.specs.Prelude.{◌≡◌, ◌<◌, ◌≤◌, ◌^◌, IfOk, IsFalse, IsTrue, length};
 ghost use Rattle.xr_cone_nodes.specs.Nodes.{chosen, nothing, number_bits, root_bit, sources_of};
 ghost use Rattle.xr_enum.specs.Decision.{IsDecision};
 ghost use Rattle.xr_enum.specs.Found.{IsOther};
@@ -26,10 +26,18 @@ pub enum Decided {
     Both(Pair),
 }
 
+/// Whether the next place has so few sources that all their fillings are tried.
+pub fn has_few_sources(wave: &Wave<'_>, cone: &Cone) -> bool
+    ensures few { IsTrue result → length (sources_of cone.now.nodes) ≤ wave.now.limits.enumerated }
+    ensures many { IsFalse result → wave.now.limits.enumerated < length (sources_of cone.now.nodes) }
+{
+    cone.sources().len() <= wave.limits().enumerated as usize
+}
+
 /// Decides the next place. Takes 32 bytes a node, and a filling.
 pub fn decide(alloc: Global, wave: &Wave<'_>, cone: &Cone) -> Result<Decided, Memory>
     requires cone { IsNextCone wave.now cone.now.nodes }
-    requires few { length (sources_of cone.now.nodes) ≤ 12 }
+    requires few { length (sources_of cone.now.nodes) ≤ wave.now.limits.enumerated }
     ensures { IfOk result (IsDecision wave.now cone.now.nodes) }
 {
     let sources = cone.sources().len();
@@ -55,13 +63,13 @@ fn pair_of_number(
     number: usize,
 ) -> Result<Pair, Memory>
     requires cone { IsNextCone wave.now cone.now.nodes }
-    requires small { number < 2 ^ 12 }
+    requires small { number < 2 ^ 16 }
     requires other { IsOther cone.now.nodes number }
     ensures holds { IfOk result (λ pair. LineHolds wave.now (pair_line pair)) }
     ensures other { let other = chosen (sources_of cone.now.nodes) (number_bits number) in
         IfOk result (λ pair. other_of (root_bit nothing cone.now.nodes) pair ≡ other) }
 {
-    let mut given = [LaneBits::zeros(); 12];
+    let mut given = [LaneBits::zeros(); 16];
     fill_block(&mut given, number / 256);
     pair_of_lane(alloc, wave, cone, &given, (number % 256) as u32)
 }

@@ -17,7 +17,7 @@ pub fn found_upto(
     found: Option<usize>,
 ) -> Option<usize>
     requires room { lane_table.old.nodes ≡ length cone.now.nodes }
-    requires block { block < 16 }
+    requires block { block < 256 }
     requires found { IsFoundIn cone.now.nodes 0 (256 * block) found }
     ensures found { IsFoundIn cone.now.nodes 0 (256 * (block + 1)) result }
     ensures room { lane_table.new.nodes ≡ lane_table.old.nodes }
@@ -31,11 +31,11 @@ pub fn found_upto(
 /// What is found in a block.
 fn found_in(cone: &Cone, lane_table: &mut ConeLanes, block: usize) -> Option<usize>
     requires room { lane_table.old.nodes ≡ length cone.now.nodes }
-    requires block { block < 16 }
+    requires block { block < 256 }
     ensures found { IsFoundIn cone.now.nodes (256 * block) (256 * (block + 1)) result }
     ensures room { lane_table.new.nodes ≡ lane_table.old.nodes }
 {
-    let mut given = [LaneBits::zeros(); 12];
+    let mut given = [LaneBits::zeros(); 16];
     fill_block(&mut given, block);
     match other_lane(cone, lane_table, &given) {
         None => None,

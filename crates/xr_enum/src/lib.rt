@@ -8,6 +8,6 @@ mod decision;
 mod found;
 
 pub use blocks::{number_blocks, source_lanes};
-pub use decision::{Decided, decide};
+pub use decision::{Decided, decide, has_few_sources};
 pub use found::fewer;
 pub use xr_pair::least_lane;

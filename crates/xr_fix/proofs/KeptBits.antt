@@ -20,6 +20,7 @@ use Rattle.xr_match.specs.declared.binding.Binding.{Binding}
 use Rattle.xr_model.specs.Cone.{are_alike}
 use Rattle.xr_model.specs.Sound.{Sound, SoundBy}
 use Rattle.xr_model.specs.declared.line.Line.{Line as ALine}
+use Rattle.xr_model.specs.declared.limits.Limits.{Limits}
 use Rattle.xr_report.specs.Counts.{is_certain}
 use Rattle.xr_wave.specs.Contents.{Contents, IsWave, job, shown_in}
 use Rattle.xr_fix.specs.Started.{start_in}
@@ -27,14 +28,14 @@ use Rattle.xr_fix.specs.Gained.{AreBeside, OnlyChooses, all_bits, bit_place, bit
 use Rattle.xr_fix.proofs.FinishedBits.{bit_beside, bit_there}
 
 -- A certain place of a sound waveform is 0 or 1.
-sound_known : (j : Job) (limit : ℕ) (waveform : List Written) (lines : List ALine) (place : ℕ) (mark : Mark)
-    (value : Value) → SoundBy j limit waveform lines place mark value → mark ≡ Certain → IsKnown value
-sound_known j limit waveform lines place Certain Zero sound is = tt
-sound_known j limit waveform lines place Certain One sound is = tt
-sound_known j limit waveform lines place Certain X sound is = absurd sound
-sound_known j limit waveform lines place Certain Z sound is = absurd sound
-sound_known j limit waveform lines place Unknown value sound is = absurd cc
-sound_known j limit waveform lines place Undecided value sound is = absurd cc
+sound_known : (j : Job) (limits : Limits) (waveform : List Written) (lines : List ALine) (place : ℕ) (mark : Mark)
+    (value : Value) → SoundBy j limits waveform lines place mark value → mark ≡ Certain → IsKnown value
+sound_known j limits waveform lines place Certain Zero sound is = tt
+sound_known j limits waveform lines place Certain One sound is = tt
+sound_known j limits waveform lines place Certain X sound is = absurd sound
+sound_known j limits waveform lines place Certain Z sound is = absurd sound
+sound_known j limits waveform lines place Unknown value sound is = absurd cc
+sound_known j limits waveform lines place Undecided value sound is = absurd cc
 
 -- What stays certain with its value isn't lost.
 same_kept : (bit : Bool) (mark : Mark) (value : Value) → certain_by mark value ≡ bit_value bit
@@ -72,14 +73,14 @@ module _ (before after : Contents) (wave : IsWave before) (other : IsWave after)
     fits = wave.fits.fits_job;
     recorded = chooses.recorded;
     sets = chooses.sets.starts;
-    limit = before.limit;
+    limits = before.limits;
     shown = shown_in before;
     first = wave.holds.sound;
     whole = are.finished;
     clocks = chooses.clocks;
-    bound = after.limit;
+    bounds = after.limits;
     other = shown_in after;
-    second = subst (λ (k : Job). Sound k after.limit (shown_in after) after.written after.lines) job_is
+    second = subst (λ (k : Job). Sound k after.limits (shown_in after) after.written after.lines) job_is
         other.holds.sound;
     decided = chooses.decided;
   }
@@ -100,7 +101,7 @@ module _ (before after : Contents) (wave : IsWave before) (other : IsWave after)
       let less : number < length after.written =
       subst (λ (n : ℕ). n < length after.written) (number_is bit) second.written.written in
       kept_by old.mark old.value new.mark new.value
-      (sound_known (job before) before.limit before.written before.lines number old.mark old.value sound)
+      (sound_known (job before) before.limits before.written before.lines number old.mark old.value sound)
       (λ b was. subst (λ (w : Written). certain_by w.mark w.value ≡ bit_value b) (sym at)
       (certain_stays (job before) start before.written after.written before.lines after.lines set number b less was))
 

@@ -98,7 +98,7 @@ module _ (c : Contents) (nodes : List Node) (numbers : List ℕ) (filling : List
   count = sym (length-map numbers (place_at (job c))) ∙ sym (ap length graph.places) ∙ length-map nodes place_of_node
 
   seen : TrueWorld (job c) (certain c.written) (bit_of (job c) filling) (world_in c filling) (slice_index numbers top)
-  seen = true_world (job c) c.limit fits (shown_in c) c.written c.lines wave.holds.sound (slice_index numbers top)
+  seen = true_world (job c) c.limits fits (shown_in c) c.written c.lines wave.holds.sound (slice_index numbers top)
       (graph.reach top less).written (graph.reach top less).within filling filled
 
   upto_top : (n : ℕ) → n ≤ top → slice_index numbers n ≤ slice_index numbers top

@@ -74,9 +74,9 @@ kept_certain c nodes literal place from wave less from_less same holds =
       within = holds.within;
       bits = λ lane small.
           holds.bits lane small
-          ∙ given_certain (job c) c.limit wave.fits.fits_job _ c.written c.lines wave.holds.sound from one.bit from_less
+          ∙ given_certain (job c) c.limits wave.fits.fits_job _ c.written c.lines wave.holds.sound from one.bit from_less
           one.second (lane_given (job c) lane)
-          ∙ sym (given_certain (job c) c.limit wave.fits.fits_job _ c.written c.lines wave.holds.sound place one.bit less
+          ∙ sym (given_certain (job c) c.limits wave.fits.fits_job _ c.written c.lines wave.holds.sound place one.bit less
           one.first (lane_given (job c) lane));
       some = λ uncertain. unknown_not one.bit (sym (ap is_unknown one.first) ∙ uncertain);
       root = λ uncertain. unknown_not one.bit (sym (ap is_unknown one.first) ∙ uncertain);
@@ -91,7 +91,7 @@ kept_carried c nodes literal place from wave less is holds = record {
   bits = λ lane small.
       holds.bits lane small
       ∙ sym (carry j fits known (lane_given j lane) (lane_bit j known lane) place from false
-      (given_world j c.limit fits _ c.written c.lines wave.holds.sound place (omega (arith, less)) within
+      (given_world j c.limits fits _ c.written c.lines wave.holds.sound place (omega (arith, less)) within
       (lane_given j lane)) is);
   some = λ uncertain. (carried_literal c nodes literal place from false wave less uncertain is holds).some uncertain;
   root = λ uncertain. (carried_literal c nodes literal place from false wave less uncertain is holds).root uncertain;

@@ -51,7 +51,7 @@ constant_literal c nodes place bit wave some zeros less is = record {
   bits = λ lane small.
       ap (λ (n : NodeView). flipped bit (in_lane n.lane_bits lane)) zeros ∙ ap (flipped bit) (lane_zeros lane small)
       ∙ flipped_false bit
-      ∙ sym (given_certain (job c) c.limit wave.fits.fits_job _ c.written c.lines wave.holds.sound place bit less is
+      ∙ sym (given_certain (job c) c.limits wave.fits.fits_job _ c.written c.lines wave.holds.sound place bit less is
       (lane_given (job c) lane));
   some = λ uncertain. unknown_not bit (sym (ap is_unknown is) ∙ uncertain);
   root = λ uncertain. unknown_not bit (sym (ap is_unknown is) ∙ uncertain);
@@ -91,16 +91,16 @@ carried_literal c nodes literal place from inverted wave less uncertain is holds
       twice inverted literal.inverted (in_lane (node_at nodes literal.node).lane_bits lane)
       ∙ ap (flipped inverted) (holds.bits lane small)
       ∙ sym (carry j fits known (lane_given j lane) (lane_bit j known lane) place from inverted
-      (given_world j c.limit fits _ c.written c.lines wave.holds.sound place (omega (arith, less)) within
+      (given_world j c.limits fits _ c.written c.lines wave.holds.sound place (omega (arith, less)) within
       (lane_given j lane)) is);
   some = λ unknown. holds.some
-      (sound_carries j c.limit fits _ c.written c.lines wave.holds.sound place from inverted less is uncertain);
+      (sound_carries j c.limits fits _ c.written c.lines wave.holds.sound place from inverted less is uncertain);
   root = λ unknown. root_carried j fits known place from inverted within is
       ∙ ap (λ (r : Root). record { place = r.place; inverted = flipped inverted r.inverted })
-      (holds.root (sound_carries j c.limit fits _ c.written c.lines wave.holds.sound place from inverted less is uncertain));
+      (holds.root (sound_carries j c.limits fits _ c.written c.lines wave.holds.sound place from inverted less is uncertain));
   sources = λ unknown. sources_same j known place from (node_at nodes literal.node).sources
       (carried_law j known place from inverted fits within is)
-      (holds.sources (sound_carries j c.limit fits _ c.written c.lines wave.holds.sound place from inverted less is uncertain));
+      (holds.sources (sound_carries j c.limits fits _ c.written c.lines wave.holds.sound place from inverted less is uncertain));
 }
   where
     j : Job
@@ -171,7 +171,7 @@ rule_bits c covered place arguments values own lane_bits wave reach rests before
     w = lane_bit j known lane
 
     true_world : TrueWorld j known f w place
-    true_world = given_world j c.limit fits _ c.written c.lines wave.holds.sound place reach.written reach.within f
+    true_world = given_world j c.limits fits _ c.written c.lines wave.holds.sound place reach.written reach.within f
 
     agree : AllByRecursion (λ k. covered_bit covered lane k ≡ w k) arguments
     agree = among_all (λ k. covered_bit covered lane k ≡ w k) arguments (λ k at.

@@ -151,4 +151,4 @@ pub gives_again : (c : Contents) (place : ℕ) (bit : Bool) → IsWave c → pla
     → certain c.written place ≡ bit_value bit → GivesNext c bit
 gives_again c place bit wave written bits is filling filled =
     bits filling filled
-    ∙ certain_settles (job c) c.limit (shown_in c) c.written c.lines wave.holds.sound place bit written is filling filled
+    ∙ certain_settles (job c) c.limits (shown_in c) c.written c.lines wave.holds.sound place bit written is filling filled

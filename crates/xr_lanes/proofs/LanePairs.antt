@@ -95,7 +95,7 @@ pub bit_in_world : (c : Contents) → IsWave c → HasNext c → (list lane_bits
     → ListsJust (job c) list filling lane → in_lane lane_bits lane ≡ bit_under c filling
 bit_in_world c wave within list lane_bits filling lane are has lists =
     has lane lists.within
-    ∙ given_cut (job c) c.limit wave.fits.fits_job _ c.written c.lines wave.holds.sound (length c.written) (omega arith) within
+    ∙ given_cut (job c) c.limits wave.fits.fits_job _ c.written c.lines wave.holds.sound (length c.written) (omega arith) within
     (lane_given (job c) lane)
     ∙ ap (λ f. world_bit (job c) (certain c.written) (bit_of (job c) f) (length c.written))
     (sym (lists.same ∙ filling_is c list lane are))
@@ -127,7 +127,7 @@ module _ (c : Contents) (wave : IsWave c) (within : HasNext c) (list lane_bits :
 
     own_bit : world_bit j known (bit_of j own) place ≡ not (in_lane lane_bits empty_lane)
     own_bit = ap (λ f. world_bit j known (bit_of j f) place) own_is
-        ∙ sym (given_cut j c.limit fits _ c.written c.lines wave.holds.sound place (omega arith) within (lane_given j lane))
+        ∙ sym (given_cut j c.limits fits _ c.written c.lines wave.holds.sound place (omega arith) within (lane_given j lane))
         ∙ sym (has lane other.within) ∙ other.differs
 
     empty_bit : world_bit j known (bit_of j []) place ≡ in_lane lane_bits empty_lane

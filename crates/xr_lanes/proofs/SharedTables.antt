@@ -242,7 +242,7 @@ pub gives_next : (c : Contents) (nodes : List Node) (shared : SharedView) (node 
     → IsWave c → HasNext c → IsListIn c shared → IsNextIn c node nodes → AreSourcesIn c (next_number c) sources
     → ListsAll sources shared → IsSame nodes shared.tables.list node bit → GivesNext c bit
 gives_next c nodes shared node bit sources wave within list next are listed same filling filled =
-    sources_decide (job c) c.limit (shown_in c) c.written c.lines fits wave.holds.sound (next_number c) (next_number c)
+    sources_decide (job c) c.limits (shown_in c) c.written c.lines fits wave.holds.sound (next_number c) (next_number c)
     filling other (record { written = omega arith; within = within }) filled other_filled alike
     (cone_self (job c) fits (certain c.written) (next_number c) within)
     ∙ ap (world_in c other) (sym next.is)
@@ -264,11 +264,11 @@ gives_next c nodes shared node bit sources wave within list next are listed same
         sym (own_bit c shared filling wave list k (listed k (subst (λ xs. among xs k ≡ true) (sym are)
         (source_among (job c) fits (certain c.written) (next_number c) k within source))))
 
--- Where that has at most 12 sources, this is an enumeration.
+-- Where that has few sources, this is an enumeration.
 pub few_enumerated : (c : Contents) (bit : Bool) (sources : List ℕ) → AreSourcesIn c (next_number c) sources
-    → length sources ≤ 12 → GivesNext c bit → HoldsNext c (Enumerated bit)
+    → length sources ≤ c.limits.enumerated → GivesNext c bit → HoldsNext c (Enumerated bit)
 few_enumerated c bit sources are few gives = record {
-  few = subst (λ xs. length xs ≤ 12) are few;
+  few = subst (λ xs. length xs ≤ c.limits.enumerated) are few;
   each = λ filling filled alone. gives filling filled;
 }
 

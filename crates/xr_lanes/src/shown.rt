@@ -12,16 +12,13 @@ use xr_base::Memory;
 use xr_cell::Value;
 use xr_wave::{How, Pair, Settled, Wave};
 
-/// Up to this many sources, all fillings of them are an enumeration.
-const ENUMERATED: usize = 12;
-
 /// What is shown of the next place. It must be spent.
 #[must_use]
 #[derive(Debug)]
 pub enum Shown {
     /// Two fillings give it 0 and 1.
     Pair(Pair),
-    /// Every filling of its sources, at most 12 of them, gives it one bit.
+    /// Every filling of its sources, of which there are few, gives it one bit.
     Settled(Settled),
     /// Neither, but the cone of a written place, by its number, has the same bodies as its own.
     Earlier(usize),
@@ -36,7 +33,7 @@ pub fn settled_if_few(wave: &Wave<'_>, sources: &[u32], bit: bool) -> Shown
     requires every { GivesNext wave.now bit }
     ensures { IsShownNext wave.now result }
 {
-    if sources.len() > ENUMERATED {
+    if sources.len() > wave.limits().enumerated as usize {
         return Shown::Nothing;
     }
     Shown::Settled(Settled::from_law(wave, How::Enumerated(bit)))
@@ -75,7 +72,9 @@ fn settled_as(wave: &Wave<'_>, place: usize, sources: Option<&[u32]>, bit: bool)
     ensures { IsShownNext wave.now result }
 {
     match sources {
-        Some(list) if list.len() <= ENUMERATED => settled_if_few(wave, list, bit),
+        Some(list) if list.len() <= wave.limits().enumerated as usize => settled_if_few(
+            wave, list, bit,
+        ),
         Some(_) => Shown::Earlier(place),
         None => Shown::Earlier(place),
     }

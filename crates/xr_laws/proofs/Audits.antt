@@ -16,6 +16,7 @@ use Rattle.xr_model.specs.declared.line.Line.{Line as ALine}
 use Rattle.xr_model.proofs.FactsBefore.{written_grown, written_last}
 use Rattle.xr_model.proofs.Uniqueness.{sound_exact}
 use Rattle.xr_model.proofs.YieldedSound.{sound_honest, yielded_sound}
+use Rattle.xr_model.specs.declared.limits.Limits.{Limits}
 use Rattle.xr_laws.specs.Audit.{FirstListed, IsAudited, IsFirst, IsListed, ObjectionListed, SomeListed}
 use Rattle.xr_laws.specs.Objection.{AllDecide}
 use Rattle.xr_laws.specs.Reshown.{reshown}
@@ -61,15 +62,15 @@ first_same shown v w place less same is = record {
 pub nothing : ℕ → Value
 nothing k = X
 
-pub yielded_exact : (j : Job) (limit : ℕ) → Fits j → (shown : ℕ → Value) (waveform : List Written) (lines : List ALine)
-    → Yields j limit shown waveform lines → AllDecide lines → IsExact j (reshown nothing waveform)
+pub yielded_exact : (j : Job) (limits : Limits) → Fits j → (shown : ℕ → Value) (waveform : List Written) (lines : List ALine)
+    → Yields j limits shown waveform lines → AllDecide lines → IsExact j (reshown nothing waveform)
 unfolding nothing
-yielded_exact j limit fits shown waveform lines yields all =
+yielded_exact j limits fits shown waveform lines yields all =
     let w = reshown nothing waveform in
-    let again = reshown_law j limit shown nothing waveform w lines fits (reshown_there nothing waveform) yields in
-    let sound : Sound j limit nothing w lines = yielded_sound j limit fits nothing w lines again
+    let again = reshown_law j limits shown nothing waveform w lines fits (reshown_there nothing waveform) yields in
+    let sound : Sound j limits nothing w lines = yielded_sound j limits fits nothing w lines again
     (λ k less is. honest (written_at w k).mark (written_at w k).value is) in
-    sound_exact j limit nothing w lines (decided_law j limit nothing w lines sound all) sound
+    sound_exact j limits nothing w lines (decided_law j limits nothing w lines sound all) sound
   where
     honest : (mark : Mark) (value : Value) → IsOptimistic mark value X → ⊥
     honest Certain value is = is.0
@@ -78,7 +79,7 @@ yielded_exact j limit fits shown waveform lines yields all =
 
 audited_exact : (j : Job) (waveform : List Written) (lines : List ALine) → IsAudited j waveform lines → IsExact j
     waveform
-audited_exact j waveform lines is = sound_exact j is.limit is.shown waveform lines is.decided is.holds.sound
+audited_exact j waveform lines is = sound_exact j is.limits is.shown waveform lines is.decided is.holds.sound
 
 pub first_listed : FirstListed
 first_listed j shown waveform lines more place fits audited meets =
@@ -97,7 +98,7 @@ first_listed j shown waveform lines more place fits audited meets =
         let whole = audited.whole in
         let long = shown_so.long in
         let here = alike_at j fits w waveform (omega (arith, long, all)) (omega (arith, whole))
-        (yielded_exact j meets.limit fits shown meets.waveform more meets.yields meets.decide)
+        (yielded_exact j meets.limits fits shown meets.waveform more meets.yields meets.decide)
         (audited_exact j waveform lines audited) k (omega (arith, long, up, less)) (omega (
           arith,
           up,
@@ -110,13 +111,13 @@ first_listed j shown waveform lines more place fits audited meets =
 
 pub objection_listed : ObjectionListed
 unfolding certain
-objection_listed j limit shown waveform front lines more found fits audited objects all = record {
+objection_listed j limits shown waveform front lines more found fits audited objects all = record {
   listed = listed_same shown v waveform n inside (alike n (omega arith)) (record {
     within = omega (arith, long);
     otherwise = subst (λ (x : Written). IsOptimistic x.mark x.value (shown n)) (sym (written_last front found))
         objects.optimistic;
   });
-  none = λ k before listed. sound_honest j limit shown front more objects.sound k before
+  none = λ k before listed. sound_honest j limits shown front more objects.sound k before
       (subst (λ (x : Written). IsOptimistic x.mark x.value (shown k)) (written_grown front found k before)
       (listed_same shown waveform v k (omega (arith, long, before)) (turned v waveform k (alike k (omega (
         arith,
@@ -142,7 +143,7 @@ objection_listed j limit shown waveform front lines more found fits audited obje
         let within = objects.said.within in
         let whole = audited.whole in
         let here = alike_at j fits v waveform (omega (arith, long, within)) (omega (arith, whole))
-        (exact_with j limit fits shown front more found objects all) (audited_exact j waveform lines audited) k
+        (exact_with j limits fits shown front more found objects all) (audited_exact j waveform lines audited) k
         (omega (arith, long, up)) (omega (arith, up, within, whole)) in
         record { mark = here.mark; certain_value = here.certain_value }
 
@@ -206,10 +207,10 @@ some_listed j shown waveform lines fits audited = (
         lines,
         first.0,
         record {
-          decide = all_decide j audited.limit audited.shown waveform lines fits audited.holds.yields audited.decided;
-          limit = audited.limit;
+          decide = all_decide j audited.limits audited.shown waveform lines fits audited.holds.yields audited.decided;
+          limits = audited.limits;
           waveform = reshown shown waveform;
-          yields = reshown_law j audited.limit audited.shown shown waveform (reshown shown waveform) lines fits again
+          yields = reshown_law j audited.limits audited.shown shown waveform (reshown shown waveform) lines fits again
               audited.holds.yields;
           first = first_same shown waveform (reshown shown waveform) first.0 (omega (arith, long, within))
               (λ k up. again.same k (omega (arith, up, within))) first.1;

@@ -24,6 +24,7 @@ use Rattle.xr_model.proofs.FactsBefore.{body_moved, sound_moved}
 use Rattle.xr_model.proofs.PlacesWhere.{picked_below, picked_same, in_picked, among_all}
 use Rattle.xr_model.proofs.Roots.{carried_below}
 use Rattle.xr_model.proofs.WrittenPlaces.{follows_moved, written_moved}
+use Rattle.xr_model.specs.declared.limits.Limits.{Limits}
 use Rattle.xr_laws.specs.Prefix.{lines_before, YieldsPrefixLaw, SoundPrefixLaw, PrefixLaw}
 
 -- ---- lines before a place
@@ -91,7 +92,7 @@ pub front_certain : (waveform : List Written) (n : ℕ) → AgreeBelow (certain 
 unfolding certain
 front_certain waveform n k less = ap (λ (w : Written). certain_by w.mark w.value) (sym (front_at waveform n k less))
 
-module _ (j : Job) (limit : ℕ) (fits : Fits j) (shown : ℕ → Value) (waveform : List Written) (lines : List ALine)
+module _ (j : Job) (limits : Limits) (fits : Fits j) (shown : ℕ → Value) (waveform : List Written) (lines : List ALine)
     (n : ℕ) (up : n ≤ length waveform) (all : length waveform ≤ places_of j) where
   abbrev front : List Written
   front = take n waveform
@@ -120,14 +121,14 @@ module _ (j : Job) (limit : ℕ) (fits : Fits j) (shown : ℕ → Value) (wavefo
       let before = carried_below j fits (certain waveform) k from inverted (inside k less) is in
       sym (front_at waveform n from (omega (arith, less, before)))
 
-  yields_front : Yields j limit shown waveform lines → Yields j limit shown front kept
+  yields_front : Yields j limits shown waveform lines → Yields j limits shown front kept
   yields_front yields = record {
     within = omega (arith, long, up, all);
     places = before_places j fits n lines (line_places j (certain waveform) (length waveform)) yields.places below
         ∙ ap (map (place_at j)) (where_cut (λ k. is_line (class_of j (certain waveform) k)) n (length waveform) up
         ∙ picked_same (λ k. is_line (class_of j (certain waveform) k)) (λ k. is_line (class_of j (certain front) k)) n
         (λ k less. ap is_line (class_same k less)) ∙ ap (line_places j (certain front)) (sym long));
-    bodies = λ k body less at. body_moved j limit fits waveform front k body (inside k (low k less)) (agree k (low k
+    bodies = λ k body less at. body_moved j limits fits waveform front k body (inside k (low k less)) (agree k (low k
         less))
         (yields.bodies k body (omega (arith, less, long, up)) (sym (body_before j lines n k (low k less)) ∙ at));
     written = λ k less. front_at waveform n k (low k less) ∙ yields.written k (omega (arith, less, long, up))
@@ -143,7 +144,7 @@ module _ (j : Job) (limit : ℕ) (fits : Fits j) (shown : ℕ → Value) (wavefo
           (let less = (in_picked (λ k. is_line (class_of j (certain waveform) k)) (length waveform) k h).0 in
           omega (arith, less, all)))
 
-  sound_front : Sound j limit shown waveform lines → Sound j limit shown front kept
+  sound_front : Sound j limits shown waveform lines → Sound j limits shown front kept
   sound_front sound = record {
     within = omega (arith, long, up, all);
     classes = λ k less. subst (λ class. FollowsClass (written_at front) class (written_at front k)) (class_same k (low
@@ -153,9 +154,9 @@ module _ (j : Job) (limit : ℕ) (fits : Fits j) (shown : ℕ → Value) (wavefo
         (follows_moved (written_at waveform) (written_at front) (class_of j (certain waveform) k) (written_at waveform
         k)
         (from_same k (low k less)) (sound.classes k (omega (arith, less, long, up)))));
-    exact = λ k less. subst (λ (w : Written). SoundBy j limit front kept k w.mark w.value)
+    exact = λ k less. subst (λ (w : Written). SoundBy j limits front kept k w.mark w.value)
         (sym (front_at waveform n k (low k less)))
-        (sound_moved j limit fits waveform front lines kept k (written_at waveform k).mark (written_at waveform k).value
+        (sound_moved j limits fits waveform front lines kept k (written_at waveform k).mark (written_at waveform k).value
         (inside k (low k less)) (agree k (low k less))
         (λ i before. sym (body_before j lines n i (omega (arith, low k less, before))))
         (sound.exact k (omega (arith, less, long, up))));
@@ -171,15 +172,15 @@ module _ (j : Job) (limit : ℕ) (fits : Fits j) (shown : ℕ → Value) (wavefo
   }
 
 pub yields_prefix : YieldsPrefixLaw
-yields_prefix j limit shown waveform lines n fits up yields = yields_front j limit fits shown waveform lines n up
+yields_prefix j limits shown waveform lines n fits up yields = yields_front j limits fits shown waveform lines n up
     yields.within yields
 
 pub sound_prefix : SoundPrefixLaw
-sound_prefix j limit shown waveform lines n fits up sound = sound_front j limit fits shown waveform lines n up
+sound_prefix j limits shown waveform lines n fits up sound = sound_front j limits fits shown waveform lines n up
     sound.within sound
 
 pub holds_prefix : PrefixLaw
-holds_prefix j limit shown waveform lines n fits up holds = record {
-  sound = sound_prefix j limit shown waveform lines n fits up holds.sound;
-  yields = yields_prefix j limit shown waveform lines n fits up holds.yields;
+holds_prefix j limits shown waveform lines n fits up holds = record {
+  sound = sound_prefix j limits shown waveform lines n fits up holds.sound;
+  yields = yields_prefix j limits shown waveform lines n fits up holds.yields;
 }

@@ -17,6 +17,7 @@ use Rattle.xr_model.specs.declared.class.ClassByNumber.TheVariants.{Local, Free,
 use Rattle.xr_model.specs.declared.line.Line.{Line as ALine}
 use Rattle.xr_model.proofs.LawProofs.{carry_law}
 use Rattle.xr_model.proofs.Roots.{carried_below, root_carried, root_own}
+use Rattle.xr_model.specs.declared.limits.Limits.{Limits}
 use Rattle.xr_laws.specs.Roots.{RootLaw}
 
 flipped_twice : (a b bit : Bool) → flipped (flipped a b) bit ≡ flipped a (flipped b bit)
@@ -25,8 +26,8 @@ flipped_twice true false bit = refl
 flipped_twice true true false = refl
 flipped_twice true true true = refl
 
-module _ (j : Job) (limit : ℕ) (shown : ℕ → Value) (waveform : List Written) (lines : List ALine) (fits : Fits j)
-    (sound : Sound j limit shown waveform lines) (filling : List Place) (filled : IsFilling j filling) where
+module _ (j : Job) (limits : Limits) (shown : ℕ → Value) (waveform : List Written) (lines : List ALine) (fits : Fits j)
+    (sound : Sound j limits shown waveform lines) (filling : List Place) (filled : IsFilling j filling) where
   abbrev w : ℕ → Bool
   w = world_over j waveform filling
 
@@ -46,7 +47,7 @@ module _ (j : Job) (limit : ℕ) (shown : ℕ → Value) (waveform : List Writte
   along place Line is up within earlier = own place (ap is_carried is)
   along place (Carried from inverted) is up within earlier =
       let r = root_of j c from in
-      carry_law j limit shown waveform lines fits sound place from inverted filling
+      carry_law j limits shown waveform lines fits sound place from inverted filling
       (record { written = up; within = within }) filled is
       ∙ ap (flipped inverted) (earlier from (carried_below j fits c place from inverted within is))
       ∙ sym (flipped_twice inverted r.inverted (w r.place))
@@ -58,6 +59,6 @@ module _ (j : Job) (limit : ℕ) (shown : ℕ → Value) (waveform : List Writte
       (λ k less. below n k (omega (arith, less, before)) (omega (arith, less, up)) (omega (arith, less, within)))
 
 pub root_law : RootLaw
-root_law j limit shown waveform lines fits sound place filling reach filled =
-    below j limit shown waveform lines fits sound filling filled (suc place) place (omega arith) reach.written
+root_law j limits shown waveform lines fits sound place filling reach filled =
+    below j limits shown waveform lines fits sound filling filled (suc place) place (omega arith) reach.written
     reach.within

@@ -34,6 +34,7 @@ use Rattle.xr_model.specs.Sound.{SoundBy}
 use Rattle.xr_model.specs.declared.line.Line.{Line as ALine}
 use Rattle.xr_model.proofs.PlacesWhere.{in_picked, picked_below, picked_in, picked_rises}
 use Rattle.xr_model.proofs.SoundWorlds.{certain_settles}
+use Rattle.xr_model.specs.declared.limits.Limits.{Limits}
 use Rattle.xr_laws.specs.Starts.{AreSet, CertainStays, JobsWithStarts, StartsFit, WorldsOfFirst, is_register, set_filling, with_set, with_starts}
 
 -- ---- the second job
@@ -218,20 +219,20 @@ chosen_later j start step net driver x later =
     ap (λ b. if b && (is_register driver && (is_unknown (j.start net) && not (is_unknown (start net)))) then is_one
     (start net) else x) later
 
-settled_certain : (j : Job) (limit : ℕ) (waveform : List Written) (lines : List ALine) (place : ℕ) (mark : Mark)
-    (value : Value) (bit : Bool) → SoundBy j limit waveform lines place mark value → (mark ≡ Undecided → ⊥)
+settled_certain : (j : Job) (limits : Limits) (waveform : List Written) (lines : List ALine) (place : ℕ) (mark : Mark)
+    (value : Value) (bit : Bool) → SoundBy j limits waveform lines place mark value → (mark ≡ Undecided → ⊥)
     → Settles j waveform place bit → certain_by mark value ≡ bit_value bit
-settled_certain j limit waveform lines place Certain Zero bit sound decided settles =
+settled_certain j limits waveform lines place Certain Zero bit sound decided settles =
     ap bit_value (sym (sound [] (empty_filling j)) ∙ settles [] (empty_filling j))
-settled_certain j limit waveform lines place Certain One bit sound decided settles =
+settled_certain j limits waveform lines place Certain One bit sound decided settles =
     ap bit_value (sym (sound [] (empty_filling j)) ∙ settles [] (empty_filling j))
-settled_certain j limit waveform lines place Certain X bit sound decided settles = absurd sound
-settled_certain j limit waveform lines place Certain Z bit sound decided settles = absurd sound
-settled_certain j limit waveform lines place Unknown value bit sound decided settles =
+settled_certain j limits waveform lines place Certain X bit sound decided settles = absurd sound
+settled_certain j limits waveform lines place Certain Z bit sound decided settles = absurd sound
+settled_certain j limits waveform lines place Unknown value bit sound decided settles =
     let zero : false ≡ bit = sym sound.gives_zero ∙ settles _ sound.zero_filling in
     let one : true ≡ bit = sym sound.gives_one ∙ settles _ sound.one_filling in
     let clash : true ≡ false = one ∙ sym zero in cc
-settled_certain j limit waveform lines place Undecided value bit sound decided settles = absurd (decided refl)
+settled_certain j limits waveform lines place Undecided value bit sound decided settles = absurd (decided refl)
 
 module _ (j : Job) (start : ℕ → Value) (v w : List Written) (lines more : List ALine)
     (are : AreSet j start v w lines more) where
@@ -355,9 +356,9 @@ module _ (j : Job) (start : ℕ → Value) (v w : List Written) (lines more : Li
   certain_there i less same bit is =
       let all = are.second.within in
       let whole = are.whole in
-      let settles = certain_settles j are.limit are.shown v lines are.first i bit (omega (arith, less, all, whole)) is
+      let settles = certain_settles j are.limits are.shown v lines are.first i bit (omega (arith, less, all, whole)) is
       in
-      settled_certain k are.bound w more i (written_at w i).mark (written_at w i).value bit (are.second.exact i less)
+      settled_certain k are.bounds w more i (written_at w i).mark (written_at w i).value bit (are.second.exact i less)
       (are.decided i less)
       (λ filling filled. same filling filled
       ∙ settles (set_filling j start filling) (set_is_filling j are.fits start filling))

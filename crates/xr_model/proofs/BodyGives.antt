@@ -21,6 +21,7 @@ use Rattle.xr_model.proofs.Cones.{cone_self}
 use Rattle.xr_model.proofs.SoundWorlds.{true_world}
 use Rattle.xr_model.proofs.ConeModels.{refuted_bit}
 use Rattle.xr_model.proofs.SourceFillings.{source_filling_is, source_given, sources_alone, source_among}
+use Rattle.xr_model.specs.declared.limits.Limits.{Limits}
 
 -- The world of each filling is one in which the certain places before a place have their values.
 abbrev pub AllTrueWorlds : Job → List Written → ℕ → Type 0
@@ -39,9 +40,9 @@ refuted_settles j fits waveform place bit log within seen is filling filled =
 
 -- Where the world of every filling of the sources gives a bit, that of every filling does: it is that of the filling
 -- that gives the sources the same bits.
-pub enumerated_settles : (j : Job) → Fits j → (waveform : List Written) (place : ℕ) (bit : Bool) → place < places_of j
-    → AllTrueWorlds j waveform place → IsEnumerated j waveform place bit → Settles j waveform place bit
-enumerated_settles j fits waveform place bit within seen is filling filled =
+pub enumerated_settles : (j : Job) (limits : Limits) → Fits j → (waveform : List Written) (place : ℕ) (bit : Bool) → place < places_of j
+    → AllTrueWorlds j waveform place → IsEnumerated j limits waveform place bit → Settles j waveform place bit
+enumerated_settles j limits fits waveform place bit within seen is filling filled =
     let c = certain waveform in
     let own : List Place = source_filling j c place (bit_of j filling) in
     let own_is : IsFilling j own = source_filling_is j fits c place (bit_of j filling) within in
@@ -53,20 +54,20 @@ enumerated_settles j fits waveform place bit within seen is filling filled =
     (sources_alone j fits c place (bit_of j filling) k within listed))
 
 -- What a body that holds at a place gives of it.
-pub body_gives_by : (j : Job) (limit : ℕ) → Fits j → (waveform : List Written) (place : ℕ) (body : Body)
-    → place < places_of j → AllTrueWorlds j waveform place → BodyHolds j limit waveform place body
+pub body_gives_by : (j : Job) (limits : Limits) → Fits j → (waveform : List Written) (place : ℕ) (body : Body)
+    → place < places_of j → AllTrueWorlds j waveform place → BodyHolds j limits waveform place body
     → BodyGives j waveform place body
-body_gives_by j limit fits waveform place (Enumerated bit) within seen holds = enumerated_settles j fits waveform place
-    bit within seen holds
-body_gives_by j limit fits waveform place (Refuted bit log) within seen holds = refuted_settles j fits waveform place
+body_gives_by j limits fits waveform place (Enumerated bit) within seen holds = enumerated_settles j limits fits waveform
+    place bit within seen holds
+body_gives_by j limits fits waveform place (Refuted bit log) within seen holds = refuted_settles j fits waveform place
     bit log within seen holds
-body_gives_by j limit fits waveform place (Pair first second) within seen holds = holds
-body_gives_by j limit fits waveform place (Budget log) within seen holds = tt
+body_gives_by j limits fits waveform place (Pair first second) within seen holds = holds
+body_gives_by j limits fits waveform place (Budget log) within seen holds = tt
 
 -- At each written place of a sound waveform, and at the next, a body that holds gives what it says.
-pub body_gives : (j : Job) (limit : ℕ) → Fits j → (shown : ℕ → Value) (waveform : List Written) (lines : List ALine)
-    → Sound j limit shown waveform lines → (place : ℕ) → place ≤ length waveform → place < places_of j
-    → (budget : ℕ) (body : Body) → BodyHolds j budget waveform place body → BodyGives j waveform place body
-body_gives j limit fits shown waveform lines sound place up within budget body holds =
+pub body_gives : (j : Job) (limits : Limits) → Fits j → (shown : ℕ → Value) (waveform : List Written) (lines : List ALine)
+    → Sound j limits shown waveform lines → (place : ℕ) → place ≤ length waveform → place < places_of j
+    → (budget : Limits) (body : Body) → BodyHolds j budget waveform place body → BodyGives j waveform place body
+body_gives j limits fits shown waveform lines sound place up within budget body holds =
     body_gives_by j budget fits waveform place body within
-    (true_world j limit fits shown waveform lines sound place up within) holds
+    (true_world j limits fits shown waveform lines sound place up within) holds

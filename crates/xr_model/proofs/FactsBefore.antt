@@ -29,6 +29,7 @@ use Rattle.xr_model.specs.declared.line.Body.TheVariants.{Enumerated, Refuted, P
 use Rattle.xr_model.proofs.ConesBefore.{sources_local, query_moved, denied_moved}
 use Rattle.xr_model.proofs.ClassesBefore.{class_local}
 use Rattle.xr_model.proofs.Roots.{root_local, root_within}
+use Rattle.xr_model.specs.declared.limits.Limits.{Limits}
 
 -- A waveform that has grown by a place.
 pub written_grown : (waveform : List Written) (x : Written) (place : ℕ) → place < length waveform
@@ -58,12 +59,13 @@ both_moved j fits v w place stated within agree both = record {
     same filling = world_bit_local j fits (certain w) (certain v) (bit_of j filling) (bit_of j filling) place within
         (λ k less. sym (agree k less)) (λ k less. refl)
 
-enumerated_moved : (j : Job) → Fits j → (v w : List Written) (place : ℕ) (bit : Bool) → place < places_of j
-    → AgreeBelow (certain v) (certain w) place → IsEnumerated j v place bit → IsEnumerated j w place bit
-enumerated_moved j fits v w place bit within agree holds =
+enumerated_moved : (j : Job) (limits : Limits) → Fits j → (v w : List Written) (place : ℕ) (bit : Bool) → place < places_of j
+    → AgreeBelow (certain v) (certain w) place → IsEnumerated j limits v place bit
+    → IsEnumerated j limits w place bit
+enumerated_moved j limits fits v w place bit within agree holds =
     let same = sources_local j fits (certain v) (certain w) place within agree in
     record {
-      few = subst (λ places. length places ≤ 12) same holds.few;
+      few = subst (λ places. length places ≤ limits.enumerated) same holds.few;
       each = λ filling filled alone. world_bit_local j fits (certain w) (certain v) (bit_of j filling)
           (bit_of j filling) place within (λ k less. sym (agree k less)) (λ k less. refl)
           ∙ holds.each filling filled (λ k listed. subst (λ places. among places k ≡ true) (sym same) (alone k listed));
@@ -80,11 +82,11 @@ refuted_moved j fits v w place bit log within agree holds = record {
   refutes = holds.refutes;
 }
 
-budget_moved : (j : Job) (limit : ℕ) → Fits j → (v w : List Written) (place : ℕ) (log : List (List ℤ))
-    → place < places_of j → AgreeBelow (certain v) (certain w) place → IsLicence j limit v place log
-    → IsLicence j limit w place log
-budget_moved j limit fits v w place log within agree holds = record {
-  many = subst (λ places. 12 < length places) (sources_local j fits (certain v) (certain w) place within agree)
+budget_moved : (j : Job) (limits : Limits) → Fits j → (v w : List Written) (place : ℕ) (log : List (List ℤ))
+    → place < places_of j → AgreeBelow (certain v) (certain w) place → IsLicence j limits v place log
+    → IsLicence j limits w place log
+budget_moved j limits fits v w place log within agree holds = record {
+  many = subst (λ places. limits.enumerated < length places) (sources_local j fits (certain v) (certain w) place within agree)
       holds.many;
   query = holds.query;
   is_query = query_moved j fits (certain v) (certain w) place holds.query within agree holds.is_query;
@@ -92,15 +94,15 @@ budget_moved j limit fits v w place log within agree holds = record {
   long = holds.long;
 }
 
-pub body_moved : (j : Job) (limit : ℕ) → Fits j → (v w : List Written) (place : ℕ) (body : Body) → place < places_of j
-    → AgreeBelow (certain v) (certain w) place → BodyHolds j limit v place body → BodyHolds j limit w place body
-body_moved j limit fits v w place (Enumerated bit) within agree holds = enumerated_moved j fits v w place bit within
+pub body_moved : (j : Job) (limits : Limits) → Fits j → (v w : List Written) (place : ℕ) (body : Body) → place < places_of j
+    → AgreeBelow (certain v) (certain w) place → BodyHolds j limits v place body → BodyHolds j limits w place body
+body_moved j limits fits v w place (Enumerated bit) within agree holds = enumerated_moved j limits fits v w place bit
+    within agree holds
+body_moved j limits fits v w place (Refuted bit log) within agree holds = refuted_moved j fits v w place bit log within
     agree holds
-body_moved j limit fits v w place (Refuted bit log) within agree holds = refuted_moved j fits v w place bit log within
-    agree holds
-body_moved j limit fits v w place (Budget log) within agree holds = budget_moved j limit fits v w place log within agree
+body_moved j limits fits v w place (Budget log) within agree holds = budget_moved j limits fits v w place log within agree
     holds
-body_moved j limit fits v w place (Pair first second) within agree holds = both_moved j fits v w place
+body_moved j limits fits v w place (Pair first second) within agree holds = both_moved j fits v w place
     (record { zero = first; one = second }) within agree holds
 
 -- The fillings that are stated for a place.
@@ -118,35 +120,35 @@ stated_moved j fits c d lines more place within agree bodies =
     ∙ ap (λ body. swapped r.inverted (stated_by j (class_of j d r.place) body r.place)) (bodies r.place low)
 
 -- The licence of a place, by that of its root.
-licence_moved : (j : Job) (limit : ℕ) → Fits j → (v w : List Written) (lines more : List ALine) (place : ℕ)
+licence_moved : (j : Job) (limits : Limits) → Fits j → (v w : List Written) (lines more : List ALine) (place : ℕ)
     → place < places_of j → AgreeBelow (certain v) (certain w) place
-    → ((k : ℕ) → k ≤ place → body_at j lines k ≡ body_at j more k) → HasLicence j limit v lines place
-    → HasLicence j limit w more place
-licence_moved j limit fits v w lines more place within agree bodies licence =
+    → ((k : ℕ) → k ≤ place → body_at j lines k ≡ body_at j more k) → HasLicence j limits v lines place
+    → HasLicence j limits w more place
+licence_moved j limits fits v w lines more place within agree bodies licence =
     let root = ap (λ (r : Root). r.place) (root_local j fits (certain v) (certain w) place within agree) in
     let low = root_within j fits (certain v) place within in
     let here = (root_of j (certain v) place).place in
     record {
       log = licence.log;
       line = subst (λ k. body_at j more k ≡ Some (Budget licence.log)) root (sym (bodies here low) ∙ licence.line);
-      holds = subst (λ k. IsLicence j limit w k licence.log) root
-          (body_moved j limit fits v w here (Budget licence.log) (omega (arith, low, within))
+      holds = subst (λ k. IsLicence j limits w k licence.log) root
+          (body_moved j limits fits v w here (Budget licence.log) (omega (arith, low, within))
           (λ k less. agree k (omega (arith, low, less))) licence.holds);
     }
 
-pub sound_moved : (j : Job) (limit : ℕ) → Fits j
+pub sound_moved : (j : Job) (limits : Limits) → Fits j
     → (v w : List Written) (lines more : List ALine) (place : ℕ) (mark : Mark) (value : Value) → place < places_of j
     → AgreeBelow (certain v) (certain w) place → ((k : ℕ) → k ≤ place → body_at j lines k ≡ body_at j more k)
-    → SoundBy j limit v lines place mark value → SoundBy j limit w more place mark value
-sound_moved j limit fits v w lines more place Certain Zero within agree bodies sound = settles_local j fits v w place
+    → SoundBy j limits v lines place mark value → SoundBy j limits w more place mark value
+sound_moved j limits fits v w lines more place Certain Zero within agree bodies sound = settles_local j fits v w place
     false within agree sound
-sound_moved j limit fits v w lines more place Certain One within agree bodies sound = settles_local j fits v w place
+sound_moved j limits fits v w lines more place Certain One within agree bodies sound = settles_local j fits v w place
     true within agree sound
-sound_moved j limit fits v w lines more place Certain X within agree bodies sound = sound
-sound_moved j limit fits v w lines more place Certain Z within agree bodies sound = sound
-sound_moved j limit fits v w lines more place Unknown value within agree bodies sound = both_moved j fits v w place
+sound_moved j limits fits v w lines more place Certain X within agree bodies sound = sound
+sound_moved j limits fits v w lines more place Certain Z within agree bodies sound = sound
+sound_moved j limits fits v w lines more place Unknown value within agree bodies sound = both_moved j fits v w place
     (stated j (certain w) more place) within agree
     (subst (GivesBoth j v place) (stated_moved j fits (certain v) (certain w) lines more place within agree bodies)
     sound)
-sound_moved j limit fits v w lines more place Undecided value within agree bodies sound = licence_moved j limit fits v w
+sound_moved j limits fits v w lines more place Undecided value within agree bodies sound = licence_moved j limits fits v w
     lines more place within agree bodies sound

@@ -31,6 +31,7 @@ use Rattle.xr_model.proofs.ConeModels.{model_consistent, says_valuation}
 use Rattle.xr_model.proofs.SourceFillings.{source_filling_is, source_given, source_among}
 use Rattle.xr_model.proofs.PlacesWhere.{all_among}
 use Rattle.xr_model.proofs.Roots.{carried_below}
+use Rattle.xr_model.specs.declared.limits.Limits.{Limits}
 
 only_one : (l x : ℤ) → Contains (x ∷ []) l → l ≡ x
 only_one l x (zero, less, is) = sym is
@@ -86,13 +87,13 @@ model_pair j fits waveform place model within seen met =
     (model_value j fits c place model (world_bit j c (bit_of j own)) within met (seen own own_is))
 
 -- The numbers below 2 to the number of sources stand for all fillings of them.
-pub numbers_enumerate : (j : Job) → Fits j → (waveform : List Written) (place : ℕ) (bit : Bool) → place < places_of j
-    → AllTrueWorlds j waveform place → length (sources j (certain waveform) place) ≤ 12
+pub numbers_enumerate : (j : Job) (limits : Limits) → Fits j → (waveform : List Written) (place : ℕ) (bit : Bool) → place < places_of j
+    → AllTrueWorlds j waveform place → length (sources j (certain waveform) place) ≤ limits.enumerated
     → ((number : ℕ) → number < 2 ^ length (sources j (certain waveform) place)
     → world_bit j (certain waveform) (bit_of j
     (source_filling j (certain waveform) place (masked (sources j (certain waveform) place) number))) place ≡ bit)
-    → IsEnumerated j waveform place bit
-numbers_enumerate j fits waveform place bit within seen few each = record {
+    → IsEnumerated j limits waveform place bit
+numbers_enumerate j limits fits waveform place bit within seen few each = record {
   few = few;
   each = λ filling filled alone. (let bits = masked all (mask_of all (bit_of j filling)) in
       let own : List Place = source_filling j c place bits in

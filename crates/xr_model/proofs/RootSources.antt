@@ -1,4 +1,4 @@
--- A place has the sources of its root, so an undecided one has more than 12 of its own.
+-- A place has the sources of its root, so an undecided one has too many of its own to try all their fillings.
 use Rattle.std.proofs.Common.{◌≡◌, ℕ, zero, suc, ◌+◌, ◌<◌, ◌≤◌, ◌==◌, ◌&&◌, ◌||◌, Bool, true, false, List, [], ◌∷◌, ◌++◌, length, refl, sym, ap, ◌∙◌, arith, subst, ⊎_elim, if◌then◌else◌}
 use Rattle.std.specs.List.{list_any}
 use Rattle.std.proofs.lemmas.Bool.{cases_Bool, cases_eq, eqb-true, and_parts}
@@ -18,6 +18,7 @@ use Rattle.xr_model.specs.declared.class.ClassByNumber.TheVariants.{Local, Free,
 use Rattle.xr_model.specs.declared.line.Line.{Line as ALine}
 use Rattle.xr_model.proofs.Cones.{cone_is, cone_within}
 use Rattle.xr_model.proofs.Roots.{carried_below, root_own, root_carried}
+use Rattle.xr_model.specs.declared.limits.Limits.{Limits}
 
 -- A test that holds of no place from m on.
 places_shorter : (test : ℕ → Bool) (n m : ℕ) → m ≤ n → ((k : ℕ) → m ≤ k → k < n → test k ≡ false)
@@ -112,13 +113,13 @@ pub root_sources : (j : Job) → Fits j → (c : ℕ → Value) (place : ℕ) �
     → sources j c place ≡ sources j c (root_of j c place).place
 root_sources j fits c place within = root_sources_below j fits c (suc place) place (omega arith) within
 
--- An undecided place of a sound waveform has more than 12 sources.
-pub undecided_many : (j : Job) (limit : ℕ) → Fits j → (shown : ℕ → Value) (waveform : List Written) (lines : List ALine)
-    → Sound j limit shown waveform lines → (place : ℕ) → place < length waveform
-    → (written_at waveform place).mark ≡ Undecided → 12 < length (sources j (certain waveform) place)
-undecided_many j limit fits shown waveform lines sound place less is =
+-- An undecided place of a sound waveform has more sources than those of which all fillings are tried.
+pub undecided_many : (j : Job) (limits : Limits) → Fits j → (shown : ℕ → Value) (waveform : List Written) (lines : List ALine)
+    → Sound j limits shown waveform lines → (place : ℕ) → place < length waveform
+    → (written_at waveform place).mark ≡ Undecided → limits.enumerated < length (sources j (certain waveform) place)
+undecided_many j limits fits shown waveform lines sound place less is =
     let within : place < places_of j = (let all = sound.within in omega (arith, all, less)) in
-    let licence : HasLicence j limit waveform lines place =
-    subst (λ mark. SoundBy j limit waveform lines place mark (written_at waveform place).value) is
+    let licence : HasLicence j limits waveform lines place =
+    subst (λ mark. SoundBy j limits waveform lines place mark (written_at waveform place).value) is
     (sound.exact place less) in
-    subst (λ places. 12 < length places) (sym (root_sources j fits (certain waveform) place within)) licence.holds.many
+    subst (λ places. limits.enumerated < length places) (sym (root_sources j fits (certain waveform) place within)) licence.holds.many

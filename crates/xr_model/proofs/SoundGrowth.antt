@@ -21,6 +21,7 @@ use Rattle.xr_model.proofs.FactsBefore.{written_grown, written_last, certain_gro
 use Rattle.xr_model.proofs.NextPlace.{LineHeld, SameBefore, next_exact}
 use Rattle.xr_model.proofs.WrittenPlaces.{written_shows, honest_known, honest_open, written_follows, follows_moved}
 use Rattle.xr_model.proofs.Roots.{carried_below}
+use Rattle.xr_model.specs.declared.limits.Limits.{Limits}
 
 pub each_grown : (P : ℕ → Type 0) (waveform : List Written) (x : Written) → ((k : ℕ) → k < length waveform → P k)
     → P (length waveform) → (k : ℕ) → k < length (waveform ++ x ∷ []) → P k
@@ -31,24 +32,24 @@ each_grown P waveform x earlier last k less =
     (λ (other : k ≡ length waveform → ⊥). earlier k (omega arith)) (cases_eq k (length waveform))
 
 -- The next place is written as its class and its line say, over lines that stay as they were below it.
-pub record NextSound (j : Job) (limit : ℕ) (shown : ℕ → Value) (waveform : List Written) (x : Written)
+pub record NextSound (j : Job) (limits : Limits) (shown : ℕ → Value) (waveform : List Written) (x : Written)
     (lines more : List ALine) : Type 0 where
   pub within : length waveform < places_of j
   pub same : SameBefore j waveform lines more
-  pub held : LineHeld j limit waveform more (class_of j (certain waveform) (length waveform))
+  pub held : LineHeld j limits waveform more (class_of j (certain waveform) (length waveform))
   pub as_said : x ≡ written_by (written_at waveform) (class_of j (certain waveform) (length waveform))
       (body_at j more (length waveform)) (shown (length waveform))
   pub honest : IsOptimistic x.mark x.value (shown (length waveform)) → ⊥
 
-pub sound_grown : (j : Job) (limit : ℕ) → Fits j
+pub sound_grown : (j : Job) (limits : Limits) → Fits j
     → (shown : ℕ → Value) (waveform : List Written) (x : Written) (lines more : List ALine)
-    → Sound j limit shown waveform lines → NextSound j limit shown waveform x lines more
-    → Sound j limit shown (waveform ++ x ∷ []) more
-sound_grown j limit fits shown waveform x lines more sound next = record {
+    → Sound j limits shown waveform lines → NextSound j limits shown waveform x lines more
+    → Sound j limits shown (waveform ++ x ∷ []) more
+sound_grown j limits fits shown waveform x lines more sound next = record {
   within = (let long = length-append waveform (x ∷ []) in let low = next.within in omega (arith, long, low));
   classes = each_grown (λ k. FollowsClass (written_at v) (class_of j (certain v) k) (written_at v k)) waveform x
       classes_earlier classes_last;
-  exact = each_grown (λ k. SoundBy j limit v more k (written_at v k).mark (written_at v k).value) waveform x
+  exact = each_grown (λ k. SoundBy j limits v more k (written_at v k).mark (written_at v k).value) waveform x
       exact_earlier exact_last;
   shows = record {
     known = each_grown (λ k. IsKnown (shown k) → (written_at v k).value ≡ shown k) waveform x known_earlier known_last;
@@ -95,24 +96,24 @@ sound_grown j limit fits shown waveform x lines more sound next = record {
         subst (λ class. FollowsClass (written_at v) class (written_at v n)) (class_same n (omega arith))
         (subst (FollowsClass (written_at v) class) (sym (written_last waveform x)) moved)
 
-    exact_earlier : (k : ℕ) → k < n → SoundBy j limit v more k (written_at v k).mark (written_at v k).value
+    exact_earlier : (k : ℕ) → k < n → SoundBy j limits v more k (written_at v k).mark (written_at v k).value
     exact_earlier k less =
         let within = next.within in
-        let moved = sound_moved j limit fits waveform v lines more k (written_at waveform k).mark
+        let moved = sound_moved j limits fits waveform v lines more k (written_at waveform k).mark
         (written_at waveform k).value (omega arith) (agree k (omega arith))
         (λ i up. sym (next.same i (omega arith))) (sound.exact k less) in
-        subst (λ (w : Written). SoundBy j limit v more k w.mark w.value) (sym (written_grown waveform x k less)) moved
+        subst (λ (w : Written). SoundBy j limits v more k w.mark w.value) (sym (written_grown waveform x k less)) moved
 
-    exact_last : SoundBy j limit v more n (written_at v n).mark (written_at v n).value
+    exact_last : SoundBy j limits v more n (written_at v n).mark (written_at v n).value
     exact_last =
         let class = class_of j (certain waveform) n in
-        let here = next_exact j limit fits shown waveform lines more sound next.within next.same class refl next.held
+        let here = next_exact j limits fits shown waveform lines more sound next.within next.same class refl next.held
         (shown n) in
-        let here_x : SoundBy j limit waveform more n x.mark x.value =
-        subst (λ (w : Written). SoundBy j limit waveform more n w.mark w.value) (sym next.as_said) here in
-        let moved = sound_moved j limit fits waveform v more more n x.mark x.value next.within (agree n (omega arith))
+        let here_x : SoundBy j limits waveform more n x.mark x.value =
+        subst (λ (w : Written). SoundBy j limits waveform more n w.mark w.value) (sym next.as_said) here in
+        let moved = sound_moved j limits fits waveform v more more n x.mark x.value next.within (agree n (omega arith))
         (λ i up. refl) here_x in
-        subst (λ (w : Written). SoundBy j limit v more n w.mark w.value) (sym (written_last waveform x)) moved
+        subst (λ (w : Written). SoundBy j limits v more n w.mark w.value) (sym (written_last waveform x)) moved
 
     shows_last : (x.mark ≡ Certain → ⊥) → x.value ≡ shown n
     shows_last = subst (λ (w : Written). (w.mark ≡ Certain → ⊥) → w.value ≡ shown n) (sym next.as_said)

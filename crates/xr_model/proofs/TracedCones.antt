@@ -25,6 +25,7 @@ use Rattle.xr_model.proofs.Cones.{supports_below}
 use Rattle.xr_model.proofs.EssentialArguments.{rule_table, table_reads}
 use Rattle.xr_model.proofs.AssignmentNumbers.{mask_small, masked_agrees}
 use Rattle.xr_model.proofs.PlacesWhere.{in_picked, all_among}
+use Rattle.xr_model.specs.declared.limits.Limits.{Limits}
 
 -- A place of a cone is the root, or a support of another of its places: so marks go downwards, from each marked place
 -- to its supports.
@@ -96,29 +97,29 @@ cone_uncertain j fits c root _ within carries free (further place support reache
     )
 
 -- In a sound waveform no certain place has x, so a carried place is uncertain only where its source is.
-sound_open : (j : Job) (limit : ℕ) (waveform : List Written) (lines : List ALine) (place : ℕ) (mark : Mark)
-    (value : Value) → SoundBy j limit waveform lines place mark value → is_unknown (certain_by mark value) ≡ true
+sound_open : (j : Job) (limits : Limits) (waveform : List Written) (lines : List ALine) (place : ℕ) (mark : Mark)
+    (value : Value) → SoundBy j limits waveform lines place mark value → is_unknown (certain_by mark value) ≡ true
     → mark ≡ Certain → ⊥
-sound_open j limit waveform lines place Certain Zero sound open_ is = cc
-sound_open j limit waveform lines place Certain One sound open_ is = cc
-sound_open j limit waveform lines place Certain X sound open_ is = sound
-sound_open j limit waveform lines place Certain Z sound open_ is = sound
-sound_open j limit waveform lines place Unknown value sound open_ is = cc
-sound_open j limit waveform lines place Undecided value sound open_ is = cc
+sound_open j limits waveform lines place Certain Zero sound open_ is = cc
+sound_open j limits waveform lines place Certain One sound open_ is = cc
+sound_open j limits waveform lines place Certain X sound open_ is = sound
+sound_open j limits waveform lines place Certain Z sound open_ is = sound
+sound_open j limits waveform lines place Unknown value sound open_ is = cc
+sound_open j limits waveform lines place Undecided value sound open_ is = cc
 
 mark_open : (mark : Mark) (value : Value) → (mark ≡ Certain → ⊥) → is_unknown (certain_by mark value) ≡ true
 mark_open Certain value other = absurd (other refl)
 mark_open Unknown value other = refl
 mark_open Undecided value other = refl
 
-pub sound_carries : (j : Job) (limit : ℕ) → Fits j → (shown : ℕ → Value) (waveform : List Written) (lines : List ALine)
-    → Sound j limit shown waveform lines → CarriesUncertain j (certain waveform) (length waveform)
+pub sound_carries : (j : Job) (limits : Limits) → Fits j → (shown : ℕ → Value) (waveform : List Written) (lines : List ALine)
+    → Sound j limits shown waveform lines → CarriesUncertain j (certain waveform) (length waveform)
 unfolding certain
-sound_carries j limit fits shown waveform lines sound k from inverted less is open_ =
+sound_carries j limits fits shown waveform lines sound k from inverted less is open_ =
     let follows : FollowsCarrier inverted (written_at waveform from) (written_at waveform k) =
     subst (λ class. FollowsClass (written_at waveform) class (written_at waveform k)) is (sound.classes k less) in
     mark_open (written_at waveform from).mark (written_at waveform from).value
-    (λ e. sound_open j limit waveform lines k (written_at waveform k).mark (written_at waveform k).value
+    (λ e. sound_open j limits waveform lines k (written_at waveform k).mark (written_at waveform k).value
     (sound.exact k less) open_ (follows.mark ∙ e))
 
 -- The values of a table: each number's is the rule's on the assignment of that number.

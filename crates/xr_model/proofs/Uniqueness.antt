@@ -20,37 +20,38 @@ use Rattle.xr_model.specs.declared.class.ClassByNumber.TheVariants.{Carried}
 use Rattle.xr_model.proofs.WrittenPlaces.{written_moved}
 use Rattle.xr_model.proofs.ClassesBefore.{class_local}
 use Rattle.xr_model.proofs.Roots.{carried_below}
+use Rattle.xr_model.specs.declared.limits.Limits.{Limits}
 
-pub exact_by : (j : Job) (limit : ℕ) (waveform : List Written) (lines : List ALine) (place : ℕ) (mark : Mark)
-    (value : Value) → (mark ≡ Undecided → ⊥) → SoundBy j limit waveform lines place mark value
+pub exact_by : (j : Job) (limits : Limits) (waveform : List Written) (lines : List ALine) (place : ℕ) (mark : Mark)
+    (value : Value) → (mark ≡ Undecided → ⊥) → SoundBy j limits waveform lines place mark value
     → ExactBy j waveform place mark value
-exact_by j limit waveform lines place Certain Zero decided sound = sound
-exact_by j limit waveform lines place Certain One decided sound = sound
-exact_by j limit waveform lines place Certain X decided sound = sound
-exact_by j limit waveform lines place Certain Z decided sound = sound
-exact_by j limit waveform lines place Unknown value decided sound =
+exact_by j limits waveform lines place Certain Zero decided sound = sound
+exact_by j limits waveform lines place Certain One decided sound = sound
+exact_by j limits waveform lines place Certain X decided sound = sound
+exact_by j limits waveform lines place Certain Z decided sound = sound
+exact_by j limits waveform lines place Unknown value decided sound =
     record { pair = stated j (certain waveform) lines place; gives = sound }
-exact_by j limit waveform lines place Undecided value decided sound = absurd (decided refl)
+exact_by j limits waveform lines place Undecided value decided sound = absurd (decided refl)
 
-pub sound_exact : (j : Job) (limit : ℕ) (shown : ℕ → Value) (waveform : List Written) (lines : List ALine)
-    → IsDecided waveform → Sound j limit shown waveform lines → IsExact j waveform
-sound_exact j limit shown waveform lines decided sound place less =
-    exact_by j limit waveform lines place (written_at waveform place).mark (written_at waveform place).value
+pub sound_exact : (j : Job) (limits : Limits) (shown : ℕ → Value) (waveform : List Written) (lines : List ALine)
+    → IsDecided waveform → Sound j limits shown waveform lines → IsExact j waveform
+sound_exact j limits shown waveform lines decided sound place less =
+    exact_by j limits waveform lines place (written_at waveform place).mark (written_at waveform place).value
     (decided place less) (sound.exact place less)
 
 -- Two sound waveforms of one job without undecided places are equal in every value and mark, whatever their lines.
-pub unique : (j : Job) (limit : ℕ) → Fits j → (shown : ℕ → Value) (v w : List Written) (lines more : List ALine)
-    → length v ≡ length w → length v ≤ places_of j → IsDecided v → IsDecided w → Sound j limit shown v lines
-    → Sound j limit shown w more → v ≡ w
-unique j limit fits shown v w lines more long within decided_v decided_w sound_v sound_w =
-    one_exact j shown v w fits long within (sound_exact j limit shown v lines decided_v sound_v)
-    (sound_exact j limit shown w more decided_w sound_w) sound_v.shows sound_w.shows
+pub unique : (j : Job) (limits : Limits) → Fits j → (shown : ℕ → Value) (v w : List Written) (lines more : List ALine)
+    → length v ≡ length w → length v ≤ places_of j → IsDecided v → IsDecided w → Sound j limits shown v lines
+    → Sound j limits shown w more → v ≡ w
+unique j limits fits shown v w lines more long within decided_v decided_w sound_v sound_w =
+    one_exact j shown v w fits long within (sound_exact j limits shown v lines decided_v sound_v)
+    (sound_exact j limits shown w more decided_w sound_w) sound_v.shows sound_w.shows
 
 -- A list of lines yields at most one waveform.
-pub yields_one : (j : Job) (limit : ℕ) → Fits j → (shown : ℕ → Value) (v w : List Written) (lines : List ALine)
-    → length v ≡ length w → length v ≤ places_of j → Yields j limit shown v lines → Yields j limit shown w lines → v ≡ w
+pub yields_one : (j : Job) (limits : Limits) → Fits j → (shown : ℕ → Value) (v w : List Written) (lines : List ALine)
+    → length v ≡ length w → length v ≤ places_of j → Yields j limits shown v lines → Yields j limits shown w lines → v ≡ w
 unfolding certain
-yields_one j limit fits shown v w lines long within yields_v yields_w = ext_get_or unwritten v w long
+yields_one j limits fits shown v w lines long within yields_v yields_w = ext_get_or unwritten v w long
     (λ place less. below (suc place) place (omega arith) less)
   where
     here : (place : ℕ) → place < length v → ((k : ℕ) → k < place → written_at v k ≡ written_at w k)
@@ -72,11 +73,11 @@ yields_one j limit fits shown v w lines long within yields_v yields_w = ext_get_
     below (suc n) place before less = here place less (λ k earlier. below n k (omega arith) (omega arith))
 
 -- Sound for two histories, they are equal in every mark and in every certain value.
-pub unique_certain : (j : Job) (limit bound : ℕ) → Fits j
+pub unique_certain : (j : Job) (limits bounds : Limits) → Fits j
     → (shown other : ℕ → Value) (v w : List Written) (lines more : List ALine) → length v ≡ length w
-    → length v ≤ places_of j → IsDecided v → IsDecided w → Sound j limit shown v lines → Sound j bound other w more
+    → length v ≤ places_of j → IsDecided v → IsDecided w → Sound j limits shown v lines → Sound j bounds other w more
     → (place : ℕ) → place < length v → SameAt v w place
-unique_certain j limit bound fits shown other v w lines more long within decided_v decided_w sound_v sound_w place
+unique_certain j limits bounds fits shown other v w lines more long within decided_v decided_w sound_v sound_w place
     less =
-    one_certain j v w fits long within (sound_exact j limit shown v lines decided_v sound_v)
-    (sound_exact j bound other w more decided_w sound_w) place less
+    one_certain j v w fits long within (sound_exact j limits shown v lines decided_v sound_v)
+    (sound_exact j bounds other w more decided_w sound_w) place less

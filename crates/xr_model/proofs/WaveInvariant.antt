@@ -27,23 +27,24 @@ use Rattle.xr_model.proofs.WrittenPlaces.{written_moved}
 use Rattle.xr_model.proofs.SoundGrowth.{each_grown}
 use Rattle.xr_model.proofs.YieldedSound.{empty_sound, yielded_sound, sound_honest}
 use Rattle.xr_model.proofs.Roots.{carried_below}
+use Rattle.xr_model.specs.declared.limits.Limits.{Limits}
 
 -- The place of the new line.
-new_number : (j : Job) (limit : ℕ) → Fits j → (waveform : List Written) (new : List ALine)
-    → length waveform < places_of j → (is : IsLineOf j limit waveform new) → number_of j is.line.place ≡ length waveform
-new_number j limit fits waveform new within is = ap (number_of j) is.place
+new_number : (j : Job) (limits : Limits) → Fits j → (waveform : List Written) (new : List ALine)
+    → length waveform < places_of j → (is : IsLineOf j limits waveform new) → number_of j is.line.place ≡ length waveform
+new_number j limits fits waveform new within is = ap (number_of j) is.place
     ∙ number_of_place_at j (length waveform) fits.ordering fits.all within
 
 -- The new lines are of the next place.
-new_elsewhere : (j : Job) (limit : ℕ) → Fits j → (waveform : List Written) (new : List ALine) (class : ClassByNumber)
-    → length waveform < places_of j → NextLines j limit waveform new class → (k : ℕ) → k < length waveform
+new_elsewhere : (j : Job) (limits : Limits) → Fits j → (waveform : List Written) (new : List ALine) (class : ClassByNumber)
+    → length waveform < places_of j → NextLines j limits waveform new class → (k : ℕ) → k < length waveform
     → body_at j new k ≡ None
-new_elsewhere j limit fits waveform new (Local bit) within is k less = ap (λ ls. body_at j ls k) is
-new_elsewhere j limit fits waveform new Free within is k less = ap (λ ls. body_at j ls k) is
-new_elsewhere j limit fits waveform new (Carried from inverted) within is k less = ap (λ ls. body_at j ls k) is
-new_elsewhere j limit fits waveform new Line within is k less =
+new_elsewhere j limits fits waveform new (Local bit) within is k less = ap (λ ls. body_at j ls k) is
+new_elsewhere j limits fits waveform new Free within is k less = ap (λ ls. body_at j ls k) is
+new_elsewhere j limits fits waveform new (Carried from inverted) within is k less = ap (λ ls. body_at j ls k) is
+new_elsewhere j limits fits waveform new Line within is k less =
     ap (λ ls. body_at j ls k) is.one ∙ body_none j (is.line ∷ []) k
-    (λ e. (let place = new_number j limit fits waveform new within is in omega (arith, place, e, less)), tt)
+    (λ e. (let place = new_number j limits fits waveform new within is in omega (arith, place, e, less)), tt)
 
 some_same : (a b : Body) → Some a ≡ Some b → a ≡ b
 some_same a b same = cc
@@ -52,47 +53,47 @@ none_some : (P : Type 0) (body : Body) → None ≡ Some body → P
 none_some P body same = cc
 
 -- A new line holds.
-new_holds : (j : Job) (limit : ℕ) → Fits j → (waveform : List Written) (new : List ALine) (class : ClassByNumber)
-    → length waveform < places_of j → NextLines j limit waveform new class → (body : Body)
-    → body_at j new (length waveform) ≡ Some body → BodyHolds j limit waveform (length waveform) body
-new_holds j limit fits waveform new (Local bit) within is body at = none_some _ body
+new_holds : (j : Job) (limits : Limits) → Fits j → (waveform : List Written) (new : List ALine) (class : ClassByNumber)
+    → length waveform < places_of j → NextLines j limits waveform new class → (body : Body)
+    → body_at j new (length waveform) ≡ Some body → BodyHolds j limits waveform (length waveform) body
+new_holds j limits fits waveform new (Local bit) within is body at = none_some _ body
     (sym (ap (λ ls. body_at j ls (length waveform)) is) ∙ at)
-new_holds j limit fits waveform new Free within is body at = none_some _ body
+new_holds j limits fits waveform new Free within is body at = none_some _ body
     (sym (ap (λ ls. body_at j ls (length waveform)) is) ∙ at)
-new_holds j limit fits waveform new (Carried from inverted) within is body at = none_some _ body
+new_holds j limits fits waveform new (Carried from inverted) within is body at = none_some _ body
     (sym (ap (λ ls. body_at j ls (length waveform)) is) ∙ at)
-new_holds j limit fits waveform new Line within is body at =
+new_holds j limits fits waveform new Line within is body at =
     let one : Some is.line.body ≡ Some body =
-    sym (body_one j is.line (length waveform) (new_number j limit fits waveform new within is))
+    sym (body_one j is.line (length waveform) (new_number j limits fits waveform new within is))
     ∙ sym (ap (λ ls. body_at j ls (length waveform)) is.one) ∙ at in
-    subst (BodyHolds j limit waveform (length waveform)) (some_same is.line.body body one) is.holds
+    subst (BodyHolds j limits waveform (length waveform)) (some_same is.line.body body one) is.holds
 
 -- The lines stand at the Line places.
-lines_grown : (j : Job) (limit : ℕ) (waveform : List Written) (lines new : List ALine) (class : ClassByNumber)
-    (places : List ℕ) → NextLines j limit waveform new class → places_of_lines lines ≡ map (place_at j) places
+lines_grown : (j : Job) (limits : Limits) (waveform : List Written) (lines new : List ALine) (class : ClassByNumber)
+    (places : List ℕ) → NextLines j limits waveform new class → places_of_lines lines ≡ map (place_at j) places
     → places_of_lines (lines ++ new) ≡ map (place_at j)
     (if is_line class then places ++ length waveform ∷ [] else places)
-lines_grown j limit waveform lines new (Local bit) places is are = ap (λ ls. places_of_lines (lines ++ ls)) is
+lines_grown j limits waveform lines new (Local bit) places is are = ap (λ ls. places_of_lines (lines ++ ls)) is
     ∙ ap places_of_lines (append-nil lines) ∙ are
-lines_grown j limit waveform lines new Free places is are = ap (λ ls. places_of_lines (lines ++ ls)) is
+lines_grown j limits waveform lines new Free places is are = ap (λ ls. places_of_lines (lines ++ ls)) is
     ∙ ap places_of_lines (append-nil lines) ∙ are
-lines_grown j limit waveform lines new (Carried from inverted) places is are = ap (λ ls. places_of_lines (lines ++ ls))
+lines_grown j limits waveform lines new (Carried from inverted) places is are = ap (λ ls. places_of_lines (lines ++ ls))
     is ∙ ap places_of_lines (append-nil lines) ∙ are
-lines_grown j limit waveform lines new Line places is are =
+lines_grown j limits waveform lines new Line places is are =
     map-append (λ (line : ALine). line.place) lines new ∙ ap (λ ls. places_of_lines lines ++ places_of_lines ls) is.one
     ∙ ap (λ p. places_of_lines lines ++ p ∷ []) is.place ∙ ap (λ ps. ps ++ place_at j (length waveform) ∷ []) are
     ∙ sym (map-append (place_at j) places (length waveform ∷ []))
 
 -- Lines yield a waveform with the next place, where it is written as its class and its line say.
-pub yields_grown : (j : Job) (limit : ℕ) → Fits j
+pub yields_grown : (j : Job) (limits : Limits) → Fits j
     → (shown : ℕ → Value) (waveform : List Written) (lines : List ALine) (x : Written) (new : List ALine)
-    → Yields j limit shown waveform lines → NextSaid j limit shown waveform x new
-    → Yields j limit shown (waveform ++ x ∷ []) (lines ++ new)
-yields_grown j limit fits shown waveform lines x new yields next = record {
+    → Yields j limits shown waveform lines → NextSaid j limits shown waveform x new
+    → Yields j limits shown (waveform ++ x ∷ []) (lines ++ new)
+yields_grown j limits fits shown waveform lines x new yields next = record {
   within = (let long = length-append waveform (x ∷ []) in let low = next.within in omega (arith, long, low));
   places = places_grown;
   bodies = λ k body less. each_grown (λ k. (body : Body) → body_at j (lines ++ new) k ≡ Some body
-      → BodyHolds j limit v k body) waveform x bodies_earlier bodies_last k less body;
+      → BodyHolds j limits v k body) waveform x bodies_earlier bodies_last k less body;
   written = each_grown (λ k. written_at v k ≡ written_by (written_at v) (class_of j (certain v) k)
       (body_at j (lines ++ new) k) (shown k)) waveform x written_earlier written_next;
 }
@@ -112,7 +113,7 @@ yields_grown j limit fits shown waveform lines x new yields next = record {
 
     body_same : (k : ℕ) → k < n → body_at j (lines ++ new) k ≡ body_at j lines k
     body_same k less = body_front j lines new k
-        (new_elsewhere j limit fits waveform new (class_of j (certain waveform) n) next.within next.lines k less)
+        (new_elsewhere j limits fits waveform new (class_of j (certain waveform) n) next.within next.lines k less)
 
     body_next : body_at j (lines ++ new) n ≡ body_at j new n
     body_next = let within = next.within in body_back j lines new n
@@ -132,17 +133,17 @@ yields_grown j limit fits shown waveform lines x new yields next = record {
         let same : line_places j (certain waveform) (suc n) ≡ line_places j (certain v) (suc n) = picked_same
         (λ k. is_line (class_of j (certain waveform) k)) (λ k. is_line (class_of j (certain v) k)) (suc n)
         (λ k less. ap is_line (class_same k (omega arith))) in
-        lines_grown j limit waveform lines new (class_of j (certain waveform) n) (line_places j (certain waveform) n)
+        lines_grown j limits waveform lines new (class_of j (certain waveform) n) (line_places j (certain waveform) n)
         next.lines yields.places ∙ ap (map (place_at j)) (same ∙ ap (line_places j (certain v)) (sym long))
 
     bodies_earlier : (k : ℕ) → k < n → (body : Body) → body_at j (lines ++ new) k ≡ Some body
-        → BodyHolds j limit v k body
-    bodies_earlier k less body at = let within = next.within in body_moved j limit fits waveform v k body (omega arith)
+        → BodyHolds j limits v k body
+    bodies_earlier k less body at = let within = next.within in body_moved j limits fits waveform v k body (omega arith)
         (agree k (omega arith)) (yields.bodies k body less (sym (body_same k less) ∙ at))
 
-    bodies_last : (body : Body) → body_at j (lines ++ new) n ≡ Some body → BodyHolds j limit v n body
-    bodies_last body at = body_moved j limit fits waveform v n body next.within (agree n (omega arith))
-        (new_holds j limit fits waveform new (class_of j (certain waveform) n) next.within next.lines body
+    bodies_last : (body : Body) → body_at j (lines ++ new) n ≡ Some body → BodyHolds j limits v n body
+    bodies_last body at = body_moved j limits fits waveform v n body next.within (agree n (omega arith))
+        (new_holds j limits fits waveform new (class_of j (certain waveform) n) next.within next.lines body
         (sym body_next ∙ at))
 
     written_earlier : (k : ℕ) → k < n → written_at v k ≡ written_by (written_at v) (class_of j (certain v) k)
@@ -173,23 +174,23 @@ honest_grown shown waveform x honest next =
     next)
 
 -- The wave invariant.
-pub grown : (j : Job) (limit : ℕ) → Fits j
+pub grown : (j : Job) (limits : Limits) → Fits j
     → (shown : ℕ → Value) (waveform : List Written) (lines : List ALine) (x : Written) (new : List ALine)
-    → Holds j limit shown waveform lines → NextHolds j limit shown waveform x new
-    → Holds j limit shown (waveform ++ x ∷ []) (lines ++ new)
-grown j limit fits shown waveform lines x new holds next =
-    let yields = yields_grown j limit fits shown waveform lines x new holds.yields next.said in
-    let honest = honest_grown shown waveform x (sound_honest j limit shown waveform lines holds.sound) next.honest in
+    → Holds j limits shown waveform lines → NextHolds j limits shown waveform x new
+    → Holds j limits shown (waveform ++ x ∷ []) (lines ++ new)
+grown j limits fits shown waveform lines x new holds next =
+    let yields = yields_grown j limits fits shown waveform lines x new holds.yields next.said in
+    let honest = honest_grown shown waveform x (sound_honest j limits shown waveform lines holds.sound) next.honest in
     record {
-      sound = yielded_sound j limit fits shown (waveform ++ x ∷ []) (lines ++ new) yields honest;
+      sound = yielded_sound j limits fits shown (waveform ++ x ∷ []) (lines ++ new) yields honest;
       yields =
           yields;
     }
 
 -- At the start nothing is written.
-pub nothing_holds : (j : Job) (limit : ℕ) (shown : ℕ → Value) → Holds j limit shown [] []
-nothing_holds j limit shown = record {
-  sound = empty_sound j limit shown [];
+pub nothing_holds : (j : Job) (limits : Limits) (shown : ℕ → Value) → Holds j limits shown [] []
+nothing_holds j limits shown = record {
+  sound = empty_sound j limits shown [];
   yields = record {
     within = omega arith;
     places = refl;

@@ -12,35 +12,36 @@ use Rattle.xr_model.specs.Sound.{Sound, IsOptimistic}
 use Rattle.xr_model.specs.declared.class.ClassByNumber.{ClassByNumber}
 use Rattle.xr_model.specs.declared.class.ClassByNumber.TheVariants.{Local, Free, Carried, Line}
 use Rattle.xr_model.specs.declared.line.Line.{Line as ALine}
+use Rattle.xr_model.specs.declared.limits.Limits.{Limits}
 
 -- It is sound, and its lines yield it.
-pub record Holds (j : Job) (limit : ℕ) (shown : ℕ → Value) (waveform : List Written) (lines : List ALine) : Type 0 where
-  pub sound : Sound j limit shown waveform lines
-  pub yields : Yields j limit shown waveform lines
+pub record Holds (j : Job) (limits : Limits) (shown : ℕ → Value) (waveform : List Written) (lines : List ALine) : Type 0 where
+  pub sound : Sound j limits shown waveform lines
+  pub yields : Yields j limits shown waveform lines
 
 -- The new line of a Line place is of this place, and its body holds.
-pub record IsLineOf (j : Job) (limit : ℕ) (waveform : List Written) (new : List ALine) : Type 0 where
+pub record IsLineOf (j : Job) (limits : Limits) (waveform : List Written) (new : List ALine) : Type 0 where
   pub line : ALine
   pub one : new ≡ line ∷ []
   pub place : line.place ≡ place_at j (length waveform)
-  pub holds : BodyHolds j limit waveform (length waveform) line.body
+  pub holds : BodyHolds j limits waveform (length waveform) line.body
 
 -- Where the class is another, there is no new line.
-abbrev pub NextLines : Job → ℕ → List Written → List ALine → ClassByNumber → Type 0
-NextLines j limit waveform new (Local bit) = new ≡ []
-NextLines j limit waveform new Free = new ≡ []
-NextLines j limit waveform new (Carried from inverted) = new ≡ []
-NextLines j limit waveform new Line = IsLineOf j limit waveform new
+abbrev pub NextLines : Job → Limits → List Written → List ALine → ClassByNumber → Type 0
+NextLines j limits waveform new (Local bit) = new ≡ []
+NextLines j limits waveform new Free = new ≡ []
+NextLines j limits waveform new (Carried from inverted) = new ≡ []
+NextLines j limits waveform new Line = IsLineOf j limits waveform new
 
 -- The next place is written as its class and its line say, with these new lines.
-pub record NextSaid (j : Job) (limit : ℕ) (shown : ℕ → Value) (waveform : List Written) (written : Written)
+pub record NextSaid (j : Job) (limits : Limits) (shown : ℕ → Value) (waveform : List Written) (written : Written)
     (new : List ALine) : Type 0 where
   pub within : length waveform < places_of j
-  pub lines : NextLines j limit waveform new (class_of j (certain waveform) (length waveform))
+  pub lines : NextLines j limits waveform new (class_of j (certain waveform) (length waveform))
   pub as_said : written ≡ written_in j shown waveform new (length waveform)
 
 -- It may be written so, since it isn't optimistic.
-pub record NextHolds (j : Job) (limit : ℕ) (shown : ℕ → Value) (waveform : List Written) (written : Written)
+pub record NextHolds (j : Job) (limits : Limits) (shown : ℕ → Value) (waveform : List Written) (written : Written)
     (new : List ALine) : Type 0 where
-  pub said : NextSaid j limit shown waveform written new
+  pub said : NextSaid j limits shown waveform written new
   pub honest : IsOptimistic written.mark written.value (shown (length waveform)) → ⊥

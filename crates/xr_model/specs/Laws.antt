@@ -27,11 +27,12 @@ use Rattle.xr_model.specs.Growth.{Holds, NextSaid, NextHolds}
 use Rattle.xr_model.specs.declared.class.ClassByNumber.TheVariants.{Carried}
 use Rattle.xr_model.specs.declared.line.Line.{Line as ALine}
 use Rattle.xr_model.specs.declared.line.Body.{Body}
+use Rattle.xr_model.specs.declared.limits.Limits.{Limits}
 
 -- In every sound waveform of a job that fits.
 abbrev pub InSound : (Job → List Written → Type 0) → Type 0
-InSound Law = (j : Job) (limit : ℕ) (shown : ℕ → Value) (waveform : List Written) (lines : List ALine)
-    → Fits j → Sound j limit shown waveform lines → Law j waveform
+InSound Law = (j : Job) (limits : Limits) (shown : ℕ → Value) (waveform : List Written) (lines : List ALine)
+    → Fits j → Sound j limits shown waveform lines → Law j waveform
 
 -- A place of the job that is written, or the next one.
 pub record InReach (j : Job) (waveform : List Written) (place : ℕ) : Type 0 where
@@ -128,48 +129,48 @@ RefutedLaw = InSound (λ j waveform. (place : ℕ) (query : Cnf) (log : List (Li
 
 -- A body that holds gives what it says: every filling's bit, or the two fillings.
 abbrev pub BodyLaw : Type 0
-BodyLaw = InSound (λ j waveform. (limit place : ℕ) (body : Body) → InReach j waveform place
-    → BodyHolds j limit waveform place body → BodyGives j waveform place body)
+BodyLaw = InSound (λ j waveform. (limits : Limits) (place : ℕ) (body : Body) → InReach j waveform place
+    → BodyHolds j limits waveform place body → BodyGives j waveform place body)
 
 -- Whether a body holds at a place rests on the certain values before the place alone.
 abbrev pub BodyBeforeLaw : Type 0
-BodyBeforeLaw = (j : Job) (limit : ℕ) (v w : List Written) (place : ℕ) (body : Body) → Fits j → place < places_of j
-    → SameBefore v w place → BodyHolds j limit v place body → BodyHolds j limit w place body
+BodyBeforeLaw = (j : Job) (limits : Limits) (v w : List Written) (place : ℕ) (body : Body) → Fits j → place < places_of j
+    → SameBefore v w place → BodyHolds j limits v place body → BodyHolds j limits w place body
 
 -- The wave invariant: a waveform with nothing written is sound and its lines yield it,
 abbrev pub StartLaw : Type 0
-StartLaw = (j : Job) (limit : ℕ) (shown : ℕ → Value) → Holds j limit shown [] []
+StartLaw = (j : Job) (limits : Limits) (shown : ℕ → Value) → Holds j limits shown [] []
 
 -- and this stays, whichever way the next place is written.
 abbrev pub GrowthLaw : Type 0
-GrowthLaw = (j : Job) (limit : ℕ) (shown : ℕ → Value) (waveform : List Written) (lines : List ALine)
+GrowthLaw = (j : Job) (limits : Limits) (shown : ℕ → Value) (waveform : List Written) (lines : List ALine)
     → (written : Written) (new : List ALine)
-    → Fits j → Holds j limit shown waveform lines → NextHolds j limit shown waveform written new
-    → Holds j limit shown (waveform ++ written ∷ []) (lines ++ new)
+    → Fits j → Holds j limits shown waveform lines → NextHolds j limits shown waveform written new
+    → Holds j limits shown (waveform ++ written ∷ []) (lines ++ new)
 
 -- Also where the next place is optimistic, the lines yield the waveform up to and with it.
 abbrev pub YieldsGrowthLaw : Type 0
-YieldsGrowthLaw = (j : Job) (limit : ℕ) (shown : ℕ → Value) (waveform : List Written) (lines : List ALine)
+YieldsGrowthLaw = (j : Job) (limits : Limits) (shown : ℕ → Value) (waveform : List Written) (lines : List ALine)
     → (written : Written) (new : List ALine)
-    → Fits j → Yields j limit shown waveform lines → NextSaid j limit shown waveform written new
-    → Yields j limit shown (waveform ++ written ∷ []) (lines ++ new)
+    → Fits j → Yields j limits shown waveform lines → NextSaid j limits shown waveform written new
+    → Yields j limits shown (waveform ++ written ∷ []) (lines ++ new)
 
 -- A list of lines yields at most one waveform.
 abbrev pub YieldsLaw : Type 0
-YieldsLaw = (j : Job) (limit : ℕ) (shown : ℕ → Value) (v w : List Written) (lines : List ALine)
+YieldsLaw = (j : Job) (limits : Limits) (shown : ℕ → Value) (v w : List Written) (lines : List ALine)
     → Fits j → length v ≡ length w
-    → Yields j limit shown v lines → Yields j limit shown w lines → v ≡ w
+    → Yields j limits shown v lines → Yields j limits shown w lines → v ≡ w
 
 -- A waveform that lines yield is sound where it has no optimistic place, and a sound one has none.
 abbrev pub HonestLaw : Type 0
-HonestLaw = (j : Job) (limit : ℕ) (shown : ℕ → Value) (waveform : List Written) (lines : List ALine) → Fits j
-    → Yields j limit shown waveform lines → IsHonest shown waveform ↔ Sound j limit shown waveform lines
+HonestLaw = (j : Job) (limits : Limits) (shown : ℕ → Value) (waveform : List Written) (lines : List ALine) → Fits j
+    → Yields j limits shown waveform lines → IsHonest shown waveform ↔ Sound j limits shown waveform lines
 
 -- Two waveforms of a job that are sound for one history and have no undecided place are equal.
 abbrev pub OneSound : Type 0
-OneSound = (j : Job) (limit : ℕ) (shown : ℕ → Value) (v w : List Written) (lines more : List ALine)
+OneSound = (j : Job) (limits : Limits) (shown : ℕ → Value) (v w : List Written) (lines more : List ALine)
     → Fits j → length v ≡ length w
-    → Sound j limit shown v lines → Sound j limit shown w more → IsDecided v → IsDecided w → v ≡ w
+    → Sound j limits shown v lines → Sound j limits shown w more → IsDecided v → IsDecided w → v ≡ w
 
 -- What two waveforms have at a place are the same mark and the same certain value.
 pub record IsSameAt (v w : List Written) (place : ℕ) : Type 0 where
@@ -178,13 +179,14 @@ pub record IsSameAt (v w : List Written) (place : ℕ) : Type 0 where
 
 -- Two that are sound for two histories are equal in every mark and every certain value, whatever the limits.
 abbrev pub OneForHistories : Type 0
-OneForHistories = (j : Job) (limit bound : ℕ) (shown other : ℕ → Value) (v w : List Written) (lines more : List ALine)
-    → Fits j → length v ≡ length w → Sound j limit shown v lines → Sound j bound other w more
+OneForHistories = (j : Job) (limits bounds : Limits) (shown other : ℕ → Value) (v w : List Written) (lines more : List ALine)
+    → Fits j → length v ≡ length w → Sound j limits shown v lines → Sound j bounds other w more
     → IsDecided v → IsDecided w
     → (place : ℕ) → place < length v → IsSameAt v w place
 
--- A place with at most 12 sources is never undecided.
+-- A place with so few sources that all their fillings are tried is never undecided.
 abbrev pub FewSourcesLaw : Type 0
-FewSourcesLaw = InSound (λ j waveform. (place : ℕ) → place < length waveform
-    → length (sources j (certain waveform) place) ≤ 12
-    → (written_at waveform place).mark ≡ Undecided → ⊥)
+FewSourcesLaw = (j : Job) (limits : Limits) (shown : ℕ → Value) (waveform : List Written) (lines : List ALine)
+    → Fits j → Sound j limits shown waveform lines → (place : ℕ) → place < length waveform
+    → length (sources j (certain waveform) place) ≤ limits.enumerated
+    → (written_at waveform place).mark ≡ Undecided → ⊥

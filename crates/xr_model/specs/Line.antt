@@ -17,15 +17,16 @@ use Rattle.xr_model.specs.Query.{IsQuery}
 use Rattle.xr_model.specs.Stated.{pair_of}
 use Rattle.xr_model.specs.declared.line.Body.{Body}
 use Rattle.xr_model.specs.declared.line.Body.TheVariants.{Enumerated, Refuted, Pair, Undecided}
+use Rattle.xr_model.specs.declared.limits.Limits.{Limits}
 
 -- A filling lists sources of the place alone.
 abbrev pub IsOfSources : Job → List Written → ℕ → List Place → Type 0
 IsOfSources j waveform place filling =
     (k : ℕ) → bit_of j filling k ≡ true → among (sources j (certain waveform) place) k ≡ true
 
--- The place has at most 12 sources, and the world of every filling of them gives the bit.
-pub record IsEnumerated (j : Job) (waveform : List Written) (place : ℕ) (bit : Bool) : Type 0 where
-  pub few : length (sources j (certain waveform) place) ≤ 12
+-- The place has few enough sources, and the world of every filling of them gives the bit.
+pub record IsEnumerated (j : Job) (limits : Limits) (waveform : List Written) (place : ℕ) (bit : Bool) : Type 0 where
+  pub few : length (sources j (certain waveform) place) ≤ limits.enumerated
   pub each : (filling : List Place) → IsFilling j filling → IsOfSources j waveform place filling
       → world_bit j (certain waveform) (bit_of j filling) place ≡ bit
 
@@ -37,20 +38,20 @@ pub record IsRefuted (j : Job) (waveform : List Written) (place : ℕ) (bit : Bo
   pub literals : All HasNoZero log
   pub refutes : Refutes query.clauses log
 
--- The licence of a place: it has more than 12 sources, and the log is fresh for its query and as long as the limit.
-pub record IsLicence (j : Job) (limit : ℕ) (waveform : List Written) (place : ℕ) (log : List (List ℤ)) : Type 0 where
-  pub many : 12 < length (sources j (certain waveform) place)
+-- The licence of a place: it has more sources, and the log is fresh for its query and as long as the limits say.
+pub record IsLicence (j : Job) (limits : Limits) (waveform : List Written) (place : ℕ) (log : List (List ℤ)) : Type 0 where
+  pub many : limits.enumerated < length (sources j (certain waveform) place)
   pub query : Cnf
   pub is_query : IsQuery j (certain waveform) place query
   pub fresh : AreFresh query.clauses log
-  pub long : length log ≡ limit
+  pub long : length log ≡ limits.conflicts
 
 -- When a body holds at a place. All of these read the certain values before the place alone.
-abbrev pub BodyHolds : Job → ℕ → List Written → ℕ → Body → Type 0
-BodyHolds j limit waveform place (Enumerated bit) = IsEnumerated j waveform place bit
-BodyHolds j limit waveform place (Refuted bit log) = IsRefuted j waveform place bit log
-BodyHolds j limit waveform place (Pair first second) = GivesBoth j waveform place (pair_of first second)
-BodyHolds j limit waveform place (Undecided log) = IsLicence j limit waveform place log
+abbrev pub BodyHolds : Job → Limits → List Written → ℕ → Body → Type 0
+BodyHolds j limits waveform place (Enumerated bit) = IsEnumerated j limits waveform place bit
+BodyHolds j limits waveform place (Refuted bit log) = IsRefuted j waveform place bit log
+BodyHolds j limits waveform place (Pair first second) = GivesBoth j waveform place (pair_of first second)
+BodyHolds j limits waveform place (Undecided log) = IsLicence j limits waveform place log
 
 -- What is then true of the place.
 abbrev pub BodyGives : Job → List Written → ℕ → Body → Type 0

@@ -17,6 +17,7 @@ use Rattle.xr_model.specs.declared.class.ClassByNumber.{ClassByNumber}
 use Rattle.xr_model.specs.declared.class.ClassByNumber.TheVariants.{Local, Free, Carried, Line}
 use Rattle.xr_model.specs.declared.line.Line.{Line as ALine}
 use Rattle.xr_model.specs.declared.line.Body.TheVariants.{Undecided as Budget}
+use Rattle.xr_model.specs.declared.limits.Limits.{Limits}
 
 -- What a carried place has, from the place that it is carried from.
 pub record FollowsCarrier (inverted : Bool) (from written : Written) : Type 0 where
@@ -32,25 +33,25 @@ FollowsClass earlier (Carried from inverted) written = FollowsCarrier inverted (
 FollowsClass earlier Line written = Unit {0}
 
 -- The licence of a place stands in the line of its root.
-pub record HasLicence (j : Job) (limit : ℕ) (waveform : List Written) (lines : List ALine) (place : ℕ) : Type 0 where
+pub record HasLicence (j : Job) (limits : Limits) (waveform : List Written) (lines : List ALine) (place : ℕ) : Type 0 where
   pub log : List (List ℤ)
   pub line : body_at j lines (root_of j (certain waveform) place).place ≡ Some (Budget log)
-  pub holds : IsLicence j limit waveform (root_of j (certain waveform) place).place log
+  pub holds : IsLicence j limits waveform (root_of j (certain waveform) place).place log
 
 -- A place is sound where its two stated fillings give both bits if it is unknown, and it has its licence if it is undecided.
-abbrev pub SoundBy : Job → ℕ → List Written → List ALine → ℕ → Mark → Value → Type 0
-SoundBy j limit waveform lines place mark value =
+abbrev pub SoundBy : Job → Limits → List Written → List ALine → ℕ → Mark → Value → Type 0
+SoundBy j limits waveform lines place mark value =
     MarkHolds j waveform place (GivesBoth j waveform place (stated j (certain waveform) lines place))
-    (HasLicence j limit waveform lines place) mark value
+    (HasLicence j limits waveform lines place) mark value
 
 -- A waveform with its lines is sound for what a history shows: each place follows its class, is exact or has its
 -- licence, and shows what the history knows.
-pub record Sound (j : Job) (limit : ℕ) (shown : ℕ → Value) (waveform : List Written) (lines : List ALine) : Type 0 where
+pub record Sound (j : Job) (limits : Limits) (shown : ℕ → Value) (waveform : List Written) (lines : List ALine) : Type 0 where
   pub within : length waveform ≤ places_of j
   pub classes : (place : ℕ) → place < length waveform
       → FollowsClass (written_at waveform) (class_of j (certain waveform) place) (written_at waveform place)
   pub exact : (place : ℕ) → place < length waveform
-      → SoundBy j limit waveform lines place (written_at waveform place).mark (written_at waveform place).value
+      → SoundBy j limits waveform lines place (written_at waveform place).mark (written_at waveform place).value
   pub shows : Shows shown waveform
 
 -- No place is undecided.

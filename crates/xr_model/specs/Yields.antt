@@ -20,6 +20,7 @@ use Rattle.xr_model.specs.declared.class.ClassByNumber.TheVariants.{Local, Free,
 use Rattle.xr_model.specs.declared.line.Line.{Line as ALine}
 use Rattle.xr_model.specs.declared.line.Body.{Body}
 use Rattle.xr_model.specs.declared.line.Body.TheVariants.{Enumerated, Refuted, Pair, Undecided as Budget}
+use Rattle.xr_model.specs.declared.limits.Limits.{Limits}
 
 abbrev pub is_line : ClassByNumber → Bool
 is_line (Local bit) = false
@@ -78,11 +79,11 @@ places_of_lines lines = map (λ (line : ALine). line.place) lines
 
 -- A list of lines yields a waveform where it has one line for each Line place, in place order, and none other, each
 -- body holds, and each place is written as its class and its line say.
-pub record Yields (j : Job) (limit : ℕ) (shown : ℕ → Value) (waveform : List Written)
+pub record Yields (j : Job) (limits : Limits) (shown : ℕ → Value) (waveform : List Written)
     (lines : List ALine) : Type 0 where
   pub within : length waveform ≤ places_of j
   pub places : places_of_lines lines ≡ map (place_at j) (line_places j (certain waveform) (length waveform))
   pub bodies : (place : ℕ) (body : Body) → place < length waveform → body_at j lines place ≡ Some body
-      → BodyHolds j limit waveform place body
+      → BodyHolds j limits waveform place body
   pub written : (place : ℕ) → place < length waveform
       → written_at waveform place ≡ written_in j shown waveform lines place

@@ -72,7 +72,7 @@ pub fn sound_waveforms_are_one()
     ensures histories { spec.OneForHistories }
 {}
 
-/// A place with at most 12 sources is never undecided.
+/// A place with so few sources that all their fillings are tried is never undecided.
 pub fn few_sources_are_decided()
     ensures { spec.FewSourcesLaw }
 {}

@@ -6,6 +6,7 @@
 
 mod class;
 mod laws;
+mod limits;
 mod line;
 mod turn;
 pub mod worked;
@@ -16,5 +17,6 @@ pub use laws::{
     cones_are_reached, few_sources_are_decided, lines_yield_one, models_are_consistent,
     refuted_queries_settle, sound_waveforms_are_one, waveforms_stay_sound, worlds_are_consistent,
 };
+pub use limits::Limits;
 pub use line::{Body, Line};
 pub use turn::{Turn, TurnLine};

@@ -6,7 +6,7 @@ use xr_proof::Log;
 /// What a line says of its place.
 #[derive(Debug, Drop)]
 pub enum Body {
-    /// Every filling of the sources, at most 12 of them, gives the bit.
+    /// Every filling of the sources, of which there are few, gives the bit.
     Enumerated(bool),
     /// The log refutes the query of the place, which denies the bit.
     Refuted(bool, Log),

@@ -20,11 +20,12 @@ use Rattle.xr_phases.specs.declared.cause.Objection.{Objection}
 use Rattle.xr_phases.specs.declared.cause.Refused.TheVariants.{Certificate, Optimistic}
 use Rattle.xr_phases.specs.declared.cause.Uncertified.{Uncertified}
 use Rattle.xr_phases.specs.declared.parts.Parts.{Parts}
+use Rattle.xr_model.specs.declared.limits.Limits.{Limits}
 
-module _ (conflicts : ℕ) (job : Parts) (history : HistoryView) (cert : Cert) where
+module _ (limits : Limits) (job : Parts) (history : HistoryView) (cert : Cert) where
   -- A place that lacks its line is one of the job's.
-  pub missing_at : (fault : CertFault) → IsRefusalOf (beginning conflicts job.netlist job.recorded history) cert (IsRefused fault) → IsMissingAt (job_for job.netlist job.recorded) fault
-  missing_at (Missing place) refused = missing_is_place (beginning conflicts job.netlist job.recorded history) cert place refused
+  pub missing_at : (fault : CertFault) → IsRefusalOf (beginning limits job.netlist job.recorded history) cert (IsRefused fault) → IsMissingAt (job_for job.netlist job.recorded) fault
+  missing_at (Missing place) refused = missing_is_place (beginning limits job.netlist job.recorded history) cert place refused
   missing_at (Syntax line) refused = tt
   missing_at (Header line) refused = tt
   missing_at (Stray line) refused = tt
@@ -34,37 +35,37 @@ module _ (conflicts : ℕ) (job : Parts) (history : HistoryView) (cert : Cert) w
   missing_at (BadTurn line) refused = tt
 
   -- So is one that is found otherwise.
-  pub objected_at : (found : FoundOtherwise) → IsRefusalOf (beginning conflicts job.netlist job.recorded history) cert (Objects found) → IsPlace (job_for job.netlist job.recorded) found.place
-  objected_at found refused = objection_is_place (beginning conflicts job.netlist job.recorded history) cert found refused
+  pub objected_at : (found : FoundOtherwise) → IsRefusalOf (beginning limits job.netlist job.recorded history) cert (Objects found) → IsPlace (job_for job.netlist job.recorded) found.place
+  objected_at found refused = objection_is_place (beginning limits job.netlist job.recorded history) cert found refused
 
   pub refused_for : (fault : CertFault) (cause : Uncertified) → FitsParts job → IsReplay (job_for job.netlist job.recorded) history
-      → IsRefusalOf (beginning conflicts job.netlist job.recorded history) cert (IsRefused fault) → cause ≡ uncertified_by job fault
-      → IsUncertified conflicts job cert (Certificate cause)
+      → IsRefusalOf (beginning limits job.netlist job.recorded history) cert (IsRefused fault) → cause ≡ uncertified_by job fault
+      → IsUncertified limits job cert (Certificate cause)
   refused_for fault cause fits replay refused is =
       record { fits = fits; history = history; replay = replay; refusal = IsRefused fault; refused = refused; is = ap (λ (u : Uncertified). Certificate u) is }
 
   pub objected_for : (found : FoundOtherwise) (objection : Objection) → FitsParts job → IsReplay (job_for job.netlist job.recorded) history
-      → IsRefusalOf (beginning conflicts job.netlist job.recorded history) cert (Objects found) → objection ≡ objection_of job.netlist job.recorded.stim found
-      → IsUncertified conflicts job cert (Optimistic objection)
+      → IsRefusalOf (beginning limits job.netlist job.recorded history) cert (Objects found) → objection ≡ objection_of job.netlist job.recorded.stim found
+      → IsUncertified limits job cert (Optimistic objection)
   objected_for found objection fits replay refused is =
       record { fits = fits; history = history; replay = replay; refusal = Objects found; refused = refused; is = ap (λ (o : Objection). Optimistic o) is }
 
 -- A wave that is checked over a replay is certified, with its conditions.
-pub certified_by : (conflicts : ℕ) (job : Parts) (history : HistoryView) (cert : Cert) (wave : Contents) (conditions : List ConditionView) → FitsParts job
-    → IsReplay (job_for job.netlist job.recorded) history → IsChecked (beginning conflicts job.netlist job.recorded history) cert wave conditions
-    → IsCertified conflicts job cert wave conditions
-certified_by conflicts job history cert wave conditions fits replay checked =
+pub certified_by : (limits : Limits) (job : Parts) (history : HistoryView) (cert : Cert) (wave : Contents) (conditions : List ConditionView) → FitsParts job
+    → IsReplay (job_for job.netlist job.recorded) history → IsChecked (beginning limits job.netlist job.recorded history) cert wave conditions
+    → IsCertified limits job cert wave conditions
+certified_by limits job history cert wave conditions fits replay checked =
     let same : wave.history ≡ history = ap (λ (c : Contents). c.history) (begun_same checked.goes) in
     record {
       fits = fits;
       replay = subst (IsReplay (job_for job.netlist job.recorded)) (sym same) replay;
-      checked = subst (λ (h : HistoryView). IsChecked (beginning conflicts job.netlist job.recorded h) cert wave conditions) (sym same) checked;
+      checked = subst (λ (h : HistoryView). IsChecked (beginning limits job.netlist job.recorded h) cert wave conditions) (sym same) checked;
     }
 
 -- It is a finished wave of the job.
-pub certified_of_job : (conflicts : ℕ) (job : Parts) (cert : Cert) (wave : Contents) (conditions : List ConditionView) → IsCertified conflicts job cert wave conditions
+pub certified_of_job : (limits : Limits) (job : Parts) (cert : Cert) (wave : Contents) (conditions : List ConditionView) → IsCertified limits job cert wave conditions
     → IsWaveOf job.netlist job.recorded wave
-certified_of_job conflicts job cert wave conditions certified =
+certified_of_job limits job cert wave conditions certified =
     let same = begun_same certified.checked.goes in
     record {
       design = ap (λ (c : Contents). c.design) same;

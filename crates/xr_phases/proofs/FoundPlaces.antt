@@ -12,15 +12,16 @@ use Rattle.xr_wave.specs.Contents.{job, next_number, nothing_written}
 use Rattle.xr_wave.specs.declared.advance.Optimistic.{Optimistic}
 use Rattle.xr_job.specs.declared.netlist.Netlist.{Netlist as ANetlist}
 use Rattle.xr_phases.proofs.Jobs.{place_there}
+use Rattle.xr_model.specs.declared.limits.Limits.{Limits}
 
 -- jobs of the same design, order and stimulus
 one_job : (a b : Design) (order more : List ℕ) (s t : Stim) → a ≡ b → order ≡ more → s ≡ t → job_of a order s ≡ job_of b more t
 one_job a b order more s t designs orders stims = rw (designs, orders, stims) refl
 
 -- It is one of the job.
-pub found_there : (conflicts : ℕ) (n : ANetlist) (stim : Stim) (history : HistoryView) (otherwise : Optimistic) → Fits (job_of n.design n.order stim)
-    → IsObjection (nothing_written n.design n.order stim history conflicts) otherwise → IsPlace (job_of n.design n.order stim) otherwise.place
-found_there conflicts n stim history otherwise fits is =
+pub found_there : (limits : Limits) (n : ANetlist) (stim : Stim) (history : HistoryView) (otherwise : Optimistic) → Fits (job_of n.design n.order stim)
+    → IsObjection (nothing_written n.design n.order stim history limits) otherwise → IsPlace (job_of n.design n.order stim) otherwise.place
+found_there limits n stim history otherwise fits is =
     let of_job = is.same in
     let jobs : job is.before ≡ job_of n.design n.order stim =
     one_job is.before.design n.design is.before.order n.order is.before.stim stim of_job.design of_job.order of_job.stim in

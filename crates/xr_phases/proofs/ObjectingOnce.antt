@@ -20,6 +20,7 @@ use Rattle.xr_model.specs.Yields.{written_by}
 use Rattle.xr_model.specs.declared.line.Body.{Body}
 use Rattle.xr_model.specs.declared.line.Body.TheVariants.{Enumerated, Refuted, Pair, Undecided}
 use Rattle.xr_model.specs.declared.line.Line.{Line as ALine}
+use Rattle.xr_model.specs.declared.limits.Limits.{Limits}
 use Rattle.xr_laws.specs.Objection.{AllDecide, Decides, Objects}
 use Rattle.xr_laws.proofs.Objections.{one_objection}
 use Rattle.xr_wave.specs.Contents.{Contents, nothing_written}
@@ -70,9 +71,9 @@ none_decide (line ∷ lines) none =
 
 -- ---- objections for histories that show the same
 
-module _ (j : Job) (limit : ℕ) (shown other : ℕ → Value) (v : List Written) (lines : List ALine) (found : Written)
+module _ (j : Job) (limits : Limits) (shown other : ℕ → Value) (v : List Written) (lines : List ALine) (found : Written)
     (same : (k : ℕ) → k < places_of j → shown k ≡ other k) where
-  sound_for : Sound j limit shown v lines → Sound j limit other v lines
+  sound_for : Sound j limits shown v lines → Sound j limits other v lines
   sound_for sound = record {
     within = sound.within;
     classes = sound.classes;
@@ -87,7 +88,7 @@ module _ (j : Job) (limit : ℕ) (shown other : ℕ → Value) (v : List Written
       here : (k : ℕ) → k < length v → shown k ≡ other k
       here k less = same k (let all = sound.within in omega (arith, less, all))
 
-  objects_for : Objects j limit shown v lines found → Objects j limit other v lines found
+  objects_for : Objects j limits shown v lines found → Objects j limits other v lines found
   objects_for objects =
       let n = length v in
       let here : shown n ≡ other n = same n objects.said.within in
@@ -109,17 +110,17 @@ module _ (design : Design) (order : List ℕ) (stim : Stim) where
   abbrev TheJob : Job
   TheJob = job_of design order stim
 
-  abbrev start : HistoryView → ℕ → Contents
-  start history conflicts = nothing_written design order stim history conflicts
+  abbrev start : HistoryView → Limits → Contents
+  start history limits = nothing_written design order stim history limits
 
-  of_replay : (history : HistoryView) (conflicts : ℕ) (otherwise : FoundOtherwise) → IsReplay TheJob history
-      → (o : IsObjection (start history conflicts) otherwise)
-      → Objects TheJob conflicts (shown_at TheJob) o.before.written otherwise.lines.items o.written
-  of_replay history conflicts otherwise replay o =
-      objects_for TheJob conflicts (shown_of TheJob history) (shown_at TheJob) o.before.written otherwise.lines.items o.written
-      (λ k less. replay_shown TheJob history k replay less) (objections_object (start history conflicts) otherwise o)
+  of_replay : (history : HistoryView) (limits : Limits) (otherwise : FoundOtherwise) → IsReplay TheJob history
+      → (o : IsObjection (start history limits) otherwise)
+      → Objects TheJob limits (shown_at TheJob) o.before.written otherwise.lines.items o.written
+  of_replay history limits otherwise replay o =
+      objects_for TheJob limits (shown_of TheJob history) (shown_at TheJob) o.before.written otherwise.lines.items o.written
+      (λ k less. replay_shown TheJob history k replay less) (objections_object (start history limits) otherwise o)
 
-  found_same : (h i : HistoryView) (c d : ℕ) (one other : FoundOtherwise) → IsReplay TheJob h → IsReplay TheJob i
+  found_same : (h i : HistoryView) (c d : Limits) (one other : FoundOtherwise) → IsReplay TheJob h → IsReplay TheJob i
       → IsObjection (start h c) one → IsObjection (start i d) other → AllDecide one.lines.items → AllDecide other.lines.items
       → AreTheSame one other
   found_same h i c d one other replay_h replay_i o p decide_o decide_p =
@@ -253,32 +254,32 @@ if_optimistic Holds (Proof fault) has = tt
 if_optimistic Holds (Start fault) has = tt
 if_optimistic Holds (Optimistic o) has = has o refl
 
-pub one_cause : (w : JobValues) (netlist recording : List ℕ) (conflicts : ℕ) (cause : Refused)
-    → ((o : Objection) → cause ≡ Optimistic o → HasJob w netlist recording (IsObjected conflicts o))
+pub one_cause : (w : JobValues) (netlist recording : List ℕ) (limits : Limits) (cause : Refused)
+    → ((o : Objection) → cause ≡ Optimistic o → HasJob w netlist recording (IsObjected limits o))
     → IsOneCause w netlist recording cause
-one_cause w netlist recording conflicts cause has = if_optimistic (IsOneObjection w netlist recording) cause
-    (λ o is none limit other again none_other. once w netlist recording conflicts limit o other none none_other (has o is) again)
+one_cause w netlist recording limits cause has = if_optimistic (IsOneObjection w netlist recording) cause
+    (λ o is none limit other again none_other. once w netlist recording limits limit o other none none_other (has o is) again)
 
 -- What `fix` finds otherwise.
-module _ (conflicts : ℕ) (pieces : List Piece) (w : JobValues) (netlist recording : List ℕ) where
+module _ (limits : Limits) (pieces : List Piece) (w : JobValues) (netlist recording : List ℕ) where
   by_walk : (o : Objection) (n : ANetlist) (r : Recorded) → IsJob w netlist recording n r
-      → FixFails conflicts pieces (parts n r) (Optimistic o) → IsOneOfWalks conflicts pieces w netlist recording o
+      → FixFails limits pieces (parts n r) (Optimistic o) → IsOneOfWalks limits pieces w netlist recording o
   by_walk o n r job (FixFails.objected stim started is) =
-      let has : HasJob w netlist recording (IsObjected conflicts o) = record { n = n; r = r; job = job; holds = is } in
+      let has : HasJob w netlist recording (IsObjected limits o) = record { n = n; r = r; job = job; holds = is } in
       IsOneOfWalks.of_recorded has
-      (λ none limit other again none_other. once w netlist recording conflicts limit o other none none_other has again)
+      (λ none limit other again none_other. once w netlist recording limits limit o other none none_other has again)
   by_walk o n r job (FixFails.objected_set is) =
-      let has : HasJob w netlist recording (λ n r. IsObjectedSet conflicts pieces o (parts n r)) =
+      let has : HasJob w netlist recording (λ n r. IsObjectedSet limits pieces o (parts n r)) =
       record { n = n; r = r; job = job; holds = is } in
       IsOneOfWalks.of_set has
       (λ none limit other again none_other.
-      once_set w netlist recording conflicts limit o other none none_other pieces has again)
+      once_set w netlist recording limits limit o other none none_other pieces has again)
 
-  of_walks : (o : Objection) → AreRefused w netlist recording (FixFails conflicts pieces) (Optimistic o)
-      → IsOneOfWalks conflicts pieces w netlist recording o
+  of_walks : (o : Objection) → AreRefused w netlist recording (FixFails limits pieces) (Optimistic o)
+      → IsOneOfWalks limits pieces w netlist recording o
   of_walks o (AreRefused.job_fails has) = by_walk o has.n has.r has.job has.holds
 
-  pub one_fix_cause : (cause : Refused) → AreRefused w netlist recording (FixFails conflicts pieces) cause
-      → IfOptimistic (IsOneOfWalks conflicts pieces w netlist recording) cause
-  one_fix_cause cause refused = if_optimistic (IsOneOfWalks conflicts pieces w netlist recording) cause
-      (λ o is. of_walks o (subst (AreRefused w netlist recording (FixFails conflicts pieces)) is refused))
+  pub one_fix_cause : (cause : Refused) → AreRefused w netlist recording (FixFails limits pieces) cause
+      → IfOptimistic (IsOneOfWalks limits pieces w netlist recording) cause
+  one_fix_cause cause refused = if_optimistic (IsOneOfWalks limits pieces w netlist recording) cause
+      (λ o is. of_walks o (subst (AreRefused w netlist recording (FixFails limits pieces)) is refused))

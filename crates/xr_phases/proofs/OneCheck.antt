@@ -26,6 +26,7 @@ use Rattle.xr_design.specs.declared.waveform.Written.{Written}
 use Rattle.xr_job.specs.Compared.{job_for}
 use Rattle.xr_listing.specs.Conditions.{conditions_text}
 use Rattle.xr_model.proofs.Uniqueness.{yields_one}
+use Rattle.xr_model.specs.declared.limits.Limits.{Limits}
 use Rattle.xr_wave.specs.Contents.{Contents, job, shown_in}
 use Rattle.xr_run.specs.Phases.{IsOne}
 use Rattle.xr_phases.specs.Certificate.{CertificateComes, CheckComes, CheckShows, FormComes, IsCauseOf, IsUncertified, uncertified_by}
@@ -139,7 +140,7 @@ along_is start c cert conditions checked = ap (λ (d : Contents). record d { wri
 module _ (start : Contents) (cert : Cert) (empty : start.written ≡ []) (none : start.lines ≡ []) (fits : Fits (job start)) where
   same_written : (v w : List Written) → IsAccepted start cert v → IsAccepted start cert w → v ≡ w
   same_written v w first second =
-      yields_one (job start) start.limit fits (shown_in start) v w (line_places cert.entries) (first.long ∙ sym second.long) (let long = first.long in omega (arith, long))
+      yields_one (job start) start.limits fits (shown_in start) v w (line_places cert.entries) (first.long ∙ sym second.long) (let long = first.long in omega (arith, long))
       first.yields second.yields
 
   same_waves : (a b : Contents) (vs ws : List ConditionView) → IsChecked start cert a vs → IsChecked start cert b ws → a ≡ b
@@ -189,45 +190,45 @@ module _ (job : Parts) (start : Contents) (cert : Cert) (none : start.lines ≡ 
 shows_same : (a b : CheckShows) → a.wave ≡ b.wave → a.listing ≡ b.listing → a ≡ b
 shows_same a b wave listing = λ t. record { wave = wave t; listing = listing t }
 
-pub one_check : (conflicts : ℕ) (job : Parts) (cert : Cert) → IsOne (CheckComes conflicts job cert)
-one_check conflicts job cert (Ok a) (Ok b) first second =
+pub one_check : (limits : Limits) (job : Parts) (cert : Cert) → IsOne (CheckComes limits job cert)
+one_check limits job cert (Ok a) (Ok b) first second =
     let fits = fits_job job.netlist job.recorded first.certified.fits in
     let same = one_history (job_for job.netlist job.recorded) fits (λ place. None) a.wave.history b.wave.history first.certified.replay second.certified.replay in
-    let start = beginning conflicts job.netlist job.recorded a.wave.history in
+    let start = beginning limits job.netlist job.recorded a.wave.history in
     let again : IsChecked start cert b.wave second.conditions =
-    subst (λ (h : HistoryView). IsChecked (beginning conflicts job.netlist job.recorded h) cert b.wave second.conditions) (sym same) second.certified.checked in
+    subst (λ (h : HistoryView). IsChecked (beginning limits job.netlist job.recorded h) cert b.wave second.conditions) (sym same) second.certified.checked in
     let waves = same_waves start cert refl refl fits a.wave b.wave first.conditions second.conditions first.certified.checked again in
     let there : IsChecked start cert a.wave second.conditions = subst (λ (c : Contents). IsChecked start cert c second.conditions) (sym waves) again in
     let texts = same_listing start cert refl refl fits a.wave first.conditions second.conditions first.certified.checked there in
     ap Ok (shows_same a b waves (first.listing_is ∙ texts ∙ ap (λ (c : Contents). conditions_text c second.conditions) waves ∙ sym second.listing_is))
-one_check conflicts job cert (Ok a) (Err f) first second =
+one_check limits job cert (Ok a) (Err f) first second =
     let fits = fits_job job.netlist job.recorded first.certified.fits in
     let same = one_history (job_for job.netlist job.recorded) fits (λ place. None) a.wave.history second.history first.certified.replay second.replay in
-    let start = beginning conflicts job.netlist job.recorded a.wave.history in
+    let start = beginning limits job.netlist job.recorded a.wave.history in
     absurd (unrefused start cert refl refl fits a.wave first.conditions second.refusal first.certified.checked
-    (subst (λ (h : HistoryView). IsRefusalOf (beginning conflicts job.netlist job.recorded h) cert second.refusal) (sym same) second.refused)
+    (subst (λ (h : HistoryView). IsRefusalOf (beginning limits job.netlist job.recorded h) cert second.refusal) (sym same) second.refused)
     (no_cause_of job start cert refl second.refusal f second.is))
-one_check conflicts job cert (Err e) (Ok b) first second =
+one_check limits job cert (Err e) (Ok b) first second =
     let fits = fits_job job.netlist job.recorded first.fits in
     let same = one_history (job_for job.netlist job.recorded) fits (λ place. None) b.wave.history first.history second.certified.replay first.replay in
-    let start = beginning conflicts job.netlist job.recorded b.wave.history in
+    let start = beginning limits job.netlist job.recorded b.wave.history in
     absurd (unrefused start cert refl refl fits b.wave second.conditions first.refusal second.certified.checked
-    (subst (λ (h : HistoryView). IsRefusalOf (beginning conflicts job.netlist job.recorded h) cert first.refusal) (sym same) first.refused)
+    (subst (λ (h : HistoryView). IsRefusalOf (beginning limits job.netlist job.recorded h) cert first.refusal) (sym same) first.refused)
     (no_cause_of job start cert refl first.refusal e first.is))
-one_check conflicts job cert (Err e) (Err f) first second =
+one_check limits job cert (Err e) (Err f) first second =
     let same = one_history (job_for job.netlist job.recorded) (fits_job job.netlist job.recorded first.fits) (λ place. None) first.history second.history first.replay second.replay in
-    ap Err (causes_one job (beginning conflicts job.netlist job.recorded first.history) cert refl first.refusal second.refusal e f first.refused
-    (subst (λ (h : HistoryView). IsRefusalOf (beginning conflicts job.netlist job.recorded h) cert second.refusal) (sym same) second.refused) first.is second.is)
+    ap Err (causes_one job (beginning limits job.netlist job.recorded first.history) cert refl first.refusal second.refusal e f first.refused
+    (subst (λ (h : HistoryView). IsRefusalOf (beginning limits job.netlist job.recorded h) cert second.refusal) (sym same) second.refused) first.is second.is)
 
 -- One that is accepted over the job's replay isn't refused.
-pub accepted_certified : (conflicts : ℕ) (job : Parts) (cert : Cert) (history : HistoryView) (waveform : List Written) (cause : Refused)
-    → IsReplay (job_for job.netlist job.recorded) history → IsAccepted (beginning conflicts job.netlist job.recorded history) cert waveform
-    → IsUncertified conflicts job cert cause → ⊥
-accepted_certified conflicts job cert history waveform cause replay accepted refused =
+pub accepted_certified : (limits : Limits) (job : Parts) (cert : Cert) (history : HistoryView) (waveform : List Written) (cause : Refused)
+    → IsReplay (job_for job.netlist job.recorded) history → IsAccepted (beginning limits job.netlist job.recorded history) cert waveform
+    → IsUncertified limits job cert cause → ⊥
+accepted_certified limits job cert history waveform cause replay accepted refused =
     let same = one_history (job_for job.netlist job.recorded) (fits_job job.netlist job.recorded refused.fits) (λ place. None) history refused.history replay refused.replay in
-    let start = beginning conflicts job.netlist job.recorded refused.history in
+    let start = beginning limits job.netlist job.recorded refused.history in
     accepted_unrefused start cert waveform refused.refusal refl
-    (subst (λ (h : HistoryView). IsAccepted (beginning conflicts job.netlist job.recorded h) cert waveform) same accepted) refused.refused
+    (subst (λ (h : HistoryView). IsAccepted (beginning limits job.netlist job.recorded h) cert waveform) same accepted) refused.refused
     (no_cause_of job start cert refl refused.refusal cause refused.is)
 
 -- ---- its form

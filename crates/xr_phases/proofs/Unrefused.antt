@@ -29,6 +29,7 @@ use Rattle.xr_phases.specs.declared.cause.Uncertified.{Uncertified}
 use Rattle.xr_phases.specs.declared.parts.Parts.{Parts}
 use Rattle.xr_phases.proofs.OneCheck.{accepted_certified, no_form, stands_unwrong}
 use Rattle.xr_phases.proofs.OneJob.{one_compared, one_recorded, orders_of}
+use Rattle.xr_model.specs.declared.limits.Limits.{Limits}
 
 module _ (w : JobValues) (netlist recording : List ℕ) (n : ANetlist) (r : Recorded) (is : IsJob w netlist recording n r) where
   -- ---- the texts stand for no other job, and are refused for nothing but what is refused of it
@@ -69,9 +70,9 @@ module _ (w : JobValues) (netlist recording : List ℕ) (n : ANetlist) (r : Reco
 
   -- ---- a certificate that is accepted
 
-  module _ (conflicts : ℕ) (text : List ℕ) (history : HistoryView) (agrees : AgreesThroughout n r history)
+  module _ (limits : Limits) (text : List ℕ) (history : HistoryView) (agrees : AgreesThroughout n r history)
       (fits : length text ≤ text_limit) (cert : Cert) (stands : IsTextOf text cert) (waveform : List Written)
-      (accepted : IsAccepted (beginning conflicts n r history) cert waveform) where
+      (accepted : IsAccepted (beginning limits n r history) cert waveform) where
     not_compared : (e : CompareRefusal) → IsRefusedReplay n r e → ⊥
     not_compared e refused =
         ok_err tt e (one_compared n r (orders_of n r ordered) (Ok tt) (Err e) agrees.faultless refused)
@@ -80,21 +81,21 @@ module _ (w : JobValues) (netlist recording : List ℕ) (n : ANetlist) (r : Reco
     not_wrong {cause} wrong = stands_unwrong text cert wrong.at stands wrong.first
 
     not_refused : (other : Cert) (cause : Refused) → IsTextOf text other
-        → IsUncertified conflicts (parts n r) other cause → ⊥
+        → IsUncertified limits (parts n r) other cause → ⊥
     not_refused other cause again refused =
-        accepted_certified conflicts (parts n r) cert history waveform cause agrees.replay accepted
-        (subst (λ (c : Cert). IsUncertified conflicts (parts n r) c cause) (one_text text other cert again stands) refused)
+        accepted_certified limits (parts n r) cert history waveform cause agrees.replay accepted
+        (subst (λ (c : Cert). IsUncertified limits (parts n r) c cause) (one_text text other cert again stands) refused)
 
-    check_passes : (cause : Refused) → CheckFails conflicts text (parts n r) cause → ⊥
+    check_passes : (cause : Refused) → CheckFails limits text (parts n r) cause → ⊥
     check_passes cause (CheckFails.disagrees {e} refused) = not_compared e refused
     check_passes cause (CheckFails.too_long agreed long) = absurd (omega (arith, long, fits))
     check_passes cause (CheckFails.wrong agreed wrong) = not_wrong wrong
     check_passes cause (CheckFails.unaccepted agreed other again refused) = not_refused other cause again refused
 
-    pub check_unrefused : (cause : Refused) → AreRefused w netlist recording (CheckFails conflicts text) cause → ⊥
-    check_unrefused cause refused = job_unrefused (CheckFails conflicts text) cause (check_passes cause) refused
+    pub check_unrefused : (cause : Refused) → AreRefused w netlist recording (CheckFails limits text) cause → ⊥
+    check_unrefused cause refused = job_unrefused (CheckFails limits text) cause (check_passes cause) refused
 
-    upgrade_passes : cert.form ≡ Lines → (cause : Refused) → UpgradeFails conflicts text (parts n r) cause → ⊥
+    upgrade_passes : cert.form ≡ Lines → (cause : Refused) → UpgradeFails limits text (parts n r) cause → ⊥
     upgrade_passes form cause (UpgradeFails.disagrees {e} refused) = not_compared e refused
     upgrade_passes form cause (UpgradeFails.too_long agreed long) = absurd (omega (arith, long, fits))
     upgrade_passes form cause (UpgradeFails.wrong agreed wrong) = not_wrong wrong
@@ -104,6 +105,6 @@ module _ (w : JobValues) (netlist recording : List ℕ) (n : ANetlist) (r : Reco
         not_refused other cause again refused
 
     pub upgrade_unrefused : cert.form ≡ Lines → (cause : Refused)
-        → AreRefused w netlist recording (UpgradeFails conflicts text) cause → ⊥
+        → AreRefused w netlist recording (UpgradeFails limits text) cause → ⊥
     upgrade_unrefused form cause refused =
-        job_unrefused (UpgradeFails conflicts text) cause (upgrade_passes form cause) refused
+        job_unrefused (UpgradeFails limits text) cause (upgrade_passes form cause) refused

@@ -13,20 +13,21 @@ use Rattle.xr_run.specs.declared.refusal.Refusal.TheVariants.{Read, Long, Text, 
 use Rattle.xr_phases.specs.Phases.{walk_cause}
 use Rattle.xr_phases.specs.Repair.{ReplayWalkComes, WalkComes, WaveComes}
 use Rattle.xr_phases.specs.declared.cause.Refused.{Refused}
+use Rattle.xr_model.specs.declared.limits.Limits.{Limits}
 
-module _ (conflicts : ℕ) (n : ANetlist) (r : Recorded) (history : HistoryView) (replay : IsReplay (job_for n r) history) {X : Type 0} where
-  pub walk_refused : (result : Result X (Refusal Refused)) → IfErr result (IsJudgedBy (WaveComes conflicts n r.stim history) walk_cause)
-      → IfErr result (IsJudgedBy (WalkComes conflicts n r) walk_cause)
+module _ (limits : Limits) (n : ANetlist) (r : Recorded) (history : HistoryView) (replay : IsReplay (job_for n r) history) {X : Type 0} where
+  pub walk_refused : (result : Result X (Refusal Refused)) → IfErr result (IsJudgedBy (WaveComes limits n r.stim history) walk_cause)
+      → IfErr result (IsJudgedBy (WalkComes limits n r) walk_cause)
   walk_refused (Ok x) refused = refused
   walk_refused (Err (Read file)) refused = refused
   walk_refused (Err (Long cause)) refused = refused
   walk_refused (Err (Text cause)) (objection, by, is) = (objection, record { history = history; replay = replay; objects = by }, is)
   walk_refused (Err Memory) refused = refused
 
-module _ (conflicts : ℕ) (n : ANetlist) (stim : Stim) (history : HistoryView) (replay : IsReplay (job_of n.design n.order stim) history) {X : Type 0} where
+module _ (limits : Limits) (n : ANetlist) (stim : Stim) (history : HistoryView) (replay : IsReplay (job_of n.design n.order stim) history) {X : Type 0} where
   -- So is one over the replay of any stimulus.
-  pub replay_refused : (result : Result X (Refusal Refused)) → IfErr result (IsJudgedBy (WaveComes conflicts n stim history) walk_cause)
-      → IfErr result (IsJudgedBy (ReplayWalkComes conflicts n stim) walk_cause)
+  pub replay_refused : (result : Result X (Refusal Refused)) → IfErr result (IsJudgedBy (WaveComes limits n stim history) walk_cause)
+      → IfErr result (IsJudgedBy (ReplayWalkComes limits n stim) walk_cause)
   replay_refused (Ok x) refused = refused
   replay_refused (Err (Read file)) refused = refused
   replay_refused (Err (Long cause)) refused = refused

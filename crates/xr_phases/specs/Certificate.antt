@@ -29,6 +29,7 @@ use Rattle.xr_phases.specs.declared.cause.Refused.TheVariants.{Certificate, Opti
 use Rattle.xr_phases.specs.declared.cause.Uncertified.{Uncertified}
 use Rattle.xr_phases.specs.declared.cause.Uncertified.TheVariants.{Lacks, Line}
 use Rattle.xr_phases.specs.declared.parts.Parts.{Parts}
+use Rattle.xr_model.specs.declared.limits.Limits.{Limits}
 
 -- ---- its text
 
@@ -81,11 +82,11 @@ IsCauseOf job (Objects found) cause = cause ≡ Optimistic (objection_of job.net
 IsCauseOf job Memory cause = ⊥
 
 -- A certificate is checked over the job's replay, with this wave and these conditions.
-pub record IsCertified (conflicts : ℕ) (job : Parts) (cert : Cert) (wave : Contents)
+pub record IsCertified (limits : Limits) (job : Parts) (cert : Cert) (wave : Contents)
     (conditions : List ConditionView) : Type 0 where
   pub fits : FitsParts job
   pub replay : IsReplay (job_for job.netlist job.recorded) wave.history
-  pub checked : IsChecked (beginning conflicts job.netlist job.recorded wave.history) cert wave conditions
+  pub checked : IsChecked (beginning limits job.netlist job.recorded wave.history) cert wave conditions
 
 -- What a check shows: a wave, and the lines of its conditions.
 pub record CheckShows : Type 0 where
@@ -96,24 +97,24 @@ abbrev pub check_shows : Contents → List ConditionView → CheckShows
 check_shows wave conditions = record { wave = wave; listing = conditions_text wave conditions }
 
 -- The check of a certificate shows that.
-pub record IsCheckShown (conflicts : ℕ) (job : Parts) (cert : Cert) (shows : CheckShows) : Type 0 where
+pub record IsCheckShown (limits : Limits) (job : Parts) (cert : Cert) (shows : CheckShows) : Type 0 where
   pub conditions : List ConditionView
-  pub certified : IsCertified conflicts job cert shows.wave conditions
+  pub certified : IsCertified limits job cert shows.wave conditions
   pub listing_is : shows.listing ≡ conditions_text shows.wave conditions
 
 -- It is refused over the job's replay, for this cause.
-pub record IsUncertified (conflicts : ℕ) (job : Parts) (cert : Cert) (cause : Refused) : Type 0 where
+pub record IsUncertified (limits : Limits) (job : Parts) (cert : Cert) (cause : Refused) : Type 0 where
   pub fits : FitsParts job
   pub history : HistoryView
   pub replay : IsReplay (job_for job.netlist job.recorded) history
   pub refusal : CheckErr
-  pub refused : IsRefusalOf (beginning conflicts job.netlist job.recorded history) cert refusal
+  pub refused : IsRefusalOf (beginning limits job.netlist job.recorded history) cert refusal
   pub is : IsCauseOf job refusal cause
 
 -- The check comes to what the certificate shows, or to a refusal.
-abbrev pub CheckComes : ℕ → Parts → Cert → Result CheckShows Refused → Type 0
-CheckComes conflicts job cert (Ok shows) = IsCheckShown conflicts job cert shows
-CheckComes conflicts job cert (Err cause) = IsUncertified conflicts job cert cause
+abbrev pub CheckComes : Limits → Parts → Cert → Result CheckShows Refused → Type 0
+CheckComes limits job cert (Ok shows) = IsCheckShown limits job cert shows
+CheckComes limits job cert (Err cause) = IsUncertified limits job cert cause
 
 -- ---- the conditions of a wave
 

@@ -14,6 +14,7 @@ use Rattle.xr_design.specs.declared.stim.StartRule.TheVariants.{Cold, Recorded a
 use Rattle.xr_model.specs.declared.line.Body.{Body}
 use Rattle.xr_model.specs.declared.line.Body.TheVariants.{Enumerated, Refuted, Pair, Undecided}
 use Rattle.xr_model.specs.declared.line.Line.{Line as ALine}
+use Rattle.xr_model.specs.declared.limits.Limits.{Limits}
 use Rattle.xr_replay.specs.Fault.{IsFaultless}
 use Rattle.xr_wave.specs.Contents.{Contents, IsFinished, IsWave, nothing_written}
 use Rattle.xr_wave.specs.Shown.{ShowsWave}
@@ -86,14 +87,14 @@ pub record AgreesThroughout (n : ANetlist) (r : Recorded) (history : HistoryView
   pub faultless : IsFaultless (job_for n r) r.recording r.binding
 
 -- The wave of the job with nothing written, for logs of so many clauses.
-abbrev pub beginning : ℕ → ANetlist → Recorded → HistoryView → Contents
-beginning conflicts n r history = nothing_written n.design n.order r.stim history conflicts
+abbrev pub beginning : Limits → ANetlist → Recorded → HistoryView → Contents
+beginning limits n r history = nothing_written n.design n.order r.stim history limits
 
 -- A finished wave of a design under a stimulus, over a history.
-pub record IsRepairedBy (conflicts : ℕ) (n : ANetlist) (stim : Stim) (history : HistoryView)
+pub record IsRepairedBy (limits : Limits) (n : ANetlist) (stim : Stim) (history : HistoryView)
     (wave : Contents) : Type 0 where
-  pub of_job : IsOfJob (nothing_written n.design n.order stim history conflicts) wave
-  pub along : GoesAlong (nothing_written n.design n.order stim history conflicts) wave
+  pub of_job : IsOfJob (nothing_written n.design n.order stim history limits) wave
+  pub along : GoesAlong (nothing_written n.design n.order stim history limits) wave
   pub sound : IsWave wave
   pub finished : IsFinished wave
 
@@ -131,45 +132,45 @@ pub record Found : Type 0 where
   pub wave : Contents
   pub shown : HistoryView
 
-pub record IsFound (conflicts : ℕ) (n : ANetlist) (r : Recorded) (found : Found) : Type 0 where
+pub record IsFound (limits : Limits) (n : ANetlist) (r : Recorded) (found : Found) : Type 0 where
   pub fits : FitsJob n r
   pub times : HasSmallTimes r.stim
   pub replay : IsReplay (job_for n r) found.history
-  pub repaired : IsRepairedBy conflicts n r.stim found.history found.wave
+  pub repaired : IsRepairedBy limits n r.stim found.history found.wave
   pub shows : ShowsWave found.wave found.shown
 
 -- A place is found otherwise than a history knows it.
-pub record IsObjectionBy (conflicts : ℕ) (n : ANetlist) (stim : Stim) (history : HistoryView)
+pub record IsObjectionBy (limits : Limits) (n : ANetlist) (stim : Stim) (history : HistoryView)
     (objection : Objection) : Type 0 where
   pub otherwise : FoundOtherwise
-  pub objects : IsObjection (nothing_written n.design n.order stim history conflicts) otherwise
+  pub objects : IsObjection (nothing_written n.design n.order stim history limits) otherwise
   pub is : objection ≡ objection_of n stim otherwise
 
 -- The walk of a design under a stimulus, over a history, comes to a wave, or to an objection.
-abbrev pub WaveComes : ℕ → ANetlist → Stim → HistoryView → Result Contents Objection → Type 0
-WaveComes conflicts n stim history (Ok wave) = IsRepairedBy conflicts n stim history wave
-WaveComes conflicts n stim history (Err objection) = IsObjectionBy conflicts n stim history objection
+abbrev pub WaveComes : Limits → ANetlist → Stim → HistoryView → Result Contents Objection → Type 0
+WaveComes limits n stim history (Ok wave) = IsRepairedBy limits n stim history wave
+WaveComes limits n stim history (Err objection) = IsObjectionBy limits n stim history objection
 
 -- A place is found otherwise than the replay knows it.
-pub record IsObjectionIn (conflicts : ℕ) (n : ANetlist) (stim : Stim) (objection : Objection) : Type 0 where
+pub record IsObjectionIn (limits : Limits) (n : ANetlist) (stim : Stim) (objection : Objection) : Type 0 where
   pub history : HistoryView
   pub replay : IsReplay (job_of n.design n.order stim) history
-  pub objects : IsObjectionBy conflicts n stim history objection
+  pub objects : IsObjectionBy limits n stim history objection
 
 -- What the walk of a design under a stimulus finds: the replay, and a finished wave over it.
 pub record Walked : Type 0 where
   pub history : HistoryView
   pub wave : Contents
 
-pub record IsWalked (conflicts : ℕ) (n : ANetlist) (stim : Stim) (walked : Walked) : Type 0 where
+pub record IsWalked (limits : Limits) (n : ANetlist) (stim : Stim) (walked : Walked) : Type 0 where
   pub fits : PartsFit n.design n.order stim
   pub replay : IsReplay (job_of n.design n.order stim) walked.history
-  pub repaired : IsRepairedBy conflicts n stim walked.history walked.wave
+  pub repaired : IsRepairedBy limits n stim walked.history walked.wave
 
 -- It comes to that, or to an objection.
-abbrev pub ReplayWalkComes : ℕ → ANetlist → Stim → Result Walked Objection → Type 0
-ReplayWalkComes conflicts n stim (Ok walked) = IsWalked conflicts n stim walked
-ReplayWalkComes conflicts n stim (Err objection) = IsObjectionIn conflicts n stim objection
+abbrev pub ReplayWalkComes : Limits → ANetlist → Stim → Result Walked Objection → Type 0
+ReplayWalkComes limits n stim (Ok walked) = IsWalked limits n stim walked
+ReplayWalkComes limits n stim (Err objection) = IsObjectionIn limits n stim objection
 
 -- The recording agrees with the replay in every moment, each settled; or the first fault.
 abbrev pub CompareComes : ANetlist → Recorded → Result (Unit {0}) CompareRefusal → Type 0
@@ -177,6 +178,6 @@ CompareComes n r (Ok agreed) = IsFaultless (job_for n r) r.recording r.binding
 CompareComes n r (Err e) = IsRefusedReplay n r e
 
 -- The search comes to a wave, or to an objection.
-abbrev pub WalkComes : ℕ → ANetlist → Recorded → Result Found Objection → Type 0
-WalkComes conflicts n r (Ok found) = IsFound conflicts n r found
-WalkComes conflicts n r (Err objection) = IsObjectionIn conflicts n r.stim objection
+abbrev pub WalkComes : Limits → ANetlist → Recorded → Result Found Objection → Type 0
+WalkComes limits n r (Ok found) = IsFound limits n r found
+WalkComes limits n r (Err objection) = IsObjectionIn limits n r.stim objection

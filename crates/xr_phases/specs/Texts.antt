@@ -34,6 +34,7 @@ use Rattle.xr_phases.specs.declared.cause.Refused.TheVariants.{Optimistic, Start
 use Rattle.xr_phases.specs.declared.cause.Uncertified.{Uncertified}
 use Rattle.xr_phases.specs.declared.cause.Uncertified.TheVariants.{Line}
 use Rattle.xr_phases.specs.declared.parts.Parts.{Parts}
+use Rattle.xr_model.specs.declared.limits.Limits.{Limits}
 
 -- The texts that the files of a job hold.
 abbrev pub netlist_held : Files → JobValues → List ℕ
@@ -87,24 +88,24 @@ abbrev pub IsAgreed : Parts → Type 0
 IsAgreed job = IsFaultless (job_for job.netlist job.recorded) job.recorded.recording job.recorded.binding
 
 -- The recording agrees with the replay, and a place is found otherwise.
-pub record IsObjected (conflicts : ℕ) (objection : Objection) (n : ANetlist) (r : Recorded) : Type 0 where
+pub record IsObjected (limits : Limits) (objection : Objection) (n : ANetlist) (r : Recorded) : Type 0 where
   pub faultless : IsFaultless (job_for n r) r.recording r.binding
-  pub objects : IsObjectionIn conflicts n r.stim objection
+  pub objects : IsObjectionIn limits n r.stim objection
 
 -- The starts are set, and a place is found otherwise under them.
-pub record IsFoundUnderSet (pieces : List Piece) (conflicts : ℕ) (objection : Objection) (n : ANetlist)
+pub record IsFoundUnderSet (pieces : List Piece) (limits : Limits) (objection : Objection) (n : ANetlist)
     (r : Recorded) : Type 0 where
   pub stim : Stim
   pub started : IsStarted n.design r.stim pieces stim
-  pub objects : IsObjectionIn conflicts n stim objection
+  pub objects : IsObjectionIn limits n stim objection
 
 -- The recording agrees, a walk under the recorded starts finished, and a place is found otherwise under the set ones.
-pub record IsObjectedSet (conflicts : ℕ) (pieces : List Piece) (objection : Objection) (job : Parts) : Type 0 where
+pub record IsObjectedSet (limits : Limits) (pieces : List Piece) (objection : Objection) (job : Parts) : Type 0 where
   pub agreed : IsAgreed job
   -- The walk that finished: no place was found otherwise in it.
   pub before : Walked
-  pub walked : IsWalked conflicts job.netlist job.recorded.stim before
-  pub found : IsFoundUnderSet pieces conflicts objection job.netlist job.recorded
+  pub walked : IsWalked limits job.netlist job.recorded.stim before
+  pub found : IsFoundUnderSet pieces limits objection job.netlist job.recorded
 
 -- What texts are refused for, by its cause: those of the netlist and of the recording come first, in this order; then
 -- what is refused of the job that they stand for.
@@ -119,10 +120,10 @@ pub data AreRefused (w : JobValues) (netlist recording : List ℕ)
       → AreRefused w netlist recording After cause
 
 -- `repair`: the recording disagrees, or a place is found otherwise.
-pub data RepairFails (conflicts : ℕ) (job : Parts) : Refused → Type 0 where
-  disagrees : {e : CompareRefusal} → IsRefusedReplay job.netlist job.recorded e → RepairFails conflicts job (Compare e)
-  objected : {objection : Objection} → IsObjected conflicts objection job.netlist job.recorded
-      → RepairFails conflicts job (Optimistic objection)
+pub data RepairFails (limits : Limits) (job : Parts) : Refused → Type 0 where
+  disagrees : {e : CompareRefusal} → IsRefusedReplay job.netlist job.recorded e → RepairFails limits job (Compare e)
+  objected : {objection : Objection} → IsObjected limits objection job.netlist job.recorded
+      → RepairFails limits job (Optimistic objection)
 
 -- `replay`: the code is too long, or has a fault.
 pub data CodeFails (code : List ℕ) (scope : List (List ℕ)) (job : Parts) : Refused → Type 0 where
@@ -131,56 +132,56 @@ pub data CodeFails (code : List ℕ) (scope : List (List ℕ)) (job : Parts) : R
 
 -- `check`: the recording disagrees; or it agrees, and the certificate is too long, has a wrong line, or stands for one
 -- that isn't accepted for the job.
-pub data CheckFails (conflicts : ℕ) (cert : List ℕ) (job : Parts) : Refused → Type 0 where
+pub data CheckFails (limits : Limits) (cert : List ℕ) (job : Parts) : Refused → Type 0 where
   disagrees : {e : CompareRefusal} → IsRefusedReplay job.netlist job.recorded e
-      → CheckFails conflicts cert job (Compare e)
-  too_long : IsAgreed job → text_limit < length cert → CheckFails conflicts cert job LongCertificate
-  wrong : {cause : Uncertified} → IsAgreed job → IsWrong cert cause → CheckFails conflicts cert job (Certificate cause)
+      → CheckFails limits cert job (Compare e)
+  too_long : IsAgreed job → text_limit < length cert → CheckFails limits cert job LongCertificate
+  wrong : {cause : Uncertified} → IsAgreed job → IsWrong cert cause → CheckFails limits cert job (Certificate cause)
   unaccepted : {cause : Refused} → IsAgreed job → (certificate : Cert) → IsTextOf cert certificate
-      → IsUncertified conflicts job certificate cause → CheckFails conflicts cert job cause
+      → IsUncertified limits job certificate cause → CheckFails limits cert job cause
 
 -- `upgrade`: so it is of a certificate of form 1; one of form 2 is refused for its first line.
-pub data UpgradeFails (conflicts : ℕ) (cert : List ℕ) (job : Parts) : Refused → Type 0 where
+pub data UpgradeFails (limits : Limits) (cert : List ℕ) (job : Parts) : Refused → Type 0 where
   disagrees : {e : CompareRefusal} → IsRefusedReplay job.netlist job.recorded e
-      → UpgradeFails conflicts cert job (Compare e)
-  too_long : IsAgreed job → text_limit < length cert → UpgradeFails conflicts cert job LongCertificate
+      → UpgradeFails limits cert job (Compare e)
+  too_long : IsAgreed job → text_limit < length cert → UpgradeFails limits cert job LongCertificate
   wrong : {cause : Uncertified} → IsAgreed job → IsWrong cert cause
-      → UpgradeFails conflicts cert job (Certificate cause)
+      → UpgradeFails limits cert job (Certificate cause)
   turned : IsAgreed job → (certificate : Cert) → IsTextOf cert certificate → certificate.form ≡ Turns
-      → UpgradeFails conflicts cert job (Certificate (Line (Header 1)))
+      → UpgradeFails limits cert job (Certificate (Line (Header 1)))
   unaccepted : {cause : Refused} → IsAgreed job → (certificate : Cert) → IsTextOf cert certificate
-      → certificate.form ≡ Lines → IsUncertified conflicts job certificate cause → UpgradeFails conflicts cert job cause
+      → certificate.form ≡ Lines → IsUncertified limits job certificate cause → UpgradeFails limits cert job cause
 
 -- `fix`: the recording disagrees; or it agrees, and a start can't be set; or they are set, and a place is found otherwise
 -- under the recorded starts, or else under the set ones.
-pub data FixFails (conflicts : ℕ) (pieces : List Piece) (job : Parts) : Refused → Type 0 where
-  disagrees : {e : CompareRefusal} → IsRefusedReplay job.netlist job.recorded e → FixFails conflicts pieces job (Compare e)
+pub data FixFails (limits : Limits) (pieces : List Piece) (job : Parts) : Refused → Type 0 where
+  disagrees : {e : CompareRefusal} → IsRefusedReplay job.netlist job.recorded e → FixFails limits pieces job (Compare e)
   unset : {fault : StartFault} → IsAgreed job
-      → IsFirstFault job.netlist.design job.recorded.stim.starts pieces fault → FixFails conflicts pieces job (Start fault)
+      → IsFirstFault job.netlist.design job.recorded.stim.starts pieces fault → FixFails limits pieces job (Start fault)
   objected : {objection : Objection} → (stim : Stim) → IsStarted job.netlist.design job.recorded.stim pieces stim
-      → IsObjected conflicts objection job.netlist job.recorded → FixFails conflicts pieces job (Optimistic objection)
-  objected_set : {objection : Objection} → IsObjectedSet conflicts pieces objection job
-      → FixFails conflicts pieces job (Optimistic objection)
+      → IsObjected limits objection job.netlist job.recorded → FixFails limits pieces job (Optimistic objection)
+  objected_set : {objection : Objection} → IsObjectedSet limits pieces objection job
+      → FixFails limits pieces job (Optimistic objection)
 
 -- ---- a place that is found otherwise
 
 -- Without an undecided body in the lines before it, it is the one of these texts, whatever the limit of the search.
-abbrev pub IsOneFound : JobValues → List ℕ → List ℕ → (ℕ → Objection → ANetlist → Recorded → Type 0) → Objection
+abbrev pub IsOneFound : JobValues → List ℕ → List ℕ → (Limits → Objection → ANetlist → Recorded → Type 0) → Objection
     → Type 0
-IsOneFound w netlist recording Finds objection = objection.undecided ≡ 0 → (conflicts : ℕ) (other : Objection)
-    → HasJob w netlist recording (Finds conflicts other) → other.undecided ≡ 0 → other ≡ objection
+IsOneFound w netlist recording Finds objection = objection.undecided ≡ 0 → (limits : Limits) (other : Objection)
+    → HasJob w netlist recording (Finds limits other) → other.undecided ≡ 0 → other ≡ objection
 
 abbrev pub IsOneObjection : JobValues → List ℕ → List ℕ → Objection → Type 0
 IsOneObjection w netlist recording objection = IsOneFound w netlist recording IsObjected objection
 
 -- `fix`: it is found under the recorded starts, and is the one there; or else so under the set ones.
-pub data IsOneOfWalks (conflicts : ℕ) (pieces : List Piece) (w : JobValues) (netlist recording : List ℕ)
+pub data IsOneOfWalks (limits : Limits) (pieces : List Piece) (w : JobValues) (netlist recording : List ℕ)
     (objection : Objection) : Type 0 where
-  of_recorded : HasJob w netlist recording (IsObjected conflicts objection)
-      → IsOneObjection w netlist recording objection → IsOneOfWalks conflicts pieces w netlist recording objection
-  of_set : HasJob w netlist recording (λ n r. IsObjectedSet conflicts pieces objection (parts n r))
+  of_recorded : HasJob w netlist recording (IsObjected limits objection)
+      → IsOneObjection w netlist recording objection → IsOneOfWalks limits pieces w netlist recording objection
+  of_set : HasJob w netlist recording (λ n r. IsObjectedSet limits pieces objection (parts n r))
       → IsOneFound w netlist recording (IsFoundUnderSet pieces) objection
-      → IsOneOfWalks conflicts pieces w netlist recording objection
+      → IsOneOfWalks limits pieces w netlist recording objection
 
 -- What holds of a place that is found otherwise, where that is the cause.
 abbrev pub IfOptimistic : (Objection → Type 0) → Refused → Type 0

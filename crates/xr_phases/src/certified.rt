@@ -5,7 +5,7 @@ ghost use Rattle.xr_design.specs.Filling.{IsPlace};
 ghost use Rattle.xr_design.specs.Handed.{IsReplay};
 ghost use Rattle.xr_job.specs.Compared.{job_for};
 ghost use Rattle.xr_run.specs.Prepared.{IsJudgedBy, Judged, Prepared};
-ghost use Rattle.xr_wave.specs.Contents.{IsLimit};
+ghost use Rattle.xr_wave.specs.Contents.{AreLimits};
 ghost use Rattle.xr_phases.specs.Certificate.{CertificateComes, CheckComes, IsCertified, IsMissingAt, lack_of};
 ghost use Rattle.xr_phases.specs.Certificate.{uncertified_by};
 ghost use Rattle.xr_phases.specs.Phases.{certificate_phases, itself, uncertified_cause};
@@ -19,6 +19,7 @@ use std::alloc::Global;
 use xr_base::Memory;
 use xr_cert::{Cert, CertErr, CertFault, CheckErr, Checked, check_cert, read_cert};
 use xr_design::{Bytes, History, Place};
+use xr_model::Limits;
 use xr_run::{Refusal, read_input};
 use xr_shelf::Shelf;
 
@@ -53,13 +54,13 @@ pub fn certified_wave<'b>(
     job: &'b Parts,
     history: &'b History,
     cert: Cert,
-    conflicts: u32,
+    limits: Limits,
 ) -> Result<Checked<'b>, Refusal<Refused>>
     requires fits { FitsParts job.now }
     requires replay { IsReplay (job_for job.now.netlist job.now.recorded) history.now }
-    requires conflicts { IsLimit conflicts }
-    ensures certified { IfOk result (λ checked. IsCertified conflicts job.now cert checked.wave checked.conditions) }
-    ensures refused { IfErr result (IsJudgedBy (CheckComes conflicts job.now cert) itself) }
+    requires limits { AreLimits limits }
+    ensures certified { IfOk result (λ checked. IsCertified limits job.now cert checked.wave checked.conditions) }
+    ensures refused { IfErr result (IsJudgedBy (CheckComes limits job.now cert) itself) }
 {
     let netlist = &job.netlist;
     match check_cert(
@@ -69,7 +70,7 @@ pub fn certified_wave<'b>(
         &netlist.order,
         &job.recorded.stim,
         history,
-        conflicts,
+        limits,
     ) {
         Ok(checked) => Ok(checked),
         Err(CheckErr::Refused(fault)) => Err(Refusal::Text {

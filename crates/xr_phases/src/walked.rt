@@ -7,7 +7,7 @@ ghost use Rattle.xr_design.specs.Job.{job_of};
 ghost use Rattle.xr_job.specs.Compared.{job_for};
 ghost use Rattle.xr_repair.specs.Step.{RefusedStep};
 ghost use Rattle.xr_repair.specs.Walk.{left_of};
-ghost use Rattle.xr_wave.specs.Contents.{IsLimit};
+ghost use Rattle.xr_wave.specs.Contents.{AreLimits};
 ghost use Rattle.xr_run.specs.Prepared.{IsJudgedBy};
 ghost use Rattle.xr_phases.specs.Phases.{walk_cause};
 ghost use Rattle.xr_phases.specs.Repair.{FitsJob, IsRepairedBy, ReplayWalkComes, WalkComes, WaveComes};
@@ -17,6 +17,7 @@ use crate::objection::objection_of;
 use std::alloc::Global;
 use xr_design::{History, Stim};
 use xr_job::{Netlist, Recorded};
+use xr_model::Limits;
 use xr_repair::{RepairErr, Walk};
 use xr_run::Refusal;
 use xr_shelf::Sink;
@@ -31,17 +32,17 @@ pub fn wave_of<'b, O: Sink>(
     netlist: &'b Netlist,
     recorded: &'b Recorded,
     history: &'b History,
-    conflicts: u32,
+    limits: Limits,
     out: &mut O,
 ) -> Result<Wave<'b>, Refusal<Refused>>
     requires fits { FitsJob netlist.now recorded.now }
     requires replay { IsReplay (job_for netlist.now recorded.now) history.now }
-    requires conflicts { IsLimit conflicts }
-    ensures repaired { IfOk result (IsRepairedBy conflicts netlist.now recorded.now.stim history.now) }
-    ensures refused { IfErr result (IsJudgedBy (WalkComes conflicts netlist.now recorded.now) walk_cause) }
+    requires limits { AreLimits limits }
+    ensures repaired { IfOk result (IsRepairedBy limits netlist.now recorded.now.stim history.now) }
+    ensures refused { IfErr result (IsJudgedBy (WalkComes limits netlist.now recorded.now) walk_cause) }
     ensures out { O.view out.new ≡ O.view out.old }
 {
-    wave_under(alloc, netlist, &recorded.stim, history, conflicts, out)
+    wave_under(alloc, netlist, &recorded.stim, history, limits, out)
 }
 
 /// The finished wave of a design under a stimulus, over its replay or a blank history. The sink hears how far it came.
@@ -50,14 +51,14 @@ pub fn wave_under<'b, O: Sink>(
     netlist: &'b Netlist,
     stim: &'b Stim,
     history: &'b History,
-    conflicts: u32,
+    limits: Limits,
     out: &mut O,
 ) -> Result<Wave<'b>, Refusal<Refused>>
     requires fits { PartsFit netlist.now.design netlist.now.order stim.now }
     requires handed { IsHandedIn (job_of netlist.now.design netlist.now.order stim.now) history.now }
-    requires conflicts { IsLimit conflicts }
-    ensures repaired { IfOk result (IsRepairedBy conflicts netlist.now stim.now history.now) }
-    ensures refused { IfErr result (IsJudgedBy (WaveComes conflicts netlist.now stim.now history.now) walk_cause) }
+    requires limits { AreLimits limits }
+    ensures repaired { IfOk result (IsRepairedBy limits netlist.now stim.now history.now) }
+    ensures refused { IfErr result (IsJudgedBy (WaveComes limits netlist.now stim.now history.now) walk_cause) }
     ensures out { O.view out.new ≡ O.view out.old }
 {
     let walk = Walk::new(
@@ -66,7 +67,7 @@ pub fn wave_under<'b, O: Sink>(
         &netlist.order,
         stim,
         history,
-        conflicts,
+        limits,
     )?;
     match walk_on(alloc, walk, out) {
         Ok(walk) => Ok(walk.into_wave()),
@@ -83,17 +84,17 @@ pub fn replay_wave<'b, O: Sink>(
     netlist: &'b Netlist,
     stim: &'b Stim,
     history: &'b History,
-    conflicts: u32,
+    limits: Limits,
     out: &mut O,
 ) -> Result<Wave<'b>, Refusal<Refused>>
     requires fits { PartsFit netlist.now.design netlist.now.order stim.now }
     requires replay { IsReplay (job_of netlist.now.design netlist.now.order stim.now) history.now }
-    requires conflicts { IsLimit conflicts }
-    ensures repaired { IfOk result (IsRepairedBy conflicts netlist.now stim.now history.now) }
-    ensures refused { IfErr result (IsJudgedBy (ReplayWalkComes conflicts netlist.now stim.now) walk_cause) }
+    requires limits { AreLimits limits }
+    ensures repaired { IfOk result (IsRepairedBy limits netlist.now stim.now history.now) }
+    ensures refused { IfErr result (IsJudgedBy (ReplayWalkComes limits netlist.now stim.now) walk_cause) }
     ensures out { O.view out.new ≡ O.view out.old }
 {
-    wave_under(alloc, netlist, stim, history, conflicts, out)
+    wave_under(alloc, netlist, stim, history, limits, out)
 }
 
 /// Goes on to the end.

@@ -19,6 +19,7 @@ use Rattle.xr_model.proofs.Classes.{behind, in_front}
 use Rattle.xr_model.proofs.CarryLaw.{net_at, step_at}
 use Rattle.xr_model.proofs.FactsBefore.{certain_grown}
 use Rattle.xr_model.proofs.WaveInvariant.{grown}
+use Rattle.xr_model.specs.declared.limits.Limits.{Limits}
 use Rattle.xr_quiet.specs.Laws.{IsSteady, Rests, SaysTheSame}
 use Rattle.xr_quiet.specs.Ahead.{KeepBetween, is_calm}
 use Rattle.xr_quiet.specs.Runs.{IsRun, NextLaw, RunLaw, and_next, before_next, repeated}
@@ -30,11 +31,11 @@ use Rattle.xr_quiet.proofs.RepeatedPlaces.{repeat_law}
 use Rattle.xr_quiet.proofs.SoundQuiet.{agrees_before, sound_agrees}
 
 -- How far a run has come.
-record Done (j : Job) (limit : ℕ) (shown : ℕ → Value) (waveform now : List Written) (lines : List ALine)
+record Done (j : Job) (limits : Limits) (shown : ℕ → Value) (waveform now : List Written) (lines : List ALine)
     (done : ℕ) : Type 0 where
   long : length now ≡ length waveform + done
   agree : AgreeBelow (certain waveform) (certain now) (length waveform)
-  holds : Holds j limit shown now lines
+  holds : Holds j limits shown now lines
   steady : (place : ℕ) → length waveform ≤ place → place < length waveform + done → IsSteady j (certain now) place
   rests : (place : ℕ) → length waveform ≤ place → place < length waveform + done → Rests j (certain now) place
 
@@ -74,10 +75,10 @@ keeps_between j fits c first next place within steady =
     steady_between j fits c first next (step_of j place) (place % j.width)
     (arguments_of_driver (j.driver (net_of j place))) steady (spot j fits place within).before
 
-rests_next : (j : Job) → Fits j → (limit : ℕ) (shown : ℕ → Value) (waveform now : List Written) (lines : List ALine)
-    (many done : ℕ) → done < many → IsRun j shown waveform many → Done j limit shown waveform now lines done
+rests_next : (j : Job) → Fits j → (limits : Limits) (shown : ℕ → Value) (waveform now : List Written) (lines : List ALine)
+    (many done : ℕ) → done < many → IsRun j shown waveform many → Done j limits shown waveform now lines done
     → Rests j (certain now) (length waveform + done)
-rests_next j fits limit shown waveform now lines many done less run so_far =
+rests_next j fits limits shown waveform now lines many done less run so_far =
     let n = length waveform in
     let room = run.within in
     let one = run.one_step in
@@ -93,16 +94,16 @@ rests_next j fits limit shown waveform now lines many done less run so_far =
     (run.rests (n + done) (omega arith) (omega arith)))
 
 -- One more place.
-next_holds : (j : Job) → Fits j → (limit : ℕ) (shown : ℕ → Value) (waveform now : List Written) (lines : List ALine)
-    (many done : ℕ) → done < many → IsRun j shown waveform many → Done j limit shown waveform now lines done
-    → NextHolds j limit shown now (before_next j now) []
-next_holds j fits limit shown waveform now lines many done less run so_far =
+next_holds : (j : Job) → Fits j → (limits : Limits) (shown : ℕ → Value) (waveform now : List Written) (lines : List ALine)
+    (many done : ℕ) → done < many → IsRun j shown waveform many → Done j limits shown waveform now lines done
+    → NextHolds j limits shown now (before_next j now) []
+next_holds j fits limits shown waveform now lines many done less run so_far =
     let n = length waveform in
     let room = run.within in
     let long = so_far.long in
-    repeat_law j limit shown now lines fits so_far.holds.sound (omega (arith, long, room, less))
+    repeat_law j limits shown now lines fits so_far.holds.sound (omega (arith, long, room, less))
     (subst (λ k. Rests j (certain now) k) (sym long)
-    (rests_next j fits limit shown waveform now lines many done less run so_far))
+    (rests_next j fits limits shown waveform now lines many done less run so_far))
     (subst (λ k. shown k ≡ shown (before j k)) (sym long) (run.shows (n + done) (omega arith) (omega arith)))
 
 steady_moved : (j : Job) → Fits j → (c d : ℕ → Value) (place first : ℕ) → place < first → first ≤ places_of j
@@ -117,10 +118,10 @@ steady_moved j fits c d place first less within agree steady =
       keeps = sym (keeps_local j fits c d first (step_of j place) (net_of j place) within agree low) ∙ steady.keeps;
     }
 
-one_more : (j : Job) → Fits j → (limit : ℕ) (shown : ℕ → Value) (waveform now : List Written) (lines : List ALine)
-    (many done : ℕ) → done < many → IsRun j shown waveform many → Done j limit shown waveform now lines done
-    → Done j limit shown waveform (now ++ before_next j now ∷ []) lines (suc done)
-one_more j fits limit shown waveform now lines many done less run so_far =
+one_more : (j : Job) → Fits j → (limits : Limits) (shown : ℕ → Value) (waveform now : List Written) (lines : List ALine)
+    (many done : ℕ) → done < many → IsRun j shown waveform many → Done j limits shown waveform now lines done
+    → Done j limits shown waveform (now ++ before_next j now ∷ []) lines (suc done)
+one_more j fits limits shown waveform now lines many done less run so_far =
     let n = length waveform in
     let room = run.within in
     let x = before_next j now in
@@ -129,17 +130,17 @@ one_more j fits limit shown waveform now lines many done less run so_far =
     let within : n + done < places_of j = omega (arith, room, less) in
     let further : AgreeBelow (certain now) (certain after) (length now) = certain_grown now x in
     let more : AgreeBelow (certain now) (certain after) (n + done) = λ k low. further k (omega (arith, low, was)) in
-    let holds : Holds j limit shown after lines = subst (λ l. Holds j limit shown after l) (append-nil lines)
-    (grown j limit fits shown now lines x [] so_far.holds
-    (next_holds j fits limit shown waveform now lines many done less run so_far)) in
+    let holds : Holds j limits shown after lines = subst (λ l. Holds j limits shown after l) (append-nil lines)
+    (grown j limits fits shown now lines x [] so_far.holds
+    (next_holds j fits limits shown waveform now lines many done less run so_far)) in
     let long : length after ≡ n + suc done = (let grows = length-append now (x ∷ []) in omega (arith, grows, was)) in
     let rests : Rests j (certain after) (n + done) = rests_local j fits (certain now) (certain after) (n + done) within
     more
-    (rests_next j fits limit shown waveform now lines many done less run so_far) in
+    (rests_next j fits limits shown waveform now lines many done less run so_far) in
     let newest : IsSteady j (certain after) (n + done) = keeps_law j (certain after) (n + done) fits within
-    (agrees_before j limit shown after lines holds.sound (n + done) (omega (arith, long)))
+    (agrees_before j limits shown after lines holds.sound (n + done) (omega (arith, long)))
     rests
-    (sound_agrees j limit shown after lines holds.sound (n + done) (omega (arith, long))) in
+    (sound_agrees j limits shown after lines holds.sound (n + done) (omega (arith, long))) in
     record {
       long = long;
       agree = λ k low. so_far.agree k low ∙ more k (omega arith);
@@ -155,56 +156,56 @@ one_more j fits limit shown waveform now lines many done less run so_far =
           (cases_eq place (n + done));
     }
 
-done_so_far : (j : Job) → Fits j → (limit : ℕ) (shown : ℕ → Value) (waveform : List Written) (lines : List ALine)
-    (many done : ℕ) → done ≤ many → Holds j limit shown waveform lines → IsRun j shown waveform many
-    → Done j limit shown waveform (repeated j waveform done) lines done
+done_so_far : (j : Job) → Fits j → (limits : Limits) (shown : ℕ → Value) (waveform : List Written) (lines : List ALine)
+    (many done : ℕ) → done ≤ many → Holds j limits shown waveform lines → IsRun j shown waveform many
+    → Done j limits shown waveform (repeated j waveform done) lines done
 unfolding repeated
-done_so_far j fits limit shown waveform lines many zero up holds run = record {
+done_so_far j fits limits shown waveform lines many zero up holds run = record {
   long = omega arith;
   agree = λ k low. refl;
   holds = holds;
   steady = λ place from low. absurd (omega arith);
   rests = λ place from low. absurd (omega arith);
 }
-done_so_far j fits limit shown waveform lines many (suc done) up holds run =
-    one_more j fits limit shown waveform (repeated j waveform done) lines many done (omega arith) run
-    (done_so_far j fits limit shown waveform lines many done (omega arith) holds run)
+done_so_far j fits limits shown waveform lines many (suc done) up holds run =
+    one_more j fits limits shown waveform (repeated j waveform done) lines many done (omega arith) run
+    (done_so_far j fits limits shown waveform lines many done (omega arith) holds run)
 
 -- A quiet place of a sound waveform is calm.
-calm_there : (j : Job) → Fits j → (limit : ℕ) (shown : ℕ → Value) (waveform : List Written) (lines : List ALine)
+calm_there : (j : Job) → Fits j → (limits : Limits) (shown : ℕ → Value) (waveform : List Written) (lines : List ALine)
     (place : ℕ)
-    → Holds j limit shown waveform lines → place < places_of j → place < length waveform
+    → Holds j limits shown waveform lines → place < places_of j → place < length waveform
     → Rests j (certain waveform) place
     → is_calm j (certain waveform) place ≡ true
-calm_there j fits limit shown waveform lines place holds within less rests =
+calm_there j fits limits shown waveform lines place holds within less rests =
     calm_law j (certain waveform) place fits within
-    (agrees_before j limit shown waveform lines holds.sound place (omega arith)) rests
-    (sound_agrees j limit shown waveform lines holds.sound place less)
+    (agrees_before j limits shown waveform lines holds.sound place (omega arith)) rests
+    (sound_agrees j limits shown waveform lines holds.sound place less)
 
 -- Its class says that it has what its net's place a step before has.
-says_there : (j : Job) → Fits j → (limit : ℕ) (shown : ℕ → Value) (waveform : List Written) (lines : List ALine)
+says_there : (j : Job) → Fits j → (limits : Limits) (shown : ℕ → Value) (waveform : List Written) (lines : List ALine)
     (place : ℕ)
-    → Holds j limit shown waveform lines → place < places_of j → place < length waveform
+    → Holds j limits shown waveform lines → place < places_of j → place < length waveform
     → Rests j (certain waveform) place
     → SaysTheSame j (certain waveform) place (class_of j (certain waveform) place)
-says_there j fits limit shown waveform lines place holds within less rests =
+says_there j fits limits shown waveform lines place holds within less rests =
     quiet_law j (certain waveform) place fits within
-    (agrees_before j limit shown waveform lines holds.sound place (omega arith)) rests
+    (agrees_before j limits shown waveform lines holds.sound place (omega arith)) rests
 
 pub run_law : RunLaw
-run_law j limit shown waveform lines many fits holds run =
-    let whole = done_so_far j fits limit shown waveform lines many many (omega arith) holds run in
+run_law j limits shown waveform lines many fits holds run =
+    let whole = done_so_far j fits limits shown waveform lines many many (omega arith) holds run in
     let long = whole.long in
     let room = run.within in
     let after = repeated j waveform many in
     record {
-      each = λ done less. next_holds j fits limit shown waveform (repeated j waveform done) lines many done less run
-          (done_so_far j fits limit shown waveform lines many done (omega arith) holds run);
+      each = λ done less. next_holds j fits limits shown waveform (repeated j waveform done) lines many done less run
+          (done_so_far j fits limits shown waveform lines many done (omega arith) holds run);
       holds = whole.holds;
       steady = whole.steady;
-      says = λ place up low. says_there j fits limit shown after lines place whole.holds (omega (arith, low, room))
+      says = λ place up low. says_there j fits limits shown after lines place whole.holds (omega (arith, low, room))
           (omega (arith, low, long)) (whole.rests place up low);
-      calm = λ place up low. calm_there j fits limit shown after lines place whole.holds (omega (arith, low, room))
+      calm = λ place up low. calm_there j fits limits shown after lines place whole.holds (omega (arith, low, room))
           (omega (arith, low, long)) (whole.rests place up low);
       ahead = λ place there more. along_law j (certain waveform) (certain after) (length waveform)
           (length waveform + many)

@@ -14,6 +14,7 @@ use Rattle.xr_model.specs.Yields.{carried_of, certain_bit, written_by}
 use Rattle.xr_model.specs.declared.class.ClassByNumber.{ClassByNumber}
 use Rattle.xr_model.specs.declared.class.ClassByNumber.TheVariants.{Local, Free, Carried, Line}
 use Rattle.xr_model.proofs.CarryLaw.{back_of}
+use Rattle.xr_model.specs.declared.limits.Limits.{Limits}
 use Rattle.xr_quiet.specs.Laws.{RepeatLaw, SaidLaw, SaysTheSame, carried_on}
 use Rattle.xr_class.proofs.MovedRules.{as_it_is}
 use Rattle.xr_quiet.proofs.QuietClasses.{quiet_law}
@@ -43,21 +44,21 @@ says_written shown j waveform place Free says = absurd says
 says_written shown j waveform place (Carried from inverted) says = rw (says.0, says.1) refl
 says_written shown j waveform place Line says = absurd says
 
-says_lines : (j : Job) (limit : ℕ) (waveform : List Written) (place : ℕ) (class : ClassByNumber)
-    → SaysTheSame j (certain waveform) place class → NextLines j limit waveform [] class
-says_lines j limit waveform place (Local bit) says = refl
-says_lines j limit waveform place Free says = absurd says
-says_lines j limit waveform place (Carried from inverted) says = refl
-says_lines j limit waveform place Line says = absurd says
+says_lines : (j : Job) (limits : Limits) (waveform : List Written) (place : ℕ) (class : ClassByNumber)
+    → SaysTheSame j (certain waveform) place class → NextLines j limits waveform [] class
+says_lines j limits waveform place (Local bit) says = refl
+says_lines j limits waveform place Free says = absurd says
+says_lines j limits waveform place (Carried from inverted) says = refl
+says_lines j limits waveform place Line says = absurd says
 
 pub said_law : SaidLaw
-said_law j limit shown waveform lines fits sound within rests =
+said_law j limits shown waveform lines fits sound within rests =
     let n = length waveform in
     let says = quiet_law j (certain waveform) n fits within
-    (agrees_before j limit shown waveform lines sound n (omega arith)) rests in
+    (agrees_before j limits shown waveform lines sound n (omega arith)) rests in
     record {
       within = within;
-      lines = says_lines j limit waveform n (class_of j (certain waveform) n) says;
+      lines = says_lines j limits waveform n (class_of j (certain waveform) n) says;
       as_said = sym (says_written shown j waveform n (class_of j (certain waveform) n) says);
     }
 
@@ -78,16 +79,16 @@ honest_same Unknown value shown known none optimistic = none refl optimistic
 honest_same Undecided value shown known none optimistic = optimistic
 
 pub repeat_law : RepeatLaw
-repeat_law j limit shown waveform lines fits sound within rests same =
+repeat_law j limits shown waveform lines fits sound within rests same =
     let n = length waveform in
     let back = before j n in
     let less = back_of j fits n within (quiet_later j (certain waveform) (class_of j (certain waveform)) n rests) in
     let w = written_at waveform back in
-    let said = said_law j limit shown waveform lines fits sound within rests in
+    let said = said_law j limits shown waveform lines fits sound within rests in
     let here : written_at waveform back ≡ carried_on shown j waveform n = carried_same w.mark w.value (shown n)
     (λ uncertain. sound.shows.uncertain back less uncertain ∙ sym same) in
     record {
-      said = subst (λ x. NextSaid j limit shown waveform x []) (sym here) said;
+      said = subst (λ x. NextSaid j limits shown waveform x []) (sym here) said;
       honest = subst (λ v. IsOptimistic w.mark w.value v → ⊥) (sym same) (honest_same w.mark w.value (shown back)
           (sound.shows.known back less) (sound.shows.open_ back less));
     }

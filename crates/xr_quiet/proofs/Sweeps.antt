@@ -391,7 +391,7 @@ repeated_agree j waveform (suc many) k less =
     ∙ certain_grown (repeated j waveform many) (before_next j (repeated j waveform many)) k (omega (arith, less, long))
 
 pub skip_law : SkipLaw
-skip_law j limit shown waveform lines step position many due ahead fits up room gone run = record {
+skip_law j limits shown waveform lines step position many due ahead fits up room gone run = record {
   length_is = long_after;
   due_here = record { rests = rests };
   due_later = record { calm = calm; still = still };

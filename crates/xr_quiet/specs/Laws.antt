@@ -18,6 +18,7 @@ use Rattle.xr_model.specs.Yields.{carried_of}
 use Rattle.xr_model.specs.declared.class.ClassByNumber.{ClassByNumber}
 use Rattle.xr_model.specs.declared.class.ClassByNumber.TheVariants.{Local, Free, Carried, Line}
 use Rattle.xr_model.specs.declared.line.Line.{Line as ALine}
+use Rattle.xr_model.specs.declared.limits.Limits.{Limits}
 use Rattle.xr_class.specs.Facts.{AgreeBefore, AgreesWith}
 use Rattle.xr_quiet.specs.Due.{IsQuiet, is_quiet}
 
@@ -74,15 +75,15 @@ carried_on shown j waveform place =
 
 -- A quiet place that comes next in a sound waveform is written so, without a line,
 abbrev pub SaidLaw : Type 0
-SaidLaw = (j : Job) (limit : ℕ) (shown : ℕ → Value) (waveform : List Written) (lines : List ALine)
-    → Fits j → Sound j limit shown waveform lines → length waveform < places_of j
+SaidLaw = (j : Job) (limits : Limits) (shown : ℕ → Value) (waveform : List Written) (lines : List ALine)
+    → Fits j → Sound j limits shown waveform lines → length waveform < places_of j
     → Rests j (certain waveform) (length waveform)
-    → NextSaid j limit shown waveform (carried_on shown j waveform (length waveform)) []
+    → NextSaid j limits shown waveform (carried_on shown j waveform (length waveform)) []
 
 -- and where the history shows there what it shows at the place before, it is written as that is, and isn't optimistic.
 abbrev pub RepeatLaw : Type 0
-RepeatLaw = (j : Job) (limit : ℕ) (shown : ℕ → Value) (waveform : List Written) (lines : List ALine)
-    → Fits j → Sound j limit shown waveform lines → length waveform < places_of j
+RepeatLaw = (j : Job) (limits : Limits) (shown : ℕ → Value) (waveform : List Written) (lines : List ALine)
+    → Fits j → Sound j limits shown waveform lines → length waveform < places_of j
     → Rests j (certain waveform) (length waveform)
     → shown (length waveform) ≡ shown (before j (length waveform))
-    → NextHolds j limit shown waveform (written_at waveform (before j (length waveform))) []
+    → NextHolds j limits shown waveform (written_at waveform (before j (length waveform))) []

@@ -10,6 +10,7 @@ use Rattle.xr_design.specs.Waveform.{certain, written_at}
 use Rattle.xr_model.specs.Class.{before, class_of, keeps}
 use Rattle.xr_model.specs.Growth.{Holds, NextHolds}
 use Rattle.xr_model.specs.declared.line.Line.{Line as ALine}
+use Rattle.xr_model.specs.declared.limits.Limits.{Limits}
 use Rattle.xr_quiet.specs.Ahead.{IsAhead, RestsFrom, is_calm}
 use Rattle.xr_quiet.specs.Due.{driver_of}
 use Rattle.xr_quiet.specs.Laws.{IsSteady, SaysTheSame}
@@ -34,11 +35,11 @@ repeated j waveform (suc many) = repeated j waveform many ++ before_next j (repe
 
 -- Each of them may be written so, without a line, and is steady and calm, as its class says; what is always true of a
 -- waveform stays true; and a place ahead that was quiet as far as the waveform told is quiet as far as it tells now.
-pub record IsRepeated (j : Job) (limit : ℕ) (shown : ℕ → Value) (waveform : List Written) (lines : List ALine)
+pub record IsRepeated (j : Job) (limits : Limits) (shown : ℕ → Value) (waveform : List Written) (lines : List ALine)
     (many : ℕ) : Type 0 where
   pub each : (done : ℕ) → done < many
-      → NextHolds j limit shown (repeated j waveform done) (before_next j (repeated j waveform done)) []
-  pub holds : Holds j limit shown (repeated j waveform many) lines
+      → NextHolds j limits shown (repeated j waveform done) (before_next j (repeated j waveform done)) []
+  pub holds : Holds j limits shown (repeated j waveform many) lines
   pub steady : (place : ℕ) → length waveform ≤ place → place < length waveform + many
       → IsSteady j (certain (repeated j waveform many)) place
   pub says : (place : ℕ) → length waveform ≤ place → place < length waveform + many
@@ -51,8 +52,8 @@ pub record IsRepeated (j : Job) (limit : ℕ) (shown : ℕ → Value) (waveform 
 
 -- So a run can be written.
 abbrev pub RunLaw : Type 0
-RunLaw = (j : Job) (limit : ℕ) (shown : ℕ → Value) (waveform : List Written) (lines : List ALine) (many : ℕ) → Fits j
-    → Holds j limit shown waveform lines → IsRun j shown waveform many → IsRepeated j limit shown waveform lines many
+RunLaw = (j : Job) (limits : Limits) (shown : ℕ → Value) (waveform : List Written) (lines : List ALine) (many : ℕ) → Fits j
+    → Holds j limits shown waveform lines → IsRun j shown waveform many → IsRepeated j limits shown waveform lines many
 
 -- Where the next place is written, whatever it has, a place ahead that was quiet as far as the waveform told is quiet
 -- as far as it tells now, where the net of what is written keeps, or its driver doesn't read that.

@@ -11,6 +11,7 @@ use Rattle.xr_design.specs.Order.{arguments_of_driver}
 use Rattle.xr_design.specs.Waveform.{certain}
 use Rattle.xr_model.specs.Class.{before, class_of, keeps}
 use Rattle.xr_model.specs.declared.line.Line.{Line as ALine}
+use Rattle.xr_model.specs.declared.limits.Limits.{Limits}
 use Rattle.xr_class.specs.Facts.{AgreeBefore}
 use Rattle.xr_fans.specs.Nets.{driver_on, looked_at, net_on}
 use Rattle.xr_quiet.specs.Ahead.{RestsFrom, is_calm}
@@ -100,8 +101,8 @@ NoneDueLaw = (j : Job) (shown : ℕ → Value) (waveform : List Written) (step p
 
 -- and they are passed over with both sets as they are.
 abbrev pub SkipLaw : Type 0
-SkipLaw = (j : Job) (limit : ℕ) (shown : ℕ → Value) (waveform : List Written) (lines : List ALine)
+SkipLaw = (j : Job) (limits : Limits) (shown : ℕ → Value) (waveform : List Written) (lines : List ALine)
     (step position many : ℕ) (due ahead : ℕ → Bool) → Fits j → position + many ≤ j.width
     → spot_at j step j.width ≤ places_of j
-    → IsGoneOver j waveform step position due ahead → IsRepeated j limit shown waveform lines many
+    → IsGoneOver j waveform step position due ahead → IsRepeated j limits shown waveform lines many
     → IsGoneOver j (repeated j waveform many) step (position + many) due ahead

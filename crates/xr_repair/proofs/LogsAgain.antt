@@ -44,7 +44,7 @@ pub left_again : (c : Contents) (place : ℕ) (log : List (List ℤ)) → IsWave
     → HasNextCone c place → body_at (job c) c.lines place ≡ Some (Undecided log) → AcceptsBody c (Undecided log)
 left_again c place log wave along cone found =
     let same = asks_same c place cone in
-    let holds : IsLicence (job c) c.limit c.written place log =
+    let holds : IsLicence (job c) c.limits c.written place log =
     wave.holds.yields.bodies place (Undecided log) cone.written found in
     record {
       holds = record {

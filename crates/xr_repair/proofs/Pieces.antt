@@ -16,6 +16,7 @@ use Rattle.xr_repair.specs.Walk.{AreRightOf, HasLessLeft, IsWalk, left_in, start
 use Rattle.xr_repair.specs.declared.aids.Aids.{Aids}
 use Rattle.xr_repair.proofs.Objecting.{job_along}
 use Rattle.xr_repair.proofs.Walking.{all_written, goes_long, job_stays, line_next}
+use Rattle.xr_model.specs.declared.limits.Limits.{Limits}
 
 -- A piece of a walk: from a wave to a later one of its job, which stands before a Line place or at the end; of so many
 -- lines so many are left, and the wave grew where fewer are.
@@ -82,10 +83,10 @@ way_less from c aids all lines left way some ends before =
 
 -- The wave of which nothing is written stays the same in a job, and a wave is of its job.
 pub start_stays : (a b : Contents) → IsOfJob a b → start_of b ≡ start_of a
-start_stays a b same = rw (same.design, same.order, same.stim, same.history, same.limit) refl
+start_stays a b same = rw (same.design, same.order, same.stim, same.history, same.limits) refl
 
 pub start_job : (c : Contents) → IsOfJob (start_of c) c
-start_job c = record { design = refl; order = refl; stim = refl; history = refl; limit = refl }
+start_job c = record { design = refl; order = refl; stim = refl; history = refl; limits = refl }
 
 -- A wave that went along lines from nothing still has.
 pub way_along : (from c : Contents) (aids : Aids) (all lines left : ℕ) → IsOnWay from c aids all lines left
@@ -94,9 +95,9 @@ way_along from c aids all lines left way before =
     subst (λ start. GoesAlong start c) (sym (start_stays from c way.same)) (along (start_of from) from c before way.goes)
 
 -- A walk of which nothing is written,
-pub walk_begins : (c : Contents) (design : Design) (order : List ℕ) (stim : Stim) (history : HistoryView) (limit : ℕ)
-    (aids : Aids) → c ≡ nothing_written design order stim history limit → IsWave c → AreRightOf c aids → IsWalk c aids
-walk_begins c design order stim history limit aids is wave right = record {
+pub walk_begins : (c : Contents) (design : Design) (order : List ℕ) (stim : Stim) (history : HistoryView) (limits : Limits)
+    (aids : Aids) → c ≡ nothing_written design order stim history limits → IsWave c → AreRightOf c aids → IsWalk c aids
+walk_begins c design order stim history limits aids is wave right = record {
   wave = wave;
   along = subst (λ (d : Contents). GoesAlong (start_of d) d) (sym is) stays;
   right = right;

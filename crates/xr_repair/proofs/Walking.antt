@@ -40,7 +40,7 @@ pub goes_same : {a b : Contents} → GoesOn a b → IsOfJob a b
 goes_same {a} stays = same_job a
 goes_same {a} (more {c = c} goes plain agrees) =
     job_along a c (with_written c (plain_written c)) (goes_same goes)
-    (record { design = refl; order = refl; stim = refl; history = refl; limit = refl })
+    (record { design = refl; order = refl; stim = refl; history = refl; limits = refl })
 
 -- A wave that doesn't go on ends the walk.
 pub stopped_refused : (start : Contents) (err : AdvanceErr) → IfObjects (IsObjected start) err
@@ -94,13 +94,13 @@ all_written c wave many = omega (arith, wave.holds.sound.within, many)
 -- A finished wave is the only one.
 pub only_one : (c : Contents) → IsWave c → IsFinished c → IsOnlyOne c
 only_one c wave finished = record {
-  same = λ decided limit other lines long sound other_decided.
+  same = λ decided limits other lines long sound other_decided.
       one_exact (job c) (shown_in c) other c.written wave.fits.fits_job (long ∙ sym finished) sound.within
-      (sound_exact (job c) limit (shown_in c) other lines other_decided sound)
-      (sound_exact (job c) c.limit (shown_in c) c.written c.lines decided wave.holds.sound) sound.shows
+      (sound_exact (job c) limits (shown_in c) other lines other_decided sound)
+      (sound_exact (job c) c.limits (shown_in c) c.written c.lines decided wave.holds.sound) sound.shows
       wave.holds.sound.shows;
-  alike = λ decided limit shown other lines long sound other_decided place less.
-      (let same = unique_certain (job c) limit c.limit wave.fits.fits_job shown (shown_in c) other c.written lines c.lines
+  alike = λ decided limits shown other lines long sound other_decided place less.
+      (let same = unique_certain (job c) limits c.limits wave.fits.fits_job shown (shown_in c) other c.written lines c.lines
       (long ∙ sym finished) sound.within other_decided decided sound wave.holds.sound place less in
       record { mark = same.mark; certain_value = same.certain_value });
 }

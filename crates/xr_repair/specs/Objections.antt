@@ -6,11 +6,12 @@ use Rattle.xr_laws.specs.Objection.{AllDecide, Objects}
 use Rattle.xr_wave.specs.Contents.{Contents, IsWave, job, shown_in}
 use Rattle.xr_wave.specs.declared.advance.Optimistic.{Optimistic}
 use Rattle.xr_repair.specs.Repaired.{IsObjection}
+use Rattle.xr_model.specs.declared.limits.Limits.{Limits}
 
 -- An objection of a walk is one of the job's, by the lines that it tells.
 abbrev pub ObjectionsObject : Type 0
 ObjectionsObject = (start : Contents) (optimistic : Optimistic) (o : IsObjection start optimistic)
-    → Objects (job start) start.limit (shown_in start) o.before.written optimistic.lines.items o.written
+    → Objects (job start) start.limits (shown_in start) o.before.written optimistic.lines.items o.written
 
 -- Every filling gives what is found there, or two fillings give 0 and 1.
 abbrev pub ObjectionsAreExact : Type 0
@@ -18,8 +19,8 @@ ObjectionsAreExact = (start : Contents) (optimistic : Optimistic) (o : IsObjecti
     → ExactBy (job start) o.before.written (length o.before.written) o.written.mark o.written.value
 
 -- The same contents with logs of another length for licences.
-abbrev pub with_limit : Contents → ℕ → Contents
-with_limit c limit = record c { limit = limit }
+abbrev pub with_limits : Contents → Limits → Contents
+with_limits c limits = record c { limits = limits }
 
 -- Two tell the same place, the same value that the history shows, and the same one that is found.
 pub record AreTheSame (a b : Optimistic) : Type 0 where
@@ -29,8 +30,8 @@ pub record AreTheSame (a b : Optimistic) : Type 0 where
 
 -- Without an undecided body among their lines all objections of a job tell the same, whatever their limits are.
 abbrev pub ObjectionsAreOne : Type 0
-ObjectionsAreOne = (start : Contents) (limit : ℕ) (optimistic other : Optimistic)
-    → IsObjection start optimistic → IsObjection (with_limit start limit) other
+ObjectionsAreOne = (start : Contents) (limits : Limits) (optimistic other : Optimistic)
+    → IsObjection start optimistic → IsObjection (with_limits start limits) other
     → AllDecide optimistic.lines.items → AllDecide other.lines.items → AreTheSame optimistic other
 
 -- A wave without undecided places has the marks and certain values of every sound waveform without any, for whatever

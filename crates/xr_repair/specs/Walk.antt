@@ -13,7 +13,7 @@ pub record WalkView : Type 0 where
 
 -- The wave of a job, a history and a limit of which nothing is written.
 abbrev pub start_of : Contents → Contents
-start_of c = nothing_written c.design c.order c.stim c.history c.limit
+start_of c = nothing_written c.design c.order c.stim c.history c.limits
 
 -- How many places the job has, how many of them are written, and how many are left.
 abbrev pub all_of : WalkView → ℕ

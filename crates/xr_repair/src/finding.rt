@@ -21,11 +21,8 @@ use crate::search::search;
 use std::alloc::Global;
 use xr_base::Memory;
 use xr_cone::{Cone, Shown};
-use xr_enum::{Decided, decide};
+use xr_enum::{Decided, decide, has_few_sources};
 use xr_wave::Wave;
-
-/// Up to this many sources, every filling of them is tried.
-const ENUMERATED: usize = 12;
 
 /// What is shown of the next place: by two lanes that differ there, or else by an earlier place, by tables or by its cone.
 #[tactic(auto, using(crate::proofs::Searching::pair_accepted))]
@@ -147,7 +144,7 @@ fn find_by_cone(alloc: Global, wave: &Wave<'_>, aids: &mut Aids) -> Result<Found
     ensures right { OnOk result (AreRightOf wave.now aids.new) }
 {
     let cone = aids.cones.cone(alloc, wave)?;
-    if cone.sources().len() <= ENUMERATED {
+    if has_few_sources(wave, &cone) {
         return enumerate(alloc, wave, &cone);
     }
     match try_fillings(alloc, wave, &cone)? {
@@ -159,7 +156,7 @@ fn find_by_cone(alloc: Global, wave: &Wave<'_>, aids: &mut Aids) -> Result<Found
 #[tactic(auto, using(crate::proofs::Searching::pair_accepted))]
 fn enumerate(alloc: Global, wave: &Wave<'_>, cone: &Cone) -> Result<Found, Memory>
     requires cone { IsNextCone wave.now cone.now.nodes }
-    requires few { length (sources_of cone.now.nodes) ≤ 12 }
+    requires few { length (sources_of cone.now.nodes) ≤ wave.now.limits.enumerated }
     ensures { IfOk result (IsShown wave.now) }
 {
     match decide(alloc, wave, cone)? {

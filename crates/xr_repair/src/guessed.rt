@@ -30,9 +30,6 @@ const FEW_CONFLICTS: u32 = 30;
 
 const PART: u32 = 5;
 
-/// Up to this many sources a place is settled by all of their fillings, so a log is no better.
-const ENUMERATED: usize = 12;
-
 /// What a guess about the next place shows of it: none where there is no guess, or it is wrong.
 pub fn find_guessed(
     alloc: Global,
@@ -48,8 +45,10 @@ pub fn find_guessed(
     ensures right { OnOk result (AreRightOf wave.now cones.new) }
     ensures lanes { OnOk result (cones.new.lanes ≡ cones.old.lanes) }
 {
-    let few = cones.lanes.has_few_sources(ENUMERATED);
-    let conflicts = conflicts_for(few, wave.limit());
+    let limits = wave.limits();
+    // Few are settled by all of their fillings, so a log is no better.
+    let few = cones.lanes.has_few_sources(limits.enumerated as usize);
+    let conflicts = conflicts_for(few, limits.conflicts);
     match guess_other(alloc, &cones.lanes, guesser, conflicts)? {
         Guess::Filling(ones) => {
             take_filling(alloc, &cones.lanes, pool, &ones)?;

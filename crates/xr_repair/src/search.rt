@@ -21,7 +21,7 @@ use xr_proof::{Cnf, Exhausted, Model, Refuted};
 use xr_sat::Outcome;
 use xr_wave::{Budget, Pair, Settled, Wave};
 
-/// What a search on the query of the next place, which has more than 12 sources, shows of it.
+/// What a search on the query of the next place, which has more sources than are enumerated, shows of it.
 #[tactic(auto, using(crate::proofs::Searching::pair_accepted))]
 pub fn search(
     alloc: Global,
@@ -30,11 +30,11 @@ pub fn search(
     cone: &Cone,
 ) -> Result<Found, Memory>
     requires cone { IsNextCone wave.now cone.now.nodes }
-    requires many { 12 < length (sources_of cone.now.nodes) }
+    requires many { wave.now.limits.enumerated < length (sources_of cone.now.nodes) }
     ensures { IfOk result (IsShown wave.now) }
 {
     let query = clauses(alloc, cone)?;
-    match answers.ask(alloc, &query, wave.limit())? {
+    match answers.ask(alloc, &query, wave.limits().conflicts)? {
         Outcome::Model(model) => Ok(Found::Pair(pair_of(alloc, wave, cone, &query, &model)?)),
         Outcome::Refuted(proof) => Ok(Found::Settled(settled_by(wave, cone, &query, proof))),
         Outcome::Limit(proof) => Ok(Found::Budget(left_by(wave, cone, &query, proof))),
@@ -74,13 +74,13 @@ pub fn settled_by(wave: &Wave<'_>, cone: &Cone, query: &Cnf, proof: Refuted) -> 
     conclude(wave, cone, proof)
 }
 
-/// A fresh log as long as the limit lets the next place be undecided.
+/// A fresh log as long as the limits say lets the next place be undecided.
 fn left_by(wave: &Wave<'_>, cone: &Cone, query: &Cnf, proof: Exhausted) -> Budget
     requires cone { IsNextCone wave.now cone.now.nodes }
     requires query { IsQueryOfNodes cone.now.nodes query.now }
-    requires many { 12 < length (sources_of cone.now.nodes) }
+    requires many { wave.now.limits.enumerated < length (sources_of cone.now.nodes) }
     requires fresh { AreFresh query.now.clauses proof }
-    requires long { length proof ≡ wave.now.limit }
+    requires long { length proof ≡ wave.now.limits.conflicts }
     requires fit { Fit query.now.vars proof }
     ensures { AcceptsLine wave.now (budget_line result) }
 {

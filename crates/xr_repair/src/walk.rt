@@ -9,7 +9,7 @@ ghost use Rattle.xr_repair.specs.Step.{IsFurther, IsNextOf, RefusedStep};
 ghost use Rattle.xr_repair.specs.Walk.{AreRightOf, HasLessLeft, all_of, count_of, left_of, start_of};
 ghost use Rattle.xr_along.specs.Along.{GoesAlong};
 ghost use Rattle.xr_wave.specs.Advance.{IsAdvanced};
-ghost use Rattle.xr_wave.specs.Contents.{IsFinished, IsLimit, IsWave, nothing_written};
+ghost use Rattle.xr_wave.specs.Contents.{IsFinished, AreLimits, IsWave, nothing_written};
 ghost use Rattle.xr_wave.specs.Token.{IsLineNext};
 
 use crate::aids::Aids;
@@ -20,36 +20,36 @@ use std::alloc::Global;
 use std::marker::Model;
 use xr_base::Memory;
 use xr_design::{Design, History, Order, Stim, count_places};
+use xr_model::Limits;
 use xr_wave::Wave;
 
 /// How many Line places `repair` writes at a time.
 const PIECE: usize = 1024;
 
-/// A finished wave of a job: every place written, each with its justification. `limit` is how many clauses the log of a
-/// search may have before its place is marked undecided. Takes the memory of the wave, of the lines and of
-/// lanes, and up to 64 megabytes for the answers of searches.
+/// A finished wave of a job: every place written, each with its justification. `limits` say how its places are decided.
+/// Takes the memory of the wave, of the lines and of lanes, and up to 64 megabytes for the answers of searches.
 pub fn repair<'a>(
     alloc: Global,
     design: &'a Design,
     order: &'a Order,
     stim: &'a Stim,
     replayed: &'a History,
-    limit: u32,
+    limits: Limits,
 ) -> Result<Wave<'a>, RepairErr>
     requires fits { PartsFit design.now order.now stim.now }
     requires handed { IsHandedIn (job_of design.now order.now stim.now) replayed.now }
-    requires limit { IsLimit limit }
-    ensures job { let start = nothing_written design.now order.now stim.now replayed.now limit in
+    requires limits { AreLimits limits }
+    ensures job { let start = nothing_written design.now order.now stim.now replayed.now limits in
         IfOk result (IsOfJob start) }
-    ensures along { let start = nothing_written design.now order.now stim.now replayed.now limit in
+    ensures along { let start = nothing_written design.now order.now stim.now replayed.now limits in
         IfOk result (GoesAlong start) }
     ensures finished { IfOk result IsFinished }
     ensures sound { IfOk result IsWave }
     ensures only { IfOk result IsOnlyOne }
-    ensures refused { let start = nothing_written design.now order.now stim.now replayed.now limit in
+    ensures refused { let start = nothing_written design.now order.now stim.now replayed.now limits in
         IfErr result (RefusedStep start) }
 {
-    let mut walk = Walk::new(alloc, design, order, stim, replayed, limit)?;
+    let mut walk = Walk::new(alloc, design, order, stim, replayed, limits)?;
     'pieces: while !walk.is_finished() {
         walk = walk.go_on(alloc, PIECE)?;
     }
@@ -82,15 +82,15 @@ impl<'a> Walk<'a> {
         order: &'a Order,
         stim: &'a Stim,
         replayed: &'a History,
-        limit: u32,
+        limits: Limits,
     ) -> Result<Walk<'a>, Memory>
         requires fits { PartsFit design.now order.now stim.now }
         requires handed { IsHandedIn (job_of design.now order.now stim.now) replayed.now }
-        requires limit { IsLimit limit }
-        ensures { let start = nothing_written design.now order.now stim.now replayed.now limit in
+        requires limits { AreLimits limits }
+        ensures { let start = nothing_written design.now order.now stim.now replayed.now limits in
             IfOk result (λ walk. walk.start ≡ start) }
     {
-        let wave = Wave::new(alloc, design, order, stim, replayed, limit)?;
+        let wave = Wave::new(alloc, design, order, stim, replayed, limits)?;
         let _circuit = wave.circuit();
         let aids = Aids::new(alloc)?;
         Ok(Walk { wave, aids })

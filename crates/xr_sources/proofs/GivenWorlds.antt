@@ -23,6 +23,7 @@ use Rattle.xr_model.proofs.Cones.{cone_self}
 use Rattle.xr_model.proofs.PlacesWhere.{among_all, in_picked, picked_in, picked_rises}
 use Rattle.xr_model.proofs.SoundWorlds.{certain_settles, true_world}
 use Rattle.xr_model.proofs.SourceFillings.{source_among, source_filling_is, source_given, sources_alone}
+use Rattle.xr_model.specs.declared.limits.Limits.{Limits}
 use Rattle.xr_sources.specs.Laws.{CutLaw}
 
 -- Among the places below a bound at which a function has 1 is each place with its bit.
@@ -35,14 +36,14 @@ picked_bit given n k less =
     (cases_Bool (among (places_where given n) k))) (cases_Bool (given k))
 
 -- Up to a place a function is the bits of a filling, and certain places have their values in the world of every filling.
-pub given_world : (j : Job) (limit : ℕ) → Fits j → (shown : ℕ → Value) (waveform : List Written) (lines : List ALine)
-    → Sound j limit shown waveform lines → (place : ℕ) → place ≤ length waveform → place < places_of j
+pub given_world : (j : Job) (limits : Limits) → Fits j → (shown : ℕ → Value) (waveform : List Written) (lines : List ALine)
+    → Sound j limits shown waveform lines → (place : ℕ) → place ≤ length waveform → place < places_of j
     → (given : ℕ → Bool) → TrueWorld j (certain waveform) given (world_bit j (certain waveform) given) place
-given_world j limit fits shown waveform lines sound place up within given = record {
+given_world j limits fits shown waveform lines sound place up within given = record {
   within = within;
   world = λ k low. world_is j fits c given k (omega (arith, low, within));
   exact = λ k bit less known. same k less
-      ∙ certain_settles j limit shown waveform lines sound k bit (omega (arith, less, up)) known own filled;
+      ∙ certain_settles j limits shown waveform lines sound k bit (omega (arith, less, up)) known own filled;
 }
   where
     c : ℕ → Value
@@ -67,13 +68,13 @@ given_world j limit fits shown waveform lines sound place up within given = reco
         ∙ picked_bit given (place + 1) i (omega (arith, low, less))))
 
 -- A certain place has its value.
-pub given_certain : (j : Job) (limit : ℕ) → Fits j → (shown : ℕ → Value) (waveform : List Written) (lines : List ALine)
-    → Sound j limit shown waveform lines → (place : ℕ) (bit : Bool) → place < length waveform
+pub given_certain : (j : Job) (limits : Limits) → Fits j → (shown : ℕ → Value) (waveform : List Written) (lines : List ALine)
+    → Sound j limits shown waveform lines → (place : ℕ) (bit : Bool) → place < length waveform
     → certain waveform place ≡ bit_value bit → (given : ℕ → Bool) → world_bit j (certain waveform) given place ≡ bit
-given_certain j limit fits shown waveform lines sound place bit less known given =
+given_certain j limits fits shown waveform lines sound place bit less known given =
     world_bit_local j fits c c given (bit_of j own) place within (λ i low. refl)
     (λ i low. sym (bit_of_at j numbers i fits.ordering fits.all low_numbers ∙ picked_bit given (place + 1) i low))
-    ∙ certain_settles j limit shown waveform lines sound place bit less known own filled
+    ∙ certain_settles j limits shown waveform lines sound place bit less known own filled
   where
     c : ℕ → Value
     c = certain waveform
@@ -95,23 +96,23 @@ given_certain j limit fits shown waveform lines sound place bit less known given
     filled = filling_at j numbers fits.ordering fits.all low_numbers (picked_rises given (place + 1))
 
 -- The bit of a place rests on what its sources are given.
-pub given_cut : (j : Job) (limit : ℕ) → Fits j → (shown : ℕ → Value) (waveform : List Written) (lines : List ALine)
-    → Sound j limit shown waveform lines → (place : ℕ) → place ≤ length waveform → place < places_of j
+pub given_cut : (j : Job) (limits : Limits) → Fits j → (shown : ℕ → Value) (waveform : List Written) (lines : List ALine)
+    → Sound j limits shown waveform lines → (place : ℕ) → place ≤ length waveform → place < places_of j
     → (given : ℕ → Bool) → world_bit j (certain waveform) given place
     ≡ world_bit j (certain waveform) (bit_of j (source_filling j (certain waveform) place given)) place
-given_cut j limit fits shown waveform lines sound place up within given =
+given_cut j limits fits shown waveform lines sound place up within given =
     let c = certain waveform in
     let own = source_filling j c place given in
     source_worlds j fits c given (bit_of j own) (world_bit j c given) (world_bit j c (bit_of j own)) place place
-    (given_world j limit fits shown waveform lines sound place up within given)
-    (true_world j limit fits shown waveform lines sound place up within own
+    (given_world j limits fits shown waveform lines sound place up within given)
+    (true_world j limits fits shown waveform lines sound place up within own
     (source_filling_is j fits c place given within))
     (λ i source. sym (source_given j fits c place given i within source)) (cone_self j fits c place within)
 
 pub cut_law : CutLaw
-cut_law j limit shown waveform lines fits sound given place reach = record {
+cut_law j limits shown waveform lines fits sound given place reach = record {
   filling = source_filling_is j fits (certain waveform) place given reach.within;
   alone = λ k listed. source_among j fits (certain waveform) place k reach.within
       (sources_alone j fits (certain waveform) place given k reach.within listed);
-  same = given_cut j limit fits shown waveform lines sound place reach.written reach.within given;
+  same = given_cut j limits fits shown waveform lines sound place reach.written reach.within given;
 }

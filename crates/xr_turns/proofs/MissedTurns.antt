@@ -46,9 +46,9 @@ more_turns c root view line is =
 turn_said : (c : Contents) (root : ℕ) (view : ConditionView) (line : TurnLine) → IsConditionOf c root view
     → AreTurnLinesIn c root (turn_lines view ++ line ∷ []) → IsTurnIn c root (next_in c root view.turns) line.turn
 turn_said c root view line is lines =
-    last_turn (job c) (certain c.written) root (settled_bit c root) c.limit (first_kept (certain_boundary_in c root))
+    last_turn (job c) (certain c.written) root (settled_bit c root) c.limits.conflicts (first_kept (certain_boundary_in c root))
     (first_due (certain_boundary_in c root)) view.turns line.turn
-    (subst (AreTurnsOf (job c) (certain c.written) root (settled_bit c root) c.limit) (more_turns c root view line is)
+    (subst (AreTurnsOf (job c) (certain c.written) root (settled_bit c root) c.limits.conflicts) (more_turns c root view line is)
     lines.hold)
 
 pub missed_turn : (view : ConditionView) (line : TurnLine) → IsNeverNext view line.turn → IsNoTurn view line
@@ -81,7 +81,7 @@ place_said c root view line d is lines =
     long = length-append (turn_lines view) (line ∷ []) ∙ ap (λ m. m + 1) lines_long
 
     some : n + 1 ≤ length (first_due (certain_boundary_in c root))
-    some = let few = turns_fit (job c) (certain c.written) root (settled_bit c root) c.limit
+    some = let few = turns_fit (job c) (certain c.written) root (settled_bit c root) c.limits.conflicts
         (first_kept (certain_boundary_in c root)) (first_due (certain_boundary_in c root))
         (turns_in (turn_lines view ++ line ∷ [])) lines.hold in
         let same = length-map (turn_lines view ++ line ∷ []) (λ (l : TurnLine). l.turn) in

@@ -74,7 +74,7 @@ first_less places = by (nat_lt 64 (length places))
 pub kept_fit : (c : Contents) (root : ℕ) (view : ConditionView) → IsConditionOf c root view
     → length view.turns ≤ length (first_due (certain_boundary_in c root))
 kept_fit c root view is =
-    turns_fit (job c) (certain c.written) root (settled_bit c root) c.limit (first_kept (certain_boundary_in c root))
+    turns_fit (job c) (certain c.written) root (settled_bit c root) c.limits.conflicts (first_kept (certain_boundary_in c root))
     (first_due (certain_boundary_in c root)) view.turns is.turns
 
 pub kept_within : (c : Contents) (root : ℕ) (view : ConditionView) → IsConditionOf c root view
@@ -100,7 +100,7 @@ states_turns c root view is = record {
         ∙ first_places c root view (length view.turns) is (kept_fit c root view is)
         ∙ ap (λ n. map (place_at (job c)) (take n (turn_places (job c) c.written root)))
         (sym (stated_long view.boundary view.turns within));
-    hold = subst (AreTurnsOf (job c) (certain c.written) root (settled_bit c root) c.limit)
+    hold = subst (AreTurnsOf (job c) (certain c.written) root (settled_bit c root) c.limits.conflicts)
         (sym (stated_turns view.boundary view.turns within)) is.turns;
   };
   count = (let long = stated_long view.boundary view.turns within in

@@ -18,4 +18,4 @@ StatedLaw = (c : Contents) (root : ℕ) (view : ConditionView) → IsConditionOf
 -- Conditions of places of a wave stay theirs, whatever is written next.
 abbrev pub StayLaw : Type 0
 StayLaw = (c d : Contents) (places : List Place) (views : List ConditionView) → IsGrown c d
-    → d.limit ≡ c.limit → IsWave d → AreConditionsOf c places views → AreConditionsOf d places views
+    → d.limits ≡ c.limits → IsWave d → AreConditionsOf c places views → AreConditionsOf d places views

@@ -46,7 +46,7 @@ abbrev pub turn_lines : ConditionView → List TurnLine
 turn_lines view = stated view.boundary view.turns
 
 abbrev pub AreTurnLinesIn : Contents → ℕ → List TurnLine → Type 0
-AreTurnLinesIn c root lines = AreTurnLines (job c) c.limit c.written root lines
+AreTurnLinesIn c root lines = AreTurnLines (job c) c.limits.conflicts c.written root lines
 
 -- A line is taken: it states the next turn, which is made.
 pub record IsTaken (old : ConditionView) (line : TurnLine) (new : ConditionView) : Type 0 where

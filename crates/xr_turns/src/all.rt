@@ -56,5 +56,5 @@ fn finished_at(
 {
     let _circuit = wave.circuit();
     let condition = begin_at(alloc, wave, tracer, place)?;
-    finish(alloc, condition, wave.limit())
+    finish(alloc, condition, wave.limits().conflicts)
 }

@@ -18,32 +18,33 @@ use Rattle.xr_wave.specs.Advance.{Contradicts, GoesOn, IfObjects, IsObjected, Is
 use Rattle.xr_wave.specs.Advance.{stays, with_written}
 use Rattle.xr_design.specs.History.{HistoryView}
 use Rattle.xr_model.specs.declared.line.Line.{Line as ALine}
+use Rattle.xr_model.specs.declared.limits.Limits.{Limits}
 use Rattle.xr_wave_due.specs.OfWaveBytes.{WaveformView}
 use Rattle.xr_wave.specs.Contents.{Contents, IsWave, class_in, class_or_done, contents_of, job, next_number, next_seen}
 use Rattle.xr_wave.specs.Contents.{shown_in}
 use Rattle.xr_wave.proofs.WaveGrowth.{plain_within}
 
 -- A class that needs no line says what its place is.
-no_line : (class : ClassByNumber) (j : Job) (limit : ℕ) (waveform : List Written) → NextLines j limit waveform [] class
+no_line : (class : ClassByNumber) (j : Job) (limits : Limits) (waveform : List Written) → NextLines j limits waveform [] class
     → IsPlain (class_or_done j (Some class))
-no_line (Local bit) j limit waveform none = tt
-no_line Free j limit waveform none = tt
-no_line (Carried from inverted) j limit waveform none = tt
-no_line Line j limit waveform none = let one = none.one in cc
+no_line (Local bit) j limits waveform none = tt
+no_line Free j limits waveform none = tt
+no_line (Carried from inverted) j limits waveform none = tt
+no_line Line j limits waveform none = let one = none.one in cc
 
 plain_by : (j : Job) (b : Bool) (class : ClassByNumber) → b ≡ true → IsPlain (class_or_done j (Some class))
     → IsPlain (class_or_done j (if b then Some class else None))
 plain_by j true class is plain = plain
 plain_by j false class is plain = cc
 
-said_plain : (c : Contents) (x : Written) → NextSaid (job c) c.limit (shown_in c) c.written x [] → IsPlain (next_seen c)
+said_plain : (c : Contents) (x : Written) → NextSaid (job c) c.limits (shown_in c) c.written x [] → IsPlain (next_seen c)
 said_plain c x said =
     plain_by (job c) (nat_lt (length c.written) (places_of (job c))) (class_in c (next_number c))
     (lt-ltb (length c.written) (places_of (job c)) said.within)
-    (no_line (class_in c (next_number c)) (job c) c.limit c.written said.lines)
+    (no_line (class_in c (next_number c)) (job c) c.limits c.written said.lines)
 
 -- One more, by what holds of it.
-one_on : (start c : Contents) (x : Written) → GoesOn start c → NextHolds (job c) c.limit (shown_in c) c.written x []
+one_on : (start c : Contents) (x : Written) → GoesOn start c → NextHolds (job c) c.limits (shown_in c) c.written x []
     → GoesOn start (with_written c x)
 one_on start c x goes next =
     let is : plain_written c ≡ x = sym next.said.as_said in
@@ -57,7 +58,7 @@ abbrev pub with_places : Contents → List Written → Contents
 with_places c written = record c { written = written }
 
 goes_by : (c : Contents) (many done : ℕ) → done ≤ many
-    → IsRepeated (job c) c.limit (shown_in c) c.written c.lines many
+    → IsRepeated (job c) c.limits (shown_in c) c.written c.lines many
     → GoesOn c (with_places c (repeated (job c) c.written done))
 unfolding repeated
 goes_by c many zero up run = stays
@@ -70,7 +71,7 @@ goes_by c many (suc done) up run =
 pub run_goes : (c : Contents) (many : ℕ) → IsWave c → IsRun (job c) (shown_in c) c.written many
     → GoesOn c (with_places c (repeated (job c) c.written many))
 run_goes c many wave run = goes_by c many many (omega arith)
-    (run_law (job c) c.limit (shown_in c) c.written c.lines many wave.fits.fits_job wave.holds run)
+    (run_law (job c) c.limits (shown_in c) c.written c.lines many wave.fits.fits_job wave.holds run)
 
 pub run_wave : (c : Contents) (many : ℕ) → IsWave c → IsRun (job c) (shown_in c) c.written many
     → IsWave (with_places c (repeated (job c) c.written many))
@@ -79,18 +80,18 @@ run_wave c many wave run = record {
   few = wave.few;
   handed = wave.handed;
   limited = wave.limited;
-  holds = (run_law (job c) c.limit (shown_in c) c.written c.lines many wave.fits.fits_job wave.holds run).holds;
+  holds = (run_law (job c) c.limits (shown_in c) c.written c.lines many wave.fits.fits_job wave.holds run).holds;
 }
 
 -- So it is with parts that are the same.
-pub goes_pushed : (start : Contents) (written new : WaveformView) (old after : HistoryView) (limit now : ℕ)
-    (lines kept : List ALine) → new ≡ written → after ≡ old → now ≡ limit → kept ≡ lines
-    → GoesOn start (contents_of written old limit lines) → GoesOn start (contents_of new after now kept)
-goes_pushed start written new old after limit now lines kept new_is history_is limit_is lines_is goes =
+pub goes_pushed : (start : Contents) (written new : WaveformView) (old after : HistoryView) (limits now : Limits)
+    (lines kept : List ALine) → new ≡ written → after ≡ old → now ≡ limits → kept ≡ lines
+    → GoesOn start (contents_of written old limits lines) → GoesOn start (contents_of new after now kept)
+goes_pushed start written new old after limits now lines kept new_is history_is limits_are lines_is goes =
     subst (λ (w : WaveformView). GoesOn start (contents_of w after now kept)) (sym new_is)
     (subst (λ (h : HistoryView). GoesOn start (contents_of written h now kept)) (sym history_is)
-    (subst (λ (n : ℕ). GoesOn start (contents_of written old n kept)) (sym limit_is)
-    (subst (λ (ls : List ALine). GoesOn start (contents_of written old limit ls)) (sym lines_is) goes)))
+    (subst (λ (n : Limits). GoesOn start (contents_of written old n kept)) (sym limits_are)
+    (subst (λ (ls : List ALine). GoesOn start (contents_of written old limits ls)) (sym lines_is) goes)))
 
 -- Going on twice is going on.
 pub goes_goes : {start mid end : Contents} → GoesOn start mid → GoesOn mid end → GoesOn start end

@@ -38,10 +38,10 @@ line_class c is = line_by (job c) (nat_lt (length c.written) (places_of (job c))
 
 -- What a line says is what the next place gets.
 pub line_said : (c : Contents) (x : Written) (line : ALine) → IsWave c → IsLineNext c → LineHolds c line
-    → x ≡ written_by_line c line → NextSaid (job c) c.limit (shown_in c) c.written x (line ∷ [])
+    → x ≡ written_by_line c line → NextSaid (job c) c.limits (shown_in c) c.written x (line ∷ [])
 line_said c x line wave is holds x_is = record {
   within = holds.within;
-  lines = subst (NextLines (job c) c.limit c.written (line ∷ [])) (sym class)
+  lines = subst (NextLines (job c) c.limits c.written (line ∷ [])) (sym class)
       (record { line = line; one = refl; place = holds.place_is; holds = holds.holds });
   as_said = x_is ∙ sym (ap (λ cl. written_by (written_at c.written) cl
       (body_at (job c) (line ∷ []) (length c.written)) (shown_in c (length c.written))) class
@@ -57,7 +57,7 @@ line_said c x line wave is holds x_is = record {
 
 pub line_next : (c : Contents) (x : Written) (line : ALine) → IsWave c → IsLineNext c → LineHolds c line
     → x ≡ written_by_line c line → LineAgrees c line
-    → NextHolds (job c) c.limit (shown_in c) c.written x (line ∷ [])
+    → NextHolds (job c) c.limits (shown_in c) c.written x (line ∷ [])
 line_next c x line wave is holds x_is agrees = record {
   said = line_said c x line wave is holds x_is;
   honest = subst (λ (w : Written). IsOptimistic w.mark w.value (shown_in c (length c.written)) → ⊥) (sym x_is) agrees;
@@ -66,7 +66,7 @@ line_next c x line wave is holds x_is agrees = record {
 -- Also where it contradicts the history, the lines yield the waveform with it.
 pub line_yields : (c : Contents) (line : ALine) → IsWave c → IsLineNext c → LineHolds c line → LineYields c line
 line_yields c line wave is holds =
-    yields_grown (job c) c.limit wave.fits.fits_job (shown_in c) c.written c.lines (written_by_line c line) (line ∷ [])
+    yields_grown (job c) c.limits wave.fits.fits_job (shown_in c) c.written c.lines (written_by_line c line) (line ∷ [])
     wave.holds.yields (line_said c (written_by_line c line) line wave is holds refl)
 
 -- Tokens that become the same line are the same.

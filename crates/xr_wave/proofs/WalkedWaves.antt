@@ -8,46 +8,47 @@ use Rattle.xr_model.specs.Growth.{Holds}
 use Rattle.xr_model.proofs.WaveInvariant.{nothing_holds}
 use Rattle.xr_design.specs.History.{HistoryView}
 use Rattle.xr_model.specs.declared.line.Line.{Line as ALine}
-use Rattle.xr_wave.specs.Contents.{Contents, IsLimit, IsWave, IsWaveAt, contents_of, job, shown_in}
+use Rattle.xr_model.specs.declared.limits.Limits.{Limits}
+use Rattle.xr_wave.specs.Contents.{Contents, AreLimits, IsWave, IsWaveAt, contents_of, job, shown_in}
 use Rattle.xr_wave_due.specs.OfWaveBytes.{WaveformView}
 use Rattle.xr_wave_due.specs.Walk.{IsWalkOf}
 use Rattle.xr_wave_due.specs.declared.walk.Walk.{Walk}
 
 -- What was written makes a wave again.
-pub wave_pushed : (written new : WaveformView) (old after : Walk) (limit now : ℕ) (lines kept : List ALine)
-    → new ≡ written → after.replayed.history ≡ old.replayed.history → now ≡ limit → kept ≡ lines
-    → IsWave (contents_of written old.replayed.history limit lines) → IsWalkOf new after
+pub wave_pushed : (written new : WaveformView) (old after : Walk) (limits now : Limits) (lines kept : List ALine)
+    → new ≡ written → after.replayed.history ≡ old.replayed.history → now ≡ limits → kept ≡ lines
+    → IsWave (contents_of written old.replayed.history limits lines) → IsWalkOf new after
     → IsWaveAt (contents_of new after.replayed.history now kept) after
-wave_pushed written new old after limit now lines kept new_is history_is limit_is lines_is wave walk = record {
+wave_pushed written new old after limits now lines kept new_is history_is limits_are lines_is wave walk = record {
   wave = subst (λ (w : WaveformView). IsWave (contents_of w after.replayed.history now kept)) (sym new_is)
       (subst (λ (h : HistoryView). IsWave (contents_of written h now kept)) (sym history_is)
-      (subst (λ (n : ℕ). IsWave (contents_of written old.replayed.history n kept)) (sym limit_is)
-      (subst (λ (ls : List ALine). IsWave (contents_of written old.replayed.history limit ls)) (sym lines_is) wave)));
+      (subst (λ (n : Limits). IsWave (contents_of written old.replayed.history n kept)) (sym limits_are)
+      (subst (λ (ls : List ALine). IsWave (contents_of written old.replayed.history limits ls)) (sym lines_is) wave)));
   walk = walk;
 }
 
 -- A wave of which nothing is written.
 nothing_wave : (start : Contents) → PartsFit start.design start.order start.stim
-    → IsHandedIn (job start) start.history → IsLimit start.limit → start.written ≡ [] → start.lines ≡ [] → IsWave start
+    → IsHandedIn (job start) start.history → AreLimits start.limits → start.written ≡ [] → start.lines ≡ [] → IsWave start
 nothing_wave start fits handed limited nothing none = record {
   fits = fits;
   few = fits.fits_job.few_places;
   handed = handed;
   limited = limited;
-  holds = subst (λ (ws : List Written). Holds (job start) start.limit (shown_in start) ws start.lines) (sym nothing)
-      (subst (λ (ls : List ALine). Holds (job start) start.limit (shown_in start) [] ls) (sym none)
-      (nothing_holds (job start) start.limit (shown_in start)));
+  holds = subst (λ (ws : List Written). Holds (job start) start.limits (shown_in start) ws start.lines) (sym nothing)
+      (subst (λ (ls : List ALine). Holds (job start) start.limits (shown_in start) [] ls) (sym none)
+      (nothing_holds (job start) start.limits (shown_in start)));
 }
 
-pub wave_started : (waveform fresh : WaveformView) (walk : Walk) (history : HistoryView) (limit : ℕ)
+pub wave_started : (waveform fresh : WaveformView) (walk : Walk) (history : HistoryView) (limits : Limits)
     (lines : List ALine) → waveform ≡ fresh → fresh.written ≡ [] → walk.replayed.history ≡ history → lines ≡ []
     → PartsFit fresh.design fresh.order fresh.stim
-    → IsHandedIn (job_of fresh.design fresh.order fresh.stim) history → IsLimit limit → IsWalkOf fresh walk
-    → IsWaveAt (contents_of waveform walk.replayed.history limit lines) walk
-wave_started waveform fresh walk history limit lines waveform_is nothing history_is none fits handed limited known =
-    subst (λ (w : WaveformView). IsWaveAt (contents_of w walk.replayed.history limit lines) walk) (sym waveform_is)
+    → IsHandedIn (job_of fresh.design fresh.order fresh.stim) history → AreLimits limits → IsWalkOf fresh walk
+    → IsWaveAt (contents_of waveform walk.replayed.history limits lines) walk
+wave_started waveform fresh walk history limits lines waveform_is nothing history_is none fits handed limited known =
+    subst (λ (w : WaveformView). IsWaveAt (contents_of w walk.replayed.history limits lines) walk) (sym waveform_is)
     (record {
-      wave = subst (λ (h : HistoryView). IsWave (contents_of fresh h limit lines)) (sym history_is)
-          (nothing_wave (contents_of fresh history limit lines) fits handed limited nothing none);
+      wave = subst (λ (h : HistoryView). IsWave (contents_of fresh h limits lines)) (sym history_is)
+          (nothing_wave (contents_of fresh history limits lines) fits handed limited nothing none);
       walk = known;
     })

@@ -10,6 +10,7 @@ use Rattle.xr_model.specs.declared.class.ClassByNumber.{ClassByNumber}
 use Rattle.xr_model.specs.declared.class.ClassByNumber.TheVariants.{Local, Free, Carried, Line}
 use Rattle.xr_model.specs.declared.line.Line.{Line as ALine}
 use Rattle.xr_model.proofs.WaveInvariant.{grown}
+use Rattle.xr_model.specs.declared.limits.Limits.{Limits}
 use Rattle.xr_wave.specs.Advance.{Contradicts, IsPlain, plain_written}
 use Rattle.xr_wave_due.proofs.LawsOfQuiet.{sound_agrees}
 use Rattle.xr_wave_due.specs.OfWaveBytes.{ValuesAgree}
@@ -17,25 +18,25 @@ use Rattle.xr_wave.specs.Contents.{Contents, IsWave, class_in, class_or_done, jo
 
 -- It stays a wave, whichever way the next place is written.
 pub wave_grown : (c : Contents) (x : Written) (new : List ALine) → IsWave c
-    → NextHolds (job c) c.limit (shown_in c) c.written x new
+    → NextHolds (job c) c.limits (shown_in c) c.written x new
     → IsWave (record c { written = c.written ++ x ∷ []; lines = c.lines ++ new })
 wave_grown c x new is next = record {
   fits = is.fits;
   few = is.few;
   handed = is.handed;
   limited = is.limited;
-  holds = grown (job c) c.limit is.fits.fits_job (shown_in c) c.written c.lines x new is.holds next;
+  holds = grown (job c) c.limits is.fits.fits_job (shown_in c) c.written c.lines x new is.holds next;
 }
 
 -- So its certain values agree with its classes.
 pub wave_agrees : (c : Contents) (x : Written) (new : List ALine) → IsWave c
-    → NextHolds (job c) c.limit (shown_in c) c.written x new → ValuesAgree (job c) (c.written ++ x ∷ [])
-wave_agrees c x new is next = sound_agrees (job c) c.limit (shown_in c) (c.written ++ x ∷ []) (c.lines ++ new)
+    → NextHolds (job c) c.limits (shown_in c) c.written x new → ValuesAgree (job c) (c.written ++ x ∷ [])
+wave_agrees c x new is next = sound_agrees (job c) c.limits (shown_in c) (c.written ++ x ∷ []) (c.lines ++ new)
     (wave_grown c x new is next).holds.sound
 
 -- The same where the lists are those that a body makes.
 pub wave_next : (c : Contents) (x : Written) (new : List ALine) → IsWave c
-    → NextHolds (job c) c.limit (shown_in c) c.written x new → (written : List Written) (lines : List ALine)
+    → NextHolds (job c) c.limits (shown_in c) c.written x new → (written : List Written) (lines : List ALine)
     → written ≡ c.written ++ x ∷ [] → lines ≡ c.lines ++ new → IsWave (record c { written = written; lines = lines })
 wave_next c x new is next written lines written_is lines_is =
     subst (λ w. IsWave (record c { written = w; lines = lines })) (sym written_is)
@@ -59,20 +60,20 @@ pub plain_class : (c : Contents) → IsPlain (next_seen c) → class_in c (next_
 plain_class c plain =
     (plain_by (job c) (nat_lt (length c.written) (places_of (job c))) (class_in c (next_number c)) plain).1
 
-no_lines : (j : Job) (limit : ℕ) (waveform : List Written) (class : ClassByNumber) → (class ≡ Line → ⊥)
-    → NextLines j limit waveform [] class
-no_lines j limit waveform (Local bit) plain = refl
-no_lines j limit waveform Free plain = refl
-no_lines j limit waveform (Carried from inverted) plain = refl
-no_lines j limit waveform Line plain = absurd (plain refl)
+no_lines : (j : Job) (limits : Limits) (waveform : List Written) (class : ClassByNumber) → (class ≡ Line → ⊥)
+    → NextLines j limits waveform [] class
+no_lines j limits waveform (Local bit) plain = refl
+no_lines j limits waveform Free plain = refl
+no_lines j limits waveform (Carried from inverted) plain = refl
+no_lines j limits waveform Line plain = absurd (plain refl)
 
 -- A place whose class isn't Line is written without a line.
 pub plain_next : (c : Contents) → IsPlain (next_seen c) → (Contradicts c (plain_written c) → ⊥)
-    → NextHolds (job c) c.limit (shown_in c) c.written (plain_written c) []
+    → NextHolds (job c) c.limits (shown_in c) c.written (plain_written c) []
 plain_next c plain honest = record {
   said = record {
     within = plain_within c plain;
-    lines = no_lines (job c) c.limit c.written (class_in c (next_number c)) (plain_class c plain);
+    lines = no_lines (job c) c.limits c.written (class_in c (next_number c)) (plain_class c plain);
     as_said = refl;
   };
   honest = honest;

@@ -17,6 +17,7 @@ use Rattle.xr_model.specs.declared.class.ClassByNumber.{ClassByNumber}
 use Rattle.xr_model.specs.declared.class.ClassByNumber.TheVariants.{Local, Free, Carried, Line}
 use Rattle.xr_model.specs.declared.line.Line.{Line as ALine}
 use Rattle.xr_model.proofs.Roots.{carried_below, root_carried, root_own}
+use Rattle.xr_model.specs.declared.limits.Limits.{Limits}
 use Rattle.xr_wave.specs.Contents.{Contents, IsWave, IsWritten, class_in, job}
 use Rattle.xr_wave.specs.Pairs.{AreStated, GiveBoth, IsUnknown, root_in, stated_at_root, stated_in}
 
@@ -87,12 +88,12 @@ stated_from c number place inverted zero one place_is inverted_is is =
     ap (swapped inverted) is ∙ ap (λ (p : ℕ). swapped inverted (stated_at_root c p)) place_is
     ∙ ap (λ (b : Bool). swapped b (stated_at_root c (root_in c number).place)) inverted_is
 
-both_by : (j : Job) (limit : ℕ) (waveform : List Written) (lines : List ALine) (place : ℕ) (mark : Mark) (value : Value)
-    → mark ≡ Unknown → SoundBy j limit waveform lines place mark value
+both_by : (j : Job) (limits : Limits) (waveform : List Written) (lines : List ALine) (place : ℕ) (mark : Mark) (value : Value)
+    → mark ≡ Unknown → SoundBy j limits waveform lines place mark value
     → GivesBoth j waveform place (stated j (certain waveform) lines place)
-both_by j limit waveform lines place Certain value is sound = cc
-both_by j limit waveform lines place Unknown value is sound = sound
-both_by j limit waveform lines place Undecided value is sound = cc
+both_by j limits waveform lines place Certain value is sound = cc
+both_by j limits waveform lines place Unknown value is sound = sound
+both_by j limits waveform lines place Undecided value is sound = cc
 
 -- The fillings that are stated for an unknown place give both bits.
 pub stated_give_both : (c : Contents) (place : Place) (fillings : List Place × List Place) → IsWave c
@@ -100,5 +101,5 @@ pub stated_give_both : (c : Contents) (place : Place) (fillings : List Place × 
 stated_give_both c place fillings wave written unknown are =
     let number = number_of (job c) place in
     subst (GivesBoth (job c) c.written number) (sym are)
-    (both_by (job c) c.limit c.written c.lines number (written_at c.written number).mark
+    (both_by (job c) c.limits c.written c.lines number (written_at c.written number).mark
     (written_at c.written number).value unknown (wave.holds.sound.exact number written.written))

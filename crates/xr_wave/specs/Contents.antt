@@ -1,5 +1,6 @@
 -- What a wave holds, and what is always true of it.
 use Rattle.std.specs.Prelude.{◌≡◌, ℕ, ◌<◌, ◌≤◌, ◌^◌, Option, None, Some, List, [], length, nat_lt, if◌then◌else◌}
+use Rattle.std.specs.Coded.{le_prop}
 use Rattle.xr_cell.specs.declared.value.Value.{Value}
 use Rattle.xr_design.specs.declared.design.Design.{Design}
 use Rattle.xr_design.specs.declared.stim.Stim.{Stim}
@@ -22,29 +23,30 @@ use Rattle.xr_model.specs.declared.class.Class.TheVariants as seen
 use Rattle.xr_model.specs.declared.class.ClassByNumber.{ClassByNumber}
 use Rattle.xr_model.specs.declared.class.ClassByNumber.TheVariants.{Local, Free, Carried, Line}
 use Rattle.xr_model.specs.declared.line.Line.{Line as ALine}
+use Rattle.xr_model.specs.declared.limits.Limits.{Limits}
 use Rattle.xr_wave_due.specs.OfWaveBytes.{WaveformView, next_class}
 use Rattle.xr_wave_due.specs.Walk.{IsWalk}
 use Rattle.xr_wave_due.specs.declared.walk.Walk.{Walk}
 
--- The circuit, the history that was handed in, how long the log of a licence is, the waveform of the places that are
--- written, and the lines.
+-- The circuit, the history that was handed in, the limits of decisions, the waveform of the places that are written,
+-- and the lines.
 pub record Contents : Type 0 where
   pub design : Design
   pub order : List ℕ
   pub stim : Stim
   pub history : HistoryView
-  pub limit : ℕ
+  pub limits : Limits
   pub written : List Written
   pub lines : List ALine
 
 -- A waveform of a circuit with the other parts.
-abbrev pub contents_of : WaveformView → HistoryView → ℕ → List ALine → Contents
-contents_of waveform history limit lines = record {
+abbrev pub contents_of : WaveformView → HistoryView → Limits → List ALine → Contents
+contents_of waveform history limits lines = record {
   design = waveform.design;
   order = waveform.order;
   stim = waveform.stim;
   history = history;
-  limit = limit;
+  limits = limits;
   written = waveform.written;
   lines = lines;
 }
@@ -53,13 +55,13 @@ abbrev pub job : Contents → Job
 job c = job_of c.design c.order c.stim
 
 -- Nothing is written yet.
-abbrev pub nothing_written : Design → List ℕ → Stim → HistoryView → ℕ → Contents
-nothing_written design order stim history limit = record {
+abbrev pub nothing_written : Design → List ℕ → Stim → HistoryView → Limits → Contents
+nothing_written design order stim history limits = record {
   design = design;
   order = order;
   stim = stim;
   history = history;
-  limit = limit;
+  limits = limits;
   written = [];
   lines = [];
 }
@@ -68,19 +70,29 @@ nothing_written design order stim history limit = record {
 abbrev pub shown_in : Contents → ℕ → Value
 shown_in c = shown_of (job c) c.history
 
--- How many clauses the log of a licence may have: 1 to 100,000.
-pub record IsLimit (limit : ℕ) : Type 0 where
-  pub some : 0 < limit
-  pub few : limit ≤ 100000
+-- The log of a licence may have 1 to 100,000 clauses, and of 12 to 16 sources all fillings may be tried.
+pub record AreLimits (limits : Limits) : Type 0 where
+  pub some : 0 < limits.conflicts
+  pub few : limits.conflicts ≤ 100000
+  pub least : 12 ≤ limits.enumerated
+  pub most : limits.enumerated ≤ 16
 
--- It is of a circuit that fits and has at most 2^40 places, a history of its job and a limit; it is sound, and its
+pub AreLimits-prop : (limits : Limits) → IsProp (AreLimits limits)
+AreLimits-prop limits x y = λ i. record {
+  some = le_prop x.some y.some i;
+  few = le_prop x.few y.few i;
+  least = le_prop x.least y.least i;
+  most = le_prop x.most y.most i;
+}
+
+-- It is of a circuit that fits and has at most 2^40 places, a history of its job and limits; it is sound, and its
 -- lines yield it.
 pub record IsWave (c : Contents) : Type 0 where
   pub fits : PartsFit c.design c.order c.stim
   pub few : places_of (job c) ≤ 2 ^ 40
   pub handed : IsHandedIn (job c) c.history
-  pub limited : IsLimit c.limit
-  pub holds : Holds (job c) c.limit (shown_in c) c.written c.lines
+  pub limited : AreLimits c.limits
+  pub holds : Holds (job c) c.limits (shown_in c) c.written c.lines
 
 -- The same of a wave beside which a walk knows what is due ahead.
 pub record IsWaveAt (c : Contents) (beside : Walk) : Type 0 where

@@ -27,5 +27,5 @@ OneMarked = (c d : Contents) → AreOfOneJob c d → AreDecided c d
 
 -- Two waves with the same lines are the same, undecided places or not.
 abbrev pub OneByLines : Type 0
-OneByLines = (c d : Contents) → AreOfOneJob c d → c.history ≡ d.history → c.limit ≡ d.limit → c.lines ≡ d.lines
+OneByLines = (c d : Contents) → AreOfOneJob c d → c.history ≡ d.history → c.limits ≡ d.limits → c.lines ≡ d.lines
     → c.written ≡ d.written

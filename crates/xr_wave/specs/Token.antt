@@ -52,7 +52,7 @@ abbrev pub HasNext : Contents → Type 0
 HasNext c = length c.written < places_of (job c)
 
 abbrev pub HoldsNext : Contents → Body → Type 0
-HoldsNext c body = BodyHolds (job c) c.limit c.written (next_number c) body
+HoldsNext c body = BodyHolds (job c) c.limits c.written (next_number c) body
 
 -- The fact that a line is, over the present contents of a wave: it names the next place, and the body holds there.
 pub record LineHolds (c : Contents) (line : ALine) : Type 0 where
@@ -83,7 +83,7 @@ LineAgrees c line = LineContradicts c line → ⊥
 
 -- The lines and one more yield the waveform with what that line says.
 abbrev pub LineYields : Contents → ALine → Type 0
-LineYields c line = Yields (job c) c.limit (shown_in c) (with_line c line).written (with_line c line).lines
+LineYields c line = Yields (job c) c.limits (shown_in c) (with_line c line).written (with_line c line).lines
 
 -- The kinds of bodies that tokens become.
 abbrev pub IsSettling : Body → Type 0

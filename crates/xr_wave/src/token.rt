@@ -14,7 +14,7 @@ use xr_proof::Log;
 /// How it is known that every filling gives one bit.
 #[derive(Debug, Drop)]
 pub enum How {
-    /// Every filling of the sources, at most 12 of them, gives it.
+    /// Every filling of the sources, of which there are few, gives it.
     Enumerated(bool),
     /// The log refutes the query of the place, which denies it.
     Refuted(bool, Log),
@@ -159,7 +159,7 @@ impl Pair {
     }
 }
 
-/// The next place has more than 12 sources, and its log is fresh and as long as the limit.
+/// The next place has more sources than are enumerated, and its log is fresh and as long as the limits say.
 #[must_use]
 #[derive(Debug)]
 pub struct Budget {

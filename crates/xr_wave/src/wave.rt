@@ -12,7 +12,7 @@ ghost use Rattle.xr_model.specs.Growth.{NextHolds};
 ghost use Rattle.xr_model.specs.Sound.{Sound};
 ghost use Rattle.xr_model.specs.Yields.{Yields};
 ghost use Rattle.xr_wave.specs.Advance.{GoesOn, with_written};
-ghost use Rattle.xr_wave.specs.Contents.{FromWithin, IsLimit, IsReached, IsWave, IsWritten, arguments_in, class_in};
+ghost use Rattle.xr_wave.specs.Contents.{FromWithin, AreLimits, IsReached, IsWave, IsWritten, arguments_in, class_in};
 ghost use Rattle.xr_wave.specs.Contents.{job, next_number, next_place, next_seen, nothing_written, rule_in, shown_in};
 ghost use Rattle.xr_wave.specs.Contents.{written_of};
 ghost use Rattle.xr_wave_due.specs.OfWaveBytes.{ValuesAgree};
@@ -27,7 +27,7 @@ use std::marker::Model;
 use xr_base::Memory;
 use xr_cell::Value;
 use xr_design::{Circuit, Design, History, Mark, Order, Place, Stim, Written, count_places};
-use xr_model::{Class, ClassByNumber, Line};
+use xr_model::{Class, ClassByNumber, Limits, Line};
 use xr_wave_due::{Walk, Waveform};
 
 /// What is known of the places of a circuit so far, in place order, and the lines that say why.
@@ -43,7 +43,7 @@ struct Parts<'a> {
     waveform: Waveform<'a>,
     /// What is due ahead, and the history, read at the step of the next place.
     walk: Walk<'a>,
-    limit: u32,
+    limits: Limits,
     lines: Vec<Line>,
 }
 
@@ -52,15 +52,15 @@ impl<'a> Model for Wave<'a> {
 
     ghost Value = { Contents };
 
-    ghost view = { λ w. contents_of w.parts.value.waveform w.parts.value.walk.replayed.history w.parts.value.limit
+    ghost view = { λ w. contents_of w.parts.value.waveform w.parts.value.walk.replayed.history w.parts.value.limits
         w.parts.value.lines.items };
 
     ghost invariant = { λ w. IsWaveAt (contents_of w.parts.value.waveform w.parts.value.walk.replayed.history
-        w.parts.value.limit w.parts.value.lines.items) w.parts.value.walk };
+        w.parts.value.limits w.parts.value.lines.items) w.parts.value.walk };
 }
 
 impl<'a> Wave<'a> {
-    /// A wave of which nothing is written. `limit` is how many clauses the log of a licence has, 1 to 100,000. Takes
+    /// A wave of which nothing is written. `limits` say how its places are decided. Takes
     /// some 88 bytes for each net, 4 more for one on which the recording acts, 12 to 28 for each pin, and on the way 16
     /// more for each pin; what is written takes 16 to 32 for each place that has something else than its net's a step
     /// before.
@@ -70,12 +70,12 @@ impl<'a> Wave<'a> {
         order: &'a Order,
         stim: &'a Stim,
         replayed: &'a History,
-        limit: u32,
+        limits: Limits,
     ) -> Result<Wave<'a>, Memory>
         requires fits { PartsFit design.now order.now stim.now }
         requires handed { IsHandedIn (job_of design.now order.now stim.now) replayed.now }
-        requires limit { IsLimit limit }
-        ensures { IfOk result (λ w. w ≡ nothing_written design.now order.now stim.now replayed.now limit) }
+        requires limits { AreLimits limits }
+        ensures { IfOk result (λ w. w ≡ nothing_written design.now order.now stim.now replayed.now limits) }
     {
         let circuit = Circuit {
             design,
@@ -87,7 +87,7 @@ impl<'a> Wave<'a> {
         let parts = Parts {
             waveform,
             walk,
-            limit,
+            limits,
             lines: Vec::new(alloc),
         };
         Ok(Wave {
@@ -123,11 +123,11 @@ impl<'a> Wave<'a> {
         self.parts.walk.replayed.history()
     }
 
-    /// How many clauses the log of a licence has. Takes no memory.
-    pub fn limit(&self) -> u32
-        ensures { result ≡ self.now.limit }
+    /// The limits of decisions, as they were handed in.
+    pub fn limits(&self) -> Limits
+        ensures { result ≡ self.now.limits }
     {
-        self.parts.limit
+        self.parts.limits
     }
 
     /// The class of the next place. Takes no memory.
@@ -212,8 +212,8 @@ impl<'a> Wave<'a> {
     /// memory.
     pub fn lines(&self) -> &[Line]
         ensures lines { result.now ≡ self.now.lines }
-        ensures yields { Yields (job self.now) self.now.limit (shown_in self.now) self.now.written result.now }
-        ensures sound { Sound (job self.now) self.now.limit (shown_in self.now) self.now.written result.now }
+        ensures yields { Yields (job self.now) self.now.limits (shown_in self.now) self.now.written result.now }
+        ensures sound { Sound (job self.now) self.now.limits (shown_in self.now) self.now.written result.now }
     {
         self.parts.lines.as_slice()
     }
@@ -292,7 +292,7 @@ impl<'a> Wave<'a> {
         let Parts {
             waveform: _,
             walk: _,
-            limit: _,
+            limits: _,
             lines,
         } = Box::into_inner(parts);
         lines
@@ -300,7 +300,7 @@ impl<'a> Wave<'a> {
 
     /// Writes the next place without a line.
     pub(crate) fn write(mut self, written: Written) -> Result<Wave<'a>, Memory>
-        requires next { NextHolds (job self) self.limit (shown_in self) self.written written [] }
+        requires next { NextHolds (job self) self.limits (shown_in self) self.written written [] }
         ensures { IfOk result (λ w. w ≡ with_written self.entry written) }
     {
         self.parts.push(written)?;
@@ -356,7 +356,7 @@ impl<'a> Parts<'a> {
         ensures walk { OnOk result (IsWalkOf self.new.waveform self.new.walk) }
         ensures history { OnOk result (self.new.walk.replayed.history ≡ self.old.walk.replayed.history) }
         ensures err { OnErr result (self.new ≡ self.old) }
-        ensures limit { self.new.limit ≡ self.old.limit }
+        ensures limits { self.new.limits ≡ self.old.limits }
         ensures lines { self.new.lines ≡ self.old.lines }
     {
         self.walk.write(&mut self.waveform, written)
@@ -371,7 +371,7 @@ impl<'a> Parts<'a> {
         ensures walk { OnOk result (IsWalkOf self.new.waveform self.new.walk) }
         ensures history { OnOk result (self.new.walk.replayed.history ≡ self.old.walk.replayed.history) }
         ensures lines { OnOk result (self.new.lines.items ≡ self.old.lines.items ++ line ∷ []) }
-        ensures limit { self.new.limit ≡ self.old.limit }
+        ensures limits { self.new.limits ≡ self.old.limits }
 
         ensures unwritten { OnErr result (self.new.waveform ≡ self.old.waveform) }
         ensures still { OnErr result (self.new.walk ≡ self.old.walk) }
@@ -402,7 +402,7 @@ impl<'a> Parts<'a> {
         ensures waveform { self.new.waveform ≡ and_repeated self.old.waveform result }
         ensures walk { IsWalkOf self.new.waveform self.new.walk }
         ensures history { self.new.walk.replayed.history ≡ self.old.walk.replayed.history }
-        ensures limit { self.new.limit ≡ self.old.limit }
+        ensures limits { self.new.limits ≡ self.old.limits }
         ensures lines { self.new.lines ≡ self.old.lines }
     {
         self.walk.skip(&mut self.waveform)

@@ -48,15 +48,15 @@ none_due j fits shown waveform walk step position (suc many) within up room at_i
 -- They can be written again, and are gone over.
 pub held_run : (j : Job) → Fits j → (shown : ℕ → Value) (waveform : List Written) (many : ℕ)
     → (held : IsHeld j shown waveform) → IsRun j shown waveform many
-    → IsRepeated j held.limit shown waveform held.lines many
-held_run j fits shown waveform many held run = run_law j held.limit shown waveform held.lines many fits held.holds run
+    → IsRepeated j held.limits shown waveform held.lines many
+held_run j fits shown waveform many held run = run_law j held.limits shown waveform held.lines many fits held.holds run
 
 pub skipped : (j : Job) → Fits j → (shown : ℕ → Value) (waveform : List Written) (walk : Walk) (step position many : ℕ)
     → (held : IsHeld j shown waveform) → position + many ≤ j.width → spot_at j step j.width ≤ places_of j
     → IsWalkAt j shown waveform walk step position → IsRun j shown waveform many
     → IsWalkAt j shown (repeated j waveform many) walk step (position + many)
 skipped j fits shown waveform walk step position many held up room at_it run = record {
-  gone = skip_law j held.limit shown waveform held.lines step position many (is_due walk.waiting.due)
+  gone = skip_law j held.limits shown waveform held.lines step position many (is_due walk.waiting.due)
       (is_due walk.waiting.ahead) fits up room at_it.gone (held_run j fits shown waveform many held run);
   shows = λ p from low none. at_it.shows p (omega (arith, from)) low none;
 }
@@ -89,7 +89,7 @@ run_repeatable v fits shown many some held run =
     let long = repeated_long j v.written many in
     record {
       stretch = run_stretch j fits shown v.written many some run;
-      agrees = agrees_before j held.limit shown after held.lines again.holds.sound (length after) (omega arith);
+      agrees = agrees_before j held.limits shown after held.lines again.holds.sound (length after) (omega arith);
       steady = record {
         says = λ place from less. again.says place from (omega (arith, less, long));
         steady = λ place from less. again.steady place from (omega (arith, less, long));

@@ -10,6 +10,7 @@ use Rattle.xr_fans.specs.Readings.{AreFans}
 use Rattle.xr_model.specs.Class.{class_of}
 use Rattle.xr_model.specs.Growth.{Holds}
 use Rattle.xr_model.specs.declared.line.Line.{Line as ALine}
+use Rattle.xr_model.specs.declared.limits.Limits.{Limits}
 use Rattle.xr_wave_bytes.specs.OfQuiet.{tells_calm_of, driver_of, IsRun, IsGoneOver}
 use Rattle.xr_replay_due.specs.Due.{HasRoomFor, is_due}
 use Rattle.xr_replay_due.specs.Readers.{readers_of}
@@ -49,9 +50,9 @@ IsWalkOf v walk = IsWalk (view.job v) v.written walk
 -- What is always true of a waveform that lines justify, whatever they are, and its job fits.
 pub record IsHeld (j : Job) (shown : ℕ → Value) (waveform : List Written) : Type 0 where
   pub fits : Fits j
-  pub limit : ℕ
+  pub limits : Limits
   pub lines : List ALine
-  pub holds : Holds j limit shown waveform lines
+  pub holds : Holds j limits shown waveform lines
 
 abbrev pub IsHeldFor : WaveformView → Walk → Type 0
 IsHeldFor v walk = IsHeld (view.job v) (shown_by (view.job v) walk) v.written

@@ -1,7 +1,7 @@
 -- What the options of a job give is one.
 use Rattle.std.proofs.Common.{◌≡◌, ◌∙◌, ℕ, length, get_or, Option, Some, None, codes, refl, sym, ap, arith}
 use Rattle.xr_line.specs.Line.{IsNumber, Text}
-use Rattle.xr_words.specs.Words.{AreLevels, GivesJob, IsCount, IsForm, IsStart, IsUndriven, JobValues, form_number, levels_word, start_word, undriven_word}
+use Rattle.xr_words.specs.Words.{AreLevels, GivesJob, IsCount, IsForm, IsSourceCount, IsStart, IsUndriven, JobValues, form_number, levels_word, start_word, undriven_word}
 use Rattle.xr_words.specs.declared.words.Form.{Form}
 use Rattle.xr_words.specs.declared.words.Form.TheVariants.{Lines, Turns}
 use Rattle.xr_words.specs.declared.words.Levels.{Levels}
@@ -10,6 +10,10 @@ use Rattle.xr_words.specs.declared.words.Start.{Start}
 use Rattle.xr_words.specs.declared.words.Start.TheVariants.{Cold, Recorded}
 use Rattle.xr_words.specs.declared.words.Undriven.{Undriven}
 use Rattle.xr_words.specs.declared.words.Undriven.TheVariants as named
+
+pub one_source_count : (o : Option Text) (m n : ℕ) → IsSourceCount o m → IsSourceCount o n → m ≡ n
+one_source_count None m n first second = first ∙ sym second
+one_source_count (Some text) m n first second = first.0.value ∙ sym second.0.value
 
 pub one_count : (o : Option Text) (absent most m n : ℕ) → IsCount o absent most m → IsCount o absent most n → m ≡ n
 one_count None absent most m n first second = first ∙ sym second

@@ -16,5 +16,8 @@ job own = needs (codes "record") Reads ∷ needs (codes "scope") Scope ∷ needs
 abbrev pub conflicts : Plain
 conflicts = takes (codes "conflicts") (Number 1 100000)
 
+abbrev pub enumerate : Plain
+enumerate = takes (codes "enumerate") (Number 12 16)
+
 abbrev pub report : Plain
 report = takes (codes "report") (Either (codes "all") (codes "changes"))

@@ -18,6 +18,11 @@ abbrev pub IsCount : Option Text → ℕ → ℕ → ℕ → Type 0
 IsCount None absent most count = count ≡ absent
 IsCount (Some text) absent most count = IsNumber text count × (1 ≤ count) × (count ≤ most)
 
+-- The sources up to which all fillings are tried, 12 to 16, 12 where none are named.
+abbrev pub IsSourceCount : Option Text → ℕ → Type 0
+IsSourceCount None count = count ≡ 12
+IsSourceCount (Some text) count = IsNumber text count × (12 ≤ count) × (count ≤ 16)
+
 abbrev pub start_word : Start → Text
 start_word Cold = codes "cold"
 start_word Recorded = codes "recorded"

@@ -11,6 +11,8 @@ mod typed;
 mod words;
 
 pub use job::job_of;
-pub use options::{CONFLICTS, LEVELS, PLACES, RECORD, REPORT, ROUNDS, SCOPE, START, TOP, UNDRIVEN};
-pub use typed::{conflicts_of, form_of};
+pub use options::{
+    CONFLICTS, ENUMERATE, LEVELS, PLACES, RECORD, REPORT, ROUNDS, SCOPE, START, TOP, UNDRIVEN,
+};
+pub use typed::{conflicts_of, enumerated_of, form_of};
 pub use words::{Form, JobWords, Levels, Start, Undriven};

@@ -72,5 +72,8 @@ pub const UNDRIVEN: Opt<'static> = takes!("undriven", Kind::Either("released", "
 /// The clauses of a search, 1,000 where it is absent.
 pub const CONFLICTS: Opt<'static> = takes!("conflicts", Kind::Number(1, 100_000));
 
+/// The sources of a place at most of which all fillings are tried, 12 where it is absent.
+pub const ENUMERATE: Opt<'static> = takes!("enumerate", Kind::Number(12, 16));
+
 /// Which moments of a bit have a line in a report, `all` where it is absent.
 pub const REPORT: Opt<'static> = takes!("report", Kind::Either("all", "changes"));

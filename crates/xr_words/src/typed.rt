@@ -6,7 +6,7 @@ ghost use Rattle.xr_words.specs.declared.words.Form.{Form};
 ghost use Rattle.xr_words.specs.declared.words.Levels.{Levels};
 ghost use Rattle.xr_words.specs.declared.words.Start.{Start};
 ghost use Rattle.xr_words.specs.declared.words.Undriven.{Undriven};
-ghost use Rattle.xr_words.specs.Words.{AreLevels, IsCount, IsForm, IsStart, IsUndriven};
+ghost use Rattle.xr_words.specs.Words.{AreLevels, IsCount, IsForm, IsSourceCount, IsStart, IsUndriven};
 
 use crate::words::{Form, Levels, Start, Undriven};
 use xr_line::{Line, number_in};
@@ -15,6 +15,11 @@ use xr_line::{Line, number_in};
 const MOST_CONFLICTS: u32 = 100_000;
 
 const CONFLICTS: u32 = 1_000;
+
+/// The sources at most of which all fillings are tried: no more than so many, and how many where none are named.
+const MOST_SOURCES: u64 = 16;
+
+const SOURCES: u32 = 12;
 
 /// The most places that the words of a job may name, 2^40, and how many there are where none are given, 2^27.
 const MOST_PLACES: u64 = 1_099_511_627_776;
@@ -29,6 +34,30 @@ pub fn conflicts_of(line: &Line<'_>) -> Option<u32>
     ensures none { IfNone result ((count : ℕ) → IsCount (value_of line.now (codes "conflicts")) 1000 100000 count → ⊥) }
 {
     count_of(line.get("conflicts"), CONFLICTS, MOST_CONFLICTS)
+}
+
+/// The sources at most of which all fillings are tried, as a line names them.
+pub fn enumerated_of(line: &Line<'_>) -> Option<u32>
+    ensures count { IfSome result (IsSourceCount (value_of line.now (codes "enumerate"))) }
+    ensures least { IfSome result (λ count. 12 ≤ count) }
+    ensures most { IfSome result (λ count. count ≤ 16) }
+    ensures none { IfNone result ((count : ℕ) → IsSourceCount (value_of line.now (codes "enumerate")) count → ⊥) }
+{
+    match line.get("enumerate") {
+        Some(text) => sources_in(text),
+        None => Some(SOURCES),
+    }
+}
+
+fn sources_in(text: &str) -> Option<u32>
+    ensures count { IfSome result (IsSourceCount (Some text.now)) }
+    ensures none { IfNone result ((count : ℕ) → IsSourceCount (Some text.now) count → ⊥) }
+{
+    let number = number_in(text)?;
+    if number < u64::from(SOURCES) || MOST_SOURCES < number {
+        return None;
+    }
+    Some(number as u32)
 }
 
 /// The most places of a job that a line names.

@@ -1,26 +1,28 @@
 //! `audit`: reads a netlist and a recording of it, and prints the places that the replay knows otherwise.
 
 ghost use Rattle.std.specs.Prelude.{◌≤◌};
+ghost use Rattle.xr_wave.specs.Contents.{AreLimits, AreLimits-prop};
 
 use crate::audited::audited;
+use crate::limits::limits_of;
 use std::alloc::Global;
 use xr_line::{Line, Opt};
+use xr_model::Limits;
 use xr_phases::{AfterAgreed, Agreed, RECORDING_BYTES, Refused, prepare_agreed};
 use xr_run::{Ready, Refusal};
 use xr_set::{Form, Inputs, Run};
 use xr_shelf::{Shelf, Sink};
-use xr_words::{CONFLICTS, JobWords, conflicts_of, job_of, job_options};
+use xr_words::{CONFLICTS, ENUMERATE, JobWords, job_of, job_options};
 
-static OPTIONS: &[Opt<'static>] = job_options![CONFLICTS];
+static OPTIONS: &[Opt<'static>] = job_options![CONFLICTS, ENUMERATE];
 
 /// The words of `audit`.
 #[derive(Clone, Copy, Debug, Drop)]
 pub struct Audit<'a> {
     pub job: JobWords<'a>,
-    /// The clauses of a search, 1 to 100,000.
-    pub conflicts: u32,
-    ghost some_clauses: { 1 ≤ conflicts },
-    ghost few_clauses: { conflicts ≤ 100000 },
+    /// How places are decided.
+    pub limits: Limits,
+    ghost limits_fit: { AreLimits limits } by { AreLimits-prop limits },
 }
 
 impl<'a> AfterAgreed for Audit<'a> {
@@ -65,8 +67,8 @@ impl<'a> Run<'a> for Audit<'a> {
 
     fn of_line(line: &Line<'a>, files: &'a [String]) -> Option<Self> {
         let job = job_of(line, files)?;
-        let conflicts = conflicts_of(line)?;
-        Some(Audit { job, conflicts })
+        let limits = limits_of(line)?;
+        Some(Audit { job, limits })
     }
 
     fn inputs(&self) -> Inputs<'a> {

@@ -1,19 +1,27 @@
 //! `check`: reads a netlist, a recording of it and a certificate, and prints the report of what the certificate shows.
 
 ghost use Rattle.std.specs.Prelude.{◌≤◌};
+ghost use Rattle.xr_wave.specs.Contents.{AreLimits, AreLimits-prop};
 
 use crate::checked::check_agreed;
+use crate::limits::limits_of;
 use crate::lines::lines_of;
 use std::alloc::Global;
 use xr_line::{Kind, Line, Opt};
+use xr_model::Limits;
 use xr_phases::{AfterAgreed, Agreed, Refused, TEXT_BYTES, prepare_agreed};
 use xr_report::ReportLines;
 use xr_run::{Ready, Refusal};
 use xr_set::{Form, Inputs, Run};
 use xr_shelf::{Shelf, Sink};
-use xr_words::{CONFLICTS, JobWords, REPORT, conflicts_of, job_of, job_options, needs};
+use xr_words::{CONFLICTS, ENUMERATE, JobWords, REPORT, job_of, job_options, needs};
 
-static OPTIONS: &[Opt<'static>] = job_options![needs!("cert", Kind::Reads), CONFLICTS, REPORT];
+static OPTIONS: &[Opt<'static>] = job_options![
+    needs!("cert", Kind::Reads),
+    CONFLICTS,
+    ENUMERATE,
+    REPORT
+];
 
 /// The words of `check`.
 #[derive(Clone, Copy, Debug, Drop)]
@@ -21,12 +29,11 @@ pub struct Check<'a> {
     pub job: JobWords<'a>,
     /// The file of the certificate.
     pub cert: &'a str,
-    /// The clauses of a log that leaves a place undecided, 1 to 100,000.
-    pub conflicts: u32,
+    /// How places were decided.
+    pub limits: Limits,
     /// The lines of bits in the report.
     pub lines: ReportLines,
-    ghost some_clauses: { 1 ≤ conflicts },
-    ghost few_clauses: { conflicts ≤ 100000 },
+    ghost limits_fit: { AreLimits limits } by { AreLimits-prop limits },
 }
 
 impl<'a> AfterAgreed for Check<'a> {
@@ -73,7 +80,7 @@ impl<'a> Run<'a> for Check<'a> {
         Some(Check {
             job: job_of(line, files)?,
             cert: line.get("cert")?,
-            conflicts: conflicts_of(line)?,
+            limits: limits_of(line)?,
             lines: lines_of(line.get("report"))?,
         })
     }

@@ -4,17 +4,20 @@
 ghost use Rattle.std.specs.Prelude.{◌↔◌, ◌≤◌, ◌∷◌, IsTrue, map, string_bytes};
 ghost use Rattle.std.specs.List.{All};
 ghost use Rattle.xr_cli.specs.Free.{AreFree, BeginsWith, IsEnding, IsFree};
+ghost use Rattle.xr_wave.specs.Contents.{AreLimits, AreLimits-prop};
 
 use crate::exported::exported;
+use crate::limits::limits_of;
 use std::alloc::Global;
 use xr_line::{Kind, Line, Opt};
+use xr_model::Limits;
 use xr_phases::{AfterAgreed, Agreed, RECORDING_BYTES, Refused, prepare_agreed};
 use xr_run::{Ready, Refusal};
 use xr_set::{Form, Inputs, Run};
 use xr_shelf::{Shelf, Sink};
-use xr_words::{CONFLICTS, JobWords, conflicts_of, job_of, job_options, needs};
+use xr_words::{CONFLICTS, ENUMERATE, JobWords, job_of, job_options, needs};
 
-static OPTIONS: &[Opt<'static>] = job_options![needs!("to", Kind::Prefix), CONFLICTS];
+static OPTIONS: &[Opt<'static>] = job_options![needs!("to", Kind::Prefix), CONFLICTS, ENUMERATE];
 
 /// The words of `export`.
 #[derive(Clone, Copy, Debug, Drop)]
@@ -22,10 +25,9 @@ pub struct Export<'a> {
     pub job: JobWords<'a>,
     /// What the names of the files begin with.
     pub prefix: &'a str,
-    /// The clauses of a search, 1 to 100,000.
-    pub conflicts: u32,
-    ghost some_clauses: { 1 ≤ conflicts },
-    ghost few_clauses: { conflicts ≤ 100000 },
+    /// How places are decided.
+    pub limits: Limits,
+    ghost limits_fit: { AreLimits limits } by { AreLimits-prop limits },
 }
 
 impl<'a> AfterAgreed for Export<'a> {
@@ -71,14 +73,14 @@ impl<'a> Run<'a> for Export<'a> {
     fn of_line(line: &Line<'a>, files: &'a [String]) -> Option<Self> {
         let job = job_of(line, files)?;
         let prefix = line.get("to")?;
-        let conflicts = conflicts_of(line)?;
+        let limits = limits_of(line)?;
         if !are_free(prefix, &job) {
             return None;
         }
         Some(Export {
             job,
             prefix,
-            conflicts,
+            limits,
         })
     }
 

@@ -1,17 +1,20 @@
 //! `fix`: reads a netlist and a recording of it, and prints which bits become known where unknown starts are set.
 
 ghost use Rattle.std.specs.Prelude.{◌≤◌};
+ghost use Rattle.xr_wave.specs.Contents.{AreLimits, AreLimits-prop};
 
 use crate::fixed::fixed;
+use crate::limits::limits_of;
 use std::alloc::Global;
 use xr_line::{Kind, Line, Opt};
+use xr_model::Limits;
 use xr_phases::{AfterAgreed, Agreed, RECORDING_BYTES, Refused, prepare_agreed};
 use xr_run::{Ready, Refusal};
 use xr_set::{Form, Inputs, Run};
 use xr_shelf::{Shelf, Sink};
-use xr_words::{CONFLICTS, JobWords, conflicts_of, job_of, job_options, needs};
+use xr_words::{CONFLICTS, ENUMERATE, JobWords, job_of, job_options, needs};
 
-static OPTIONS: &[Opt<'static>] = job_options![needs!("set", Kind::Sets), CONFLICTS];
+static OPTIONS: &[Opt<'static>] = job_options![needs!("set", Kind::Sets), CONFLICTS, ENUMERATE];
 
 /// The words of `fix`.
 #[derive(Clone, Copy, Debug, Drop)]
@@ -19,10 +22,9 @@ pub struct Fix<'a> {
     pub job: JobWords<'a>,
     /// The starts to be set: pieces joined by commas, each a name, `=`, and `0` or `1`.
     pub sets: &'a str,
-    /// The clauses of a search, 1 to 100,000.
-    pub conflicts: u32,
-    ghost some_clauses: { 1 ≤ conflicts },
-    ghost few_clauses: { conflicts ≤ 100000 },
+    /// How places are decided.
+    pub limits: Limits,
+    ghost limits_fit: { AreLimits limits } by { AreLimits-prop limits },
 }
 
 impl<'a> AfterAgreed for Fix<'a> {
@@ -68,12 +70,8 @@ impl<'a> Run<'a> for Fix<'a> {
     fn of_line(line: &Line<'a>, files: &'a [String]) -> Option<Self> {
         let job = job_of(line, files)?;
         let sets = line.get("set")?;
-        let conflicts = conflicts_of(line)?;
-        Some(Fix {
-            job,
-            sets,
-            conflicts,
-        })
+        let limits = limits_of(line)?;
+        Some(Fix { job, sets, limits })
     }
 
     fn inputs(&self) -> Inputs<'a> {

@@ -3,19 +3,22 @@
 
 ghost use Rattle.std.specs.Prelude.{◌↔◌, ◌≢◌, ◌≤◌, [], ◌∷◌, IsTrue, map, string_bytes};
 ghost use Rattle.xr_line.specs.Apart.{AreApart};
+ghost use Rattle.xr_wave.specs.Contents.{AreLimits, AreLimits-prop};
 
+use crate::limits::limits_of;
 use crate::lines::lines_of;
 use crate::repaired::repaired;
 use std::alloc::Global;
 use xr_line::{Kind, Line, Opt, are_apart};
+use xr_model::Limits;
 use xr_phases::{AfterAgreed, Agreed, RECORDING_BYTES, Refused, prepare_agreed};
 use xr_report::ReportLines;
 use xr_run::{Ready, Refusal};
 use xr_set::{Form, Inputs, Run};
 use xr_shelf::{Shelf, Sink};
 use xr_words::{
-    CONFLICTS, Form as CertForm, JobWords, REPORT, conflicts_of, form_of, job_of, job_options,
-    needs, takes,
+    CONFLICTS, ENUMERATE, Form as CertForm, JobWords, REPORT, form_of, job_of, job_options, needs,
+    takes,
 };
 
 static OPTIONS: &[Opt<'static>] = job_options![
@@ -24,6 +27,7 @@ static OPTIONS: &[Opt<'static>] = job_options![
     needs!("cert", Kind::Writes),
     takes!("form", Kind::Number(1, 2)),
     CONFLICTS,
+    ENUMERATE,
     REPORT
 ];
 
@@ -39,12 +43,11 @@ pub struct Repair<'a> {
     pub cert: &'a str,
     /// The form of the certificate.
     pub form: CertForm,
-    /// The clauses of a search, 1 to 100,000.
-    pub conflicts: u32,
+    /// How places are decided.
+    pub limits: Limits,
     /// The lines of bits in the report.
     pub lines: ReportLines,
-    ghost some_clauses: { 1 ≤ conflicts },
-    ghost few_clauses: { conflicts ≤ 100000 },
+    ghost limits_fit: { AreLimits limits } by { AreLimits-prop limits },
     ghost code_apart: { code.now ≢ vcd.now },
     ghost cert_apart: { cert.now ≢ vcd.now },
     ghost cert_too: { cert.now ≢ code.now },
@@ -97,7 +100,7 @@ impl<'a> Run<'a> for Repair<'a> {
         let code = line.get("code")?;
         let cert = line.get("cert")?;
         let form = form_of(line.get("form"))?;
-        let conflicts = conflicts_of(line)?;
+        let limits = limits_of(line)?;
         let lines = lines_of(line.get("report"))?;
         if !is_apart(&job, vcd, code, cert) {
             return None;
@@ -108,7 +111,7 @@ impl<'a> Run<'a> for Repair<'a> {
             code,
             cert,
             form,
-            conflicts,
+            limits,
             lines,
         })
     }

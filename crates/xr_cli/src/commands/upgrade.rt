@@ -3,22 +3,26 @@
 
 ghost use Rattle.std.specs.Prelude.{◌↔◌, ◌≤◌, [], ◌∷◌, IsTrue, map, string_bytes};
 ghost use Rattle.xr_line.specs.Apart.{AreApart};
+ghost use Rattle.xr_wave.specs.Contents.{AreLimits, AreLimits-prop};
 
+use crate::limits::limits_of;
 use crate::lines::lines_of;
 use crate::upgraded::upgrade_agreed;
 use std::alloc::Global;
 use xr_line::{Kind, Line, Opt, are_apart};
+use xr_model::Limits;
 use xr_phases::{AfterAgreed, Agreed, Refused, TEXT_BYTES, prepare_agreed};
 use xr_report::ReportLines;
 use xr_run::{Ready, Refusal};
 use xr_set::{Form, Inputs, Run};
 use xr_shelf::{Shelf, Sink};
-use xr_words::{CONFLICTS, JobWords, REPORT, conflicts_of, job_of, job_options, needs};
+use xr_words::{CONFLICTS, ENUMERATE, JobWords, REPORT, job_of, job_options, needs};
 
 static OPTIONS: &[Opt<'static>] = job_options![
     needs!("cert", Kind::Reads),
     needs!("to", Kind::Writes),
     CONFLICTS,
+    ENUMERATE,
     REPORT
 ];
 
@@ -31,11 +35,10 @@ pub struct Upgrade<'a> {
     /// The file of the certificate that is written.
     pub to: &'a str,
     /// The clauses of a search, and of a log that leaves a place undecided, 1 to 100,000.
-    pub conflicts: u32,
+    pub limits: Limits,
     /// The lines of bits in the report.
     pub lines: ReportLines,
-    ghost some_clauses: { 1 ≤ conflicts },
-    ghost few_clauses: { conflicts ≤ 100000 },
+    ghost limits_fit: { AreLimits limits } by { AreLimits-prop limits },
 }
 
 impl<'a> AfterAgreed for Upgrade<'a> {
@@ -83,7 +86,7 @@ impl<'a> Run<'a> for Upgrade<'a> {
             job: job_of(line, files)?,
             cert: line.get("cert")?,
             to: line.get("to")?,
-            conflicts: conflicts_of(line)?,
+            limits: limits_of(line)?,
             lines: lines_of(line.get("report"))?,
         };
         if is_apart(words) { Some(words) } else { None }

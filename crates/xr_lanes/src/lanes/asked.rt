@@ -35,7 +35,7 @@ impl Lanes {
     }
 
     /// What is shown of the next place, which was looked at, by an earlier one that rests on the same by the same table,
-    /// without x, and was asked for too: its fillings, or its bit, where the sources are kept and at most 12, or else that
+    /// without x, and was asked for too: its fillings, or its bit, where the sources are kept and few, or else that
     /// place. Takes 8 bytes for each place that the fillings list, and some 32 bytes so that later places find this one,
     /// 64 megabytes at most.
     pub fn find_equal(&mut self, alloc: Global, wave: &Wave<'_>) -> Result<Shown, Memory>
@@ -88,7 +88,7 @@ impl Lanes {
     }
 
     /// What tables show of the next place, which was looked at, where its sources are kept and at most 16: a filling that
-    /// gives another bit than the empty one, or that every filling gives one bit, where they are at most 12.
+    /// gives another bit than the empty one, or that every filling gives one bit, where they are few.
     pub fn find_shared(&mut self, alloc: Global, wave: &Wave<'_>) -> Result<Shown, Memory>
         requires right { IsRightOf wave.now self.old }
         requires looked { IsLookedAt wave.now self.old }

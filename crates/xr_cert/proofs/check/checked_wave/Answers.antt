@@ -19,6 +19,6 @@ returns-in-Ok-clause-refused c =
     IfErr-weaker c.walk.result (IsFirstCertFault c.args.cert.form c.in-Ok.wave c.into_vec.result.items) _
     (λ e fault. line (c.has_numbers.ensures.0 c.if-not-has_numbers.false)
     (subst (λ es. IsFirstCertFault c.args.cert.form (nothing_written c.args.design.now c.args.order.now c.args.stim.now
-    c.args.replayed.now c.args.limit) es e) c.into_vec.ensures
+    c.args.replayed.now c.args.limits) es e) c.into_vec.ensures
     (subst (λ (a : Contents). IsFirstCertFault c.args.cert.form a c.into_vec.result.items e) c.in-Ok.ensures fault)))
     c.walk.ensures.stops

@@ -21,7 +21,7 @@ blank_wave-requires-clause-blank g c = c.in_ok-blank.ensures.blank c.args.job.no
 
 pub listed-requires : goal.listed-requires
 listed-requires g c =
-    is_audit c.args.words.now.conflicts c.args.job.now.netlist c.args.job.now.recorded c.in_ok-blank.blank
+    is_audit c.args.words.now.limits c.args.job.now.netlist c.args.job.now.recorded c.in_ok-blank.blank
     (c.in_ok-blank.ensures.blank c.args.job.now.netlist.order) c.in_ok-wave.wave c.args.history.now
     c.in_ok-wave.ensures.repaired c.requires.replay
 

@@ -12,5 +12,5 @@ wave_under-requires-clause-handed g c = inr c.requires.blank
 
 pub returns-clause-refused : goal.returns-clause-refused
 returns-clause-refused g c =
-    blank_refused c.args.conflicts c.args.job.now.netlist c.args.job.now.recorded c.args.blank.now c.requires.blank
+    blank_refused c.args.limits c.args.job.now.netlist c.args.job.now.recorded c.args.blank.now c.requires.blank
     c.wave_under.result c.wave_under.ensures.refused

@@ -11,7 +11,7 @@ use Rattle.xr_cli.proofs.blamed.blamed.Goals as goal
 
 pub returns-clause-prepared : goal.returns-clause-prepared
 returns-clause-prepared g c =
-    listed_found c.args.words.now.conflicts c.args.job.now.netlist c.args.job.now.recorded (BlameComes c.args.job.now.recorded.binding.bound)
+    listed_found c.args.words.now.limits c.args.job.now.netlist c.args.job.now.recorded (BlameComes c.args.job.now.recorded.binding.bound)
     record { history = c.args.history.now; wave = c.in_ok-wave.wave; shown = shown_history c.in_ok-wave.wave }
     c.in_ok-listed.field-0
     record {

@@ -20,7 +20,7 @@ returns c =
 pub report_of-requires-clause-wave : goal.report_of-requires-clause-wave
 report_of-requires-clause-wave c =
     let checked = c.in_ok-checked.checked in
-    certified_of_job c.args.words.now.conflicts c.args.job.now c.args.cert checked.wave checked.conditions c.in_ok-checked.ensures.certified
+    certified_of_job c.args.words.now.limits c.args.job.now c.args.cert checked.wave checked.conditions c.in_ok-checked.ensures.certified
 
 pub report_of-requires-clause-conditions : goal.report_of-requires-clause-conditions
 report_of-requires-clause-conditions c =

@@ -7,7 +7,7 @@ use Rattle.xr_cli.proofs.exported.exported.Goals as goal
 
 pub returns-clause-prepared : goal.returns-clause-prepared
 returns-clause-prepared g c =
-    listed_found c.args.words.now.conflicts c.args.job.now.netlist c.args.job.now.recorded (ExportComes c.args.words.now.prefix.now)
+    listed_found c.args.words.now.limits c.args.job.now.netlist c.args.job.now.recorded (ExportComes c.args.words.now.prefix.now)
     record { history = c.args.history.now; wave = c.in_ok-wave.wave; shown = shown_history c.in_ok-wave.wave }
     c.in_ok-export_texts.field-0
     record {

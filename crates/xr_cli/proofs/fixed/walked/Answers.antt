@@ -16,7 +16,7 @@ returns-clause-prepared g c =
     let w = fix_values set.words in
     let n = set.job.now.netlist in
     let r = set.job.now.recorded in
-    searched_then (ReplayWalkComes w.conflicts n r.stim) walk_cause (λ (x : Walked). walk_set w n r set.stim.now x.wave) itself answer_of
+    searched_then (ReplayWalkComes w.limits n r.stim) walk_cause (λ (x : Walked). walk_set w n r set.stim.now x.wave) itself answer_of
     record { history = set.history.now; wave = c.in_ok-before.before } c.walked_set.result
     record {
       found = record { fits = circuit_fits n r c.requires.set.fits; replay = c.requires.set.replay; repaired = c.in_ok-before.ensures.repaired };

@@ -23,13 +23,13 @@ replay_wave-requires-clause-fits g c =
 pub listed-requires-clause-waves : goal.listed-requires-clause-waves
 listed-requires-clause-waves g c =
     let set = c.args.set.now in
-    are_beside set.words.conflicts set.job.now.netlist set.job.now.recorded.stim set.stim.now set.history.now c.in_ok-history.history c.args.before.now c.in_ok-after.after
+    are_beside set.words.limits set.job.now.netlist set.job.now.recorded.stim set.stim.now set.history.now c.in_ok-history.history c.args.before.now c.in_ok-after.after
     c.requires.set.others c.requires.before c.in_ok-after.ensures.repaired
 
 pub listed-requires-clause-binding : goal.listed-requires-clause-binding
 listed-requires-clause-binding g c =
     let set = c.args.set.now in
-    bound_there set.words.conflicts set.job.now.netlist set.job.now.recorded set.history.now c.args.before.now c.requires.set.fits c.requires.before
+    bound_there set.words.limits set.job.now.netlist set.job.now.recorded set.history.now c.args.before.now c.requires.set.fits c.requires.before
 
 pub returns-clause-prepared : goal.returns-clause-prepared
 returns-clause-prepared g c =
@@ -37,7 +37,7 @@ returns-clause-prepared g c =
     let w = fix_values set.words in
     let n = set.job.now.netlist in
     let r = set.job.now.recorded in
-    searched_then (ReplayWalkComes w.conflicts n set.stim.now) walk_cause (λ (x : Walked). Phases.Finds (fix_answer w r c.args.before.now x.wave)) itself answer_of
+    searched_then (ReplayWalkComes w.limits n set.stim.now) walk_cause (λ (x : Walked). Phases.Finds (fix_answer w r c.args.before.now x.wave)) itself answer_of
     record { history = c.in_ok-history.history; wave = c.in_ok-after.after } (Ok c.in_ok-listed.field-0)
     record {
       found = record {

@@ -13,7 +13,7 @@ use Rattle.xr_cli.proofs.upgraded.with_turns.Goals as goal
 pub texts_of-requires-clause-wave : goal.texts_of-requires-clause-wave
 texts_of-requires-clause-wave c =
     let checked = c.in_ok-checked.checked in
-    certified_of_job c.args.words.now.conflicts c.args.job.now c.args.cert checked.wave checked.conditions c.in_ok-checked.ensures.certified
+    certified_of_job c.args.words.now.limits c.args.job.now c.args.cert checked.wave checked.conditions c.in_ok-checked.ensures.certified
 
 pub texts_of-requires-clause-conditions : goal.texts_of-requires-clause-conditions
 texts_of-requires-clause-conditions c =

@@ -5,6 +5,6 @@ use Rattle.xr_enum.proofs.blocks.fill_block.Given as goal
 
 abbrev pub invariant-sources : goal.invariant-sources
 invariant-sources l = record {
-  long : length l.given ≡ 12;
+  long : length l.given ≡ 16;
   lane_table : IsLaneTableOf l.block l.given l.source;
 }

@@ -1,5 +1,5 @@
 -- 256 fillings a block are enough.
-use Rattle.xr_enum.proofs.BlockLanes.{few_blocks, more_blocks, one_block, some_blocks}
+use Rattle.xr_enum.proofs.BlockLanes.{more_blocks, one_block, some_blocks}
 use Rattle.xr_enum.proofs.blocks.number_blocks.Goals as goal
 
 pub returns-then-sources-lt8-clause-enough : goal.returns-then-sources-lt8-clause-enough
@@ -13,6 +13,3 @@ returns-else-sources-lt8-clause-some c = some_blocks c.args.sources c.if-sources
 
 pub returns-else-sources-lt8-clause-few : goal.returns-else-sources-lt8-clause-few
 returns-else-sources-lt8-clause-few c = (more_blocks c.args.sources c.if-sources-lt8.false c.requires).1
-
-pub returns-else-sources-lt8-clause-fewer : goal.returns-else-sources-lt8-clause-fewer
-returns-else-sources-lt8-clause-fewer c few = few_blocks c.args.sources c.if-sources-lt8.false few

@@ -4,4 +4,4 @@ use Rattle.xr_phases.proofs.walked.replay_wave.Goals as goal
 
 pub returns-clause-refused : goal.returns-clause-refused
 returns-clause-refused g c =
-    replay_refused c.args.conflicts c.args.netlist.now c.args.stim.now c.args.history.now c.requires.replay c.wave_under.result c.wave_under.ensures.refused
+    replay_refused c.args.limits c.args.netlist.now c.args.stim.now c.args.history.now c.requires.replay c.wave_under.result c.wave_under.ensures.refused

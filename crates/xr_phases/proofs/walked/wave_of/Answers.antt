@@ -8,4 +8,4 @@ wave_under-requires-clause-fits g c = circuit_fits c.args.netlist.now c.args.rec
 
 pub returns-clause-refused : goal.returns-clause-refused
 returns-clause-refused g c =
-    walk_refused c.args.conflicts c.args.netlist.now c.args.recorded.now c.args.history.now c.requires.replay c.wave_under.result c.wave_under.ensures.refused
+    walk_refused c.args.limits c.args.netlist.now c.args.recorded.now c.args.history.now c.requires.replay c.wave_under.result c.wave_under.ensures.refused

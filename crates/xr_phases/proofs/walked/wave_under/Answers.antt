@@ -19,7 +19,7 @@ pub objection_of-requires-clause-place : goal.objection_of-requires-clause-place
 objection_of-requires-clause-place g c =
     let objected = rw c.in-Err-Optimistic.field-0-is at c.in-Err-Optimistic.ensures.refused in
     let refused = rw c.in_ok-walk.ensures at objected in
-    found_there c.args.conflicts c.args.netlist.now c.args.stim.now c.args.history.now c.in-Err-Optimistic.found c.requires.fits.fits_job refused
+    found_there c.args.limits c.args.netlist.now c.args.stim.now c.args.history.now c.in-Err-Optimistic.found c.requires.fits.fits_job refused
 
 pub returns-in_ok-objection_of-in-Err-Optimistic-clause-refused :
     goal.returns-in_ok-objection_of-in-Err-Optimistic-clause-refused

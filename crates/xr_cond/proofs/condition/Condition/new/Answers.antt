@@ -1,5 +1,5 @@
 -- All certain boundary places, and the query without the first.
-use Rattle.std.proofs.Common.{◌∙◌, subst, sym}
+use Rattle.std.proofs.Common.{◌∙◌, ap, subst, sym}
 use Rattle.std.proofs.lemmas.Result.{IfOk-weaker}
 use Rattle.xr_cone.specs.Boundary.{IsCertainBoundary}
 use Rattle.xr_cond.specs.First.{IsConditionOfCone}
@@ -16,12 +16,12 @@ next_of-requires-clause-listed c = subst (IsCertainBoundary c.args.wave.now c.ar
 
 pub returns-clause-condition : goal.returns-clause-condition
 returns-clause-condition c = IfOk-weaker c.begin.result
-    (IsBegun c.last_place.result c.in_ok-listed.listed.items c.in_ok-next.next c.limit.result)
+    (IsBegun c.last_place.result c.in_ok-listed.listed.items c.in_ok-next.next c.limits.result.conflicts)
     (IsConditionOfCone c.args.wave.now c.args.cone.nodes)
     (λ condition begun root of. begun c.args.wave.now root (record {
       wave = of.whole.wave;
       has = of.has;
-      limit_is = c.limit.ensures;
+      limit_is = ap (λ l. l.conflicts) c.limits.ensures;
       place_is = c.last_place.ensures ∙ root_last c.args.wave.now root c.args.cone.nodes of.whole;
       listed_are = c.in_ok-listed.ensures root of.whole;
       about = c.in_ok-next.ensures.first root of;

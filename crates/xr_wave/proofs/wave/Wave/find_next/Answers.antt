@@ -7,7 +7,7 @@ use Rattle.xr_wave.proofs.wave.Wave.find_next.Goals as goal
 pub invariant_of-self : goal.invariant_of-self
 invariant_of-self c =
     subst (λ (w : WaveformView). IsWaveAt (contents_of w c.deref_mut.result.now.walk.replayed.history
-    c.deref_mut.result.now.limit c.deref_mut.result.now.lines.items) c.deref_mut.result.now.walk)
+    c.deref_mut.result.now.limits c.deref_mut.result.now.lines.items) c.deref_mut.result.now.walk)
     (sym c.find_next.ensures)
-    (subst (λ p. IsWaveAt (contents_of p.waveform p.walk.replayed.history p.limit p.lines.items) p.walk)
+    (subst (λ p. IsWaveAt (contents_of p.waveform p.walk.replayed.history p.limits p.lines.items) p.walk)
     (sym c.deref_mut.ensures.value) c.self.invariant)

@@ -14,9 +14,9 @@ invariant_of-result c =
       written = [];
     } in
     let none : c.new-3.result.items ≡ [] = search rules in
-    subst (λ p. IsWaveAt (contents_of p.waveform p.walk.replayed.history p.limit p.lines.items) p.walk)
+    subst (λ p. IsWaveAt (contents_of p.waveform p.walk.replayed.history p.limits p.lines.items) p.walk)
     (sym c.in_ok-new.ensures.ok)
-    (wave_started c.in_ok-waveform.waveform fresh c.in_ok-walk.walk c.args.replayed.now c.args.limit
+    (wave_started c.in_ok-waveform.waveform fresh c.in_ok-walk.walk c.args.replayed.now c.args.limits
     c.new-3.result.items
     c.in_ok-waveform.ensures refl c.in_ok-walk.ensures.history none c.requires.fits c.requires.handed
-    c.requires.limit c.in_ok-walk.ensures.walk)
+    c.requires.limits c.in_ok-walk.ensures.walk)

@@ -26,7 +26,7 @@ pub skip-many-requires-clause-held : goal.skip-many-requires-clause-held
 skip-many-requires-clause-held c =
     subst (λ parts. IsHeldFor parts.waveform parts.walk) (sym c.deref_mut.ensures.value) (record {
       fits = c.self.invariant.wave.fits.fits_job;
-      limit = c.self.inside.parts.value.limit;
+      limits = c.self.inside.parts.value.limits;
       lines = c.self.inside.parts.value.lines.items;
       holds = c.self.invariant.wave.holds;
     })
@@ -36,15 +36,15 @@ invariant_of-self c =
     let own = c.self.inside.parts.value in
     let many = c.skip-many.result in
     let run = subst (λ p. IsRunOf p.waveform p.walk many) c.deref_mut.ensures.value c.skip-many.ensures.run in
-    let written = run_wave (contents_of own.waveform own.walk.replayed.history own.limit own.lines.items) many
+    let written = run_wave (contents_of own.waveform own.walk.replayed.history own.limits own.lines.items) many
     c.self.invariant.wave run in
     let parts = c.deref_mut.result.now in
     let new = c.skip-many.new.self in
     let skipped = c.skip-many.ensures in
-    wave_pushed (and_repeated parts.waveform many) new.waveform parts.walk new.walk parts.limit new.limit
+    wave_pushed (and_repeated parts.waveform many) new.waveform parts.walk new.walk parts.limits new.limits
     parts.lines.items
-    new.lines.items skipped.waveform skipped.history skipped.limit (ap (λ lines. lines.items) skipped.lines)
-    (subst (λ p. IsWave (contents_of (and_repeated p.waveform many) p.walk.replayed.history p.limit p.lines.items))
+    new.lines.items skipped.waveform skipped.history skipped.limits (ap (λ lines. lines.items) skipped.lines)
+    (subst (λ p. IsWave (contents_of (and_repeated p.waveform many) p.walk.replayed.history p.limits p.lines.items))
     (sym c.deref_mut.ensures.value) written) skipped.walk
 
 pub returns-clause-goes : goal.returns-clause-goes
@@ -52,19 +52,19 @@ returns-clause-goes c =
     let own = c.self.inside.parts.value in
     let many = c.skip-many.result in
     let run = subst (λ p. IsRunOf p.waveform p.walk many) c.deref_mut.ensures.value c.skip-many.ensures.run in
-    let goes = run_goes (contents_of own.waveform own.walk.replayed.history own.limit own.lines.items) many
+    let goes = run_goes (contents_of own.waveform own.walk.replayed.history own.limits own.lines.items) many
     c.self.invariant.wave run in
     let parts = c.deref_mut.result.now in
     let new = c.skip-many.new.self in
     let skipped = c.skip-many.ensures in
     subst (λ (v : Contents).
-    GoesOn v (contents_of new.waveform new.walk.replayed.history new.limit new.lines.items)) c.self.view_is
-    (goes_pushed (contents_of own.waveform own.walk.replayed.history own.limit own.lines.items)
-    (and_repeated parts.waveform many) new.waveform parts.walk.replayed.history new.walk.replayed.history parts.limit
-    new.limit parts.lines.items new.lines.items skipped.waveform skipped.history skipped.limit
+    GoesOn v (contents_of new.waveform new.walk.replayed.history new.limits new.lines.items)) c.self.view_is
+    (goes_pushed (contents_of own.waveform own.walk.replayed.history own.limits own.lines.items)
+    (and_repeated parts.waveform many) new.waveform parts.walk.replayed.history new.walk.replayed.history parts.limits
+    new.limits parts.lines.items new.lines.items skipped.waveform skipped.history skipped.limits
     (ap (λ lines. lines.items) skipped.lines)
-    (subst (λ p. GoesOn (contents_of own.waveform own.walk.replayed.history own.limit own.lines.items)
-    (contents_of (and_repeated p.waveform many) p.walk.replayed.history p.limit p.lines.items))
+    (subst (λ p. GoesOn (contents_of own.waveform own.walk.replayed.history own.limits own.lines.items)
+    (contents_of (and_repeated p.waveform many) p.walk.replayed.history p.limits p.lines.items))
     (sym c.deref_mut.ensures.value) goes))
 
 pub returns-clause-more : goal.returns-clause-more

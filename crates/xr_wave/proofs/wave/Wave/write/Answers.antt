@@ -35,13 +35,13 @@ invariant_of-self c =
     (sym c.self.view_is)
     (wave_grown c.args.self x [] (subst IsWave c.self.view_is c.self.invariant.wave) c.requires.next) in
     let written = subst (λ (lines : List ALine).
-    IsWave (contents_of (and_one own.waveform x) own.walk.replayed.history own.limit lines))
+    IsWave (contents_of (and_one own.waveform x) own.walk.replayed.history own.limits lines))
     (append-nil own.lines.items)
     grown in
     let parts = c.deref_mut.result.now in
     let new = c.push.new.self in
     let pushed = c.in_ok-push.ensures in
-    wave_pushed (and_one parts.waveform x) new.waveform parts.walk new.walk parts.limit new.limit parts.lines.items
-    new.lines.items pushed.waveform pushed.history pushed.limit (ap (λ lines. lines.items) pushed.lines)
-    (subst (λ p. IsWave (contents_of (and_one p.waveform x) p.walk.replayed.history p.limit p.lines.items))
+    wave_pushed (and_one parts.waveform x) new.waveform parts.walk new.walk parts.limits new.limits parts.lines.items
+    new.lines.items pushed.waveform pushed.history pushed.limits (ap (λ lines. lines.items) pushed.lines)
+    (subst (λ p. IsWave (contents_of (and_one p.waveform x) p.walk.replayed.history p.limits p.lines.items))
     (sym c.deref_mut.ensures.value) written) pushed.walk

@@ -41,7 +41,7 @@ invariant_of-self c =
     let parts = c.deref_mut.result.now in
     let new = c.push_line.new.self in
     let pushed = c.in-Ok.ensures in
-    wave_pushed (and_one parts.waveform x) new.waveform parts.walk new.walk parts.limit new.limit
-    (parts.lines.items ++ line ∷ []) new.lines.items pushed.waveform pushed.history pushed.limit pushed.lines
-    (subst (λ p. IsWave (contents_of (and_one p.waveform x) p.walk.replayed.history p.limit (p.lines.items ++ line ∷ [])))
+    wave_pushed (and_one parts.waveform x) new.waveform parts.walk new.walk parts.limits new.limits
+    (parts.lines.items ++ line ∷ []) new.lines.items pushed.waveform pushed.history pushed.limits pushed.lines
+    (subst (λ p. IsWave (contents_of (and_one p.waveform x) p.walk.replayed.history p.limits (p.lines.items ++ line ∷ [])))
     (sym c.deref_mut.ensures.value) grown) pushed.walk
