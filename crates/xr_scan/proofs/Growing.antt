@@ -1,9 +1,8 @@
--- Numbers that grow digit by digit.
+-- A number only grows by more digits.
 use Rattle.std.proofs.Common.{◌≡◌, ℕ, ◌+◌, ◌-◌, ◌*◌, ◌<◌, ◌≤◌, List, [], ◌∷◌, length, slice_index, None, arith}
 use Rattle.std.proofs.lemmas.Bool.Decides.{nat_tests}
-use Rattle.xr_cert_read.specs.Numbers.{at_most, number_from}
+use Rattle.xr_scan.specs.Numbers.{at_most, number_from}
 
--- A number only grows by more digits.
 number_from-le : (n : ℕ) (ds : List ℕ) → n ≤ number_from n ds
 number_from-le n [] = omega arith
 number_from-le n (d ∷ ds) = omega (arith, number_from-le (n * 10 + (d - 48)) ds)
