@@ -9,6 +9,10 @@ is_white b = (b == 32) || (b == 9) || (b == 10) || (b == 13) || (b == 12)
 abbrev pub is_digit : ℕ → Bool
 is_digit b = nat_le 48 b && nat_le b 57
 
+-- digits alone
+abbrev pub all_digits : List ℕ → Bool
+all_digits word = list_all is_digit word
+
 -- one or more digits
 abbrev pub are_digits : List ℕ → Bool
-are_digits word = nat_lt 0 (length word) && list_all is_digit word
+are_digits word = nat_lt 0 (length word) && all_digits word

@@ -1,7 +1,6 @@
 //! Kinds of bytes.
 
 ghost use Rattle.std.specs.Prelude.{◌≡◌, bytes_eq};
-ghost use Rattle.std.specs.List.{list_all};
 ghost use Rattle.xr_scan.specs.Bytes as spec;
 
 /// Space, tab, newline, carriage return or form feed.
@@ -24,8 +23,8 @@ pub fn are_digits(word: &[u8]) -> bool
     0 < word.len() && all_digits(word)
 }
 
-fn all_digits(word: &[u8]) -> bool
-    ensures { result ≡ list_all spec.is_digit word.now }
+pub fn all_digits(word: &[u8]) -> bool
+    ensures { result ≡ spec.all_digits word.now }
 {
     word.iter().all(|byte| is_digit(*byte))
 }

@@ -9,6 +9,6 @@ mod bytes;
 mod gap;
 mod numbers;
 
-pub use bytes::{are_digits, is_digit, is_white, is_word};
+pub use bytes::{all_digits, are_digits, is_digit, is_white, is_word};
 pub use gap::{Gap, first_length, split_at};
 pub use numbers::{number_within, value_within};

@@ -1,8 +1,10 @@
 -- The words of a declaration, where a text that says a recording is read from it.
-use Rattle.std.proofs.Common.{◌≡◌, ℕ, ◌+◌, ◌-◌, ◌<◌, Bool, true, false, cond, List, [], ◌∷◌, ◌++◌, length, Option, Some, None, Ok, Err, refl, sym, ap, ◌∙◌, subst, arith}
+use Rattle.std.proofs.Common.{◌≡◌, ℕ, ◌<◌, Bool, true, false, cond, List, [], ◌∷◌, ◌++◌, length, Option, Some, None, Ok, Err, refl, sym, ap, ◌∙◌, subst, arith}
 use Rattle.std.proofs.lemmas.Slice.Eq.{bytes_eq-Decides}
 use Rattle.std.specs.Prelude.{◌==◌, bytes_eq, codes, is_some}
-use Rattle.xr_vcd.specs.Bytes.{are_digits, is_code, is_end, is_power, is_scale, is_skipped, is_unit, number_from, range_of}
+use Rattle.xr_vcd.specs.Bytes.{is_code, is_end, is_power, is_scale, is_skipped, is_unit, range_of}
+use Rattle.xr_scan.specs.Numbers.{number_from}
+use Rattle.xr_scan.specs.Bytes.{are_digits}
 use Rattle.xr_vcd.specs.Declarations.{Declarations, RecordedName, name, name_of, with_scale, with_scope, with_variable}
 use Rattle.xr_vcd.specs.Machine.{State, Next, code_on, finish, is_width, range_on, run, step, then_run}
 use Rattle.xr_vcd.specs.Machine.State.{declaring, note, scale, scale_unit, scale_end, scope_kind, scope_name, scope_end, var_kind, var_width, var_code, var_reference, var_range, var_end}

@@ -24,7 +24,7 @@ use Rattle.xr_vcd.specs.declared.refusal.VcdErr.{VcdErr}
 use Rattle.xr_vcd.specs.declared.refusal.VcdErr.TheVariants.{Syntax}
 use Rattle.xr_vcd.specs.declared.variable.Variable.{Variable}
 use Rattle.xr_vcd.proofs.Changing.{shows_body_of}
-use Rattle.xr_vcd.proofs.DeclarationWords.{Aside, Ended, Named, Scoped, Taken, Varied, ended_by, goes_from, noted, passed, same_state, scaled, scoped, taken, varied, with_codes}
+use Rattle.xr_vcd.proofs.DeclarationWords.{Aside, Varied, ended_by, goes_from, noted, passed, same_state, scaled, scoped, taken, varied, with_codes}
 
 -- The scopes that are entered and not left have these names.
 

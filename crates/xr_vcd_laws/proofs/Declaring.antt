@@ -2,7 +2,9 @@
 use Rattle.std.proofs.Common.{◌≡◌, ℕ, zero, suc, ◌<◌, ◌≤◌, ◌==◌, Bool, true, false, cond, List, [], ◌∷◌, ◌++◌, length, Option, Some, None, Ok, Err, refl, sym, ap, ◌∙◌, subst, arith, append_assoc}
 use Rattle.std.proofs.lemmas.List.{append-nil}
 use Rattle.std.specs.Prelude.{is_some, nat_lt}
-use Rattle.xr_vcd.specs.Bytes.{are_digits, is_code, is_end, is_skipped, number_from, range_of}
+use Rattle.xr_vcd.specs.Bytes.{is_code, is_end, is_skipped, range_of}
+use Rattle.xr_scan.specs.Numbers.{number_from}
+use Rattle.xr_scan.specs.Bytes.{are_digits}
 use Rattle.xr_vcd.specs.Changes.{start}
 use Rattle.xr_vcd.specs.Declarations.{Declarations, RecordedName, left_scope, name, name_of, nothing, with_scope, with_variable}
 use Rattle.xr_vcd.specs.Faults.{Says}
