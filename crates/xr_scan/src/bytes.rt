@@ -10,6 +10,7 @@ pub fn is_white(byte: u8) -> bool
     byte == b' ' || byte == b'\t' || byte == b'\n' || byte == b'\r' || byte == 12
 }
 
+/// One of `0` to `9`.
 pub fn is_digit(byte: u8) -> bool
     ensures { result ≡ spec.is_digit byte }
 {
@@ -17,12 +18,14 @@ pub fn is_digit(byte: u8) -> bool
 }
 
 // digits = "0".."9" { "0".."9" }
+/// Whether a word is one or more digits.
 pub fn are_digits(word: &[u8]) -> bool
     ensures { result ≡ spec.are_digits word.now }
 {
     0 < word.len() && all_digits(word)
 }
 
+/// Whether there are digits alone.
 pub fn all_digits(word: &[u8]) -> bool
     ensures { result ≡ spec.all_digits word.now }
 {

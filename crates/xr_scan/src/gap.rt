@@ -5,7 +5,7 @@ ghost use Rattle.xr_scan.specs.Gaps.{IsCut, IsWhole, first_length, is_gap};
 
 use crate::bytes::is_white;
 
-/// The bytes between two parts.
+/// The bytes between two parts of a text.
 #[derive(Clone, Copy, Debug, PartialEq, Eq)]
 pub enum Gap {
     /// This byte alone.
