@@ -186,7 +186,7 @@ definitions_found word ts h path stop r is e =
     let none : paths_of_variables h.scopes h.variables ++ [] ≡ paths_of_variables h.scopes h.variables = append-nil _ in
     record { paths = []; told = Declares.definitions is; shown = rw (s.scopes, s.variables, none) refl }
 
-aside_kind : (word : Word) (k : Kind) → kind_of word.text ≡ k → is_aside k ≡ true → is_aside (kind_of word.text) ≡ true
+pub aside_kind : (word : Word) (k : Kind) → kind_of word.text ≡ k → is_aside k ≡ true → is_aside (kind_of word.text) ≡ true
 aside_kind word k is e = ap is_aside is ∙ e
 
 found_on : (n : ℕ) → Finds n → (k : Kind) (word : Word) (ts : List Word) (next : State) (h : Declarations) (path : Path) (stop : ℕ) (r : Recording) → kind_of word.text ≡ k → length ts ≤ n → Holds h path → declaration_on k h word.at ≡ Ok next → run next ts stop ≡ Ok r → Found h path (word ∷ ts) r
