@@ -1,5 +1,5 @@
 -- Names, numbers and marks that stand in a text are read as tokens.
-use Rattle.std.proofs.Common.{◌≡◌, ℕ, ◌+◌, ◌<◌, ◌≤◌, ◌&&◌, ◌||◌, Bool, true, false, List, [], ◌∷◌, ◌++◌, length, refl, subst, arith, decimal, ◌%◌, ◌^◌, ◌==◌}
+use Rattle.std.proofs.Common.{◌≡◌, ℕ, ◌+◌, ◌<◌, ◌&&◌, ◌||◌, Bool, true, false, List, [], ◌∷◌, ◌++◌, length, refl, subst, arith, decimal, ◌^◌, ◌==◌}
 use Rattle.std.specs.List.{list_all}
 use Rattle.std.proofs.lemmas.Bool.Decides.{nat_tests}
 use Rattle.xr_text.specs.Byte.{begins, is_digit, is_letter, is_name_byte, is_number_byte, is_printable, quote}

@@ -1,12 +1,11 @@
 -- A text with names and supplies comes to one outcome.
-use Rattle.std.proofs.Common.{◌≡◌, ℕ, List, [], ◌∷◌, Option, Some, None, Result, Ok, Err, refl, sym, ap, subst, ◌∙◌}
-use Rattle.xr_text.proofs.Told.{left_follows}
-use Rattle.xr_trim.specs.Shown.{IsStream, Shown, Stream, stream_of}
-use Rattle.xr_trim.specs.Definition.{Unclosed, closes, from_first, opens, up_to_first}
+use Rattle.std.proofs.Common.{◌≡◌, ℕ, List, [], ◌∷◌, Result, Ok, Err, refl, sym, ap, subst, ◌∙◌}
+use Rattle.xr_trim.specs.Shown.{Shown, Stream}
+use Rattle.xr_trim.specs.Definition.{Unclosed, closes, up_to_first}
 use Rattle.xr_trim.specs.Trims.{IsUndefined, TrimComes}
 use Rattle.xr_trim.specs.declared.fault.TrimFault.{TrimFault}
 use Rattle.xr_trim.specs.declared.fault.TrimFault.TheVariants.{Token, Open, NoTop}
-use Rattle.xr_trim.proofs.OneWay.{First, SameFirst, never_closed, none_or_one, one_or_two, one_outcome, one_stream, same_first, same_head, same_tail, some_or_none}
+use Rattle.xr_trim.proofs.OneWay.{SameFirst, never_closed, none_or_one, one_or_two, one_outcome, one_stream, same_first, some_or_none}
 use Rattle.xr_stub_read.specs.Modules.{Holds, IsHeld, Module, module_of}
 use Rattle.std.specs.Prelude.{IfErr, IfOk, Vec}
 use Rattle.std.specs.declared.alloc.Global.{Global}
