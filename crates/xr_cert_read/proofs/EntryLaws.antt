@@ -13,9 +13,9 @@ use Rattle.xr_cert_text.specs.Fits.{FitsEntry}
 use Rattle.xr_cert_read.specs.Machine.{entry_lettered, is_count, is_turn_letter, item_of, lettered, turn_of_words}
 use Rattle.xr_cert_text.specs.Text.{body_letter, end_words, entry_words, turn_letter}
 use Rattle.xr_cert_read.proofs.LineLaws.{count_takes, line_takes, line_with_again, same_is}
-use Rattle.xr_cert_read.proofs.NumberLaws.{number_again, some_is}
+use Rattle.xr_cert_read.proofs.NumberLaws.{number_again}
+use Rattle.xr_scan.proofs.Fronts.{mapped, same_word, some_is}
 use Rattle.xr_cert_read.proofs.TurnLaws.{turn_again, turn_takes}
-use Rattle.xr_cert_read.proofs.WordLaws.{mapped, same_word}
 
 -- Words after a letter are those of a line or turn that fits.
 pub record IsReadEntry (form : Form) (letter : List ℕ) (ws : List (List ℕ)) (entry : Entry) : Type 0 where

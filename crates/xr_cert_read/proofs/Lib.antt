@@ -1,5 +1,4 @@
 -- Lemmas of certificates' texts that are read.
-pub mod Digits
 pub mod EntryLaws
 pub mod LineLaws
 pub mod LogLaws

@@ -9,12 +9,14 @@ use Rattle.xr_model.specs.declared.line.Body.TheVariants.{Enumerated, Refuted, P
 use Rattle.xr_model.specs.declared.line.Line.{Line}
 use Rattle.xr_cert_text.specs.declared.cert.Head.{Head}
 use Rattle.xr_cert_text.specs.Fits.{FitsBody, FitsHead, FitsLine, FitsPlace}
-use Rattle.xr_cert_read.specs.Machine.{◌>>=◌, bit_in_front, enumerated_of_words, field_in_front, head_of_words, is_count, is_number, lettered, line_with, log_of_words, number_in_front, pair_of_words, place_in_front, places_before, places_to_end, refuted_of_words, undecided_of_words, whole, word_in_front}
-use Rattle.xr_cert_read.specs.Numbers.{number_within}
+use Rattle.xr_cert_read.specs.Machine.{bit_in_front, enumerated_of_words, field_in_front, head_of_words, is_count, is_number, lettered, line_with, log_of_words, number_in_front, pair_of_words, place_in_front, places_before, places_to_end, refuted_of_words, undecided_of_words, whole}
+use Rattle.xr_scan.specs.Fronts.{◌>>=◌, word_in_front}
+use Rattle.xr_cert_read.specs.Numbers.{numeral_within}
 use Rattle.xr_cert_text.specs.Text.{bit_word, body_letter, body_words, filling_words, head_words, line_words, log_words, place_words}
 use Rattle.xr_cert_read.proofs.LogLaws.{log_again, log_takes}
-use Rattle.xr_cert_read.proofs.NumberLaws.{number_takes, some_is}
-use Rattle.xr_cert_read.proofs.WordLaws.{before_again, before_takes, bind_some, bit_again, bit_takes, number_taken, numbered_again, place_again, place_takes, same_word, to_end_again, to_end_takes, word_same, word_takes}
+use Rattle.xr_cert_read.proofs.NumberLaws.{number_takes}
+use Rattle.xr_scan.proofs.Fronts.{bind_some, same_word, some_is, word_same, word_takes}
+use Rattle.xr_cert_read.proofs.WordLaws.{before_again, before_takes, bit_again, bit_takes, number_taken, numbered_again, place_again, place_takes, to_end_again, to_end_takes}
 
 -- Words after a letter are those of a line that fits.
 pub record IsRead (letter : List ℕ) (ws : List (List ℕ)) (line : Line) : Type 0 where
@@ -166,9 +168,9 @@ same_is n = grind (arith, nat_tests)
 pub count_takes : (count : ℕ) (ws : List (List ℕ)) → is_count count ws ≡ true → ws ≡ decimal count ∷ []
 count_takes count [] h = absurd cc
 count_takes count (w ∷ v ∷ ws) h = absurd cc
-count_takes count (w ∷ []) h = by (number_within 18446744073709551615 w) refl h
+count_takes count (w ∷ []) h = by (numeral_within 18446744073709551615 w) refl h
   where
-    by : (o : Option ℕ) → number_within 18446744073709551615 w ≡ o → is_number count o ≡ true → w ∷ [] ≡ decimal count ∷ []
+    by : (o : Option ℕ) → numeral_within 18446744073709551615 w ≡ o → is_number count o ≡ true → w ∷ [] ≡ decimal count ∷ []
     by None is r = absurd cc
     by (Some n) is r =
         ap (λ v. v ∷ []) ((number_takes 18446744073709551615 w n (omega arith) is).word_is ∙ ap decimal (is_same n count r))

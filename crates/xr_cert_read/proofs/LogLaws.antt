@@ -10,8 +10,8 @@ use Rattle.xr_cert_text.specs.Fits.{FitsLiteral, FitsLog}
 use Rattle.xr_cert_read.specs.Machine.{is_end, log_of_words, log_end, log_from}
 use Rattle.xr_cert_read.specs.Numbers.{literal_of_word}
 use Rattle.xr_cert_text.specs.Text.{clause_words, log_words}
-use Rattle.xr_cert_read.proofs.NumberLaws.{literal_again, literal_takes, some_is}
-use Rattle.xr_cert_read.proofs.WordLaws.{bind_some}
+use Rattle.xr_cert_read.proofs.NumberLaws.{literal_again, literal_takes}
+use Rattle.xr_scan.proofs.Fronts.{bind_some, some_is}
 
 zero_is : (l : ℤ) → is_end l ≡ true → l ≡ pos 0
 zero_is l h = (Decides-int_eq l (pos 0)).0 h

@@ -1,44 +1,27 @@
 -- Numbers and literals: what is read is written so, and what is written is read again.
-use Rattle.std.proofs.Common.{◌≡◌, ℕ, zero, suc, ◌^◌, ◌<◌, ◌≤◌, ◌==◌, Bool, true, false, cond, List, [], ◌∷◌, length, get_or, Option, Some, None, refl, sym, ◌∙◌, ap, arith, rules}
+use Rattle.std.proofs.Common.{◌≡◌, ℕ, zero, suc, ◌^◌, ◌<◌, ◌≤◌, ◌==◌, Bool, true, false, cond, List, [], ◌∷◌, length, get_or, Option, Some, None, refl, sym, ◌∙◌, ap, arith}
 use Rattle.std.specs.Prelude.{ℤ, pos, negsuc, nat_abs, decimal, not, ◌&&◌, ◌||◌, nat_le, nat_lt, option_map}
 use Rattle.std.specs.Fmt.{signed_decimal}
 use Rattle.std.specs.List.{list_all}
 use Rattle.std.proofs.lemmas.Bool.Decides.{nat_tests}
-use Rattle.std.proofs.lemmas.Fmt.{decimal-digits_value, decimal_digit, decimal_nonempty, digits_decimal, digits_value-decimal, first_decimal}
-use Rattle.std.proofs.lemmas.Str.Parse.{IsNumeralModel, numerals_by_fold}
-use Rattle.xr_cert_read.specs.Numbers.{at_most, is_digit, is_numeral, literal_of_word, negated, number_from, number_within, variable_of_word}
-
-own : IsNumeralModel (λ ds. list_all is_digit ds ≡ true) (number_from 0)
-own = numerals_by_fold _ (search rules) number_from (search rules)
-
-pub both : (a b : Bool) → a && b ≡ true → (a ≡ true) × (b ≡ true)
-both true b h = (refl, h)
-both false b h = absurd cc
-
-pub guarded : {A : Type 0} (b : Bool) (o : Option A) (x : A) → cond b o None ≡ Some x → (b ≡ true) × (o ≡ Some x)
-guarded true o x h = (refl, h)
-guarded false o x h = absurd cc
-
-pub some_is : {A : Type 0} (x y : A) → Some x ≡ Some y → x ≡ y
-some_is x y h = cc
+use Rattle.std.proofs.lemmas.Fmt.{decimal-digits_value, decimal_digit, decimal_nonempty, first_decimal}
+use Rattle.xr_cert_read.specs.Numbers.{is_numeral, literal_of_word, negated, numeral_within, variable_of_word}
+use Rattle.xr_scan.specs.Numbers.{at_most, number_from}
+use Rattle.xr_scan.specs.Bytes.{is_digit}
+use Rattle.xr_scan.proofs.Digits.{all_digits_decimal, filled, filled_true, number_of_decimal, own, within, within_true}
+use Rattle.xr_scan.proofs.Fronts.{both, guarded, some_is}
 
 lead_alone : (first n : ℕ) → not (first == 48) || (n == 1) ≡ true → first ≡ 48 → n ≡ 1
 lead_alone first n h is = grind (arith, nat_tests)
-
-within : (n limit : ℕ) → nat_le n limit ≡ true → n ≤ limit
-within n limit h = grind (arith, nat_tests)
-
-pub filled : (n : ℕ) → nat_lt 0 n ≡ true → 0 < n
-filled n h = grind (arith, nat_tests)
 
 -- A word that is read as a number is its decimal text.
 pub record IsNumber (limit : ℕ) (word : List ℕ) (n : ℕ) : Type 0 where
   pub word_is : word ≡ decimal n
   pub small : n ≤ limit
 
-pub number_takes : (limit : ℕ) (word : List ℕ) (n : ℕ) → limit < 2 ^ 64 → number_within limit word ≡ Some n
+pub number_takes : (limit : ℕ) (word : List ℕ) (n : ℕ) → limit < 2 ^ 64 → numeral_within limit word ≡ Some n
     → IsNumber limit word n
-unfolding number_within
+unfolding numeral_within
 number_takes limit word n wide read =
     let one = guarded (is_numeral word) (at_most limit (number_from 0 word)) n read in
     let two = guarded (nat_le (number_from 0 word) limit) (Some (number_from 0 word)) n one.1 in
@@ -61,29 +44,20 @@ first_alone (suc n) first length more one = let is : 48 < first = more (omega ar
 all_true : (a b c : Bool) → a ≡ true → b ≡ true → c ≡ true → a && b && c ≡ true
 all_true a b c x y z = cc
 
-pub filled_true : (n : ℕ) → 0 < n → nat_lt 0 n ≡ true
-filled_true n h = grind (arith, nat_tests)
-
-within_true : (n limit : ℕ) → n ≤ limit → nat_le n limit ≡ true
-within_true n limit h = grind (arith, nat_tests)
-
 numeral_decimal : (n : ℕ) → n < 2 ^ 64 → is_numeral (decimal n) ≡ true
 numeral_decimal n small =
     all_true (nat_lt 0 (length (decimal n))) (list_all is_digit (decimal n)) (not (get_or (decimal n) 0 0 == 48) || (length (decimal n) == 1))
-    (filled_true (length (decimal n)) (decimal_nonempty n small)) (digits_decimal own n small)
+    (filled_true (length (decimal n)) (decimal_nonempty n small)) (all_digits_decimal n small)
     (first_alone n (get_or (decimal n) 0 0) (length (decimal n)) (λ more. first_decimal n more small)
     (λ is. rw is (ap length (decimal_digit 0 (omega arith)))))
 
-pub number_again : (limit n : ℕ) → limit < 2 ^ 64 → n ≤ limit → number_within limit (decimal n) ≡ Some n
-unfolding number_within
+pub number_again : (limit n : ℕ) → limit < 2 ^ 64 → n ≤ limit → numeral_within limit (decimal n) ≡ Some n
+unfolding numeral_within
 number_again limit n wide small =
     let low : n < 2 ^ 64 = omega (arith, wide, small) in
-    rw (numeral_decimal n low, digits_value-decimal own n low, within_true n limit small) refl
+    rw (numeral_decimal n low, number_of_decimal n low, within_true n limit small) refl
 
--- Digits in front are no sign and no mark.
-pub digit_first : (n : ℕ) → n < 2 ^ 64 → list_all is_digit (decimal n) ≡ true
-digit_first n small = digits_decimal own n small
-
+-- Digits in front are no sign.
 no_sign : (b : ℕ) → is_digit b ≡ true → (b == 45) ≡ false
 no_sign b h = grind (arith, nat_tests)
 
@@ -142,7 +116,7 @@ literal_minus t = refl
 pub literal_again : (l : ℤ) → nat_abs l < 2 ^ 31 → literal_of_word (signed_decimal l) ≡ Some l
 unfolding literal_of_word
 literal_again (pos n) small =
-    literal_digits (decimal n) (decimal_nonempty n (omega (arith, small))) (digit_first n (omega (arith, small)))
+    literal_digits (decimal n) (decimal_nonempty n (omega (arith, small))) (all_digits_decimal n (omega (arith, small)))
     ∙ ap (option_map (λ m. pos m)) (number_again 2147483647 n (omega arith) (omega (arith, small)))
 literal_again (negsuc n) small =
     literal_minus (decimal (suc n))

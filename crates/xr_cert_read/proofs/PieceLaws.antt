@@ -1,11 +1,14 @@
 -- Pieces: the first one, and that cutting and joining are inverse.
 use Rattle.std.proofs.Common.{◌≡◌, ℕ, suc, ◌+◌, ◌<◌, ◌≤◌, ◌==◌, Bool, true, false, cond, List, [], ◌∷◌, ◌++◌, length, take, drop, refl, sym, ◌∙◌, ap, arith, add-one}
-use Rattle.std.specs.Prelude.{Err}
+use Rattle.std.specs.Prelude.{Err, MatchOption, None, Option, Some}
+use Rattle.std.specs.Borrow.{Bor}
 use Rattle.std.specs.List.{AllByRecursion}
 use Rattle.std.proofs.lemmas.Bool.Decides.{nat_tests}
 use Rattle.xr_cert_text.specs.declared.cert.Cert.{Cert}
 use Rattle.xr_cert_read.specs.Machine.{all, run}
-use Rattle.xr_cert_text.specs.Pieces.{first_length, joined_by, pieces, with_front}
+use Rattle.xr_scan.specs.declared.gap.Gap.TheVariants.{Byte}
+use Rattle.xr_scan.specs.Gaps.{IsCut, IsWhole, first_length}
+use Rattle.xr_cert_text.specs.Pieces.{joined_by, pieces, with_front}
 
 -- There is a piece.
 pub data HasPieces : List (List ℕ) → Type 0 where
@@ -29,32 +32,39 @@ longer : (cut b m : ℕ) (bs : List ℕ) → pieces cut bs ≡ take m bs ∷ pie
 longer cut b m bs before = ap (with_front b) before
 
 abbrev Cuts : ℕ → ℕ → List ℕ → Bool → Type 0
-Cuts cut b bs t = cond t 0 (first_length cut bs + 1) < length (b ∷ bs)
+Cuts cut b bs t = cond t 0 (first_length (Byte cut) bs + 1) < length (b ∷ bs)
     → cond t ([] ∷ pieces cut bs) (with_front b (pieces cut bs))
-    ≡ take (cond t 0 (first_length cut bs + 1)) (b ∷ bs)
-    ∷ pieces cut (drop (suc (cond t 0 (first_length cut bs + 1))) (b ∷ bs))
+    ≡ take (cond t 0 (first_length (Byte cut) bs + 1)) (b ∷ bs)
+    ∷ pieces cut (drop (suc (cond t 0 (first_length (Byte cut) bs + 1))) (b ∷ bs))
 
-pub first_cut : (cut : ℕ) (bs : List ℕ) → first_length cut bs < length bs
-    → pieces cut bs ≡ take (first_length cut bs) bs ∷ pieces cut (drop (suc (first_length cut bs)) bs)
+first_cut : (cut : ℕ) (bs : List ℕ) → first_length (Byte cut) bs < length bs
+    → pieces cut bs ≡ take (first_length (Byte cut) bs) bs ∷ pieces cut (drop (suc (first_length (Byte cut) bs)) bs)
 first_cut cut [] less = absurd (omega arith)
 first_cut cut (b ∷ bs) less =
     (elim (b == cut) as (Cuts cut b bs) [
       | true ↦ λ h. refl
-      | false ↦ λ h. rw add-one (longer cut b (first_length cut bs) bs (first_cut cut bs (omega (arith, h))))
+      | false ↦ λ h. rw add-one (longer cut b (first_length (Byte cut) bs) bs (first_cut cut bs (omega (arith, h))))
     ]) less
 
 -- A line without a cut is one piece.
 abbrev Uncut : ℕ → ℕ → List ℕ → Bool → Type 0
-Uncut cut b bs t = cond t 0 (first_length cut bs + 1) ≡ length (b ∷ bs)
+Uncut cut b bs t = cond t 0 (first_length (Byte cut) bs + 1) ≡ length (b ∷ bs)
     → cond t ([] ∷ pieces cut bs) (with_front b (pieces cut bs)) ≡ (b ∷ bs) ∷ []
 
-pub first_all : (cut : ℕ) (bs : List ℕ) → first_length cut bs ≡ length bs → pieces cut bs ≡ bs ∷ []
+first_all : (cut : ℕ) (bs : List ℕ) → first_length (Byte cut) bs ≡ length bs → pieces cut bs ≡ bs ∷ []
 first_all cut [] is = refl
 first_all cut (b ∷ bs) is =
     (elim (b == cut) as (Uncut cut b bs) [
       | true ↦ λ h. absurd (omega (arith, h))
       | false ↦ λ h. ap (with_front b) (first_all cut bs (omega (arith, h)))
     ]) is
+
+-- What a text's cut says of its pieces.
+pub cut_pieces : (cut : ℕ) (text front : List ℕ) (after : Option (Bor (List ℕ)))
+    → MatchOption after (IsWhole (Byte cut) text front) (λ rest. IsCut (Byte cut) text front rest.now)
+    → MatchOption after (pieces cut text ≡ front ∷ []) (λ rest. pieces cut text ≡ front ∷ pieces cut rest.now)
+cut_pieces cut text front None is = rw is.is (first_all cut text is.none)
+cut_pieces cut text front (Some rest) is = rw (is.before, is.after) (first_cut cut text is.some)
 
 -- Joined again they are the text.
 joined_empty : (cut : ℕ) (ps : List (List ℕ)) → HasPieces ps → joined_by cut ([] ∷ ps) ≡ cut ∷ joined_by cut ps

@@ -17,11 +17,12 @@ use Rattle.xr_cert_text.specs.declared.cert.Form.{Form}
 use Rattle.xr_cert_text.specs.declared.cert.Form.TheVariants.{Lines, Turns}
 use Rattle.xr_cert_text.specs.declared.cert.Head.{Head}
 use Rattle.xr_cert_text.specs.Fits.{FitsBody, FitsCert, FitsEntry, FitsFilling, FitsHead, FitsLine, FitsLiteral, FitsPlace, FitsTurn, FitsTurnLine}
-use Rattle.xr_cert_read.specs.Numbers.{is_digit}
+use Rattle.xr_scan.specs.Bytes.{is_digit}
 use Rattle.xr_cert_text.specs.Pieces.{line_of_words, lines_in, words_in}
 use Rattle.xr_cert_text.specs.Text.{bit_word, body_letter, body_words, cert_lines, cert_text, clause_words, digit, end_words, entry_text, entry_words, with_newline, filling_words, head_words, line_words, log_words, model_word, place_words, title, turn_body_words, turn_letter, turn_words}
 use Rattle.xr_cert_read.proofs.LogLaws.{FitsClauses}
-use Rattle.xr_cert_read.proofs.NumberLaws.{both, digit_first}
+use Rattle.xr_scan.proofs.Digits.{all_digits_decimal}
+use Rattle.xr_scan.proofs.Fronts.{both}
 use Rattle.xr_cert_read.proofs.PieceLaws.{HasNoCut, pieces_joined, pieces_more}
 
 -- No space and no newline.
@@ -47,7 +48,7 @@ digits_inner (b ∷ bs) h =
     and_true (is_inner b) (list_all is_inner bs) (digit_inner b parts.0) (digits_inner bs parts.1)
 
 decimal_inner : (n : ℕ) → n < 2 ^ 64 → IsInner (decimal n)
-decimal_inner n small = digits_inner (decimal n) (digit_first n small)
+decimal_inner n small = digits_inner (decimal n) (all_digits_decimal n small)
 
 inner-append : (vs ws : List (List ℕ)) → AreInner vs → AreInner ws → AreInner (vs ++ ws)
 inner-append [] ws first second = second

@@ -10,16 +10,16 @@ use Rattle.xr_cert_text.specs.declared.cert.Form.{Form}
 use Rattle.xr_cert_text.specs.declared.cert.Form.TheVariants.{Lines, Turns}
 use Rattle.xr_cert_text.specs.declared.cert.Head.{Head}
 use Rattle.xr_cert_text.specs.Fits.{FitsCert, FitsEntry, FitsHead}
-use Rattle.xr_cert_read.specs.Machine.{◌>>=◌, State, all, cert_with, finish, form_of_title, head_of_words, head_state, item_of, item_state, run, start, step, then_run, titled, within}
+use Rattle.xr_scan.specs.Fronts.{◌>>=◌}
+use Rattle.xr_cert_read.specs.Machine.{State, all, cert_with, finish, form_of_title, head_of_words, head_state, item_of, item_state, run, start, step, then_run, titled, within}
 use Rattle.xr_cert_text.specs.Pieces.{joined_by, line_of_words, lines_in, words_in}
 use Rattle.xr_cert_text.specs.Text.{cert_lines, end_words, with_newline, head_words, entry_text, entry_words, title}
 use Rattle.xr_cert_text.specs.Wrong.{IsTextOf}
 use Rattle.xr_cert_read.proofs.EntryLaws.{IsItem, item_again, item_takes, last_again}
 use Rattle.xr_cert_read.proofs.LineLaws.{head_again, head_takes}
-use Rattle.xr_cert_read.proofs.NumberLaws.{some_is}
+use Rattle.xr_scan.proofs.Fronts.{bind_some, same_word, some_is}
 use Rattle.xr_cert_read.proofs.PieceLaws.{joined_pieces}
 use Rattle.xr_cert_read.proofs.PlainLaws.{cert_lines_back, end_words_back, entry_words_back, head_words_back}
-use Rattle.xr_cert_read.proofs.WordLaws.{bind_some, same_word}
 
 -- The first line says the form.
 pub title_takes : (p : List ℕ) (form : Form) → form_of_title p ≡ Some form → p ≡ title form

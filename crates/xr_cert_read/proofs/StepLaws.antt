@@ -2,7 +2,8 @@
 use Rattle.std.proofs.Common.{◌≡◌, ℕ, ◌+◌, Bool, true, false, cond, List, [], ◌∷◌, ◌++◌, Option, Some, None, Result, Err, refl, sym, ◌∙◌, ap, subst}
 use Rattle.std.specs.Prelude.{ℤ, bytes_eq, codes, option_map}
 use Rattle.xr_design.specs.declared.place.Place.{Place}
-use Rattle.xr_cert_read.specs.Machine.{◌>>=◌, State, form_of_title, is_end, log_end, log_from, number_in_front, place_of_step, places_before, places_to_end, run, short_of, start, step, then_run, titled}
+use Rattle.xr_scan.specs.Fronts.{◌>>=◌}
+use Rattle.xr_cert_read.specs.Machine.{State, form_of_title, is_end, log_end, log_from, number_in_front, place_of_step, places_before, places_to_end, run, short_of, start, step, then_run, titled}
 use Rattle.xr_cert_read.specs.Numbers.{literal_of_word}
 use Rattle.xr_cert_text.specs.Pieces.{lines_in}
 use Rattle.xr_cert_read.specs.Reading.{Fails, TakesLine, IsNextBefore, TakesNoLine, LinesView, goes, refusal_at}

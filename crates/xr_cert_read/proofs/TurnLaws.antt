@@ -9,11 +9,13 @@ use Rattle.xr_model.specs.declared.turn.Turn.{Turn}
 use Rattle.xr_model.specs.declared.turn.Turn.TheVariants.{Dropped, Needed, Tried}
 use Rattle.xr_model.specs.declared.turn.TurnLine.{TurnLine}
 use Rattle.xr_cert_text.specs.Fits.{FitsPlace, FitsTurn, FitsTurnLine}
-use Rattle.xr_cert_read.specs.Machine.{◌>>=◌, is_value, log_of_words, model_of_words, place_in_front, turn_lettered, turn_of_words, turn_with, word_in_front}
+use Rattle.xr_cert_read.specs.Machine.{is_value, log_of_words, model_of_words, place_in_front, turn_lettered, turn_of_words, turn_with}
+use Rattle.xr_scan.specs.Fronts.{◌>>=◌, word_in_front}
 use Rattle.xr_cert_text.specs.Text.{digit, model_word, place_words, turn_body_words, turn_letter, turn_words}
 use Rattle.xr_cert_read.proofs.LogLaws.{log_again, log_takes}
-use Rattle.xr_cert_read.proofs.NumberLaws.{both, filled, filled_true, guarded, some_is}
-use Rattle.xr_cert_read.proofs.WordLaws.{bind_some, mapped, place_again, place_takes, same_word, word_takes}
+use Rattle.xr_scan.proofs.Digits.{filled, filled_true}
+use Rattle.xr_scan.proofs.Fronts.{bind_some, both, guarded, mapped, same_word, some_is, word_takes}
+use Rattle.xr_cert_read.proofs.WordLaws.{place_again, place_takes}
 
 -- Models.
 abbrev is_one : ℕ → Bool

@@ -5,39 +5,15 @@ use Rattle.std.specs.List.{list_all}
 use Rattle.std.proofs.lemmas.Bool.Decides.{nat_tests}
 use Rattle.std.proofs.lemmas.Fmt.{decimal_nonempty}
 use Rattle.std.proofs.lemmas.List.{append-nil}
-use Rattle.std.proofs.lemmas.Slice.Eq.{bytes_eq-Decides}
 use Rattle.xr_design.specs.declared.place.Place.{Place}
 use Rattle.xr_cert_text.specs.Fits.{FitsFilling, FitsPlace}
-use Rattle.xr_cert_read.specs.Machine.{◌>>=◌, bit_in_front, bit_of_word, number_in_front, place_in_front, place_of_step, places_before, places_to_end, short_of, word_in_front}
-use Rattle.xr_cert_read.specs.Numbers.{is_digit}
+use Rattle.xr_cert_read.specs.Machine.{bit_in_front, bit_of_word, number_in_front, place_in_front, place_of_step, places_before, places_to_end, short_of}
+use Rattle.xr_scan.specs.Fronts.{◌>>=◌}
+use Rattle.xr_scan.specs.Bytes.{is_digit}
 use Rattle.xr_cert_text.specs.Text.{bit_word, filling_words, place_words}
-use Rattle.xr_cert_read.proofs.NumberLaws.{both, digit_first, guarded, number_again, number_takes, some_is}
-
-pub bind_some : {A B : Type 0} (o : Option A) (f : A → Option B) (y : B) → (o >>= f) ≡ Some y
-    → (x : A) × (o ≡ Some x) × (f x ≡ Some y)
-bind_some None f y read = absurd cc
-bind_some (Some x) f y read = (x, refl, read)
-
-pub mapped : {A B : Type 0} (f : A → B) (o : Option A) (y : B) → option_map f o ≡ Some y → (x : A) × (o ≡ Some x) × (f x ≡ y)
-mapped f None y read = absurd cc
-mapped f (Some x) y read = (x, refl, some_is (f x) y read)
-
-pub same_word : (w v : List ℕ) → bytes_eq w v ≡ true → w ≡ v
-same_word w v h = (bytes_eq-Decides w v).0 h
-
-pub word_same : (w : List ℕ) → bytes_eq w w ≡ true
-word_same w = (bytes_eq-Decides w w).1 refl
-
--- This word in front.
-pub word_takes : (word : List ℕ) (ws rest : List (List ℕ)) → word_in_front word ws ≡ Some rest → ws ≡ word ∷ rest
-word_takes word [] rest read = absurd cc
-word_takes word (w ∷ ws) rest read =
-    let found = guarded (bytes_eq w word) (Some ws) rest read in
-    let here : w ≡ word = same_word w word found.0 in
-    let there : ws ≡ rest = some_is ws rest found.1 in cc
-
-pub word_again : (word : List ℕ) (rest : List (List ℕ)) → word_in_front word (word ∷ rest) ≡ Some rest
-word_again word rest = rw (word_same word) refl
+use Rattle.xr_scan.proofs.Digits.{all_digits_decimal}
+use Rattle.xr_scan.proofs.Fronts.{bind_some, both, guarded, mapped, same_word, some_is}
+use Rattle.xr_cert_read.proofs.NumberLaws.{number_again, number_takes}
 
 -- A number in front.
 pub record IsShort (ws : List (List ℕ)) (n : ℕ) (rest : List (List ℕ)) : Type 0 where
@@ -222,7 +198,7 @@ before_again done [] [] fits = ap (λ all. Some (all, [])) (sym (append-nil done
 before_again done [] (v ∷ ws) fits = ap (λ all. Some (all, v ∷ ws)) (sym (append-nil done))
 before_again done (place ∷ more) rest fits =
     rw (
-      no_mark (decimal place.step) (decimal_nonempty place.step (omega (arith, fits.0.step))) (digit_first place.step (omega (arith, fits.0.step))),
+      no_mark (decimal place.step) (decimal_nonempty place.step (omega (arith, fits.0.step))) (all_digits_decimal place.step (omega (arith, fits.0.step))),
       short_again place.step fits.0.step,
       short_again place.net fits.0.net,
     )

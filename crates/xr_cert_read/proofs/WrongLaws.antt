@@ -9,13 +9,14 @@ use Rattle.xr_cert_text.specs.declared.cert.Form.{Form}
 use Rattle.xr_cert_text.specs.declared.cert.Form.TheVariants.{Lines}
 use Rattle.xr_cert_text.specs.declared.cert.Head.{Head}
 use Rattle.xr_cert_text.specs.Fits.{FitsEntry, FitsHead}
-use Rattle.xr_cert_read.specs.Machine.{◌>>=◌, State, all, cert_with, finish, form_of_title, head_of_words, head_state, item_of, item_state, run, start, step, then_run, titled, within}
+use Rattle.xr_scan.specs.Fronts.{◌>>=◌}
+use Rattle.xr_cert_read.specs.Machine.{State, all, cert_with, finish, form_of_title, head_of_words, head_state, item_of, item_state, run, start, step, then_run, titled, within}
 use Rattle.xr_cert_text.specs.Pieces.{line_of_words, lines_in, with_front, words_in}
 use Rattle.xr_cert_text.specs.Text.{cert_lines, end_words, entry_text, entry_words, head_words, title}
 use Rattle.xr_cert_text.specs.Wrong.{IsFirstWrong, AreViable, IsTextOf}
 use Rattle.xr_cert_read.proofs.EntryLaws.{IsItem, item_takes}
 use Rattle.xr_cert_read.proofs.LineLaws.{head_takes}
-use Rattle.xr_cert_read.proofs.NumberLaws.{some_is}
+use Rattle.xr_scan.proofs.Fronts.{some_is}
 use Rattle.xr_cert_read.proofs.PieceLaws.{HasPieces, pieces_some, some}
 use Rattle.xr_cert_read.proofs.RunLaws.{end_line, line_back, run_only, steps, steps_cert, title_takes}
 

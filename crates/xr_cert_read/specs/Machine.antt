@@ -14,27 +14,18 @@ use Rattle.xr_cert_text.specs.declared.cert.Entry.{Entry}
 use Rattle.xr_cert_text.specs.declared.cert.Form.{Form}
 use Rattle.xr_cert_text.specs.declared.cert.Form.TheVariants.{Lines, Turns}
 use Rattle.xr_cert_text.specs.declared.cert.Head.{Head}
-use Rattle.xr_cert_read.specs.Numbers.{literal_of_word, number_within}
+use Rattle.xr_scan.specs.Fronts.{◌>>=◌, word_in_front}
+use Rattle.xr_cert_read.specs.Numbers.{literal_of_word, numeral_within}
 use Rattle.xr_cert_text.specs.Pieces.{words_in}
 use Rattle.xr_cert_text.specs.Text.{title}
 
-infixl 10 ◌>>=◌
-abbrev pub ◌>>=◌ : {A B : Type 0} → Option A → (A → Option B) → Option B
-None >>= f = None
-(Some x) >>= f = f x
-
 -- A number in front, below 2^32, and the words after it.
 abbrev pub short_of : List ℕ → Option ℕ
-short_of word = number_within 4294967295 word
+short_of word = numeral_within 4294967295 word
 
 abbrev pub number_in_front : List (List ℕ) → Option (ℕ × List (List ℕ))
 number_in_front [] = None
 number_in_front (w ∷ ws) = option_map (λ n. (n, ws)) (short_of w)
-
--- This word in front, and the words after it.
-abbrev pub word_in_front : List ℕ → List (List ℕ) → Option (List (List ℕ))
-word_in_front word [] = None
-word_in_front word (w ∷ ws) = cond (bytes_eq w word) (Some ws) None
 
 -- A place in front whose step is this word.
 abbrev pub place_of_step : List ℕ → List (List ℕ) → Option (Place × List (List ℕ))
@@ -199,7 +190,7 @@ is_number count (Some n) = n == count
 
 abbrev pub is_count : ℕ → List (List ℕ) → Bool
 is_count count [] = false
-is_count count (w ∷ []) = is_number count (number_within 18446744073709551615 w)
+is_count count (w ∷ []) = is_number count (numeral_within 18446744073709551615 w)
 is_count count (w ∷ v ∷ ws) = false
 
 -- What words are after so many lines: one line or turn more, or the last line of the text.

@@ -7,10 +7,11 @@ ghost use Rattle.xr_cert_read.specs.Reading.{Gives, Takes};
 use crate::logs::log;
 use crate::pieces::Words;
 use crate::refusal::LineErr;
-use crate::words::{bit, expect, filling_before, filling_to_end, is_word, number, place};
+use crate::words::{bit, expect, filling_before, filling_to_end, number, place};
 use std::alloc::Global;
 use xr_cert_text::Head;
 use xr_model::{Body, Line};
+use xr_scan::is_word;
 
 /// What the words after a letter stand for.
 // line = "e" .. | "r" .. | "u" .. | "?" ..

@@ -1,10 +1,11 @@
 //! The words of a line: what stands between its spaces.
 
-ghost use Rattle.std.specs.Prelude.{◌≡◌, ◌<◌, ◌≤◌, suc, [], ◌∷◌, drop, length, take, IfErr, IfOk, IfSome, MatchOption};
-ghost use Rattle.xr_cert_text.specs.Pieces.{first_length, pieces, words_in};
+ghost use Rattle.std.specs.Prelude.{◌≡◌, ◌<◌, [], ◌∷◌, length, IfErr, IfOk, IfSome, MatchOption};
+ghost use Rattle.xr_cert_text.specs.Pieces.{pieces, words_in};
 
 use crate::refusal::LineErr;
 use std::marker::Model;
+use xr_scan::{Gap, split_at};
 
 /// The words of a line that are left to read.
 #[derive(Drop)]
@@ -67,42 +68,5 @@ pub fn first_piece(bytes: &[u8], cut: u8) -> (&[u8], Option<&[u8]>)
         (λ rest. pieces cut bytes.now ≡ result.0.now ∷ pieces cut rest.now) }
     ensures shorter { IfSome result.1 (λ rest. length rest.now < length bytes.now) }
 {
-    let count = first_length(bytes, cut);
-    if count < bytes.len() {
-        (front(bytes, count), Some(rest_after(bytes, count)))
-    } else {
-        (bytes, None)
-    }
-}
-
-fn front(bytes: &[u8], count: usize) -> &[u8]
-    requires { count < length bytes.now }
-    ensures { result.now ≡ take count bytes.now }
-{
-    &bytes[..count]
-}
-
-fn rest_after(bytes: &[u8], count: usize) -> &[u8]
-    requires { count < length bytes.now }
-    ensures rest { result.now ≡ drop (suc count) bytes.now }
-    ensures shorter { length result.now < length bytes.now }
-{
-    &bytes[count + 1..]
-}
-
-/// How many bytes come before the first that is the cut.
-fn first_length(bytes: &[u8], cut: u8) -> usize
-    ensures is { result ≡ first_length cut bytes.now }
-    ensures within { result ≤ length bytes.now }
-{
-    let mut rest = bytes;
-    let mut count: usize = 0;
-    'bytes: while let [b, after @ ..] = rest {
-        if *b == cut {
-            break;
-        }
-        rest = after;
-        count += 1;
-    }
-    count
+    split_at(bytes, Gap::Byte(cut))
 }

@@ -11,14 +11,14 @@ ghost use Rattle.xr_cert_text.specs.Wrong.{IsTextOf};
 
 use crate::line::{end, head, line_of_letter};
 use crate::lines::Lines;
-use crate::numbers::number_within;
+use crate::numbers::numeral_within;
 use crate::pieces::Words;
 use crate::refusal::{LineErr, TextErr, WrongLine};
 use crate::turn::{is_turn_letter, turn_of_letter};
-use crate::words::is_word;
 use std::alloc::Global;
 use xr_base::Items;
 use xr_cert_text::{Cert, Entry, Form, Head};
+use xr_scan::is_word;
 
 /// The certificate that a text stands for, or the number of its first wrong line. Takes the memory of the lines.
 pub fn read_text(alloc: Global, text: &[u8]) -> Result<Cert, TextErr>
@@ -165,7 +165,7 @@ fn end_of(words: &mut Words<'_>, count: usize) -> Result<Option<Entry>, LineErr>
 {
     let word = words.need()?;
     end(words)?;
-    match number_within(u64::MAX, word) {
+    match numeral_within(u64::MAX, word) {
         Some(number) if number == count as u64 => Ok(None),
         _ => Err(LineErr::Wrong),
     }

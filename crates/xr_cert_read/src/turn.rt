@@ -8,9 +8,10 @@ use crate::logs::log;
 use crate::models::model;
 use crate::pieces::Words;
 use crate::refusal::LineErr;
-use crate::words::{expect, is_word, place};
+use crate::words::{expect, place};
 use std::alloc::Global;
 use xr_model::{Turn, TurnLine};
+use xr_scan::is_word;
 
 pub fn is_turn_letter(letter: &[u8]) -> bool
     ensures { result ≡ is_turn_letter letter.now }

@@ -2,7 +2,8 @@
 
 ghost use Rattle.std.specs.Prelude.{◌≡◌, ◌<◌, List, [], ◌∷◌, bytes_eq, length, IfOk, IfSome};
 ghost use Rattle.xr_design.specs.declared.place.Place.{Place as APlace};
-ghost use Rattle.xr_cert_read.specs.Machine.{bit_in_front, number_in_front, place_in_front, place_of_step, places_before, places_to_end, word_in_front};
+ghost use Rattle.xr_cert_read.specs.Machine.{bit_in_front, number_in_front, place_in_front, place_of_step, places_before, places_to_end};
+ghost use Rattle.xr_scan.specs.Fronts.{word_in_front};
 ghost use Rattle.xr_cert_read.specs.Reading.{Gives, IsNextBefore, IsNextToEnd, Skips, Takes};
 
 use crate::numbers::short_of;
@@ -11,13 +12,7 @@ use crate::refusal::LineErr;
 use std::alloc::Global;
 use xr_base::Items;
 use xr_design::{Filling, Place};
-
-/// Whether it is this word.
-pub fn is_word(text: &[u8], word: &[u8]) -> bool
-    ensures { result ≡ bytes_eq text.now word.now }
-{
-    text == word
-}
+use xr_scan::is_word;
 
 /// Passes over this word.
 pub fn expect(words: &mut Words<'_>, word: &[u8]) -> Result<(), LineErr>

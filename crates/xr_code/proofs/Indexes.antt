@@ -11,7 +11,7 @@ use Rattle.xr_design.specs.declared.design.Net.{Net}
 use Rattle.xr_match.specs.Naming.{Texts, names_eq}
 use Rattle.xr_code.specs.Lookup.{is_name, net_of, same_index}
 use Rattle.xr_code.proofs.Lookups.{same_index_is}
-use Rattle.xr_code.proofs.Spelling.{both}
+use Rattle.xr_scan.proofs.Fronts.{both}
 
 nowhere : Net
 nowhere = record { path = no_name; driver = Undriven }

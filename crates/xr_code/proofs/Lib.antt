@@ -2,7 +2,6 @@
 pub mod Accepts
 pub mod Awaited
 pub mod Canonical
-pub mod Decimals
 pub mod Events
 pub mod Follows
 pub mod Forcing
@@ -24,7 +23,6 @@ pub mod Stepping
 pub mod Steps
 pub mod Stops
 pub mod Tests
-pub mod TooLarge
 pub mod Waiting
 pub mod Waits
 mod Worked

@@ -14,12 +14,15 @@ use Rattle.xr_text.specs.Left.{token}
 use Rattle.xr_text.specs.declared.token.Kind.TheVariants.{Name, Escaped, Number, Mark}
 use Rattle.xr_code.specs.Machine.{Progress, capped, index_by, name_by, next, on, step, target, with_name}
 use Rattle.xr_code.specs.Names.{are_writable, is_plain, is_writable, scope_name, scope_part, scope_prefix}
-use Rattle.xr_code.specs.Words.{are_digits, behind_first, number_from, spelled}
+use Rattle.xr_code.specs.Words.{behind_first, spelled}
+use Rattle.xr_scan.specs.Bytes.{all_digits}
+use Rattle.xr_scan.specs.Numbers.{number_from}
 use Rattle.xr_code.specs.declared.state.State.{State}
 use Rattle.xr_code.specs.declared.state.State.TheVariants.{NameNext, AfterName, Index, IndexEnd, PathEnd}
-use Rattle.xr_code.proofs.Decimals.{number_of_decimal}
+use Rattle.xr_scan.proofs.Digits.{all_digits_decimal, number_of_decimal}
 use Rattle.xr_code.proofs.Leading.{Leads, token_leads, white}
-use Rattle.xr_code.proofs.Spelling.{both, digits_all, digits_token, escaped_token, mark_token, name_token}
+use Rattle.xr_code.proofs.Spelling.{digits_token, escaped_token, mark_token, name_token}
+use Rattle.xr_scan.proofs.Fronts.{both}
 use Rattle.xr_code.proofs.Stepping.{after_mark}
 
 -- The progress with other names.
@@ -157,8 +160,8 @@ index_leads p at texts (Some index) rest events fits none leads =
         record {
           to = IndexEnd;
           progress = indexed p at texts (Some index);
-          stepped = ap (λ l. index_by q (token Number start last) (if are_digits l then Some (number_from 0 l) else None)) sp
-              ∙ (ap (λ b. index_by q (token Number start last) (if b then Some (number_from 0 (decimal index)) else None)) (digits_all index small)
+          stepped = ap (λ l. index_by q (token Number start last) (if all_digits l then Some (number_from 0 l) else None)) sp
+              ∙ (ap (λ b. index_by q (token Number start last) (if b then Some (number_from 0 (decimal index)) else None)) (all_digits_decimal index small)
               ∙ ap (λ n. next IndexEnd (indexed p at texts (Some n))) (capped_is index fits));
           leads = ended;
         })

@@ -1,19 +1,16 @@
 -- Names, numbers and marks that stand in a text are read as tokens.
-use Rattle.std.proofs.Common.{◌≡◌, ℕ, ◌+◌, ◌<◌, ◌≤◌, ◌&&◌, ◌||◌, Bool, true, false, List, [], ◌∷◌, ◌++◌, length, refl, subst, arith, decimal, ◌%◌, ◌^◌, ◌==◌}
+use Rattle.std.proofs.Common.{◌≡◌, ℕ, ◌+◌, ◌<◌, ◌&&◌, ◌||◌, Bool, true, false, List, [], ◌∷◌, ◌++◌, length, refl, subst, arith, decimal, ◌^◌, ◌==◌}
 use Rattle.std.specs.List.{list_all}
 use Rattle.std.proofs.lemmas.Bool.Decides.{nat_tests}
-use Rattle.std.proofs.lemmas.Fmt.{decimal_by_steps}
 use Rattle.xr_text.specs.Byte.{begins, is_digit, is_letter, is_name_byte, is_number_byte, is_printable, quote}
 use Rattle.xr_text.specs.Ends.{Longest}
 use Rattle.xr_text.specs.Left.{token}
 use Rattle.xr_text.specs.Tokens.{Reads, begins_more}
 use Rattle.xr_text.specs.declared.token.Kind.TheVariants.{Name, Escaped, Number, Mark}
-use Rattle.xr_code.specs.Words.{are_digits}
+use Rattle.xr_scan.specs.Bytes.{all_digits}
+use Rattle.xr_scan.proofs.Digits.{all_digits_decimal}
+use Rattle.xr_scan.proofs.Fronts.{both}
 use Rattle.xr_code.proofs.Leading.{IsToken}
-
-pub both : (a b : Bool) → (a && b) ≡ true → (a ≡ true) × (b ≡ true)
-both true b h = (refl, h)
-both false b h = absurd cc
 
 pub joined : (a b : Bool) → a ≡ true → b ≡ true → (a && b) ≡ true
 joined true b p q = q
@@ -76,34 +73,18 @@ mark_token b rest is at =
     subst (λ n. Reads at (b ∷ rest) (token Mark at n) rest) there (Reads.mark h.0 h.1 h.2)
 
 -- A written number has digits alone, one at least.
-pub digits_all : (n : ℕ) → n < 2 ^ 64 → are_digits (decimal n) ≡ true
-digits_all = decimal_by_steps (λ n ds. are_digits ds ≡ true) one more
-  where
-    digit : (d : ℕ) → d < 10 → is_digit (48 + d) ≡ true
-    digit d less = grind (arith, nat_tests)
-
-    one : (n : ℕ) → n < 10 → are_digits ((48 + n) ∷ []) ≡ true
-    one n less = rw (digit n less) refl
-
-    push : (ds : List ℕ) (b : ℕ) → are_digits ds ≡ true → is_digit b ≡ true → are_digits (ds ++ b ∷ []) ≡ true
-    push [] b all here = rw here refl
-    push (c ∷ cs) b all here = (let h = both (is_digit c) (are_digits cs) all in rw (h.0, push cs b h.1 here) refl)
-
-    more : (n : ℕ) (ds : List ℕ) → 10 ≤ n → are_digits ds ≡ true → are_digits (ds ++ (48 + n % 10) ∷ []) ≡ true
-    more n ds large is = push ds (48 + n % 10) is (digit (n % 10) (omega arith))
-
-digits_number : (ds : List ℕ) → 0 < length ds → are_digits ds ≡ true → (begins is_digit ds && list_all is_number_byte ds) ≡ true
+digits_number : (ds : List ℕ) → 0 < length ds → all_digits ds ≡ true → (begins is_digit ds && list_all is_number_byte ds) ≡ true
 digits_number [] some all = absurd (omega arith)
 digits_number (d ∷ ds) some all =
-    let h = both (is_digit d) (are_digits ds) all in
+    let h = both (is_digit d) (all_digits ds) all in
     joined (is_digit d) (list_all is_number_byte (d ∷ ds)) h.0 (numbers (d ∷ ds) all)
   where
     number_byte : (b : ℕ) → is_digit b ≡ true → is_number_byte b ≡ true
     number_byte b is = grind (arith, nat_tests)
 
-    numbers : (ds : List ℕ) → are_digits ds ≡ true → list_all is_number_byte ds ≡ true
+    numbers : (ds : List ℕ) → all_digits ds ≡ true → list_all is_number_byte ds ≡ true
     numbers [] all = refl
-    numbers (d ∷ ds) all = (let h = both (is_digit d) (are_digits ds) all in rw (number_byte d h.0, numbers ds h.1) refl)
+    numbers (d ∷ ds) all = (let h = both (is_digit d) (all_digits ds) all in rw (number_byte d h.0, numbers ds h.1) refl)
 
 pub digits_token : (n : ℕ) (rest : List ℕ) → n < 2 ^ 64 → 0 < length (decimal n) → begins is_number_byte rest ≡ false → IsToken Number (decimal n) rest
-digits_token n rest small some stops = number_token (decimal n) rest (digits_number (decimal n) some (digits_all n small)) stops
+digits_token n rest small some stops = number_token (decimal n) rest (digits_number (decimal n) some (all_digits_decimal n small)) stops

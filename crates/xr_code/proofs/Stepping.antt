@@ -9,13 +9,15 @@ use Rattle.xr_text.specs.declared.token.Kind.TheVariants.{Name, Number, Mark}
 use Rattle.xr_text.specs.declared.token.Token.{Token}
 use Rattle.xr_code.specs.Machine.{Progress, body, next, on, refused, statement_by, step, wait_by, waited}
 use Rattle.xr_code.specs.Names.{is_plain}
-use Rattle.xr_code.specs.Words.{are_digits, is_mark, is_word, number_from, spelled}
+use Rattle.xr_code.specs.Words.{is_mark, is_word, spelled}
+use Rattle.xr_scan.specs.Bytes.{all_digits}
+use Rattle.xr_scan.specs.Numbers.{number_from}
 use Rattle.xr_code.specs.declared.state.State.{State}
 use Rattle.xr_code.specs.declared.state.State.TheVariants.{Body, Wait, WaitEnd, NameNext, Tail}
 use Rattle.xr_code.specs.Written.{wait_line}
-use Rattle.xr_code.proofs.Decimals.{number_of_decimal}
+use Rattle.xr_scan.proofs.Digits.{all_digits_decimal, number_of_decimal}
 use Rattle.xr_code.proofs.Leading.{Leads, token_leads, white}
-use Rattle.xr_code.proofs.Spelling.{digits_all, digits_token, is_plain_mark, mark_token, name_token}
+use Rattle.xr_code.proofs.Spelling.{digits_token, is_plain_mark, mark_token, name_token}
 
 pub bytes_same : (word : List ℕ) → bytes_eq word word ≡ true
 bytes_same word = (bytes_eq-Decides word word).1 refl
@@ -89,8 +91,8 @@ wait_number p at d time moment round rest events small stops goes leads =
     record {
       to = WaitEnd;
       progress = moved p time moment round;
-      stepped = ap (λ l. wait_by p at (token Number start last) (if are_digits l then Some (number_from 0 l) else None)) sp
-          ∙ (ap (λ b. wait_by p at (token Number start last) (if b then Some (number_from 0 (decimal d)) else None)) (digits_all d small)
+      stepped = ap (λ l. wait_by p at (token Number start last) (if all_digits l then Some (number_from 0 l) else None)) sp
+          ∙ (ap (λ b. wait_by p at (token Number start last) (if b then Some (number_from 0 (decimal d)) else None)) (all_digits_decimal d small)
           ∙ (ap (λ n. waited p at n) (number_of_decimal d small) ∙ goes));
       leads = leads;
     })

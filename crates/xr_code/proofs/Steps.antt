@@ -12,7 +12,9 @@ use Rattle.xr_code.specs.Says.{statements_of, stop_of}
 use Rattle.xr_code.specs.declared.refusal.CodeErr.{CodeErr}
 use Rattle.xr_code.specs.declared.state.State.{State}
 use Rattle.xr_code.specs.declared.state.State.TheVariants.{Module}
-use Rattle.xr_code.specs.Words.{are_digits, digits_of, is_number_kind, number_from, number_of, spelled}
+use Rattle.xr_code.specs.Words.{digits_of, is_number_kind, number_of, spelled}
+use Rattle.xr_scan.specs.Bytes.{all_digits}
+use Rattle.xr_scan.specs.Numbers.{number_from}
 use Rattle.xr_code.proofs.Moments.{rises}
 use Rattle.xr_code.proofs.Staying.{begins_there}
 
@@ -28,7 +30,7 @@ earlier_times q p moment later k same at_moment is less below =
 
 -- The number of the digits.
 pub number_is : (text other : List ℕ) (t : Token) (digits : List ℕ) (number : ℕ) → text ≡ other → digits_of text t ≡ Some digits → number ≡ number_from 0 digits → Some number ≡ number_of other t
-number_is text other t digits number same are is = by (is_number_kind t.kind && are_digits (spelled text t)) are ∙ ap (λ (l : List ℕ). number_of l t) same
+number_is text other t digits number same are is = by (is_number_kind t.kind && all_digits (spelled text t)) are ∙ ap (λ (l : List ℕ). number_of l t) same
   where
     by : (b : Bool) → (if b then Some (spelled text t) else None) ≡ Some digits → Some number ≡ (if b then Some (number_from 0 (spelled text t)) else None)
     by true h = (let e : spelled text t ≡ digits = cc in ap Some (is ∙ ap (number_from 0) (sym e)))

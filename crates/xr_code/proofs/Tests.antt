@@ -5,7 +5,7 @@ use Rattle.xr_text.specs.declared.token.Kind.{Kind}
 use Rattle.xr_text.specs.declared.token.Kind.TheVariants.{Name, Escaped, Number, Text, Mark}
 use Rattle.xr_text.specs.declared.token.Token.{Token}
 use Rattle.xr_code.specs.Words.{is_mark, is_mark_kind, is_name_kind, is_word, spelled}
-use Rattle.xr_code.proofs.Spelling.{both}
+use Rattle.xr_scan.proofs.Fronts.{both}
 
 -- what a word spells, and a mark
 word_spelled : (text word : List ℕ) (t : Token) → is_word text t word ≡ true → spelled text t ≡ word

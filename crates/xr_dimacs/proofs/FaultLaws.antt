@@ -7,7 +7,7 @@ use Rattle.std.proofs.lemmas.List.{length-append}
 use Rattle.xr_proof.specs.declared.clause.Cnf.{Cnf}
 use Rattle.xr_dimacs.specs.declared.fault.DimacsFault.{DimacsFault}
 use Rattle.xr_dimacs.specs.declared.fault.DimacsFault.TheVariants.{Syntax, Range, Count}
-use Rattle.xr_dimacs.specs.declared.gap.Gap.TheVariants.{Blank}
+use Rattle.xr_scan.specs.declared.gap.Gap.TheVariants.{Blank}
 use Rattle.xr_dimacs.specs.declared.header.Header.{Header}
 use Rattle.xr_dimacs.specs.declared.kind.Kind.TheVariants.{OfLog}
 use Rattle.xr_dimacs.specs.declared.refusal.DimacsErr.{DimacsErr}

@@ -1,57 +1,28 @@
 -- The header: which line it is, and which numbers it has.
 use Rattle.std.proofs.Common.{◌≡◌, ℕ, ◌+◌, ◌≤◌, Bool, true, false, cond, List, [], ◌∷◌, ◌++◌, length, Option, Some, None, Result, Ok, Err, refl, sym, subst, ◌∙◌, ap, arith}
-use Rattle.std.specs.Prelude.{bytes_eq, codes, nat_le}
+use Rattle.std.specs.Prelude.{codes, nat_le}
 use Rattle.std.specs.List.{AllByRecursion}
-use Rattle.std.proofs.lemmas.Bool.Decides.{nat_tests}
-use Rattle.std.proofs.lemmas.Slice.Eq.{bytes_eq-Decides}
 use Rattle.xr_dimacs.specs.declared.fault.DimacsFault.{DimacsFault}
 use Rattle.xr_dimacs.specs.declared.fault.DimacsFault.TheVariants.{Syntax}
-use Rattle.xr_dimacs.specs.declared.gap.Gap.TheVariants.{Blank}
+use Rattle.xr_scan.specs.declared.gap.Gap.TheVariants.{Blank}
 use Rattle.xr_dimacs.specs.declared.header.Header.{Header}
 use Rattle.xr_dimacs.specs.Grammar.{IsFirstLine, IsHeader, is_idle}
 use Rattle.xr_dimacs.specs.Lines.{words_in}
-use Rattle.xr_dimacs.specs.Machine.{◌>>=◌, LinesView, are_digits, at_most, before_lines, count_in_front, count_of, header_in, header_of, header_on, needed, on_ok, whole, with_rest, word_in_front}
-use Rattle.xr_dimacs.specs.Numbers.{IsCount, number_from}
+use Rattle.xr_dimacs.specs.Machine.{LinesView, before_lines, count_in_front, header_in, header_of, header_on, needed, on_ok, whole, with_rest}
+use Rattle.xr_scan.specs.Fronts.{◌>>=◌, word_in_front}
+use Rattle.xr_scan.specs.Bytes.{are_digits}
+use Rattle.xr_dimacs.specs.Numbers.{IsCount}
+use Rattle.xr_scan.specs.Numbers.{at_most, number_from, number_within}
+use Rattle.xr_scan.proofs.Digits.{at_most_again, within}
+use Rattle.xr_scan.proofs.Fronts.{bind_some, guarded, some_is, word_takes}
 use Rattle.xr_dimacs.proofs.NumberLaws.{digits_again, digits_of}
-
-bind_some : {A B : Type 0} (o : Option A) (f : A → Option B) (y : B) → (o >>= f) ≡ Some y
-    → (x : A) × (o ≡ Some x) × (f x ≡ Some y)
-bind_some None f y read = absurd cc
-bind_some (Some x) f y read = (x, refl, read)
-
-guarded : {A : Type 0} (b : Bool) (o : Option A) (x : A) → cond b o None ≡ Some x → (b ≡ true) × (o ≡ Some x)
-guarded true o x h = (refl, h)
-guarded false o x h = absurd cc
-
-some_is : {A : Type 0} (x y : A) → Some x ≡ Some y → x ≡ y
-some_is x y h = cc
-
-same_word : (w v : List ℕ) → bytes_eq w v ≡ true → w ≡ v
-same_word w v h = (bytes_eq-Decides w v).0 h
-
-word_same : (w : List ℕ) → bytes_eq w w ≡ true
-word_same w = (bytes_eq-Decides w w).1 refl
-
--- This word in front.
-word_takes : (word : List ℕ) (ws rest : List (List ℕ)) → word_in_front word ws ≡ Some rest → ws ≡ word ∷ rest
-word_takes word [] rest read = absurd cc
-word_takes word (w ∷ ws) rest read =
-    let found = guarded (bytes_eq w word) (Some ws) rest read in
-    let here : w ≡ word = same_word w word found.0 in
-    let there : ws ≡ rest = some_is ws rest found.1 in cc
-
-word_again : (word : List ℕ) (rest : List (List ℕ)) → word_in_front word (word ∷ rest) ≡ Some rest
-word_again word rest = rw (word_same word) refl
 
 -- A count in front.
 at_most_takes : (limit n m : ℕ) → at_most limit n ≡ Some m → (m ≡ n) × (n ≤ limit)
 at_most_takes limit n m read =
-    let found = guarded (nat_le n limit) (Some n) m read in (sym (some_is n m found.1), small found.0)
-  where
-    small : nat_le n limit ≡ true → n ≤ limit
-    small h = grind (arith, nat_tests)
+    let found = guarded (nat_le n limit) (Some n) m read in (sym (some_is n m found.1), within n limit found.0)
 
-count_takes : (limit : ℕ) (word : List ℕ) (n : ℕ) → count_of limit word ≡ Some n → IsCount limit word n
+count_takes : (limit : ℕ) (word : List ℕ) (n : ℕ) → number_within limit word ≡ Some n → IsCount limit word n
 count_takes limit word n read =
     let found = guarded (are_digits word) (at_most limit (number_from 0 word)) n read in
     let value = at_most_takes limit (number_from 0 word) n found.1 in
@@ -61,10 +32,7 @@ count_takes limit word n read =
       small = omega (arith, value.0, value.1);
     }
 
-at_most_again : (limit n : ℕ) → n ≤ limit → at_most limit n ≡ Some n
-at_most_again limit n small = grind (arith, nat_tests)
-
-count_again : (limit : ℕ) (word : List ℕ) (n : ℕ) → IsCount limit word n → count_of limit word ≡ Some n
+count_again : (limit : ℕ) (word : List ℕ) (n : ℕ) → IsCount limit word n → number_within limit word ≡ Some n
 count_again limit word n is =
     rw (digits_again word n is.writes) (ap (at_most limit) (sym is.writes.is) ∙ at_most_again limit n is.small)
 
@@ -77,7 +45,7 @@ front_takes : (limit : ℕ) (ws : List (List ℕ)) (p : ℕ × List (List ℕ)) 
 unfolding count_in_front
 front_takes limit [] p read = absurd cc
 front_takes limit (w ∷ ws) p read =
-    let found = bind_some (count_of limit w) (with_rest ws) p read in
+    let found = bind_some (number_within limit w) (with_rest ws) p read in
     let p_is : (found.0, ws) ≡ p = some_is (found.0, ws) p found.2 in
     subst (λ (q : ℕ × List (List ℕ)). HasCount limit (w ∷ ws) q.0 q.1) p_is
     (record { word = w; words = refl; count = count_takes limit w found.0 found.1 })

@@ -5,27 +5,18 @@ use Rattle.std.specs.List.{list_all}
 use Rattle.std.proofs.lemmas.Bool.Decides.{nat_tests}
 use Rattle.xr_dimacs.specs.declared.fault.DimacsFault.{DimacsFault}
 use Rattle.xr_dimacs.specs.declared.fault.DimacsFault.TheVariants.{Syntax, Range}
-use Rattle.xr_dimacs.specs.Machine.{are_digits, at_most, in_range, literal_of, negated, on_ok, plain as plainly, variable_of}
-use Rattle.xr_dimacs.specs.Numbers.{AreDigitsOf, IsNumber, is_digit, negative, number_from, plain}
-
-both : (a b : Bool) → a && b ≡ true → (a ≡ true) × (b ≡ true)
-both true b h = (refl, h)
-both false b h = absurd cc
+use Rattle.xr_dimacs.specs.Machine.{in_range, literal_of, negated, on_ok, plain as plainly, variable_of}
+use Rattle.xr_dimacs.specs.Numbers.{AreDigitsOf, IsNumber, negative, plain}
+use Rattle.xr_scan.specs.Numbers.{at_most, number_from}
+use Rattle.xr_scan.specs.Bytes.{are_digits, is_digit}
+use Rattle.xr_scan.proofs.Digits.{filled, filled_true, within}
+use Rattle.xr_scan.proofs.Fronts.{both}
 
 pub all_true : (a b : Bool) → a ≡ true → b ≡ true → a && b ≡ true
 all_true a b x y = cc
 
-within : (n limit : ℕ) → nat_le n limit ≡ true → n ≤ limit
-within n limit h = grind (arith, nat_tests)
-
 past : (n limit : ℕ) → nat_le n limit ≡ false → limit < n
 past n limit h = grind (arith, nat_tests)
-
-filled : (n : ℕ) → nat_lt 0 n ≡ true → 0 < n
-filled n h = grind (arith, nat_tests)
-
-filled_true : (n : ℕ) → 0 < n → nat_lt 0 n ≡ true
-filled_true n h = grind (arith, nat_tests)
 
 is_same : (a b : ℕ) → (a == b) ≡ true → a ≡ b
 is_same a b h = grind (arith, nat_tests)

@@ -1,25 +1,28 @@
 -- What is written is read as what was written.
-use Rattle.std.proofs.Common.{◌≡◌, ℕ, suc, ◌+◌, ◌^◌, ◌<◌, ◌≤◌, Bool, true, false, List, [], ◌∷◌, ◌++◌, length, refl, sym, subst, ◌∙◌, ap, append_assoc, arith, rules}
-use Rattle.std.specs.Prelude.{ℤ, pos, negsuc, nat_abs, codes, decimal, map, Result, ◌&&◌}
+use Rattle.std.proofs.Common.{◌≡◌, ℕ, suc, ◌+◌, ◌^◌, ◌<◌, ◌≤◌, true, false, List, [], ◌∷◌, ◌++◌, length, refl, sym, subst, ◌∙◌, ap, append_assoc, arith}
+use Rattle.std.specs.Prelude.{ℤ, pos, negsuc, nat_abs, codes, decimal, map, Result}
 use Rattle.std.specs.Fmt.{signed_decimal}
 use Rattle.std.specs.List.{All, AllByRecursion, flat_map, list_all}
 use Rattle.std.proofs.lemmas.Bool.Decides.{nat_tests}
-use Rattle.std.proofs.lemmas.Fmt.{decimal_nonempty, digits_decimal, digits_value-decimal}
+use Rattle.std.proofs.lemmas.Fmt.{decimal_nonempty}
 use Rattle.std.proofs.lemmas.List.{append-nil}
 use Rattle.std.proofs.lemmas.List.Elements.{recursion_from_All}
-use Rattle.std.proofs.lemmas.Str.Parse.{IsNumeralModel, numerals_by_fold}
 use Rattle.xr_proof.specs.Assignment.{HasNoZero}
 use Rattle.xr_proof.specs.Log.{Fit}
 use Rattle.xr_proof.specs.declared.clause.Cnf.{Cnf}
-use Rattle.xr_dimacs.specs.declared.gap.Gap.{Gap}
-use Rattle.xr_dimacs.specs.declared.gap.Gap.TheVariants.{Newline, White, Blank}
+use Rattle.xr_scan.specs.declared.gap.Gap.{Gap}
+use Rattle.xr_scan.specs.declared.gap.Gap.TheVariants.{Blank, Byte, White}
 use Rattle.xr_dimacs.specs.declared.kind.Kind.{Kind}
 use Rattle.xr_dimacs.specs.declared.kind.Kind.TheVariants.{OfCnf, OfLog}
 use Rattle.xr_dimacs.specs.declared.refusal.DimacsErr.{DimacsErr}
 use Rattle.xr_dimacs.specs.Grammar.{AreLiterals, AreNumbers, IsCnfText, IsHeader, IsLogText, StandFor, numbers_of}
 use Rattle.xr_dimacs.specs.Laws.{CnfIsRead, IsBounded, LogIsRead, OwnCnfIsRead, OwnLogIsRead}
-use Rattle.xr_dimacs.specs.Lines.{Word, begins_passed, is_filled, is_gap, is_passed, lines_in, on_line, parts, with_front, words_from, words_in, words_of_line}
-use Rattle.xr_dimacs.specs.Numbers.{AreDigitsOf, IsNumber, is_digit, negative, number_from, plain}
+use Rattle.xr_dimacs.specs.Lines.{Word, begins_passed, is_filled, is_passed, lines_in, on_line, parts, words_from, words_in, words_of_line}
+use Rattle.xr_scan.specs.Gaps.{is_gap, with_front}
+use Rattle.xr_dimacs.specs.Numbers.{AreDigitsOf, IsNumber, negative, plain}
+use Rattle.xr_scan.specs.Bytes.{is_digit}
+use Rattle.xr_scan.proofs.Digits.{all_digits_decimal, number_of_decimal}
+use Rattle.xr_scan.proofs.Fronts.{both}
 use Rattle.xr_dimacs.specs.Text.{clause_text, cnf_text, header_text, literal_text, log_text}
 
 -- No byte of these is a gap.
@@ -51,50 +54,48 @@ word_last gap [] word = absurd (no_word word.some)
     no_word h = absurd cc
 word_last gap (b ∷ bs) word = rw (part_last gap b bs word.none) refl
 
--- Digits.
-own : IsNumeralModel (λ ds. list_all is_digit ds ≡ true) (number_from 0)
-own = numerals_by_fold _ (search rules) number_from (search rules)
+-- Digits. No gap of lines or words is one.
+abbrev IsPlain : Gap → Type 0
+IsPlain (Byte one) = one ≡ 10
+IsPlain Blank = Unit {0}
+IsPlain White = Unit {0}
 
-digit_no_gap : (gap : Gap) (b : ℕ) → is_digit b ≡ true → is_gap gap b ≡ false
-digit_no_gap Newline b h = grind (arith, nat_tests)
-digit_no_gap White b h = grind (arith, nat_tests)
-digit_no_gap Blank b h = grind (arith, nat_tests)
+digit_no_gap : (gap : Gap) → IsPlain gap → (b : ℕ) → is_digit b ≡ true → is_gap gap b ≡ false
+digit_no_gap (Byte one) is b h = grind (arith, nat_tests)
+digit_no_gap Blank is b h = grind (arith, nat_tests)
+digit_no_gap White is b h = grind (arith, nat_tests)
 
 digit_not_passed : (kind : Kind) (b : ℕ) → is_digit b ≡ true → begins_passed kind b ≡ false
 digit_not_passed OfCnf b h = grind (arith, nat_tests)
 digit_not_passed OfLog b h = grind (arith, nat_tests)
 
-both : (a b : Bool) → a && b ≡ true → (a ≡ true) × (b ≡ true)
-both true b h = (refl, h)
-both false b h = absurd cc
-
-digits_no_gap : (gap : Gap) (ds : List ℕ) → list_all is_digit ds ≡ true → HasNoGap gap ds
-digits_no_gap gap [] h = tt
-digits_no_gap gap (d ∷ ds) h =
-    let found = both (is_digit d) (list_all is_digit ds) h in (digit_no_gap gap d found.0, digits_no_gap gap ds found.1)
+digits_no_gap : (gap : Gap) → IsPlain gap → (ds : List ℕ) → list_all is_digit ds ≡ true → HasNoGap gap ds
+digits_no_gap gap is [] h = tt
+digits_no_gap gap is (d ∷ ds) h =
+    let found = both (is_digit d) (list_all is_digit ds) h in (digit_no_gap gap is d found.0, digits_no_gap gap is ds found.1)
 
 filled_by : (w : List ℕ) → 0 < length w → is_filled w ≡ true
 filled_by [] some = absurd (omega (arith, some))
 filled_by (b ∷ bs) some = refl
 
-decimal_word : (gap : Gap) (n : ℕ) → n < 2 ^ 64 → IsWord gap (decimal n)
-decimal_word gap n small =
-    record { some = filled_by (decimal n) (decimal_nonempty n small); none = digits_no_gap gap (decimal n) (digits_decimal own n small) }
+decimal_word : (gap : Gap) → IsPlain gap → (n : ℕ) → n < 2 ^ 64 → IsWord gap (decimal n)
+decimal_word gap is n small =
+    record { some = filled_by (decimal n) (decimal_nonempty n small); none = digits_no_gap gap is (decimal n) (all_digits_decimal n small) }
 
 decimal_digits : (n : ℕ) → n < 2 ^ 64 → AreDigitsOf (decimal n) n
 decimal_digits n small =
-    record { some = decimal_nonempty n small; digits = digits_decimal own n small; is = sym (digits_value-decimal own n small) }
+    record { some = decimal_nonempty n small; digits = all_digits_decimal n small; is = sym (number_of_decimal n small) }
 
 -- Literals.
-sign_no_gap : (gap : Gap) → is_gap gap 45 ≡ false
-sign_no_gap Newline = refl
-sign_no_gap White = refl
-sign_no_gap Blank = refl
+sign_no_gap : (gap : Gap) → IsPlain gap → is_gap gap 45 ≡ false
+sign_no_gap (Byte one) is = rw is refl
+sign_no_gap Blank is = refl
+sign_no_gap White is = refl
 
-literal_word : (gap : Gap) (l : ℤ) → nat_abs l < 2 ^ 64 → IsWord gap (signed_decimal l)
-literal_word gap (pos n) small = decimal_word gap n small
-literal_word gap (negsuc n) small =
-    record { some = refl; none = (sign_no_gap gap, digits_no_gap gap (decimal (suc n)) (digits_decimal own (suc n) small)) }
+literal_word : (gap : Gap) → IsPlain gap → (l : ℤ) → nat_abs l < 2 ^ 64 → IsWord gap (signed_decimal l)
+literal_word gap is (pos n) small = decimal_word gap is n small
+literal_word gap is (negsuc n) small =
+    record { some = refl; none = (sign_no_gap gap is, digits_no_gap gap is (decimal (suc n)) (all_digits_decimal (suc n) small)) }
 
 literal_number : (l : ℤ) → nat_abs l < 2 ^ 64 → IsNumber (signed_decimal l) l
 literal_number (pos n) small = plain n (decimal_digits n small) refl
@@ -114,7 +115,7 @@ clause_words : (ls : List ℤ) → AreSmall ls → words_in White (clause_text l
 clause_words [] small = refl
 clause_words (l ∷ ls) small =
     ap (words_in White) (literal_first (signed_decimal l) (flat_map literal_text ls) (codes "0"))
-    ∙ (word_first White (signed_decimal l) 32 (clause_text ls) (literal_word White l small.0) refl
+    ∙ (word_first White (signed_decimal l) 32 (clause_text ls) (literal_word White tt l small.0) refl
     ∙ ap (λ ws. signed_decimal l ∷ ws) (clause_words ls small.1))
 
 clause_numbers : (n : ℕ) (ls : List ℤ) → AreSmall ls → AreNumbers (on_line n (map signed_decimal ls ++ codes "0" ∷ [])) (ls ++ pos 0 ∷ [])
@@ -126,14 +127,14 @@ no_gap_append : (gap : Gap) (v w : List ℕ) → HasNoGap gap v → HasNoGap gap
 no_gap_append gap [] w x y = y
 no_gap_append gap (b ∷ bs) w x y = (x.0, no_gap_append gap bs w x.1 y)
 
-literals_one_line : (ls : List ℤ) → AreSmall ls → HasNoGap Newline (flat_map literal_text ls)
+literals_one_line : (ls : List ℤ) → AreSmall ls → HasNoGap (Byte 10) (flat_map literal_text ls)
 literals_one_line [] small = tt
 literals_one_line (l ∷ ls) small =
-    no_gap_append Newline (literal_text l) (flat_map literal_text ls)
-    (no_gap_append Newline (signed_decimal l) (codes " ") (literal_word Newline l small.0).none (refl, tt)) (literals_one_line ls small.1)
+    no_gap_append (Byte 10) (literal_text l) (flat_map literal_text ls)
+    (no_gap_append (Byte 10) (signed_decimal l) (codes " ") (literal_word (Byte 10) refl l small.0).none (refl, tt)) (literals_one_line ls small.1)
 
-one_line : (ls : List ℤ) → AreSmall ls → HasNoGap Newline (clause_text ls)
-one_line ls small = no_gap_append Newline (flat_map literal_text ls) (codes "0") (literals_one_line ls small) (refl, tt)
+one_line : (ls : List ℤ) → AreSmall ls → HasNoGap (Byte 10) (clause_text ls)
+one_line ls small = no_gap_append (Byte 10) (flat_map literal_text ls) (codes "0") (literals_one_line ls small) (refl, tt)
 
 begins : (kind : Kind) (w rest : List ℕ) → is_filled w ≡ true → is_passed kind w ≡ false → is_passed kind (w ++ rest) ≡ false
 begins kind [] rest some is = absurd cc
@@ -152,14 +153,14 @@ zero_begins OfCnf = refl
 zero_begins OfLog = refl
 
 literal_begins : (kind : Kind) (l : ℤ) → nat_abs l < 2 ^ 64 → is_passed kind (signed_decimal l) ≡ false
-literal_begins kind (pos n) small = digits_begin kind (decimal n) (digits_decimal own n small)
+literal_begins kind (pos n) small = digits_begin kind (decimal n) (all_digits_decimal n small)
 literal_begins kind (negsuc n) small = sign_begins kind
 
 not_passed : (kind : Kind) (ls : List ℤ) → AreSmall ls → is_passed kind (clause_text ls) ≡ false
 not_passed kind [] small = zero_begins kind
 not_passed kind (l ∷ ls) small =
     ap (is_passed kind) (literal_first (signed_decimal l) (flat_map literal_text ls) (codes "0"))
-    ∙ begins kind (signed_decimal l) (32 ∷ clause_text ls) (literal_word White l small.0).some (literal_begins kind l small.0)
+    ∙ begins kind (signed_decimal l) (32 ∷ clause_text ls) (literal_word White tt l small.0).some (literal_begins kind l small.0)
 
 -- The lines of clauses, and their words.
 abbrev AreAllSmall : List (List ℤ) → Type 0
@@ -172,7 +173,7 @@ clause_lines : (cs : List (List ℤ)) → AreAllSmall cs → lines_in (log_text 
 clause_lines [] small = refl
 clause_lines (c ∷ cs) small =
     ap lines_in (line_first (clause_text c) (log_text cs))
-    ∙ (part_first Newline (clause_text c) 10 (log_text cs) (one_line c small.0) refl
+    ∙ (part_first (Byte 10) (clause_text c) 10 (log_text cs) (one_line c small.0) refl
     ∙ ap (λ ls. clause_text c ∷ ls) (clause_lines cs small.1))
 
 numbers_append : (vs ws : List Word) (ms ns : List ℤ) → AreNumbers vs ms → AreNumbers ws ns → AreNumbers (vs ++ ws) (ms ++ ns)
@@ -239,14 +240,14 @@ header_words : (vars count : ℕ) → vars < 2 ^ 64 → count < 2 ^ 64
     → words_in Blank (header_text vars count) ≡ codes "p" ∷ codes "cnf" ∷ decimal vars ∷ decimal count ∷ []
 header_words vars count small few =
     ap (λ ws. codes "p" ∷ codes "cnf" ∷ ws)
-    (word_first Blank (decimal vars) 32 (decimal count) (decimal_word Blank vars small) refl
-    ∙ ap (λ ws. decimal vars ∷ ws) (word_last Blank (decimal count) (decimal_word Blank count few)))
+    (word_first Blank (decimal vars) 32 (decimal count) (decimal_word Blank tt vars small) refl
+    ∙ ap (λ ws. decimal vars ∷ ws) (word_last Blank (decimal count) (decimal_word Blank tt count few)))
 
-header_line : (vars count : ℕ) → vars < 2 ^ 64 → count < 2 ^ 64 → HasNoGap Newline (header_text vars count)
+header_line : (vars count : ℕ) → vars < 2 ^ 64 → count < 2 ^ 64 → HasNoGap (Byte 10) (header_text vars count)
 header_line vars count small few =
-    no_gap_append Newline (codes "p cnf ") (decimal vars ++ (codes " " ++ decimal count)) (refl, (refl, (refl, (refl, (refl, (refl, tt))))))
-    (no_gap_append Newline (decimal vars) (codes " " ++ decimal count) (decimal_word Newline vars small).none
-    (refl, (decimal_word Newline count few).none))
+    no_gap_append (Byte 10) (codes "p cnf ") (decimal vars ++ (codes " " ++ decimal count)) (refl, (refl, (refl, (refl, (refl, (refl, tt))))))
+    (no_gap_append (Byte 10) (decimal vars) (codes " " ++ decimal count) (decimal_word (Byte 10) refl vars small).none
+    (refl, (decimal_word (Byte 10) refl count few).none))
 
 written_header : (vars count : ℕ) → vars ≤ 2147483647 → count < 9223372036854775808 → IsHeader (header_text vars count) vars count
 written_header vars count few many =
@@ -264,7 +265,7 @@ cnf_lines : (vars : ℕ) (cs : List (List ℤ)) → vars < 2 ^ 64 → length cs 
     → lines_in (cnf_text vars cs) ≡ header_text vars (length cs) ∷ map clause_text cs
 cnf_lines vars cs small few all =
     ap lines_in (line_first (header_text vars (length cs)) (log_text cs))
-    ∙ (part_first Newline (header_text vars (length cs)) 10 (log_text cs) (header_line vars (length cs) small few) refl
+    ∙ (part_first (Byte 10) (header_text vars (length cs)) 10 (log_text cs) (header_line vars (length cs) small few) refl
     ∙ ap (λ ls. header_text vars (length cs) ∷ ls) (clause_lines cs all))
 
 pub written_cnf : (vars : ℕ) (clauses : List (List ℤ)) → IsBounded vars clauses → IsCnfText (cnf_text vars clauses) vars clauses

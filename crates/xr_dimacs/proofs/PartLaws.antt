@@ -1,11 +1,11 @@
 -- Parts: the first one, and how many there are.
 use Rattle.std.proofs.Common.{◌≡◌, ℕ, suc, ◌+◌, ◌<◌, ◌≤◌, ◌==◌, Bool, true, false, cond, List, [], ◌∷◌, length, take, drop, refl, ap, arith, add-one}
-use Rattle.xr_dimacs.specs.declared.gap.Gap.{Gap}
+use Rattle.xr_scan.specs.declared.gap.Gap.{Gap}
 use Rattle.std.specs.Prelude.{filter, not}
-use Rattle.xr_dimacs.specs.declared.gap.Gap.TheVariants.{Newline}
+use Rattle.xr_scan.specs.declared.gap.Gap.TheVariants.{Byte}
 use Rattle.xr_dimacs.specs.Faults.{is_cut_short, line_after}
-use Rattle.xr_dimacs.specs.Machine.{first_length}
-use Rattle.xr_dimacs.specs.Lines.{is_gap, lines_in, parts, with_front}
+use Rattle.xr_scan.specs.Gaps.{IsCut, IsWhole, first_length, is_gap, with_front}
+use Rattle.xr_dimacs.specs.Lines.{lines_in, parts}
 
 -- There are no more parts than bytes.
 front_few : (b n : ℕ) (ps : List (List ℕ)) → length ps ≤ n → length (with_front b ps) ≤ suc n
@@ -32,7 +32,7 @@ Cuts gap b bs t = cond t 0 (first_length gap bs + 1) < length (b ∷ bs)
     ≡ take (cond t 0 (first_length gap bs + 1)) (b ∷ bs)
     ∷ parts gap (drop (suc (cond t 0 (first_length gap bs + 1))) (b ∷ bs))
 
-pub first_cut : (gap : Gap) (bs : List ℕ) → first_length gap bs < length bs
+first_cut : (gap : Gap) (bs : List ℕ) → first_length gap bs < length bs
     → parts gap bs ≡ take (first_length gap bs) bs ∷ parts gap (drop (suc (first_length gap bs)) bs)
 first_cut gap [] less = absurd (omega arith)
 first_cut gap (b ∷ bs) less =
@@ -55,7 +55,7 @@ first_only gap b (c ∷ cs) is =
       | false ↦ λ h. first_only gap c cs (omega (arith, h))
     ]) is)
 
-pub first_all : (gap : Gap) (bs : List ℕ) → 0 < length bs → first_length gap bs ≡ length bs → parts gap bs ≡ bs ∷ []
+first_all : (gap : Gap) (bs : List ℕ) → 0 < length bs → first_length gap bs ≡ length bs → parts gap bs ≡ bs ∷ []
 first_all gap [] some is = absurd (omega (arith, some))
 first_all gap (b ∷ bs) some is =
     (elim (is_gap gap b) as (Uncut gap b bs) [
@@ -63,13 +63,19 @@ first_all gap (b ∷ bs) some is =
       | false ↦ λ h. first_only gap b bs (omega (arith, h))
     ]) is
 
+pub parts_cut : (gap : Gap) (text front rest : List ℕ) → IsCut gap text front rest → parts gap text ≡ front ∷ parts gap rest
+parts_cut gap text front rest is = rw (is.before, is.after) (first_cut gap text is.some)
+
+pub parts_whole : (gap : Gap) (text front : List ℕ) → 0 < length text → IsWhole gap text front → parts gap text ≡ front ∷ []
+parts_whole gap text front some is = rw is.is (first_all gap text some is.none)
+
 -- The line after the last is counted by lines as by newlines.
-front_filled : (b c : ℕ) (bs : List ℕ) → length (with_front b (parts Newline (c ∷ bs))) ≡ length (parts Newline (c ∷ bs))
+front_filled : (b c : ℕ) (bs : List ℕ) → length (with_front b (parts (Byte 10) (c ∷ bs))) ≡ length (parts (Byte 10) (c ∷ bs))
 front_filled b c bs =
-    elim (c == 10) as (λ t. length (with_front b (cond t ([] ∷ parts Newline bs) (with_front c (parts Newline bs))))
-    ≡ length (cond t ([] ∷ parts Newline bs) (with_front c (parts Newline bs)))) [
+    elim (c == 10) as (λ t. length (with_front b (cond t ([] ∷ parts (Byte 10) bs) (with_front c (parts (Byte 10) bs))))
+    ≡ length (cond t ([] ∷ parts (Byte 10) bs) (with_front c (parts (Byte 10) bs)))) [
       | true ↦ refl
-      | false ↦ twice (parts Newline bs)
+      | false ↦ twice (parts (Byte 10) bs)
     ]
   where
     twice : (ps : List (List ℕ)) → length (with_front b (with_front c ps)) ≡ length (with_front c ps)

@@ -1,9 +1,10 @@
 -- Which texts stand for a formula, and which for a log (the format of the DIMACS satisfiability challenge).
 use Rattle.std.specs.Prelude.{◌≡◌, ◌≢◌, ℕ, ℤ, pos, ◌+◌, ◌≤◌, nat_abs, List, [], ◌∷◌, ◌++◌, Bool, true, false, ◌||◌, codes, length}
 use Rattle.std.specs.List.{AllByRecursion, AllZip, flat_map, list_all}
-use Rattle.xr_dimacs.specs.declared.gap.Gap.TheVariants.{Blank}
+use Rattle.xr_scan.specs.declared.gap.Gap.TheVariants.{Blank}
 use Rattle.xr_dimacs.specs.declared.kind.Kind.TheVariants.{OfCnf, OfLog}
-use Rattle.xr_dimacs.specs.Lines.{Word, is_passed, is_white, lines_in, words_from, words_in}
+use Rattle.xr_dimacs.specs.Lines.{Word, is_passed, lines_in, words_from, words_in}
+use Rattle.xr_scan.specs.Bytes.{is_white}
 use Rattle.xr_dimacs.specs.Numbers.{IsCount, IsNumber}
 
 -- The numbers of words, one for each.

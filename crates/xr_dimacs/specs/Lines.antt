@@ -1,24 +1,10 @@
 -- The lines of a text, the words of a line, and the words of lines with their numbers.
 use Rattle.std.specs.Prelude.{ℕ, ◌+◌, ◌==◌, Bool, true, false, ◌||◌, List, [], ◌∷◌, ◌++◌, filter, if◌then◌else◌}
-use Rattle.xr_dimacs.specs.declared.gap.Gap.{Gap}
-use Rattle.xr_dimacs.specs.declared.gap.Gap.TheVariants.{Newline, White, Blank}
+use Rattle.xr_scan.specs.declared.gap.Gap.{Gap}
+use Rattle.xr_scan.specs.declared.gap.Gap.TheVariants.{Byte, White}
+use Rattle.xr_scan.specs.Gaps.{is_gap, with_front}
 use Rattle.xr_dimacs.specs.declared.kind.Kind.{Kind}
 use Rattle.xr_dimacs.specs.declared.kind.Kind.TheVariants.{OfCnf, OfLog}
-
--- White space is space, tab, newline, carriage return and form feed.
-abbrev pub is_white : ℕ → Bool
-is_white b = (b == 32) || (b == 9) || (b == 10) || (b == 13) || (b == 12)
-
--- What stands between two parts: a newline, white space, or spaces and tabs.
-abbrev pub is_gap : Gap → ℕ → Bool
-is_gap Newline b = b == 10
-is_gap White b = is_white b
-is_gap Blank b = (b == 32) || (b == 9)
-
--- one byte more in front of the first part
-abbrev pub with_front : ℕ → List (List ℕ) → List (List ℕ)
-with_front b [] = (b ∷ []) ∷ []
-with_front b (p ∷ ps) = (b ∷ p) ∷ ps
 
 -- What stands before each gap, and what stands after the last one, if anything does.
 abbrev pub parts : Gap → List ℕ → List (List ℕ)
@@ -27,7 +13,7 @@ parts gap (b ∷ bs) = if is_gap gap b then [] ∷ parts gap bs else with_front 
 
 -- The lines of a text, without their newlines. The last one need not have one.
 abbrev pub lines_in : List ℕ → List (List ℕ)
-lines_in text = parts Newline text
+lines_in text = parts (Byte 10) text
 
 abbrev pub is_filled : List ℕ → Bool
 is_filled [] = false

@@ -1,32 +1,21 @@
 -- What a text comes to, line by line and word by word: the clauses, or the first fault.
-use Rattle.std.specs.Prelude.{ℕ, ℤ, pos, neg_ℤ, ◌+◌, ◌++◌, ◌&&◌, ◌==◌, nat_le, nat_lt, List, [], ◌∷◌, Bool, true, false, cond, if◌then◌else◌, bytes_eq, codes, length, Option, Some, None, Result, Ok, Err}
-use Rattle.std.specs.List.{list_all}
+use Rattle.std.specs.Prelude.{ℕ, ℤ, pos, neg_ℤ, ◌+◌, ◌++◌, ◌&&◌, ◌==◌, nat_le, nat_lt, List, [], ◌∷◌, Bool, true, false, cond, codes, length, Option, Some, None, Result, Ok, Err}
 use Rattle.std.specs.Ordering.{int_eq}
 use Rattle.xr_dimacs.specs.declared.fault.DimacsFault.{DimacsFault}
 use Rattle.xr_dimacs.specs.declared.fault.DimacsFault.TheVariants.{Syntax, Range, Count}
-use Rattle.xr_dimacs.specs.declared.gap.Gap.{Gap}
-use Rattle.xr_dimacs.specs.declared.gap.Gap.TheVariants.{Blank}
+use Rattle.xr_scan.specs.declared.gap.Gap.TheVariants.{Blank}
 use Rattle.xr_dimacs.specs.declared.header.Header.{Header}
 use Rattle.xr_dimacs.specs.declared.kind.Kind.{Kind}
 use Rattle.xr_dimacs.specs.declared.kind.Kind.TheVariants.{OfCnf, OfLog}
 use Rattle.xr_dimacs.specs.Grammar.{is_idle}
-use Rattle.xr_dimacs.specs.Lines.{Word, is_gap, lines_in, words_from, words_in}
-use Rattle.xr_dimacs.specs.Numbers.{is_digit, number_from}
+use Rattle.xr_dimacs.specs.Lines.{Word, lines_in, words_from, words_in}
+use Rattle.xr_scan.specs.Bytes.{are_digits}
+use Rattle.xr_scan.specs.Fronts.{◌>>=◌, word_in_front}
+use Rattle.xr_scan.specs.Numbers.{at_most, number_from, number_within}
 
 abbrev pub on_ok : {A B : Type 0} → Result A DimacsFault → (A → Result B DimacsFault) → Result B DimacsFault
 on_ok (Ok x) go = go x
 on_ok (Err fault) go = Err fault
-
--- How many bytes the first part has.
-abbrev pub first_length : Gap → List ℕ → ℕ
-first_length gap [] = 0
-first_length gap (b ∷ bs) = if is_gap gap b then 0 else first_length gap bs + 1
-
-abbrev pub are_digits : List ℕ → Bool
-are_digits word = nat_lt 0 (length word) && list_all is_digit word
-
-abbrev pub at_most : ℕ → ℕ → Option ℕ
-at_most limit n = cond (nat_le n limit) (Some n) None
 
 -- The number of digits, where it is a variable of 1 to vars, or 0.
 abbrev pub in_range : ℕ → Option ℕ → Result ℕ DimacsFault
@@ -117,26 +106,13 @@ abbrev pub clauses_in : Kind → State → LinesView → Result (List (List ℤ)
 clauses_in kind s view =
     on_ok (reach s (words_from kind view.number view.lines)) (finish (view.number + length view.lines))
 
-infixl 10 ◌>>=◌
-abbrev pub ◌>>=◌ : {A B : Type 0} → Option A → (A → Option B) → Option B
-None >>= f = None
-(Some x) >>= f = f x
-
--- This word in front, and the words after it.
-abbrev pub word_in_front : List ℕ → List (List ℕ) → Option (List (List ℕ))
-word_in_front word [] = None
-word_in_front word (w ∷ ws) = cond (bytes_eq w word) (Some ws) None
-
--- A count in front, at most the limit, and the words after it.
-abbrev pub count_of : ℕ → List ℕ → Option ℕ
-count_of limit word = cond (are_digits word) (at_most limit (number_from 0 word)) None
-
 abbrev pub with_rest : List (List ℕ) → ℕ → Option (ℕ × List (List ℕ))
 with_rest ws n = Some (n, ws)
 
+-- A count in front, at most the limit, and the words after it.
 unfoldable pub count_in_front : ℕ → List (List ℕ) → Option (ℕ × List (List ℕ))
 count_in_front limit [] = None
-count_in_front limit (w ∷ ws) = count_of limit w >>= with_rest ws
+count_in_front limit (w ∷ ws) = number_within limit w >>= with_rest ws
 
 abbrev pub whole : Header → List (List ℕ) → Option Header
 whole header [] = Some header

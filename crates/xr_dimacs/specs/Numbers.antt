@@ -1,14 +1,8 @@
 -- Numbers: digits with an optional `-` before.
-use Rattle.std.specs.Prelude.{◌≡◌, ℕ, ℤ, pos, neg_ℤ, ◌+◌, ◌-◌, ◌*◌, ◌<◌, ◌≤◌, List, [], ◌∷◌, Bool, true, ◌&&◌, nat_le, length}
+use Rattle.std.specs.Prelude.{◌≡◌, ℕ, ℤ, pos, neg_ℤ, ◌<◌, ◌≤◌, List, ◌∷◌, true, length}
 use Rattle.std.specs.List.{list_all}
-
-abbrev pub is_digit : ℕ → Bool
-is_digit b = nat_le 48 b && nat_le b 57
-
--- The number that digits write after those of n.
-abbrev pub number_from : ℕ → List ℕ → ℕ
-number_from n [] = n
-number_from n (d ∷ ds) = number_from (n * 10 + (d - 48)) ds
+use Rattle.xr_scan.specs.Bytes.{is_digit}
+use Rattle.xr_scan.specs.Numbers.{number_from}
 
 -- One or more digits write a number. Zeros may lead.
 pub record AreDigitsOf (word : List ℕ) (n : ℕ) : Type 0 where

@@ -1,15 +1,15 @@
 //! The header of a formula's text.
 
 ghost use Rattle.std.specs.Prelude.{◌≡◌, ◌≤◌, [], IfOk, IfSome};
+ghost use Rattle.xr_scan.specs.Fronts.{word_in_front};
 ghost use Rattle.xr_dimacs.specs.Machine as spec;
 ghost use Rattle.xr_dimacs.specs.Reading.{ReadsFront, Skips, Takes};
 
 use crate::fault::DimacsFault;
-use crate::gap::Gap;
 use crate::kind::is_idle;
 use crate::lines::Lines;
-use crate::numbers::count_of;
-use crate::words::{Words, is_word};
+use crate::words::Words;
+use xr_scan::{Gap, is_word, number_within};
 
 /// The numbers of variables and of clauses.
 #[derive(Clone, Copy, Debug, PartialEq, Eq)]
@@ -65,7 +65,7 @@ fn header_of(words: &mut Words<'_>) -> Option<Header>
 
 /// Passes over this word.
 fn expect(words: &mut Words<'_>, word: &[u8]) -> Option<()>
-    ensures { Skips (spec.word_in_front word.now words.old) result words.new }
+    ensures { Skips (word_in_front word.now words.old) result words.new }
 {
     let found = words.next()?;
     if is_word(found, word) { Some(()) } else { None }
@@ -77,7 +77,7 @@ fn count(limit: u64, words: &mut Words<'_>) -> Option<u64>
     ensures small { IfSome result (λ n. n ≤ limit) }
 {
     let word = words.next()?;
-    count_of(limit, word)
+    number_within(limit, word)
 }
 
 /// The header, where no word is left.

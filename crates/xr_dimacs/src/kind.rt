@@ -4,7 +4,7 @@ ghost use Rattle.std.specs.Prelude.{◌≡◌};
 ghost use Rattle.xr_dimacs.specs.Grammar.{is_blank, is_idle};
 ghost use Rattle.xr_dimacs.specs.Lines.{begins_passed, is_passed};
 
-use crate::gap::is_white;
+use xr_scan::is_white;
 
 /// What a text stands for.
 #[derive(Clone, Copy, Debug, PartialEq, Eq)]

@@ -8,7 +8,6 @@
 #![tactic(auto)]
 
 mod fault;
-mod gap;
 mod header;
 mod kind;
 mod laws;

@@ -4,9 +4,9 @@ ghost use Rattle.std.specs.Prelude.{◌≡◌, ◌+◌, [], length, MatchOption}
 ghost use Rattle.xr_dimacs.specs.Machine.{all_lines};
 ghost use Rattle.xr_dimacs.specs.Reading.{TakesLine};
 
-use crate::gap::Gap;
 use crate::parts::Parts;
 use std::marker::Model;
+use xr_scan::Gap;
 
 /// The lines that are left of a text, and the number of the next.
 #[derive(Drop)]
@@ -32,7 +32,7 @@ impl<'a> Lines<'a> {
         ensures { result ≡ all_lines text.now }
     {
         Lines {
-            parts: Parts::new(text, Gap::Newline),
+            parts: Parts::new(text, Gap::Byte(b'\n')),
             number: 1,
         }
     }

@@ -1,11 +1,10 @@
 //! A text's parts, one after the other: what stands between its gaps.
 
-ghost use Rattle.std.specs.Prelude.{◌≡◌, ◌<◌, ◌≤◌, suc, [], ◌∷◌, drop, length, take, MatchOption};
+ghost use Rattle.std.specs.Prelude.{◌≡◌, ◌<◌, ◌≤◌, [], ◌∷◌, length, MatchOption};
 ghost use Rattle.xr_dimacs.specs.Lines.{parts};
-ghost use Rattle.xr_dimacs.specs.Machine.{first_length};
 
-use crate::gap::Gap;
 use std::marker::Model;
+use xr_scan::{Gap, split_at};
 
 /// The parts that are left of a text.
 #[derive(Drop)]
@@ -53,47 +52,15 @@ fn split_part(text: &[u8], gap: Gap) -> (&[u8], &[u8])
     requires { 0 < length text.now }
     ensures { parts gap text.now ≡ result.0.now ∷ parts gap result.1.now }
 {
-    let count = first_length(text, gap);
-    if count < text.len() {
-        (front(text, count), rest_after(text, count))
-    } else {
-        (text, nothing_of(text))
+    let (part, after) = split_at(text, gap);
+    match after {
+        Some(rest) => (part, rest),
+        None => (part, nothing_of(text)),
     }
-}
-
-fn front(text: &[u8], count: usize) -> &[u8]
-    requires { count < length text.now }
-    ensures { result.now ≡ take count text.now }
-{
-    &text[..count]
-}
-
-fn rest_after(text: &[u8], count: usize) -> &[u8]
-    requires { count < length text.now }
-    ensures { result.now ≡ drop (suc count) text.now }
-{
-    &text[count + 1..]
 }
 
 fn nothing_of(text: &[u8]) -> &[u8]
     ensures { result.now ≡ [] }
 {
     &text[..0]
-}
-
-/// How many bytes come before the first gap.
-fn first_length(text: &[u8], gap: Gap) -> usize
-    ensures is { result ≡ first_length gap text.now }
-    ensures within { result ≤ length text.now }
-{
-    let mut rest = text;
-    let mut count: usize = 0;
-    'bytes: while let [b, after @ ..] = rest {
-        if gap.is(*b) {
-            break;
-        }
-        rest = after;
-        count += 1;
-    }
-    count
 }

@@ -8,11 +8,10 @@ ghost use Rattle.xr_dimacs.specs.Faults.{IsCnfFault, IsLogFault, fault_in};
 ghost use Rattle.xr_dimacs.specs.Grammar.{IsCnfText, IsLogText};
 ghost use Rattle.xr_dimacs.specs.Laws.{CnfIsRead, CnfIsRefused, LogIsRead, LogIsRefused, OwnCnfIsRead, OwnLogIsRead};
 ghost use Rattle.xr_dimacs.specs.Lines.{on_line, words_from, words_in, words_of_line};
-ghost use Rattle.xr_dimacs.specs.declared.gap.Gap.TheVariants.{White};
+ghost use Rattle.xr_scan.specs.declared.gap.Gap.TheVariants.{White};
 ghost use Rattle.xr_dimacs.specs.Machine as spec;
 ghost use Rattle.xr_dimacs.specs.Reading.{Reads};
 
-use crate::gap::Gap;
 use crate::header::{Header, read_header};
 use crate::kind::Kind;
 use crate::lines::Lines;
@@ -22,6 +21,7 @@ use crate::words::Words;
 use std::alloc::Global;
 use xr_base::Items;
 use xr_proof::{Clause, Cnf, Log};
+use xr_scan::Gap;
 
 /// The formula that a text stands for, or the text's first fault. Takes the memory of the clauses, whatever number the
 /// header says.

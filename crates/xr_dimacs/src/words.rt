@@ -1,11 +1,11 @@
 //! The words of a line.
 
-ghost use Rattle.std.specs.Prelude.{◌≡◌, ◌∷◌, [], bytes_eq, MatchOption};
+ghost use Rattle.std.specs.Prelude.{◌≡◌, ◌∷◌, [], MatchOption};
 ghost use Rattle.xr_dimacs.specs.Lines.{words_in};
 
-use crate::gap::Gap;
 use crate::parts::Parts;
 use std::marker::Model;
+use xr_scan::Gap;
 
 /// The words that are left of a line.
 #[derive(Drop)]
@@ -44,11 +44,4 @@ impl<'a> Words<'a> {
         }
         None
     }
-}
-
-/// Whether it is this word.
-pub fn is_word(text: &[u8], word: &[u8]) -> bool
-    ensures { result ≡ bytes_eq text.now word.now }
-{
-    text == word
 }

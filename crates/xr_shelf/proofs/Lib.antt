@@ -4,4 +4,4 @@ mod Turns
 mod Failed
 mod WriteSteps
 mod ReadSteps
-mod Lookups
+pub mod Lookups

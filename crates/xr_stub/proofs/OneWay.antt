@@ -1,12 +1,11 @@
 -- A text with names and supplies comes to one outcome.
-use Rattle.std.proofs.Common.{◌≡◌, ℕ, List, [], ◌∷◌, Option, Some, None, Result, Ok, Err, refl, sym, ap, subst, ◌∙◌}
-use Rattle.xr_text.proofs.Told.{left_follows}
-use Rattle.xr_trim.specs.Shown.{IsStream, Shown, Stream, stream_of}
-use Rattle.xr_trim.specs.Definition.{Unclosed, closes, from_first, opens, up_to_first}
+use Rattle.std.proofs.Common.{◌≡◌, ℕ, List, [], ◌∷◌, Result, Ok, Err, refl, sym, ap, subst, ◌∙◌}
+use Rattle.xr_trim.specs.Shown.{Shown, Stream}
+use Rattle.xr_trim.specs.Definition.{Unclosed, closes, up_to_first}
 use Rattle.xr_trim.specs.Trims.{IsUndefined, TrimComes}
 use Rattle.xr_trim.specs.declared.fault.TrimFault.{TrimFault}
 use Rattle.xr_trim.specs.declared.fault.TrimFault.TheVariants.{Token, Open, NoTop}
-use Rattle.xr_trim.proofs.OneWay.{one_outcome}
+use Rattle.xr_trim.proofs.OneWay.{SameFirst, never_closed, none_or_one, one_or_two, one_outcome, one_stream, same_first, some_or_none}
 use Rattle.xr_stub_read.specs.Modules.{Holds, IsHeld, Module, module_of}
 use Rattle.std.specs.Prelude.{IfErr, IfOk, Vec}
 use Rattle.std.specs.declared.alloc.Global.{Global}
@@ -16,50 +15,13 @@ use Rattle.xr_stub.specs.declared.fault.StubErr.TheVariants.{Refused, Memory}
 use Rattle.xr_stub.specs.declared.fault.StubFault.{StubFault}
 use Rattle.xr_stub.specs.declared.fault.StubFault.TheVariants.{Text, Unexpected, Range, Supply, Undirected}
 
-one_stream : (text : List ℕ) (a b : Stream) → IsStream text a → IsStream text b → a ≡ b
-one_stream text a b first second =
-    first.shown ∙ ap (stream_of text) (sym (left_follows first.told) ∙ left_follows second.told) ∙ sym second.shown
-
-same_head : {A : Type 0} (x y : A) (xs ys : List A) → x ∷ xs ≡ y ∷ ys → x ≡ y
-same_head x y xs ys h = cc
-
-same_tail : {A : Type 0} (x y : A) (xs ys : List A) → x ∷ xs ≡ y ∷ ys → xs ≡ ys
-same_tail x y xs ys h = cc
-
 -- ---- definitions
-
--- The first definition of some tokens, with what is left.
-record First (ts : List Shown) (o n c : Shown) (within rest : List Shown) : Type 0 where
-  at : from_first opens ts ≡ o ∷ n ∷ within
-  close : from_first (closes o) within ≡ c ∷ rest
-
-record SameFirst (o o2 n n2 c c2 : Shown) (w w2 r r2 : List Shown) : Type 0 where
-  opening : o ≡ o2
-  name : n ≡ n2
-  within : w ≡ w2
-  close : c ≡ c2
-  rest : r ≡ r2
-
-same_first : (ts : List Shown) (o o2 n n2 c c2 : Shown) (w w2 r r2 : List Shown) → First ts o n c w r → First ts o2 n2 c2 w2 r2
-    → SameFirst o o2 n n2 c c2 w w2 r r2
-same_first ts o o2 n n2 c c2 w w2 r r2 a b =
-    let all = sym a.at ∙ b.at in
-    let tail = same_tail o o2 (n ∷ w) (n2 ∷ w2) all in
-    let opening = same_head o o2 (n ∷ w) (n2 ∷ w2) all in
-    let within = same_tail n n2 w w2 tail in
-    let closes_same : from_first (closes o) w ≡ from_first (closes o2) w2 = ap (λ (x : Shown). from_first (closes x) w) opening ∙ ap (from_first (closes o2)) within in
-    let last = sym a.close ∙ closes_same ∙ b.close in
-    record { opening = opening; name = same_head n n2 w w2 tail; within = within; close = same_head c c2 r r2 last; rest = same_tail c c2 r r2 last }
 
 same_module : (o o2 n n2 c c2 : Shown) (w w2 r r2 : List Shown) → SameFirst o o2 n n2 c c2 w w2 r r2
     → module_of o n (up_to_first (closes o) w) c ≡ module_of o2 n2 (up_to_first (closes o2) w2) c2
 same_module o o2 n n2 c c2 w w2 r r2 s =
     ap (λ (x : Shown). module_of x n (up_to_first (closes x) w) c) s.opening ∙ ap (λ (x : Shown). module_of o2 x (up_to_first (closes o2) w) c) s.name
     ∙ ap (λ (x : List Shown). module_of o2 n2 (up_to_first (closes o2) x) c) s.within ∙ ap (λ (x : Shown). module_of o2 n2 (up_to_first (closes o2) w2) x) s.close
-
--- none, and one
-none_or_one : {A : Type 0} (l : List A) (x : A) (xs : List A) → l ≡ [] → l ≡ x ∷ xs → ⊥
-none_or_one l x xs none one = (let e : [] ≡ x ∷ xs = sym none ∙ one in absurd cc)
 
 one_held : (ts : List Shown) (a b : List Module) → Holds ts a → Holds ts b → a ≡ b
 one_held ts a b (Holds.none none) (Holds.none other) = refl
@@ -71,18 +33,6 @@ one_held ts a b (Holds.next {opening = o} {name = n} {close = c} {within = w} {r
     ap (λ (m : Module). m ∷ ms) (same_module o o2 n n2 c c2 w w2 r r2 s)
     ∙ ap (λ (l : List Module). module_of o2 n2 (up_to_first (closes o2) w2) c2 ∷ l)
     (one_held r ms ms2 rest (subst (λ (l : List Shown). Holds l ms2) (sym s.rest) rest2))
-
--- one token, and two
-one_or_two : {A : Type 0} (l : List A) (x y z : A) (xs : List A) → l ≡ x ∷ [] → l ≡ y ∷ z ∷ xs → ⊥
-one_or_two l x y z xs one two = none_or_one [] z xs refl (same_tail x y [] (z ∷ xs) (sym one ∙ two))
-
-never_closed : (ts : List Shown) (o n o2 n2 c2 : Shown) (w w2 r2 : List Shown) → from_first opens ts ≡ o ∷ n ∷ w → from_first (closes o) w ≡ []
-    → First ts o2 n2 c2 w2 r2 → ⊥
-never_closed ts o n o2 n2 c2 w w2 r2 at none f =
-    let all = sym at ∙ f.at in
-    let opening = same_head o o2 (n ∷ w) (n2 ∷ w2) all in
-    let within = same_tail n n2 w w2 (same_tail o o2 (n ∷ w) (n2 ∷ w2) all) in
-    none_or_one (from_first (closes o) w) c2 r2 none (ap (λ (x : Shown). from_first (closes x) w) opening ∙ ap (from_first (closes o2)) within ∙ f.close)
 
 held_closed : (ts : List Shown) (ms : List Module) (at : ℕ) → Holds ts ms → Unclosed ts at → ⊥
 held_closed ts ms at (Holds.none none) (Unclosed.unnamed one) = none_or_one _ _ _ none one
@@ -98,9 +48,6 @@ held_closed ts ms at (Holds.next {opening = o} {name = n} {close = c} {within = 
     held_closed r more at rest (subst (λ (l : List Shown). Unclosed l at) (sym s.rest) rest2)
 
 -- ---- outcomes
-
-some_or_none : {A : Type 0} (o : Option A) (x : A) → o ≡ None → o ≡ Some x → ⊥
-some_or_none o x none some = (let e : None ≡ Some x = sym none ∙ some in absurd cc)
 
 one_modules : (text : List ℕ) (a b : List Module) → IsHeld text a → IsHeld text b → a ≡ b
 one_modules text a b first second =

@@ -17,15 +17,16 @@ use Rattle.xr_trim.specs.Reached.{AreReached, Reaches}
 use Rattle.xr_trim.specs.Copies.{copies, is_among, is_kept}
 use Rattle.xr_trim.specs.Trims.{Keeps, copy_of}
 use Rattle.xr_trim.proofs.Growing.{same_number, some_same}
-use Rattle.xr_trim.proofs.Numbering.{bytes_same, picked}
+use Rattle.xr_scan.proofs.FirstNumbers.{picked}
+use Rattle.xr_scan.proofs.Fronts.{same_word}
 
 -- ---- a name and its first definition
 
 -- Two names with one first definition are one.
 one_name : (ds : List Defined) (a b : List ℕ) (k : ℕ) (d : Defined) → first_named ds a ≡ Some k → first_named ds b ≡ Some k → a ≡ b
 one_name ds a b k d first second =
-    bytes_same a (get_or ds k d).name (position-Some (λ (e : Defined). bytes_eq a e.name) ds k d first).1
-    ∙ sym (bytes_same b (get_or ds k d).name (position-Some (λ (e : Defined). bytes_eq b e.name) ds k d second).1)
+    same_word a (get_or ds k d).name (position-Some (λ (e : Defined). bytes_eq a e.name) ds k d first).1
+    ∙ sym (same_word b (get_or ds k d).name (position-Some (λ (e : Defined). bytes_eq b e.name) ds k d second).1)
 
 -- ---- numbers and names
 

@@ -13,31 +13,31 @@ use Rattle.xr_trim.specs.Trims.{AnswersTrim, IfTrimRefused, IsDefined, IsTrimmed
 use Rattle.xr_trim.specs.declared.fault.TrimFault.{TrimFault}
 use Rattle.xr_trim.specs.declared.fault.TrimFault.TheVariants.{Token, Open, NoTop}
 
-one_stream : (text : List ℕ) (a b : Stream) → IsStream text a → IsStream text b → a ≡ b
+pub one_stream : (text : List ℕ) (a b : Stream) → IsStream text a → IsStream text b → a ≡ b
 one_stream text a b first second =
     first.shown ∙ ap (stream_of text) (sym (left_follows first.told) ∙ left_follows second.told) ∙ sym second.shown
 
-same_head : {A : Type 0} (x y : A) (xs ys : List A) → x ∷ xs ≡ y ∷ ys → x ≡ y
+pub same_head : {A : Type 0} (x y : A) (xs ys : List A) → x ∷ xs ≡ y ∷ ys → x ≡ y
 same_head x y xs ys h = cc
 
-same_tail : {A : Type 0} (x y : A) (xs ys : List A) → x ∷ xs ≡ y ∷ ys → xs ≡ ys
+pub same_tail : {A : Type 0} (x y : A) (xs ys : List A) → x ∷ xs ≡ y ∷ ys → xs ≡ ys
 same_tail x y xs ys h = cc
 
 -- ---- definitions
 
 -- The first definition of some tokens, with what is left.
-record First (ts : List Shown) (o n c : Shown) (within rest : List Shown) : Type 0 where
-  at : from_first opens ts ≡ o ∷ n ∷ within
-  close : from_first (closes o) within ≡ c ∷ rest
+pub record First (ts : List Shown) (o n c : Shown) (within rest : List Shown) : Type 0 where
+  pub at : from_first opens ts ≡ o ∷ n ∷ within
+  pub close : from_first (closes o) within ≡ c ∷ rest
 
-record SameFirst (o o2 n n2 c c2 : Shown) (w w2 r r2 : List Shown) : Type 0 where
-  opening : o ≡ o2
-  name : n ≡ n2
-  within : w ≡ w2
-  close : c ≡ c2
-  rest : r ≡ r2
+pub record SameFirst (o o2 n n2 c c2 : Shown) (w w2 r r2 : List Shown) : Type 0 where
+  pub opening : o ≡ o2
+  pub name : n ≡ n2
+  pub within : w ≡ w2
+  pub close : c ≡ c2
+  pub rest : r ≡ r2
 
-same_first : (ts : List Shown) (o o2 n n2 c c2 : Shown) (w w2 r r2 : List Shown) → First ts o n c w r → First ts o2 n2 c2 w2 r2
+pub same_first : (ts : List Shown) (o o2 n n2 c c2 : Shown) (w w2 r r2 : List Shown) → First ts o n c w r → First ts o2 n2 c2 w2 r2
     → SameFirst o o2 n n2 c c2 w w2 r r2
 same_first ts o o2 n n2 c c2 w w2 r r2 a b =
     let all = sym a.at ∙ b.at in
@@ -55,7 +55,7 @@ same_definition o o2 n n2 c c2 w w2 r r2 s =
     ∙ ap (λ (x : List Shown). definition_of o2 n2 (up_to_first (closes o2) x) c) s.within ∙ ap (λ (x : Shown). definition_of o2 n2 (up_to_first (closes o2) w2) x) s.close
 
 -- none, and one
-none_or_one : {A : Type 0} (l : List A) (x : A) (xs : List A) → l ≡ [] → l ≡ x ∷ xs → ⊥
+pub none_or_one : {A : Type 0} (l : List A) (x : A) (xs : List A) → l ≡ [] → l ≡ x ∷ xs → ⊥
 none_or_one l x xs none one = (let e : [] ≡ x ∷ xs = sym none ∙ one in absurd cc)
 
 one_defined : (ts : List Shown) (a b : List Defined) → Defines ts a → Defines ts b → a ≡ b
@@ -70,10 +70,10 @@ one_defined ts a b (Defines.next {opening = o} {name = n} {close = c} {within = 
     (one_defined r ds ds2 rest (subst (λ (l : List Shown). Defines l ds2) (sym s.rest) rest2))
 
 -- one token, and two
-one_or_two : {A : Type 0} (l : List A) (x y z : A) (xs : List A) → l ≡ x ∷ [] → l ≡ y ∷ z ∷ xs → ⊥
+pub one_or_two : {A : Type 0} (l : List A) (x y z : A) (xs : List A) → l ≡ x ∷ [] → l ≡ y ∷ z ∷ xs → ⊥
 one_or_two l x y z xs one two = none_or_one [] z xs refl (same_tail x y [] (z ∷ xs) (sym one ∙ two))
 
-never_closed : (ts : List Shown) (o n o2 n2 c2 : Shown) (w w2 r2 : List Shown) → from_first opens ts ≡ o ∷ n ∷ w → from_first (closes o) w ≡ []
+pub never_closed : (ts : List Shown) (o n o2 n2 c2 : Shown) (w w2 r2 : List Shown) → from_first opens ts ≡ o ∷ n ∷ w → from_first (closes o) w ≡ []
     → First ts o2 n2 c2 w2 r2 → ⊥
 never_closed ts o n o2 n2 c2 w w2 r2 at none f =
     let all = sym at ∙ f.at in
@@ -126,7 +126,7 @@ one_kept text all top (d ∷ ds) a b (Keeps.dropped not_needed rest) (Keeps.drop
 
 -- ---- outcomes
 
-some_or_none : {A : Type 0} (o : Option A) (x : A) → o ≡ None → o ≡ Some x → ⊥
+pub some_or_none : {A : Type 0} (o : Option A) (x : A) → o ≡ None → o ≡ Some x → ⊥
 some_or_none o x none some = (let e : None ≡ Some x = sym none ∙ some in absurd cc)
 
 one_some : {A : Type 0} (x y : A) → Some x ≡ Some y → x ≡ y

@@ -1,8 +1,10 @@
 -- The words of a declaration, where a text that says a recording is read from it.
-use Rattle.std.proofs.Common.{◌≡◌, ℕ, ◌+◌, ◌-◌, ◌<◌, Bool, true, false, cond, List, [], ◌∷◌, ◌++◌, length, Option, Some, None, Ok, Err, refl, sym, ap, ◌∙◌, subst, arith}
+use Rattle.std.proofs.Common.{◌≡◌, ℕ, ◌<◌, Bool, true, false, cond, List, [], ◌∷◌, ◌++◌, length, Option, Some, None, Ok, Err, refl, sym, ap, ◌∙◌, subst, arith}
 use Rattle.std.proofs.lemmas.Slice.Eq.{bytes_eq-Decides}
 use Rattle.std.specs.Prelude.{◌==◌, bytes_eq, codes, is_some}
-use Rattle.xr_vcd.specs.Bytes.{are_digits, is_code, is_end, is_power, is_scale, is_skipped, is_unit, number_from, range_of}
+use Rattle.xr_vcd.specs.Bytes.{is_code, is_end, is_power, is_scale, is_skipped, is_unit, range_of}
+use Rattle.xr_scan.specs.Numbers.{number_from}
+use Rattle.xr_scan.specs.Bytes.{are_digits}
 use Rattle.xr_vcd.specs.Declarations.{Declarations, RecordedName, name, name_of, with_scale, with_scope, with_variable}
 use Rattle.xr_vcd.specs.Machine.{State, Next, code_on, finish, is_width, range_on, run, step, then_run}
 use Rattle.xr_vcd.specs.Machine.State.{declaring, note, scale, scale_unit, scale_end, scope_kind, scope_name, scope_end, var_kind, var_width, var_code, var_reference, var_range, var_end}
@@ -44,11 +46,11 @@ pub passed : (b : Bool) (x : VcdErr) (s next : State) → (let n : Next = cond b
 passed true x s next e = (refl, same_state s next e)
 passed false x s next e = cc
 
-not_refused : (b : Bool) (x : VcdErr) (s next : State) → (let n : Next = cond b (Err x) (Ok s) in n) ≡ Ok next → s ≡ next
+pub not_refused : (b : Bool) (x : VcdErr) (s next : State) → (let n : Next = cond b (Err x) (Ok s) in n) ≡ Ok next → s ≡ next
 not_refused true x s next e = cc
 not_refused false x s next e = same_state s next e
 
-behind : (w : Word) (ts words more : List Word) → ts ≡ w ∷ words → words ≡ more → ts ≡ w ∷ more
+pub behind : (w : Word) (ts words more : List Word) → ts ≡ w ∷ words → words ≡ more → ts ≡ w ∷ more
 behind w ts words more is e = is ∙ ap (λ (l : List Word). w ∷ l) e
 
 -- `$scope kind name $end`
@@ -132,7 +134,7 @@ pub record Named (h : Declarations) (skipped : Bool) (number width : ℕ) (ts : 
   pub called : RecordedName
   pub goes : run (declaring (with_variable h skipped number width called)) rest stop ≡ Ok r
 
-named_range : (f : Option (ℕ × ℕ)) (h : Declarations) (skipped : Bool) (number width : ℕ) (reference : List ℕ) (t : Word) (ts : List Word) (next : State) (stop : ℕ) (r : Recording) → range_of t.text ≡ f → range_on f h skipped number width reference t.at ≡ Ok next → run next ts stop ≡ Ok r → Named h skipped number width (t ∷ ts) stop r
+pub named_range : (f : Option (ℕ × ℕ)) (h : Declarations) (skipped : Bool) (number width : ℕ) (reference : List ℕ) (t : Word) (ts : List Word) (next : State) (stop : ℕ) (r : Recording) → range_of t.text ≡ f → range_on f h skipped number width reference t.at ≡ Ok next → run next ts stop ≡ Ok r → Named h skipped number width (t ∷ ts) stop r
 named_range None h skipped number width reference t ts next stop r is e g = cc
 named_range (Some range) h skipped number width reference t ts next stop r is e g =
     let s : State = var_end h skipped number width reference range in
@@ -147,13 +149,13 @@ named_range (Some range) h skipped number width reference t ts next stop r is e 
       goes = a.goes;
     }
 
-named_on : (b : Bool) (h : Declarations) (skipped : Bool) (number width : ℕ) (reference : List ℕ) (t : Word) (ts : List Word) (next : State) (stop : ℕ) (r : Recording) → is_end t.text ≡ b → (let n : Next = cond b (Ok (declaring (with_variable h skipped number width (name_of reference)))) (range_on (range_of t.text) h skipped number width reference t.at) in n) ≡ Ok next → run next ts stop ≡ Ok r → Named h skipped number width (t ∷ ts) stop r
+pub named_on : (b : Bool) (h : Declarations) (skipped : Bool) (number width : ℕ) (reference : List ℕ) (t : Word) (ts : List Word) (next : State) (stop : ℕ) (r : Recording) → is_end t.text ≡ b → (let n : Next = cond b (Ok (declaring (with_variable h skipped number width (name_of reference)))) (range_on (range_of t.text) h skipped number width reference t.at) in n) ≡ Ok next → run next ts stop ≡ Ok r → Named h skipped number width (t ∷ ts) stop r
 named_on true h skipped number width reference t ts next stop r is e g =
     let s : State = declaring (with_variable h skipped number width (name_of reference)) in
     record { rest = ts; ended = RangeEnd.none is; shorter = omega arith; called = name_of reference; goes = goes_from s next ts stop r (same_state s next e) g }
 named_on false h skipped number width reference t ts next stop r is e g = named_range (range_of t.text) h skipped number width reference t ts next stop r refl e g
 
-named : (h : Declarations) (skipped : Bool) (number width : ℕ) (reference : List ℕ) (ts : List Word) (stop : ℕ) (r : Recording) → run (var_range h skipped number width reference) ts stop ≡ Ok r → Named h skipped number width ts stop r
+pub named : (h : Declarations) (skipped : Bool) (number width : ℕ) (reference : List ℕ) (ts : List Word) (stop : ℕ) (r : Recording) → run (var_range h skipped number width reference) ts stop ≡ Ok r → Named h skipped number width ts stop r
 named h skipped number width reference ts stop r e =
     let a = taken (var_range h skipped number width reference) ts stop r refl e in
     subst (λ (ws : List Word). Named h skipped number width ws stop r) (sym a.split) (named_on (is_end a.word.text) h skipped number width reference a.word a.rest a.next stop r refl a.stepped a.goes)

@@ -24,7 +24,7 @@ use Rattle.xr_vcd.specs.declared.refusal.VcdErr.{VcdErr}
 use Rattle.xr_vcd.specs.declared.refusal.VcdErr.TheVariants.{Syntax}
 use Rattle.xr_vcd.specs.declared.variable.Variable.{Variable}
 use Rattle.xr_vcd.proofs.Changing.{shows_body_of}
-use Rattle.xr_vcd.proofs.DeclarationWords.{Aside, Ended, Named, Scoped, Taken, Varied, ended_by, goes_from, noted, passed, same_state, scaled, scoped, taken, varied, with_codes}
+use Rattle.xr_vcd.proofs.DeclarationWords.{Aside, Varied, ended_by, goes_from, noted, passed, same_state, scaled, scoped, taken, varied, with_codes}
 
 -- The scopes that are entered and not left have these names.
 
@@ -186,7 +186,7 @@ definitions_found word ts h path stop r is e =
     let none : paths_of_variables h.scopes h.variables ++ [] ≡ paths_of_variables h.scopes h.variables = append-nil _ in
     record { paths = []; told = Declares.definitions is; shown = rw (s.scopes, s.variables, none) refl }
 
-aside_kind : (word : Word) (k : Kind) → kind_of word.text ≡ k → is_aside k ≡ true → is_aside (kind_of word.text) ≡ true
+pub aside_kind : (word : Word) (k : Kind) → kind_of word.text ≡ k → is_aside k ≡ true → is_aside (kind_of word.text) ≡ true
 aside_kind word k is e = ap is_aside is ∙ e
 
 found_on : (n : ℕ) → Finds n → (k : Kind) (word : Word) (ts : List Word) (next : State) (h : Declarations) (path : Path) (stop : ℕ) (r : Recording) → kind_of word.text ≡ k → length ts ≤ n → Holds h path → declaration_on k h word.at ≡ Ok next → run next ts stop ≡ Ok r → Found h path (word ∷ ts) r

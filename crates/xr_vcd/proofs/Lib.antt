@@ -5,6 +5,5 @@ pub mod Firsts
 pub mod Found
 pub mod Innermost
 pub mod Kept
-pub mod Numbers
 pub mod Paths
 pub mod Scanned

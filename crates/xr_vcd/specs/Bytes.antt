@@ -1,6 +1,7 @@
--- Tests of a word's bytes: digits, codes, numbers, ranges, timescales.
-use Rattle.std.specs.Prelude.{ℕ, ◌+◌, ◌-◌, ◌*◌, List, [], ◌∷◌, length, take, drop, Bool, cond, ◌==◌, ◌||◌, ◌&&◌, nat_le, nat_lt, Option, Some, None, option_map, position, bytes_eq, codes, slice_index, slice_range}
+-- Tests of a word's bytes: codes, ranges, timescales.
+use Rattle.std.specs.Prelude.{ℕ, ◌+◌, ◌-◌, List, [], ◌∷◌, length, take, drop, Bool, cond, ◌==◌, ◌||◌, ◌&&◌, nat_le, nat_lt, Option, Some, None, option_map, position, bytes_eq, codes, slice_index, slice_range}
 use Rattle.std.specs.List.{list_all}
+use Rattle.xr_scan.specs.Numbers.{number_within}
 
 abbrev pub is_end : List ℕ → Bool
 is_end t = bytes_eq t (codes "$end")
@@ -18,26 +19,6 @@ is_value b = (b == 48) || (b == 49) || (b == 120) || (b == 88) || (b == 122) || 
 
 abbrev pub are_values : List ℕ → Bool
 are_values t = nat_lt 0 (length t) && list_all is_value t
-
--- A number is one or more digits.
-abbrev pub is_digit : ℕ → Bool
-is_digit b = nat_le 48 b && nat_le b 57
-
-abbrev pub are_digits : List ℕ → Bool
-are_digits t = nat_lt 0 (length t) && list_all is_digit t
-
--- The number that digits write after those of n.
-abbrev pub number_from : ℕ → List ℕ → ℕ
-number_from n [] = n
-number_from n (d ∷ ds) = number_from (n * 10 + (d - 48)) ds
-
--- n, where it is at most the limit
-abbrev pub at_most : ℕ → ℕ → Option ℕ
-at_most limit n = cond (nat_le n limit) (Some n) None
-
--- The number that a word writes, where it is one and at most the limit.
-abbrev pub number_within : ℕ → List ℕ → Option ℕ
-number_within limit t = cond (are_digits t) (at_most limit (number_from 0 t)) None
 
 -- An index is at most 2^31 - 1, and a time at most 2^64 - 1.
 abbrev pub index_of : List ℕ → Option ℕ

@@ -9,7 +9,6 @@ pub mod Naming
 pub mod Reading
 pub mod Recording
 pub mod RecordingFault
-pub mod Scanning
 pub mod Scopes
 pub mod Trees
 pub mod Words

@@ -2,7 +2,9 @@
 -- grammar where the machine reads it to its end, and no other relation defines it. A state has what was read so far,
 -- and says what may stand next.
 use Rattle.std.specs.Prelude.{ℕ, List, [], ◌∷◌, ◌++◌, length, Bool, true, false, cond, ◌==◌, ◌&&◌, nat_le, nat_lt, Option, Some, None, Result, Ok, Err}
-use Rattle.xr_vcd.specs.Bytes.{is_end, is_code, are_values, are_digits, number_from, time_of, range_of, is_power, is_unit, is_scale, is_skipped, rest_of}
+use Rattle.xr_vcd.specs.Bytes.{is_end, is_code, are_values, time_of, range_of, is_power, is_unit, is_scale, is_skipped, rest_of}
+use Rattle.xr_scan.specs.Numbers.{number_from}
+use Rattle.xr_scan.specs.Bytes.{are_digits}
 use Rattle.xr_vcd.specs.Changes.{Body, start, time_on, scalar_in, vector_in, real_in, recording_of}
 use Rattle.xr_vcd_codes.specs.Code.{find}
 use Rattle.xr_vcd.specs.Declarations.{Declarations, name, name_of, with_scale, with_scope, left_scope, with_code, with_kind, with_variable}

@@ -1,5 +1,6 @@
 -- The words of a text: bytes between white space.
-use Rattle.std.specs.Prelude.{ℕ, ◌+◌, List, [], ◌∷◌, ◌++◌, length, Bool, cond, ◌==◌, ◌||◌}
+use Rattle.std.specs.Prelude.{ℕ, ◌+◌, List, [], ◌∷◌, ◌++◌, length, cond}
+use Rattle.xr_scan.specs.Bytes.{is_white}
 
 -- A word, and the place of its first byte, from 0.
 pub record Word : Type 0 where
@@ -8,10 +9,6 @@ pub record Word : Type 0 where
 
 abbrev pub word : ℕ → List ℕ → Word
 word at text = record { at = at; text = text }
-
--- White space is space, tab, newline, carriage return and form feed.
-abbrev pub is_white : ℕ → Bool
-is_white b = (b == 32) || (b == 9) || (b == 10) || (b == 13) || (b == 12)
 
 -- Between words, or in the word that began at this place with these bytes.
 pub data Mode : Type 0 where

@@ -3,13 +3,14 @@
 ghost use Rattle.std.specs.Prelude.{◌≡◌, [], IfOk, replicate};
 ghost use Rattle.xr_vcd.specs.Changes.{undeclared};
 
-use crate::bytes::{front_of, is_code, number_within, rest_of};
+use crate::bytes::{front_of, is_code, rest_of};
 use crate::declarations::{Declarations, LIMIT};
 use crate::recording::Recording;
 use crate::refusal::VcdErr;
 use std::alloc::Global;
 use std::marker::Model;
 use xr_base::Memory;
+use xr_scan::number_within;
 use xr_vcd_changes::Changes;
 use xr_vcd_codes::Found;
 

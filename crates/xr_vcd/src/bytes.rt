@@ -1,15 +1,10 @@
 //! Tests of a word's bytes.
 
-ghost use Rattle.std.specs.Prelude.{◌≡◌, bytes_eq, [], ◌∷◌, ◌≢◌, ◌<◌, ◌≤◌, ◌-◌, ◌^◌, take, drop, length};
+ghost use Rattle.std.specs.Prelude.{◌≡◌, take, drop};
 ghost use Rattle.std.specs.List.{list_all};
-ghost use Rattle.xr_vcd.specs.Bytes.{is_end, is_code_byte, is_code, is_value, are_values, is_digit, are_digits, number_from, at_most, number_within, is_power, is_unit, is_cut_scale, is_scale, is_skipped, rest_of, front_of};
+ghost use Rattle.xr_vcd.specs.Bytes.{is_end, is_code_byte, is_code, is_value, are_values, is_power, is_unit, is_cut_scale, is_scale, is_skipped, rest_of, front_of};
 
-/// Whether it is this word.
-pub fn is_word(text: &[u8], word: &[u8]) -> bool
-    ensures { result ≡ bytes_eq text.now word.now }
-{
-    text == word
-}
+use xr_scan::is_word;
 
 pub fn is_end(text: &[u8]) -> bool
     ensures { result ≡ is_end text.now }
@@ -51,71 +46,6 @@ pub fn is_value(b: u8) -> bool
     ensures { result ≡ is_value b }
 {
     b == b'0' || b == b'1' || b == b'x' || b == b'X' || b == b'z' || b == b'Z'
-}
-
-pub fn are_digits(text: &[u8]) -> bool
-    ensures { result ≡ are_digits text.now }
-{
-    0 < text.len() && all_digits(text)
-}
-
-fn all_digits(text: &[u8]) -> bool
-    ensures { result ≡ list_all is_digit text.now }
-{
-    text.iter().all(|b| is_digit(*b))
-}
-
-fn is_digit(b: u8) -> bool
-    ensures { result ≡ is_digit b }
-{
-    b'0' <= b && b <= b'9'
-}
-
-/// The number that a word writes, where it is one and at most the limit.
-pub fn number_within(limit: u64, text: &[u8]) -> Option<u64>
-    ensures { result ≡ number_within limit text.now }
-{
-    if are_digits(text) {
-        value_within(limit, text)
-    } else {
-        None
-    }
-}
-
-/// The number that digits write, where it is at most the limit.
-pub fn value_within(limit: u64, digits: &[u8]) -> Option<u64>
-    ensures { result ≡ at_most limit (number_from 0 digits.now) }
-{
-    let mut rest = digits;
-    let mut number: u64 = 0;
-    'digits: while let [d, after @ ..] = rest {
-        number = match next_number(limit, number, *d) {
-            None => return None,
-            Some(next) => next,
-        };
-        rest = after;
-    }
-    at_most(limit, number)
-}
-
-/// The number with one more digit, where it is at most the limit.
-fn next_number(limit: u64, number: u64, digit: u8) -> Option<u64>
-    ensures { result ≡ at_most limit (number_from number (digit ∷ [])) }
-{
-    let unit = digit.saturating_sub(b'0') as u64;
-    match number.checked_mul(10) {
-        None => None,
-        Some(tens) => match tens.checked_add(unit) {
-            None => None,
-            Some(next) => at_most(limit, next),
-        },
-    }
-}
-
-fn at_most(limit: u64, number: u64) -> Option<u64>
-    ensures { result ≡ at_most limit number }
-{
-    if number <= limit { Some(number) } else { None }
 }
 
 pub fn is_power(text: &[u8]) -> bool

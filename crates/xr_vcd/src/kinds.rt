@@ -3,7 +3,8 @@
 ghost use Rattle.std.specs.Prelude.{◌≡◌};
 ghost use Rattle.xr_vcd.specs.Kinds.{declaration_kind, keyword_kind, kind_of};
 
-use crate::bytes::{is_end, is_value, is_word};
+use crate::bytes::{is_end, is_value};
+use xr_scan::is_word;
 
 /// The kinds of words that the grammar tells apart.
 #[derive(Clone, Copy)]

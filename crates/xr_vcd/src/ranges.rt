@@ -5,7 +5,8 @@ ghost use Rattle.xr_vcd.specs.Bytes.{index_of, both_of, bounds_of, is_bracketed,
 ghost use Rattle.xr_vcd.specs.Declarations.{name_of};
 ghost use Rattle.xr_vcd.specs.Naming.{shown_name};
 
-use crate::bytes::{drop, number_within, take};
+use crate::bytes::{drop, take};
+use xr_scan::number_within;
 
 /// The name of a variable in the text: its reference as recorded, its range, and whether that stands directly after the
 /// reference, which then has it too.

@@ -7,14 +7,13 @@ ghost use Rattle.xr_vcd.specs.Machine.{upscope_on};
 ghost use Rattle.xr_vcd.specs.Machine.State.{note, scale, scope_kind, scope_name, scope_end, scale_end, upscope_end, var_kind, body, body_note, declaring};
 ghost use Rattle.xr_vcd.specs.Reading.{Reads, ReadsCode, ReadsEnd, ReadsName, ReadsOn, ReadsOne, ReadsReference, ReadsVariableEnd, ReadsWidth, Shortens};
 
-use crate::bytes::{
-    are_digits, is_code, is_end, is_power, is_scale, is_skipped, is_unit, value_within,
-};
+use crate::bytes::{is_code, is_end, is_power, is_scale, is_skipped, is_unit};
 use crate::declarations::Declarations;
 use crate::kinds::{Kind, kind_of};
 use crate::ranges::{RecordedName, name_of, range_of};
 use crate::refusal::VcdErr;
 use crate::words::Words;
+use xr_scan::{are_digits, value_within};
 
 /// Reads the declarations up to `$enddefinitions $end`.
 pub fn read_declarations<'a>(

@@ -1,12 +1,14 @@
 //! Words with their places.
 
 ghost use Rattle.std.specs.Prelude.{◌≡◌, ◌∷◌, ◌+◌, ◌<◌, ◌≤◌, ◌^◌, [], length, take, drop, Some, None};
-ghost use Rattle.xr_vcd.specs.Words.{is_white, left_of};
-ghost use Rattle.xr_vcd.specs.Scanning.{word_length};
+ghost use Rattle.xr_vcd.specs.Words.{left_of};
+ghost use Rattle.xr_scan.specs.Gaps.{first_length};
+ghost use Rattle.xr_scan.specs.declared.gap.Gap.TheVariants.{White};
 ghost use Rattle.xr_vcd.specs.Reading.{Takes, Needs};
 
 use crate::refusal::VcdErr;
 use std::marker::Model;
+use xr_scan::{Gap, first_length, is_white};
 
 /// The words of a text that are left to read.
 #[derive(Drop)]
@@ -87,33 +89,10 @@ fn next_word(bytes: &[u8], start: usize) -> (Option<(usize, &[u8])>, &[u8], usiz
 }
 
 fn split_word(bytes: &[u8]) -> (&[u8], &[u8])
-    ensures front { result.0.now ≡ take (word_length bytes.now) bytes.now }
-    ensures back { result.1.now ≡ drop (word_length bytes.now) bytes.now }
+    ensures front { result.0.now ≡ take (first_length White bytes.now) bytes.now }
+    ensures back { result.1.now ≡ drop (first_length White bytes.now) bytes.now }
     ensures fits { length result.0.now + length result.1.now ≡ length bytes.now }
-    ensures within { word_length bytes.now ≤ length bytes.now }
+    ensures within { first_length White bytes.now ≤ length bytes.now }
 {
-    bytes.split_at(word_length(bytes))
-}
-
-/// How many bytes come before the next white space.
-fn word_length(bytes: &[u8]) -> usize
-    ensures is { result ≡ word_length bytes.now }
-    ensures within { result ≤ length bytes.now }
-{
-    let mut rest = bytes;
-    let mut n: usize = 0;
-    'bytes: while let [b, after @ ..] = rest {
-        if is_white(*b) {
-            break;
-        }
-        rest = after;
-        n += 1;
-    }
-    n
-}
-
-fn is_white(b: u8) -> bool
-    ensures { result ≡ is_white b }
-{
-    b == b' ' || b == b'\t' || b == b'\n' || b == b'\r' || b == 12
+    bytes.split_at(first_length(bytes, Gap::White))
 }

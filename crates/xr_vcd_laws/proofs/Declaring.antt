@@ -1,14 +1,16 @@
 -- The variables that a text declares, where the machine of xr_vcd reads it.
-use Rattle.std.proofs.Common.{◌≡◌, ℕ, zero, suc, ◌<◌, ◌≤◌, ◌==◌, Bool, true, false, cond, List, [], ◌∷◌, ◌++◌, length, Option, Some, None, Ok, Err, refl, sym, ap, ◌∙◌, subst, arith, append_assoc}
+use Rattle.std.proofs.Common.{◌≡◌, ℕ, zero, suc, ◌<◌, ◌≤◌, ◌==◌, Bool, true, false, cond, List, [], ◌∷◌, ◌++◌, length, Option, Some, None, Ok, Err, refl, sym, ap, subst, arith, append_assoc}
 use Rattle.std.proofs.lemmas.List.{append-nil}
-use Rattle.std.specs.Prelude.{is_some, nat_lt}
-use Rattle.xr_vcd.specs.Bytes.{are_digits, is_code, is_end, is_skipped, number_from, range_of}
+use Rattle.std.specs.Prelude.{nat_lt}
+use Rattle.xr_vcd.specs.Bytes.{is_code, is_end, is_skipped}
+use Rattle.xr_scan.specs.Numbers.{number_from}
+use Rattle.xr_scan.specs.Bytes.{are_digits}
 use Rattle.xr_vcd.specs.Changes.{start}
-use Rattle.xr_vcd.specs.Declarations.{Declarations, RecordedName, left_scope, name, name_of, nothing, with_scope, with_variable}
+use Rattle.xr_vcd.specs.Declarations.{Declarations, left_scope, nothing, with_scope, with_variable}
 use Rattle.xr_vcd.specs.Faults.{Says}
 use Rattle.xr_vcd.specs.Kinds.{kind_of}
-use Rattle.xr_vcd.specs.Machine.{State, Next, code_on, declaration_on, is_width, range_on, run}
-use Rattle.xr_vcd.specs.Machine.State.{declaring, note, scale, scope_kind, upscope_end, var_kind, var_width, var_code, var_reference, var_range, var_end, definitions_end, body}
+use Rattle.xr_vcd.specs.Machine.{State, Next, code_on, declaration_on, is_width, run}
+use Rattle.xr_vcd.specs.Machine.State.{declaring, note, scale, scope_kind, upscope_end, var_kind, var_width, var_code, var_reference, var_range, definitions_end, body}
 use Rattle.xr_vcd.specs.Recording.{Recording}
 use Rattle.xr_vcd.specs.Scopes.{IsOfKind, RangeEnd, is_aside}
 use Rattle.xr_vcd.specs.Words.{Word, words_of}
@@ -18,51 +20,12 @@ use Rattle.xr_vcd.specs.declared.kinds.Kind.{Kind}
 use Rattle.xr_vcd.specs.declared.kinds.Kind.TheVariants as kind
 use Rattle.xr_vcd.specs.declared.refusal.VcdErr.{VcdErr}
 use Rattle.xr_vcd.specs.declared.refusal.VcdErr.TheVariants.{Syntax, Width}
-use Rattle.xr_vcd.proofs.DeclarationWords.{Aside, ended_by, goes_from, noted, passed, same_state, scaled, scoped, taken}
+use Rattle.xr_vcd.proofs.DeclarationWords.{Aside, behind, ended_by, goes_from, named, not_refused, noted, passed, same_state, scaled, scoped, taken}
 use Rattle.xr_vcd_laws.specs.Codes.{CodedVariable, DeclaresCodes, coded}
 use Rattle.xr_vcd_laws.proofs.Tied.{Adds, Tied, adds_code, adds_kind, variable_tied, with_coded}
-
-not_refused : (b : Bool) (x : VcdErr) (s next : State) → (let n : Next = cond b (Err x) (Ok s) in n) ≡ Ok next → s ≡ next
-not_refused true x s next e = cc
-not_refused false x s next e = same_state s next e
-
-behind : (w : Word) (ts words more : List Word) → ts ≡ w ∷ words → words ≡ more → ts ≡ w ∷ more
-behind w ts words more is e = is ∙ ap (λ (l : List Word). w ∷ l) e
+use Rattle.xr_vcd.proofs.Innermost.{aside_kind}
 
 -- ---- the words of a variable
-
-record Named (h : Declarations) (skipped : Bool) (number width : ℕ) (ts : List Word) (stop : ℕ) (r : Recording) : Type 0 where
-  rest : List Word
-  ended : RangeEnd ts rest
-  shorter : length rest < length ts
-  called : RecordedName
-  goes : run (declaring (with_variable h skipped number width called)) rest stop ≡ Ok r
-
-named_range : (f : Option (ℕ × ℕ)) (h : Declarations) (skipped : Bool) (number width : ℕ) (reference : List ℕ) (t : Word) (ts : List Word) (next : State) (stop : ℕ) (r : Recording) → range_of t.text ≡ f → range_on f h skipped number width reference t.at ≡ Ok next → run next ts stop ≡ Ok r → Named h skipped number width (t ∷ ts) stop r
-named_range None h skipped number width reference t ts next stop r is e g = cc
-named_range (Some range) h skipped number width reference t ts next stop r is e g =
-    let s : State = var_end h skipped number width reference range in
-    let last : State = declaring (with_variable h skipped number width (name reference (Some range) false)) in
-    let a = ended_by s last ts stop r refl (λ t. refl) (goes_from s next ts stop r (same_state s next e) g) in
-    let some : is_some (range_of t.text) ≡ true = rw is refl in
-    record {
-      rest = a.rest;
-      ended = subst (λ (ws : List Word). RangeEnd (t ∷ ws) a.rest) (sym a.split) (RangeEnd.some some a.ended);
-      shorter = omega (arith, ap (λ (l : List Word). length l) a.split);
-      called = name reference (Some range) false;
-      goes = a.goes;
-    }
-
-named_on : (b : Bool) (h : Declarations) (skipped : Bool) (number width : ℕ) (reference : List ℕ) (t : Word) (ts : List Word) (next : State) (stop : ℕ) (r : Recording) → is_end t.text ≡ b → (let n : Next = cond b (Ok (declaring (with_variable h skipped number width (name_of reference)))) (range_on (range_of t.text) h skipped number width reference t.at) in n) ≡ Ok next → run next ts stop ≡ Ok r → Named h skipped number width (t ∷ ts) stop r
-named_on true h skipped number width reference t ts next stop r is e g =
-    let s : State = declaring (with_variable h skipped number width (name_of reference)) in
-    record { rest = ts; ended = RangeEnd.none is; shorter = omega arith; called = name_of reference; goes = goes_from s next ts stop r (same_state s next e) g }
-named_on false h skipped number width reference t ts next stop r is e g = named_range (range_of t.text) h skipped number width reference t ts next stop r refl e g
-
-named : (h : Declarations) (skipped : Bool) (number width : ℕ) (reference : List ℕ) (ts : List Word) (stop : ℕ) (r : Recording) → run (var_range h skipped number width reference) ts stop ≡ Ok r → Named h skipped number width ts stop r
-named h skipped number width reference ts stop r e =
-    let a = taken (var_range h skipped number width reference) ts stop r refl e in
-    subst (λ (ws : List Word). Named h skipped number width ws stop r) (sym a.split) (named_on (is_end a.word.text) h skipped number width reference a.word a.rest a.next stop r refl a.stepped a.goes)
 
 sized : (digits wide : Bool) (h : Declarations) (var : ℕ) (skipped : Bool) (n : ℕ) (x y : VcdErr) (next : State) → (let n : Next = cond digits (cond wide (Ok (var_code h var skipped n)) (Err x)) (Err y) in n) ≡ Ok next → var_code h var skipped n ≡ next
 sized true true h var skipped n x y next e = same_state (var_code h var skipped n) next e
@@ -227,9 +190,6 @@ definitions_found word ts h vs stop r is tied e =
       tied = subst (λ (l : List CodedVariable). Tied h l) (sym (append-nil vs)) tied;
       goes = a.goes;
     }
-
-aside_kind : (word : Word) (k : Kind) → kind_of word.text ≡ k → is_aside k ≡ true → is_aside (kind_of word.text) ≡ true
-aside_kind word k is e = ap is_aside is ∙ e
 
 found_on : (n : ℕ) → Finds n → (k : Kind) (word : Word) (ts : List Word) (next : State) (h : Declarations) (vs : List CodedVariable) (stop : ℕ) (r : Recording) → kind_of word.text ≡ k → length ts ≤ n → Tied h vs → declaration_on k h word.at ≡ Ok next → run next ts stop ≡ Ok r → Goes h vs (word ∷ ts) stop r
 found_on n finds kind.Scope word ts next h vs stop r is le tied on e = scope_found n finds word ts h vs stop r is le tied (goes_from (scope_kind h) next ts stop r (same_state (scope_kind h) next on) e)

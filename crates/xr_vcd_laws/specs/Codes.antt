@@ -1,6 +1,7 @@
 -- The codes of the variables that a text declares (IEEE 1364-2005, clause 18).
 use Rattle.std.specs.Prelude.{◌≡◌, ℕ, Bool, true, false, ◌||◌, List, [], ◌∷◌, bytes_eq}
-use Rattle.xr_vcd.specs.Bytes.{is_skipped, number_from}
+use Rattle.xr_vcd.specs.Bytes.{is_skipped}
+use Rattle.xr_scan.specs.Numbers.{number_from}
 use Rattle.xr_vcd.specs.Kinds.{kind_of}
 use Rattle.xr_vcd.specs.Scopes.{IsEnd, IsOfKind, RangeEnd, UntilEnd, is_aside}
 use Rattle.xr_vcd.specs.Words.{Word}

@@ -1,18 +1,9 @@
 -- The first part ends at the first gap.
-use Rattle.std.proofs.Common.{◌≡◌, ◌<◌, length, arith}
-use Rattle.xr_dimacs.specs.Machine.{first_length}
-use Rattle.xr_dimacs.proofs.PartLaws.{first_all, first_cut}
+use Rattle.xr_dimacs.proofs.PartLaws.{parts_cut, parts_whole}
 use Rattle.xr_dimacs.proofs.parts.split_part.Goals as goal
 
-pub returns-then-count-text : goal.returns-then-count-text
-returns-then-count-text c =
-    let less : first_length c.args.gap c.args.text.now < length c.args.text.now =
-    omega (arith, c.first_length-count.ensures.is, c.if-count-text.true) in
-    rw (c.front.ensures, c.rest_after.ensures, c.first_length-count.ensures.is) (first_cut c.args.gap c.args.text.now less)
+pub returns-in-Some : goal.returns-in-Some
+returns-in-Some c = parts_cut _ _ _ _ (rw c.in-Some.is at c.split_at.ensures.cut)
 
-pub returns-else-count-text : goal.returns-else-count-text
-returns-else-count-text c =
-    let some : 0 < length c.args.text.now = omega arith in
-    let all : first_length c.args.gap c.args.text.now ≡ length c.args.text.now =
-    omega (arith, c.first_length-count.ensures.is, c.first_length-count.ensures.within, c.if-count-text.false) in
-    rw c.nothing_of.ensures (first_all c.args.gap c.args.text.now some all)
+pub returns-in-None : goal.returns-in-None
+returns-in-None c = rw c.nothing_of.ensures (parts_whole _ _ _ c.requires (rw c.in-None.is at c.split_at.ensures.cut))

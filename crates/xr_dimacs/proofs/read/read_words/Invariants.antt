@@ -1,6 +1,6 @@
 -- What was to come comes after the words so far.
 use Rattle.std.proofs.Common.{◌≡◌, length}
-use Rattle.xr_dimacs.specs.declared.gap.Gap.TheVariants.{White}
+use Rattle.xr_scan.specs.declared.gap.Gap.TheVariants.{White}
 use Rattle.xr_dimacs.specs.Lines.{on_line, words_in}
 use Rattle.xr_dimacs.specs.Machine.{reach}
 use Rattle.xr_dimacs.proofs.read.read_words.Given as goal

@@ -3,7 +3,8 @@ use Rattle.std.proofs.Common.{◌≡◌, ◌∙◌, List, ℕ, true, false, sym,
 use Rattle.std.specs.Map.{lookup}
 use Rattle.xr_elab_prims.specs.declared.definitions.Definition.{Definition}
 use Rattle.xr_elab_prims.specs.Definitions.{numbers_in}
-use Rattle.xr_elab_prims.proofs.DefinitionLemmas.{found_is, inserted_is, number_new, number_known}
+use Rattle.xr_scan.proofs.FirstNumbers.{number_known, number_new}
+use Rattle.xr_elab_prims.proofs.DefinitionLemmas.{found_is, inserted_is}
 use Rattle.xr_elab_prims.proofs.definitions.Numbers.add.Goals as goal
 
 pub returns-in_ok-insert : goal.returns-in_ok-insert

@@ -1,6 +1,6 @@
 -- What the map of the code finds is what the name holds.
 use Rattle.std.proofs.Common.{◌∙◌, ap, List, ℕ, Some, None}
-use Rattle.xr_files.proofs.Lookups.{finds}
+use Rattle.xr_shelf.proofs.Lookups.{finds}
 use Rattle.xr_files.proofs.text_map.TextMap.get.Goals as goal
 
 pub returns-in-Some : goal.returns-in-Some

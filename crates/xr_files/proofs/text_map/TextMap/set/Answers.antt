@@ -1,6 +1,6 @@
 -- The map of the code is set at the name, which the key copies.
 use Rattle.std.proofs.Common.{◌≡◌, rules, string_bytes}
-use Rattle.xr_files.proofs.Lookups.{sets}
+use Rattle.xr_shelf.proofs.Lookups.{sets}
 use Rattle.xr_files.proofs.text_map.TextMap.set.Goals as goal
 
 pub returns-clause-ok : goal.returns-clause-ok

@@ -2,7 +2,8 @@
 use Rattle.std.proofs.Common.{◌≡◌, ◌∙◌, List, ℕ, true, false, sym, ap, bytes_eq, is_some}
 use Rattle.std.specs.Map.{lookup}
 use Rattle.xr_trim.specs.Library.{numbers_in}
-use Rattle.xr_trim.proofs.Numbering.{found_is, inserted_is, number_new, number_known}
+use Rattle.xr_scan.proofs.FirstNumbers.{number_known, number_new}
+use Rattle.xr_trim.proofs.Numbering.{found_is, inserted_is}
 use Rattle.xr_trim.proofs.library.Numbers.add.Goals as goal
 
 pub returns-in_ok-insert : goal.returns-in_ok-insert

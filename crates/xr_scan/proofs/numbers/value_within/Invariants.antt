@@ -1,7 +1,7 @@
 -- The number so far.
 use Rattle.std.proofs.Common.{◌≡◌, length}
-use Rattle.xr_cert_read.specs.Numbers.{at_most, number_from}
-use Rattle.xr_cert_read.proofs.numbers.value_within.Given as goal
+use Rattle.xr_scan.specs.Numbers.{at_most, number_from}
+use Rattle.xr_scan.proofs.numbers.value_within.Given as goal
 
 abbrev pub invariant-digits : goal.invariant-digits
 invariant-digits l = record {

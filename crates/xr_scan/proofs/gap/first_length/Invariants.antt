@@ -1,7 +1,7 @@
 -- The bytes so far hold no gap.
 use Rattle.std.proofs.Common.{◌≡◌, ◌+◌, length}
-use Rattle.xr_dimacs.specs.Machine.{first_length}
-use Rattle.xr_dimacs.proofs.parts.first_length.Given as goal
+use Rattle.xr_scan.specs.Gaps.{first_length}
+use Rattle.xr_scan.proofs.gap.first_length.Given as goal
 
 abbrev pub invariant-bytes : goal.invariant-bytes
 invariant-bytes l = record {

@@ -1,7 +1,7 @@
 -- A number only grows by more digits.
 use Rattle.std.proofs.Common.{◌≡◌, ℕ, ◌+◌, ◌-◌, ◌*◌, ◌<◌, ◌≤◌, List, [], ◌∷◌, length, slice_index, None, arith}
 use Rattle.std.proofs.lemmas.Bool.Decides.{nat_tests}
-use Rattle.xr_vcd.specs.Bytes.{at_most, number_from}
+use Rattle.xr_scan.specs.Numbers.{at_most, number_from}
 
 number_from-le : (n : ℕ) (ds : List ℕ) → n ≤ number_from n ds
 number_from-le n [] = omega arith
@@ -13,12 +13,14 @@ at_most-past limit n lt = grind (arith, nat_tests)
 past_at_most : (limit n : ℕ) → None ≡ at_most limit n → limit < n
 past_at_most limit n h = grind (arith, nat_tests)
 
--- where it is over the limit, it stays so
-pub past : (limit n d : ℕ) (ds : List ℕ) → None ≡ at_most limit (number_from n (d ∷ [])) → at_most limit (number_from n (d ∷ ds)) ≡ None
+past : (limit n d : ℕ) (ds : List ℕ) → None ≡ at_most limit (number_from n (d ∷ []))
+    → at_most limit (number_from n (d ∷ ds)) ≡ None
 past limit n d ds h =
     let lt : limit < n * 10 + (d - 48) = past_at_most limit (n * 10 + (d - 48)) h in
     at_most-past limit (number_from (n * 10 + (d - 48)) ds) (omega (arith, lt, number_from-le (n * 10 + (d - 48)) ds))
 
-pub past_from : (limit n : ℕ) (ds : List ℕ) (d : ℕ) → 1 ≤ length ds → None ≡ at_most limit (n * 10 + (slice_index ds 0 - 48)) → at_most limit (number_from n ds) ≡ None
+-- A number that is over the limit stays so.
+pub past_from : (limit n : ℕ) (ds : List ℕ) (d : ℕ) → 1 ≤ length ds
+    → None ≡ at_most limit (n * 10 + (slice_index ds 0 - 48)) → at_most limit (number_from n ds) ≡ None
 past_from limit n [] d lt h = absurd (omega (arith, lt))
 past_from limit n (x ∷ ds) d lt h = past limit n x ds h

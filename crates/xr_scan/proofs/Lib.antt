@@ -1,0 +1,5 @@
+-- Lemmas of texts that are read.
+pub mod Digits
+pub mod FirstNumbers
+pub mod Fronts
+pub mod Growing
