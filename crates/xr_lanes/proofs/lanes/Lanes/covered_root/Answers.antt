@@ -9,8 +9,8 @@ use Rattle.xr_lanes.specs.Roots.{place_of}
 use Rattle.xr_lanes.proofs.RootedPlaces.{place_there, root_there}
 use Rattle.xr_lanes.proofs.lanes.Lanes.covered_root.Goals as goal
 
-pub place_of-root-requires-clause-within : goal.place_of-root-requires-clause-within
-place_of-root-requires-clause-within c =
+pub place_of-root-requires : goal.place_of-root-requires
+place_of-root-requires c = record { within =
     let wave = c.args.wave.now in
     let lanes = c.args.self.now in
     let literal = c.literal_at-literal.result in
@@ -21,7 +21,7 @@ place_of-root-requires-clause-within c =
     ∙ ap (λ (ns : List NodeView). (node_at ns literal.node).place) c.covered-covered.ensures.nodes in
     subst (λ (j : Job). c.place.result < places_of j) (sym c.circuit-circuit.ensures.job)
     (rw is (place_there wave lanes c.args.place c.args.number literal c.circuit-circuit.ensures.wave c.requires.right
-    c.requires.written c.requires.number c.requires.uncertain c.requires.first c.requires.below literal_is))
+    c.requires.written c.requires.number c.requires.uncertain c.requires.first c.requires.below literal_is)) }
 
 pub returns : goal.returns
 returns c =
