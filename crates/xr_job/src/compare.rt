@@ -9,14 +9,13 @@ ghost use Rattle.xr_job.specs.Names.{net_name};
 ghost use Rattle.xr_job.specs.Netlist.{FitsNetlist};
 ghost use Rattle.xr_job.specs.Recorded.{FitsRecorded};
 
-use crate::circuit::circuit_of;
 use crate::compare_refusal::{CompareErr, CompareRefusal};
 use crate::names::name_of;
 use crate::netlist::Netlist;
 use crate::recorded::Recorded;
 use std::alloc::Global;
 use xr_base::Memory;
-use xr_design::{Bytes, Forces, History};
+use xr_design::{Bytes, Circuit, Forces, History};
 use xr_match::Bound;
 use xr_replay::{Differ, DifferErr, compare, replay};
 
@@ -34,7 +33,11 @@ pub fn replay_and_compare(
     ensures refused { IfErr result (spec.IfCompareRefused (spec.IsRefusedReplay netlist.now recorded.now)) }
     ensures exact { spec.IsReplayAnswer netlist.now recorded.now result }
 {
-    let circuit = circuit_of(netlist, recorded);
+    let circuit = Circuit {
+        design: &netlist.design,
+        order: &netlist.order,
+        stim: &recorded.stim,
+    };
     let forces = Forces::empty(alloc);
     let history = replay(alloc, &circuit, &forces)?;
     match compare(
