@@ -1,0 +1,9 @@
+-- The history of a job is the replay of its circuit.
+use Rattle.std.proofs.Common.{inl, subst, sym}
+use Rattle.xr_design.specs.Handed.{IsReplay}
+use Rattle.xr_design.specs.Job.{Job}
+use Rattle.test_cert.proofs.job.Job.checked.Goals as goal
+
+pub check_cert-requires-clause-handed : goal.check_cert-requires-clause-handed
+check_cert-requires-clause-handed c =
+    inl (subst (λ (j : Job). IsReplay j c.args.self.now.history.now) (sym c.circuit_of-circuit.ensures.job) c.requires.replay)
