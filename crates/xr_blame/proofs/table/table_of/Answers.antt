@@ -15,14 +15,16 @@ runs_of-requires c = subst IsNonDecreasing (sym c.as_slice.ensures.value)
     (IsNonDecreasingBy-from_sort (λ (n : ℕ). n) c.sort.new.self.items c.in_ok-sort.ensures.sorted)
 
 pub rows_at-requires : goal.rows_at-requires
-rows_at-requires c = record { within =
-    let j = job_in c.args.circuit.now in
-    let tally : IsTally c.sort.new.self.items c.in_ok-rows.rows.items =
-    subst (λ (l : List ℕ). IsTally l c.in_ok-rows.rows.items) c.as_slice.ensures.value c.in_ok-rows.ensures in
-    subst (λ (l : List Counted). All (λ (row : Counted). row.1 < places_of j) l) (sym c.as_slice-2.ensures.value)
-    (rows_within j c.args.circuit.now.fits.fits_job c.args.bits.now c.in_ok-numbers.numbers.items c.sort.new.self.items
-    c.in_ok-rows.rows.items c.sort-2.new.self.items c.requires.sources c.in_ok-numbers.ensures
-    c.in_ok-sort.ensures.permutation tally c.in_ok-sort-2.ensures.permutation) }
+rows_at-requires c = record {
+  within =
+      let j = job_in c.args.circuit.now in
+      let tally : IsTally c.sort.new.self.items c.in_ok-rows.rows.items =
+      subst (λ (l : List ℕ). IsTally l c.in_ok-rows.rows.items) c.as_slice.ensures.value c.in_ok-rows.ensures in
+      subst (λ (l : List Counted). All (λ (row : Counted). row.1 < places_of j) l) (sym c.as_slice-2.ensures.value)
+      (rows_within j c.args.circuit.now.fits.fits_job c.args.bits.now c.in_ok-numbers.numbers.items c.sort.new.self.items
+      c.in_ok-rows.rows.items c.sort-2.new.self.items c.requires.sources c.in_ok-numbers.ensures
+      c.in_ok-sort.ensures.permutation tally c.in_ok-sort-2.ensures.permutation);
+}
 
 pub returns : goal.returns
 returns c =

@@ -10,9 +10,11 @@ use Rattle.xr_cone.proofs.BoundaryPlaces.{boundary_of}
 use Rattle.xr_cone.proofs.outside.boundary.Goals as goal
 
 pub places_back-requires : goal.places_back-requires
-places_back-requires c = record { within =
-    subst (λ (j : Job). AllByRecursion (λ k. k < places_of j) c.in_ok-falling.falling.items) (sym c.circuit.ensures.job)
-    c.in_ok-falling.ensures.within }
+places_back-requires c = record {
+  within =
+      subst (λ (j : Job). AllByRecursion (λ k. k < places_of j) c.in_ok-falling.falling.items) (sym c.circuit.ensures.job)
+      c.in_ok-falling.ensures.within;
+}
 
 pub returns : goal.returns
 returns c = IfOk-weaker c.places_back.result

@@ -16,10 +16,12 @@ use Rattle.xr_cone.proofs.BoundaryPlaces.{as_many, cone_rising, falling, nodes_p
 use Rattle.xr_cone.proofs.outside.falling_boundary.Goals as goal
 
 pub numbers_of-requires : goal.numbers_of-requires
-numbers_of-requires c = record { places =
-    subst (λ (k : Job). AllByRecursion (IsPlaceIn k) c.nodes-nodes.result.now) (sym c.circuit-circuit.ensures.job)
-    (subst (AllByRecursion (IsPlaceIn (job c.args.wave.now))) (sym c.nodes-nodes.ensures.nodes)
-    (nodes_placed c.args.wave.now c.requires.root c.args.cone.now.nodes c.requires.is)) }
+numbers_of-requires c = record {
+  places =
+      subst (λ (k : Job). AllByRecursion (IsPlaceIn k) c.nodes-nodes.result.now) (sym c.circuit-circuit.ensures.job)
+      (subst (AllByRecursion (IsPlaceIn (job c.args.wave.now))) (sym c.nodes-nodes.ensures.nodes)
+      (nodes_placed c.args.wave.now c.requires.root c.args.cone.now.nodes c.requires.is));
+}
 
 pub add_read-requires-clause-reach : goal.add_read-requires-clause-reach
 add_read-requires-clause-reach c =

@@ -62,13 +62,15 @@ place_body-requires-clause-all c =
     c.requires.reach.within next is))
 
 pub place_of-requires : goal.place_of-requires
-place_of-requires c = record { within =
-    let j = job c.args.wave.now in
-    let known = certain c.args.wave.now.written in
-    let next = made_next j known c.args.root c.rest.places.items c.rest.rest.items c.pop.new.self.items c.in-Some.place
-    c.rest.nodes.items c.rest.invariant.made c.in-Some.ensures.items in
-    subst (λ (k : Job). c.in-Some.place < places_of k) (sym c.circuit-circuit.ensures.job)
-    (next_within j known c.args.root c.rest.places.items c.in-Some.place c.pop.new.self.items c.requires.reach.within next) }
+place_of-requires c = record {
+  within =
+      let j = job c.args.wave.now in
+      let known = certain c.args.wave.now.written in
+      let next = made_next j known c.args.root c.rest.places.items c.rest.rest.items c.pop.new.self.items c.in-Some.place
+      c.rest.nodes.items c.rest.invariant.made c.in-Some.ensures.items in
+      subst (λ (k : Job). c.in-Some.place < places_of k) (sym c.circuit-circuit.ensures.job)
+      (next_within j known c.args.root c.rest.places.items c.in-Some.place c.pop.new.self.items c.requires.reach.within next);
+}
 
 pub rest-preserved : goal.rest-preserved
 rest-preserved c =

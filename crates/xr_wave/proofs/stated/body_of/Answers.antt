@@ -8,11 +8,13 @@ use Rattle.xr_wave.proofs.FoundLines.{body_behind, body_first, place_here}
 use Rattle.xr_wave.proofs.stated.body_of.Goals as goal
 
 pub body_if-requires : goal.body_if-requires
-body_if-requires c = record { place =
-    let j = job_in c.args.circuit.now in
-    let line = c.index-lines-first.result in
-    subst (λ (l : ALine). IsPlace j l.place) (sym c.index-lines-first.is)
-    (place_here j c.args.lines.now c.lines_before-first.result line c.if-first-lines.true c.requires.order.places) }
+body_if-requires c = record {
+  place =
+      let j = job_in c.args.circuit.now in
+      let line = c.index-lines-first.result in
+      subst (λ (l : ALine). IsPlace j l.place) (sym c.index-lines-first.is)
+      (place_here j c.args.lines.now c.lines_before-first.result line c.if-first-lines.true c.requires.order.places);
+}
 
 pub returns-then-first-lines : goal.returns-then-first-lines
 returns-then-first-lines c =
