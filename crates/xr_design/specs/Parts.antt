@@ -38,7 +38,8 @@ FitsGate-prop Xnor pins = ×_prop le_prop le_prop
 FitsGate-prop Buf pins = same_prop
 FitsGate-prop Not pins = same_prop
 
-FitsPrimitive-prop : (udps : List Primitive) (sequential : Bool) (number pins : ℕ) → IsProp (FitsPrimitive udps sequential number pins)
+FitsPrimitive-prop : (udps : List Primitive) (sequential : Bool) (number pins : ℕ)
+    → IsProp (FitsPrimitive udps sequential number pins)
 FitsPrimitive-prop udps sequential number pins x y = λ i. record {
   within = le_prop x.within y.within i;
   kind = Coded-set coded_bool _ _ x.kind y.kind i;
@@ -50,7 +51,8 @@ FitsTable-prop : (udps : List Primitive) (table : Table) (pins : ℕ) → IsProp
 FitsTable-prop udps (OfGate gate) pins = FitsGate-prop gate pins
 FitsTable-prop udps (Udp number) pins = FitsPrimitive-prop udps false number pins
 
-FitsRegister-prop : (udps : List Primitive) (width : ℕ) (latching : Latching) → IsProp (FitsRegister udps width latching)
+FitsRegister-prop : (udps : List Primitive) (width : ℕ) (latching : Latching)
+    → IsProp (FitsRegister udps width latching)
 FitsRegister-prop udps width latching x y = λ i. record {
   primitive = FitsPrimitive-prop udps true latching.udp (length latching.pins) x.primitive y.primitive i;
   live = le_prop x.live y.live i;
