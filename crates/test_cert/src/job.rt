@@ -12,7 +12,9 @@ use std::slice;
 use xr_base::{Memory, put};
 use xr_cert::{Cert, CheckErr, Checked, Form, check_cert};
 use xr_design::{Bytes, History, Levels, RegisterRules, StartRule};
-use xr_job::{Netlist, PLACES, Recorded, Rules, read_netlist, read_recording, replay_and_compare};
+use xr_job::{
+    Netlist, PLACES, Recorded, Rules, circuit_of, read_netlist, read_recording, replay_and_compare,
+};
 use xr_match::UndrivenRule;
 use xr_model::Limits;
 use xr_repair::{RepairErr, repair};
@@ -33,30 +35,16 @@ impl<'j> Job<'j> {
     pub fn repaired(&self) -> Result<Wave<'j>, RepairErr>
         requires { FitsJob self.now }
     {
-        let stim = &self.recorded.stim;
-        repair(
-            self.alloc,
-            &self.netlist.design,
-            &self.netlist.order,
-            stim,
-            self.history,
-            self.limits,
-        )
+        let circuit = circuit_of(self.netlist, self.recorded);
+        repair(self.alloc, circuit, self.history, self.limits)
     }
 
     /// The wave and the conditions of a certificate.
     pub fn checked(&self, cert: Cert) -> Result<Checked<'j>, CheckErr>
         requires { FitsJob self.now }
     {
-        check_cert(
-            self.alloc,
-            cert,
-            &self.netlist.design,
-            &self.netlist.order,
-            &self.recorded.stim,
-            self.history,
-            self.limits,
-        )
+        let circuit = circuit_of(self.netlist, self.recorded);
+        check_cert(self.alloc, cert, circuit, self.history, self.limits)
     }
 }
 

@@ -10,9 +10,9 @@ use std::marker::Model;
 use xr_base::Memory;
 use xr_code::{CodeErr, read_code, write_code};
 use xr_design::{Bytes, Circuit, Event, Forces};
-use xr_job::{Netlist, Recorded};
+use xr_job::{Netlist, Recorded, circuit_of};
 
-/// A circuit that fits, and the names in front of those of its nets. Contracts see the design.
+/// A circuit, and the names in front of those of its nets. Contracts see the design.
 #[derive(Drop)]
 pub struct Scoped<'a> {
     circuit: Circuit<'a>,
@@ -20,7 +20,6 @@ pub struct Scoped<'a> {
 }
 
 impl<'a> Model for Scoped<'a> {
-    ghost use Rattle.xr_design.specs.Circuit.{CircuitFits};
     ghost use Rattle.xr_design.specs.Design.{FitsDesign};
     ghost use Rattle.xr_design.specs.declared.design.Design.{Design};
 
@@ -28,7 +27,7 @@ impl<'a> Model for Scoped<'a> {
 
     ghost view = { λ s. s.circuit.design.now };
 
-    ghost invariant = { λ s. CircuitFits s.circuit × FitsDesign s.circuit.design.now };
+    ghost invariant = { λ s. FitsDesign s.circuit.design.now };
 }
 
 impl<'a> Scoped<'a> {
@@ -36,25 +35,13 @@ impl<'a> Scoped<'a> {
         requires netlist { FitsNetlist netlist.now }
         requires recorded { FitsRecorded netlist.now.design recorded.now }
     {
-        let circuit = Circuit {
-            design: &netlist.design,
-            order: &netlist.order,
-            stim: &recorded.stim,
-        };
+        let circuit = circuit_of(netlist, recorded);
         Scoped { circuit, scope }
     }
 
     /// The forces that a code text says.
     pub fn read(&self, alloc: Global, text: &[u8]) -> Result<Forces, CodeErr> {
-        let circuit = self.circuit;
-        read_code(
-            alloc,
-            text,
-            circuit.design,
-            circuit.order,
-            circuit.stim,
-            self.scope,
-        )
+        read_code(alloc, text, &self.circuit, self.scope)
     }
 
     /// The text of code for events; none where one isn't at a place.

@@ -1,6 +1,6 @@
 -- Places of a wave by their numbers, their cones, and what was handed in.
 use Rattle.std.proofs.Common.{◌≡◌, ℕ, ◌<◌, List, length, sym, subst, arith}
-use Rattle.xr_design.specs.declared.circuit.Spot.{Spot}
+use Rattle.xr_design.specs.declared.spot.Spot.{Spot}
 use Rattle.xr_design.specs.Circuit.{IsSpot}
 use Rattle.xr_design.specs.Fits.{place_at}
 use Rattle.xr_design.specs.Handed.{IsHandedIn}

@@ -2,7 +2,7 @@
 
 ghost use Rattle.std.specs.Prelude.{◌≡◌, IfOk};
 ghost use Rattle.std.specs.Bool.{OnTrue};
-ghost use Rattle.xr_design.specs.Circuit.{CircuitFits, job_in};
+ghost use Rattle.xr_design.specs.Circuit.{job_in};
 ghost use Rattle.xr_design.specs.Filling.{IsPlace};
 ghost use Rattle.xr_design.specs.Force.{AreEvents, place_of};
 ghost use Rattle.xr_design.specs.Job.{number_of};
@@ -18,7 +18,6 @@ use xr_design::{Circuit, Event, Forces, Place, width_of};
 /// The forces of two lines, `force #TIME round ROUND NET VALUE` and `release #TIME round ROUND NET`, the first at a
 /// place before that of the other; none where that isn't so.
 pub fn forces_of(alloc: Global, circuit: &Circuit<'_>, lines: &str) -> Result<Forces, Memory>
-    requires { CircuitFits circuit.now }
     ensures { IfOk result (AreEvents (job_in circuit.now)) }
 {
     let (force, release) = lines.split_once('\n').unwrap_or((lines, ""));
@@ -35,9 +34,7 @@ pub fn forces_of(alloc: Global, circuit: &Circuit<'_>, lines: &str) -> Result<Fo
 }
 
 /// The event of a line.
-fn event_of(alloc: Global, circuit: &Circuit<'_>, line: &str) -> Result<Option<Event>, Memory>
-    requires { CircuitFits circuit.now }
-{
+fn event_of(alloc: Global, circuit: &Circuit<'_>, line: &str) -> Result<Option<Event>, Memory> {
     let (verb, rest) = first_word(line);
     let (time, rest) = first_word(rest);
     let (_, rest) = first_word(rest);
@@ -55,9 +52,7 @@ fn event_in(
     step: u32,
     forces: bool,
     words: &str,
-) -> Result<Option<Event>, Memory>
-    requires { CircuitFits circuit.now }
-{
+) -> Result<Option<Event>, Memory> {
     let (name, letter) = first_word(words);
     let Some(net) = net_named(alloc, circuit, name)? else {
         return Ok(None);
@@ -82,7 +77,6 @@ fn events_of(
     first: Event,
     second: Event,
 ) -> Result<Forces, Memory>
-    requires { CircuitFits circuit.now }
     ensures { IfOk result (AreEvents (job_in circuit.now)) }
 {
     if !is_place(circuit, place_of(first)) || !is_place(circuit, place_of(second)) {
@@ -105,7 +99,6 @@ fn place_of(event: Event) -> Place
 
 /// The number of a place.
 fn number_of(circuit: &Circuit<'_>, place: Place) -> usize
-    requires fits { CircuitFits circuit.now }
     requires within { IsPlace (job_in circuit.now) place }
     ensures { result ≡ number_of (job_in circuit.now) place }
 {
@@ -114,7 +107,6 @@ fn number_of(circuit: &Circuit<'_>, place: Place) -> usize
 
 /// Whether a place is one of the job.
 pub fn is_place(circuit: &Circuit<'_>, place: Place) -> bool
-    requires { CircuitFits circuit.now }
     ensures { OnTrue result (IsPlace (job_in circuit.now) place) }
 {
     let steps = circuit.stim.times.as_slice().len() * circuit.stim.rounds as usize;

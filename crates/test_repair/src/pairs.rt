@@ -11,7 +11,7 @@ use std::alloc::Global;
 use xr_base::{Items, Memory};
 use xr_cone::{Cone, trace};
 use xr_design::Place;
-use xr_model::Class;
+use xr_model::{Class, Limits};
 use xr_pair::{BadPair, check_pair};
 use xr_wave::{Pair, Wave};
 
@@ -64,14 +64,14 @@ fn first_line<'a>(alloc: Global, wave: &Wave<'a>) -> Result<Option<Wave<'a>>, Me
 
 /// The wave of which nothing is written.
 fn unwritten<'a>(alloc: Global, wave: &Wave<'a>) -> Result<Wave<'a>, Memory> {
-    let circuit = wave.circuit();
     Wave::new(
         alloc,
-        circuit.design,
-        circuit.order,
-        circuit.stim,
+        wave.circuit(),
         wave.replayed(),
-        1,
+        Limits {
+            conflicts: 1,
+            enumerated: 12,
+        },
     )
 }
 

@@ -13,7 +13,7 @@ use std::alloc::Global;
 use test_cases::{Line, Lines, Part, Report};
 use xr_base::Memory;
 use xr_design::History;
-use xr_job::{Netlist, Recorded, replay_and_compare};
+use xr_job::{Netlist, Recorded, circuit_of, replay_and_compare};
 use xr_model::Limits;
 use xr_repair::{RepairErr, repair};
 use xr_wave::Wave;
@@ -76,14 +76,8 @@ fn wave_of<'a>(
     requires recorded { FitsRecorded netlist.now.design recorded.now }
     requires replay { IsReplay (job_for netlist.now recorded.now) history.now }
 {
-    repair(
-        alloc,
-        &netlist.design,
-        &netlist.order,
-        &recorded.stim,
-        history,
-        limits_of(conflicts),
-    )
+    let circuit = circuit_of(netlist, recorded);
+    repair(alloc, circuit, history, limits_of(conflicts))
 }
 
 /// The nearest limits that decisions may have.

@@ -1,7 +1,7 @@
 //! The replay of a job under forces, and what nets show and keep in it.
 
 ghost use Rattle.std.specs.Prelude.{◌≡◌, ◌<◌, IfOk};
-ghost use Rattle.xr_design.specs.Circuit.{CircuitFits, job_in};
+ghost use Rattle.xr_design.specs.Circuit.{job_in};
 ghost use Rattle.xr_design.specs.Filling.{IsPlace};
 ghost use Rattle.xr_design.specs.Handed.{HasPlaces};
 ghost use Rattle.xr_job.specs.Compared.{job_for as job_of_texts};
@@ -16,7 +16,7 @@ use test_cases::{Lines, Part, Report};
 use xr_base::{Memory, put};
 use xr_cell::Value;
 use xr_design::{Circuit, History, Place, width_of};
-use xr_job::{CompareErr, Netlist, Recorded, put_compare_line, replay_and_compare};
+use xr_job::{CompareErr, Netlist, Recorded, circuit_of, put_compare_line, replay_and_compare};
 use xr_replay::replay;
 
 /// Replays a job under its forces, and compares what is found with the lines of a part; how far the job comes.
@@ -112,20 +112,7 @@ fn replayed(
 {
     let circuit = circuit_of(netlist, recorded);
     let forces = forces_of(alloc, &circuit, text_of(texts.forced.as_slice()))?;
-    replay(alloc, circuit.design, circuit.order, circuit.stim, &forces)
-}
-
-fn circuit_of<'a>(netlist: &'a Netlist, recorded: &'a Recorded) -> Circuit<'a>
-    requires netlist { FitsNetlist netlist.now }
-    requires recorded { FitsRecorded netlist.now.design recorded.now }
-    ensures fits { CircuitFits result }
-    ensures job { job_in result ≡ job_of_texts netlist.now recorded.now }
-{
-    Circuit {
-        design: &netlist.design,
-        order: &netlist.order,
-        stim: &recorded.stim,
-    }
+    replay(alloc, &circuit, &forces)
 }
 
 /// Puts what a line should be: `shown NET = 0000 1111`, `kept NET = 0000 1111`, a moment behind the other with a value
@@ -160,7 +147,6 @@ fn put_named(
     verb: &str,
     name: &str,
 ) -> Result<(), Memory>
-    requires fits { CircuitFits circuit.now }
     requires places { HasPlaces (job_in circuit.now) history.now }
 {
     put(out, verb.as_bytes())?;
@@ -206,9 +192,7 @@ fn put_fault(alloc: Global, out: &mut Vec<u8>, fault: &CompareErr) -> Result<(),
 }
 
 /// The net of a written name.
-pub fn net_named(alloc: Global, circuit: &Circuit<'_>, name: &str) -> Result<Option<u32>, Memory>
-    requires { CircuitFits circuit.now }
-{
+pub fn net_named(alloc: Global, circuit: &Circuit<'_>, name: &str) -> Result<Option<u32>, Memory> {
     for net in 0..width_of(circuit) {
         if has_name(alloc, circuit, net as u32, name)? {
             return Ok(Some(net as u32));
@@ -232,7 +216,6 @@ fn put_row(
     net: u32,
     kept: bool,
 ) -> Result<(), Memory>
-    requires fits { CircuitFits circuit.now }
     requires places { HasPlaces (job_in circuit.now) history.now }
 {
     for moment in 0..circuit.stim.times.as_slice().len() {
@@ -250,7 +233,6 @@ fn put_rounds(
     first: Place,
     kept: bool,
 ) -> Result<(), Memory>
-    requires fits { CircuitFits circuit.now }
     requires places { HasPlaces (job_in circuit.now) history.now }
 {
     put(out, b" ")?;
@@ -278,7 +260,6 @@ fn put_value(
     place: Place,
     kept: bool,
 ) -> Result<(), Memory>
-    requires fits { CircuitFits circuit.now }
     requires places { HasPlaces (job_in circuit.now) history.now }
 {
     if is_place(circuit, place) {
@@ -288,7 +269,6 @@ fn put_value(
 }
 
 fn value_at(circuit: &Circuit<'_>, history: &History, place: Place, kept: bool) -> Value
-    requires fits { CircuitFits circuit.now }
     requires places { HasPlaces (job_in circuit.now) history.now }
     requires place { IsPlace (job_in circuit.now) place }
 {

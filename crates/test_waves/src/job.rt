@@ -12,7 +12,7 @@ use xr_base::Items;
 use xr_cell::Value;
 use xr_design::{Bytes, Forces, History, Levels, RegisterRules, StartRule};
 use xr_job::{
-    CompareRefusal, Netlist, PLACES, Recorded, Rules, put_compare_line, read_netlist,
+    CompareRefusal, Netlist, PLACES, Recorded, Rules, circuit_of, put_compare_line, read_netlist,
     read_recording, replay_and_compare,
 };
 use xr_match::UndrivenRule;
@@ -57,9 +57,7 @@ impl Job {
     {
         let wave = Wave::new(
             alloc,
-            &self.netlist.design,
-            &self.netlist.order,
-            &self.recorded.stim,
+            circuit_of(&self.netlist, &self.recorded),
             &self.history,
             Limits {
                 conflicts: 1,
@@ -77,9 +75,7 @@ impl Job {
     {
         let wave = repair(
             alloc,
-            &self.netlist.design,
-            &self.netlist.order,
-            &self.recorded.stim,
+            circuit_of(&self.netlist, &self.recorded),
             &self.history,
             Limits {
                 conflicts: 1,
@@ -93,13 +89,8 @@ impl Job {
         requires { IsReplayed self.now.netlist self.now.recorded self.now.history }
     {
         let forces = Forces::empty(alloc);
-        let history = replay(
-            alloc,
-            &self.netlist.design,
-            &self.netlist.order,
-            &self.recorded.stim,
-            &forces,
-        )?;
+        let circuit = circuit_of(&self.netlist, &self.recorded);
+        let history = replay(alloc, &circuit, &forces)?;
         Ok(history)
     }
 

@@ -7,7 +7,7 @@ use Rattle.xr_design.specs.declared.design.Driver.{Driver}
 use Rattle.xr_design.specs.declared.design.Driver.TheVariants.{Input, Undriven, Constant, Copy, Cell, Register}
 use Rattle.xr_design.specs.declared.design.Pin.{Pin}
 use Rattle.xr_design.specs.declared.place.Place.{Place}
-use Rattle.xr_design.specs.Circuit.{CircuitFits, Reach, job_in}
+use Rattle.xr_design.specs.Circuit.{Reach, job_in}
 use Rattle.xr_design.specs.Fits.{Fits}
 use Rattle.xr_design.specs.Handed.{HasPlaces, ShowsPlace}
 use Rattle.xr_design.specs.History.{HistoryView}
@@ -17,15 +17,15 @@ use Rattle.xr_design.proofs.Reaching.{reach_nets, step_small}
 use Rattle.xr_audit.specs.Row.{IsRowBy}
 
 -- The nets of pins are shown at a step.
-pub nets_shown : (circuit : Circuit) → CircuitFits circuit → (history : HistoryView) → HasPlaces (job_in circuit) history
+pub nets_shown : (circuit : Circuit) (history : HistoryView) → HasPlaces (job_in circuit) history
     → (step : ℕ) → step < (job_in circuit).moments * (job_in circuit).rounds → (pins : List Pin)
     → AllByRecursion (λ net. net < (job_in circuit).width) (net_pins pins)
     → AllByRecursion (Reach (job_in circuit) (ShowsPlace circuit history) step) (net_pins pins)
-nets_shown circuit fits history places step less pins nets =
+nets_shown circuit history places step less pins nets =
     let j = job_in circuit in
     let all : (step + 1) * j.width ≤ (j.moments * j.rounds) * j.width = mul-le-mul_right j.width (omega (arith, less)) in
-    reach_nets j fits.fits_job (ShowsPlace circuit history) (step + 1) step pins
-    (λ k low. record { fits = fits; places = places; within = omega (arith, low, all) }) (omega arith) nets
+    reach_nets j circuit.fits.fits_job (ShowsPlace circuit history) (step + 1) step pins
+    (λ k low. record { places = places; within = omega (arith, low, all) }) (omega arith) nets
 
 -- A step has room for all nets.
 pub room_at : (j : Job) → Fits j → (step : ℕ) → step < j.moments * j.rounds → step * j.width + j.width ≤ 2 ^ 40

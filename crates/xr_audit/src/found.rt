@@ -45,7 +45,7 @@ pub fn add_listed(
         (spec.listed_if (is_listed wave.now replayed.now place) place) listed.new.items) }
 {
     // With it comes the fact that the job fits.
-    let _count = wave.count();
+    wave.recall();
     if !is_listed(wave, replayed, place) {
         return Ok(());
     }

@@ -2,7 +2,7 @@
 
 ghost use Rattle.std.specs.Prelude.{◌≡◌, ◌*◌, ◌<◌, ◌≤◌, ◌==◌, false, length, take};
 ghost use Rattle.std.specs.List.{AllByRecursion};
-ghost use Rattle.xr_design.specs.Circuit.{CircuitFits, job_in};
+ghost use Rattle.xr_design.specs.Circuit.{job_in};
 ghost use Rattle.xr_design.specs.Fits.{FitsRegister, FitsTable};
 ghost use Rattle.xr_design.specs.Handed.{HasPlaces, shown_of};
 ghost use Rattle.xr_design.specs.Order.{net_pins};
@@ -40,7 +40,6 @@ fn cell_row(
     table: Table,
     pins: &[Pin],
 ) -> Option<usize>
-    requires fits { CircuitFits circuit.now }
     requires places { HasPlaces (job_in circuit.now) replayed.now }
     requires step { step < (job_in circuit.now).moments * (job_in circuit.now).rounds }
     requires table { FitsTable (job_in circuit.now).udps table (length pins.now) }
@@ -62,7 +61,6 @@ fn register_row(
     place: Place,
     latching: &Latching,
 ) -> Option<usize>
-    requires fits { CircuitFits circuit.now }
     requires places { HasPlaces (job_in circuit.now) replayed.now }
     requires step { place.step < (job_in circuit.now).moments * (job_in circuit.now).rounds }
     requires net { place.net < (job_in circuit.now).width }
@@ -82,7 +80,6 @@ fn later_row(
     place: Place,
     latching: &Latching,
 ) -> Option<usize>
-    requires fits { CircuitFits circuit.now }
     requires places { HasPlaces (job_in circuit.now) replayed.now }
     requires later { 0 < place.step }
     requires step { place.step < (job_in circuit.now).moments * (job_in circuit.now).rounds }
@@ -107,7 +104,6 @@ fn later_row(
 
 /// The values that the replay shows at the pins two steps back, in the first places.
 fn old_pins(circuit: &Circuit<'_>, replayed: &History, step: u32, pins: &[Pin]) -> [Value; 10]
-    requires fits { CircuitFits circuit.now }
     requires places { HasPlaces (job_in circuit.now) replayed.now }
     requires later { 0 < step }
     requires step { step < (job_in circuit.now).moments * (job_in circuit.now).rounds }
@@ -125,7 +121,6 @@ fn old_pins(circuit: &Circuit<'_>, replayed: &History, step: u32, pins: &[Pin]) 
 
 /// The values that the replay shows at pins at a step, in the first places.
 fn shown_pins(circuit: &Circuit<'_>, replayed: &History, step: u32, pins: &[Pin]) -> [Value; 10]
-    requires fits { CircuitFits circuit.now }
     requires places { HasPlaces (job_in circuit.now) replayed.now }
     requires step { step < (job_in circuit.now).moments * (job_in circuit.now).rounds }
     requires few { length pins.now ≤ 10 }

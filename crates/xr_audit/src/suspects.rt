@@ -121,7 +121,7 @@ pub fn is_listed(wave: &Wave<'_>, replayed: &History, place: Place) -> bool
     ensures { result ≡ spec.is_listed wave.now replayed.now place }
 {
     // With it comes the fact that the job fits.
-    let _count = wave.count();
+    wave.recall();
     lists(wave.mark(place), wave.value(place), replayed.shown(place))
 }
 
@@ -133,7 +133,7 @@ fn is_open(wave: &Wave<'_>, replayed: &History, place: Place) -> bool
     ensures { result ≡ spec.is_open wave.now replayed.now place }
 {
     // With it comes the fact that the job fits.
-    let _count = wave.count();
+    wave.recall();
     match wave.mark(place) {
         Mark::Certain => false,
         Mark::Unknown => false,

@@ -38,7 +38,7 @@ pub fn blame_bits(alloc: Global, wave: &Wave<'_>, bound: &Binding) -> Result<Vec
     ensures { IfOk result (λ bits. AreBlamed wave.now (unknown_bits wave.now bound.now.bound) bits.items) }
 {
     // With it comes the fact that the wave is sound.
-    let _count = wave.count();
+    wave.recall();
     let mut causes = Causes::new(alloc)?;
     let mut blamed = Vec::new(alloc);
     let mut replayed = HistoryRow::first(alloc, wave.replayed())?;
@@ -59,7 +59,7 @@ fn is_shown_unknown(wave: &Wave<'_>, replayed: &HistoryRow<'_>, bit: BoundBit) -
     ensures { result ≡ false → is_unknown_bit wave.now bit ≡ false }
 {
     // With it comes the fact that the wave is sound.
-    let _count = wave.count();
+    wave.recall();
     !replayed.shown(bit.net).is_known()
 }
 

@@ -4,7 +4,7 @@
 ghost use Rattle.std.specs.Prelude.{◌≡◌, ◌≤◌, ◌++◌, IfOk, OnOk, length, map};
 ghost use Rattle.std.specs.List.{AllByRecursion};
 ghost use Rattle.xr_cone_nodes.specs.Traced.{IsConeOf};
-ghost use Rattle.xr_design.specs.Circuit.{CircuitFits, job_in};
+ghost use Rattle.xr_design.specs.Circuit.{job_in};
 ghost use Rattle.xr_design.specs.Filling.{IsPlace};
 ghost use Rattle.xr_design.specs.Job.{number_of};
 ghost use Rattle.xr_blame.specs.Halves.{AreAlong, IsWay, TurnsAt, halfway};
@@ -126,7 +126,6 @@ fn add_numbers(
     circuit: &Circuit<'_>,
     filling: &[Place],
 ) -> Result<(), Memory>
-    requires fits { CircuitFits circuit.now }
     requires places { AllByRecursion (IsPlace (job_in circuit.now)) filling.now }
     ensures { OnOk result (numbers.new.items ≡ numbers.old.items ++ map (number_of (job_in circuit.now)) filling.now) }
 {

@@ -2,7 +2,7 @@
 
 ghost use Rattle.std.specs.Prelude.{◌≡◌, ◌≤◌, ◌++◌, IfOk, OnOk, filter};
 ghost use Rattle.std.specs.List.{AllByRecursion};
-ghost use Rattle.xr_design.specs.Circuit.{job_in, CircuitFits};
+ghost use Rattle.xr_design.specs.Circuit.{job_in};
 ghost use Rattle.xr_design.specs.Filling.{IsFilling, IsPlace};
 ghost use Rattle.xr_blame.specs.Joined.{IsJoined, stands_below, stands_from};
 
@@ -19,7 +19,6 @@ pub fn join(
     zero: &[Place],
     from: usize,
 ) -> Result<Filling, Memory>
-    requires fits { CircuitFits circuit.now }
     requires one { IsFilling (job_in circuit.now) one.now }
     requires zero { IsFilling (job_in circuit.now) zero.now }
     requires order { below ≤ from }
@@ -37,7 +36,6 @@ fn add_below(
     filling: &[Place],
     below: usize,
 ) -> Result<(), Memory>
-    requires fits { CircuitFits circuit.now }
     requires places { AllByRecursion (IsPlace (job_in circuit.now)) filling.now }
     ensures { OnOk result
         (places.new.items ≡ places.old.items ++ filter (stands_below (job_in circuit.now) below) filling.now) }
@@ -56,7 +54,6 @@ fn add_from(
     filling: &[Place],
     from: usize,
 ) -> Result<(), Memory>
-    requires fits { CircuitFits circuit.now }
     requires places { AllByRecursion (IsPlace (job_in circuit.now)) filling.now }
     ensures { OnOk result
         (places.new.items ≡ places.old.items ++ filter (stands_from (job_in circuit.now) from) filling.now) }

@@ -2,7 +2,7 @@
 
 ghost use Rattle.std.specs.Prelude.{◌≡◌, ◌<◌, ◌≤◌, All, IfOk, length, map};
 ghost use Rattle.std.specs.List.Sorted.{IsNonDecreasing};
-ghost use Rattle.xr_design.specs.Circuit.{CircuitFits, job_in};
+ghost use Rattle.xr_design.specs.Circuit.{job_in};
 ghost use Rattle.xr_design.specs.Filling.{IsPlace};
 ghost use Rattle.xr_design.specs.Fits.{place_at};
 ghost use Rattle.xr_design.specs.Job.{number_of, places_of};
@@ -26,7 +26,6 @@ pub fn table_of(
     circuit: &Circuit<'_>,
     bits: &[Blamed],
 ) -> Result<Vec<(Place, u64)>, Memory>
-    requires fits { CircuitFits circuit.now }
     requires sources { All (λ (b : ABlamed). IsPlace (job_in circuit.now) b.source) bits.now }
     ensures { IfOk result (λ table. IsTable (job_in circuit.now) bits.now table.items) }
 {
@@ -42,7 +41,6 @@ fn source_numbers(
     circuit: &Circuit<'_>,
     bits: &[Blamed],
 ) -> Result<Vec<usize>, Memory>
-    requires fits { CircuitFits circuit.now }
     requires sources { All (λ (b : ABlamed). IsPlace (job_in circuit.now) b.source) bits.now }
     ensures { IfOk result (λ numbers. numbers.items ≡ source_numbers (job_in circuit.now) bits.now) }
 {
@@ -86,7 +84,6 @@ fn rows_at(
     circuit: &Circuit<'_>,
     rows: &[Counted],
 ) -> Result<Vec<(Place, u64)>, Memory>
-    requires fits { CircuitFits circuit.now }
     requires within { All (λ (row : ACounted). row.1 < places_of (job_in circuit.now)) rows.now }
     ensures { IfOk result (λ table. table.items ≡ map (row_at (job_in circuit.now)) rows.now) }
 {

@@ -2,10 +2,9 @@
 
 ghost use Rattle.std.specs.Prelude.{◌≡◌, ◌↔◌, IfErr, IfOk, IsTrue, List, MatchResult};
 ghost use Rattle.xr_design.specs.declared.waveform.Written.{Written};
-ghost use Rattle.xr_design.specs.Circuit.{PartsFit};
+ghost use Rattle.xr_design.specs.Circuit.{job_in};
 ghost use Rattle.xr_design.specs.Handed.{IsHandedIn};
-ghost use Rattle.xr_design.specs.Job.{job_of};
-ghost use Rattle.xr_wave.specs.Contents.{AreLimits, nothing_written};
+ghost use Rattle.xr_wave.specs.Contents.{AreLimits, nothing_of};
 ghost use Rattle.xr_cert.specs.declared.refusal.CheckErr.TheVariants.{Memory as OutOfMemory};
 ghost use Rattle.xr_cert.specs.Checked.{AreNumbers, IsAccepted, IsChecked, IsRefusalOf};
 
@@ -14,7 +13,7 @@ use crate::walk::walk;
 use std::alloc::Global;
 use xr_base::Items;
 use xr_cert_text::{Cert, Head};
-use xr_design::{Design, History, Order, Stim};
+use xr_design::{Circuit, Design, History, Stim};
 use xr_model::Limits;
 use xr_turns::Condition;
 use xr_wave::Wave;
@@ -33,55 +32,47 @@ pub struct Checked<'a> {
 pub fn check_cert<'a>(
     alloc: Global,
     cert: Cert,
-    design: &'a Design,
-    order: &'a Order,
-    stim: &'a Stim,
+    circuit: Circuit<'a>,
     replayed: &'a History,
     limits: Limits,
 ) -> Result<Checked<'a>, CheckErr>
-    requires fits { PartsFit design.now order.now stim.now }
-    requires handed { IsHandedIn (job_of design.now order.now stim.now) replayed.now }
+    requires handed { IsHandedIn (job_in circuit) replayed.now }
     requires limits { AreLimits limits }
-    ensures checked { let start = nothing_written design.now order.now stim.now replayed.now limits in
+    ensures checked { let start = nothing_of circuit.entry replayed.now limits in
         IfOk result (λ checked. IsChecked start cert checked.wave checked.conditions) }
-    ensures refused { let start = nothing_written design.now order.now stim.now replayed.now limits in
-        IfErr result (IsRefusalOf start cert) }
-    ensures accepted { let start = nothing_written design.now order.now stim.now replayed.now limits in
+    ensures refused { IfErr result (IsRefusalOf (nothing_of circuit.entry replayed.now limits) cert) }
+    ensures accepted { let start = nothing_of circuit.entry replayed.now limits in
         (waveform : List Written) → IsAccepted start cert waveform
         → MatchResult result (λ checked. checked.wave.written ≡ waveform) (λ e. e ≡ OutOfMemory) }
-    ensures only { let start = nothing_written design.now order.now stim.now replayed.now limits in
+    ensures only { let start = nothing_of circuit.entry replayed.now limits in
         IfOk result (λ checked. IsAccepted start cert checked.wave.written) }
 {
-    checked_wave(alloc, cert, design, order, stim, replayed, limits)
+    checked_wave(alloc, cert, circuit, replayed, limits)
 }
 
 /// The same without the last two clauses, which follow from the others.
 fn checked_wave<'a>(
     alloc: Global,
     cert: Cert,
-    design: &'a Design,
-    order: &'a Order,
-    stim: &'a Stim,
+    circuit: Circuit<'a>,
     replayed: &'a History,
     limits: Limits,
 ) -> Result<Checked<'a>, CheckErr>
-    requires fits { PartsFit design.now order.now stim.now }
-    requires handed { IsHandedIn (job_of design.now order.now stim.now) replayed.now }
+    requires handed { IsHandedIn (job_in circuit) replayed.now }
     requires limits { AreLimits limits }
-    ensures checked { let start = nothing_written design.now order.now stim.now replayed.now limits in
+    ensures checked { let start = nothing_of circuit.entry replayed.now limits in
         IfOk result (λ checked. IsChecked start cert checked.wave checked.conditions) }
-    ensures refused { let start = nothing_written design.now order.now stim.now replayed.now limits in
-        IfErr result (IsRefusalOf start cert) }
+    ensures refused { IfErr result (IsRefusalOf (nothing_of circuit.entry replayed.now limits) cert) }
 {
     let Cert {
         form,
         head,
         entries,
     } = cert;
-    if !has_numbers(design, stim, limits.conflicts, head) {
+    if !has_numbers(circuit.design, circuit.stim, limits.conflicts, head) {
         return Err(CheckErr::Refused(CertFault::Header { line: 2 }));
     }
-    match Wave::new(alloc, design, order, stim, replayed, limits) {
+    match Wave::new(alloc, circuit, replayed, limits) {
         Ok(wave) => walk(alloc, form, wave, entries.into_vec()),
         Err(_) => Err(CheckErr::Memory),
     }

@@ -79,7 +79,7 @@ fn take_next<'a>(
     let place = line.place;
     match spend_line(alloc, wave, cones, line, number) {
         Ok(spent) => {
-            let _circuit = spent.circuit();
+            spent.recall();
             if turned {
                 begin_turns(alloc, spent, conditions, cones, place)
             } else {
@@ -117,7 +117,7 @@ pub fn walk_on<'a>(wave: Wave<'a>, conditions: Vec<Condition>) -> Result<Walked<
     ensures right { IfOk result (λ next. StaysRight wave.entry next.wave) }
     ensures err { IfErr result (EndsFrom wave.entry conditions.items) }
 {
-    let _circuit = wave.circuit();
+    wave.recall();
     let next = wave.advance_to_line()?;
     Ok(Walked {
         wave: next,

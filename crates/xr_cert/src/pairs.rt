@@ -2,7 +2,7 @@
 
 ghost use Rattle.std.specs.Prelude.{◌↔◌, IfNone, IfOk, IfSome, IsTrue};
 ghost use Rattle.xr_cone_nodes.specs.Traced.{IsNextCone};
-ghost use Rattle.xr_design.specs.Circuit.{CircuitFits, job_in};
+ghost use Rattle.xr_design.specs.Circuit.{job_in};
 ghost use Rattle.xr_design.specs.Filling.{IsFilling};
 ghost use Rattle.xr_model.specs.declared.line.Body.TheVariants as body;
 ghost use Rattle.xr_wave.specs.Contents.{job};
@@ -37,7 +37,6 @@ pub fn pair_token(
 
 /// Whether both lists of places are fillings of the job.
 pub fn are_fillings(circuit: &Circuit<'_>, zero: &Filling, one: &Filling) -> bool
-    requires { CircuitFits circuit.now }
     ensures { IsTrue result ↔ (IsFilling (job_in circuit.now) zero.now × IsFilling (job_in circuit.now) one.now) }
 {
     is_filling(circuit, zero.as_slice()) && is_filling(circuit, one.as_slice())

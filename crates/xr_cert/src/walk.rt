@@ -34,7 +34,7 @@ pub fn walk<'a>(
     ensures done { IfOk result (λ checked. IsDone form wave.entry entries.items checked.wave checked.conditions) }
     ensures stops { IfErr result (IsFirstCertFault form wave.entry entries.items) }
 {
-    let _circuit = wave.circuit();
+    wave.recall();
     match Cones::new(alloc) {
         Ok(mut cones) => match walk_on(wave, Vec::new(alloc)) {
             Ok(begun) => take_entries(alloc, form, begun, &mut cones, entries),

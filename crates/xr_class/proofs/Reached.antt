@@ -2,7 +2,7 @@
 use Rattle.std.proofs.Common.{◌≡◌, ℕ, ◌-◌, ◌<◌, ◌==◌, false, List, [], ◌∷◌, arith}
 use Rattle.std.specs.List.{AllByRecursion}
 use Rattle.xr_design.specs.Circuit.{IsSpot, Reach}
-use Rattle.xr_design.specs.declared.circuit.Spot.{Spot}
+use Rattle.xr_design.specs.declared.spot.Spot.{Spot}
 use Rattle.xr_design.specs.Fits.{Fits, StandsBefore}
 use Rattle.xr_design.specs.Job.{Job}
 use Rattle.xr_design.specs.Order.{position_of}

@@ -7,7 +7,7 @@ use Rattle.std.proofs.lemmas.Bool.{and_parts, lt-ltb, ne_eqb, eqb-true, or_cases
 use Rattle.xr_cell.specs.declared.value.Value.{Value}
 use Rattle.xr_cell.specs.declared.value.Value.TheVariants.{Zero, One, X, Z}
 use Rattle.xr_cell.specs.Value.{is_unknown}
-use Rattle.xr_design.specs.declared.circuit.Spot.{Spot}
+use Rattle.xr_design.specs.declared.spot.Spot.{Spot}
 use Rattle.xr_design.specs.declared.design.Driver.TheVariants.{Cell, Register}
 use Rattle.xr_design.specs.declared.design.Latching.{Latching}
 use Rattle.xr_design.specs.declared.design.Pin.{Pin}

@@ -4,7 +4,7 @@ ghost use Rattle.std.specs.Prelude.{◌≡◌, ℕ, ◌+◌, ◌<◌, ◌≤◌,
 ghost use Rattle.std.specs.List.{AllByRecursion};
 ghost use Rattle.xr_cell.specs.declared.value.Value.{Value as AnyValue};
 ghost use Rattle.xr_cell.specs.Value.{is_unknown};
-ghost use Rattle.xr_design.specs.Circuit.{job_in, CircuitFits};
+ghost use Rattle.xr_design.specs.Circuit.{job_in};
 ghost use Rattle.xr_design.specs.Job.{places_of};
 ghost use Rattle.xr_model.specs.Assignment.{argument_places};
 ghost use Rattle.xr_model.specs.Places.{among, places_where};
@@ -67,7 +67,6 @@ pub fn argument_places<C: Source>(
     certain: &C,
     place: usize,
 ) -> ArgumentsByNumber
-    requires fits { CircuitFits circuit.now }
     requires within { place < places_of (job_in circuit.now) }
     requires certain { (k : ℕ) → k < place → C.has certain.now k }
     ensures { result ≡ argument_places (job_in circuit.now) (C.reads certain.now) place }
@@ -81,7 +80,6 @@ pub fn uncertain_places<C: Source>(
     certain: &C,
     place: usize,
 ) -> ArgumentsByNumber
-    requires fits { CircuitFits circuit.now }
     requires within { place < places_of (job_in circuit.now) }
     requires certain { (k : ℕ) → k < place → C.has certain.now k }
     ensures { result ≡ uncertain_places (job_in circuit.now) (C.reads certain.now) place }

@@ -1,7 +1,7 @@
 //! Bits of places by number, and what the rule of a place makes of them.
 
 ghost use Rattle.std.specs.Prelude.{◌≡◌, ℕ, ◌<◌};
-ghost use Rattle.xr_design.specs.Circuit.{job_in, CircuitFits};
+ghost use Rattle.xr_design.specs.Circuit.{job_in};
 ghost use Rattle.xr_design.specs.Job.{places_of};
 ghost use Rattle.xr_model.specs.Assignment.{assigned};
 ghost use Rattle.xr_model.specs.Mask.{masked};
@@ -59,7 +59,6 @@ impl<'a, C: Source> BitSource for Assigned<'a, C> {
 
 /// What the rule of a place gives where bit i of a number is the bit of its argument place i. Takes no memory.
 pub fn rule_value<C: Source>(circuit: &Circuit<'_>, certain: &C, place: usize, number: u16) -> Value
-    requires fits { CircuitFits circuit.now }
     requires within { place < places_of (job_in circuit.now) }
     requires certain { (k : ℕ) → k < place → C.has certain.now k }
     ensures { result ≡ numbered_value (job_in circuit.now) (C.reads certain.now) place number }

@@ -2,7 +2,7 @@
 
 ghost use Rattle.std.specs.Prelude.{◌≡◌, ℕ, ◌+◌, ◌-◌, ◌%◌, ◌<◌, ◌≤◌};
 ghost use Rattle.std.specs.Bool.{OnTrue};
-ghost use Rattle.xr_design.specs.Circuit.{job_in, CircuitFits};
+ghost use Rattle.xr_design.specs.Circuit.{job_in};
 ghost use Rattle.xr_design.specs.Job.{places_of};
 ghost use Rattle.xr_model.specs.Class.{class_of};
 ghost use Rattle.xr_class.specs.Facts.{AgreeBefore, AllKeep, AreFacts};
@@ -27,7 +27,6 @@ pub fn class_at<E: Earlier>(
     position: usize,
     all_keep: bool,
 ) -> ClassByNumber
-    requires fits { CircuitFits circuit.now }
     requires wired { AreWiresOf circuit.now wiring.now }
     requires within { place < places_of (job_in circuit.now) }
     requires position { position ≡ place % (job_in circuit.now).width }
@@ -63,7 +62,6 @@ pub fn kept_class<E: Earlier>(
     earlier: &E,
     place: usize,
 ) -> ClassByNumber
-    requires fits { CircuitFits circuit.now }
     requires wired { AreWiresOf circuit.now wiring.now }
     requires within { place < places_of (job_in circuit.now) }
     requires certain { (k : ℕ) → k ≤ place → E.has earlier.now k }

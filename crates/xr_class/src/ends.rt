@@ -2,7 +2,7 @@
 
 ghost use Rattle.std.specs.Prelude.{◌≡◌, ℕ, ◌<◌, ◌≤◌, length};
 ghost use Rattle.xr_cell.specs.declared.value.Value.{Value as AnyValue};
-ghost use Rattle.xr_design.specs.Circuit.{job_in, CircuitFits};
+ghost use Rattle.xr_design.specs.Circuit.{job_in};
 ghost use Rattle.xr_design.specs.Job.{places_of};
 ghost use Rattle.xr_class.specs.Ends as spec;
 ghost use Rattle.xr_class.specs.Ends.{AreEnds};
@@ -27,7 +27,6 @@ pub fn ends_of<C: Source>(
     place: usize,
     places: &[usize],
 ) -> Ends
-    requires fits { CircuitFits circuit.now }
     requires within { place < places_of (job_in circuit.now) }
     requires certain { (k : ℕ) → k < place → C.has certain.now k }
     requires few { length places.now ≤ 13 }
@@ -48,7 +47,6 @@ fn value_at<C: Source>(
     places: &[usize],
     number: u16,
 ) -> Value
-    requires fits { CircuitFits circuit.now }
     requires within { place < places_of (job_in circuit.now) }
     requires certain { (k : ℕ) → k < place → C.has certain.now k }
     ensures { result ≡ value_by_number (job_in circuit.now) (C.reads certain.now) place places.now number }

@@ -2,7 +2,7 @@
 
 ghost use Rattle.std.specs.Prelude.{◌≡◌, ℕ, ◌<◌, ◌≤◌, length};
 ghost use Rattle.xr_cell.specs.declared.value.Value.{Value as AnyValue};
-ghost use Rattle.xr_design.specs.Circuit.{job_in, CircuitFits};
+ghost use Rattle.xr_design.specs.Circuit.{job_in};
 ghost use Rattle.xr_design.specs.Job.{places_of};
 ghost use Rattle.xr_model.specs.Assignment.{assigned};
 ghost use Rattle.xr_model.specs.Class.{is_bit, flipped};
@@ -24,7 +24,6 @@ pub fn passes_every<C: Source>(
     uncertain: &[usize],
     test: Test,
 ) -> bool
-    requires fits { CircuitFits circuit.now }
     requires within { place < places_of (job_in circuit.now) }
     requires certain { (k : ℕ) → k < place → C.has certain.now k }
     requires few { length uncertain.now ≤ 13 }
@@ -50,7 +49,6 @@ fn passes_at<C: Source>(
     number: u16,
     test: Test,
 ) -> bool
-    requires fits { CircuitFits circuit.now }
     requires within { place < places_of (job_in circuit.now) }
     requires certain { (k : ℕ) → k < place → C.has certain.now k }
     requires reads { ReadsOnly (job_in circuit.now) (C.reads certain.now) place test }

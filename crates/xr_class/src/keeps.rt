@@ -3,7 +3,7 @@
 ghost use Rattle.std.specs.Prelude.{◌≡◌, ℕ, ◌+◌, ◌-◌, ◌*◌, ◌^◌, ◌<◌, ◌≤◌, ◌%◌, ◌==◌, ◌&&◌, length, not, nat_lt};
 ghost use Rattle.std.specs.List.{AllByRecursion, list_all, list_any};
 ghost use Rattle.xr_cell.specs.declared.value.Value.{Value as AnyValue};
-ghost use Rattle.xr_design.specs.Circuit.{job_in, CircuitFits, IsSpot, Reach};
+ghost use Rattle.xr_design.specs.Circuit.{job_in, IsSpot, Reach};
 ghost use Rattle.xr_design.specs.Fits.{FitsDriver, FitsRegister, Standing, is_dead};
 ghost use Rattle.xr_design.specs.Job.{at, places_of, step_of};
 ghost use Rattle.xr_design.specs.Order.{arguments_of_driver, net_pins};
@@ -32,7 +32,6 @@ pub fn passes_on<E: Earlier>(
     place: usize,
     uncertain: &[usize],
 ) -> bool
-    requires fits { CircuitFits circuit.now }
     requires within { place < places_of (job_in circuit.now) }
     requires certain { (k : ℕ) → k < place → E.has earlier.now k }
     requires facts { AreFacts (job_in circuit.now) (E.reads earlier.now) (E.facts earlier.now) place }
@@ -59,7 +58,6 @@ fn driver_passes<E: Earlier>(
     spot: Spot,
     driver: &Driver,
 ) -> bool
-    requires fits { CircuitFits circuit.now }
     requires spot { IsSpot (job_in circuit.now) place spot }
     requires driver { FitsDriver (job_in circuit.now).udps (job_in circuit.now).width driver.now }
     requires is { (job_in circuit.now).driver spot.net ≡ driver.now }
@@ -92,7 +90,6 @@ fn driver_passes<E: Earlier>(
 }
 
 fn is_later_round(circuit: &Circuit<'_>, spot: Spot) -> bool
-    requires { CircuitFits circuit.now }
     ensures { result ≡ not (spot.step % (job_in circuit.now).rounds == 0) }
 {
     !circuit.begins_moment(spot.step)
@@ -107,7 +104,6 @@ fn cell_passes<E: Earlier>(
     table: Table,
     pins: &[Pin],
 ) -> bool
-    requires fits { CircuitFits circuit.now }
     requires spot { IsSpot (job_in circuit.now) place spot }
     requires is { (job_in circuit.now).driver spot.net ≡ Cell table pins.now }
     requires before { Standing (job_in circuit.now) spot.position (net_pins pins.now) }
@@ -156,7 +152,6 @@ fn register_passes<E: Earlier>(
     spot: Spot,
     latching: &Latching,
 ) -> bool
-    requires fits { CircuitFits circuit.now }
     requires spot { IsSpot (job_in circuit.now) place spot }
     requires register { FitsRegister (job_in circuit.now).udps (job_in circuit.now).width latching.now }
     requires certain { (k : ℕ) → k < place → E.has earlier.now k }
@@ -186,7 +181,6 @@ pub fn pins_keep<E: Earlier>(
     step: usize,
     pins: &[Pin],
 ) -> bool
-    requires fits { CircuitFits circuit.now }
     requires certain { (k : ℕ) → k < place → E.has earlier.now k }
     requires facts { AreFacts (job_in circuit.now) (E.reads earlier.now) (E.facts earlier.now) place }
     requires nets { AllByRecursion (Reach (job_in circuit.now) (λ k. k < place) step) (net_pins pins.now) }
@@ -209,7 +203,6 @@ pub fn net_keeps<E: Earlier>(
     step: usize,
     net: u32,
 ) -> bool
-    requires fits { CircuitFits circuit.now }
     requires certain { (k : ℕ) → k < place → E.has earlier.now k }
     requires facts { AreFacts (job_in circuit.now) (E.reads earlier.now) (E.facts earlier.now) place }
     requires net { Reach (job_in circuit.now) (λ k. k < place) step net }
@@ -228,7 +221,6 @@ pub fn keeps_here<C: Source>(
     here: Value,
     carries: bool,
 ) -> bool
-    requires fits { CircuitFits circuit.now }
     requires within { place < places_of (job_in circuit.now) }
     requires certain { (k : ℕ) → k < place → C.has certain.now k }
     ensures { result ≡ keeps_since (job_in circuit.now) (C.reads certain.now) place here carries }
@@ -250,7 +242,6 @@ fn are_equal(x: Value, y: Value) -> bool
 
 /// The place of the same net a step before. Takes no memory.
 pub fn place_before(circuit: &Circuit<'_>, place: usize) -> usize
-    requires fits { CircuitFits circuit.now }
     requires within { place < places_of (job_in circuit.now) }
     ensures { result ≡ before (job_in circuit.now) place }
 {

@@ -5,7 +5,7 @@ ghost use Rattle.std.specs.Prelude.{◌≡◌, ℕ, ◌+◌, ◌%◌, ◌<◌, �
 ghost use Rattle.std.specs.Bool.{OnTrue};
 ghost use Rattle.std.specs.List.{AllByRecursion};
 ghost use Rattle.xr_cell.specs.declared.value.Value.{Value as AnyValue};
-ghost use Rattle.xr_design.specs.Circuit.{job_in, CircuitFits};
+ghost use Rattle.xr_design.specs.Circuit.{job_in};
 ghost use Rattle.xr_design.specs.Job.{places_of};
 ghost use Rattle.xr_design.specs.Order.{net_pins};
 ghost use Rattle.xr_design.specs.Register.{pin_of};
@@ -33,7 +33,6 @@ pub fn moved_cell<E: Earlier>(
     table: Table,
     pins: &[Pin],
 ) -> ClassByNumber
-    requires fits { CircuitFits circuit.now }
     requires within { place < places_of (job_in circuit.now) }
     requires position { position ≡ place % (job_in circuit.now).width }
     requires stands { StandsCell (job_in circuit.now) place table pins.now }
@@ -58,7 +57,6 @@ pub fn moved_register<E: Earlier>(
     position: usize,
     pins: &[Pin],
 ) -> ClassByNumber
-    requires fits { CircuitFits circuit.now }
     requires within { place < places_of (job_in circuit.now) }
     requires position { position ≡ place % (job_in circuit.now).width }
     requires stands { Stands (job_in circuit.now) place kind.Register pins.now }
@@ -87,7 +85,6 @@ fn sees_known<E: Earlier>(
     position: usize,
     pins: &[Pin],
 ) -> bool
-    requires fits { CircuitFits circuit.now }
     requires within { place < places_of (job_in circuit.now) }
     requires position { position ≡ place % (job_in circuit.now).width }
     requires stands { Stands (job_in circuit.now) place kind.Register pins.now }

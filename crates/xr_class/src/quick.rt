@@ -3,7 +3,7 @@
 
 ghost use Rattle.std.specs.Prelude.{◌≡◌, ℕ, ◌%◌, ◌<◌, []};
 ghost use Rattle.xr_cell.specs.declared.value.Value.{Value as AnyValue};
-ghost use Rattle.xr_design.specs.Circuit.{job_in, CircuitFits};
+ghost use Rattle.xr_design.specs.Circuit.{job_in};
 ghost use Rattle.xr_design.specs.Job.{net_of, places_of};
 ghost use Rattle.xr_design.specs.declared.design.Driver.TheVariants.{Input};
 ghost use Rattle.xr_wiring.specs.declared.wiring.Kind.TheVariants as kind;
@@ -29,7 +29,6 @@ pub fn copied_class<E: Earlier>(
     position: usize,
     pins: &[Pin],
 ) -> ClassByNumber
-    requires fits { CircuitFits circuit.now }
     requires within { place < places_of (job_in circuit.now) }
     requires position { position ≡ place % (job_in circuit.now).width }
     requires stands { Stands (job_in circuit.now) place kind.Copy pins.now }
@@ -52,7 +51,6 @@ fn class_from<E: Earlier>(
     place: usize,
     from: usize,
 ) -> ClassByNumber
-    requires fits { CircuitFits circuit.now }
     requires within { place < places_of (job_in circuit.now) }
     requires copies { CopiesFrom (job_in circuit.now) place from }
     requires certain { (k : ℕ) → k < place → E.has earlier.now k }
@@ -72,7 +70,6 @@ fn class_from<E: Earlier>(
 
 /// The class of an input's place: where the recording knows its value it has that bit.
 pub fn input_class<E: Earlier>(circuit: &Circuit<'_>, earlier: &E, place: usize) -> ClassByNumber
-    requires fits { CircuitFits circuit.now }
     requires within { place < places_of (job_in circuit.now) }
     requires driver { (job_in circuit.now).driver (net_of (job_in circuit.now) place) ≡ Input }
     requires certain { (k : ℕ) → k < place → E.has earlier.now k }
@@ -89,7 +86,6 @@ pub fn input_class<E: Earlier>(circuit: &Circuit<'_>, earlier: &E, place: usize)
 
 /// The class of a place all of whose arguments are certain: there is one assignment.
 pub fn settled_class<C: Source>(circuit: &Circuit<'_>, certain: &C, place: usize) -> ClassByNumber
-    requires fits { CircuitFits circuit.now }
     requires within { place < places_of (job_in circuit.now) }
     requires certain { (k : ℕ) → k < place → C.has certain.now k }
     requires settled { uncertain_places (job_in circuit.now) (C.reads certain.now) place ≡ [] }

@@ -3,7 +3,7 @@
 ghost use Rattle.std.specs.Prelude.{◌≡◌, ℕ, ◌+◌, ◌-◌, ◌*◌, ◌^◌, ◌<◌, ◌≤◌, [], ◌∷◌, ◌++◌, length};
 ghost use Rattle.std.specs.List.{AllByRecursion};
 ghost use Rattle.xr_cell.specs.declared.value.Value.{Value as AnyValue};
-ghost use Rattle.xr_design.specs.Circuit.{job_in, CircuitFits, IsSpot};
+ghost use Rattle.xr_design.specs.Circuit.{job_in, IsSpot};
 ghost use Rattle.xr_design.specs.Fits.{FitsDriver, FitsRegister};
 ghost use Rattle.xr_design.specs.Job.{at, places_of};
 ghost use Rattle.xr_design.specs.Order.{net_pins, arguments_of_driver};
@@ -24,7 +24,6 @@ pub fn ruled_arguments<C: Source>(
     certain: &C,
     place: usize,
 ) -> ArgumentsByNumber
-    requires fits { CircuitFits circuit.now }
     requires within { place < places_of (job_in circuit.now) }
     requires certain { (k : ℕ) → k < place → C.has certain.now k }
     ensures { result ≡ arguments (job_in circuit.now) (C.reads certain.now) place }
@@ -40,7 +39,6 @@ fn driver_arguments<C: Source>(
     spot: Spot,
     driver: &Driver,
 ) -> ArgumentsByNumber
-    requires fits { CircuitFits circuit.now }
     requires spot { IsSpot (job_in circuit.now) place spot }
     requires driver { FitsDriver (job_in circuit.now).udps (job_in circuit.now).width driver.now }
     requires nets { AllByRecursion (λ net. net < (job_in circuit.now).width) (arguments_of_driver driver.now) }
@@ -65,7 +63,6 @@ fn driver_arguments<C: Source>(
 
 /// The number of a net's place at a step.
 pub fn number_at(circuit: &Circuit<'_>, step: usize, net: u32) -> usize
-    requires fits { CircuitFits circuit.now }
     requires net { net < (job_in circuit.now).width }
     requires small { step * (job_in circuit.now).width + (job_in circuit.now).width ≤ 2 ^ 40 }
     ensures { result ≡ at (job_in circuit.now) step net }
@@ -74,7 +71,6 @@ pub fn number_at(circuit: &Circuit<'_>, step: usize, net: u32) -> usize
 }
 
 fn one_place(circuit: &Circuit<'_>, step: usize, net: u32) -> ArgumentsByNumber
-    requires fits { CircuitFits circuit.now }
     requires net { net < (job_in circuit.now).width }
     requires small { step * (job_in circuit.now).width + (job_in circuit.now).width ≤ 2 ^ 40 }
     ensures { result ≡ at (job_in circuit.now) step net ∷ [] }
@@ -85,7 +81,6 @@ fn one_place(circuit: &Circuit<'_>, step: usize, net: u32) -> ArgumentsByNumber
 }
 
 fn born_places(circuit: &Circuit<'_>, place: usize, spot: Spot) -> ArgumentsByNumber
-    requires fits { CircuitFits circuit.now }
     requires spot { IsSpot (job_in circuit.now) place spot }
     ensures { result ≡ born_arguments (job_in circuit.now) spot.step spot.net }
 {
@@ -97,7 +92,6 @@ fn born_places(circuit: &Circuit<'_>, place: usize, spot: Spot) -> ArgumentsByNu
 }
 
 fn pin_places(circuit: &Circuit<'_>, step: usize, pins: &[Pin]) -> ArgumentsByNumber
-    requires fits { CircuitFits circuit.now }
     requires nets { AllByRecursion (λ net. net < (job_in circuit.now).width) (net_pins pins.now) }
     requires few { length (net_pins pins.now) ≤ 13 }
     requires small { step * (job_in circuit.now).width + (job_in circuit.now).width ≤ 2 ^ 40 }
@@ -109,7 +103,6 @@ fn pin_places(circuit: &Circuit<'_>, step: usize, pins: &[Pin]) -> ArgumentsByNu
 }
 
 fn push_places(circuit: &Circuit<'_>, arguments: &mut ArgumentsByNumber, step: usize, pins: &[Pin])
-    requires fits { CircuitFits circuit.now }
     requires nets { AllByRecursion (λ net. net < (job_in circuit.now).width) (net_pins pins.now) }
     requires room { length arguments.old + length (net_pins pins.now) ≤ 13 }
     requires small { step * (job_in circuit.now).width + (job_in circuit.now).width ≤ 2 ^ 40 }
@@ -133,7 +126,6 @@ fn register_places<C: Source>(
     spot: Spot,
     latching: &Latching,
 ) -> ArgumentsByNumber
-    requires fits { CircuitFits circuit.now }
     requires spot { IsSpot (job_in circuit.now) place spot }
     requires register { FitsRegister (job_in circuit.now).udps (job_in circuit.now).width latching.now }
     requires certain { (k : ℕ) → k < place → C.has certain.now k }
@@ -154,7 +146,6 @@ fn looked_at(
     spot: Spot,
     latching: &Latching,
 ) -> ArgumentsByNumber
-    requires fits { CircuitFits circuit.now }
     requires spot { IsSpot (job_in circuit.now) place spot }
     requires later { 0 < spot.step }
     requires register { FitsRegister (job_in circuit.now).udps (job_in circuit.now).width latching.now }
@@ -168,7 +159,6 @@ fn looked_at(
 }
 
 fn old_arguments(circuit: &Circuit<'_>, step: usize, pins: &[Pin]) -> ArgumentsByNumber
-    requires fits { CircuitFits circuit.now }
     requires nets { AllByRecursion (λ net. net < (job_in circuit.now).width) (net_pins pins.now) }
     requires few { length (net_pins pins.now) ≤ 6 }
     requires later { 0 < step }

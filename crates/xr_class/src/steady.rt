@@ -4,7 +4,7 @@ ghost use Rattle.std.specs.Prelude.{◌≡◌, ℕ, ◌-◌, ◌%◌, ◌<◌, �
 ghost use Rattle.std.specs.Bool.{OnTrue};
 ghost use Rattle.std.specs.List.{AllByRecursion};
 ghost use Rattle.xr_cell.specs.declared.value.Value.{Value as AnyValue};
-ghost use Rattle.xr_design.specs.Circuit.{job_in, CircuitFits};
+ghost use Rattle.xr_design.specs.Circuit.{job_in};
 ghost use Rattle.xr_design.specs.Job.{places_of};
 ghost use Rattle.xr_design.specs.Order.{net_pins};
 ghost use Rattle.xr_wiring.specs.declared.wiring.Kind.TheVariants as kind;
@@ -31,7 +31,6 @@ pub fn cell_class<E: Earlier>(
     pins: &[Pin],
     all_keep: bool,
 ) -> ClassByNumber
-    requires fits { CircuitFits circuit.now }
     requires within { place < places_of (job_in circuit.now) }
     requires position { position ≡ place % (job_in circuit.now).width }
     requires stands { StandsCell (job_in circuit.now) place table pins.now }
@@ -85,7 +84,6 @@ pub fn register_class<E: Earlier>(
     position: usize,
     pins: &[Pin],
 ) -> ClassByNumber
-    requires fits { CircuitFits circuit.now }
     requires within { place < places_of (job_in circuit.now) }
     requires position { position ≡ place % (job_in circuit.now).width }
     requires stands { Stands (job_in circuit.now) place kind.Register pins.now }
@@ -123,7 +121,6 @@ fn sees_the_same<E: Earlier>(
     position: usize,
     pins: &[Pin],
 ) -> bool
-    requires fits { CircuitFits circuit.now }
     requires within { place < places_of (job_in circuit.now) }
     requires position { position ≡ place % (job_in circuit.now).width }
     requires stands { Stands (job_in circuit.now) place kind.Register pins.now }

@@ -3,7 +3,7 @@
 ghost use Rattle.std.specs.Prelude.{◌≡◌, ℕ, ◌<◌, ◌≤◌, length, Contains};
 ghost use Rattle.std.specs.List.{AllByRecursion};
 ghost use Rattle.xr_cell.specs.declared.value.Value.{Value as AnyValue};
-ghost use Rattle.xr_design.specs.Circuit.{job_in, CircuitFits};
+ghost use Rattle.xr_design.specs.Circuit.{job_in};
 ghost use Rattle.xr_design.specs.Job.{places_of};
 ghost use Rattle.xr_design.specs.Rule.{arguments};
 ghost use Rattle.xr_model.specs.Class.{is_carrier};
@@ -26,7 +26,6 @@ use xr_model::ClassByNumber;
 
 /// The class of a place, by what its rule gives. Takes no memory.
 pub fn tried_class<E: Earlier>(circuit: &Circuit<'_>, earlier: &E, place: usize) -> ClassByNumber
-    requires fits { CircuitFits circuit.now }
     requires within { place < places_of (job_in circuit.now) }
     requires certain { (k : ℕ) → k < place → E.has earlier.now k }
     requires facts { AreFacts (job_in circuit.now) (E.reads earlier.now) (E.facts earlier.now) place }
@@ -47,7 +46,6 @@ fn first_class<E: Earlier>(
     place: usize,
     uncertain: &[usize],
 ) -> ClassByNumber
-    requires fits { CircuitFits circuit.now }
     requires within { place < places_of (job_in circuit.now) }
     requires certain { (k : ℕ) → k < place → E.has earlier.now k }
     requires facts { AreFacts (job_in circuit.now) (E.reads earlier.now) (E.facts earlier.now) place }
@@ -73,7 +71,6 @@ fn later_class<E: Earlier>(
     uncertain: &[usize],
     ends: Ends,
 ) -> ClassByNumber
-    requires fits { CircuitFits circuit.now }
     requires within { place < places_of (job_in circuit.now) }
     requires certain { (k : ℕ) → k < place → E.has earlier.now k }
     requires facts { AreFacts (job_in circuit.now) (E.reads earlier.now) (E.facts earlier.now) place }
@@ -97,7 +94,6 @@ fn carried_or_line<C: Source>(
     uncertain: &[usize],
     ends: Ends,
 ) -> ClassByNumber
-    requires fits { CircuitFits circuit.now }
     requires within { place < places_of (job_in circuit.now) }
     requires certain { (k : ℕ) → k < place → C.has certain.now k }
     requires few { length uncertain.now ≤ 13 }
@@ -119,7 +115,6 @@ fn copied_or_line<C: Source>(
     uncertain: &[usize],
     inverted: bool,
 ) -> ClassByNumber
-    requires fits { CircuitFits circuit.now }
     requires within { place < places_of (job_in circuit.now) }
     requires certain { (k : ℕ) → k < place → C.has certain.now k }
     requires few { length uncertain.now ≤ 13 }
@@ -145,7 +140,6 @@ fn is_carrier<C: Source>(
     from: usize,
     inverted: bool,
 ) -> bool
-    requires fits { CircuitFits circuit.now }
     requires within { place < places_of (job_in circuit.now) }
     requires certain { (k : ℕ) → k < place → C.has certain.now k }
     requires few { length uncertain.now ≤ 13 }

@@ -40,7 +40,7 @@ use Rattle.xr_cert_text.specs.Text.{cert_text}
 use Rattle.xr_cert_text.specs.Wrong.{IsTextOf}
 use Rattle.xr_cert_text.specs.declared.cert.Cert.{Cert}
 use Rattle.xr_code.specs.Written.{code_text}
-use Rattle.xr_design.specs.Circuit.{PartsFit}
+use Rattle.xr_design.specs.Parts.{PartsFit}
 use Rattle.xr_design.specs.declared.force.Event.{Event}
 use Rattle.xr_forces.specs.ForcesOf.{AreForcesOf, forces_of}
 use Rattle.xr_forces.specs.Waves.{values_of}

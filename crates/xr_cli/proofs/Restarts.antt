@@ -1,6 +1,6 @@
 -- A job under set starts fits, and its wave stands beside that under the recorded ones.
 use Rattle.std.proofs.Common.{◌∙◌, ℕ, ◌≤◌, List, length, sym, ap, subst}
-use Rattle.xr_design.specs.Circuit.{PartsFit}
+use Rattle.xr_design.specs.Parts.{PartsFit}
 use Rattle.xr_design.specs.History.{HistoryView}
 use Rattle.xr_design.specs.Stim.{FitsStim}
 use Rattle.xr_design.specs.declared.design.Design.{Design}

@@ -12,7 +12,7 @@ ghost use Rattle.xr_phases.specs.Repair.{FitsParts};
 use crate::commands::replay::Replay;
 use std::alloc::Global;
 use xr_base::{Memory, put, put_number};
-use xr_design::{Forces, History, Stim};
+use xr_design::{Circuit, Forces, History, Stim};
 use xr_out::vcd_text;
 use xr_phases::{Parts, Refused, forces_of};
 use xr_replay::replay;
@@ -45,14 +45,12 @@ fn replayed<'a>(
     requires forces { AreEvents (job_for job.now.netlist job.now.recorded) forces.now }
     ensures { PreparedAlone (forced_phases (replay_values words.now) job.now forces.now) answer_of result }
 {
-    let netlist = &job.netlist;
-    let history = replay(
-        alloc,
-        &netlist.design,
-        &netlist.order,
-        &job.recorded.stim,
-        forces,
-    )?;
+    let circuit = Circuit {
+        design: &job.netlist.design,
+        order: &job.netlist.order,
+        stim: &job.recorded.stim,
+    };
+    let history = replay(alloc, &circuit, forces)?;
     Ok(texts_of(alloc, words, job, &history)?)
 }
 

@@ -4,7 +4,7 @@ use Rattle.std.specs.List.{AllByRecursion}
 use Rattle.std.specs.List.Sorted.{IsStrictlyIncreasing}
 use Rattle.std.proofs.lemmas.Nat.{div-add-mod'}
 use Rattle.std.proofs.Math.Nat.{div-lt_iff_lt-mul}
-use Rattle.xr_design.specs.Circuit.{PartsFit}
+use Rattle.xr_design.specs.Parts.{PartsFit}
 use Rattle.xr_design.specs.Design.{FitsDesign}
 use Rattle.xr_design.specs.Force.{AreEvents, forced_by}
 use Rattle.xr_design.specs.Job.{job_of, places_of}

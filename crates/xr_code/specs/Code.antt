@@ -1,6 +1,7 @@
 -- A code text, and what its names and times are read by.
 use Rattle.std.specs.Prelude.{ℕ, List}
 use Rattle.xr_design.specs.Job.{Job, job_of}
+use Rattle.xr_design.specs.declared.circuit.Circuit.{Circuit}
 use Rattle.xr_design.specs.declared.design.Design.{Design}
 use Rattle.xr_design.specs.declared.stim.Stim.{Stim}
 use Rattle.xr_match.specs.Naming.{Texts}
@@ -15,6 +16,10 @@ pub record Code : Type 0 where
 
 abbrev pub code : List ℕ → Design → List ℕ → Stim → Texts → Code
 code text design order stim scope = record { text = text; design = design; order = order; stim = stim; scope = scope }
+
+-- that of a circuit
+abbrev pub code_in : List ℕ → Circuit → Texts → Code
+code_in text circuit = code text circuit.design.now circuit.order.now circuit.stim.now
 
 -- its design, order and stimulus as a job
 abbrev pub job : Code → Job

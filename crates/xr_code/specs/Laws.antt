@@ -1,7 +1,7 @@
 -- Laws of code: what the grammar says is what the machine reads, and what is written of forces is read as these.
 use Rattle.std.specs.Prelude.{◌≡◌, ℕ, ◌<◌, ◌^◌, true, Result, List, MatchResult}
 use Rattle.std.specs.List.{AllByRecursion}
-use Rattle.xr_design.specs.Circuit.{PartsFit}
+use Rattle.xr_design.specs.Parts.{PartsFit}
 use Rattle.xr_design.specs.Design.{FitsDesign}
 use Rattle.xr_design.specs.Job.{job_of}
 use Rattle.xr_design.specs.declared.design.Design.{Design}

@@ -24,7 +24,7 @@ pub fn condition_of(
     ensures condition { IfOk result (IsConditionOfCone wave.now cone.nodes) }
     ensures finished { IfOk result (λ condition. condition.due ≡ 0) }
 {
-    let _circuit = wave.circuit();
+    wave.recall();
     let condition = Condition::new(alloc, wave, cone)?;
     finish(alloc, condition, limit)
 }

@@ -2,7 +2,7 @@
 
 ghost use Rattle.std.specs.Prelude.{◌≡◌, ◌+◌, ◌<◌, IfOk, length, map};
 ghost use Rattle.std.specs.List.{AllByRecursion};
-ghost use Rattle.xr_design.specs.Circuit.{CircuitFits, job_in};
+ghost use Rattle.xr_design.specs.Circuit.{job_in};
 ghost use Rattle.xr_design.specs.Filling.{IsPlace};
 ghost use Rattle.xr_design.specs.Job.{number_of};
 ghost use Rattle.xr_cone.specs.Boundary.{IsCertainBoundary};
@@ -48,7 +48,6 @@ pub fn first_query(
 }
 
 fn numbers_of(alloc: Global, circuit: &Circuit<'_>, places: &[Place]) -> Result<Vec<usize>, Memory>
-    requires fits { CircuitFits circuit.now }
     requires places { AllByRecursion (IsPlace (job_in circuit.now)) places.now }
     ensures { IfOk result (λ numbers. numbers.items ≡ map (number_of (job_in circuit.now)) places.now) }
 {

@@ -24,7 +24,7 @@ pub fn whole_values(
     requires few { count ≤ 13 }
     ensures { IfOk result (λ values. AreWholeValues wave.now (number_of (job wave.now) place) values.items) }
 {
-    let _circuit = wave.circuit();
+    wave.recall();
     let end: u16 = 1 << count;
     let mut values = Vec::with_capacity(alloc, end as usize)?;
     'numbers: for number in 0..end {

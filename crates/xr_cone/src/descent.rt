@@ -28,7 +28,7 @@ pub fn trace_places(
     ensures few { IfOk result (λ traced. length traced.items ≤ 2 ^ 27) }
     ensures right { OnOk result (IsRightOf wave.now tracer.new) }
 {
-    let _circuit = wave.circuit();
+    wave.recall();
     let mut reached = Reached::new(alloc);
     let mut traced = Vec::new(alloc);
     reached.insert(root)?;

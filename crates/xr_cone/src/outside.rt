@@ -3,7 +3,7 @@
 ghost use Rattle.std.specs.Prelude.{◌≡◌, ℕ, ◌<◌, ◌≤◌, [], ◌∷◌, length, map, reverse, slice_index, filter, IfOk, OnOk, if◌then◌else◌};
 ghost use Rattle.std.specs.List.{AllByRecursion};
 ghost use Rattle.std.specs.List.Sorted.{IsStrictlyIncreasing};
-ghost use Rattle.xr_design.specs.Circuit.{job_in, CircuitFits};
+ghost use Rattle.xr_design.specs.Circuit.{job_in};
 ghost use Rattle.xr_design.specs.Filling.{IsPlace};
 ghost use Rattle.xr_design.specs.Fits.{place_at};
 ghost use Rattle.xr_design.specs.Job.{places_of};
@@ -88,7 +88,6 @@ pub fn numbers_of(
     circuit: &Circuit<'_>,
     nodes: &[Node],
 ) -> Result<Vec<usize>, Memory>
-    requires fits { CircuitFits circuit.now }
     requires places { AllByRecursion (IsPlaceIn (job_in circuit.now)) nodes.now }
     ensures { IfOk result (λ numbers. numbers.items ≡ map (number_in (job_in circuit.now)) nodes.now) }
 {
@@ -163,7 +162,6 @@ fn places_back(
     circuit: &Circuit<'_>,
     mut numbers: Vec<usize>,
 ) -> Result<Vec<Place>, Memory>
-    requires fits { CircuitFits circuit.now }
     requires within { AllByRecursion (λ k. k < places_of (job_in circuit.now)) numbers.items }
     ensures { IfOk result (λ places. places.items ≡ map (place_at (job_in circuit.now)) (reverse numbers.items)) }
 {

@@ -4,7 +4,7 @@ use Rattle.std.proofs.Math.Nat.{mul-le-mul_right}
 use Rattle.std.proofs.lemmas.Bool.{cases_eq, cases_lt}
 use Rattle.std.proofs.lemmas.List.{get_or_append_left, get_or_push, length-replicate, length_push, take_all, take_at}
 use Rattle.std.specs.List.{AllByRecursion}
-use Rattle.xr_ledger.specs.Change.{AreInWidth, change_payload, change_position, no_change, nth_change, packed_change}
+use Rattle.xr_ledger.specs.Change.{AreInWidth, change_payload, change_position, no_change, packed_change}
 use Rattle.xr_ledger.specs.Ledger.{LedgerStep, LedgerView, RowFollows, after_turn, new_ledger, no_step, row_with, step_changes, step_row, steps_of, with_put}
 use Rattle.xr_ledger.specs.declared.change.Change.{Change}
 use Rattle.xr_ledger.proofs.Rows.{change_position-packed_change, length-row_with, value_none}

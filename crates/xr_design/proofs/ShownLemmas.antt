@@ -11,4 +11,4 @@ use Rattle.xr_design.proofs.Numbers.{is_place_at}
 pub shows_there : (circuit : Circuit) (history : HistoryView) (place : ℕ) → ShowsPlace circuit history place → HasPlace history (place_at (job_in circuit) place)
 shows_there circuit history place shows =
     let j = job_in circuit in
-    has_place j history (place_at j place) shows.places (is_place_at j place shows.fits.fits_job.ordering shows.fits.fits_job.all shows.within)
+    has_place j history (place_at j place) shows.places (is_place_at j place circuit.fits.fits_job.ordering circuit.fits.fits_job.all shows.within)

@@ -1,7 +1,7 @@
 -- Which histories are handed in: the replay, or a blank one.
 use Rattle.std.specs.Prelude.{◌≡◌, ◌⊎◌, ℕ, ◌<◌, Option, None, length, slice_index_or}
 use Rattle.xr_cell.specs.declared.value.Value.{Value}
-use Rattle.xr_design.specs.Circuit.{CircuitFits, job_in}
+use Rattle.xr_design.specs.Circuit.{job_in}
 use Rattle.xr_design.specs.declared.circuit.Circuit.{Circuit}
 use Rattle.xr_design.specs.Job.{Job, places_of}
 use Rattle.xr_design.specs.Fits.{place_at}
@@ -20,9 +20,8 @@ pub record HasPlaces (j : Job) (history : HistoryView) : Type 0 where
   pub nets : history.nets ≡ j.width
   pub all : length history.places ≡ places_of j
 
--- A history shows something at a place of a circuit that fits.
+-- A history has the places of a circuit, of which this is one.
 pub record ShowsPlace (circuit : Circuit) (history : HistoryView) (place : ℕ) : Type 0 where
-  pub fits : CircuitFits circuit
   pub places : HasPlaces (job_in circuit) history
   pub within : place < places_of (job_in circuit)
 

@@ -11,6 +11,7 @@ pub mod Job
 pub mod Laws
 pub mod Name
 pub mod Order
+pub mod Parts
 pub mod Register
 pub mod Replay
 pub mod Row

@@ -1,17 +1,18 @@
 //! What a driver gives and keeps, from the values shown at the places before.
 
 ghost use Rattle.std.specs.Prelude.{◌≡◌, ℕ, ◌<◌, length};
-ghost use Rattle.xr_design.specs.Circuit.{job_in, CircuitFits, IsSpot};
+ghost use Rattle.xr_design.specs.Circuit.{job_in, IsSpot};
 ghost use Rattle.xr_design.specs.Fits.{FitsDriver, FitsRegister, FitsTable, Standing};
 ghost use Rattle.xr_design.specs.Order.{arguments_of_driver, net_pins};
 ghost use Rattle.xr_design.specs.Register.{pins_at};
 ghost use Rattle.xr_design.specs.Replay.{driven, kept_by, register_kept, seen, table_of};
 
-use crate::circuit::{Circuit, Spot, recorded_at, start_at};
+use crate::circuit::Circuit;
 use crate::design::{Driver, Latching, Pin, Table};
 use crate::reads::{Source, net_value, pin_values};
 use crate::register::updated_value;
 use crate::rule::table_value;
+use crate::spot::{Spot, recorded_at, start_at};
 use xr_cell::Value;
 
 /// What the driver of a place gives, where its net kept this one step before. Takes no memory.
@@ -23,7 +24,6 @@ pub fn driven_value<S: Source>(
     driver: &Driver,
     was: Value,
 ) -> Value
-    requires fits { CircuitFits circuit.now }
     requires spot { IsSpot (job_in circuit.now) place spot }
     requires before { Standing (job_in circuit.now) spot.position (arguments_of_driver driver.now) }
     requires driver { FitsDriver (job_in circuit.now).udps (job_in circuit.now).width driver.now }
@@ -56,7 +56,6 @@ pub fn cell_value<S: Source>(
     table: Table,
     pins: &[Pin],
 ) -> Value
-    requires fits { CircuitFits circuit.now }
     requires spot { IsSpot (job_in circuit.now) place spot }
     requires before { Standing (job_in circuit.now) spot.position (net_pins pins.now) }
     requires table { FitsTable (job_in circuit.now).udps table (length pins.now) }
@@ -76,7 +75,6 @@ fn register_value<S: Source>(
     latching: &Latching,
     was: Value,
 ) -> Value
-    requires fits { CircuitFits circuit.now }
     requires spot { IsSpot (job_in circuit.now) place spot }
     requires register { FitsRegister (job_in circuit.now).udps (job_in circuit.now).width latching.now }
     requires has { (k : ℕ) → k < place → S.has source.now k }

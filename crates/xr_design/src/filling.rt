@@ -3,7 +3,7 @@
 ghost use Rattle.std.specs.Prelude.{◌≡◌, ◌↔◌, IsTrue, map};
 ghost use Rattle.std.specs.List.{AllByRecursion};
 ghost use Rattle.std.specs.List.Sorted.{IsStrictlyIncreasing};
-ghost use Rattle.xr_design.specs.Circuit.{CircuitFits, job_in};
+ghost use Rattle.xr_design.specs.Circuit.{job_in};
 ghost use Rattle.xr_design.specs.Filling.{IsFilling, IsPlace};
 ghost use Rattle.xr_design.specs.Job.{number_of};
 
@@ -12,14 +12,12 @@ use crate::place::Place;
 
 /// Whether places are those of the job, in place order and without doubles. Takes no memory.
 pub fn is_filling(circuit: &Circuit<'_>, places: &[Place]) -> bool
-    requires { CircuitFits circuit.now }
     ensures { IsTrue result ↔ IsFilling (job_in circuit.now) places.now }
 {
     are_places(circuit, places) && ascend(circuit, places)
 }
 
 fn are_places(circuit: &Circuit<'_>, places: &[Place]) -> bool
-    requires { CircuitFits circuit.now }
     ensures { IsTrue result ↔ AllByRecursion (IsPlace (job_in circuit.now)) places.now }
 {
     'places: for place in places {
@@ -32,7 +30,6 @@ fn are_places(circuit: &Circuit<'_>, places: &[Place]) -> bool
 
 /// Whether places of the job ascend.
 fn ascend(circuit: &Circuit<'_>, places: &[Place]) -> bool
-    requires fits { CircuitFits circuit.now }
     requires places { AllByRecursion (IsPlace (job_in circuit.now)) places.now }
     ensures { IsTrue result ↔ IsStrictlyIncreasing (map (number_of (job_in circuit.now)) places.now) }
 {

@@ -19,14 +19,13 @@ mod register;
 mod row;
 mod rule;
 mod shown;
+mod spot;
 mod stim;
 mod two_bits;
 mod waveform;
 mod writer;
 
-pub use circuit::{
-    Circuit, Spot, count_places, driver_at, recorded_at, spot_of, start_at, width_of,
-};
+pub use circuit::Circuit;
 pub use design::{Design, Driver, Latching, Net, Pin, Table};
 pub use driven::{driven_value, kept_value};
 pub use filling::is_filling;
@@ -44,6 +43,7 @@ pub use register::{clock_is_uncertain, clock_was_uncertain, updated_value};
 pub use row::HistoryRow;
 pub use rule::{remade_value, rule_value, table_value};
 pub use shown::{Shown, ShownSoFar};
+pub use spot::{Spot, count_places, driver_at, recorded_at, spot_of, start_at, width_of};
 pub use stim::{Levels, RegisterRules, StartRule, Stim};
 pub use waveform::{Mark, Written};
 pub use writer::HistoryWriter;

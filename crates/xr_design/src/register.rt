@@ -5,7 +5,7 @@ ghost use Rattle.std.specs.Int.{bit_at};
 ghost use Rattle.xr_cell.specs.Value.{is_unknown};
 ghost use Rattle.xr_cell.specs.declared.value.Value.{Value as AnyValue};
 ghost use Rattle.xr_cell.specs.Next.{next};
-ghost use Rattle.xr_design.specs.Circuit.{job_in, CircuitFits};
+ghost use Rattle.xr_design.specs.Circuit.{job_in};
 ghost use Rattle.xr_design.specs.Fits.{FitsRegister, FitsPrimitive};
 ghost use Rattle.xr_design.specs.Job.{primitive_of};
 ghost use Rattle.xr_design.specs.Register.{old_pins, new_pins, updated, hold_at, has_unknown_clock};
@@ -24,7 +24,6 @@ fn old_values<S: Source>(
     step: usize,
     latching: &Latching,
 ) -> [Value; 10]
-    requires fits { CircuitFits circuit.now }
     requires register { FitsRegister (job_in circuit.now).udps (job_in circuit.now).width latching.now }
     requires later { 0 < step }
     requires has { (place : ℕ) → place < step * (job_in circuit.now).width → S.has source.now place }
@@ -46,7 +45,6 @@ fn new_values<S: Source>(
     step: usize,
     latching: &Latching,
 ) -> [Value; 10]
-    requires fits { CircuitFits circuit.now }
     requires register { FitsRegister (job_in circuit.now).udps (job_in circuit.now).width latching.now }
     requires later { 0 < step }
     requires has { (place : ℕ) → place < step * (job_in circuit.now).width → S.has source.now place }
@@ -66,7 +64,6 @@ pub fn updated_value<S: Source>(
     step: usize,
     latching: &Latching,
 ) -> Value
-    requires fits { CircuitFits circuit.now }
     requires register { FitsRegister (job_in circuit.now).udps (job_in circuit.now).width latching.now }
     requires later { 0 < step }
     requires has { (place : ℕ) → place < step * (job_in circuit.now).width → S.has source.now place }
@@ -93,7 +90,6 @@ pub fn hold_value<S: Source>(
     step: usize,
     latching: &Latching,
 ) -> Value
-    requires fits { CircuitFits circuit.now }
     requires register { FitsRegister (job_in circuit.now).udps (job_in circuit.now).width latching.now }
     requires later { 0 < step }
     requires has { (place : ℕ) → place < step * (job_in circuit.now).width → S.has source.now place }
@@ -112,7 +108,6 @@ pub fn clock_is_uncertain<S: Source>(
     step: usize,
     latching: &Latching,
 ) -> bool
-    requires fits { CircuitFits circuit.now }
     requires register { FitsRegister (job_in circuit.now).udps (job_in circuit.now).width latching.now }
     requires later { 0 < step }
     requires has { (place : ℕ) → place < step * (job_in circuit.now).width → S.has certain.now place }
@@ -134,7 +129,6 @@ pub fn clock_was_uncertain<S: Source>(
     step: usize,
     latching: &Latching,
 ) -> bool
-    requires fits { CircuitFits circuit.now }
     requires register { FitsRegister (job_in circuit.now).udps (job_in circuit.now).width latching.now }
     requires later { 1 < step }
     requires has { (place : ℕ) → place < step * (job_in circuit.now).width → S.has certain.now place }
@@ -157,7 +151,6 @@ fn clock_before_is_uncertain<S: Source>(
     step: usize,
     latching: &Latching,
 ) -> bool
-    requires fits { CircuitFits circuit.now }
     requires register { FitsRegister (job_in circuit.now).udps (job_in circuit.now).width latching.now }
     requires later { 1 < step }
     requires has { (place : ℕ) → place < step * (job_in circuit.now).width → S.has certain.now place }

@@ -2,18 +2,19 @@
 
 ghost use Rattle.std.specs.Prelude.{◌≡◌, ℕ, ◌+◌, ◌*◌, ◌<◌, ◌≤◌, ◌^◌, length};
 ghost use Rattle.xr_cell.specs.declared.value.Value.{Value as AnyValue};
-ghost use Rattle.xr_design.specs.Circuit.{job_in, CircuitFits, IsSpot, Reach};
+ghost use Rattle.xr_design.specs.Circuit.{job_in, IsSpot, Reach};
 ghost use Rattle.xr_design.specs.Fits.{Standing, FitsDriver, FitsRegister, FitsTable};
 ghost use Rattle.xr_design.specs.Job.{places_of};
 ghost use Rattle.xr_design.specs.Order.{arguments_of_driver};
 ghost use Rattle.xr_design.specs.Replay.{table_of};
 ghost use Rattle.xr_design.specs.Rule.{born, known_or, register_rule, remade, rule, rule_of};
 
-use crate::circuit::{Circuit, Spot, driver_at, recorded_at, spot_of, start_at};
+use crate::circuit::Circuit;
 use crate::design::{Driver, Latching, Table};
 use crate::driven::cell_value;
 use crate::reads::{AsValues, BitSource, Source, net_value};
 use crate::register::{clock_is_uncertain, hold_value, updated_value};
+use crate::spot::{Spot, driver_at, recorded_at, spot_of, start_at};
 use crate::stim::Levels;
 use xr_cell::{Value, gate_value};
 
@@ -25,7 +26,6 @@ pub fn rule_value<C: Source, B: BitSource>(
     bits: &B,
     place: usize,
 ) -> Value
-    requires fits { CircuitFits circuit.now }
     requires within { place < places_of (job_in circuit.now) }
     requires certain { (k : ℕ) → k < place → C.has certain.now k }
     requires bits { (k : ℕ) → k < place → B.has bits.now k }
@@ -50,7 +50,6 @@ fn ruled_value<C: Source, B: BitSource>(
     spot: Spot,
     driver: &Driver,
 ) -> Value
-    requires fits { CircuitFits circuit.now }
     requires spot { IsSpot (job_in circuit.now) place spot }
     requires before { Standing (job_in circuit.now) spot.position (arguments_of_driver driver.now) }
     requires driver { FitsDriver (job_in circuit.now).udps (job_in circuit.now).width driver.now }
@@ -87,7 +86,6 @@ fn value_known_or(value: Value, other: Value) -> Value
 }
 
 fn born_value<B: BitSource>(circuit: &Circuit<'_>, bits: &B, place: usize, spot: Spot) -> Value
-    requires fits { CircuitFits circuit.now }
     requires spot { IsSpot (job_in circuit.now) place spot }
     requires bits { (k : ℕ) → k < place → B.has bits.now k }
     ensures { result ≡ born (job_in circuit.now) (B.bits bits.now) spot.step spot.net }
@@ -123,7 +121,6 @@ fn register_value<C: Source, B: BitSource>(
     spot: Spot,
     latching: &Latching,
 ) -> Value
-    requires fits { CircuitFits circuit.now }
     requires spot { IsSpot (job_in circuit.now) place spot }
     requires register { FitsRegister (job_in circuit.now).udps (job_in circuit.now).width latching.now }
     requires certain { (k : ℕ) → k < place → C.has certain.now k }
@@ -151,7 +148,6 @@ pub fn remade_value<S: Source>(
     step: usize,
     latching: &Latching,
 ) -> Value
-    requires fits { CircuitFits circuit.now }
     requires register { FitsRegister (job_in circuit.now).udps (job_in circuit.now).width latching.now }
     requires later { 0 < step }
     requires has { (place : ℕ) → place < step * (job_in circuit.now).width → S.has source.now place }

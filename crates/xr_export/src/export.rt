@@ -21,7 +21,7 @@ use xr_wave::Wave;
 pub fn export_texts<'a>(alloc: Global, prefix: &str, wave: &Wave<'_>) -> Result<Ready<'a>, Memory>
     ensures { IfOk result (λ ready. Exports prefix.now wave.now (answer_of ready)) }
 {
-    let _circuit = wave.circuit();
+    wave.recall();
     let mut outputs = Vec::new(alloc);
     put_certificate(alloc, &mut outputs, prefix, wave)?;
     put_lines(alloc, &mut outputs, prefix, wave)?;

@@ -31,7 +31,7 @@ pub fn put_lines<'a>(
     ensures { OnOk result (Adds (AreFiles wave.now prefix.now 1 wave.now.lines)
         (map file_of outputs.old.items) (map file_of outputs.new.items)) }
 {
-    let _circuit = wave.circuit();
+    wave.recall();
     let lines = wave.lines();
     let mut tracer = Tracer::new(alloc);
     'lines: for place in 0..lines.len() {

@@ -1,7 +1,7 @@
 //! For each net the positions whose drivers read it.
 
 ghost use Rattle.std.specs.Prelude.{◌<◌, [], ◌∷◌, IfOk, OnOk};
-ghost use Rattle.xr_design.specs.Circuit.{job_in, CircuitFits};
+ghost use Rattle.xr_design.specs.Circuit.{job_in};
 ghost use Rattle.xr_design.specs.Order.{arguments_of_driver, net_pins};
 ghost use Rattle.xr_fans.specs.Nets.{looked_at};
 ghost use Rattle.xr_fans.specs.Readings.{AppendsReadings, AreFans, AreReaders, PushesArguments, PushesLookedAt};
@@ -21,7 +21,6 @@ pub struct Fans {
 impl Fans {
     /// Those of a circuit. Takes 16 bytes for each net and 4 for each pin, and on the way 16 more for each pin.
     pub fn of(alloc: Global, circuit: &Circuit<'_>) -> Result<Fans, Memory>
-        requires { CircuitFits circuit.now }
         ensures { IfOk result (AreFans (job_in circuit.now)) }
     {
         let cells = cell_readers(alloc, circuit)?;
@@ -31,7 +30,6 @@ impl Fans {
 }
 
 fn cell_readers(alloc: Global, circuit: &Circuit<'_>) -> Result<Readers, Memory>
-    requires { CircuitFits circuit.now }
     ensures { IfOk result (AreReaders (job_in circuit.now) arguments_of_driver) }
 {
     let nets = width_of(circuit);
@@ -44,7 +42,6 @@ fn cell_readers(alloc: Global, circuit: &Circuit<'_>) -> Result<Readers, Memory>
 
 /// The registers that look back at each net of a circuit.
 pub fn register_readers(alloc: Global, circuit: &Circuit<'_>) -> Result<Readers, Memory>
-    requires { CircuitFits circuit.now }
     ensures { IfOk result (AreReaders (job_in circuit.now) looked_at) }
 {
     let nets = width_of(circuit);
@@ -60,7 +57,6 @@ fn push_arguments(
     position: u32,
     readings: &mut Vec<Reading>,
 ) -> Result<(), Memory>
-    requires fits { CircuitFits circuit.now }
     requires position { position < (job_in circuit.now).width }
     ensures { OnOk result (PushesArguments circuit.now position readings.old.items readings.new.items) }
 {
@@ -77,7 +73,6 @@ fn push_looked_at(
     position: u32,
     readings: &mut Vec<Reading>,
 ) -> Result<(), Memory>
-    requires fits { CircuitFits circuit.now }
     requires position { position < (job_in circuit.now).width }
     ensures { OnOk result (PushesLookedAt circuit.now position readings.old.items readings.new.items) }
 {

@@ -1,7 +1,7 @@
 //! What becomes due: inputs that are recorded otherwise, nets that changed, and the readers of a net.
 
 ghost use Rattle.std.specs.Prelude.{◌≡◌, ◌*◌, ◌<◌, ◌≤◌, true, false, length};
-ghost use Rattle.xr_design.specs.Circuit.{job_in, CircuitFits};
+ghost use Rattle.xr_design.specs.Circuit.{job_in};
 ghost use Rattle.xr_design.specs.Order.{position_of};
 ghost use Rattle.xr_fans.specs.Marks.{AreChangesDue, AreInputsDue, OnlyMore};
 ghost use Rattle.xr_fans.specs.Readings.{AreFans};
@@ -16,7 +16,6 @@ use xr_replay_due::{Due, Readers};
 
 /// The inputs become due that a step records otherwise than the one before. Takes no memory.
 pub fn mark_inputs(circuit: &Circuit<'_>, step: u32, due: &mut Due)
-    requires fits { CircuitFits circuit.now }
     requires later { 0 < step }
     requires step { step < (job_in circuit.now).moments * (job_in circuit.now).rounds }
     requires room { HasRoomFor due.old (job_in circuit.now).width }
@@ -33,7 +32,6 @@ pub fn mark_inputs(circuit: &Circuit<'_>, step: u32, due: &mut Due)
 
 /// The nets of changes become due. Takes no memory.
 pub fn mark_changes(circuit: &Circuit<'_>, changes: &[Change], due: &mut Due)
-    requires fits { CircuitFits circuit.now }
     requires nets { AreInWidth (job_in circuit.now).width changes.now }
     requires room { HasRoomFor due.old (job_in circuit.now).width }
     ensures long { length due.new ≡ length due.old }
@@ -47,7 +45,6 @@ pub fn mark_changes(circuit: &Circuit<'_>, changes: &[Change], due: &mut Due)
 
 /// The position of a net becomes due. Takes no memory.
 pub fn mark_net(circuit: &Circuit<'_>, net: u32, due: &mut Due)
-    requires fits { CircuitFits circuit.now }
     requires net { net < (job_in circuit.now).width }
     requires room { HasRoomFor due.old (job_in circuit.now).width }
     ensures long { length due.new ≡ length due.old }

@@ -50,8 +50,8 @@ pub fn gained(
     ensures kept { spec.OnlyChooses before.now after.now → IfOk result (λ fixed. fixed.lost.items ≡ []) }
 {
     // With them comes the fact that both waves are sound.
-    let _count = before.count();
-    let _other = after.count();
+    before.recall();
+    after.recall();
     let mut fixed = Fixed {
         gained: Vec::new(alloc),
         lost: Vec::new(alloc),

@@ -10,7 +10,7 @@ use Rattle.xr_design.specs.Fits.{Fits, FitsDriver, StandsBefore}
 use Rattle.xr_design.specs.Job.{Job, at, net_of, places_of, step_of}
 use Rattle.xr_design.specs.Order.{arguments_of_driver, net_pins, position_of}
 use Rattle.xr_design.specs.Replay.{Held, blank, driven, kept, register_kept, seen, table_of}
-use Rattle.xr_design.specs.declared.circuit.Spot.{Spot}
+use Rattle.xr_design.specs.declared.spot.Spot.{Spot}
 use Rattle.xr_design.specs.declared.design.Driver.{Driver}
 use Rattle.xr_design.specs.declared.design.Driver.TheVariants.{Input, Undriven, Constant, Copy, Cell, Register}
 use Rattle.xr_design.specs.declared.design.Latching.{Latching}

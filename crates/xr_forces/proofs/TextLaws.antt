@@ -2,7 +2,7 @@
 use Rattle.std.proofs.Common.{◌≡◌, ℕ, ◌+◌, ◌*◌, ◌<◌, ◌≤◌, List, length, sym, ap, ◌∙◌, arith}
 use Rattle.std.proofs.Math.Nat.{mul-le-mul_right}
 use Rattle.xr_cell.specs.declared.value.Value.{Value}
-use Rattle.xr_design.specs.Circuit.{PartsFit}
+use Rattle.xr_design.specs.Parts.{PartsFit}
 use Rattle.xr_design.specs.Fits.{Fits}
 use Rattle.xr_design.specs.Force.{forced_by}
 use Rattle.xr_design.specs.Handed.{IsReplayUnder, shown_of}

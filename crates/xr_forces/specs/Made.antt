@@ -5,7 +5,7 @@ use Rattle.xr_cell.specs.declared.value.Value.{Value}
 use Rattle.xr_cell.specs.declared.value.Value.TheVariants.{X}
 use Rattle.xr_design.specs.Force.{forced_by}
 use Rattle.xr_design.specs.Job.{Job}
-use Rattle.xr_design.specs.declared.circuit.Spot.{Spot}
+use Rattle.xr_design.specs.declared.spot.Spot.{Spot}
 use Rattle.xr_design.specs.declared.force.Event.{Event}
 use Rattle.xr_replay.specs.Forced.{NoEventOf}
 use Rattle.xr_replay_due.specs.Due.{HasRoomFor, is_due}

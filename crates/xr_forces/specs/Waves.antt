@@ -1,7 +1,7 @@
 -- What a wave shows, by number of place, and the law that its forces give its text.
 use Rattle.std.specs.Prelude.{◌≡◌, ℕ, ◌<◌, List}
 use Rattle.xr_cell.specs.declared.value.Value.{Value}
-use Rattle.xr_design.specs.Circuit.{PartsFit}
+use Rattle.xr_design.specs.Parts.{PartsFit}
 use Rattle.xr_design.specs.Force.{forced_by}
 use Rattle.xr_design.specs.Handed.{IsReplayUnder, shown_of}
 use Rattle.xr_design.specs.History.{HistoryView}

@@ -4,7 +4,7 @@
 //! isn't its own. One row is kept, of what the driver of each net gave one step before.
 
 ghost use Rattle.std.specs.Prelude.{◌≡◌, ℕ, ◌+◌, ◌-◌, ◌<◌, ◌≤◌, OnOk};
-ghost use Rattle.xr_design.specs.Circuit.{job_in, CircuitFits};
+ghost use Rattle.xr_design.specs.Circuit.{job_in};
 ghost use Rattle.xr_design.specs.Job.{places_of};
 ghost use Rattle.xr_forces.specs.Changes.{forced_before};
 ghost use Rattle.xr_forces.specs.ForcesOf as spec;
@@ -24,7 +24,6 @@ pub fn put_place<S: Source>(
     row: &mut [Value],
     events: &mut Vec<Event>,
 ) -> Result<(), Memory>
-    requires fits { CircuitFits circuit.now }
     requires place { place < places_of (job_in circuit.now) }
     requires has { (k : ℕ) → k < place + 1 → S.has values.now k }
     requires made { AreForcesTo (job_in circuit.now) (S.reads values.now) place row.old events.old.items }

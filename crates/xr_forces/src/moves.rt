@@ -1,7 +1,7 @@
 //! What becomes due as values move: nets that have another value than one step before, and what reads them.
 
 ghost use Rattle.std.specs.Prelude.{◌≡◌, ℕ, ◌+◌, ◌*◌, ◌<◌};
-ghost use Rattle.xr_design.specs.Circuit.{job_in, CircuitFits};
+ghost use Rattle.xr_design.specs.Circuit.{job_in};
 ghost use Rattle.xr_design.specs.Job.{places_of};
 ghost use Rattle.xr_fans.specs.Marks.{OnlyMore};
 ghost use Rattle.xr_fans.specs.Readings.{AreFans};
@@ -22,7 +22,6 @@ pub fn mark_moves<S: Moving>(
     step: usize,
     waiting: &mut Waiting,
 )
-    requires fits { CircuitFits circuit.now }
     requires has { (place : ℕ) → place < places_of (job_in circuit.now) → S.has values.now place }
     requires job { S.job values.now ≡ job_in circuit.now }
     requires fans { AreFans (job_in circuit.now) fans.now }
@@ -54,7 +53,6 @@ fn mark_place<S: Source>(
     position: usize,
     waiting: &mut Waiting,
 )
-    requires fits { CircuitFits circuit.now }
     requires has { (k : ℕ) → k < place + 1 → S.has values.now k }
     requires fans { AreFans (job_in circuit.now) fans.now }
     requires later { 0 < step }
@@ -78,7 +76,6 @@ fn mark_place<S: Source>(
 
 /// The net at a position becomes due, and what reads it.
 fn mark_move(circuit: &Circuit<'_>, fans: &Fans, position: usize, waiting: &mut Waiting)
-    requires fits { CircuitFits circuit.now }
     requires fans { AreFans (job_in circuit.now) fans.now }
     requires position { position < (job_in circuit.now).width }
     requires due { HasRoomFor waiting.old.due (job_in circuit.now).width }

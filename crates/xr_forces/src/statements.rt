@@ -4,7 +4,7 @@
 //! the design, the ones have an event that are forced otherwise than one step before.
 
 ghost use Rattle.std.specs.Prelude.{◌≡◌, ◌+◌, ◌*◌, ◌<◌, ◌≤◌, IfOk, None, OnOk, length, replicate};
-ghost use Rattle.xr_design.specs.Circuit.{job_in, CircuitFits};
+ghost use Rattle.xr_design.specs.Circuit.{job_in};
 ghost use Rattle.xr_forces.specs.Changes.{changes_by};
 ghost use Rattle.xr_forces.specs.Made.{AreChangesTo, HasChangesTo, RestButFor, StatedUnlessDue};
 ghost use Rattle.xr_replay.specs.Forced.{AreOrdered, HasForced};
@@ -36,7 +36,6 @@ pub fn changes_of(
     circuit: &Circuit<'_>,
     statements: &[Event],
 ) -> Result<Forces, Memory>
-    requires fits { CircuitFits circuit.now }
     requires ordered { AreOrdered (job_in circuit.now).width statements.now }
     ensures { IfOk result (λ forces. forces ≡ changes_by (job_in circuit.now) statements.now) }
 {
@@ -58,7 +57,6 @@ fn put_steps(
     forced: &mut [Option<Value>],
     changes: &mut Changes,
 ) -> Result<(), Memory>
-    requires fits { CircuitFits circuit.now }
     requires ordered { AreOrdered (job_in circuit.now).width statements.now }
     requires forced { forced.old ≡ replicate (job_in circuit.now).width None }
     requires changes { HasChangesTo (job_in circuit.now) statements.now 0 changes.old }
@@ -84,7 +82,6 @@ fn put_step(
     forced: &[Option<Value>],
     changes: &mut Changes,
 ) -> Result<(), Memory>
-    requires fits { CircuitFits circuit.now }
     requires ordered { AreOrdered (job_in circuit.now).width statements.now }
     requires range { to ≤ length statements.now }
     requires step { step < (job_in circuit.now).moments * (job_in circuit.now).rounds }
@@ -111,7 +108,6 @@ fn put_due(
     forced: &[Option<Value>],
     changes: &mut Changes,
 ) -> Result<(), Memory>
-    requires fits { CircuitFits circuit.now }
     requires step { step < (job_in circuit.now).moments * (job_in circuit.now).rounds }
     requires forced { HasForced (job_in circuit.now).width statements.now step forced.now }
     requires rest { StatedUnlessDue (job_in circuit.now) statements.now step changes.old.due }
@@ -139,7 +135,6 @@ fn put_net(
     forced: &[Option<Value>],
     changes: &mut Changes,
 ) -> Result<(), Memory>
-    requires fits { CircuitFits circuit.now }
     requires step { step < (job_in circuit.now).moments * (job_in circuit.now).rounds }
     requires position { position < (job_in circuit.now).width }
     requires forced { HasForced (job_in circuit.now).width statements.now step forced.now }

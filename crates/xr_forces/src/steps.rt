@@ -4,7 +4,7 @@
 //! whose driver may give one: their number is what it costs.
 
 ghost use Rattle.std.specs.Prelude.{◌≡◌, ℕ, ◌+◌, ◌*◌, ◌<◌, IfOk, OnOk};
-ghost use Rattle.xr_design.specs.Circuit.{job_in, CircuitFits};
+ghost use Rattle.xr_design.specs.Circuit.{job_in};
 ghost use Rattle.xr_design.specs.Job.{places_of};
 ghost use Rattle.xr_fans.specs.Readings.{AreFans};
 ghost use Rattle.xr_forces.specs.ForcesOf as spec;
@@ -29,7 +29,6 @@ pub fn forces_of_values<S: Moving>(
     circuit: &Circuit<'_>,
     values: &mut S,
 ) -> Result<Forces, Memory>
-    requires fits { CircuitFits circuit.now }
     requires has { (place : ℕ) → place < places_of (job_in circuit.now) → S.has values.old place }
     requires job { S.job values.old ≡ job_in circuit.now }
     ensures { IfOk result (λ forces. spec.AreForcesOf (job_in circuit.now) (S.reads values.old) forces) }
@@ -52,7 +51,6 @@ fn put_steps<S: Moving>(
     row: &mut [Value],
     events: &mut Vec<Event>,
 ) -> Result<(), Memory>
-    requires fits { CircuitFits circuit.now }
     requires has { (place : ℕ) → place < places_of (job_in circuit.now) → S.has values.old place }
     requires job { S.job values.old ≡ job_in circuit.now }
     requires fans { AreFans (job_in circuit.now) fans.now }
@@ -80,7 +78,6 @@ fn put_step<S: Moving>(
     row: &mut [Value],
     events: &mut Vec<Event>,
 ) -> Result<(), Memory>
-    requires fits { CircuitFits circuit.now }
     requires has { (place : ℕ) → place < places_of (job_in circuit.now) → S.has values.now place }
     requires job { S.job values.now ≡ job_in circuit.now }
     requires fans { AreFans (job_in circuit.now) fans.now }
@@ -113,7 +110,6 @@ fn put_due<S: Source>(
     row: &mut [Value],
     events: &mut Vec<Event>,
 ) -> Result<(), Memory>
-    requires fits { CircuitFits circuit.now }
     requires has { (place : ℕ) → place < places_of (job_in circuit.now) → S.has values.now place }
     requires step { step < (job_in circuit.now).moments * (job_in circuit.now).rounds }
     requires rest { GivenUnlessDue (job_in circuit.now) (S.reads values.now) step due.now }

@@ -137,7 +137,7 @@ impl<'w, 'a> Moving for Values<'w, 'a> {
 
     fn go_to(&mut self, step: usize) {
         // With it comes the fact that the places are few.
-        let _count = self.wave.count();
+        self.wave.recall();
         self.here.go_to(step);
         self.before.go_to(step.saturating_sub(1));
         self.earlier.go_to(step.saturating_sub(2));

@@ -3,7 +3,7 @@
 ghost use Rattle.std.specs.Prelude.{◌≡◌, ◌<◌, ◌==◌, IfOk, IfErr, find, length, option_map};
 ghost use Rattle.xr_design.specs.Handed.{IsReplay};
 ghost use Rattle.xr_match.specs.Binding.{FitsBinding};
-ghost use Rattle.xr_replay.specs.Fault.{IfDiffers, IsFaultless, IsFirstFault, TellsFaultless, TellsFirst};
+ghost use Rattle.xr_replay.specs.Fault.{IsFaultless};
 ghost use Rattle.xr_job.specs.Compared as spec;
 ghost use Rattle.xr_job.specs.Names.{net_name};
 ghost use Rattle.xr_job.specs.Netlist.{FitsNetlist};
@@ -15,7 +15,7 @@ use crate::netlist::Netlist;
 use crate::recorded::Recorded;
 use std::alloc::Global;
 use xr_base::Memory;
-use xr_design::{Bytes, Forces, History};
+use xr_design::{Bytes, Circuit, Forces, History};
 use xr_match::Bound;
 use xr_replay::{Differ, DifferErr, compare, replay};
 
@@ -33,51 +33,26 @@ pub fn replay_and_compare(
     ensures refused { IfErr result (spec.IfCompareRefused (spec.IsRefusedReplay netlist.now recorded.now)) }
     ensures exact { spec.IsReplayAnswer netlist.now recorded.now result }
 {
+    let circuit = Circuit {
+        design: &netlist.design,
+        order: &netlist.order,
+        stim: &recorded.stim,
+    };
     let forces = Forces::empty(alloc);
-    let history = replay(
+    let history = replay(alloc, &circuit, &forces)?;
+    match compare(
         alloc,
-        &netlist.design,
-        &netlist.order,
-        &recorded.stim,
-        &forces,
-    )?;
-    match compared(alloc, netlist, recorded, &history) {
+        &circuit,
+        &history,
+        &recorded.recording,
+        &recorded.binding,
+    ) {
         Ok(()) => Ok(history),
         Err(DifferErr::Differs(differ)) => Err(CompareErr::Refused(report_difference(
             alloc, netlist, recorded, differ,
         )?)),
         Err(DifferErr::Memory) => Err(CompareErr::Memory),
     }
-}
-
-/// The first fault of the recording, compared with the replay.
-fn compared(
-    alloc: Global,
-    netlist: &Netlist,
-    recorded: &Recorded,
-    history: &History,
-) -> Result<(), DifferErr>
-    requires netlist { FitsNetlist netlist.now }
-    requires recorded { FitsRecorded netlist.now.design recorded.now }
-    requires history { IsReplay (spec.job_for netlist.now recorded.now) history.now }
-    ensures agrees { IfOk result (λ _.
-        IsFaultless (spec.job_for netlist.now recorded.now) recorded.now.recording recorded.now.binding) }
-    ensures differs { IfErr result (IfDiffers
-        (IsFirstFault (spec.job_for netlist.now recorded.now) recorded.now.recording recorded.now.binding)) }
-    ensures faultless { TellsFaultless (spec.job_for netlist.now recorded.now)
-        recorded.now.recording recorded.now.binding result }
-    ensures exact { TellsFirst (spec.job_for netlist.now recorded.now)
-        recorded.now.recording recorded.now.binding result }
-{
-    compare(
-        alloc,
-        &netlist.design,
-        &netlist.order,
-        &recorded.stim,
-        history,
-        &recorded.recording,
-        &recorded.binding,
-    )
 }
 
 /// A fault by the time of its moment and the written name of its net.

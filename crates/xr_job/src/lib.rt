@@ -5,6 +5,7 @@
 //! Compared.antt, which say what texts come to, phase by phase.
 #![tactic(auto)]
 
+mod circuit;
 mod compare;
 mod compare_refusal;
 mod laws;
@@ -16,6 +17,7 @@ mod recorded;
 mod recording_refusal;
 mod rules;
 
+pub use circuit::circuit_of;
 pub use compare::replay_and_compare;
 pub use compare_refusal::{CompareErr, CompareRefusal};
 pub use laws::{netlists_come_to_one, recordings_come_to_one};

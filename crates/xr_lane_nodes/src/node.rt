@@ -78,7 +78,7 @@ fn make_ruled(
     requires before { AreBefore covered place }
     ensures { IfOk result (IsMadeNode wave.now covered.entry place) }
 {
-    let _circuit = wave.circuit();
+    wave.recall();
     let table = values.as_slice();
     let roots = rule_roots(alloc, wave, covered, place, arguments, table)?;
     let lane_bits = rule_lanes(wave, covered, place, arguments, table);
@@ -130,7 +130,7 @@ fn rule_sources(
     requires covered { CoversBeforeIn wave.now covered place }
     ensures { IfOk result (λ found. IfSome found (λ list. AreSourcesIn wave.now place list.items)) }
 {
-    let _circuit = wave.circuit();
+    wave.recall();
     if place > u32::MAX as usize {
         return Ok(None);
     }
@@ -161,7 +161,7 @@ fn rule_roots(
     requires before { AreBefore covered place }
     ensures { IfOk result (λ roots. AreRootsIn wave.now covered.entry.nodes.now place roots.items values.now) }
 {
-    let _circuit = wave.circuit();
+    wave.recall();
     let roots = roots_at(alloc, covered, arguments)?;
     Ok(roots)
 }

@@ -163,7 +163,7 @@ impl Lanes {
         ensures right { IsRightOf wave.now self.new }
         ensures count { count_of self.new ≡ count_of self.old + many }
     {
-        let _circuit = wave.circuit();
+        wave.recall();
         let gone = self.literals.repeat(many);
         self.first += gone;
         self.next = None;
@@ -177,7 +177,7 @@ impl Lanes {
         ensures right { OnOk result (IsRightOf wave.now self.new) }
         ensures one { OnOk result (count_of self.new ≡ count_of self.old + 1) }
     {
-        let _circuit = wave.circuit();
+        wave.recall();
         let place = self.count();
         let literal = self.literal_of(alloc, wave, place)?;
         let gone = self.literals.push(literal)?;
@@ -200,7 +200,7 @@ impl Lanes {
         ensures keeps { OnOk result (Keeps self.old self.new) }
         ensures literal { IfOk result (λ literal. IsLiteralIn wave.now self.new.nodes literal place) }
     {
-        let _circuit = wave.circuit();
+        wave.recall();
         match certain_value(wave, place) {
             Value::Zero => Ok(constant(false)),
             Value::One => Ok(constant(true)),
@@ -224,7 +224,7 @@ impl Lanes {
         ensures keeps { OnOk result (Keeps self.old self.new) }
         ensures literal { IfOk result (λ literal. IsLiteralIn wave.now self.new.nodes literal place) }
     {
-        let _circuit = wave.circuit();
+        wave.recall();
         match wave.class_by_number(place) {
             ClassByNumber::Carried(from, inverted) => {
                 Ok(literal_at(self.covered(), from).turned(inverted))
@@ -267,7 +267,7 @@ impl Lanes {
         ensures node { IfOk result (λ node. IsNextNode wave.now self.new.nodes place node) }
         ensures looked { IfOk result (λ node. self.new.next ≡ Some node) }
     {
-        let _circuit = wave.circuit();
+        wave.recall();
         match self.next {
             Some(node) => Ok(node),
             None => self.new_node(alloc, wave, place),
@@ -310,7 +310,7 @@ impl Lanes {
         ensures right { OnOk result (IsRightOf wave.now self.new) }
         ensures looked { OnOk result (IsLookedAt wave.now self.new) }
     {
-        let _circuit = wave.circuit();
+        wave.recall();
         self.follow(alloc, wave)?;
         let place = self.count();
         self.node_of(alloc, wave, place)?;

@@ -2,7 +2,7 @@
 
 ghost use Rattle.std.specs.Prelude.{◌≡◌, ◌<◌, ◌++◌, ◌∷◌, [], IfOk, IfSome, IsNone, MatchOption, OnOk, filter, length, map, if◌then◌else◌};
 ghost use Rattle.std.specs.List.{AllByRecursion};
-ghost use Rattle.xr_design.specs.Circuit.{CircuitFits, job_in};
+ghost use Rattle.xr_design.specs.Circuit.{job_in};
 ghost use Rattle.xr_design.specs.Fits.{place_at};
 ghost use Rattle.xr_design.specs.Job.{places_of};
 ghost use Rattle.xr_wave.specs.Token.{HasNext, LineHolds, pair_line};
@@ -121,7 +121,6 @@ fn lane_that_lists(
     list: &[u32],
     filling: &[Place],
 ) -> Result<Option<u32>, Memory>
-    requires fits { CircuitFits circuit.now }
     requires within { AllByRecursion (λ k. k < places_of (job_in circuit.now)) list.now }
     ensures { IfOk result (λ found. IfSome found (ListsJust (job_in circuit.now) list.now filling.now)) }
 {
@@ -148,7 +147,6 @@ fn lane_if(
     filling: &[Place],
     lane: u32,
 ) -> Result<Option<u32>, Memory>
-    requires fits { CircuitFits circuit.now }
     requires within { AllByRecursion (λ k. k < places_of (job_in circuit.now)) list.now }
     requires lane { lane < 256 }
     ensures { IfOk result (λ found. IfSome found (ListsJust (job_in circuit.now) list.now filling.now)) }
@@ -172,7 +170,6 @@ fn lanes_over(filling: &[Place]) -> LaneBits {
 
 /// Those of some places that the filling of a lane lists.
 fn ones(alloc: Global, circuit: &Circuit<'_>, list: &[u32], lane: u32) -> Result<Vec<Place>, Memory>
-    requires fits { CircuitFits circuit.now }
     requires within { AllByRecursion (λ k. k < places_of (job_in circuit.now)) list.now }
     requires lane { lane < 256 }
     ensures { let j = job_in circuit.now in
@@ -220,7 +217,6 @@ fn other_lane(lane_bits: LaneBits) -> Option<u32>
 
 /// Such a lane, one whose filling lists the fewest of some places.
 fn sparse_lane(circuit: &Circuit<'_>, list: &[u32], lane_bits: LaneBits) -> Option<u32>
-    requires fits { CircuitFits circuit.now }
     requires within { AllByRecursion (λ k. k < places_of (job_in circuit.now)) list.now }
     ensures { MatchOption result (IsSame lane_bits) (IsOther lane_bits) }
 {
@@ -233,7 +229,6 @@ fn sparse_lane(circuit: &Circuit<'_>, list: &[u32], lane_bits: LaneBits) -> Opti
 
 /// Of some lanes, of which there is one, one whose filling lists the fewest of some places.
 fn least_lane(circuit: &Circuit<'_>, list: &[u32], lanes: LaneBits, some: u32) -> u32
-    requires fits { CircuitFits circuit.now }
     requires within { AllByRecursion (λ k. k < places_of (job_in circuit.now)) list.now }
     requires some { IsOne lanes some }
     ensures { IsOne lanes result }

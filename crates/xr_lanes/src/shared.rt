@@ -4,7 +4,7 @@ ghost use Rattle.std.specs.Prelude.{◌≡◌, ◌<◌, ◌≤◌, Some, IfOk, I
 ghost use Rattle.std.specs.Bool.{Decides};
 ghost use Rattle.std.specs.List.{AllByRecursion};
 ghost use Rattle.std.specs.List.Sorted.{IsStrictlyIncreasing};
-ghost use Rattle.xr_design.specs.Circuit.{CircuitFits, job_in};
+ghost use Rattle.xr_design.specs.Circuit.{job_in};
 ghost use Rattle.xr_design.specs.Fits.{place_at};
 ghost use Rattle.xr_design.specs.Job.{places_of};
 ghost use Rattle.xr_wave.specs.Contents.{job, next_number};
@@ -131,7 +131,7 @@ impl Shared {
         ensures shown { IfOk result (IsShownNext wave.now) }
         ensures right { OnOk result (IsSharedIn wave.now (Some graph.now) self.new) }
     {
-        let _circuit = wave.circuit();
+        wave.recall();
         match self.tables.compare(alloc, graph, node)? {
             Compared::Other(other) => Ok(Shown::Pair(pair_by(alloc, wave, other))),
             Compared::Same(bit) => Ok(settled_if_few(wave, sources, bit)),
@@ -148,7 +148,6 @@ fn are_same(first: &[u32], second: &[u32]) -> bool
 
 /// The places of some numbers.
 fn places_at(alloc: Global, circuit: &Circuit<'_>, numbers: &[u32]) -> Result<Vec<Place>, Memory>
-    requires fits { CircuitFits circuit.now }
     requires within { AllByRecursion (λ k. k < places_of (job_in circuit.now)) numbers.now }
     ensures { IfOk result (λ places. places.items ≡ map (place_at (job_in circuit.now)) numbers.now) }
 {

@@ -54,7 +54,7 @@ pub fn shown_as(
     requires sources { IfSome sources (λ list. AreSourcesIn wave.now (next_number wave.now) list.now) }
     ensures { IfOk result (IsShownNext wave.now) }
 {
-    let _circuit = wave.circuit();
+    wave.recall();
     match certain_value(wave, place) {
         Value::Zero => Ok(settled_as(wave, place, sources, false)),
         Value::One => Ok(settled_as(wave, place, sources, true)),

@@ -81,8 +81,8 @@ fn undecided_of(alloc: Global, before: &Wave<'_>, after: &Wave<'_>) -> Result<u6
     ensures { IfOk result (λ count. count ≡ spec.undecided_of before.now after.now) }
 {
     // With them comes the fact that neither has too many places to be counted.
-    let _count = before.count();
-    let _other = after.count();
+    before.recall();
+    after.recall();
     let first = counts_of(alloc, before)?.undecided;
     let second = counts_of(alloc, after)?.undecided;
     Ok(first + second)

@@ -10,7 +10,7 @@ use crate::bound::made_binding;
 use crate::stimulus::made_stim;
 use std::alloc::Global;
 use xr_base::Memory;
-use xr_design::{Design, Forces, Order};
+use xr_design::{Circuit, Design, Forces, Order};
 use xr_out::vcd_text;
 use xr_replay::replay;
 
@@ -33,8 +33,13 @@ pub fn made_recording(
     ensures { IfOk result (λ text. spec.IsMadeRecording design.now order.now number gates text.items) }
 {
     let stim = made_stim(alloc, design, number, gates)?;
+    let circuit = Circuit {
+        design,
+        order,
+        stim: &stim,
+    };
     let forces = Forces::empty(alloc);
-    let history = replay(alloc, design, order, &stim, &forces)?;
+    let history = replay(alloc, &circuit, &forces)?;
     let binding = made_binding(alloc, design)?;
     let text = vcd_text(alloc, design, &binding, &stim, &history)?;
     Ok(text)

@@ -18,7 +18,7 @@ use crate::parts::Parts;
 use std::alloc::Global;
 use xr_base::Memory;
 use xr_cert::{Cert, CertErr, CertFault, CheckErr, Checked, check_cert, read_cert};
-use xr_design::{Bytes, History, Place};
+use xr_design::{Bytes, Circuit, History, Place};
 use xr_model::Limits;
 use xr_run::{Refusal, read_input};
 use xr_shelf::Shelf;
@@ -63,21 +63,19 @@ pub fn certified_wave<'b>(
     ensures refused { IfErr result (IsJudgedBy (CheckComes limits job.now cert) itself) }
 {
     let netlist = &job.netlist;
-    match check_cert(
-        alloc,
-        cert,
-        &netlist.design,
-        &netlist.order,
-        &job.recorded.stim,
-        history,
-        limits,
-    ) {
+    let stim = &job.recorded.stim;
+    let circuit = Circuit {
+        design: &netlist.design,
+        order: &netlist.order,
+        stim,
+    };
+    match check_cert(alloc, cert, circuit, history, limits) {
         Ok(checked) => Ok(checked),
         Err(CheckErr::Refused(fault)) => Err(Refusal::Text {
             cause: Refused::Certificate(uncertified_by(alloc, job, fault)?),
         }),
         Err(CheckErr::Optimistic(found)) => Err(Refusal::Text {
-            cause: Refused::Optimistic(objection_of(alloc, netlist, &job.recorded.stim, &found)?),
+            cause: Refused::Optimistic(objection_of(alloc, netlist, stim, &found)?),
         }),
         Err(CheckErr::Memory) => Err(Refusal::Memory),
     }

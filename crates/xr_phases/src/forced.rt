@@ -1,7 +1,7 @@
 //! The forces that a code's text says.
 
 ghost use Rattle.std.specs.Prelude.{◌≡◌, IfOk};
-ghost use Rattle.xr_design.specs.Circuit.{PartsFit};
+ghost use Rattle.xr_design.specs.Parts.{PartsFit};
 ghost use Rattle.xr_design.specs.Design.{FitsDesign};
 ghost use Rattle.xr_design.specs.Force.{AreEvents};
 ghost use Rattle.xr_job.specs.Compared.{job_for};
@@ -16,7 +16,7 @@ use crate::parts::Parts;
 use crate::pieces::names_of;
 use std::alloc::Global;
 use xr_code::{CodeErr, read_code};
-use xr_design::{Bytes, Forces};
+use xr_design::{Bytes, Circuit, Forces};
 use xr_run::{Refusal, read_input};
 use xr_shelf::Shelf;
 use xr_words::JobWords;
@@ -54,15 +54,12 @@ fn forces_in(
     ensures judged { Judged (CodeComes (code_in job.now text.now scope.now)) code_cause itself result }
     ensures events { IfOk result (AreEvents (job_for job.now.netlist job.now.recorded)) }
 {
-    let netlist = &job.netlist;
-    match read_code(
-        alloc,
-        text,
-        &netlist.design,
-        &netlist.order,
-        &job.recorded.stim,
-        scope,
-    ) {
+    let circuit = Circuit {
+        design: &job.netlist.design,
+        order: &job.netlist.order,
+        stim: &job.recorded.stim,
+    };
+    match read_code(alloc, text, &circuit, scope) {
         Ok(forces) => Ok(forces),
         Err(CodeErr::Refused(fault)) => Err(Refusal::Text {
             cause: Refused::Code(fault),

@@ -1,7 +1,7 @@
 //! What the line of a refusal has of a place that is found otherwise than the replay knows it.
 
 ghost use Rattle.std.specs.Prelude.{◌≡◌, IfOk, count_by};
-ghost use Rattle.xr_design.specs.Circuit.{PartsFit};
+ghost use Rattle.xr_design.specs.Parts.{PartsFit};
 ghost use Rattle.xr_design.specs.Filling.{IsPlace};
 ghost use Rattle.xr_design.specs.Job.{job_of};
 ghost use Rattle.xr_phases.specs.Repair.{is_undecided_body, is_undecided_line, objection_of};

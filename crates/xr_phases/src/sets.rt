@@ -1,7 +1,7 @@
 //! Starts that are set.
 
 ghost use Rattle.std.specs.Prelude.{◌≡◌, ◌-◌, ◌==◌, IfOk, length, map, slice_index_or};
-ghost use Rattle.xr_design.specs.Circuit.{PartsFit};
+ghost use Rattle.xr_design.specs.Parts.{PartsFit};
 ghost use Rattle.xr_design.specs.Design.{FitsDesign};
 ghost use Rattle.xr_design.specs.Handed.{IsReplay};
 ghost use Rattle.xr_design.specs.Job.{job_of};
@@ -15,7 +15,7 @@ use crate::cause::Refused;
 use crate::pieces::pieces_of;
 use std::alloc::{AllocError, Global};
 use xr_base::Memory;
-use xr_design::{Bytes, Forces, History, Stim};
+use xr_design::{Bytes, Circuit, Forces, History, Stim};
 use xr_fix::{FixErr, with_starts};
 use xr_job::Netlist;
 use xr_replay::replay;
@@ -84,7 +84,12 @@ pub fn replay_of(alloc: Global, netlist: &Netlist, stim: &Stim) -> Result<Histor
     requires { PartsFit netlist.now.design netlist.now.order stim.now }
     ensures { IfOk result (IsReplay (job_of netlist.now.design netlist.now.order stim.now)) }
 {
+    let circuit = Circuit {
+        design: &netlist.design,
+        order: &netlist.order,
+        stim,
+    };
     let forces = Forces::empty(alloc);
-    let history = replay(alloc, &netlist.design, &netlist.order, stim, &forces)?;
+    let history = replay(alloc, &circuit, &forces)?;
     Ok(history)
 }

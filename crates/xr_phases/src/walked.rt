@@ -1,7 +1,7 @@
 //! The walk over the places of a job, piece by piece.
 
 ghost use Rattle.std.specs.Prelude.{◌≡◌, IfErr, IfOk};
-ghost use Rattle.xr_design.specs.Circuit.{PartsFit};
+ghost use Rattle.xr_design.specs.Parts.{PartsFit};
 ghost use Rattle.xr_design.specs.Handed.{IsHandedIn, IsReplay};
 ghost use Rattle.xr_design.specs.Job.{job_of};
 ghost use Rattle.xr_job.specs.Compared.{job_for};
@@ -15,7 +15,7 @@ ghost use Rattle.xr_phases.specs.Repair.{FitsJob, IsRepairedBy, ReplayWalkComes,
 use crate::cause::Refused;
 use crate::objection::objection_of;
 use std::alloc::Global;
-use xr_design::{History, Stim};
+use xr_design::{Circuit, History, Stim};
 use xr_job::{Netlist, Recorded};
 use xr_model::Limits;
 use xr_repair::{RepairErr, Walk};
@@ -61,14 +61,12 @@ pub fn wave_under<'b, O: Sink>(
     ensures refused { IfErr result (IsJudgedBy (WaveComes limits netlist.now stim.now history.now) walk_cause) }
     ensures out { O.view out.new ≡ O.view out.old }
 {
-    let walk = Walk::new(
-        alloc,
-        &netlist.design,
-        &netlist.order,
+    let circuit = Circuit {
+        design: &netlist.design,
+        order: &netlist.order,
         stim,
-        history,
-        limits,
-    )?;
+    };
+    let walk = Walk::new(alloc, circuit, history, limits)?;
     match walk_on(alloc, walk, out) {
         Ok(walk) => Ok(walk.into_wave()),
         Err(RepairErr::Optimistic(found)) => Err(Refusal::Text {

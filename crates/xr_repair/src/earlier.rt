@@ -25,7 +25,7 @@ pub fn find_by_log(alloc: Global, wave: &Wave<'_>, place: usize) -> Result<Optio
     requires cone { HasNextCone wave.now place }
     ensures { IfOk result (λ found. IfSome found (IsShown wave.now)) }
 {
-    let _circuit = wave.circuit();
+    wave.recall();
     match body_of(wave, place) {
         Some(Body::Refuted(bit, log)) => {
             let settled = settled_again(alloc, wave, *bit, log)?;

@@ -12,7 +12,7 @@ use xr_wave::Wave;
 pub fn body_of<'l>(wave: &'l Wave<'_>, number: usize) -> Option<&'l Body>
     ensures { IfSome result (λ body. body_at (job wave.now) wave.now.lines number ≡ Some body.now) }
 {
-    let _circuit = wave.circuit();
+    wave.recall();
     let first = lines_before(wave, number);
     let lines = wave.lines();
     if first < lines.len() && number_at(wave, first) == number {

@@ -1,15 +1,14 @@
 //! The walk over the places, in pieces.
 
 ghost use Rattle.std.specs.Prelude.{◌≡◌, ℕ, ◌<◌, ◌≤◌, ◌==◌, ◌⊎◌, IfOk, IfErr, IsFalse, IsTrue, length};
-ghost use Rattle.xr_design.specs.Circuit.{PartsFit};
+ghost use Rattle.xr_design.specs.Circuit.{job_in};
 ghost use Rattle.xr_design.specs.Handed.{IsHandedIn};
-ghost use Rattle.xr_design.specs.Job.{job_of};
 ghost use Rattle.xr_repair.specs.Repaired.{IsOfJob, IsOnlyOne};
 ghost use Rattle.xr_repair.specs.Step.{IsFurther, IsNextOf, RefusedStep};
 ghost use Rattle.xr_repair.specs.Walk.{AreRightOf, HasLessLeft, all_of, count_of, left_of, start_of};
 ghost use Rattle.xr_along.specs.Along.{GoesAlong};
 ghost use Rattle.xr_wave.specs.Advance.{IsAdvanced};
-ghost use Rattle.xr_wave.specs.Contents.{IsFinished, AreLimits, IsWave, nothing_written};
+ghost use Rattle.xr_wave.specs.Contents.{IsFinished, AreLimits, IsWave, nothing_of};
 ghost use Rattle.xr_wave.specs.Token.{IsLineNext};
 
 use crate::aids::Aids;
@@ -19,7 +18,7 @@ use crate::spend::spend;
 use std::alloc::Global;
 use std::marker::Model;
 use xr_base::Memory;
-use xr_design::{Design, History, Order, Stim, count_places};
+use xr_design::{Circuit, History, count_places};
 use xr_model::Limits;
 use xr_wave::Wave;
 
@@ -30,26 +29,20 @@ const PIECE: usize = 1024;
 /// Takes the memory of the wave, of the lines and of lanes, and up to 64 megabytes for the answers of searches.
 pub fn repair<'a>(
     alloc: Global,
-    design: &'a Design,
-    order: &'a Order,
-    stim: &'a Stim,
+    circuit: Circuit<'a>,
     replayed: &'a History,
     limits: Limits,
 ) -> Result<Wave<'a>, RepairErr>
-    requires fits { PartsFit design.now order.now stim.now }
-    requires handed { IsHandedIn (job_of design.now order.now stim.now) replayed.now }
+    requires handed { IsHandedIn (job_in circuit) replayed.now }
     requires limits { AreLimits limits }
-    ensures job { let start = nothing_written design.now order.now stim.now replayed.now limits in
-        IfOk result (IsOfJob start) }
-    ensures along { let start = nothing_written design.now order.now stim.now replayed.now limits in
-        IfOk result (GoesAlong start) }
+    ensures job { IfOk result (IsOfJob (nothing_of circuit.entry replayed.now limits)) }
+    ensures along { IfOk result (GoesAlong (nothing_of circuit.entry replayed.now limits)) }
     ensures finished { IfOk result IsFinished }
     ensures sound { IfOk result IsWave }
     ensures only { IfOk result IsOnlyOne }
-    ensures refused { let start = nothing_written design.now order.now stim.now replayed.now limits in
-        IfErr result (RefusedStep start) }
+    ensures refused { IfErr result (RefusedStep (nothing_of circuit.entry replayed.now limits)) }
 {
-    let mut walk = Walk::new(alloc, design, order, stim, replayed, limits)?;
+    let mut walk = Walk::new(alloc, circuit, replayed, limits)?;
     'pieces: while !walk.is_finished() {
         walk = walk.go_on(alloc, PIECE)?;
     }
@@ -78,20 +71,16 @@ impl<'a> Walk<'a> {
     /// A walk of which nothing is written. Takes the memory of a wave.
     pub fn new(
         alloc: Global,
-        design: &'a Design,
-        order: &'a Order,
-        stim: &'a Stim,
+        circuit: Circuit<'a>,
         replayed: &'a History,
         limits: Limits,
     ) -> Result<Walk<'a>, Memory>
-        requires fits { PartsFit design.now order.now stim.now }
-        requires handed { IsHandedIn (job_of design.now order.now stim.now) replayed.now }
+        requires handed { IsHandedIn (job_in circuit) replayed.now }
         requires limits { AreLimits limits }
-        ensures { let start = nothing_written design.now order.now stim.now replayed.now limits in
-            IfOk result (λ walk. walk.start ≡ start) }
+        ensures { IfOk result (λ walk. walk.start ≡ nothing_of circuit.entry replayed.now limits) }
     {
-        let wave = Wave::new(alloc, design, order, stim, replayed, limits)?;
-        let _circuit = wave.circuit();
+        let wave = Wave::new(alloc, circuit, replayed, limits)?;
+        wave.recall();
         let aids = Aids::new(alloc)?;
         Ok(Walk { wave, aids })
     }
@@ -209,7 +198,7 @@ fn write_next<'a>(alloc: Global, wave: Wave<'a>, aids: &mut Aids) -> Result<Wave
     ensures err { IfErr result (RefusedStep wave.entry) }
 {
     let decided = decide_next(alloc, wave, aids)?;
-    let _circuit = decided.circuit();
+    decided.recall();
     advance(decided)
 }
 

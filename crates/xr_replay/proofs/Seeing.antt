@@ -5,7 +5,7 @@ use Rattle.std.proofs.Math.Nat.{mul-le-mul_right, mul_comm}
 use Rattle.std.specs.List.{AllByRecursion}
 use Rattle.xr_cell.specs.declared.value.Value.{Value}
 use Rattle.xr_cell.specs.declared.value.Value.TheVariants.{X}
-use Rattle.xr_design.specs.Circuit.{CircuitFits, IsSpot, job_in}
+use Rattle.xr_design.specs.Circuit.{IsSpot, job_in}
 use Rattle.xr_design.specs.Fits.{Fits, FitsDriver, StandsBefore}
 use Rattle.xr_design.specs.Handed.{HasPlaces, ShowsPlace, held_of, shown_of}
 use Rattle.xr_design.specs.History.{HistoryView}
@@ -60,10 +60,10 @@ driver_fits j fits position net driver within is same =
     rw same (fits.pins net (rw is low))
 
 -- The history shows something at each place below one.
-pub shows_below : (circuit : Circuit) → CircuitFits circuit → (history : HistoryView) → HasPlaces (job_in circuit) history → (step position : ℕ) → step < (job_in circuit).moments * (job_in circuit).rounds → position < (job_in circuit).width → (k : ℕ) → k < step * (job_in circuit).width + position → ShowsPlace circuit history k
-shows_below circuit fits history places step position less within k low =
+pub shows_below : (circuit : Circuit) (history : HistoryView) → HasPlaces (job_in circuit) history → (step position : ℕ) → step < (job_in circuit).moments * (job_in circuit).rounds → position < (job_in circuit).width → (k : ℕ) → k < step * (job_in circuit).width + position → ShowsPlace circuit history k
+shows_below circuit history places step position less within k low =
     let inside = place_within (job_in circuit) step position less within in
-    record { fits = fits; places = places; within = omega (arith, low, inside) }
+    record { places = places; within = omega (arith, low, inside) }
 
 -- The steps up to one of the job's have no more places than the job.
 after_step : (j : Job) (step : ℕ) → step < j.moments * j.rounds → (step + 1) * j.width ≤ places_of j
@@ -78,7 +78,7 @@ after_small j fits step less =
     let few = fits.few_places in
     omega (arith, all, few)
 
-pub shows_up_to : (circuit : Circuit) → CircuitFits circuit → (history : HistoryView) → HasPlaces (job_in circuit) history → (step : ℕ) → step < (job_in circuit).moments * (job_in circuit).rounds → (k : ℕ) → k < (step + 1) * (job_in circuit).width → ShowsPlace circuit history k
-shows_up_to circuit fits history places step less k low =
+pub shows_up_to : (circuit : Circuit) (history : HistoryView) → HasPlaces (job_in circuit) history → (step : ℕ) → step < (job_in circuit).moments * (job_in circuit).rounds → (k : ℕ) → k < (step + 1) * (job_in circuit).width → ShowsPlace circuit history k
+shows_up_to circuit history places step less k low =
     let all = after_step (job_in circuit) step less in
-    record { fits = fits; places = places; within = omega (arith, low, all) }
+    record { places = places; within = omega (arith, low, all) }

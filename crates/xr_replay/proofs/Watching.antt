@@ -114,7 +114,7 @@ module _ (sides : Sides) (are : AreSides sides) where
 
   pub rounds_all : (readers : ReadersView) (moment first round : ℕ) (due : List ℕ) → 0 < moment → first ≡ last_step j moment - (j.rounds - 1) → round ≡ j.rounds → ShowSame sides readers (first - 1) (first + round - 1) due → ShowSameIn sides readers moment due
   rounds_all readers moment first round due later first_is all same =
-      let some = are.fits.fits_job.some_round in
+      let some = sides.circuit.fits.fits_job.some_round in
       let before = last_before j.rounds moment some later in
       let more = first_later j.rounds moment some later in
       let from : first - 1 ≡ last_step j (moment - 1) = omega (arith, first_is, before, some, more) in
@@ -126,7 +126,7 @@ module _ (sides : Sides) (are : AreSides sides) where
   -- What the history shows is what the replay shows.
   shows : (step net : ℕ) → step < j.moments * j.rounds → net < j.width → shown_at j (at j step net) ≡ shown_in sides.history.now step net
   shows step net less within =
-      let fits = are.fits.fits_job in
+      let fits = sides.circuit.fits.fits_job in
       sym (shown_is j sides.history.now (at j step net) are.history (place_of_net j fits step net less within)) ∙ shown_at_net j fits sides.history.now step net within
 
   -- A register whose nets show at a step what they show one step before is settled.
@@ -147,10 +147,10 @@ module _ (sides : Sides) (are : AreSides sides) where
   pub at_rest : (registers : ReadersView) (moment : ℕ) (due : List ℕ) → 0 < last_step j moment → moment < j.moments → AreReaders j looked_at registers → ShowSame sides registers (last_step j moment - 1) (last_step j moment) due → AreAtRest sides moment due
   at_rest registers moment due later low readers same position within clear =
       settled_by (last_step j moment) (slice_index j.order position) (driver_on j position) later
-      (all_two (λ net. net < j.width) (λ net. Contains (readers_of registers net) position) (λ net. shown_at j (at j (last_step j moment) net) ≡ shown_at j (at j (last_step j moment - 1) net)) (looked_at (driver_on j position)) each (looked_within j are.fits.fits_job position within) (readers.has position within))
+      (all_two (λ net. net < j.width) (λ net. Contains (readers_of registers net) position) (λ net. shown_at j (at j (last_step j moment) net) ≡ shown_at j (at j (last_step j moment - 1) net)) (looked_at (driver_on j position)) each (looked_within j sides.circuit.fits.fits_job position within) (readers.has position within))
     where
       less : last_step j moment < j.moments * j.rounds
-      less = last_within j are.fits.fits_job moment low
+      less = last_within j sides.circuit.fits.fits_job moment low
 
       each : (net : ℕ) → net < j.width → Contains (readers_of registers net) position → shown_at j (at j (last_step j moment) net) ≡ shown_at j (at j (last_step j moment - 1) net)
       each net inside has =
@@ -163,7 +163,7 @@ module _ (sides : Sides) (are : AreSides sides) where
   agree_still binding watchers moment due watch nets of low same recorded before number within clear bit inside =
       let b = bound_at binding number in
       let net = slice_index b.bits bit in
-      let fits = are.fits.fits_job in
+      let fits = sides.circuit.fits.fits_job in
       let there = nets number bit within inside in
       recorded b.variable number (of number no_variable within).known (watch.numbers number within) clear bit
       ∙ before.agrees number no_variable within bit inside

@@ -2,23 +2,16 @@
 use Rattle.std.specs.Prelude.{◌≡◌, ℕ, ◌+◌, ◌*◌, ◌<◌, List, slice_index}
 use Rattle.xr_design.specs.Circuit.{job_in}
 use Rattle.xr_design.specs.declared.circuit.Circuit.{Circuit}
-use Rattle.xr_design.specs.declared.design.Design.{Design}
 use Rattle.xr_design.specs.declared.force.Event.{Event}
-use Rattle.xr_design.specs.declared.stim.Stim.{Stim}
 use Rattle.xr_design.specs.Force.{forced_by}
 use Rattle.xr_design.specs.Handed.{IsReplayUnder, held_of}
 use Rattle.xr_design.specs.History.{HistoryView}
-use Rattle.xr_design.specs.Job.{job_of}
 use Rattle.xr_replay.specs.Filled.{IsFilled}
 use Rattle.xr_replay.specs.Forced.{NoEventOf}
 use Rattle.xr_replay.specs.Still.{IsForcedSame, IsStillAt}
 use Rattle.xr_replay.specs.Sweep.{AreAhead, AreAwaited, AreDue, IsSwept}
 
--- The history is the replay of the design under the events.
-abbrev pub IsReplayOf : Design → List ℕ → Stim → List Event → HistoryView → Type 0
-IsReplayOf design order stim events history = IsReplayUnder (job_of design order stim) (forced_by (job_of design order stim) events) history
-
--- It is the replay of a circuit.
+-- The history is the replay of the circuit under the events.
 abbrev pub IsReplayIn : Circuit → List Event → HistoryView → Type 0
 IsReplayIn circuit events history = IsReplayUnder (job_in circuit) (forced_by (job_in circuit) events) history
 

@@ -1,6 +1,6 @@
 -- The two sides of a comparison: the replay of a circuit, and a recording of it.
 use Rattle.std.specs.Prelude.{◌≡◌, ℕ}
-use Rattle.xr_design.specs.Circuit.{CircuitFits, job_in}
+use Rattle.xr_design.specs.Circuit.{job_in}
 use Rattle.xr_design.specs.Handed.{IsReplay}
 use Rattle.xr_design.specs.Job.{Job}
 use Rattle.xr_design.specs.Settled.{IsSettledAt, last_step}
@@ -16,9 +16,8 @@ job_beside sides = job_in sides.circuit
 abbrev pub SettlesIn : Sides → ℕ → ℕ → Driver → Type 0
 SettlesIn sides moment net driver = IsSettledAt (job_beside sides) (last_step (job_beside sides) moment) net driver
 
--- The circuit fits, the history is its replay, and the recording has its times.
+-- The history is the replay of the circuit, and the recording has its times.
 pub record AreSides (sides : Sides) : Type 0 where
-  pub fits : CircuitFits sides.circuit
   pub history : IsReplay (job_beside sides) sides.history.now
   pub times : sides.recording.now.times ≡ sides.circuit.stim.now.times
 

@@ -1,7 +1,7 @@
 //! One place of the replay, from what the places before have.
 
 ghost use Rattle.std.specs.Prelude.{◌≡◌, ◌+◌, ◌*◌, ◌<◌, OnOk, unwrap_or};
-ghost use Rattle.xr_design.specs.Circuit.{job_in, CircuitFits};
+ghost use Rattle.xr_design.specs.Circuit.{job_in};
 ghost use Rattle.xr_design.specs.Replay.{kept_by};
 ghost use Rattle.xr_replay.specs.Forced.{HasForced};
 ghost use Rattle.xr_replay.specs.Going.{FilledBefore, FilledTo, FilledWith, KeepsOthers};
@@ -19,7 +19,6 @@ pub fn fill_step(
     writer: &mut HistoryWriter,
     step: u32,
 ) -> Result<(), Memory>
-    requires fits { CircuitFits circuit.now }
     requires step { step < (job_in circuit.now).moments * (job_in circuit.now).rounds }
     requires forced { HasForced (job_in circuit.now).width events.now step forced.now }
     requires under_way { writer.old.step ≡ step }
@@ -43,7 +42,6 @@ pub fn compute_place(
     step: u32,
     position: u32,
 ) -> Result<(), Memory>
-    requires fits { CircuitFits circuit.now }
     requires step { step < (job_in circuit.now).moments * (job_in circuit.now).rounds }
     requires position { position < (job_in circuit.now).width }
     requires forced { HasForced (job_in circuit.now).width events.now step forced.now }

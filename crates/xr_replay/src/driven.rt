@@ -1,7 +1,7 @@
 //! What the driver at a position of a step gives, from what the places before have.
 
 ghost use Rattle.std.specs.Prelude.{◌≡◌, ◌*◌, ◌<◌};
-ghost use Rattle.xr_design.specs.Circuit.{job_in, CircuitFits};
+ghost use Rattle.xr_design.specs.Circuit.{job_in};
 ghost use Rattle.xr_design.specs.Handed.{HasPlaces};
 ghost use Rattle.xr_replay.specs.Seen.{driven_at, kept_before, net_at};
 
@@ -18,7 +18,6 @@ pub fn given_value(
     net: u32,
     driver: &Driver,
 ) -> Value
-    requires fits { CircuitFits circuit.now }
     requires places { HasPlaces (job_in circuit.now) writer.now.history }
     requires step { step < (job_in circuit.now).moments * (job_in circuit.now).rounds }
     requires position { position < (job_in circuit.now).width }
@@ -48,7 +47,6 @@ fn was_kept(
     net: u32,
     driver: &Driver,
 ) -> Value
-    requires fits { CircuitFits circuit.now }
     requires places { HasPlaces (job_in circuit.now) writer.now.history }
     requires step { step < (job_in circuit.now).moments * (job_in circuit.now).rounds }
     requires net { net < (job_in circuit.now).width }

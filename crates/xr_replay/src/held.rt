@@ -1,7 +1,7 @@
 //! What a row of a history shows and keeps of a net, and what a history that is being written does at a step.
 
 ghost use Rattle.std.specs.Prelude.{◌≡◌, ◌*◌, ◌<◌};
-ghost use Rattle.xr_design.specs.Circuit.{job_in, CircuitFits};
+ghost use Rattle.xr_design.specs.Circuit.{job_in};
 ghost use Rattle.xr_design.specs.Handed.{HasPlaces, held_of, shown_of};
 ghost use Rattle.xr_design.specs.Job.{at};
 
@@ -10,7 +10,6 @@ use xr_design::{Circuit, HistoryRow, HistoryWriter, Place};
 
 /// The value that a net shows at the step of a row. Takes no memory.
 pub fn net_value(circuit: &Circuit<'_>, row: &HistoryRow<'_>, net: u32) -> Value
-    requires fits { CircuitFits circuit.now }
     requires net { net < (job_in circuit.now).width }
     requires places { HasPlaces (job_in circuit.now) row.now.history }
     requires step { row.now.step < (job_in circuit.now).moments * (job_in circuit.now).rounds }
@@ -21,7 +20,6 @@ pub fn net_value(circuit: &Circuit<'_>, row: &HistoryRow<'_>, net: u32) -> Value
 
 /// The value that a net keeps there. Takes no memory.
 pub fn net_kept(circuit: &Circuit<'_>, row: &HistoryRow<'_>, net: u32) -> Value
-    requires fits { CircuitFits circuit.now }
     requires net { net < (job_in circuit.now).width }
     requires places { HasPlaces (job_in circuit.now) row.now.history }
     requires step { row.now.step < (job_in circuit.now).moments * (job_in circuit.now).rounds }
@@ -32,7 +30,6 @@ pub fn net_kept(circuit: &Circuit<'_>, row: &HistoryRow<'_>, net: u32) -> Value
 
 /// The value that a net shows at a step of a history that is being written. Takes no memory.
 pub fn value_so_far(circuit: &Circuit<'_>, writer: &HistoryWriter, step: u32, net: u32) -> Value
-    requires fits { CircuitFits circuit.now }
     requires net { net < (job_in circuit.now).width }
     requires places { HasPlaces (job_in circuit.now) writer.now.history }
     requires step { step < (job_in circuit.now).moments * (job_in circuit.now).rounds }
@@ -43,7 +40,6 @@ pub fn value_so_far(circuit: &Circuit<'_>, writer: &HistoryWriter, step: u32, ne
 
 /// The value that it keeps there. Takes no memory.
 pub fn kept_so_far(circuit: &Circuit<'_>, writer: &HistoryWriter, step: u32, net: u32) -> Value
-    requires fits { CircuitFits circuit.now }
     requires net { net < (job_in circuit.now).width }
     requires places { HasPlaces (job_in circuit.now) writer.now.history }
     requires step { step < (job_in circuit.now).moments * (job_in circuit.now).rounds }

@@ -1,7 +1,7 @@
 //! What becomes due as a step begins: nets that are forced otherwise.
 
 ghost use Rattle.std.specs.Prelude.{◌≡◌, ◌≤◌, length};
-ghost use Rattle.xr_design.specs.Circuit.{job_in, CircuitFits};
+ghost use Rattle.xr_design.specs.Circuit.{job_in};
 ghost use Rattle.xr_fans.specs.Marks.{OnlyMore};
 ghost use Rattle.xr_replay.specs.Forced.{AreOrdered};
 ghost use Rattle.xr_replay.specs.Marks.{AreEventsDue};
@@ -13,7 +13,6 @@ use xr_replay_due::Due;
 
 /// The nets of events become due. Takes no memory.
 pub fn mark_events(circuit: &Circuit<'_>, events: &[Event], from: usize, to: usize, due: &mut Due)
-    requires fits { CircuitFits circuit.now }
     requires ordered { AreOrdered (job_in circuit.now).width events.now }
     requires range { to ≤ length events.now }
     requires room { HasRoomFor due.old (job_in circuit.now).width }

@@ -5,9 +5,8 @@
 //! it. The rest is as in the moment before, which has no fault.
 
 ghost use Rattle.std.specs.Prelude.{◌≡◌, ◌+◌, ◌-◌, ◌*◌, ◌<◌, ◌≤◌, ◌^◌, All, IfErr, IfOk, length};
-ghost use Rattle.xr_design.specs.Circuit.{PartsFit};
+ghost use Rattle.xr_design.specs.Circuit.{job_in};
 ghost use Rattle.xr_design.specs.Handed.{IsReplay};
-ghost use Rattle.xr_design.specs.Job.{job_of};
 ghost use Rattle.xr_match.specs.Binding.{FitsBinding};
 ghost use Rattle.xr_match.specs.Bounds.{IsOf};
 ghost use Rattle.xr_replay.specs.Fault.{HasNoFault, IfDiffers, IsFaultIn, IsFaultless, IsFirstFault, TellsFaultless, TellsFirst};
@@ -24,7 +23,7 @@ use crate::settled::{check_due_registers, check_settled};
 use crate::sides::Sides;
 use crate::watchers::Watchers;
 use std::alloc::Global;
-use xr_design::{Circuit, Design, History, Order, Stim};
+use xr_design::{Circuit, History};
 use xr_match::Binding;
 use xr_vcd::Recording;
 
@@ -35,30 +34,22 @@ use xr_vcd::Recording;
 /// of a register and each bound bit, and some 20 for each moment and each change of the recording.
 pub fn compare(
     alloc: Global,
-    design: &Design,
-    order: &Order,
-    stim: &Stim,
+    circuit: &Circuit<'_>,
     history: &History,
     recording: &Recording,
     bound: &Binding,
 ) -> Result<(), DifferErr>
-    requires fits { PartsFit design.now order.now stim.now }
-    requires history { IsReplay (job_of design.now order.now stim.now) history.now }
-    requires times { recording.now.times ≡ stim.now.times }
-    requires bound { FitsBinding design.now bound.now }
+    requires history { IsReplay (job_in circuit.now) history.now }
+    requires times { recording.now.times ≡ circuit.now.stim.now.times }
+    requires bound { FitsBinding circuit.now.design.now bound.now }
     requires recorded { All (IsOf recording.now) bound.now.bound }
-    ensures agrees { IfOk result (λ _. IsFaultless (job_of design.now order.now stim.now) recording.now bound.now) }
-    ensures differs { IfErr result
-        (IfDiffers (IsFirstFault (job_of design.now order.now stim.now) recording.now bound.now)) }
-    ensures faultless { TellsFaultless (job_of design.now order.now stim.now) recording.now bound.now result }
-    ensures exact { TellsFirst (job_of design.now order.now stim.now) recording.now bound.now result }
+    ensures agrees { IfOk result (λ _. IsFaultless (job_in circuit.now) recording.now bound.now) }
+    ensures differs { IfErr result (IfDiffers (IsFirstFault (job_in circuit.now) recording.now bound.now)) }
+    ensures faultless { TellsFaultless (job_in circuit.now) recording.now bound.now result }
+    ensures exact { TellsFirst (job_in circuit.now) recording.now bound.now result }
 {
     let sides = Sides {
-        circuit: Circuit {
-            design,
-            order,
-            stim,
-        },
+        circuit: *circuit,
         history,
         recording,
     };

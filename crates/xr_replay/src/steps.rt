@@ -4,13 +4,12 @@
 //! the places are computed that may differ: their number is what it costs.
 
 ghost use Rattle.std.specs.Prelude.{◌≡◌, ◌+◌, ◌-◌, ◌*◌, ◌<◌, ◌≤◌, IfOk, OnOk, length};
-ghost use Rattle.xr_design.specs.Circuit.{job_in, CircuitFits, PartsFit};
+ghost use Rattle.xr_design.specs.Circuit.{job_in};
 ghost use Rattle.xr_design.specs.Force.{AreEvents};
 ghost use Rattle.xr_design.specs.Handed.{HasPlaces};
-ghost use Rattle.xr_design.specs.Job.{job_of};
 ghost use Rattle.xr_fans.specs.Readings.{AreFans};
 ghost use Rattle.xr_replay.specs.Forced.{AreOrdered, HasForced, HasTaken};
-ghost use Rattle.xr_replay.specs.Going.{AwaitedIn, FilledBefore, ForcedButFor, IsReplayIn, IsReplayOf};
+ghost use Rattle.xr_replay.specs.Going.{AwaitedIn, FilledBefore, ForcedButFor, IsReplayIn};
 ghost use Rattle.xr_replay_due.specs.Due.{HasRoomFor};
 
 use crate::computed::fill_step;
@@ -20,34 +19,22 @@ use crate::sweep::sweep;
 use std::alloc::Global;
 use xr_base::Memory;
 use xr_cell::Value;
-use xr_design::{Circuit, Design, Event, Forces, History, HistoryWriter, Order, Stim, width_of};
+use xr_design::{Circuit, Event, Forces, History, HistoryWriter, width_of};
 use xr_fans::{Fans, Waiting, mark_inputs};
 
 /// What each place shows and keeps under forces. Takes eight bytes for each place that has others than its net has a
 /// step before, eight for each step, and some 40 for each net and each pin.
-pub fn replay(
-    alloc: Global,
-    design: &Design,
-    order: &Order,
-    stim: &Stim,
-    forces: &Forces,
-) -> Result<History, Memory>
-    requires fits { PartsFit design.now order.now stim.now }
-    requires forces { AreEvents (job_of design.now order.now stim.now) forces.now }
-    ensures { IfOk result (IsReplayOf design.now order.now stim.now forces.now) }
+pub fn replay(alloc: Global, circuit: &Circuit<'_>, forces: &Forces) -> Result<History, Memory>
+    requires { AreEvents (job_in circuit.now) forces.now }
+    ensures { IfOk result (IsReplayIn circuit.now forces.now) }
 {
-    let circuit = Circuit {
-        design,
-        order,
-        stim,
-    };
-    let mut writer = HistoryWriter::blank(alloc, design, stim)?;
-    let nets = width_of(&circuit);
+    let mut writer = HistoryWriter::blank(alloc, circuit.design, circuit.stim)?;
+    let nets = width_of(circuit);
     let mut forced = vec![in alloc; None; nets]?;
-    let fans = Fans::of(alloc, &circuit)?;
+    let fans = Fans::of(alloc, circuit)?;
     let mut waiting = Waiting::all(alloc, nets)?;
     fill_steps(
-        &circuit,
+        circuit,
         forces.as_slice(),
         &fans,
         &mut forced,
@@ -67,7 +54,6 @@ fn fill_steps(
     waiting: &mut Waiting,
     writer: &mut HistoryWriter,
 ) -> Result<(), Memory>
-    requires fits { CircuitFits circuit.now }
     requires events { AreEvents (job_in circuit.now) events.now }
     requires fans { AreFans (job_in circuit.now) fans.now }
     requires forced { HasTaken (job_in circuit.now).width events.now 0 0 forced.old }
@@ -109,7 +95,6 @@ fn next_step(
     from: usize,
     to: usize,
 ) -> Result<(), Memory>
-    requires fits { CircuitFits circuit.now }
     requires ordered { AreOrdered (job_in circuit.now).width events.now }
     requires fans { AreFans (job_in circuit.now) fans.now }
     requires step { step < (job_in circuit.now).moments * (job_in circuit.now).rounds }
@@ -147,7 +132,6 @@ fn later_step(
     from: usize,
     to: usize,
 ) -> Result<(), Memory>
-    requires fits { CircuitFits circuit.now }
     requires ordered { AreOrdered (job_in circuit.now).width events.now }
     requires fans { AreFans (job_in circuit.now) fans.now }
     requires later { 0 < step }

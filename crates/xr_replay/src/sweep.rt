@@ -4,7 +4,7 @@
 //! registers that look back at it one step later.
 
 ghost use Rattle.std.specs.Prelude.{◌≡◌, ◌+◌, ◌*◌, ◌<◌, OnOk, true, false};
-ghost use Rattle.xr_design.specs.Circuit.{job_in, CircuitFits};
+ghost use Rattle.xr_design.specs.Circuit.{job_in};
 ghost use Rattle.xr_fans.specs.Readings.{AreFans};
 ghost use Rattle.xr_replay.specs.Forced.{HasForced};
 ghost use Rattle.xr_replay.specs.Going.{AheadTo, DueFrom, FilledWith, StillAt, SweptTo};
@@ -28,7 +28,6 @@ pub fn sweep(
     writer: &mut HistoryWriter,
     step: u32,
 ) -> Result<(), Memory>
-    requires fits { CircuitFits circuit.now }
     requires fans { AreFans (job_in circuit.now) fans.now }
     requires later { 0 < step }
     requires step { step < (job_in circuit.now).moments * (job_in circuit.now).rounds }
@@ -63,7 +62,6 @@ fn visit_place(
     step: u32,
     position: u32,
 ) -> Result<(), Memory>
-    requires fits { CircuitFits circuit.now }
     requires fans { AreFans (job_in circuit.now) fans.now }
     requires later { 0 < step }
     requires step { step < (job_in circuit.now).moments * (job_in circuit.now).rounds }
@@ -95,7 +93,6 @@ fn stays_at(
     step: u32,
     position: u32,
 ) -> bool
-    requires fits { CircuitFits circuit.now }
     requires later { 0 < step }
     requires step { step < (job_in circuit.now).moments * (job_in circuit.now).rounds }
     requires position { position < (job_in circuit.now).width }

@@ -70,7 +70,7 @@ fn put_bits<'w, 'a>(
     ensures { OnOk result (text.new.items ≡ text.old.items ++ spec.bit_lines wave.now bound.now lines) }
 {
     // With it comes the fact that there are few nets.
-    let _circuit = wave.circuit();
+    wave.recall();
     let found = BitNets::of(alloc, wave.design(), bound)?;
     match found {
         Some(bits) => put_moments(alloc, text, wave, lines, reader, &bits),
@@ -94,7 +94,7 @@ fn put_all<'w, 'a>(
     ensures { OnOk result (text.new.items ≡ text.old.items ++ spec.bit_lines wave.now bound.now lines) }
 {
     // With it comes the fact that the history has the places of the wave.
-    let _count = wave.count();
+    wave.recall();
     let mut bits = BoundBits::new(wave.stim(), bound.bound.as_slice());
     'bits: while let Some(bit) = bits.next() {
         put_bit(alloc, text, wave, lines, reader, bit)?;

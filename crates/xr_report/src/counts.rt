@@ -110,7 +110,7 @@ fn count_steps(alloc: Global, wave: &Wave<'_>, steps: usize) -> Result<Counts, M
     ensures { IfOk result (λ counts. counts ≡ counts_below wave.now (steps * length wave.now.design.nets)) }
 {
     // With it comes the fact that the steps are few.
-    let _count = wave.count();
+    wave.recall();
     let mut rows = first_rows(alloc, wave)?;
     let mut ends = Ends::unknown(alloc, width_of(&wave.circuit()))?;
     let mut counts = NONE;

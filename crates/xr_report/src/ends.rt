@@ -125,7 +125,7 @@ impl Ends {
             → IsShownIn wave.now step self.new.ends.items position }
     {
         // With it comes the fact that the history has the places of the wave.
-        let _circuit = wave.circuit();
+        wave.recall();
         if !is_still(wave.replayed(), step as usize) {
             self.put_all(wave, rows, step);
         }

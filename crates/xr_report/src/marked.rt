@@ -48,7 +48,7 @@ pub fn put_moments<'w, 'a>(
         OnOk result (text.new.items ≡ text.old.items ++ all) }
 {
     // With it comes the fact that the history has the places of the wave.
-    let _count = wave.count();
+    wave.recall();
     let nets = bits.nets.as_slice();
     let mut due = Due::none(alloc, bits.room)?;
     let mut unknown = Due::none(alloc, bits.room)?;

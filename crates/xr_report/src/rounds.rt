@@ -30,7 +30,7 @@ pub fn mark_unknown(wave: &Wave<'_>, bits: &BitNets, moment: u32, due: &mut Due)
         KnownUnlessDue wave.now bits.now.nets.items (last_step (job wave.now) moment) due.new }
 {
     // With it comes the fact that the history has the places of the wave.
-    let _circuit = wave.circuit();
+    wave.recall();
     let rounds = wave.stim().rounds;
     let first = moment as usize * rounds as usize;
     'rounds: for round in 0..rounds {
@@ -54,7 +54,7 @@ pub fn mark_told(wave: &Wave<'_>, bits: &BitNets, moment: u32, due: &mut Due) ->
         (last_step (job wave.now) (moment - 1)) (last_step (job wave.now) moment) due.new }
 {
     // With it comes the fact that the history has the places of the wave.
-    let _circuit = wave.circuit();
+    wave.recall();
     let rounds = wave.stim().rounds;
     let first = moment as usize * rounds as usize;
     'rounds: for round in 0..rounds {
@@ -92,7 +92,7 @@ fn mark_written(wave: &Wave<'_>, bits: &BitNets, step: usize, due: &mut Due) -> 
     ensures shown { result ≡ true → spec.ShownUnlessDue wave.now bits.now.nets.items step due.new }
 {
     // With it comes the fact that the history has the places of the wave.
-    let _circuit = wave.circuit();
+    wave.recall();
     match wave.replayed().written(step) {
         Some(changes) => {
             mark_changes(&bits.readers, bits.room, changes, due);

@@ -1,7 +1,7 @@
 //! The bound variables that a step of a wave may show otherwise than the one before.
 
 ghost use Rattle.std.specs.Prelude.{◌≡◌, ◌-◌, ◌<◌, length, slice_index};
-ghost use Rattle.xr_design.specs.Circuit.{job_in, CircuitFits};
+ghost use Rattle.xr_design.specs.Circuit.{job_in};
 ghost use Rattle.xr_fans.specs.Marks.{OnlyMore};
 ghost use Rattle.xr_out.specs.Readers.{FitsReaders, KeepLetters};
 ghost use Rattle.xr_out.specs.Steps.{HasStep};
@@ -37,7 +37,6 @@ pub fn mark_anew(wave: &Wave<'_>, readers: &BitReaders, step: usize, due: &mut D
 
 /// The bound variables become due that have the net at a position among their bits.
 fn mark_position(circuit: &Circuit<'_>, readers: &BitReaders, position: usize, due: &mut Due)
-    requires fits { CircuitFits circuit.now }
     requires readers { FitsReaders (job_in circuit.now).width readers.now }
     requires position { position < (job_in circuit.now).width }
     requires room { HasRoomFor due.old readers.now.room }

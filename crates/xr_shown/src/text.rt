@@ -26,7 +26,7 @@ pub fn wave_text(alloc: Global, wave: &Wave<'_>, binding: &Binding) -> Result<Ve
         IfOk result (λ text. text.items ≡ vcd_text wave.now.design binding.now wave.now.stim history) }
 {
     // With it comes the fact that the circuit of the wave fits.
-    let _circuit = wave.circuit();
+    wave.recall();
     let row = ShownWave::first(alloc, wave)?;
     let before = ShownWave::first(alloc, wave)?;
     let rows = MomentRows::first(row, before, wave.stim().rounds);

@@ -18,7 +18,7 @@ use xr_wave::Wave;
 pub fn conditions_of(alloc: Global, wave: &Wave<'_>) -> Result<Vec<Condition>, Memory>
     ensures { IfOk result (λ conditions. AreConditionsIn wave.now conditions.items) }
 {
-    let _circuit = wave.circuit();
+    wave.recall();
     let lines = wave.lines();
     let mut tracer = Tracer::new(alloc);
     let mut conditions = Vec::new(alloc);
@@ -54,7 +54,7 @@ fn finished_at(
     ensures condition { IfOk result (IsFinishedAt wave.now place) }
     ensures right { OnOk result (IsRightOf wave.now tracer.new) }
 {
-    let _circuit = wave.circuit();
+    wave.recall();
     let condition = begin_at(alloc, wave, tracer, place)?;
     finish(alloc, condition, wave.limits().conflicts)
 }

@@ -1,6 +1,6 @@
 -- Waves beside which a walk knows what is due ahead.
 use Rattle.std.proofs.Common.{◌≡◌, ℕ, List, [], sym, subst}
-use Rattle.xr_design.specs.Circuit.{PartsFit}
+use Rattle.xr_design.specs.Parts.{PartsFit}
 use Rattle.xr_design.specs.Handed.{IsHandedIn}
 use Rattle.xr_design.specs.Job.{job_of}
 use Rattle.xr_design.specs.declared.waveform.Written.{Written}

@@ -2,11 +2,12 @@
 use Rattle.std.specs.Prelude.{◌≡◌, ℕ, ◌<◌, ◌≤◌, ◌^◌, Option, None, Some, List, [], length, nat_lt, if◌then◌else◌}
 use Rattle.std.specs.Coded.{le_prop}
 use Rattle.xr_cell.specs.declared.value.Value.{Value}
+use Rattle.xr_design.specs.declared.circuit.Circuit.{Circuit}
 use Rattle.xr_design.specs.declared.design.Design.{Design}
 use Rattle.xr_design.specs.declared.stim.Stim.{Stim}
 use Rattle.xr_design.specs.declared.place.Place.{Place}
 use Rattle.xr_design.specs.declared.waveform.Written.{Written}
-use Rattle.xr_design.specs.Circuit.{PartsFit}
+use Rattle.xr_design.specs.Parts.{PartsFit}
 use Rattle.xr_design.specs.Filling.{IsPlace}
 use Rattle.xr_design.specs.Fits.{place_at}
 use Rattle.xr_design.specs.Handed.{IsHandedIn, shown_of}
@@ -65,6 +66,10 @@ nothing_written design order stim history limits = record {
   written = [];
   lines = [];
 }
+
+-- Nothing is written yet of a circuit.
+abbrev pub nothing_of : Circuit → HistoryView → Limits → Contents
+nothing_of circuit = nothing_written circuit.design.now circuit.order.now circuit.stim.now
 
 -- What the history shows at the place of a number.
 abbrev pub shown_in : Contents → ℕ → Value

@@ -2,7 +2,7 @@
 
 ghost use Rattle.std.specs.Prelude.{◌≡◌, ◌<◌, ◌≤◌, [], ◌∷◌, ◌++◌, length, map};
 ghost use Rattle.std.specs.List.{AllByRecursion};
-ghost use Rattle.xr_design.specs.Circuit.{job_in, CircuitFits};
+ghost use Rattle.xr_design.specs.Circuit.{job_in};
 ghost use Rattle.xr_design.specs.Fits.{place_at};
 ghost use Rattle.xr_design.specs.Job.{places_of};
 
@@ -56,7 +56,6 @@ impl Arguments {
 
 /// The places of numbers.
 pub(crate) fn places_of_numbers(circuit: &Circuit<'_>, numbers: &[usize]) -> Arguments
-    requires fits { CircuitFits circuit.now }
     requires few { length numbers.now ≤ 13 }
     requires within { AllByRecursion (λ k. k < places_of (job_in circuit.now)) numbers.now }
     ensures { result ≡ map (place_at (job_in circuit.now)) numbers.now }

@@ -1,7 +1,7 @@
 //! The two fillings that are stated for an unknown place: those of its root.
 
 ghost use Rattle.std.specs.Prelude.{◌≡◌, ◌<◌, ◌≤◌, ◌↔◌, [], ◌∷◌, IfOk, IfSome, IsSome, length, option_copied};
-ghost use Rattle.xr_design.specs.Circuit.{job_in, CircuitFits};
+ghost use Rattle.xr_design.specs.Circuit.{job_in};
 ghost use Rattle.xr_design.specs.Filling.{IsPlace};
 ghost use Rattle.xr_model.specs.Class.{flipped};
 ghost use Rattle.xr_model.specs.Stated.{body_at, pair_of, stated_in as stated_in_body};
@@ -143,7 +143,6 @@ fn copied(alloc: Global, filling: &Filling) -> Result<Filling, Memory>
 
 /// What the line of the place of a number says, if there is one.
 fn body_of<'l>(circuit: &Circuit<'_>, lines: &'l [Line], number: usize) -> Option<&'l Body>
-    requires fits { CircuitFits circuit.now }
     requires order { AreInOrder (job_in circuit.now) lines.now }
     ensures { option_copied result ≡ body_at (job_in circuit.now) lines.now number }
 {
@@ -157,7 +156,6 @@ fn body_of<'l>(circuit: &Circuit<'_>, lines: &'l [Line], number: usize) -> Optio
 
 /// What a line says, if it is that of the place of a number.
 fn body_if<'l>(circuit: &Circuit<'_>, line: &'l Line, number: usize) -> Option<&'l Body>
-    requires fits { CircuitFits circuit.now }
     requires place { IsPlace (job_in circuit.now) line.now.place }
     ensures { option_copied result ≡ body_at (job_in circuit.now) (line.now ∷ []) number }
 {
@@ -170,7 +168,6 @@ fn body_if<'l>(circuit: &Circuit<'_>, line: &'l Line, number: usize) -> Option<&
 
 /// How many lines stand before that of the place of a number, by halves.
 fn lines_before(circuit: &Circuit<'_>, lines: &[Line], number: usize) -> usize
-    requires fits { CircuitFits circuit.now }
     requires order { AreInOrder (job_in circuit.now) lines.now }
     ensures { AreParted (job_in circuit.now) lines.now number result result }
 {

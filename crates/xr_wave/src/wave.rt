@@ -2,10 +2,10 @@
 
 ghost use Rattle.std.specs.Prelude.{◌≡◌, ◌<◌, ◌≤◌, ◌++◌, ◌∷◌, [], IfOk, IfErr, IsTrue, OnErr, OnOk, length, map};
 ghost use Rattle.xr_cell.specs.declared.value.Value.{Value as AnyValue};
-ghost use Rattle.xr_design.specs.Circuit.{PartsFit, CircuitFits, job_in};
+ghost use Rattle.xr_design.specs.Circuit.{job_in};
 ghost use Rattle.xr_design.specs.Fits.{place_at};
 ghost use Rattle.xr_design.specs.Handed.{IsHandedIn};
-ghost use Rattle.xr_design.specs.Job.{job_of, number_of, places_of};
+ghost use Rattle.xr_design.specs.Job.{number_of, places_of};
 ghost use Rattle.xr_design.specs.Waveform.{written_at};
 ghost use Rattle.xr_model.specs.Class.{class_seen};
 ghost use Rattle.xr_model.specs.Growth.{NextHolds};
@@ -13,7 +13,7 @@ ghost use Rattle.xr_model.specs.Sound.{Sound};
 ghost use Rattle.xr_model.specs.Yields.{Yields};
 ghost use Rattle.xr_wave.specs.Advance.{GoesOn, with_written};
 ghost use Rattle.xr_wave.specs.Contents.{FromWithin, AreLimits, IsReached, IsWave, IsWritten, arguments_in, class_in};
-ghost use Rattle.xr_wave.specs.Contents.{job, next_number, next_place, next_seen, nothing_written, rule_in, shown_in};
+ghost use Rattle.xr_wave.specs.Contents.{job, next_number, next_place, next_seen, nothing_of, rule_in, shown_in};
 ghost use Rattle.xr_wave.specs.Contents.{written_of};
 ghost use Rattle.xr_wave_due.specs.OfWaveBytes.{ValuesAgree};
 ghost use Rattle.xr_wave_due.specs.OfWaveBytes as view;
@@ -66,22 +66,14 @@ impl<'a> Wave<'a> {
     /// before.
     pub fn new(
         alloc: Global,
-        design: &'a Design,
-        order: &'a Order,
-        stim: &'a Stim,
+        circuit: Circuit<'a>,
         replayed: &'a History,
         limits: Limits,
     ) -> Result<Wave<'a>, Memory>
-        requires fits { PartsFit design.now order.now stim.now }
-        requires handed { IsHandedIn (job_of design.now order.now stim.now) replayed.now }
+        requires handed { IsHandedIn (job_in circuit) replayed.now }
         requires limits { AreLimits limits }
-        ensures { IfOk result (λ w. w ≡ nothing_written design.now order.now stim.now replayed.now limits) }
+        ensures { IfOk result (λ w. w ≡ nothing_of circuit.entry replayed.now limits) }
     {
-        let circuit = Circuit {
-            design,
-            order,
-            stim,
-        };
         let waveform = Waveform::new(alloc, circuit)?;
         let walk = Walk::new(alloc, &circuit, replayed)?;
         let parts = Parts {
@@ -218,13 +210,19 @@ impl<'a> Wave<'a> {
         self.parts.lines.as_slice()
     }
 
-    /// The design with its order and its stimulus, which fit. Takes no memory.
+    /// The design with its order and its stimulus. Takes no memory.
     pub fn circuit(&self) -> Circuit<'a>
         ensures job { job_in result ≡ job self.now }
-        ensures fits { CircuitFits result }
         ensures wave { IsWave self.now }
     {
         self.parts.waveform.circuit()
+    }
+
+    /// What is always true of a wave. Does nothing.
+    pub fn recall(&self)
+        ensures { IsWave self.now }
+    {
+        let _ = &self.parts;
     }
 
     /// How many places are written. Takes no memory.
@@ -411,7 +409,6 @@ impl<'a> Parts<'a> {
 
 /// A class as callers see it.
 fn seen_class(circuit: &Circuit<'_>, class: ClassByNumber) -> Class
-    requires fits { CircuitFits circuit.now }
     requires within { FromWithin (places_of (job_in circuit.now)) class }
     ensures { result ≡ class_seen (job_in circuit.now) class }
 {

@@ -14,7 +14,7 @@ use Rattle.xr_cell.specs.Value.{bit_value}
 use Rattle.xr_design.specs.declared.waveform.Mark.{Mark}
 use Rattle.xr_design.specs.declared.waveform.Mark.TheVariants.{Certain, Unknown, Undecided}
 use Rattle.xr_design.specs.declared.waveform.Written.{Written}
-use Rattle.xr_design.specs.Circuit.{CircuitFits, job_in}
+use Rattle.xr_design.specs.Circuit.{job_in}
 use Rattle.xr_design.specs.declared.circuit.Circuit.{Circuit}
 use Rattle.xr_design.specs.Fits.{Fits}
 use Rattle.xr_design.specs.Job.{Job, net_of, places_of, step_of}
@@ -184,16 +184,16 @@ keep_repeated j fits old new many position next stretch is next_is keep = λ k f
     (cases_lt k (length old))
 
 -- So the bytes are kept.
-pub repeated_kept : (circuit : Circuit) → CircuitFits circuit → (old new : List ℕ) (many : ℕ)
+pub repeated_kept : (circuit : Circuit) (old new : List ℕ) (many : ℕ)
     → IsStretch (job_in circuit) (length old) many → IsKept circuit old → AreRepeated (job_in circuit) old new many
     → ValuesAgree (job_in circuit) (repeated (job_in circuit) (map written_of_byte old) many)
     → AreSteadyFrom (job_in circuit) (repeated (job_in circuit) (map written_of_byte old) many)
     (length (map written_of_byte old)) → IsKept circuit new
-repeated_kept circuit fits old new many stretch kept are agrees steady =
+repeated_kept circuit old new many stretch kept are agrees steady =
     let j : Job = job_in circuit in
-    let view = repeated_view j fits.fits_job old new many stretch are in
+    let view = repeated_view j circuit.fits.fits_job old new many stretch are in
     record {
-      told = told_repeated j fits.fits_job old new many stretch kept.told are
+      told = told_repeated j circuit.fits.fits_job old new many stretch kept.told are
           (subst (λ w. AreSteadyFrom j w (length old)) (sym view)
           (subst (AreSteadyFrom j (repeated j (map written_of_byte old) many)) (length-map old written_of_byte)
           steady));

@@ -4,7 +4,7 @@ ghost use Rattle.std.specs.Prelude.{◌≡◌, ℕ, ◌+◌, ◌-◌, ◌<◌, �
 ghost use Rattle.std.specs.Prelude.{OnErr, OnOk};
 ghost use Rattle.std.specs.Bool.{OnTrue};
 ghost use Rattle.xr_cell.specs.declared.value.Value.{Value as AnyValue};
-ghost use Rattle.xr_design.specs.Circuit.{job_in, CircuitFits};
+ghost use Rattle.xr_design.specs.Circuit.{job_in};
 ghost use Rattle.xr_design.specs.Job.{places_of};
 ghost use Rattle.xr_design.specs.Waveform.{certain, certain_by};
 ghost use Rattle.xr_model.specs.Class.{before, is_carried_on};
@@ -90,7 +90,6 @@ pub fn class_behind(
     front: Front,
     all_keep: bool,
 ) -> Option<ClassByNumber>
-    requires fits { CircuitFits circuit.now }
     requires wired { AreWiresOf circuit.now wiring.now }
     requires within { length rows.now.bytes ≤ places_of (job_in circuit.now) }
     requires front { StandsAt (job_in circuit.now) (length rows.now.bytes) front }
@@ -133,7 +132,6 @@ pub fn push_place(
     next: Option<ClassByNumber>,
     written: Written,
 ) -> Result<(), Memory>
-    requires fits { CircuitFits circuit.now }
     requires within { length rows.old.bytes < places_of (job_in circuit.now) }
     requires rows { AreRowsOf (job_in circuit.now) rows.old }
     requires kept { IsKept circuit.now rows.old.bytes }
@@ -155,7 +153,6 @@ fn next_byte(
     next: Option<ClassByNumber>,
     written: Written,
 ) -> u8
-    requires fits { CircuitFits circuit.now }
     requires within { length rows.now.bytes < places_of (job_in circuit.now) }
     requires next { next ≡ next_class (job_in circuit.now) (map written_of_byte rows.now.bytes) }
     ensures written { written_of_byte result ≡ written }
@@ -190,7 +187,6 @@ fn is_line_class(next: Option<ClassByNumber>) -> bool
 
 /// Whether it is Carried from the step before, as it is.
 fn is_carrying_on(circuit: &Circuit<'_>, place: usize, next: Option<ClassByNumber>) -> bool
-    requires fits { CircuitFits circuit.now }
     requires within { place < places_of (job_in circuit.now) }
     ensures { IfSome next (λ class. result ≡ is_carried_on class (before (job_in circuit.now) place)) }
 {

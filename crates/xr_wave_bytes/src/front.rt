@@ -1,7 +1,7 @@
 //! Where the next place stands: carried along, since a division for each place is slow.
 
 ghost use Rattle.std.specs.Prelude.{◌≡◌, ◌+◌, ◌<◌};
-ghost use Rattle.xr_design.specs.Circuit.{job_in, CircuitFits};
+ghost use Rattle.xr_design.specs.Circuit.{job_in};
 ghost use Rattle.xr_design.specs.Job.{places_of};
 ghost use Rattle.xr_wave_bytes.specs.Front.{IsFront, StandsAt, place_of_front};
 ghost use Rattle.xr_wave_bytes.specs.Repeat.{IsStretch};
@@ -17,7 +17,6 @@ pub struct Front {
 
 /// Where the first place stands.
 pub fn first_front(circuit: &Circuit<'_>) -> Front
-    requires fits { CircuitFits circuit.now }
     ensures { StandsAt (job_in circuit.now) 0 result }
 {
     Front {
@@ -28,7 +27,6 @@ pub fn first_front(circuit: &Circuit<'_>) -> Front
 
 /// Where the place behind a place stands.
 pub fn front_behind(circuit: &Circuit<'_>, front: Front, place: usize) -> Front
-    requires fits { CircuitFits circuit.now }
     requires within { place < places_of (job_in circuit.now) }
     requires stands { StandsAt (job_in circuit.now) place front }
     ensures stands { StandsAt (job_in circuit.now) (place + 1) result }
@@ -50,7 +48,6 @@ pub fn front_behind(circuit: &Circuit<'_>, front: Front, place: usize) -> Front
 
 /// Where the place behind so many places stands, all of one step.
 pub fn front_after(circuit: &Circuit<'_>, front: Front, place: usize, many: usize) -> Front
-    requires fits { CircuitFits circuit.now }
     requires stretch { IsStretch (job_in circuit.now) place many }
     requires stands { StandsAt (job_in circuit.now) place front }
     ensures stands { StandsAt (job_in circuit.now) (place + many) result }

@@ -1,7 +1,7 @@
 //! The places of a circuit, as they are written.
 
 ghost use Rattle.std.specs.Prelude.{◌≡◌, ◌%◌, ◌<◌, ◌*◌, ◌≤◌, ◌++◌, ◌∷◌, [], IfOk, OnErr, OnOk, length};
-ghost use Rattle.xr_design.specs.Circuit.{CircuitFits, job_in};
+ghost use Rattle.xr_design.specs.Circuit.{job_in};
 ghost use Rattle.xr_design.specs.Fits.{place_at};
 ghost use Rattle.xr_design.specs.Waveform.{certain, written_at};
 ghost use Rattle.xr_model.specs.Assignment as assignment;
@@ -47,7 +47,7 @@ pub struct Waveform<'a> {
 impl<'a> Model for Waveform<'a> {
     ghost use Rattle.std.specs.Prelude.{◌≤◌, length, map};
     ghost use Rattle.std.specs.Bool.{OnTrue};
-    ghost use Rattle.xr_design.specs.Circuit.{CircuitFits, job_in};
+    ghost use Rattle.xr_design.specs.Circuit.{job_in};
     ghost use Rattle.xr_design.specs.Job.{places_of};
     ghost use Rattle.xr_quiet.specs.OfClass.{AreWiresOf};
     ghost use Rattle.xr_wave_bytes.specs.Byte.{written_of_byte};
@@ -60,7 +60,6 @@ impl<'a> Model for Waveform<'a> {
     ghost view = { λ w. waveform_of w.circuit (map written_of_byte w.rows.bytes) };
 
     ghost invariant = { λ w. record {
-      fits : CircuitFits w.circuit;
       wired : AreWiresOf w.circuit w.wiring;
       within : length w.rows.bytes ≤ places_of (job_in w.circuit);
       rows : AreRowsOf (job_in w.circuit) w.rows;
@@ -75,7 +74,6 @@ impl<'a> Waveform<'a> {
     /// One of which nothing is written. Takes 48 bytes for each net, 8 to 24 for each pin. What is written takes 16
     /// to 32 bytes for each place that has not what its net's place a step before has, as each of the first step.
     pub fn new(alloc: Global, circuit: Circuit<'a>) -> Result<Waveform<'a>, Memory>
-        requires { CircuitFits circuit }
         ensures { IfOk result (λ w. w ≡ waveform_of circuit.entry []) }
     {
         let wiring = Wiring::of(alloc, circuit.design, circuit.order)?;
@@ -98,7 +96,6 @@ impl<'a> Waveform<'a> {
         ensures order { result.order.now ≡ self.now.order }
         ensures stim { result.stim.now ≡ self.now.stim }
         ensures job { job_in result ≡ job self.now }
-        ensures fits { CircuitFits result }
     {
         self.circuit
     }

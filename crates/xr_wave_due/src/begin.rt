@@ -1,7 +1,7 @@
 //! What the history makes due as a step begins.
 
 ghost use Rattle.std.specs.Prelude.{◌≡◌, ◌-◌, ◌*◌, ◌<◌, ◌≤◌, IsTrue, length};
-ghost use Rattle.xr_design.specs.Circuit.{CircuitFits, job_in};
+ghost use Rattle.xr_design.specs.Circuit.{job_in};
 ghost use Rattle.xr_design.specs.Handed.{HasPlaces, shown_of};
 ghost use Rattle.xr_design.specs.Row.{IsBlankAt};
 ghost use Rattle.xr_fans.specs.Marks.{OnlyMore};
@@ -14,7 +14,6 @@ use xr_replay_due::Due;
 
 /// The positions become due at which the history shows something else in a step than one step before. Takes no memory.
 pub fn mark_history(circuit: &Circuit<'_>, history: &History, step: usize, due: &mut Due)
-    requires fits { CircuitFits circuit.now }
     requires places { HasPlaces (job_in circuit.now) history.now }
     requires later { 0 < step }
     requires step { step < (job_in circuit.now).moments * (job_in circuit.now).rounds }
@@ -31,7 +30,6 @@ pub fn mark_history(circuit: &Circuit<'_>, history: &History, step: usize, due: 
 
 /// The same where every place of the step is blank: those of the step before may not be.
 fn mark_ended(circuit: &Circuit<'_>, history: &History, step: usize, due: &mut Due)
-    requires fits { CircuitFits circuit.now }
     requires places { HasPlaces (job_in circuit.now) history.now }
     requires later { 0 < step }
     requires step { step < (job_in circuit.now).moments * (job_in circuit.now).rounds }
@@ -57,7 +55,6 @@ fn is_blank_before(history: &History, step: usize) -> bool
 
 /// Every position becomes due.
 fn mark_every(circuit: &Circuit<'_>, due: &mut Due)
-    requires fits { CircuitFits circuit.now }
     requires room { HasRoomFor due.old (job_in circuit.now).width }
     ensures long { length due.new ≡ length due.old }
     ensures more { OnlyMore due.old due.new }

@@ -2,7 +2,7 @@
 
 ghost use Rattle.std.specs.Prelude.{◌≡◌, ◌+◌, ◌*◌, ◌<◌, ◌≤◌, false, IfOk, IsFalse, OnOk, length};
 ghost use Rattle.xr_cell.specs.declared.value.Value.{Value as AnyValue};
-ghost use Rattle.xr_design.specs.Circuit.{CircuitFits, job_in};
+ghost use Rattle.xr_design.specs.Circuit.{job_in};
 ghost use Rattle.xr_fans.specs.Marks.{OnlyMore};
 ghost use Rattle.xr_fans.specs.Nets.{driver_on, net_on};
 ghost use Rattle.xr_model.specs.Class as class;
@@ -20,7 +20,6 @@ use xr_replay_due::Due;
 
 /// Those of a circuit. Takes four bytes for each.
 pub fn sources_of(alloc: Global, circuit: &Circuit<'_>) -> Result<Vec<u32>, Memory>
-    requires { CircuitFits circuit.now }
     ensures { IfOk result (λ sources. AreSources (job_in circuit.now) (job_in circuit.now).width sources.items) }
 {
     let mut sources = Vec::new(alloc);
@@ -33,7 +32,6 @@ pub fn sources_of(alloc: Global, circuit: &Circuit<'_>) -> Result<Vec<u32>, Memo
 
 /// A position more, if it is one.
 fn push_source(circuit: &Circuit<'_>, position: u32, sources: &mut Vec<u32>) -> Result<(), Memory>
-    requires fits { CircuitFits circuit.now }
     requires position { position < (job_in circuit.now).width }
     requires sources { AreSources (job_in circuit.now) position sources.old.items }
     ensures { OnOk result (AreSources (job_in circuit.now) (position + 1) sources.new.items) }
@@ -60,7 +58,6 @@ fn is_source(driver: &Driver) -> bool
 
 /// Those become due that the recording may stir in a step. Takes no memory.
 pub fn mark_sources(circuit: &Circuit<'_>, sources: &[u32], step: usize, due: &mut Due)
-    requires fits { CircuitFits circuit.now }
     requires sources { AreSources (job_in circuit.now) (job_in circuit.now).width sources.now }
     requires later { 0 < step }
     requires step { step < (job_in circuit.now).moments * (job_in circuit.now).rounds }
@@ -77,7 +74,6 @@ pub fn mark_sources(circuit: &Circuit<'_>, sources: &[u32], step: usize, due: &m
 
 /// Those become due that may be stirred in a step that begins a moment.
 fn mark_listed(circuit: &Circuit<'_>, sources: &[u32], step: usize, due: &mut Due)
-    requires fits { CircuitFits circuit.now }
     requires sources { AreSources (job_in circuit.now) (job_in circuit.now).width sources.now }
     requires later { 0 < step }
     requires step { step < (job_in circuit.now).moments * (job_in circuit.now).rounds }
@@ -93,7 +89,6 @@ fn mark_listed(circuit: &Circuit<'_>, sources: &[u32], step: usize, due: &mut Du
 
 /// One of them becomes due, if it may be stirred.
 fn mark_source(circuit: &Circuit<'_>, position: u32, step: usize, due: &mut Due)
-    requires fits { CircuitFits circuit.now }
     requires position { position < (job_in circuit.now).width }
     requires later { 0 < step }
     requires step { step < (job_in circuit.now).moments * (job_in circuit.now).rounds }
@@ -111,7 +106,6 @@ fn mark_source(circuit: &Circuit<'_>, position: u32, step: usize, due: &mut Due)
 
 /// Whether the recording may stir a net in a step that begins a moment.
 fn is_stirred(circuit: &Circuit<'_>, step: usize, net: usize) -> bool
-    requires fits { CircuitFits circuit.now }
     requires net { net < (job_in circuit.now).width }
     requires later { 0 < step }
     requires step { step < (job_in circuit.now).moments * (job_in circuit.now).rounds }
@@ -129,7 +123,6 @@ fn is_stirred(circuit: &Circuit<'_>, step: usize, net: usize) -> bool
 
 /// Whether an input is recorded with the same known value as a step before.
 fn is_recorded_same(circuit: &Circuit<'_>, step: usize, net: usize) -> bool
-    requires fits { CircuitFits circuit.now }
     requires net { net < (job_in circuit.now).width }
     requires later { 0 < step }
     requires step { step < (job_in circuit.now).moments * (job_in circuit.now).rounds }

@@ -5,7 +5,7 @@
 //! calm; or the history shows something else. Any other place is written as its net's place a step before.
 
 ghost use Rattle.std.specs.Prelude.{◌≡◌, ℕ, ◌*◌, ◌+◌, ◌%◌, ◌<◌, ◌≤◌, ◌++◌, ◌∷◌, [], true, false, IfOk, IsTrue, OnErr, OnOk, length};
-ghost use Rattle.xr_design.specs.Circuit.{CircuitFits, job_in};
+ghost use Rattle.xr_design.specs.Circuit.{job_in};
 ghost use Rattle.xr_design.specs.Handed.{HasPlaces, shown_of};
 ghost use Rattle.xr_design.specs.Fits.{place_at};
 ghost use Rattle.xr_fans.specs.Marks.{OnlyMore};
@@ -47,7 +47,6 @@ impl<'a> Walk<'a> {
         circuit: &Circuit<'_>,
         history: &'a History,
     ) -> Result<Walk<'a>, Memory>
-        requires fits { CircuitFits circuit.now }
         requires places { HasPlaces (job_in circuit.now) history.now }
         ensures walk { IfOk result (IsWalk (job_in circuit.now) []) }
         ensures history { IfOk result (λ walk. walk.replayed.history ≡ history.now) }

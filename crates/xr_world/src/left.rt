@@ -1,7 +1,7 @@
 //! A filling that is read in place order.
 
 ghost use Rattle.std.specs.Prelude.{◌≡◌, ℕ, ◌+◌};
-ghost use Rattle.xr_design.specs.Circuit.{job_in, CircuitFits};
+ghost use Rattle.xr_design.specs.Circuit.{job_in};
 ghost use Rattle.xr_design.specs.Filling.{bit_of};
 ghost use Rattle.xr_world.specs.Left.{Decides, IsLeft};
 
@@ -10,7 +10,6 @@ use xr_design::{Circuit, Place};
 /// The filling's bit at the place of a number, and what is left behind it.
 #[tactic(auto, using(crate::proofs::Reading::behind_left))]
 pub fn next_bit<'f>(circuit: &Circuit<'_>, left: &'f [Place], place: usize) -> (bool, &'f [Place])
-    requires fits { CircuitFits circuit.now }
     requires left { IsLeft (job_in circuit.now) place left.now }
     ensures bit { result.0 ≡ bit_of (job_in circuit.now) left.now place }
     ensures left { IsLeft (job_in circuit.now) (place + 1) result.1.now }

@@ -79,7 +79,7 @@ impl Lanes {
         requires equal { AreEqualIn self.now.graph (node - 1) other }
         ensures { IfOk result (IsShownNext wave.now) }
     {
-        let _circuit = wave.circuit();
+        wave.recall();
         let place = self.nodes.place(other + 1);
         if place >= wave.count() {
             return Ok(Shown::Nothing);
@@ -113,7 +113,7 @@ impl Lanes {
         ensures cone { IfOk result (λ found. IfSome found (λ cone. IsNextCone wave.now cone.nodes)) }
         ensures keeps { self.new ≡ self.old }
     {
-        let _circuit = wave.circuit();
+        wave.recall();
         match self.next {
             None => unreachable!(),
             Some(node) => cone_of(alloc, &self.graph, node - 1, &mut self.positions),
@@ -132,7 +132,7 @@ impl Lanes {
         ensures cone { IfOk result (λ found. IfSome found (λ cone. IsConeOf wave.now (place_of self.old node) cone.nodes)) }
         ensures keeps { self.new ≡ self.old }
     {
-        let _circuit = wave.circuit();
+        wave.recall();
         cone_of(alloc, &self.graph, node - 1, &mut self.positions)
     }
 

@@ -16,7 +16,7 @@ positions-init c =
 pub net-net-requires : goal.net-net-requires
 net-net-requires c =
     let test = c.positions-test.true in
-    let all = c.circuit-circuit.ensures.fits.fits_job.all in
+    let all = c.circuit-circuit.result.fits.fits_job.all in
     let wide = c.width_of-position-end.ensures in
     omega (arith, test, all, wide)
 

@@ -9,13 +9,13 @@ use Rattle.xr_audit.proofs.Audited.{is_written}
 use Rattle.xr_audit.proofs.found.add_listed.Goals as goal
 
 pub mark-requires : goal.mark-requires
-mark-requires c = is_written c.args.wave.now c.args.replayed.now c.count-count.ensures.wave c.requires.audit c.args.place c.requires.step c.requires.net
+mark-requires c = is_written c.args.wave.now c.args.replayed.now c.recall.ensures c.requires.audit c.args.place c.requires.step c.requires.net
 
 pub value-requires : goal.value-requires
-value-requires c = is_written c.args.wave.now c.args.replayed.now c.count-count.ensures.wave c.requires.audit c.args.place c.requires.step c.requires.net
+value-requires c = is_written c.args.wave.now c.args.replayed.now c.recall.ensures c.requires.audit c.args.place c.requires.step c.requires.net
 
 pub pair_of-requires : goal.pair_of-requires
-pair_of-requires c = is_written c.args.wave.now c.args.replayed.now c.count-count.ensures.wave c.requires.audit c.args.place c.requires.step c.requires.net
+pair_of-requires c = is_written c.args.wave.now c.args.replayed.now c.recall.ensures c.requires.audit c.args.place c.requires.step c.requires.net
 
 pub returns : goal.returns
 returns c =

@@ -22,7 +22,7 @@ cell_row-requires-clause-table c =
     c.index-as_slice-place.result c.as_slice.result.now c.as_slice.ensures less in
     subst (λ (ps : List Pin). FitsTable j.udps c.in-Cell.table (length ps)) (sym c.as_slice-in-Cell.ensures)
     (subst (λ (d : Driver). FitsDriver j.udps j.width d) (driver ∙ c.in-Cell.is)
-    (c.circuit-circuit.ensures.fits.fits_job.pins c.args.place.net less))
+    (c.circuit-circuit.result.fits.fits_job.pins c.args.place.net less))
 
 pub cell_row-requires-clause-nets : goal.cell_row-requires-clause-nets
 cell_row-requires-clause-nets c =
@@ -34,7 +34,7 @@ cell_row-requires-clause-nets c =
     c.index-as_slice-place.result c.as_slice.result.now c.as_slice.ensures less in
     subst (λ (ps : List Pin). AllByRecursion (λ n. n < j.width) (net_pins ps)) (sym c.as_slice-in-Cell.ensures)
     (subst (λ (d : Driver). AllByRecursion (λ n. n < j.width) (arguments_of_driver d)) (driver ∙ c.in-Cell.is)
-    (nets_within j c.circuit-circuit.ensures.fits.fits_job c.args.place (record {
+    (nets_within j c.circuit-circuit.result.fits.fits_job c.args.place (record {
       step = subst (λ (i : Job). c.args.place.step < i.moments * i.rounds) same c.requires.step;
       net = less;
     })))
@@ -48,7 +48,7 @@ register_row-requires-clause-register c =
     let driver = driver_read j circuit.design.now circuit.order.now circuit.stim.now refl c.args.place.net
     c.index-as_slice-place.result c.as_slice.result.now c.as_slice.ensures less in
     subst (λ (d : Driver). FitsDriver j.udps j.width d) (driver ∙ c.in-Register.is)
-    (c.circuit-circuit.ensures.fits.fits_job.pins c.args.place.net less)
+    (c.circuit-circuit.result.fits.fits_job.pins c.args.place.net less)
 
 pub returns-in-Cell : goal.returns-in-Cell
 returns-in-Cell c =

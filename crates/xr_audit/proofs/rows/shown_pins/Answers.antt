@@ -5,9 +5,9 @@ use Rattle.xr_audit.proofs.rows.shown_pins.Goals as goal
 
 pub pin_values-requires-clause-reach : goal.pin_values-requires-clause-reach
 pin_values-requires-clause-reach c =
-    nets_shown c.args.circuit.now c.requires.fits c.args.replayed.now c.requires.places c.args.step c.requires.step
+    nets_shown c.args.circuit.now c.args.replayed.now c.requires.places c.args.step c.requires.step
     c.args.pins.now c.requires.nets
 
 pub pin_values-requires-clause-small : goal.pin_values-requires-clause-small
 pin_values-requires-clause-small c =
-    room_at (job_in c.args.circuit.now) c.requires.fits.fits_job c.args.step c.requires.step
+    room_at (job_in c.args.circuit.now) c.args.circuit.now.fits.fits_job c.args.step c.requires.step

@@ -34,13 +34,13 @@ pub is_shown_unknown-requires-clause-bit : goal.is_shown_unknown-requires-clause
 is_shown_unknown-requires-clause-bit c =
     let wave = c.args.wave.now in
     let is : IsBitOf wave.design (length wave.stim.times) c.in-Some.bit = search rules in
-    bit_there wave c.count-count.ensures.wave c.requires.finished c.in-Some.bit is
+    bit_there wave c.recall.ensures c.requires.finished c.in-Some.bit is
 
 pub add_bit-requires-clause-bit : goal.add_bit-requires-clause-bit
 add_bit-requires-clause-bit c =
     let wave = c.args.wave.now in
     let is : IsBitOf wave.design (length wave.stim.times) c.in-Some.bit = search rules in
-    bit_there wave c.count-count.ensures.wave c.requires.finished c.in-Some.bit is
+    bit_there wave c.recall.ensures c.requires.finished c.in-Some.bit is
 
 pub bits-preserved-in-Continue-branch-4 : goal.bits-preserved-in-Continue-branch-4
 bits-preserved-in-Continue-branch-4 c =

@@ -8,9 +8,11 @@ use Rattle.xr_blame.specs.declared.bits.Blamed.{Blamed}
 use Rattle.xr_blame.proofs.ToldBits.{told_sources}
 use Rattle.xr_blame.proofs.blame.blame_of.Goals as goal
 
-pub table_of-requires-clause-sources : goal.table_of-requires-clause-sources
-table_of-requires-clause-sources c =
-    let wave = c.args.wave.now in
-    let told = told_sources wave (unknown_bits wave c.args.bound.now.bound) c.in_ok-bits.bits.items c.in_ok-bits.ensures in
-    subst (λ (l : List Blamed). All (λ (b : Blamed). IsPlace (job_in c.circuit.result) b.source) l) (sym c.as_slice.ensures.value)
-    (subst (λ (j : Job). All (λ (b : Blamed). IsPlace j b.source) c.in_ok-bits.bits.items) (sym c.circuit.ensures.job) told)
+pub table_of-requires : goal.table_of-requires
+table_of-requires c = record {
+  sources =
+      let wave = c.args.wave.now in
+      let told = told_sources wave (unknown_bits wave c.args.bound.now.bound) c.in_ok-bits.bits.items c.in_ok-bits.ensures in
+      subst (λ (l : List Blamed). All (λ (b : Blamed). IsPlace (job_in c.circuit.result) b.source) l) (sym c.as_slice.ensures.value)
+      (subst (λ (j : Job). All (λ (b : Blamed). IsPlace j b.source) c.in_ok-bits.bits.items) (sym c.circuit.ensures.job) told);
+}

@@ -14,22 +14,24 @@ pub runs_of-requires : goal.runs_of-requires
 runs_of-requires c = subst IsNonDecreasing (sym c.as_slice.ensures.value)
     (IsNonDecreasingBy-from_sort (λ (n : ℕ). n) c.sort.new.self.items c.in_ok-sort.ensures.sorted)
 
-pub rows_at-requires-clause-within : goal.rows_at-requires-clause-within
-rows_at-requires-clause-within c =
-    let j = job_in c.args.circuit.now in
-    let tally : IsTally c.sort.new.self.items c.in_ok-rows.rows.items =
-    subst (λ (l : List ℕ). IsTally l c.in_ok-rows.rows.items) c.as_slice.ensures.value c.in_ok-rows.ensures in
-    subst (λ (l : List Counted). All (λ (row : Counted). row.1 < places_of j) l) (sym c.as_slice-2.ensures.value)
-    (rows_within j c.requires.fits.fits_job c.args.bits.now c.in_ok-numbers.numbers.items c.sort.new.self.items
-    c.in_ok-rows.rows.items c.sort-2.new.self.items c.requires.sources c.in_ok-numbers.ensures
-    c.in_ok-sort.ensures.permutation tally c.in_ok-sort-2.ensures.permutation)
+pub rows_at-requires : goal.rows_at-requires
+rows_at-requires c = record {
+  within =
+      let j = job_in c.args.circuit.now in
+      let tally : IsTally c.sort.new.self.items c.in_ok-rows.rows.items =
+      subst (λ (l : List ℕ). IsTally l c.in_ok-rows.rows.items) c.as_slice.ensures.value c.in_ok-rows.ensures in
+      subst (λ (l : List Counted). All (λ (row : Counted). row.1 < places_of j) l) (sym c.as_slice-2.ensures.value)
+      (rows_within j c.args.circuit.now.fits.fits_job c.args.bits.now c.in_ok-numbers.numbers.items c.sort.new.self.items
+      c.in_ok-rows.rows.items c.sort-2.new.self.items c.requires.sources c.in_ok-numbers.ensures
+      c.in_ok-sort.ensures.permutation tally c.in_ok-sort-2.ensures.permutation);
+}
 
 pub returns : goal.returns
 returns c =
     let j = job_in c.args.circuit.now in
     let tally : IsTally c.sort.new.self.items c.in_ok-rows.rows.items =
     subst (λ (l : List ℕ). IsTally l c.in_ok-rows.rows.items) c.as_slice.ensures.value c.in_ok-rows.ensures in
-    let is = table_is j c.requires.fits.fits_job c.args.bits.now c.in_ok-numbers.numbers.items c.sort.new.self.items
+    let is = table_is j c.args.circuit.now.fits.fits_job c.args.bits.now c.in_ok-numbers.numbers.items c.sort.new.self.items
     c.in_ok-rows.rows.items c.sort-2.new.self.items c.requires.sources c.in_ok-numbers.ensures
     c.in_ok-sort.ensures.permutation tally c.in_ok-sort-2.ensures.permutation c.in_ok-sort-2.ensures.sorted in
     IfOk-weaker c.rows_at.result _ _ (λ table same. subst (IsTable j c.args.bits.now)

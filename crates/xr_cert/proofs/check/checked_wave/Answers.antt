@@ -1,7 +1,7 @@
 -- The numbers differ, the walk stops, or there is no memory from the start.
 use Rattle.std.proofs.Common.{subst}
 use Rattle.std.proofs.lemmas.Result.{IfErr-weaker}
-use Rattle.xr_wave.specs.Contents.{Contents, nothing_written}
+use Rattle.xr_wave.specs.Contents.{Contents, nothing_of}
 use Rattle.xr_cert.specs.Checked.{line, number}
 use Rattle.xr_cert.specs.Walk.{IsFirstCertFault, no_memory}
 use Rattle.xr_cert.proofs.Going.{never}
@@ -18,7 +18,6 @@ pub returns-in-Ok-clause-refused : goal.returns-in-Ok-clause-refused
 returns-in-Ok-clause-refused c =
     IfErr-weaker c.walk.result (IsFirstCertFault c.args.cert.form c.in-Ok.wave c.into_vec.result.items) _
     (λ e fault. line (c.has_numbers.ensures.0 c.if-not-has_numbers.false)
-    (subst (λ es. IsFirstCertFault c.args.cert.form (nothing_written c.args.design.now c.args.order.now c.args.stim.now
-    c.args.replayed.now c.args.limits) es e) c.into_vec.ensures
+    (subst (λ es. IsFirstCertFault c.args.cert.form (nothing_of c.args.circuit c.args.replayed.now c.args.limits) es e) c.into_vec.ensures
     (subst (λ (a : Contents). IsFirstCertFault c.args.cert.form a c.into_vec.result.items e) c.in-Ok.ensures fault)))
     c.walk.ensures.stops

@@ -14,7 +14,7 @@ returns-in-Err-clause-err c =
 
 pub begin_turns-requires-clause-settled : goal.begin_turns-requires-clause-settled
 begin_turns-requires-clause-settled c =
-    settled_spent c.args.wave c.in-Ok.spent c.args.line c.circuit-circuit.ensures.wave
+    settled_spent c.args.wave c.in-Ok.spent c.args.line c.recall.ensures
     (c.has_turns-turned.ensures.0 c.if-turned.true).1
     c.in-Ok.ensures.ok
 
@@ -45,7 +45,7 @@ returns-else-turned-clause-ok c =
     (λ next. comes_unturned c.args.form c.args.wave c.in-Ok.spent c.args.conditions.items c.args.line next
     (unturned c.args.form (gives_bit c.args.line.body) c.has_turns-turned.result c.has_turns-turned.ensures.1
     c.if-turned.false)
-    c.circuit-circuit.ensures.wave c.requires.class c.in-Ok.ensures.ok)
+    c.recall.ensures c.requires.class c.in-Ok.ensures.ok)
     c.walk_on.ensures.ok
 
 pub returns-else-turned-clause-err : goal.returns-else-turned-clause-err
@@ -55,5 +55,5 @@ returns-else-turned-clause-err c =
     (λ e. ends_unturned c.args.form c.args.number c.args.wave c.in-Ok.spent c.args.conditions.items c.args.line e
     (unturned c.args.form (gives_bit c.args.line.body) c.has_turns-turned.result c.has_turns-turned.ensures.1
     c.if-turned.false)
-    c.circuit-circuit.ensures.wave c.requires.class c.in-Ok.ensures.ok)
+    c.recall.ensures c.requires.class c.in-Ok.ensures.ok)
     c.walk_on.ensures.err

@@ -14,7 +14,7 @@ returns-clause-ok c form start done stands =
     goes_between form start done c.args.wave _ c.args.conditions.items c.in_ok-next.ensures.ok.goes stands
 
 pub returns-clause-right : goal.returns-clause-right
-returns-clause-right c = right_on c.args.wave _ c.circuit-circuit.ensures.wave c.in_ok-next.ensures.ok.goes
+returns-clause-right c = right_on c.args.wave _ c.recall.ensures c.in_ok-next.ensures.ok.goes
 
 pub returns-in_err-next-clause-err : goal.returns-in_err-next-clause-err
 returns-in_err-next-clause-err c =

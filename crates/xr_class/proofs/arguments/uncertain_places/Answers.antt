@@ -9,7 +9,7 @@ use Rattle.xr_class.proofs.arguments.uncertain_places.Goals as goal
 pub uncertain_of-uncertain-requires-clause-certain : goal.uncertain_of-uncertain-requires-clause-certain
 uncertain_of-uncertain-requires-clause-certain g c =
     rw (c.as_slice.ensures.places, c.ruled_arguments-ruled.ensures) (arguments_have (job_in c.args.circuit.now)
-    c.requires.fits.fits_job (g.C.Source.reads c.args.certain.now) c.args.place (g.C.Source.has c.args.certain.now)
+    c.args.circuit.now.fits.fits_job (g.C.Source.reads c.args.certain.now) c.args.place (g.C.Source.has c.args.certain.now)
     c.requires.within c.requires.certain)
 
 pub ascending-requires-clause-small : goal.ascending-requires-clause-small
@@ -19,7 +19,7 @@ ascending-requires-clause-small g c =
       c.uncertain_of-uncertain.ensures,
       c.as_slice.ensures.places,
       c.ruled_arguments-ruled.ensures,
-    ) (unknowns_small (job_in c.args.circuit.now) c.requires.fits.fits_job
+    ) (unknowns_small (job_in c.args.circuit.now) c.args.circuit.now.fits.fits_job
     (g.C.Source.reads c.args.certain.now) c.args.place c.requires.within)
 
 pub returns : goal.returns
@@ -29,6 +29,6 @@ returns g c =
     let is : c.as_slice-2.result.now ≡ unknowns j certain c.args.place = c.as_slice-2.ensures.places
     ∙ c.uncertain_of-uncertain.ensures
     ∙ ap (filter (λ k. is_unknown (certain k))) (c.as_slice.ensures.places ∙ c.ruled_arguments-ruled.ensures) in
-    c.ascending.ensures c.args.place (rw is (unknowns_below j c.requires.fits.fits_job certain c.args.place
+    c.ascending.ensures c.args.place (rw is (unknowns_below j c.args.circuit.now.fits.fits_job certain c.args.place
     c.requires.within))
     ∙ ap (λ xs. places_where (among xs) c.args.place) is ∙ unknowns_are j certain c.args.place

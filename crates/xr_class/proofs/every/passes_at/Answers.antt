@@ -14,4 +14,4 @@ bit-requires g c =
     let place = c.args.place in
     let contains = subst (ReadsOnly j certain place) c.in-Copies.is c.requires.reads in
     c.requires.certain c.in-Copies.from (all_at (λ k. k < place) (arguments j certain place) c.in-Copies.from
-    (arguments_below j c.requires.fits.fits_job certain place c.requires.within) contains)
+    (arguments_below j c.args.circuit.now.fits.fits_job certain place c.requires.within) contains)

@@ -26,5 +26,5 @@ returns g c =
     → test_of j certain c.args.place c.args.test (assigned certain (masked c.args.uncertain.now m)) ≡ true =
     λ m less. c.numbers.invariant m
     (omega (arith, less, one_shl (length c.args.uncertain.now) 16 (omega (arith, few)))) in
-    sym (numbers_pass j c.requires.fits.fits_job certain c.args.place c.args.test c.requires.within c.requires.reads
+    sym (numbers_pass j c.args.circuit.now.fits.fits_job certain c.args.place c.args.test c.requires.within c.requires.reads
     c.args.uncertain.now c.requires.uncertain each)

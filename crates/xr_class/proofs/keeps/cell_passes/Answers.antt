@@ -14,7 +14,7 @@ pins_keep-requires-clause-nets g c = nets_standing (job_in c.args.circuit.now) c
     (net_pins c.args.pins.now) c.requires.spot c.requires.before
 
 pub pins_keep-requires-clause-small : goal.pins_keep-requires-clause-small
-pins_keep-requires-clause-small g c = step_room (job_in c.args.circuit.now) c.requires.fits.fits_job c.args.place
+pins_keep-requires-clause-small g c = step_room (job_in c.args.circuit.now) c.args.circuit.now.fits.fits_job c.args.place
     c.args.spot c.requires.spot
 
 pub returns-then-not-cell_chooses : goal.returns-then-not-cell_chooses
@@ -23,6 +23,6 @@ returns-then-not-cell_chooses g c =
     let certain = g.E.Source.reads c.args.earlier.now in
     cell_holds c.args.spot.step (nets_keep j certain c.args.spot.step (net_pins c.args.pins.now))
     (is_never_unknown j certain c.args.place) c.if-spot-eq0.false (sym c.pins_keep.ensures ∙ c.if-not-pins_keep.false)
-    (never_unknown j c.requires.fits.fits_job certain c.args.place c.args.table c.args.pins.now
+    (never_unknown j c.args.circuit.now.fits.fits_job certain c.args.place c.args.table c.args.pins.now
     c.requires.spot.place_within (ap j.driver (sym c.requires.spot.net) ∙ c.requires.is)
     (sym c.cell_chooses.ensures ∙ c.if-not-cell_chooses.true))

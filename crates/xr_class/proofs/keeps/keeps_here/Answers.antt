@@ -10,12 +10,12 @@ returns-then-are_equal g c =
     let j = job_in c.args.circuit.now in
     let certain = g.C.Source.reads c.args.certain.now in
     let here = c.args.here in
-    let back = before_back j c.requires.fits.fits_job c.args.place c.width_of-width.result c.requires.within
+    let back = before_back j c.args.circuit.now.fits.fits_job c.args.place c.width_of-width.result c.requires.within
     c.width_of-width.ensures c.if-place-width.true in
     let same = c.are_equal.ensures ∙ ap (are_equal here) (c.value.ensures ∙ ap certain back) in
     same ∙ either_true (are_equal here (certain (before j c.args.place))) c.args.carries (sym same
     ∙ c.if-are_equal.true)
-    ∙ keeps_later j c.requires.fits.fits_job c.args.place here (certain (before j c.args.place)) c.args.carries
+    ∙ keeps_later j c.args.circuit.now.fits.fits_job c.args.place here (certain (before j c.args.place)) c.args.carries
     c.requires.within (more_width j.width c.width_of-width.result c.args.place c.width_of-width.ensures
     c.if-place-width.true)
   where
@@ -28,11 +28,11 @@ returns-else-are_equal g c =
     let j = job_in c.args.circuit.now in
     let certain = g.C.Source.reads c.args.certain.now in
     let here = c.args.here in
-    let back = before_back j c.requires.fits.fits_job c.args.place c.width_of-width.result c.requires.within
+    let back = before_back j c.args.circuit.now.fits.fits_job c.args.place c.width_of-width.result c.requires.within
     c.width_of-width.ensures c.if-place-width.true in
     let same = c.are_equal.ensures ∙ ap (are_equal here) (c.value.ensures ∙ ap certain back) in
     or_else (are_equal here (certain (before j c.args.place))) c.args.carries (sym same ∙ c.if-are_equal.false)
-    ∙ keeps_later j c.requires.fits.fits_job c.args.place here (certain (before j c.args.place)) c.args.carries
+    ∙ keeps_later j c.args.circuit.now.fits.fits_job c.args.place here (certain (before j c.args.place)) c.args.carries
     c.requires.within (more_width j.width c.width_of-width.result c.args.place c.width_of-width.ensures
     c.if-place-width.true)
   where

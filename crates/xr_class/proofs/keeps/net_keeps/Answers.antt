@@ -12,4 +12,4 @@ returns g c =
     let here = at j c.args.step c.args.net in
     c.keeps.ensures ∙ ap (λ k. (g.E.Earlier.facts c.args.earlier.now k).keeps) c.number_at.ensures
     ∙ (c.requires.facts here c.requires.net.has_it).keeps
-    ∙ keeps_at j c.requires.fits.fits_job certain c.args.step c.args.net c.requires.net.within
+    ∙ keeps_at j c.args.circuit.now.fits.fits_job certain c.args.step c.args.net c.requires.net.within

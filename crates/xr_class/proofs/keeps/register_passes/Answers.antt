@@ -9,5 +9,5 @@ use Rattle.xr_class.proofs.keeps.register_passes.Goals as goal
 pub pins_keep-requires-clause-nets : goal.pins_keep-requires-clause-nets
 pins_keep-requires-clause-nets g c =
     let later : 0 < c.args.spot.step = grind (arith, common_steps) in
-    rw c.as_slice.ensures (nets_back (job_in c.args.circuit.now) c.requires.fits.fits_job c.args.place c.args.spot
+    rw c.as_slice.ensures (nets_back (job_in c.args.circuit.now) c.args.circuit.now.fits.fits_job c.args.place c.args.spot
     (net_pins c.args.latching.now.pins) c.requires.spot later c.requires.register.nets)

@@ -9,13 +9,13 @@ use Rattle.xr_class.proofs.moved.moved_cell.Goals as goal
 
 pub positions_known-requires : goal.positions_known-requires
 positions_known-requires g c =
-    cell_reach (job_in c.args.circuit.now) c.requires.fits.fits_job (g.E.Source.has c.args.earlier.now) c.args.place
+    cell_reach (job_in c.args.circuit.now) c.args.circuit.now.fits.fits_job (g.E.Source.has c.args.earlier.now) c.args.place
     c.args.position c.args.table c.args.pins.now c.requires.within c.requires.position c.requires.stands
     c.requires.certain
 
 pub values_there-values-requires-clause-reach : goal.values_there-values-requires-clause-reach
 values_there-values-requires-clause-reach g c =
-    cell_reach (job_in c.args.circuit.now) c.requires.fits.fits_job (g.E.Source.has c.args.earlier.now) c.args.place
+    cell_reach (job_in c.args.circuit.now) c.args.circuit.now.fits.fits_job (g.E.Source.has c.args.earlier.now) c.args.place
     c.args.position c.args.table c.args.pins.now c.requires.within c.requires.position c.requires.stands
     c.requires.certain
 
@@ -25,6 +25,6 @@ returns-then-positions_known g c =
     let certain = g.E.Source.reads c.args.earlier.now in
     c.plain_class.ensures ∙ ap plain_class (c.table_value.ensures
     ∙ ap (table_of j.udps c.args.table) c.values_there-values.ensures.values)
-    ∙ sym (cell_settled j c.requires.fits.fits_job certain c.args.place c.args.position c.args.table c.args.pins.now
+    ∙ sym (cell_settled j c.args.circuit.now.fits.fits_job certain c.args.place c.args.position c.args.table c.args.pins.now
     c.requires.within c.requires.position c.requires.stands
     (sym c.positions_known.ensures ∙ c.if-positions_known.true))

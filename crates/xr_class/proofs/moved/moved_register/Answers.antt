@@ -20,7 +20,7 @@ returns-in-Register g c =
     let certain = g.E.Source.reads c.args.earlier.now in
     let place = c.args.place in
     let latching = c.in-Register.latching in
-    let s = spot j c.requires.fits.fits_job place c.requires.within in
+    let s = spot j c.args.circuit.now.fits.fits_job place c.requires.within in
     let known : PlaceSeesKnown j certain place =
     subst (λ b. OnTrue b (PlaceSeesKnown j certain place)) c.if-not-sees_known.false c.sees_known.ensures.known in
     let more : j.width ≤ place =
@@ -28,7 +28,7 @@ returns-in-Register g c =
     let driver : j.driver (net_of j place) ≡ Register latching =
     ap j.driver (sym c.spot_of-spot.ensures.net) ∙ sym c.driver_at.ensures ∙ c.in-Register.is in
     let back : place - c.width_of.result ≡ before j place = ap (λ w. place - w) c.width_of.ensures
-    ∙ before_later j c.requires.fits.fits_job place c.requires.within more in
+    ∙ before_later j c.args.circuit.now.fits.fits_job place c.requires.within more in
     c.plain_class.ensures ∙ ap plain_class (c.remade_value.ensures
     ∙ ap (λ v. remade j certain v c.spot_of-spot.result.step latching) (c.value-kept.ensures ∙ ap certain back)
     ∙ ap (λ t. remade j certain (certain (before j place)) t latching) c.spot_of-spot.ensures.step)

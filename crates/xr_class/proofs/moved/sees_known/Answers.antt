@@ -13,18 +13,18 @@ told false holds = tt
 
 pub positions_known-requires : goal.positions_known-requires
 positions_known-requires g c =
-    pins_one_back (job_in c.args.circuit.now) c.requires.fits.fits_job (g.E.Source.has c.args.earlier.now) c.args.place
+    pins_one_back (job_in c.args.circuit.now) c.args.circuit.now.fits.fits_job (g.E.Source.has c.args.earlier.now) c.args.place
     c.args.position c.width_of-width.result c.args.pins.now c.requires.within c.requires.position c.requires.stands
-    c.width_of-width.ensures (steps_enough (job_in c.args.circuit.now) c.requires.fits.fits_job c.args.place
+    c.width_of-width.ensures (steps_enough (job_in c.args.circuit.now) c.args.circuit.now.fits.fits_job c.args.place
     c.args.position
     c.width_of-width.result c.requires.within c.requires.position c.width_of-width.ensures c.if-first-width.false)
     c.requires.certain
 
 pub positions_known-requires-then-positions_known : goal.positions_known-requires-then-positions_known
 positions_known-requires-then-positions_known g c =
-    pins_two_back (job_in c.args.circuit.now) c.requires.fits.fits_job (g.E.Source.has c.args.earlier.now) c.args.place
+    pins_two_back (job_in c.args.circuit.now) c.args.circuit.now.fits.fits_job (g.E.Source.has c.args.earlier.now) c.args.place
     c.args.position c.width_of-width.result c.args.pins.now c.requires.within c.requires.position c.requires.stands
-    c.width_of-width.ensures (steps_enough (job_in c.args.circuit.now) c.requires.fits.fits_job c.args.place
+    c.width_of-width.ensures (steps_enough (job_in c.args.circuit.now) c.args.circuit.now.fits.fits_job c.args.place
     c.args.position
     c.width_of-width.result c.requires.within c.requires.position c.width_of-width.ensures c.if-first-width.false)
     c.requires.certain
@@ -35,9 +35,9 @@ returns-then-positions_known-clause-known g c =
     let certain = g.E.Source.reads c.args.earlier.now in
     let known : IsKnown c.value.result = c.is_known.ensures.0 c.if-not-is_known.false in
     told c.positions_known-then-positions_known.result (λ is.
-    known_there j c.requires.fits.fits_job certain c.args.place c.args.position c.width_of-width.result c.args.pins.now
+    known_there j c.args.circuit.now.fits.fits_job certain c.args.place c.args.position c.width_of-width.result c.args.pins.now
     c.requires.within c.requires.position c.requires.stands c.width_of-width.ensures
-    (steps_enough j c.requires.fits.fits_job c.args.place c.args.position c.width_of-width.result c.requires.within
+    (steps_enough j c.args.circuit.now.fits.fits_job c.args.place c.args.position c.width_of-width.result c.requires.within
     c.requires.position c.width_of-width.ensures c.if-first-width.false)
     (sym (ap (λ v. not (is_unknown v)) c.value.ensures) ∙ known_bool c.value.result known)
     (sym c.positions_known.ensures ∙ c.if-positions_known.true)

@@ -8,12 +8,12 @@ use Rattle.xr_class.proofs.QuickClasses.{copied_from, copied_open}
 use Rattle.xr_class.proofs.quick.class_from.Goals as goal
 
 pub returns-in-Zero : goal.returns-in-Zero
-returns-in-Zero g c = sym (copied_from (job_in c.args.circuit.now) c.requires.fits.fits_job
+returns-in-Zero g c = sym (copied_from (job_in c.args.circuit.now) c.args.circuit.now.fits.fits_job
     (g.E.Source.reads c.args.earlier.now) (g.E.Earlier.facts c.args.earlier.now) c.args.place c.args.from Zero
     c.requires.copies c.requires.facts (sym c.in-Zero.is ∙ c.value.ensures))
 
 pub returns-in-One : goal.returns-in-One
-returns-in-One g c = sym (copied_from (job_in c.args.circuit.now) c.requires.fits.fits_job
+returns-in-One g c = sym (copied_from (job_in c.args.circuit.now) c.args.circuit.now.fits.fits_job
     (g.E.Source.reads c.args.earlier.now) (g.E.Earlier.facts c.args.earlier.now) c.args.place c.args.from One
     c.requires.copies c.requires.facts (sym c.in-One.is ∙ c.value.ensures))
 
@@ -21,7 +21,7 @@ pub returns-then-keeps : goal.returns-then-keeps
 returns-then-keeps g c =
     let j = job_in c.args.circuit.now in
     let facts = g.E.Earlier.facts c.args.earlier.now in
-    let says = copied_from j c.requires.fits.fits_job (g.E.Source.reads c.args.earlier.now) facts c.args.place
+    let says = copied_from j c.args.circuit.now.fits.fits_job (g.E.Source.reads c.args.earlier.now) facts c.args.place
     c.args.from c.value.result c.requires.copies c.requires.facts c.value.ensures
     ∙ copied_open c.value.result c.in_default.not-Zero c.in_default.not-One (facts c.args.from).keeps
     (before j c.args.place) c.args.from
@@ -33,7 +33,7 @@ pub returns-else-keeps : goal.returns-else-keeps
 returns-else-keeps g c =
     let j = job_in c.args.circuit.now in
     let facts = g.E.Earlier.facts c.args.earlier.now in
-    sym (copied_from j c.requires.fits.fits_job (g.E.Source.reads c.args.earlier.now) facts c.args.place
+    sym (copied_from j c.args.circuit.now.fits.fits_job (g.E.Source.reads c.args.earlier.now) facts c.args.place
     c.args.from c.value.result c.requires.copies c.requires.facts c.value.ensures
     ∙ copied_open c.value.result c.in_default.not-Zero c.in_default.not-One (facts c.args.from).keeps
     (before j c.args.place) c.args.from

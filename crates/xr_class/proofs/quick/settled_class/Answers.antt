@@ -7,5 +7,5 @@ use Rattle.xr_class.proofs.quick.settled_class.Goals as goal
 
 pub returns : goal.returns
 returns g c = c.plain_class.ensures ∙ ap plain_class c.rule_value.ensures
-    ∙ sym (settled_is (job_in c.args.circuit.now) c.requires.fits.fits_job (g.C.Source.reads c.args.certain.now)
+    ∙ sym (settled_is (job_in c.args.circuit.now) c.args.circuit.now.fits.fits_job (g.C.Source.reads c.args.certain.now)
     c.args.place c.requires.within c.requires.settled)

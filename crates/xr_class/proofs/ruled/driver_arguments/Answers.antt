@@ -5,11 +5,11 @@ use Rattle.xr_class.proofs.FewNets.{cell_few}
 use Rattle.xr_class.proofs.ruled.driver_arguments.Goals as goal
 
 pub one_place-requires-clause-small : goal.one_place-requires-clause-small
-one_place-requires-clause-small g c = step_room (job_in c.args.circuit.now) c.requires.fits.fits_job c.args.place
+one_place-requires-clause-small g c = step_room (job_in c.args.circuit.now) c.args.circuit.now.fits.fits_job c.args.place
     c.args.spot c.requires.spot
 
 pub pin_places-requires-clause-small : goal.pin_places-requires-clause-small
-pin_places-requires-clause-small g c = step_room (job_in c.args.circuit.now) c.requires.fits.fits_job c.args.place
+pin_places-requires-clause-small g c = step_room (job_in c.args.circuit.now) c.args.circuit.now.fits.fits_job c.args.place
     c.args.spot c.requires.spot
 
 pub pin_places-requires-clause-nets : goal.pin_places-requires-clause-nets

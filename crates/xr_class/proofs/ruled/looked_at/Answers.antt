@@ -14,7 +14,7 @@ old_arguments-arguments-requires-clause-few c =
 
 pub old_arguments-arguments-requires-clause-small : goal.old_arguments-arguments-requires-clause-small
 old_arguments-arguments-requires-clause-small c =
-    step_room (job_in c.args.circuit.now) c.requires.fits.fits_job c.args.place c.args.spot c.requires.spot
+    step_room (job_in c.args.circuit.now) c.args.circuit.now.fits.fits_job c.args.place c.args.spot c.requires.spot
 
 pub push_places-requires-clause-nets : goal.push_places-requires-clause-nets
 push_places-requires-clause-nets c = rw c.as_slice-pins.ensures c.requires.register.nets

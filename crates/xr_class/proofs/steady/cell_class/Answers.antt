@@ -14,14 +14,14 @@ use Rattle.xr_class.proofs.steady.cell_class.Goals as goal
 
 pub pins_keep-requires-clause-reach : goal.pins_keep-requires-clause-reach
 pins_keep-requires-clause-reach g c =
-    cell_reach (job_in c.args.circuit.now) c.requires.fits.fits_job (g.E.Source.has c.args.earlier.now) c.args.place
+    cell_reach (job_in c.args.circuit.now) c.args.circuit.now.fits.fits_job (g.E.Source.has c.args.earlier.now) c.args.place
     c.args.position c.args.table c.args.pins.now c.requires.within c.requires.position c.requires.stands
     c.requires.certain
 
 pub pins_keep-requires-clause-keep : goal.pins_keep-requires-clause-keep
 pins_keep-requires-clause-keep g c =
     OnTrue_from c.args.all_keep _ (λ on.
-    all_pins_keep (job_in c.args.circuit.now) c.requires.fits.fits_job (g.E.Earlier.facts c.args.earlier.now)
+    all_pins_keep (job_in c.args.circuit.now) c.args.circuit.now.fits.fits_job (g.E.Earlier.facts c.args.earlier.now)
     c.args.place
     c.args.position c.args.table c.args.pins.now c.requires.within c.requires.position c.requires.stands
     (OnTrue_at on c.requires.keep))
@@ -32,11 +32,11 @@ returns-then-is_plain g c =
     let certain = g.E.Source.reads c.args.earlier.now in
     let place = c.args.place in
     let more = more_width j.width c.width_of-width.result place c.width_of-width.ensures c.if-place-width.false in
-    let back = before_back j c.requires.fits.fits_job place c.width_of-width.result c.requires.within
+    let back = before_back j c.args.circuit.now.fits.fits_job place c.width_of-width.result c.requires.within
     c.width_of-width.ensures
     c.if-place-width.false in
     let all = c.requires.within in
-    let steady = cell_steady j c.requires.fits.fits_job certain (g.E.Earlier.facts c.args.earlier.now) place
+    let steady = cell_steady j c.args.circuit.now.fits.fits_job certain (g.E.Earlier.facts c.args.earlier.now) place
     c.args.position
     c.args.table c.args.pins.now c.requires.within c.requires.position c.requires.stands c.requires.facts
     c.requires.agrees
@@ -46,7 +46,7 @@ returns-then-is_plain g c =
     (c.requires.facts (before j place) less).plain (sym (c.is_plain.ensures
     ∙ ap (λ k. (g.E.Earlier.facts c.args.earlier.now k).plain) back) ∙ c.if-is_plain.true) in
     c.plain_class.ensures ∙ ap plain_class (c.value.ensures ∙ ap certain back)
-    ∙ steady_plain j c.requires.fits.fits_job certain place (before j place) (omega (arith, less, all)) steady.kinds
+    ∙ steady_plain j c.args.circuit.now.fits.fits_job certain place (before j place) (omega (arith, less, all)) steady.kinds
     (c.requires.agrees (before j place) less) plain
 
 pub returns-then-is_carried_on : goal.returns-then-is_carried_on
@@ -55,11 +55,11 @@ returns-then-is_carried_on g c =
     let certain = g.E.Source.reads c.args.earlier.now in
     let place = c.args.place in
     let more = more_width j.width c.width_of-width.result place c.width_of-width.ensures c.if-place-width.false in
-    let back = before_back j c.requires.fits.fits_job place c.width_of-width.result c.requires.within
+    let back = before_back j c.args.circuit.now.fits.fits_job place c.width_of-width.result c.requires.within
     c.width_of-width.ensures
     c.if-place-width.false in
     let all = c.requires.within in
-    let steady = cell_steady j c.requires.fits.fits_job certain (g.E.Earlier.facts c.args.earlier.now) place
+    let steady = cell_steady j c.args.circuit.now.fits.fits_job certain (g.E.Earlier.facts c.args.earlier.now) place
     c.args.position
     c.args.table c.args.pins.now c.requires.within c.requires.position c.requires.stands c.requires.facts
     c.requires.agrees
@@ -72,11 +72,11 @@ returns-then-is_carried_on g c =
     carried_open (class_of j certain (before j place)) (before j (before j place)) on in
     let here = cell_here j place c.args.table c.args.pins.now c.requires.stands in
     let known : is_never_unknown j certain place ≡ true = steady.kinds.never
-    ∙ carrying_known j c.requires.fits.fits_job certain (before j place) c.args.table here.own
-    (omega (arith, less, all)) (ap j.driver (net_back j c.requires.fits.fits_job place c.requires.within more)
+    ∙ carrying_known j c.args.circuit.now.fits.fits_job certain (before j place) c.args.table here.own
+    (omega (arith, less, all)) (ap j.driver (net_back j c.args.circuit.now.fits.fits_job place c.requires.within more)
     ∙ here.driver) on in
     ap (λ k. Carried k false) back
-    ∙ steady_open j c.requires.fits.fits_job certain place (before j place) (omega (arith, less, all)) steady.kinds
+    ∙ steady_open j c.args.circuit.now.fits.fits_job certain place (before j place) (omega (arith, less, all)) steady.kinds
     open_is
     (steady.passes known)
 
@@ -91,11 +91,11 @@ returns-then-is_passed_line g c =
     let facts = g.E.Earlier.facts c.args.earlier.now in
     let place = c.args.place in
     let more = more_width j.width c.width_of-width.result place c.width_of-width.ensures c.if-place-width.false in
-    let back = before_back j c.requires.fits.fits_job place c.width_of-width.result c.requires.within
+    let back = before_back j c.args.circuit.now.fits.fits_job place c.width_of-width.result c.requires.within
     c.width_of-width.ensures
     c.if-place-width.false in
     let all = c.requires.within in
-    let steady = cell_steady j c.requires.fits.fits_job certain facts place c.args.position
+    let steady = cell_steady j c.args.circuit.now.fits.fits_job certain facts place c.args.position
     c.args.table c.args.pins.now c.requires.within c.requires.position c.requires.stands c.requires.facts
     c.requires.agrees
     more (sym c.pins_keep.ensures ∙ c.if-not-pins_keep.false) in
@@ -106,9 +106,9 @@ returns-then-is_passed_line g c =
     let open_is : is_plain (class_of j certain (before j place)) ≡ false =
     line_is_open (class_of j certain (before j place)) ((c.requires.facts (before j place) less).line both.0) in
     let known : is_never_unknown j certain place ≡ true =
-    cell_known j c.requires.fits.fits_job certain place c.args.table c.args.pins.now c.requires.within c.requires.stands
+    cell_known j c.args.circuit.now.fits.fits_job certain place c.args.table c.args.pins.now c.requires.within c.requires.stands
     (never_chooses (cell_chooses c.args.table c.args.pins.now) both.1) in
     ap (λ k. Carried k false) back
-    ∙ steady_open j c.requires.fits.fits_job certain place (before j place) (omega (arith, less, all)) steady.kinds
+    ∙ steady_open j c.args.circuit.now.fits.fits_job certain place (before j place) (omega (arith, less, all)) steady.kinds
     open_is
     (steady.passes known)

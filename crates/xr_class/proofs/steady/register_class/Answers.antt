@@ -22,9 +22,9 @@ returns-then-is_plain g c =
     let more : j.width ≤ place =
     subst (λ b. OnTrue b (j.width ≤ place)) c.if-not-sees_the_same.false c.sees_the_same.ensures.later in
     let back : place - c.width_of.result ≡ before j place = ap (λ w. place - w) c.width_of.ensures
-    ∙ before_later j c.requires.fits.fits_job place c.requires.within more in
+    ∙ before_later j c.args.circuit.now.fits.fits_job place c.requires.within more in
     let all = c.requires.within in
-    let seen = register_seen j c.requires.fits.fits_job certain place c.args.pins.now c.requires.within
+    let seen = register_seen j c.args.circuit.now.fits.fits_job certain place c.args.pins.now c.requires.within
     c.requires.stands
     c.requires.agrees same in
     let less = seen.less in
@@ -32,7 +32,7 @@ returns-then-is_plain g c =
     (c.requires.facts (before j place) less).plain (sym (c.is_plain.ensures
     ∙ ap (λ k. (g.E.Earlier.facts c.args.earlier.now k).plain) back) ∙ c.if-is_plain.true) in
     c.plain_class.ensures ∙ ap plain_class (c.value.ensures ∙ ap certain back)
-    ∙ steady_plain j c.requires.fits.fits_job certain place (before j place) (omega (arith, less, all)) seen.kinds
+    ∙ steady_plain j c.args.circuit.now.fits.fits_job certain place (before j place) (omega (arith, less, all)) seen.kinds
     (c.requires.agrees (before j place) less) plain
 
 pub returns-then-is_open : goal.returns-then-is_open
@@ -46,9 +46,9 @@ returns-then-is_open g c =
     let more : j.width ≤ place =
     subst (λ b. OnTrue b (j.width ≤ place)) c.if-not-sees_the_same.false c.sees_the_same.ensures.later in
     let back : place - c.width_of.result ≡ before j place = ap (λ w. place - w) c.width_of.ensures
-    ∙ before_later j c.requires.fits.fits_job place c.requires.within more in
+    ∙ before_later j c.args.circuit.now.fits.fits_job place c.requires.within more in
     let all = c.requires.within in
-    let seen = register_seen j c.requires.fits.fits_job certain place c.args.pins.now c.requires.within
+    let seen = register_seen j c.args.circuit.now.fits.fits_job certain place c.args.pins.now c.requires.within
     c.requires.stands
     c.requires.agrees same in
     let less = seen.less in
@@ -57,6 +57,6 @@ returns-then-is_open g c =
     (c.requires.facts (before j place) less) (sym (c.is_open.ensures
     ∙ ap (λ k. is_open (g.E.Earlier.facts c.args.earlier.now k)) back) ∙ c.if-is_open.true) in
     ap (λ k. Carried k false) back
-    ∙ steady_open j c.requires.fits.fits_job certain place (before j place) (omega (arith, less, all)) seen.kinds
+    ∙ steady_open j c.args.circuit.now.fits.fits_job certain place (before j place) (omega (arith, less, all)) seen.kinds
     open_is
     (seen.passes open_is)

@@ -12,4 +12,4 @@ value-requires g c =
     let certain = g.C.Source.reads c.args.certain.now in
     let place = c.args.place in
     c.requires.certain c.args.from (all_at (λ k. k < place) (arguments j certain place) c.args.from
-    (arguments_below j c.requires.fits.fits_job certain place c.requires.within) c.requires.from)
+    (arguments_below j c.args.circuit.now.fits.fits_job certain place c.requires.within) c.requires.from)

@@ -4,8 +4,8 @@ use Rattle.xr_phases.proofs.Jobs.{circuit_fits}
 use Rattle.xr_cli.proofs.Walk.{replay_found}
 use Rattle.xr_cli.proofs.replayed.replayed.Goals as goal
 
-pub replay-requires-clause-fits : goal.replay-requires-clause-fits
-replay-requires-clause-fits c = circuit_fits c.args.job.now.netlist c.args.job.now.recorded c.requires.fits
+pub invariant_of-circuit : goal.invariant_of-circuit
+invariant_of-circuit c = record { fits = circuit_fits c.args.job.now.netlist c.args.job.now.recorded c.requires.fits }
 
 pub returns : goal.returns
 returns c = replay_found (replay_values c.args.words.now) c.args.job.now c.args.forces.now c.in_ok-history.history

@@ -9,7 +9,7 @@ pub finish-requires-clause-limit : goal.finish-requires-clause-limit
 finish-requires-clause-limit c = c.requires.limit ∙ sym c.in_ok-condition.ensures.limit
 
 pub finish-requires-clause-some : goal.finish-requires-clause-some
-finish-requires-clause-some c = subst (λ n. 0 < n) (sym c.requires.limit) c.circuit-circuit.ensures.wave.limited.some
+finish-requires-clause-some c = subst (λ n. 0 < n) (sym c.requires.limit) c.recall.ensures.limited.some
 
 pub returns-clause-condition : goal.returns-clause-condition
 returns-clause-condition c = IfOk-weaker c.finish.result (IsFinishedFrom c.in_ok-condition.condition)

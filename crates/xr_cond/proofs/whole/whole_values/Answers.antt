@@ -9,6 +9,6 @@ pub returns : goal.returns
 returns c =
     let end : c.numbers.number ≡ 2 ^ c.args.count = search rules in
     whole_all c.args.wave.now (number_of (job c.args.wave.now) c.args.place) c.numbers.number c.numbers.values.items
-    c.circuit-circuit.ensures.wave
-    (number_within (job c.args.wave.now) c.circuit-circuit.ensures.wave.fits.fits_job c.args.place c.requires.reached.within)
+    c.recall.ensures
+    (number_within (job c.args.wave.now) c.recall.ensures.fits.fits_job c.args.place c.requires.reached.within)
     (end ∙ ap (λ n. 2 ^ n) c.requires.count) c.numbers.invariant

@@ -14,7 +14,7 @@ pub places-init : goal.places-init
 places-init c =
     let j = job c.args.wave.now in
     let known = certain c.args.wave.now.written in
-    let fits : Fits j = subst Fits c.circuit-circuit.ensures.job c.circuit-circuit.ensures.fits.fits_job in
+    let fits : Fits j = c.recall.ensures.fits.fits_job in
     record {
       descent = subst (λ (ps : List ℕ). IsDescent j known c.args.root ps c.insert.new.self) (sym c.new-traced.ensures.items)
           (descent_begins j fits known c.args.root c.insert.new.self c.requires.reach.within
@@ -25,7 +25,7 @@ places-init c =
 pub find-requires-clause-reach : goal.find-requires-clause-reach
 find-requires-clause-reach c =
     let j = job c.args.wave.now in
-    let fits : Fits j = subst Fits c.circuit-circuit.ensures.job c.circuit-circuit.ensures.fits.fits_job in
+    let fits : Fits j = c.recall.ensures.fits.fits_job in
     let low = descent_within j fits (certain c.args.wave.now.written) c.args.root c.in-Some.place c.places.traced.items
     c.places.reached c.take_greatest.new.self c.requires.reach.within c.places.invariant.descent c.in-Some.ensures in
     let up = low.0 in
@@ -36,7 +36,7 @@ find-requires-clause-reach c =
 pub places-smaller : goal.places-smaller
 places-smaller c =
     let j = job c.args.wave.now in
-    let fits : Fits j = subst Fits c.circuit-circuit.ensures.job c.circuit-circuit.ensures.fits.fits_job in
+    let fits : Fits j = c.recall.ensures.fits.fits_job in
     let low = descent_within j fits (certain c.args.wave.now.written) c.args.root c.in-Some.place c.places.traced.items
     c.places.reached c.take_greatest.new.self c.requires.reach.within c.places.invariant.descent c.in-Some.ensures in
     let room = low.1 in
@@ -50,7 +50,7 @@ places-preserved c =
     let place : ℕ = c.in-Some.place in
     let left : List ℕ = c.take_greatest.new.self in
     let more : List ℕ = c.insert_supports.new.reached in
-    let fits : Fits j = subst Fits c.circuit-circuit.ensures.job c.circuit-circuit.ensures.fits.fits_job in
+    let fits : Fits j = c.recall.ensures.fits.fits_job in
     let body = known_body c.args.wave.now c.find.new.self place (λ body. AddsAll left (supports_in body) more)
     c.in_ok-find.ensures.right c.in_ok-find.ensures.known c.in_ok-insert_supports.ensures in
     let adds = subst (λ (xs : List ℕ). AddsAll left xs more) (supports_are j known place body.0 body.1.0) body.1.1 in
@@ -64,6 +64,6 @@ places-preserved c =
 pub returns-clause-traced : goal.returns-clause-traced
 returns-clause-traced c =
     let j = job c.args.wave.now in
-    let fits : Fits j = subst Fits c.circuit-circuit.ensures.job c.circuit-circuit.ensures.fits.fits_job in
+    let fits : Fits j = c.recall.ensures.fits.fits_job in
     descent_ends j fits (certain c.args.wave.now.written) c.args.root _ c.places.reached c.requires.reach.within
     c.places.invariant.descent c.in_default.ensures

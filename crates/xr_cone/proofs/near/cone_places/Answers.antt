@@ -9,11 +9,13 @@ use Rattle.xr_cone.specs.Boundary.{AreInside, IsPlaceIn, number_in}
 use Rattle.xr_cone.proofs.BoundaryPlaces.{nodes_placed, numbers_are}
 use Rattle.xr_cone.proofs.near.cone_places.Goals as goal
 
-pub numbers_of-requires-clause-places : goal.numbers_of-requires-clause-places
-numbers_of-requires-clause-places c =
-    subst (λ (k : Job). AllByRecursion (IsPlaceIn k) c.nodes.result.now) (sym c.circuit.ensures.job)
-    (subst (AllByRecursion (IsPlaceIn (job c.args.wave.now))) (sym c.nodes.ensures.nodes)
-    (nodes_placed c.args.wave.now c.requires.root c.args.cone.now.nodes c.requires.is))
+pub numbers_of-requires : goal.numbers_of-requires
+numbers_of-requires c = record {
+  places =
+      subst (λ (k : Job). AllByRecursion (IsPlaceIn k) c.nodes.result.now) (sym c.circuit.ensures.job)
+      (subst (AllByRecursion (IsPlaceIn (job c.args.wave.now))) (sym c.nodes.ensures.nodes)
+      (nodes_placed c.args.wave.now c.requires.root c.args.cone.now.nodes c.requires.is));
+}
 
 pub returns : goal.returns
 returns c = IfOk-weaker c.numbers_of.result

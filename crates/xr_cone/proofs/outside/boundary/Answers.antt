@@ -9,10 +9,12 @@ use Rattle.xr_cone.specs.Boundary.{IsBoundary}
 use Rattle.xr_cone.proofs.BoundaryPlaces.{boundary_of}
 use Rattle.xr_cone.proofs.outside.boundary.Goals as goal
 
-pub places_back-requires-clause-within : goal.places_back-requires-clause-within
-places_back-requires-clause-within c =
-    subst (λ (j : Job). AllByRecursion (λ k. k < places_of j) c.in_ok-falling.falling.items) (sym c.circuit.ensures.job)
-    c.in_ok-falling.ensures.within
+pub places_back-requires : goal.places_back-requires
+places_back-requires c = record {
+  within =
+      subst (λ (j : Job). AllByRecursion (λ k. k < places_of j) c.in_ok-falling.falling.items) (sym c.circuit.ensures.job)
+      c.in_ok-falling.ensures.within;
+}
 
 pub returns : goal.returns
 returns c = IfOk-weaker c.places_back.result

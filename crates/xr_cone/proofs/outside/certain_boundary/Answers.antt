@@ -15,14 +15,16 @@ certain_of-requires c =
     subst (AllByRecursion (λ k. k < length c.args.wave.now.written)) (sym c.as_slice.ensures.value)
     c.in_ok-falling.ensures.written
 
-pub places_back-requires-clause-within : goal.places_back-requires-clause-within
-places_back-requires-clause-within c =
-    let w = c.args.wave.now in
-    let some = c.in_ok-certain.ensures ∙ ap (filter (is_certain_in w)) c.as_slice.ensures.value in
-    subst (λ (j : Job). AllByRecursion (λ k. k < places_of j) c.in_ok-certain.certain.items) (sym c.circuit.ensures.job)
-    (subst (AllByRecursion (λ k. k < places_of (job w))) (sym some)
-    (all_filter (λ k. k < places_of (job w)) (is_certain_in w) c.in_ok-falling.falling.items
-    c.in_ok-falling.ensures.within))
+pub places_back-requires : goal.places_back-requires
+places_back-requires c = record {
+  within =
+      let w = c.args.wave.now in
+      let some = c.in_ok-certain.ensures ∙ ap (filter (is_certain_in w)) c.as_slice.ensures.value in
+      subst (λ (j : Job). AllByRecursion (λ k. k < places_of j) c.in_ok-certain.certain.items) (sym c.circuit.ensures.job)
+      (subst (AllByRecursion (λ k. k < places_of (job w))) (sym some)
+      (all_filter (λ k. k < places_of (job w)) (is_certain_in w) c.in_ok-falling.falling.items
+      c.in_ok-falling.ensures.within));
+}
 
 pub returns : goal.returns
 returns c =

@@ -15,11 +15,13 @@ use Rattle.xr_rests.specs.InWave.{IsInReach}
 use Rattle.xr_cone.proofs.BoundaryPlaces.{as_many, cone_rising, falling, nodes_placed, nodes_read, numbers_are, position_reach}
 use Rattle.xr_cone.proofs.outside.falling_boundary.Goals as goal
 
-pub numbers_of-requires-clause-places : goal.numbers_of-requires-clause-places
-numbers_of-requires-clause-places c =
-    subst (λ (k : Job). AllByRecursion (IsPlaceIn k) c.nodes-nodes.result.now) (sym c.circuit-circuit.ensures.job)
-    (subst (AllByRecursion (IsPlaceIn (job c.args.wave.now))) (sym c.nodes-nodes.ensures.nodes)
-    (nodes_placed c.args.wave.now c.requires.root c.args.cone.now.nodes c.requires.is))
+pub numbers_of-requires : goal.numbers_of-requires
+numbers_of-requires c = record {
+  places =
+      subst (λ (k : Job). AllByRecursion (IsPlaceIn k) c.nodes-nodes.result.now) (sym c.circuit-circuit.ensures.job)
+      (subst (AllByRecursion (IsPlaceIn (job c.args.wave.now))) (sym c.nodes-nodes.ensures.nodes)
+      (nodes_placed c.args.wave.now c.requires.root c.args.cone.now.nodes c.requires.is));
+}
 
 pub add_read-requires-clause-reach : goal.add_read-requires-clause-reach
 add_read-requires-clause-reach c =

@@ -53,7 +53,7 @@ pub place_body-requires-clause-all : goal.place_body-requires-clause-all
 place_body-requires-clause-all c =
     let j = job c.args.wave.now in
     let known = certain c.args.wave.now.written in
-    let fits : Fits j = subst Fits c.circuit-circuit.ensures.job c.circuit-circuit.ensures.fits.fits_job in
+    let fits : Fits j = subst Fits c.circuit-circuit.ensures.job c.circuit-circuit.result.fits.fits_job in
     let next = made_next j known c.args.root c.rest.places.items c.rest.rest.items c.pop.new.self.items c.in-Some.place
     c.rest.nodes.items c.rest.invariant.made c.in-Some.ensures.items in
     rw c.as_slice.ensures.value (if_known c.args.wave.now c.find.new.self c.in-Some.place
@@ -61,21 +61,23 @@ place_body-requires-clause-all c =
     (λ body is. next_supports j fits known c.args.root c.rest.places.items c.in-Some.place c.pop.new.self.items body
     c.requires.reach.within next is))
 
-pub place_of-requires-clause-within : goal.place_of-requires-clause-within
-place_of-requires-clause-within c =
-    let j = job c.args.wave.now in
-    let known = certain c.args.wave.now.written in
-    let next = made_next j known c.args.root c.rest.places.items c.rest.rest.items c.pop.new.self.items c.in-Some.place
-    c.rest.nodes.items c.rest.invariant.made c.in-Some.ensures.items in
-    subst (λ (k : Job). c.in-Some.place < places_of k) (sym c.circuit-circuit.ensures.job)
-    (next_within j known c.args.root c.rest.places.items c.in-Some.place c.pop.new.self.items c.requires.reach.within next)
+pub place_of-requires : goal.place_of-requires
+place_of-requires c = record {
+  within =
+      let j = job c.args.wave.now in
+      let known = certain c.args.wave.now.written in
+      let next = made_next j known c.args.root c.rest.places.items c.rest.rest.items c.pop.new.self.items c.in-Some.place
+      c.rest.nodes.items c.rest.invariant.made c.in-Some.ensures.items in
+      subst (λ (k : Job). c.in-Some.place < places_of k) (sym c.circuit-circuit.ensures.job)
+      (next_within j known c.args.root c.rest.places.items c.in-Some.place c.pop.new.self.items c.requires.reach.within next);
+}
 
 pub rest-preserved : goal.rest-preserved
 rest-preserved c =
     let j = job c.args.wave.now in
     let known = certain c.args.wave.now.written in
     let places = c.rest.places.items in
-    let fits : Fits j = subst Fits c.circuit-circuit.ensures.job c.circuit-circuit.ensures.fits.fits_job in
+    let fits : Fits j = subst Fits c.circuit-circuit.ensures.job c.circuit-circuit.result.fits.fits_job in
     let next = made_next j known c.args.root places c.rest.rest.items c.pop.new.self.items c.in-Some.place
     c.rest.nodes.items c.rest.invariant.made c.in-Some.ensures.items in
     let body = known_body c.args.wave.now c.find.new.self c.in-Some.place (λ body. IsPlaced places body c.in_ok-body.body)

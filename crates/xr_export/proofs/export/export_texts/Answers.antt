@@ -13,5 +13,5 @@ invariant_of-result c =
     let added = c.in_ok-put_lines.ensures in
     let is = added.is ∙ ap (λ (l : List File). l ++ added.own) c.in_ok-put_certificate.ensures in
     record {
-      apart = subst AreApart (sym is) (files_apart wave c.args.prefix.now (cert_text (cert_of wave)) added.own (few_lines wave c.circuit-circuit.ensures.wave) added.are);
+      apart = subst AreApart (sym is) (files_apart wave c.args.prefix.now (cert_text (cert_of wave)) added.own (few_lines wave c.recall.ensures) added.are);
     }

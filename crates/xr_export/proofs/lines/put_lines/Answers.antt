@@ -16,7 +16,7 @@ put_line-requires-clause-line c =
     let here : i < length c.lines-lines.result.now = search rules in
     let within = subst (λ (ls : List ALine). i < length ls) same here in
     subst (λ (l : ALine). IsLineIn wave l.place) (sym (c.index-lines-place.is ∙ ap (λ (ls : List ALine). get_or ls i line) same))
-    (line_in wave c.circuit-circuit.ensures.wave i line within)
+    (line_in wave c.recall.ensures i line within)
 
 pub lines-preserved : goal.lines-preserved
 lines-preserved c =

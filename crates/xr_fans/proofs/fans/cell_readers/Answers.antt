@@ -21,7 +21,7 @@ positions-preserved c =
 pub new-requires-clause-few : goal.new-requires-clause-few
 new-requires-clause-few c =
     let j = job_in c.args.circuit.now in
-    let fits = c.requires.fits_job in
+    let fits = c.args.circuit.now.fits.fits_job in
     let test = c.positions-test.false in
     let last = c.positions.auto.position-end in
     let count = c.width_of-nets.ensures in
@@ -38,7 +38,7 @@ new-requires-clause-few c =
 pub new-requires-clause-within : goal.new-requires-clause-within
 new-requires-clause-within c =
     let j = job_in c.args.circuit.now in
-    let fits = c.requires.fits_job in
+    let fits = c.args.circuit.now.fits.fits_job in
     let test = c.positions-test.false in
     let last = c.positions.auto.position-end in
     let count = c.width_of-nets.ensures in

@@ -33,13 +33,13 @@ pub add_bit-requires-clause-first : goal.add_bit-requires-clause-first
 add_bit-requires-clause-first c =
     let before = c.args.before.now in
     let is : IsBitOf before.design (length before.stim.times) c.in-Some.bit = search rules in
-    bit_there before c.count-count.ensures.wave c.requires.waves.finished c.in-Some.bit is
+    bit_there before c.recall.ensures c.requires.waves.finished c.in-Some.bit is
 
 pub add_bit-requires-clause-second : goal.add_bit-requires-clause-second
 add_bit-requires-clause-second c =
     let before = c.args.before.now in
     let is : IsBitOf before.design (length before.stim.times) c.in-Some.bit = search rules in
-    bit_beside before c.args.after.now c.count-other.ensures.wave c.requires.waves c.in-Some.bit is
+    bit_beside before c.args.after.now c.recall-2.ensures c.requires.waves c.in-Some.bit is
 
 pub bits-preserved : goal.bits-preserved
 bits-preserved c =
@@ -58,5 +58,5 @@ bits-preserved c =
 pub returns-clause-kept : goal.returns-clause-kept
 returns-clause-kept c = λ chooses.
     (let lost : c.bits.fixed.lost.items ≡ lost_items c.args.before.now c.args.after.now c.args.bound.now = search rules in
-    lost ∙ nothing_lost c.args.before.now c.args.after.now c.count-count.ensures.wave c.count-other.ensures.wave c.requires.waves
+    lost ∙ nothing_lost c.args.before.now c.args.after.now c.recall.ensures c.recall-2.ensures c.requires.waves
     chooses c.args.bound.now c.requires.binding)

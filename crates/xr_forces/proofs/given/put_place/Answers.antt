@@ -26,7 +26,7 @@ returns g c =
     let long = c.requires.made.row.long in
     let within : spot.position < length c.args.row.now = omega (arith, low, long) in
     let was = slice_index_or c.args.row.now spot.position Zero in
-    on_ok_weaker c.push_change.result (λ pushed. forces_more j c.requires.fits.fits_job values c.args.place spot c.args.row.now c.args.events.now.items c.push_change.new.events.items was c.driven_value-given.result c.force_before-before.result c.needed.result c.spot_of-spot.ensures c.requires.made (any_default c.args.row.now spot.position Zero X within)
+    on_ok_weaker c.push_change.result (λ pushed. forces_more j c.args.circuit.now.fits.fits_job values c.args.place spot c.args.row.now c.args.events.now.items c.push_change.new.events.items was c.driven_value-given.result c.force_before-before.result c.needed.result c.spot_of-spot.ensures c.requires.made (any_default c.args.row.now spot.position Zero X within)
     (c.driven_value-given.ensures ∙ ap (λ d. driven j (seen values was) spot.step spot.net d) c.driver_at-driver.ensures)
     c.force_before-before.ensures
     (c.needed.ensures ∙ ap (needed c.driven_value-given.result) c.value.ensures)

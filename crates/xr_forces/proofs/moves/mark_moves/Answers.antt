@@ -48,7 +48,7 @@ mark_place-requires-clause-position g c =
 pub mark_place-requires-clause-due : goal.mark_place-requires-clause-due
 mark_place-requires-clause-due g c =
     let j = job_in c.args.circuit.now in
-    let fits = c.requires.fits.fits_job in
+    let fits = c.args.circuit.now.fits.fits_job in
     let values = g.S.Source.reads c.args.values.now in
     let moves = c.moves_at-moves.result.now in
     let i = c.moves.anew-index in
@@ -64,7 +64,7 @@ mark_place-requires-clause-due g c =
 pub mark_place-requires-clause-ahead : goal.mark_place-requires-clause-ahead
 mark_place-requires-clause-ahead g c =
     let j = job_in c.args.circuit.now in
-    let fits = c.requires.fits.fits_job in
+    let fits = c.args.circuit.now.fits.fits_job in
     let values = g.S.Source.reads c.args.values.now in
     let moves = c.moves_at-moves.result.now in
     let i = c.moves.anew-index in
@@ -90,7 +90,7 @@ moves-init g c =
 pub moves-preserved : goal.moves-preserved
 moves-preserved g c =
     let j = job_in c.args.circuit.now in
-    let fits = c.requires.fits.fits_job in
+    let fits = c.args.circuit.now.fits.fits_job in
     let values = g.S.Source.reads c.args.values.now in
     let moves = c.moves_at-moves.result.now in
     let i = c.moves.anew-index in
@@ -114,7 +114,7 @@ moves-preserved g c =
 pub returns-clause-due : goal.returns-clause-due
 returns-clause-due g c =
     let j = job_in c.args.circuit.now in
-    let fits = c.requires.fits.fits_job in
+    let fits = c.args.circuit.now.fits.fits_job in
     let values = g.S.Source.reads c.args.values.now in
     let moves = c.moves_at-moves.result.now in
     let are = subst (λ (j' : Job). AreMoves j' values c.args.step moves) c.requires.job c.moves_at-moves.ensures in
@@ -126,7 +126,7 @@ returns-clause-due g c =
 pub returns-clause-ahead : goal.returns-clause-ahead
 returns-clause-ahead g c =
     let j = job_in c.args.circuit.now in
-    let fits = c.requires.fits.fits_job in
+    let fits = c.args.circuit.now.fits.fits_job in
     let values = g.S.Source.reads c.args.values.now in
     let moves = c.moves_at-moves.result.now in
     let are = subst (λ (j' : Job). AreMoves j' values c.args.step moves) c.requires.job c.moves_at-moves.ensures in

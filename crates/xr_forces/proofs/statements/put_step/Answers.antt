@@ -6,7 +6,7 @@ use Rattle.xr_forces.proofs.statements.put_step.Goals as goal
 
 pub put_due-requires-clause-rest : goal.put_due-requires-clause-rest
 put_due-requires-clause-rest c =
-    marked_rest (job_in c.args.circuit.now) c.requires.fits.fits_job c.args.statements.now c.args.step c.args.from c.args.to c.mark_events.new.due c.mark_events.ensures.events c.requires.rest
+    marked_rest (job_in c.args.circuit.now) c.args.circuit.now.fits.fits_job c.args.statements.now c.args.step c.args.from c.args.to c.mark_events.new.due c.mark_events.ensures.events c.requires.rest
 
 pub returns-else-from-to : goal.returns-else-from-to
 returns-else-from-to c =

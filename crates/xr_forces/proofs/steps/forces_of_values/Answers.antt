@@ -23,4 +23,4 @@ pub returns : goal.returns
 returns g c =
     let j = job_in c.args.circuit.now in
     let values = g.S.Source.reads c.args.values.now in
-    forces_all j c.requires.fits.fits_job values (places_of j) c.put_steps.new.row c.put_steps.new.events.items c.from_vec.result refl c.in_ok-put_steps.ensures c.from_vec.ensures
+    forces_all j c.args.circuit.now.fits.fits_job values (places_of j) c.put_steps.new.row c.put_steps.new.events.items c.from_vec.result refl c.in_ok-put_steps.ensures c.from_vec.ensures

@@ -6,14 +6,14 @@ use Rattle.xr_lane_nodes.proofs.node.rule_roots.Goals as goal
 pub roots_at-requires-clause-covered : goal.roots_at-requires-clause-covered
 roots_at-requires-clause-covered c =
     covered_arguments c.args.wave.now c.args.covered c.args.place c.args.arguments.now c.args.values.now
-    c.circuit-circuit.ensures.wave c.requires.reach c.requires.rule c.requires.covered
+    c.recall.ensures c.requires.reach c.requires.rule c.requires.covered
 
 pub roots_at-requires-clause-own : goal.roots_at-requires-clause-own
 roots_at-requires-clause-own c =
     own_arguments c.args.wave.now c.args.covered c.args.place c.args.arguments.now c.args.values.now
-    c.circuit-circuit.ensures.wave c.requires.reach c.requires.rule c.requires.covered
+    c.recall.ensures c.requires.reach c.requires.rule c.requires.covered
 
 pub returns : goal.returns
 returns c =
     are_roots c.args.wave.now c.args.covered c.args.place c.args.arguments.now c.args.values.now c.in_ok-roots.roots.items
-    c.circuit-circuit.ensures.wave c.requires.reach c.requires.rule c.requires.covered c.requires.before c.in_ok-roots.ensures
+    c.recall.ensures c.requires.reach c.requires.rule c.requires.covered c.requires.before c.in_ok-roots.ensures

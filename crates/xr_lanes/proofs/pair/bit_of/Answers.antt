@@ -7,11 +7,13 @@ use Rattle.xr_lanes.specs.Pairs.{ListsJust}
 use Rattle.xr_lanes.proofs.LanePairs.{bit_in_world, listed_are, sources_low}
 use Rattle.xr_lanes.proofs.pair.bit_of.Goals as goal
 
-pub lane_that_lists-requires-clause-within : goal.lane_that_lists-requires-clause-within
-lane_that_lists-requires-clause-within c =
-    subst (λ (j : Job). AllByRecursion (λ k. k < places_of j) c.in-Some.list.now) (sym c.circuit.ensures.job)
-    (sources_low c.args.wave.now _ c.in-Some.list.now c.requires.within
-    (listed_are c.args.wave.now c.args.nodes.now c.args.node c.in-Some.list.now c.requires c.in-Some.ensures))
+pub lane_that_lists-requires : goal.lane_that_lists-requires
+lane_that_lists-requires c = record {
+  within =
+      subst (λ (j : Job). AllByRecursion (λ k. k < places_of j) c.in-Some.list.now) (sym c.circuit.ensures.job)
+      (sources_low c.args.wave.now _ c.in-Some.list.now c.requires.within
+      (listed_are c.args.wave.now c.args.nodes.now c.args.node c.in-Some.list.now c.requires c.in-Some.ensures));
+}
 
 pub returns-in-Some-2 : goal.returns-in-Some-2
 returns-in-Some-2 c =

@@ -5,10 +5,12 @@ use Rattle.xr_design.specs.Job.{Job, places_of}
 use Rattle.xr_lanes.proofs.LanePairs.{pair_down, pair_up, sources_low}
 use Rattle.xr_lanes.proofs.pair.pair_over.Goals as goal
 
-pub sparse_lane-requires-clause-within : goal.sparse_lane-requires-clause-within
-sparse_lane-requires-clause-within c =
-    subst (λ (j : Job). AllByRecursion (λ k. k < places_of j) c.args.list.now) (sym c.circuit-circuit.ensures.job)
-    (sources_low c.args.wave.now _ c.args.list.now c.requires.within c.requires.sources)
+pub sparse_lane-requires : goal.sparse_lane-requires
+sparse_lane-requires c = record {
+  within =
+      subst (λ (j : Job). AllByRecursion (λ k. k < places_of j) c.args.list.now) (sym c.circuit-circuit.ensures.job)
+      (sources_low c.args.wave.now _ c.args.list.now c.requires.within c.requires.sources);
+}
 
 pub ones-requires-clause-within : goal.ones-requires-clause-within
 ones-requires-clause-within c =

@@ -4,8 +4,8 @@ use Rattle.xr_phases.proofs.CheckedPlaces.{certified_by, missing_at, objected_at
 use Rattle.xr_phases.proofs.Jobs.{circuit_fits}
 use Rattle.xr_phases.proofs.certified.certified_wave.Goals as goal
 
-pub check_cert-requires-clause-fits : goal.check_cert-requires-clause-fits
-check_cert-requires-clause-fits c = circuit_fits c.args.job.now.netlist c.args.job.now.recorded c.requires.fits
+pub invariant_of-circuit : goal.invariant_of-circuit
+invariant_of-circuit c = record { fits = circuit_fits c.args.job.now.netlist c.args.job.now.recorded c.requires.fits }
 
 pub objection_of-requires-clause-fits : goal.objection_of-requires-clause-fits
 objection_of-requires-clause-fits c = circuit_fits c.args.job.now.netlist c.args.job.now.recorded c.requires.fits

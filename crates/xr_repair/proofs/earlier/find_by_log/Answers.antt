@@ -5,10 +5,10 @@ use Rattle.xr_repair.proofs.earlier.find_by_log.Goals as goal
 
 pub settled_again-requires-clause-accepted : goal.settled_again-requires-clause-accepted
 settled_again-requires-clause-accepted c =
-    refuted_again c.args.wave.now c.args.place c.in-Some-Refuted.bit c.in-Some-Refuted.log c.circuit-circuit.ensures.wave
+    refuted_again c.args.wave.now c.args.place c.in-Some-Refuted.bit c.in-Some-Refuted.log c.recall.ensures
     c.requires.along c.requires.cone (c.in-Some-Refuted.ensures ∙ ap Some c.in-Some-Refuted.field-0-is)
 
 pub left_again-requires-clause-accepted : goal.left_again-requires-clause-accepted
 left_again-requires-clause-accepted c =
-    left_again c.args.wave.now c.args.place c.in-Some-Undecided.log c.circuit-circuit.ensures.wave c.requires.along
+    left_again c.args.wave.now c.args.place c.in-Some-Undecided.log c.recall.ensures c.requires.along
     c.requires.cone (c.in-Some-Undecided.ensures ∙ ap Some c.in-Some-Undecided.field-0-is)

@@ -9,7 +9,7 @@ returns-then-number_at-number c =
     let found = c.number_at.ensures in
     let same = c.if-number_at-number.true in
     body_found c.args.wave.now c.lines_before-first.result c.index-lines-first.result c.args.number
-    c.circuit-circuit.ensures.wave
+    c.recall.ensures
     (subst (λ (ls : List ALine). c.lines_before-first.result < length ls) c.lines-lines.ensures.lines
     c.if-first-lines.true) (omega (arith, found, same))
     ∙ ap (λ (ls : List ALine). Some (slice_index_or ls c.lines_before-first.result c.index-lines-first.result).body)

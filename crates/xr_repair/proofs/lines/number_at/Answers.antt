@@ -10,14 +10,16 @@ use Rattle.xr_wave.specs.Pairs.{numbers_of}
 use Rattle.xr_repair.proofs.WaveLines.{lines_placed, number_here, place_here}
 use Rattle.xr_repair.proofs.lines.number_at.Goals as goal
 
-pub number_of-requires-clause-within : goal.number_of-requires-clause-within
-number_of-requires-clause-within c =
-    subst (λ (j : Job). IsPlace j (slice_index_or c.lines.result.now c.args.line c.index-lines-line.result).place)
-    (sym c.circuit-circuit.ensures.job)
-    (place_here (job c.args.wave.now) c.lines.result.now c.args.line c.index-lines-line.result
-    (subst (λ (ls : List ALine). c.args.line < length ls) (sym c.lines.ensures.lines) c.requires)
-    (subst (λ (ls : List ALine). AllByRecursion (IsPlace (job c.args.wave.now)) (places_of_lines ls))
-    (sym c.lines.ensures.lines) (lines_placed c.args.wave.now c.circuit-circuit.ensures.wave).places))
+pub number_of-requires : goal.number_of-requires
+number_of-requires c = record {
+  within =
+      subst (λ (j : Job). IsPlace j (slice_index_or c.lines.result.now c.args.line c.index-lines-line.result).place)
+      (sym c.circuit-circuit.ensures.job)
+      (place_here (job c.args.wave.now) c.lines.result.now c.args.line c.index-lines-line.result
+      (subst (λ (ls : List ALine). c.args.line < length ls) (sym c.lines.ensures.lines) c.requires)
+      (subst (λ (ls : List ALine). AllByRecursion (IsPlace (job c.args.wave.now)) (places_of_lines ls))
+      (sym c.lines.ensures.lines) (lines_placed c.args.wave.now c.circuit-circuit.ensures.wave).places));
+}
 
 pub returns : goal.returns
 returns c =

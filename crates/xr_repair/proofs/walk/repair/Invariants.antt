@@ -1,11 +1,11 @@
 -- The walk is that of the job, and fewer places are left.
 use Rattle.std.proofs.Common.{◌≡◌}
-use Rattle.xr_wave.specs.Contents.{nothing_written}
+use Rattle.xr_wave.specs.Contents.{nothing_of}
 use Rattle.xr_repair.specs.Walk.{left_of}
 use Rattle.xr_repair.proofs.walk.repair.Given as goal
 
 abbrev pub invariant-pieces : goal.invariant-pieces
-invariant-pieces l = l.walk.start ≡ nothing_written l.design l.order l.stim l.replayed l.limits
+invariant-pieces l = l.walk.start ≡ nothing_of l.circuit l.replayed l.limits
 
 abbrev pub decreases-pieces : goal.decreases-pieces
 decreases-pieces l = left_of l.walk

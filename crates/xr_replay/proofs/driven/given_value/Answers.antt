@@ -9,17 +9,17 @@ use Rattle.xr_replay.proofs.driven.given_value.Goals as goal
 
 pub driven_value-requires-clause-spot : goal.driven_value-requires-clause-spot
 driven_value-requires-clause-spot c =
-    rw c.width_of.ensures (spot_at (job_in c.args.circuit.now) c.requires.fits.fits_job c.args.step c.args.position c.args.net c.requires.step c.requires.position c.requires.net)
+    rw c.width_of.ensures (spot_at (job_in c.args.circuit.now) c.args.circuit.now.fits.fits_job c.args.step c.args.position c.args.net c.requires.step c.requires.position c.requires.net)
 
 pub driven_value-requires-clause-before : goal.driven_value-requires-clause-before
-driven_value-requires-clause-before c = reads_before (job_in c.args.circuit.now) c.requires.fits.fits_job c.args.position c.args.net c.args.driver.now c.requires.position c.requires.net c.requires.driver
+driven_value-requires-clause-before c = reads_before (job_in c.args.circuit.now) c.args.circuit.now.fits.fits_job c.args.position c.args.net c.args.driver.now c.requires.position c.requires.net c.requires.driver
 
 pub driven_value-requires-clause-driver : goal.driven_value-requires-clause-driver
-driven_value-requires-clause-driver c = driver_fits (job_in c.args.circuit.now) c.requires.fits.fits_job c.args.position c.args.net c.args.driver.now c.requires.position c.requires.net c.requires.driver
+driven_value-requires-clause-driver c = driver_fits (job_in c.args.circuit.now) c.args.circuit.now.fits.fits_job c.args.position c.args.net c.args.driver.now c.requires.position c.requires.net c.requires.driver
 
 pub driven_value-requires-clause-has : goal.driven_value-requires-clause-has
 driven_value-requires-clause-has c =
-    rw c.width_of.ensures (shows_below c.args.circuit.now c.requires.fits c.args.writer.now.history c.requires.places c.args.step c.args.position c.requires.step c.requires.position)
+    rw c.width_of.ensures (shows_below c.args.circuit.now c.args.writer.now.history c.requires.places c.args.step c.args.position c.requires.step c.requires.position)
 
 pub returns : goal.returns
 returns c =

@@ -12,4 +12,4 @@ shown-requires c =
     record { net = within; step = omega (arith, room.room, within) }
 
 pub returns : goal.returns
-returns c = c.shown.ensures ∙ sym (ap (λ (held : Held). held.shown) (held_at_net (job_in c.args.circuit.now) c.requires.fits.fits_job c.args.writer.now.history c.args.step c.args.net c.requires.net))
+returns c = c.shown.ensures ∙ sym (ap (λ (held : Held). held.shown) (held_at_net (job_in c.args.circuit.now) c.args.circuit.now.fits.fits_job c.args.writer.now.history c.args.step c.args.net c.requires.net))

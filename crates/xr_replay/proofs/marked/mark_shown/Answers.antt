@@ -14,7 +14,7 @@ rounds-init c = record {
 pub mark_written-requires-clause-later : goal.mark_written-requires-clause-later
 mark_written-requires-clause-later c =
     let j = job_beside c.args.sides.now in
-    let some = c.requires.sides.fits.fits_job.some_round in
+    let some = c.args.sides.now.circuit.fits.fits_job.some_round in
     let later = first_later j.rounds c.args.moment some c.requires.later in
     let last = c.last_step_of.ensures in
     omega (arith, some, later, last)
@@ -22,7 +22,7 @@ mark_written-requires-clause-later c =
 pub mark_written-requires-clause-step : goal.mark_written-requires-clause-step
 mark_written-requires-clause-step c =
     let j = job_beside c.args.sides.now in
-    let fits = c.requires.sides.fits.fits_job in
+    let fits = c.args.sides.now.circuit.fits.fits_job in
     let some = fits.some_round in
     let less = last_within j fits c.args.moment c.requires.moment in
     let last = c.last_step_of.ensures in

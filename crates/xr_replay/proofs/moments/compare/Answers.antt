@@ -1,10 +1,10 @@
 -- There is at most one first fault.
-use Rattle.xr_design.specs.Job.{job_of}
+use Rattle.xr_design.specs.Circuit.{job_in}
 use Rattle.xr_replay.proofs.Faults.{tells_faultless, tells_first}
 use Rattle.xr_replay.proofs.moments.compare.Goals as goal
 
 pub returns-clause-faultless : goal.returns-clause-faultless
-returns-clause-faultless c = tells_faultless (job_of c.args.design.now c.args.order.now c.args.stim.now) c.args.recording.now c.args.bound.now _ c.first_fault.ensures.differs
+returns-clause-faultless c = tells_faultless (job_in c.args.circuit.now) c.args.recording.now c.args.bound.now _ c.first_fault.ensures.differs
 
 pub returns-clause-exact : goal.returns-clause-exact
-returns-clause-exact c = tells_first (job_of c.args.design.now c.args.order.now c.args.stim.now) c.requires.fits.fits_job c.args.recording.now c.args.bound.now _ c.first_fault.ensures.agrees c.first_fault.ensures.differs
+returns-clause-exact c = tells_first (job_in c.args.circuit.now) c.args.circuit.now.fits.fits_job c.args.recording.now c.args.bound.now _ c.first_fault.ensures.agrees c.first_fault.ensures.differs

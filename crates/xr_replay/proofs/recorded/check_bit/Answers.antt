@@ -20,7 +20,7 @@ returns-then-is_same-clause-agrees c =
     let within : net < j.width = All-get_or (λ n. n < j.width) c.args.variable.now.bits c.args.bit 0 c.requires.bit c.requires.bound.nets in
     let row : c.net_value-replayed.result ≡ shown_of j c.args.follower.now.row.history (at j step net) = rw (← c.as_slice.ensures) c.net_value-replayed.ensures in
     let read : c.net_value-replayed.result ≡ shown_of j c.args.sides.now.history.now (at j step net) = row ∙ ap (λ (h : HistoryView). shown_of j h (at j step net)) follower.along.history in
-    let replayed = shown_last j sides.fits.fits_job c.args.sides.now.history.now step c.args.moment net c.net_value-replayed.result sides.history c.requires.moment within follower.step read in
+    let replayed = shown_last j c.args.sides.now.circuit.fits.fits_job c.args.sides.now.history.now step c.args.moment net c.net_value-replayed.result sides.history c.requires.moment within follower.step read in
     let recorded : c.value-recorded.result ≡ value_at c.args.sides.now.recording.now variable c.args.bit c.args.moment = c.value-recorded.ensures.value ∙ ap (λ (r : Recording). value_at r variable c.args.bit c.args.moment) follower.along.recorded in
     let same : c.value-recorded.result ≡ c.net_value-replayed.result = c.is_same.ensures.same c.if-is_same.true in
     sym recorded ∙ same ∙ replayed
@@ -36,7 +36,7 @@ returns-clause-fault c =
     let within : net < j.width = All-get_or (λ n. n < j.width) c.args.variable.now.bits c.args.bit 0 c.requires.bit c.requires.bound.nets in
     let row : c.net_value-replayed.result ≡ shown_of j c.args.follower.now.row.history (at j step net) = rw (← c.as_slice.ensures) c.net_value-replayed.ensures in
     let read : c.net_value-replayed.result ≡ shown_of j c.args.sides.now.history.now (at j step net) = row ∙ ap (λ (h : HistoryView). shown_of j h (at j step net)) follower.along.history in
-    let replayed = shown_last j sides.fits.fits_job c.args.sides.now.history.now step c.args.moment net c.net_value-replayed.result sides.history c.requires.moment within follower.step read in
+    let replayed = shown_last j c.args.sides.now.circuit.fits.fits_job c.args.sides.now.history.now step c.args.moment net c.net_value-replayed.result sides.history c.requires.moment within follower.step read in
     let recorded : c.value-recorded.result ≡ value_at c.args.sides.now.recording.now variable c.args.bit c.args.moment = c.value-recorded.ensures.value ∙ ap (λ (r : Recording). value_at r variable c.args.bit c.args.moment) follower.along.recorded in
     let differ : c.value-recorded.result ≢ c.net_value-replayed.result = c.is_same.ensures.differ c.if-is_same.false in (
       refl,

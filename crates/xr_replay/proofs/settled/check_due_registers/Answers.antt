@@ -25,11 +25,11 @@ returns-in_err-check_net-clause-fault c =
     let is : c.from_residual.result ≡ Err c.in_err-check_net.field-0.0 = search rules in
     let count = c.width_of-nets.ensures in
     let within : c.positions.position < j.width = (let test = c.positions-test.true in omega (arith, count, test)) in
-    rw is (first_unsettled j c.requires.sides.fits.fits_job c.args.moment c.positions.position c.net_at-net.result c.in_err-check_net.field-0.0 within c.net_at-net.ensures (λ p less. c.positions.invariant p less (omega (arith, less, within))) c.in_err-check_net.ensures.fault)
+    rw is (first_unsettled j c.args.sides.now.circuit.fits.fits_job c.args.moment c.positions.position c.net_at-net.result c.in_err-check_net.field-0.0 within c.net_at-net.ensures (λ p less. c.positions.invariant p less (omega (arith, less, within))) c.in_err-check_net.ensures.fault)
 
 pub returns-clause-settled : goal.returns-clause-settled
 returns-clause-settled c =
     let j = job_beside c.args.sides.now in
     let count = c.width_of-nets.ensures in
     let end = c.positions-test.false in
-    all_settled j c.requires.sides.fits.fits_job c.args.moment (λ p less. c.positions.invariant p (omega (arith, count, end, less)) less)
+    all_settled j c.args.sides.now.circuit.fits.fits_job c.args.moment (λ p less. c.positions.invariant p (omega (arith, count, end, less)) less)

@@ -18,11 +18,11 @@ returns-in_err-check_net-clause-fault c =
     let is : c.from_residual.result ≡ Err c.in_err-check_net.field-0.0 = search rules in
     let same = ap length c.as_slice-position-end.ensures in
     let within : c.positions.position < j.width = (let test = c.positions-test.true in omega (arith, same, test)) in
-    rw is (first_unsettled j c.requires.sides.fits.fits_job c.args.moment c.positions.position c.net_at-net.result c.in_err-check_net.field-0.0 within c.net_at-net.ensures c.positions.invariant c.in_err-check_net.ensures.fault)
+    rw is (first_unsettled j c.args.sides.now.circuit.fits.fits_job c.args.moment c.positions.position c.net_at-net.result c.in_err-check_net.field-0.0 within c.net_at-net.ensures c.positions.invariant c.in_err-check_net.ensures.fault)
 
 pub returns-clause-settled : goal.returns-clause-settled
 returns-clause-settled c =
     let j = job_beside c.args.sides.now in
     let same = ap length c.as_slice-position-end.ensures in
     let end = c.positions-test.false in
-    all_settled j c.requires.sides.fits.fits_job c.args.moment (λ p less. c.positions.invariant p (omega (arith, same, end, less)))
+    all_settled j c.args.sides.now.circuit.fits.fits_job c.args.moment (λ p less. c.positions.invariant p (omega (arith, same, end, less)))

@@ -13,10 +13,10 @@ use Rattle.xr_replay.proofs.steps.fill_steps.Goals as goal
 
 pub take_events-taken-requires-clause-ordered : goal.take_events-taken-requires-clause-ordered
 take_events-taken-requires-clause-ordered c =
-    rw c.steps.invariant.taken.long (in_order (job_in c.args.circuit.now) c.requires.fits.fits_job c.args.events.now c.requires.events)
+    rw c.steps.invariant.taken.long (in_order (job_in c.args.circuit.now) c.args.circuit.now.fits.fits_job c.args.events.now c.requires.events)
 
 pub next_step-requires-clause-ordered : goal.next_step-requires-clause-ordered
-next_step-requires-clause-ordered c = in_order (job_in c.args.circuit.now) c.requires.fits.fits_job c.args.events.now c.requires.events
+next_step-requires-clause-ordered c = in_order (job_in c.args.circuit.now) c.args.circuit.now.fits.fits_job c.args.events.now c.requires.events
 
 pub next_step-requires-clause-range : goal.next_step-requires-clause-range
 next_step-requires-clause-range c = c.take_events-taken.ensures.taken.few
@@ -26,7 +26,7 @@ next_step-requires-clause-before c = λ later.
     (let j = job_in c.args.circuit.now in
     let long = c.steps.invariant.taken.long in
     let now : HasForced j.width c.args.events.now c.steps.step c.take_events-taken.new.values = rw long at c.take_events-taken.ensures.forced in
-    forced_but_for j c.requires.fits.fits_job c.args.events.now c.steps.step c.steps.taken c.take_events-taken.result c.steps.forced c.take_events-taken.new.values now (c.steps.invariant.before later) c.take_events-taken.ensures.elsewhere)
+    forced_but_for j c.args.circuit.now.fits.fits_job c.args.events.now c.steps.step c.steps.taken c.take_events-taken.result c.steps.forced c.take_events-taken.new.values now (c.steps.invariant.before later) c.take_events-taken.ensures.elsewhere)
 
 pub steps-preserved : goal.steps-preserved
 steps-preserved c =

@@ -28,12 +28,12 @@ sweep-requires-clause-swept c =
     let j = job_in c.args.circuit.now in
     let under_way = c.requires.under_way in
     let later = c.requires.later in
-    swept_none j c.requires.fits.fits_job (forced_by j c.args.events.now) c.args.step c.args.writer.now c.next_step.new.self c.requires.step (omega (arith, under_way, later)) c.requires.filled c.in_ok-next_step.ensures.ok
+    swept_none j c.args.circuit.now.fits.fits_job (forced_by j c.args.events.now) c.args.step c.args.writer.now c.next_step.new.self c.requires.step (omega (arith, under_way, later)) c.requires.filled c.in_ok-next_step.ensures.ok
 
 pub sweep-requires-clause-due : goal.sweep-requires-clause-due
 sweep-requires-clause-due c =
     let j = job_in c.args.circuit.now in
-    due_marked_first j c.requires.fits.fits_job (forced_by j c.args.events.now) c.args.events.now c.args.step c.args.from c.args.to c.args.waiting.now.due c.mark_events.new.due c.mark_inputs.new.due c.mark_events.ensures.long c.mark_inputs.ensures.long c.mark_events.ensures.more c.mark_inputs.ensures.more c.mark_events.ensures.events c.mark_inputs.ensures.inputs c.requires.before c.requires.due
+    due_marked_first j c.args.circuit.now.fits.fits_job (forced_by j c.args.events.now) c.args.events.now c.args.step c.args.from c.args.to c.args.waiting.now.due c.mark_events.new.due c.mark_inputs.new.due c.mark_events.ensures.long c.mark_inputs.ensures.long c.mark_events.ensures.more c.mark_inputs.ensures.more c.mark_events.ensures.events c.mark_inputs.ensures.inputs c.requires.before c.requires.due
 
 pub sweep-requires-clause-ahead : goal.sweep-requires-clause-ahead
 sweep-requires-clause-ahead c =
@@ -49,7 +49,7 @@ pub returns-clause-due : goal.returns-clause-due
 returns-clause-due c =
     let j = job_in c.args.circuit.now in
     let P = λ (due : List ℕ). AreAwaited (job_in c.args.circuit.now) (forced_by (job_in c.args.circuit.now) c.args.events.now) (c.args.step + 1) due in
-    subst P (sym c.turn.ensures.due) (awaited_next j c.requires.fits.fits_job (forced_by j c.args.events.now) c.args.step c.sweep.new.waiting.ahead c.requires.later c.in_ok-sweep.ensures.ahead)
+    subst P (sym c.turn.ensures.due) (awaited_next j c.args.circuit.now.fits.fits_job (forced_by j c.args.events.now) c.args.step c.sweep.new.waiting.ahead c.requires.later c.in_ok-sweep.ensures.ahead)
 
 pub returns-clause-ahead : goal.returns-clause-ahead
 returns-clause-ahead c =

@@ -8,7 +8,7 @@ use Rattle.xr_replay.proofs.sweep.sweep.Goals as goal
 pub positions-init : goal.positions-init
 positions-init c =
     let j = job_in c.args.circuit.now in
-    record { under_way = c.requires.under_way; gone = gone_to j c.requires.fits.fits_job (forced_by j c.args.events.now) c.args.step 0 c.first_from-position.result c.args.writer.now.history c.args.waiting.now.due c.args.waiting.now.ahead c.requires.step (omega arith) (omega arith) c.first_from-position.ensures.none record { swept = c.requires.swept; due = c.requires.due; ahead = c.requires.ahead } }
+    record { under_way = c.requires.under_way; gone = gone_to j c.args.circuit.now.fits.fits_job (forced_by j c.args.events.now) c.args.step 0 c.first_from-position.result c.args.writer.now.history c.args.waiting.now.due c.args.waiting.now.ahead c.requires.step (omega arith) (omega arith) c.first_from-position.ensures.none record { swept = c.requires.swept; due = c.requires.due; ahead = c.requires.ahead } }
 
 pub visit_place-requires-clause-swept : goal.visit_place-requires-clause-swept
 visit_place-requires-clause-swept c =
@@ -44,7 +44,7 @@ positions-preserved c =
     let test = c.positions-test.true in
     let within : c.positions.position + 1 ≤ j.width = omega (arith, count, test) in
     let next = c.first_from-position-in-positions in
-    record { under_way = c.in_ok-visit_place.ensures.under_way; gone = gone_to j c.requires.fits.fits_job (forced_by j c.args.events.now) c.args.step (c.positions.position + 1) next.result c.visit_place.new.writer.history c.visit_place.new.waiting.due c.visit_place.new.waiting.ahead c.requires.step within next.ensures.forward next.ensures.none record { swept = c.in_ok-visit_place.ensures.swept; due = c.in_ok-visit_place.ensures.due; ahead = c.in_ok-visit_place.ensures.ahead } }
+    record { under_way = c.in_ok-visit_place.ensures.under_way; gone = gone_to j c.args.circuit.now.fits.fits_job (forced_by j c.args.events.now) c.args.step (c.positions.position + 1) next.result c.visit_place.new.writer.history c.visit_place.new.waiting.due c.visit_place.new.waiting.ahead c.requires.step within next.ensures.forward next.ensures.none record { swept = c.in_ok-visit_place.ensures.swept; due = c.in_ok-visit_place.ensures.due; ahead = c.in_ok-visit_place.ensures.ahead } }
 
 pub returns-clause-swept : goal.returns-clause-swept
 returns-clause-swept c =

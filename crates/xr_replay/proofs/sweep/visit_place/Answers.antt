@@ -15,12 +15,12 @@ returns-then-stays_at-clause-swept c =
 pub returns-then-stays_at-clause-due : goal.returns-then-stays_at-clause-due
 returns-then-stays_at-clause-due c =
     let j = job_in c.args.circuit.now in
-    due_still j c.requires.fits.fits_job (forced_by j c.args.events.now) c.args.step c.args.position c.args.waiting.now.due (c.stays_at.ensures.still c.if-stays_at.true) c.requires.due
+    due_still j c.args.circuit.now.fits.fits_job (forced_by j c.args.events.now) c.args.step c.args.position c.args.waiting.now.due (c.stays_at.ensures.still c.if-stays_at.true) c.requires.due
 
 pub returns-then-stays_at-clause-ahead : goal.returns-then-stays_at-clause-ahead
 returns-then-stays_at-clause-ahead c =
     let j = job_in c.args.circuit.now in
-    ahead_still j c.requires.fits.fits_job (forced_by j c.args.events.now) c.args.step c.args.position c.args.waiting.now.ahead (c.stays_at.ensures.still c.if-stays_at.true) c.requires.ahead
+    ahead_still j c.args.circuit.now.fits.fits_job (forced_by j c.args.events.now) c.args.step c.args.position c.args.waiting.now.ahead (c.stays_at.ensures.still c.if-stays_at.true) c.requires.ahead
 
 pub returns-clause-swept : goal.returns-clause-swept
 returns-clause-swept c =
@@ -32,11 +32,11 @@ returns-clause-due c =
     let j = job_in c.args.circuit.now in
     let P : ℕ → Type 0 = λ net. AreMarked (job_in c.args.circuit.now) arguments_of_driver net c.args.waiting.now.due c.mark_readers.new.waiting.due in
     let marked = are_marked j arguments_of_driver c.args.fans.now.cells c.net-net.result c.args.waiting.now.due c.mark_readers.new.waiting.due c.requires.fans.cells c.requires.due.room c.mark_readers.ensures.due_long c.mark_readers.ensures.due in
-    due_marked j c.requires.fits.fits_job (forced_by j c.args.events.now) c.args.step c.args.position c.args.waiting.now.due c.mark_readers.new.waiting.due (subst P c.net-net.ensures marked) c.requires.due
+    due_marked j c.args.circuit.now.fits.fits_job (forced_by j c.args.events.now) c.args.step c.args.position c.args.waiting.now.due c.mark_readers.new.waiting.due (subst P c.net-net.ensures marked) c.requires.due
 
 pub returns-clause-ahead : goal.returns-clause-ahead
 returns-clause-ahead c =
     let j = job_in c.args.circuit.now in
     let P : ℕ → Type 0 = λ net. AreMarked (job_in c.args.circuit.now) looked_at net c.args.waiting.now.ahead c.mark_readers.new.waiting.ahead in
     let marked = are_marked j looked_at c.args.fans.now.registers c.net-net.result c.args.waiting.now.ahead c.mark_readers.new.waiting.ahead c.requires.fans.registers c.requires.ahead.room c.mark_readers.ensures.ahead_long c.mark_readers.ensures.ahead in
-    ahead_marked j c.requires.fits.fits_job (forced_by j c.args.events.now) c.args.step c.args.position c.args.waiting.now.ahead c.mark_readers.new.waiting.ahead (subst P c.net-net.ensures marked) c.requires.ahead
+    ahead_marked j c.args.circuit.now.fits.fits_job (forced_by j c.args.events.now) c.args.step c.args.position c.args.waiting.now.ahead c.mark_readers.new.waiting.ahead (subst P c.net-net.ensures marked) c.requires.ahead

@@ -25,4 +25,4 @@ bits-init c =
     }
 
 pub put_bit-requires-clause-moments : goal.put_bit-requires-clause-moments
-put_bit-requires-clause-moments c = moments_there c.args.wave.now c.count-count.ensures.wave c.requires.finished
+put_bit-requires-clause-moments c = moments_there c.args.wave.now c.recall.ensures c.requires.finished

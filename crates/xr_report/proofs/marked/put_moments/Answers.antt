@@ -9,7 +9,7 @@ use Rattle.xr_wave.specs.Contents.{job}
 use Rattle.xr_report.proofs.marked.put_moments.Goals as goal
 
 pub put_due-requires-clause-moments : goal.put_due-requires-clause-moments
-put_due-requires-clause-moments c = moments_there c.args.wave.now c.count-count.ensures.wave c.requires.finished
+put_due-requires-clause-moments c = moments_there c.args.wave.now c.recall.ensures c.requires.finished
 
 pub put_due-requires-clause-due : goal.put_due-requires-clause-due
 put_due-requires-clause-due c =

@@ -12,7 +12,7 @@ pub rounds-init : goal.rounds-init
 rounds-init c =
     let wave = c.args.wave.now in
     let moment = c.args.moment in
-    let some = c.circuit-circuit.ensures.wave.fits.fits_job.some_round in
+    let some = c.recall.ensures.fits.fits_job.some_round in
     let first = ap (λ (s : Stim). moment * s.rounds) c.stim.ensures in
     let before = last_before wave.stim.rounds moment some c.requires.later in
     let from : last_step (job wave) (moment - 1) ≡ moment * c.stim.result.now.rounds + 0 - 1 =

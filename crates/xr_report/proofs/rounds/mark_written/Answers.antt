@@ -12,10 +12,10 @@ returns-in-Some-clause-shown c = λ yes.
     let written = subst (λ (h : HistoryView). AreWritten h c.args.step c.in-Some.changes.now) c.replayed.ensures
     c.in-Some.ensures.some in
     shown_kept wave c.args.bits.now c.args.step c.in-Some.changes.now c.mark_changes.new.due
-    c.circuit-circuit.ensures.wave c.requires.bits c.requires.step written c.mark_changes.ensures.marked)
+    c.recall.ensures c.requires.bits c.requires.step written c.mark_changes.ensures.marked)
 
 pub returns-in-None-clause-shown : goal.returns-in-None-clause-shown
 returns-in-None-clause-shown c = λ yes.
-    shown_still c.args.wave.now c.args.bits.now c.args.step c.args.due.now c.circuit-circuit.ensures.wave
+    shown_still c.args.wave.now c.args.bits.now c.args.step c.args.due.now c.recall.ensures
     c.requires.bits c.requires.step
     (subst (λ (h : HistoryView). IsStillAt h c.args.step) c.replayed-in-None.ensures (c.is_still.ensures yes))

@@ -9,7 +9,7 @@ use Rattle.xr_report.proofs.rows.told_in.Goals as goal
 pub position-position-requires : goal.position-position-requires
 position-position-requires c =
     let net = c.requires.net in
-    let all = c.circuit.ensures.fits.fits_job.all in
+    let all = c.circuit.result.fits.fits_job.all in
     let wide = ap (λ (j : Job). j.width) c.circuit.ensures.job in
     omega (arith, net, all, wide)
 
@@ -21,7 +21,7 @@ shown-requires c =
 pub written-requires : goal.written-requires
 written-requires c =
     let low = c.position-position.ensures.within in
-    let all = c.circuit.ensures.fits.fits_job.all in
+    let all = c.circuit.result.fits.fits_job.all in
     let wide = ap (λ (j : Job). j.width) c.circuit.ensures.job in
     row_written c.args.wave.now c.args.rows.now.wave c.args.step c.requires.rows.are.wave c.requires.rows.written
     c.position-position.result c.requires.there.whole (omega (arith, low, all, wide))

@@ -7,13 +7,13 @@ use Rattle.xr_shown.proofs.marks.mark_position.Goals as goal
 
 pub net-net-requires : goal.net-net-requires
 net-net-requires c =
-    let all = c.requires.fits.fits_job.all in
+    let all = c.args.circuit.now.fits.fits_job.all in
     let low = c.requires.position in
     omega (arith, all, low)
 
 pub mark_all-requires-clause-net : goal.mark_all-requires-clause-net
 mark_all-requires-clause-net c =
-    let fits = c.requires.fits.fits_job in
+    let fits = c.args.circuit.now.fits.fits_job in
     let all = fits.all in
     let position = c.requires.position in
     let low = fits.ordering.below c.args.position (omega (arith, all, position)) in

@@ -11,4 +11,4 @@ text_of_rows-requires-clause-steps c =
     let history : c.first-rows.result.history ≡ shown_history c.args.wave.now =
     ap (λ (v : MomentView). v.history) c.first-rows.ensures ∙ ap (λ (v : RowView). v.history) c.in_ok-row.ensures in
     rw (c.design.ensures, c.stim-2.ensures, history)
-    (has_steps c.args.wave.now c.circuit-circuit.ensures.wave.fits.fits_job)
+    (has_steps c.args.wave.now c.recall.ensures.fits.fits_job)

@@ -9,7 +9,7 @@ use Rattle.xr_turns.proofs.all.conditions_of.Goals as goal
 pub finished_at-requires-clause-settled : goal.finished_at-requires-clause-settled
 finished_at-requires-clause-settled c =
     settled_here c.args.wave.now c.lines-lines.result.now c.lines.place _ c.index-lines-place.result
-    c.circuit-circuit.ensures.wave c.lines-lines.ensures.lines c.lines-test.true c.index-lines-place.is
+    c.recall.ensures c.lines-lines.ensures.lines c.lines-test.true c.index-lines-place.is
     (sym c.gives_bit.ensures ∙ c.if-gives_bit.true)
 
 pub lines-preserved : goal.lines-preserved

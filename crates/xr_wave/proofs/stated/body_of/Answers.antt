@@ -7,12 +7,14 @@ use Rattle.xr_model.specs.declared.line.Line.{Line as ALine}
 use Rattle.xr_wave.proofs.FoundLines.{body_behind, body_first, place_here}
 use Rattle.xr_wave.proofs.stated.body_of.Goals as goal
 
-pub body_if-requires-clause-place : goal.body_if-requires-clause-place
-body_if-requires-clause-place c =
-    let j = job_in c.args.circuit.now in
-    let line = c.index-lines-first.result in
-    subst (λ (l : ALine). IsPlace j l.place) (sym c.index-lines-first.is)
-    (place_here j c.args.lines.now c.lines_before-first.result line c.if-first-lines.true c.requires.order.places)
+pub body_if-requires : goal.body_if-requires
+body_if-requires c = record {
+  place =
+      let j = job_in c.args.circuit.now in
+      let line = c.index-lines-first.result in
+      subst (λ (l : ALine). IsPlace j l.place) (sym c.index-lines-first.is)
+      (place_here j c.args.lines.now c.lines_before-first.result line c.if-first-lines.true c.requires.order.places);
+}
 
 pub returns-then-first-lines : goal.returns-then-first-lines
 returns-then-first-lines c =

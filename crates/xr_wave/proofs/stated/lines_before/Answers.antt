@@ -5,11 +5,13 @@ use Rattle.xr_wave.specs.Pairs.{AreParted}
 use Rattle.xr_wave.proofs.FoundLines.{before_more, behind_more, number_here, place_here}
 use Rattle.xr_wave.proofs.stated.lines_before.Goals as goal
 
-pub number_of-requires-clause-within : goal.number_of-requires-clause-within
-number_of-requires-clause-within c =
-    let within = c.halves.invariant.within in
-    place_here (job_in c.args.circuit.now) c.args.lines.now (c.halves.low + (c.halves.high - c.halves.low) / 2)
-    c.index-lines-middle.result (omega arith) c.requires.order.places
+pub number_of-requires : goal.number_of-requires
+number_of-requires c = record {
+  within =
+      let within = c.halves.invariant.within in
+      place_here (job_in c.args.circuit.now) c.args.lines.now (c.halves.low + (c.halves.high - c.halves.low) / 2)
+      c.index-lines-middle.result (omega arith) c.requires.order.places;
+}
 
 pub halves-preserved-then-number_of-number : goal.halves-preserved-then-number_of-number
 halves-preserved-then-number_of-number c =

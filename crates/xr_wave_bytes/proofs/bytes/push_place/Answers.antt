@@ -12,7 +12,7 @@ push-requires c =
 
 pub returns-clause-ok : goal.returns-clause-ok
 returns-clause-ok c =
-    written_behind (job_in c.args.circuit.now) c.requires.fits.fits_job c.args.rows.now.bytes c.push.new.self.bytes
+    written_behind (job_in c.args.circuit.now) c.args.circuit.now.fits.fits_job c.args.rows.now.bytes c.push.new.self.bytes
     c.next_byte-byte.result c.args.written c.requires.within c.requires.kept.told c.requires.agrees
     c.next_byte-byte.ensures.written c.next_byte-byte.ensures.facts
     (ap (λ (v : RowsView). v.bytes) c.in_ok-push.ensures.ok)

@@ -15,15 +15,15 @@ returns-then-many-eq0-clause-stands c =
 pub returns-then-next-width_of-clause-stands : goal.returns-then-next-width_of-clause-stands
 returns-then-next-width_of-clause-stands c = λ within.
     (let less : c.args.place < places_of (job_in c.args.circuit.now) = omega (arith, within) in
-    after_position (job_in c.args.circuit.now) c.requires.fits.fits_job c.args.place c.args.many c.args.front _ less
+    after_position (job_in c.args.circuit.now) c.args.circuit.now.fits.fits_job c.args.place c.args.many c.args.front _ less
     (c.requires.stands less) refl refl
     (let test = c.if-next-width_of.true in let width = c.width_of.ensures in omega (arith, test, width)))
 
 pub returns-else-next-width_of-clause-stands : goal.returns-else-next-width_of-clause-stands
 returns-else-next-width_of-clause-stands c = λ within.
     (let less : c.args.place < places_of (job_in c.args.circuit.now) = omega (arith, within) in
-    let rest = stretch_rest (job_in c.args.circuit.now) c.requires.fits.fits_job c.args.place c.args.many c.args.front
+    let rest = stretch_rest (job_in c.args.circuit.now) c.args.circuit.now.fits.fits_job c.args.place c.args.many c.args.front
     less (c.requires.stands less) c.requires.stretch.one_step in
-    after_step (job_in c.args.circuit.now) c.requires.fits.fits_job c.args.place c.args.many c.args.front _ less
+    after_step (job_in c.args.circuit.now) c.args.circuit.now.fits.fits_job c.args.place c.args.many c.args.front _ less
     (c.requires.stands less) refl refl
     (let test = c.if-next-width_of.false in let width = c.width_of.ensures in omega (arith, test, width, rest)))

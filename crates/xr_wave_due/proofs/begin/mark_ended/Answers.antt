@@ -6,7 +6,7 @@ use Rattle.xr_wave_due.proofs.begin.mark_ended.Goals as goal
 
 pub returns-then-is_blank_before-clause-shows : goal.returns-then-is_blank_before-clause-shows
 returns-then-is_blank_before-clause-shows c =
-    blank_shows (job_in c.args.circuit.now) c.requires.fits.fits_job c.args.history.now c.args.step c.args.due.now
+    blank_shows (job_in c.args.circuit.now) c.args.circuit.now.fits.fits_job c.args.history.now c.args.step c.args.due.now
     c.requires.places c.requires.later c.requires.step c.requires.blank
     (c.is_blank_before.ensures c.if-is_blank_before.true)
 

@@ -11,7 +11,7 @@ mark_changes-requires-clause-nets c =
 
 pub returns-in-Some-clause-shows : goal.returns-in-Some-clause-shows
 returns-in-Some-clause-shows c =
-    written_shows (job_in c.args.circuit.now) c.requires.fits.fits_job c.args.history.now c.args.step
+    written_shows (job_in c.args.circuit.now) c.args.circuit.now.fits.fits_job c.args.history.now c.args.step
     c.in-Some.changes.now
     c.mark_changes.new.due c.requires.places c.requires.later c.requires.step c.in-Some.ensures.some
     c.mark_changes.ensures.changes

@@ -12,11 +12,11 @@ returns-clause-world c = made c.args.wave.now c.args.filling.now _ _
 pub returns-clause-places : goal.returns-clause-places
 returns-clause-places c =
     has_written c.args.wave.now c.args.filling.now
-    (subst (λ (j : Job). length j.order ≡ j.width) c.circuit-circuit.ensures.job c.circuit-circuit.ensures.fits.fits_job.all)
+    (subst (λ (j : Job). length j.order ≡ j.width) c.circuit-circuit.ensures.job c.circuit-circuit.result.fits.fits_job.all)
     _ (returns-clause-world c)
 
 pub returns-clause-bits : goal.returns-clause-bits
 returns-clause-bits c =
     gives_bits c.args.wave.now c.args.filling.now
-    (subst (λ (j : Job). length j.order ≡ j.width) c.circuit-circuit.ensures.job c.circuit-circuit.ensures.fits.fits_job.all)
+    (subst (λ (j : Job). length j.order ≡ j.width) c.circuit-circuit.ensures.job c.circuit-circuit.result.fits.fits_job.all)
     _ (returns-clause-world c)

@@ -1,15 +1,9 @@
--- The circuit of a job fits.
-use Rattle.xr_design.proofs.OrdersFit.{job_fits}
+-- The history of a job is the replay of its circuit.
+use Rattle.std.proofs.Common.{inl, subst, sym}
+use Rattle.xr_design.specs.Handed.{IsReplay}
+use Rattle.xr_design.specs.Job.{Job}
 use Rattle.test_cert.proofs.job.Job.repaired.Goals as goal
 
-pub repair-requires-clause-fits : goal.repair-requires-clause-fits
-repair-requires-clause-fits c =
-    let job = c.args.self.now in
-    let n = job.netlist.now in
-    let r = job.recorded.now in
-    let netlist = c.requires.netlist in
-    let recorded = c.requires.recorded in
-    record {
-      fits_job = job_fits n.design n.order r.stim netlist.design netlist.order recorded.stim recorded.some_round recorded.few_rounds;
-      fits_stim = recorded.stim;
-    }
+pub repair-requires-clause-handed : goal.repair-requires-clause-handed
+repair-requires-clause-handed c =
+    inl (subst (λ (j : Job). IsReplay j c.args.self.now.history.now) (sym c.circuit_of-circuit.ensures.job) c.requires.replay)

@@ -1,12 +1,9 @@
--- The circuit of a job fits, and its history is the replay.
-use Rattle.std.proofs.Common.{inl}
-use Rattle.xr_job.proofs.Comparing.{circuit_fits}
+-- The history of a job is the replay of its circuit.
+use Rattle.std.proofs.Common.{inl, subst, sym}
+use Rattle.xr_design.specs.Handed.{IsReplay}
+use Rattle.xr_design.specs.Job.{Job}
 use Rattle.test_waves.proofs.job.Job.unwritten.Goals as goal
 
-pub new-requires-clause-fits : goal.new-requires-clause-fits
-new-requires-clause-fits c =
-    let job = c.args.self.now in
-    circuit_fits job.netlist job.recorded c.requires.netlist_fits c.requires.recorded_fits
-
 pub new-requires-clause-handed : goal.new-requires-clause-handed
-new-requires-clause-handed c = inl c.requires.replayed
+new-requires-clause-handed c =
+    inl (subst (λ (j : Job). IsReplay j c.args.self.now.history) (sym c.circuit_of.ensures.job) c.requires.replayed)

@@ -6,5 +6,5 @@ use Rattle.xr_design.proofs.circuit.Circuit.number_of.Goals as goal
 pub returns-clause-within : goal.returns-clause-within
 returns-clause-within c =
     let j = job_in c.args.self.now in
-    let less = number_within j c.requires.fits.fits_job c.args.place c.requires.within in
+    let less = number_within j c.args.self.now.fits.fits_job c.args.place c.requires.within in
     rw (c.width_of.ensures, c.position.ensures.place) less

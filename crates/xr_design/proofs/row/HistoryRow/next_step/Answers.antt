@@ -1,5 +1,5 @@
 -- The changes of the step are written into the bytes.
-use Rattle.std.proofs.Common.{◌∙◌, ◌≡◌, List, ℕ, ap, arith, drop, length}
+use Rattle.std.proofs.Common.{◌∙◌, List, ℕ, ap, arith, drop, length}
 use Rattle.xr_ledger.specs.Ledger.{row_with}
 use Rattle.xr_design.proofs.RowLemmas.{next_bytes}
 use Rattle.xr_design.proofs.row.HistoryRow.next_step.Goals as goal

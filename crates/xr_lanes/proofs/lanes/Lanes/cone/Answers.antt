@@ -12,5 +12,5 @@ returns-clause-cone c =
       graph = c.self.inside.graph;
       shared = c.self.inside.shared;
       width = c.self.inside.literals.width;
-    }) c.in-Some.node c.cone_of.result c.circuit-circuit.ensures.wave c.requires.right c.requires.looked c.self.view_is
+    }) c.in-Some.node c.cone_of.result c.recall.ensures c.requires.right c.requires.looked c.self.view_is
     c.in-Some.is c.cone_of.ensures

@@ -4,5 +4,5 @@ use Rattle.xr_lanes.proofs.lanes.Lanes.cone_at.Goals as goal
 
 pub returns-clause-cone : goal.returns-clause-cone
 returns-clause-cone c =
-    cone_of_node c.args.wave.now c.args.self.now _ c.args.node c.cone_of.result c.circuit-circuit.ensures.wave
+    cone_of_node c.args.wave.now c.args.self.now _ c.args.node c.cone_of.result c.recall.ensures
     c.requires.right c.requires.node c.self.view_is c.cone_of.ensures

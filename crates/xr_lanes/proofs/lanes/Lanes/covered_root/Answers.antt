@@ -9,19 +9,21 @@ use Rattle.xr_lanes.specs.Roots.{place_of}
 use Rattle.xr_lanes.proofs.RootedPlaces.{place_there, root_there}
 use Rattle.xr_lanes.proofs.lanes.Lanes.covered_root.Goals as goal
 
-pub place_of-root-requires-clause-within : goal.place_of-root-requires-clause-within
-place_of-root-requires-clause-within c =
-    let wave = c.args.wave.now in
-    let lanes = c.args.self.now in
-    let literal = c.literal_at-literal.result in
-    let literal_is : literal ≡ literal_in lanes.first lanes.literals c.args.number =
-    c.literal_at-literal.ensures ∙ rw (c.covered-covered.ensures.first, c.covered-covered.ensures.literals) refl in
-    let is : c.place.result ≡ place_of lanes literal.node =
-    c.place.ensures ∙ ap (λ (k : ℕ). (node_at c.covered-covered.result.nodes.now k).place) c.node.ensures.node
-    ∙ ap (λ (ns : List NodeView). (node_at ns literal.node).place) c.covered-covered.ensures.nodes in
-    subst (λ (j : Job). c.place.result < places_of j) (sym c.circuit-circuit.ensures.job)
-    (rw is (place_there wave lanes c.args.place c.args.number literal c.circuit-circuit.ensures.wave c.requires.right
-    c.requires.written c.requires.number c.requires.uncertain c.requires.first c.requires.below literal_is))
+pub place_of-root-requires : goal.place_of-root-requires
+place_of-root-requires c = record {
+  within =
+      let wave = c.args.wave.now in
+      let lanes = c.args.self.now in
+      let literal = c.literal_at-literal.result in
+      let literal_is : literal ≡ literal_in lanes.first lanes.literals c.args.number =
+      c.literal_at-literal.ensures ∙ rw (c.covered-covered.ensures.first, c.covered-covered.ensures.literals) refl in
+      let is : c.place.result ≡ place_of lanes literal.node =
+      c.place.ensures ∙ ap (λ (k : ℕ). (node_at c.covered-covered.result.nodes.now k).place) c.node.ensures.node
+      ∙ ap (λ (ns : List NodeView). (node_at ns literal.node).place) c.covered-covered.ensures.nodes in
+      subst (λ (j : Job). c.place.result < places_of j) (sym c.circuit-circuit.ensures.job)
+      (rw is (place_there wave lanes c.args.place c.args.number literal c.circuit-circuit.ensures.wave c.requires.right
+      c.requires.written c.requires.number c.requires.uncertain c.requires.first c.requires.below literal_is));
+}
 
 pub returns : goal.returns
 returns c =

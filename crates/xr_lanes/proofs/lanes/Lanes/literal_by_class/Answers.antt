@@ -6,7 +6,7 @@ use Rattle.xr_lanes.proofs.lanes.Lanes.literal_by_class.Goals as goal
 pub literal_at-requires : goal.literal_at-requires
 literal_at-requires c =
     carried_covered c.args.wave.now c.args.self.now c.covered.result c.args.place c.in-Carried.from c.in-Carried.inverted
-    c.circuit-circuit.ensures.wave c.requires.right c.requires.place c.requires.more
+    c.recall.ensures c.requires.right c.requires.place c.requires.more
     (sym c.class_by_number.ensures ∙ c.in-Carried.is)
     (record { nodes = c.covered.ensures.nodes; first = c.covered.ensures.first; literals = c.covered.ensures.literals })
 
@@ -14,7 +14,7 @@ pub returns-in-Carried-clause-literal : goal.returns-in-Carried-clause-literal
 returns-in-Carried-clause-literal c =
     carried_next c.args.wave.now c.args.self.now c.covered.result c.args.place c.in-Carried.from c.in-Carried.inverted
     c.literal_at.result c.turned.result
-    c.circuit-circuit.ensures.wave c.requires.right c.requires.place c.requires.more c.requires.uncertain
+    c.recall.ensures c.requires.right c.requires.place c.requires.more c.requires.uncertain
     (sym c.class_by_number.ensures ∙ c.in-Carried.is)
     (record { nodes = c.covered.ensures.nodes; first = c.covered.ensures.first; literals = c.covered.ensures.literals })
     c.literal_at.ensures c.turned.ensures

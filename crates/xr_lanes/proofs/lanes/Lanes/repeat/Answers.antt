@@ -21,7 +21,7 @@ repeat-gone-requires-clause-before c =
     let count : count_of lanes ≡ count_of c.args.self.now = ap count_of c.self.view_is in
     let written = c.requires.written in
     let some = c.requires.some in
-    kept_wide c.args.wave.now lanes c.circuit-circuit.ensures.wave
+    kept_wide c.args.wave.now lanes c.recall.ensures
     (subst (IsRightOf c.args.wave.now) (sym c.self.view_is) c.requires.right)
     (ap (λ (l : LanesView). l.width) c.self.view_is ∙ c.requires.width) (omega (arith, count, written, some))
     (subst (λ n. keeps_there (job c.args.wave.now) c.args.wave.now.written n ≡ true) (sym count)
@@ -45,7 +45,7 @@ returns-clause-right c =
     let room = c.requires.room in
     onward_right c.args.wave.now lanes c.self.inside.literals c.repeat-gone.new.self
     (last_row c.self.inside.literals c.args.many) c.repeat-gone.result c.repeat-gone.ensures refl refl sized
-    (kept_run c.args.wave.now lanes c.args.many c.circuit-circuit.ensures.wave
+    (kept_run c.args.wave.now lanes c.args.many c.recall.ensures
     (subst (IsRightOf c.args.wave.now) (sym c.self.view_is) c.requires.right) sized c.requires.some
     (omega (arith, room, width)) (omega (arith, count, written))
     (subst (λ n. AllKeepFrom (job c.args.wave.now) c.args.wave.now.written n (n + c.args.many)) (sym count)
@@ -66,7 +66,7 @@ returns-clause-count c =
     let written = c.requires.written in
     let some = c.requires.some in
     let sized = ap (λ (l : LanesView). l.width) c.self.view_is ∙ c.requires.width in
-    let wide = kept_wide c.args.wave.now lanes c.circuit-circuit.ensures.wave
+    let wide = kept_wide c.args.wave.now lanes c.recall.ensures
     (subst (IsRightOf c.args.wave.now) (sym c.self.view_is) c.requires.right) sized (omega (arith, count, written, some))
     (subst (λ n. keeps_there (job c.args.wave.now) c.args.wave.now.written n ≡ true) (sym count)
     (c.requires.keep (count_of c.args.self.now) (omega (arith, some)) (omega arith))) in

@@ -18,7 +18,7 @@ shown_as-requires-clause-bits c =
       width = c.self.inside.literals.width;
     } in
     subst (HasNextBits c.args.wave.now) (sym c.place-place.ensures)
-    (next_bits c.args.wave.now lanes c.args.node c.args.other c.circuit-circuit.ensures.wave
+    (next_bits c.args.wave.now lanes c.args.node c.args.other c.recall.ensures
     (subst (IsRightOf c.args.wave.now) (sym c.self.view_is) c.requires.right)
     (subst (IsLookedAt c.args.wave.now) (sym c.self.view_is) c.requires.looked)
     (subst (λ (l : LanesView). l.next ≡ Some c.args.node) (sym c.self.view_is) c.requires.next)
@@ -36,7 +36,7 @@ shown_as-requires-clause-cone c =
       width = c.self.inside.literals.width;
     } in
     subst (HasNextCone c.args.wave.now) (sym c.place-place.ensures)
-    (next_cone c.args.wave.now lanes c.args.node c.args.other c.circuit-circuit.ensures.wave
+    (next_cone c.args.wave.now lanes c.args.node c.args.other c.recall.ensures
     (subst (IsRightOf c.args.wave.now) (sym c.self.view_is) c.requires.right)
     (subst (IsLookedAt c.args.wave.now) (sym c.self.view_is) c.requires.looked)
     (subst (λ (l : LanesView). l.next ≡ Some c.args.node) (sym c.self.view_is) c.requires.next)

@@ -9,5 +9,5 @@ pub shown-requires-clause-place : goal.shown-requires-clause-place
 shown-requires-clause-place c =
     let j = job_in c.args.self.now.circuit in
     let shows = c.requires.shows in
-    let fits = shows.fits.fits_job in
+    let fits = c.args.self.now.circuit.fits.fits_job in
     rw c.place_of.ensures (has_place j c.args.self.now.follower.now.row.history (place_at j c.args.place) shows.places (is_place_at j c.args.place fits.ordering fits.all shows.within))

@@ -16,7 +16,7 @@ mark_written-requires-clause-table c =
 pub mark_written-requires-clause-later : goal.mark_written-requires-clause-later
 mark_written-requires-clause-later c =
     let j = job_beside c.args.sides.now in
-    let some = c.requires.sides.fits.fits_job.some_round in
+    let some = c.args.sides.now.circuit.fits.fits_job.some_round in
     let later = first_later j.rounds c.args.moment some c.requires.later in
     let last = c.last_step_of-last.ensures in
     omega (arith, some, later, last)
@@ -24,7 +24,7 @@ mark_written-requires-clause-later c =
 pub mark_written-requires-clause-step : goal.mark_written-requires-clause-step
 mark_written-requires-clause-step c =
     let j = job_beside c.args.sides.now in
-    let fits = c.requires.sides.fits.fits_job in
+    let fits = c.args.sides.now.circuit.fits.fits_job in
     let less = last_within j fits c.args.moment c.requires.moment in
     let last = c.last_step_of-last.ensures in
     omega (arith, less, last)
@@ -33,7 +33,7 @@ pub returns-clause-rest : goal.returns-clause-rest
 returns-clause-rest c = λ yes.
     (let j = job_beside c.args.sides.now in
     let marked : c.mark_written.result ≡ true = search rules in
-    let some = c.requires.sides.fits.fits_job.some_round in
+    let some = c.args.sides.now.circuit.fits.fits_job.some_round in
     let more = first_later j.rounds c.args.moment some c.requires.later in
     let later : 0 < last_step (job_beside c.args.sides.now) c.args.moment = omega (arith, some, more) in
     let P : ℕ → Type 0 = λ n. ShowSame c.args.sides.now c.args.watchers.now.registers (n - 1) n c.mark_written.new.due in

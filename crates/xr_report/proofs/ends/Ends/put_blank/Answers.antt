@@ -7,6 +7,6 @@ use Rattle.xr_report.proofs.ends.Ends.put_blank.Goals as goal
 
 pub returns-else-not-is_still-clause-shown : goal.returns-else-not-is_still-clause-shown
 returns-else-not-is_still-clause-shown c =
-    still_shown c.args.wave.now c.circuit-circuit.ensures.wave c.args.step c.args.self.now.ends.items c.requires.whole
+    still_shown c.args.wave.now c.recall.ensures c.args.step c.args.self.now.ends.items c.requires.whole
     (subst (λ (h : HistoryView). IsStillAt h c.args.step) c.replayed.ensures
     (c.is_still.ensures c.if-not-is_still.false))

@@ -6,12 +6,14 @@ use Rattle.xr_wave.specs.Contents.{FromWithin, job}
 use Rattle.xr_wave.proofs.NextClass.{class_from_job}
 use Rattle.xr_wave.proofs.wave.Wave.class_at.Goals as goal
 
-pub seen_class-requires-clause-within : goal.seen_class-requires-clause-within
-seen_class-requires-clause-within c =
-    let wave = c.args.self.now in
-    let number = c.number_of-number.result in
-    let same = c.circuit-circuit.ensures.job in
-    subst (λ (j : Job). FromWithin (places_of j) c.class_by_number.result) (sym same)
-    (subst (FromWithin (places_of (job wave))) (sym c.class_by_number.ensures)
-    (class_from_job (job wave) c.circuit-circuit.ensures.wave.fits.fits_job (certain wave.written) number
-    (subst (λ (j : Job). number < places_of j) same c.number_of-number.ensures.within)))
+pub seen_class-requires : goal.seen_class-requires
+seen_class-requires c = record {
+  within =
+      let wave = c.args.self.now in
+      let number = c.number_of-number.result in
+      let same = c.circuit-circuit.ensures.job in
+      subst (λ (j : Job). FromWithin (places_of j) c.class_by_number.result) (sym same)
+      (subst (FromWithin (places_of (job wave))) (sym c.class_by_number.ensures)
+      (class_from_job (job wave) c.circuit-circuit.ensures.wave.fits.fits_job (certain wave.written) number
+      (subst (λ (j : Job). number < places_of j) same c.number_of-number.ensures.within)));
+}

@@ -8,9 +8,9 @@ use Rattle.xr_wave.proofs.wave.Wave.new.Goals as goal
 pub invariant_of-result : goal.invariant_of-result
 invariant_of-result c =
     let fresh : WaveformView = record {
-      design = c.args.design.now;
-      order = c.args.order.now;
-      stim = c.args.stim.now;
+      design = c.args.circuit.design.now;
+      order = c.args.circuit.order.now;
+      stim = c.args.circuit.stim.now;
       written = [];
     } in
     let none : c.new-3.result.items ≡ [] = search rules in
@@ -18,5 +18,5 @@ invariant_of-result c =
     (sym c.in_ok-new.ensures.ok)
     (wave_started c.in_ok-waveform.waveform fresh c.in_ok-walk.walk c.args.replayed.now c.args.limits
     c.new-3.result.items
-    c.in_ok-waveform.ensures refl c.in_ok-walk.ensures.history none c.requires.fits c.requires.handed
+    c.in_ok-waveform.ensures refl c.in_ok-walk.ensures.history none c.args.circuit.fits c.requires.handed
     c.requires.limits c.in_ok-walk.ensures.walk)

@@ -7,8 +7,10 @@ use Rattle.xr_wave.specs.Pairs.{AreInOrder}
 use Rattle.xr_wave.proofs.FoundLines.{lines_in_order}
 use Rattle.xr_wave.proofs.wave.Wave.stated_at_root.Goals as goal
 
-pub body_of-requires-clause-order : goal.body_of-requires-clause-order
-body_of-requires-clause-order c =
-    let own = lines_in_order c.args.self.now c.requires.wave in
-    subst (λ (j : Job). AreInOrder j c.lines.result.now) (sym c.circuit-circuit.ensures.job)
-    (subst (λ (lines : List ALine). AreInOrder (job c.args.self.now) lines) (sym c.lines.ensures.lines) own)
+pub body_of-requires : goal.body_of-requires
+body_of-requires c = record {
+  order =
+      let own = lines_in_order c.args.self.now c.requires.wave in
+      subst (λ (j : Job). AreInOrder j c.lines.result.now) (sym c.circuit-circuit.ensures.job)
+      (subst (λ (lines : List ALine). AreInOrder (job c.args.self.now) lines) (sym c.lines.ensures.lines) own);
+}

@@ -34,7 +34,7 @@ returns-clause-keep c =
         let later : (job_in c.self.inside.circuit).width ≤ c.args.number =
         subst (λ (v : WaveformView). (job v).width ≤ c.args.number) (sym c.self.view_is) c.requires.later in
         let width = c.self.invariant.rows.width in
-        sym (keeps_told (job_in c.self.inside.circuit) c.self.invariant.fits.fits_job bytes k
+        sym (keeps_told (job_in c.self.inside.circuit) c.self.inside.circuit.fits.fits_job bytes k
         (omega (arith, long, end, up, less)) c.self.invariant.within c.self.invariant.kept.told)
         ∙ ap (λ byte. (facts_of_byte byte).keeps)
         (c.anew_from.ensures.again k from less (omega (arith, width, later, from)))

@@ -15,5 +15,5 @@ returns c =
     subst (λ (v : WaveformView). c.args.number < length v.written) (sym c.self.view_is) c.requires in
     subst (λ (v : WaveformView). c.keeps.result ≡ keeps_there (job v) v.written c.args.number) c.self.view_is
     (c.keeps.ensures ∙ ap (λ byte. (facts_of_byte byte).keeps) c.byte.ensures
-    ∙ keeps_told (job_in c.self.inside.circuit) c.self.invariant.fits.fits_job bytes c.args.number
+    ∙ keeps_told (job_in c.self.inside.circuit) c.self.inside.circuit.fits.fits_job bytes c.args.number
     (omega (arith, long, less)) c.self.invariant.within c.self.invariant.kept.told)

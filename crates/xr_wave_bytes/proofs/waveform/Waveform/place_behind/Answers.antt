@@ -17,6 +17,6 @@ place_there-requires c =
     let more : length (map written_of_byte bytes) < places_of (job_in circuit) =
     subst HasMore (sym c.self.view_is) c.requires in
     let within : length bytes < places_of (job_in circuit) = omega (arith, long, more) in
-    is_front (job_in circuit) c.self.invariant.fits.fits_job (few_steps circuit.stim.now) (length bytes)
+    is_front (job_in circuit) c.self.inside.circuit.fits.fits_job (few_steps circuit.stim.now) (length bytes)
     c.self.inside.front
     within (c.self.invariant.front within)

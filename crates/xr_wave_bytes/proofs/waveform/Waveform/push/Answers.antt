@@ -43,7 +43,6 @@ invariant_of-self-2 c =
     let less : length (map written_of_byte old) < places_of (job_in circuit) =
     subst (λ (v : WaveformView). length v.written < places_of (job v)) (sym c.self.view_is) c.requires.next in
     record {
-      fits = c.self.invariant.fits;
       wired = c.self.invariant.wired;
       within = omega (arith, long, more, less);
       rows = c.push_place.ensures.rows;

@@ -40,15 +40,14 @@ invariant_of-self c =
     let written = length-map old written_of_byte in
     let stretch : IsStretch j (length old) many = subst (λ n. IsStretch j n many) written
     (subst (λ (v : WaveformView). IsStretch (job v) (length v.written) many) (sym c.self.view_is) c.requires.stretch) in
-    let long = repeated_long j c.self.invariant.fits.fits_job old new many stretch again in
+    let long = repeated_long j c.self.inside.circuit.fits.fits_job old new many stretch again in
     let within = stretch.within in
     let count = c.count.ensures in
     record {
-      fits = c.self.invariant.fits;
       wired = c.self.invariant.wired;
       within = omega (arith, long, within);
       rows = rows_again j c.self.inside.rows c.repeat.new.self many c.self.invariant.rows c.repeat.ensures;
-      kept = repeated_kept circuit c.self.invariant.fits old new many stretch c.self.invariant.kept
+      kept = repeated_kept circuit old new many stretch c.self.invariant.kept
           again
           (subst (λ (v : WaveformView). ValuesAgree (job v) (repeated (job v) v.written many)) (sym c.self.view_is)
           c.requires.agrees)
@@ -59,7 +58,7 @@ invariant_of-self c =
           c.front_after-front.ensures.stands;
       keep = subst (λ b. OnTrue b (StepKeeps new c.front_after-front.result.position (length new)))
           (sym c.keep_repeated-all_keep.ensures)
-          (keep_after j c.self.invariant.fits.fits_job old new many c.self.inside.front.position
+          (keep_after j c.self.inside.circuit.fits.fits_job old new many c.self.inside.front.position
           c.front_after-front.result.position c.self.inside.all_keep stretch again
           c.front_after-front.ensures.next c.self.invariant.keep);
     }
@@ -76,5 +75,5 @@ returns c =
     subst (λ n. IsStretch (job_in circuit) n many) (length-map old written_of_byte)
     (subst (λ (v : WaveformView). IsStretch (job v) (length v.written) many) (sym c.self.view_is) c.requires.stretch) in
     subst (λ (v : WaveformView). waveform_of circuit (map written_of_byte new) ≡ and_repeated v many) c.self.view_is
-    (ap (waveform_of circuit) (repeated_view (job_in circuit) c.self.invariant.fits.fits_job old new many stretch
+    (ap (waveform_of circuit) (repeated_view (job_in circuit) c.self.inside.circuit.fits.fits_job old new many stretch
     again))

@@ -83,7 +83,7 @@ returns-clause-walk c =
     (subst (λ (h : HistoryView). ShowsOn j (shown_of j h) c.step-step.result 0 new) history
     (subst (λ (j : Job). ShowsOn j (shown_of j c.history-history.result.now) c.step-step.result 0 new) job_is
     c.mark_history.ensures.shows)) in
-    begun_walk j (subst Fits job_is c.circuit-circuit.ensures.fits.fits_job) v.written old _ stirred c.requires.next
+    begun_walk j (subst Fits job_is c.circuit-circuit.result.fits.fits_job) v.written old _ stirred c.requires.next
     c.requires.tables c.requires.agrees c.requires.here refl refl c.next_step.ensures
     (omega (arith, had_ahead, turned_long, first, second)) (omega (arith, had_due, cleared))
     (subst (λ (due : List ℕ). OnlyMore due stirred) turned c.mark_sources.ensures.more) recorded

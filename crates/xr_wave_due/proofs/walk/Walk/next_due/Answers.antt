@@ -16,7 +16,7 @@ returns-then-next-width-clause-run c = λ many whole.
     let wide = ap (λ (j : Job). j.width) c.circuit.ensures.job in
     let none = subst (λ n. NoneBetween walk.waiting.due n c.first_from-next.result) c.position_behind.ensures
     c.first_from-next.ensures.none in
-    due_run (view.job v) (subst Fits c.circuit.ensures.job c.circuit.ensures.fits.fits_job) v.written walk
+    due_run (view.job v) (subst Fits c.circuit.ensures.job c.circuit.result.fits.fits_job) v.written walk
     c.first_from-next.result c.first_from-next.result many c.requires.walk c.requires.next none (omega arith)
     (omega (arith, test, count, wide)) whole)
 
@@ -29,6 +29,6 @@ returns-else-next-width-clause-run c = λ many whole.
     let wide = ap (λ (j : Job). j.width) c.circuit.ensures.job in
     let none = subst (λ n. NoneBetween walk.waiting.due n c.first_from-next.result) c.position_behind.ensures
     c.first_from-next.ensures.none in
-    due_run (view.job v) (subst Fits c.circuit.ensures.job c.circuit.ensures.fits.fits_job) v.written walk
+    due_run (view.job v) (subst Fits c.circuit.ensures.job c.circuit.result.fits.fits_job) v.written walk
     c.first_from-next.result c.width_of-width.result many c.requires.walk c.requires.next none (omega (arith, test))
     (omega (arith, count, wide)) whole)

@@ -37,7 +37,7 @@ settle-requires-clause-here c =
     (subst (λ (w : WaveformView). keeps ≡ keeps_there (view.job w) w.written (c.count.result - 1)) c.in_ok-push.ensures.ok
     c.keeps-keeps.ensures) in
     let visit = subst (λ p. IsVisited net p keeps calm old new) c.position_behind-position.ensures c.visit.ensures in
-    let walk = written_walk j (subst Fits c.circuit-circuit.ensures.job c.circuit-circuit.ensures.fits.fits_job)
+    let walk = written_walk j (subst Fits c.circuit-circuit.ensures.job c.circuit-circuit.result.fits.fits_job)
     v.written x
     net keeps calm old new c.requires.next c.requires.walk net_is kept c.tells_next-calm.ensures c.requires.agrees
     visit in
