@@ -13,6 +13,9 @@ use xr_base::Memory;
 use xr_proof::{Cnf, Log, Model};
 use xr_sat::{Outcome, solve};
 
+/// A guess ends after so many conflicts, or as many as the limit says, if these are fewer.
+const MOST_CONFLICTS: u32 = 5_000;
+
 /// A search that makes guesses. It keeps the bits that variables had last: so the next formula is best one over the same
 /// variables. Takes some 80 bytes for each variable, 32 for each clause and 4 for each literal.
 #[derive(Drop)]
@@ -34,7 +37,7 @@ impl Decider {
         requires some { 0 < limit }
         ensures outcome { IfOk result (IsOutcome formula.now.clauses formula.now.vars limit) }
     {
-        match self.find(alloc, formula, limit)? {
+        match self.find(alloc, formula, limit.min(MOST_CONFLICTS))? {
             Some(outcome) => Ok(outcome),
             None => solve(alloc, formula, limit),
         }

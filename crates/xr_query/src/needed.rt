@@ -73,14 +73,22 @@ impl Solver {
         Ok(Log::from_vec(log))
     }
 
-    /// The literals of a clause.
+    /// The literals of a clause, but for those that unit clauses make false.
     fn literals_of(&self, alloc: Global, clause: u32) -> Result<Vec<i32>, Memory>
         ensures { IfOk result (λ literals. HasNoZero literals.items) }
     {
         let mut literals = Vec::with_capacity(alloc, self.clauses.count(clause))?;
         'literals: for k in 0..self.clauses.count(clause) {
-            literals.push(self.clauses.literal(clause, k).number())?;
+            let literal = self.clauses.literal(clause, k);
+            if !self.is_denied(literal) {
+                literals.push(literal.number())?;
+            }
         }
         Ok(literals)
+    }
+
+    /// Whether a unit clause makes a literal false: all decisions are of such clauses, so it is false without a reason.
+    fn is_denied(&self, literal: Literal) -> bool {
+        self.trail.is_false(literal) && self.trail.reason_of(literal).is_none()
     }
 }
