@@ -8,7 +8,7 @@ use crate::condition::Condition;
 use std::alloc::Global;
 use xr_base::Memory;
 use xr_cone_nodes::Cone;
-use xr_sat::{Outcome, solve};
+use xr_query::{Decider, Outcome};
 use xr_wave::Wave;
 
 /// The condition of a certain place that has a cone, with all turns made. Takes memory as `Condition::new` does, and
@@ -29,27 +29,34 @@ pub fn condition_of(
     finish(alloc, condition, limit)
 }
 
-/// Makes all turns that are due, each by a search of at most as many clauses as the limit of a fresh log.
+/// Makes all turns that are due, each by a guess, or by a search of at most as many clauses as the limit of a fresh log. What
+/// guesses find of a variable is kept for the next turn.
 pub fn finish(alloc: Global, condition: Condition, limit: u32) -> Result<Condition, Memory>
     requires limit { limit ≡ condition.limit }
     requires some { 0 < limit }
     ensures { IfOk result (IsFinishedFrom condition) }
 {
+    let mut decider = Decider::new(alloc);
     let mut now = condition;
     'turns: while now.turns_due() > 0 {
-        now = make_turn(alloc, now, limit)?;
+        now = make_turn(alloc, &mut decider, now, limit)?;
     }
     Ok(now)
 }
 
 /// Makes one turn.
-fn make_turn(alloc: Global, condition: Condition, limit: u32) -> Result<Condition, Memory>
+fn make_turn(
+    alloc: Global,
+    decider: &mut Decider,
+    condition: Condition,
+    limit: u32,
+) -> Result<Condition, Memory>
     requires due { 0 < condition.due }
     requires limit { limit ≡ condition.limit }
     requires some { 0 < limit }
     ensures { IfOk result (IsStep condition) }
 {
-    match solve(alloc, condition.next_query(), limit)? {
+    match decider.decide(alloc, condition.next_query(), limit)? {
         Outcome::Model(model) => Ok(condition.need(model)),
         Outcome::Refuted(proof) => Ok(condition.drop_place(proof)),
         Outcome::Limit(proof) => Ok(condition.tried(proof)),

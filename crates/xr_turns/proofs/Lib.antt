@@ -1,10 +1,8 @@
 -- Proofs about turns that are stated, and about conditions.
 pub mod ConditionLists
-pub mod Literals
 pub mod MissedTurns
 pub mod SameQueries
 pub mod SettledLines
-pub mod StatedModels
 pub mod StatedTurns
 pub use Rattle.xr_cond.proofs.StayingConditions
 pub use Rattle.xr_cond.proofs.TurnChoices

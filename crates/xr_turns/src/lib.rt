@@ -1,14 +1,12 @@
 //! Turns as texts state them, and the conditions of all certain Line places of a wave.
 //!
-//! Start at specs/TurnLines.antt and specs/Conditions.antt, then at `take_turn` and `conditions_of`. The public module
-//! is for any log that a text states.
+//! Start at specs/TurnLines.antt and specs/Conditions.antt, then at `take_turn` and `conditions_of`. The module `logs` is
+//! for any log that a text states.
 #![tactic(auto)]
 
 mod all;
 mod begin;
 mod laws;
-pub mod logs;
-mod models;
 mod take;
 
 pub use all::conditions_of;
@@ -16,3 +14,4 @@ pub use begin::begin_at;
 pub use laws::{conditions_state_turns, conditions_stay};
 pub use take::take_turn;
 pub use xr_cond::{Condition, Cone, Cones, Lanes};
+pub use xr_query::logs;

@@ -5,13 +5,13 @@ ghost use Rattle.xr_cond.specs.View.{IsTurned};
 ghost use Rattle.xr_model.specs.declared.turn.Turn.TheVariants as turn;
 ghost use Rattle.xr_turns.specs.TurnLines.{IsNeverNext, IsNoTurn, IsTaken};
 
-use crate::logs::{checker_for, fits};
-use crate::models::is_model;
 use std::alloc::Global;
 use xr_base::Memory;
 use xr_cond::Condition;
 use xr_model::{Turn, TurnLine};
 use xr_proof::{Log, Model};
+use xr_query::logs::{checker_for, fits};
+use xr_query::models::is_model;
 
 /// The condition after a turn that a text states; none where that isn't the next turn: it names another place, its log
 /// or its model is of other variables, or it doesn't hold. Takes the memory of a check of its log.

@@ -2,8 +2,8 @@
 use Rattle.std.proofs.Common.{refl, ◌≤◌, ◌∙◌}
 use Rattle.std.specs.Prelude.{nat_abs}
 use Rattle.std.specs.List.{All}
-use Rattle.xr_turns.proofs.Literals.{item_all, item_more}
-use Rattle.xr_turns.proofs.logs.fits.Goals as goal
+use Rattle.xr_query.proofs.Literals.{item_all, item_more}
+use Rattle.xr_query.proofs.logs.fits.Goals as goal
 
 pub clauses-preserved : goal.clauses-preserved
 clauses-preserved c =

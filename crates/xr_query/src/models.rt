@@ -1,4 +1,4 @@
-//! Models that a text states: whether they make each clause of a formula true.
+//! Whether values are a model of a formula: they make each clause true.
 
 ghost use Rattle.std.specs.Prelude.{◌≡◌, ◌↔◌, IsTrue};
 ghost use Rattle.std.specs.List.{All};

@@ -1,7 +1,7 @@
 -- As many values as variables, by which each clause is met.
 use Rattle.std.proofs.Common.{ap, ◌∙◌, length, sym}
-use Rattle.xr_turns.proofs.StatedModels.{met_same}
-use Rattle.xr_turns.proofs.models.is_model.Goals as goal
+use Rattle.xr_query.proofs.StatedModels.{met_same}
+use Rattle.xr_query.proofs.models.is_model.Goals as goal
 
 pub returns-then-values-query : goal.returns-then-values-query
 returns-then-values-query c = (

@@ -4,8 +4,8 @@ use Rattle.std.specs.Prelude.{nat_abs}
 use Rattle.std.specs.List.{All}
 use Rattle.std.proofs.lemmas.List.Elements.{All-more}
 use mir.Val.{SFits}
-use Rattle.xr_turns.proofs.Literals.{abs_le}
-use Rattle.xr_turns.proofs.logs.clause_fits.Goals as goal
+use Rattle.xr_query.proofs.Literals.{abs_le}
+use Rattle.xr_query.proofs.logs.clause_fits.Goals as goal
 
 pub literals-preserved : goal.literals-preserved
 literals-preserved c =

@@ -3,8 +3,8 @@ use Rattle.std.proofs.Common.{rules, ◌≡◌, false, get_or, pos, subst, take_
 use Rattle.std.specs.List.{All}
 use Rattle.xr_proof.specs.Assignment.{assigned, value_of}
 use mir.Val.{SFits}
-use Rattle.xr_turns.proofs.StatedModels.{none_met, none_more}
-use Rattle.xr_turns.proofs.models.is_met.Goals as goal
+use Rattle.xr_query.proofs.StatedModels.{none_met, none_more}
+use Rattle.xr_query.proofs.models.is_met.Goals as goal
 
 pub literals-preserved : goal.literals-preserved
 literals-preserved c =

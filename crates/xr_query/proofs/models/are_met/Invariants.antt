@@ -2,7 +2,7 @@
 use Rattle.std.proofs.Common.{take}
 use Rattle.std.specs.List.{All}
 use Rattle.xr_proof.specs.Assignment.{IsMet, assigned}
-use Rattle.xr_turns.proofs.models.are_met.Given as goal
+use Rattle.xr_query.proofs.models.are_met.Given as goal
 
 abbrev pub invariant-clauses : goal.invariant-clauses
 invariant-clauses l = All (IsMet (assigned l.values)) (take l.place l.clauses)

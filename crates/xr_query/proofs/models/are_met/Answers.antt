@@ -1,9 +1,9 @@
 -- One clause more that is met, one that isn't, or the end.
 use Rattle.std.proofs.Common.{◌∙◌, refl}
 use Rattle.xr_proof.specs.Assignment.{IsMet, assigned}
-use Rattle.xr_turns.proofs.Literals.{item_all, item_more}
-use Rattle.xr_turns.proofs.StatedModels.{item_there}
-use Rattle.xr_turns.proofs.models.are_met.Goals as goal
+use Rattle.xr_query.proofs.Literals.{item_all, item_more}
+use Rattle.xr_query.proofs.StatedModels.{item_there}
+use Rattle.xr_query.proofs.models.are_met.Goals as goal
 
 pub returns-then-not-is_met : goal.returns-then-not-is_met
 returns-then-not-is_met c = (

@@ -1,4 +1,4 @@
-//! Logs that a text states: whether they name the variables of a formula alone, and a checker for them.
+//! Whether a log names the variables of a formula alone, and a checker for it.
 
 ghost use Rattle.std.specs.Prelude.{◌≡◌, ◌≤◌, ◌↔◌, IfOk, IsTrue, nat_abs};
 ghost use Rattle.std.specs.List.{All};

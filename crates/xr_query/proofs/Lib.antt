@@ -1,0 +1,3 @@
+-- Proofs about models and logs that are tested.
+pub mod Literals
+pub mod StatedModels

@@ -1,0 +1,2 @@
+-- Definitions of what is decided of a query.
+pub mod Decided

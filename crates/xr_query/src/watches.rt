@@ -1,0 +1,128 @@
+//! Watches: each clause of two literals or more watches its first two, in linked lists by literal.
+
+use crate::literal::Literal;
+use crate::reads::{item_at, set_item};
+use std::alloc::Global;
+use xr_base::Memory;
+
+/// A watch by number: twice that of its clause, and 1 more for the second literal.
+#[derive(Clone, Copy, Debug)]
+pub(crate) struct Watch {
+    number: u32,
+}
+
+impl Watch {
+    /// Its clause. Takes no memory.
+    pub(crate) fn clause(self) -> u32 {
+        self.number / 2
+    }
+
+    /// The place in the clause of the literal that is watched. Takes no memory.
+    pub(crate) fn side(self) -> usize {
+        (self.number % 2) as usize
+    }
+
+    /// That of the other one. Takes no memory.
+    pub(crate) fn other_side(self) -> usize {
+        if self.side() == 0 { 1 } else { 0 }
+    }
+}
+
+/// The next watch of the literal, and the blocker: a literal of the clause, which is looked at first.
+#[derive(Clone, Copy, Debug)]
+struct Entry {
+    next: Option<u32>,
+    blocker: Literal,
+}
+
+/// The watches of each literal. Takes 16 bytes a variable, and 24 a clause.
+#[derive(Drop)]
+pub(crate) struct Watches {
+    first: Vec<Option<u32>>,
+    entries: Vec<Entry>,
+}
+
+impl Watches {
+    /// No variables. Takes no memory.
+    pub(crate) fn new(alloc: Global) -> Watches {
+        Watches {
+            first: Vec::new(alloc),
+            entries: Vec::new(alloc),
+        }
+    }
+
+    /// A number of literals, which nothing watches.
+    pub(crate) fn start(&mut self, literals: usize) -> Result<(), Memory> {
+        self.first.clear();
+        self.entries.clear();
+        self.first.resize(literals, None)?;
+        Ok(())
+    }
+
+    /// One more clause, whose watches stand in no list.
+    pub(crate) fn add_clause(&mut self) -> Result<(), Memory> {
+        self.entries.push(unused())?;
+        self.entries.push(unused())?;
+        Ok(())
+    }
+
+    /// The watches of a clause come into the lists of its first two literals. Takes no memory.
+    pub(crate) fn note_clause(&mut self, clause: u32, first: Literal, second: Literal) {
+        let number = clause.saturating_mul(2);
+        self.note(first, Watch { number }, second);
+        let number = number.saturating_add(1);
+        self.note(second, Watch { number }, first);
+    }
+
+    /// How many watches there are. Takes no memory.
+    pub(crate) fn len(&self) -> usize {
+        self.entries.len()
+    }
+
+    /// Takes the list of a literal off, and gives its first watch. Takes no memory.
+    pub(crate) fn take(&mut self, literal: Literal) -> Option<Watch> {
+        let first = self.first(literal);
+        set_item(&mut self.first, literal.index(), None);
+        watch_of(first)
+    }
+
+    fn first(&self, literal: Literal) -> Option<u32> {
+        item_at(&self.first, literal.index(), None)
+    }
+
+    fn entry(&self, watch: Watch) -> Entry {
+        item_at(&self.entries, watch.number as usize, unused())
+    }
+
+    /// The watch after one in its list. Takes no memory.
+    pub(crate) fn next(&self, watch: Watch) -> Option<Watch> {
+        watch_of(self.entry(watch).next)
+    }
+
+    /// The blocker of a watch. Takes no memory.
+    pub(crate) fn blocker(&self, watch: Watch) -> Literal {
+        self.entry(watch).blocker
+    }
+
+    /// A watch comes into the list of a literal. Takes no memory.
+    pub(crate) fn note(&mut self, literal: Literal, watch: Watch, blocker: Literal) {
+        let next = self.first(literal);
+        let entry = Entry { next, blocker };
+        set_item(&mut self.entries, watch.number as usize, entry);
+        set_item(&mut self.first, literal.index(), Some(watch.number));
+    }
+}
+
+fn watch_of(number: Option<u32>) -> Option<Watch> {
+    match number {
+        None => None,
+        Some(number) => Some(Watch { number }),
+    }
+}
+
+fn unused() -> Entry {
+    Entry {
+        next: None,
+        blocker: Literal::none(),
+    }
+}
