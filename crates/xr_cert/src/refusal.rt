@@ -19,7 +19,7 @@ pub enum CertFault {
     Missing { place: Place },
     /// Any other line that doesn't name the place that is due.
     Stray { line: usize },
-    /// The log doesn't hold, or names a variable that the query hasn't, or all fillings of the place's sources are tried.
+    /// The log doesn't hold, or names a variable that the query hasn't, or the place's sources are enumerated.
     BadLog { line: usize },
     /// The fillings are none, or don't give 0 and 1.
     BadPair { line: usize },

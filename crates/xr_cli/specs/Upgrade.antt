@@ -163,7 +163,8 @@ pub record IsUpgradable (w : UpgradeValues) (netlist recording cert : List ℕ) 
 abbrev pub upgrade : Command Refused
 upgrade = record {
   word = codes "upgrade";
-  table = shared.job (needs (codes "cert") Reads ∷ needs (codes "to") Writes ∷ shared.conflicts ∷ shared.enumerate ∷ shared.report ∷ []);
+  table = shared.job (needs (codes "cert") Reads ∷ needs (codes "to") Writes ∷ shared.conflicts ∷ shared.enumerate
+      ∷ shared.report ∷ []);
   has_files = true;
   Values = UpgradeValues;
   files = λ v. v.job.netlists;

@@ -57,7 +57,8 @@ abbrev pub IsTurnQueryIn : Contents → ℕ → List ℕ → Cnf → Type 0
 IsTurnQueryIn c root listed query = IsTurnQuery (job c) (certain c.written) root (settled_bit c root) listed query
 
 abbrev pub IsTurnIn : Contents → ℕ → List ℕ → Turn → Type 0
-IsTurnIn c root listed turn = IsTurn (job c) (certain c.written) root (settled_bit c root) c.limits.conflicts listed turn
+IsTurnIn c root listed turn =
+    IsTurn (job c) (certain c.written) root (settled_bit c root) c.limits.conflicts listed turn
 
 -- The query that is kept about about a list, and the unit clause of a place is away: the clauses of the cone come
 -- first.

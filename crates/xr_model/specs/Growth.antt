@@ -15,7 +15,8 @@ use Rattle.xr_model.specs.declared.line.Line.{Line as ALine}
 use Rattle.xr_model.specs.declared.limits.Limits.{Limits}
 
 -- It is sound, and its lines yield it.
-pub record Holds (j : Job) (limits : Limits) (shown : ℕ → Value) (waveform : List Written) (lines : List ALine) : Type 0 where
+pub record Holds (j : Job) (limits : Limits) (shown : ℕ → Value) (waveform : List Written)
+    (lines : List ALine) : Type 0 where
   pub sound : Sound j limits shown waveform lines
   pub yields : Yields j limits shown waveform lines
 

@@ -134,7 +134,8 @@ BodyLaw = InSound (λ j waveform. (limits : Limits) (place : ℕ) (body : Body) 
 
 -- Whether a body holds at a place rests on the certain values before the place alone.
 abbrev pub BodyBeforeLaw : Type 0
-BodyBeforeLaw = (j : Job) (limits : Limits) (v w : List Written) (place : ℕ) (body : Body) → Fits j → place < places_of j
+BodyBeforeLaw = (j : Job) (limits : Limits) (v w : List Written) (place : ℕ) (body : Body) → Fits j
+    → place < places_of j
     → SameBefore v w place → BodyHolds j limits v place body → BodyHolds j limits w place body
 
 -- The wave invariant: a waveform with nothing written is sound and its lines yield it,
@@ -179,7 +180,8 @@ pub record IsSameAt (v w : List Written) (place : ℕ) : Type 0 where
 
 -- Two that are sound for two histories are equal in every mark and every certain value, whatever the limits.
 abbrev pub OneForHistories : Type 0
-OneForHistories = (j : Job) (limits bounds : Limits) (shown other : ℕ → Value) (v w : List Written) (lines more : List ALine)
+OneForHistories = (j : Job) (limits bounds : Limits) (shown other : ℕ → Value) (v w : List Written)
+    → (lines more : List ALine)
     → Fits j → length v ≡ length w → Sound j limits shown v lines → Sound j bounds other w more
     → IsDecided v → IsDecided w
     → (place : ℕ) → place < length v → IsSameAt v w place

@@ -39,7 +39,8 @@ pub record IsRefuted (j : Job) (waveform : List Written) (place : ℕ) (bit : Bo
   pub refutes : Refutes query.clauses log
 
 -- The licence of a place: it has more sources, and the log is fresh for its query and as long as the limits say.
-pub record IsLicence (j : Job) (limits : Limits) (waveform : List Written) (place : ℕ) (log : List (List ℤ)) : Type 0 where
+pub record IsLicence (j : Job) (limits : Limits) (waveform : List Written) (place : ℕ)
+    (log : List (List ℤ)) : Type 0 where
   pub many : limits.enumerated < length (sources j (certain waveform) place)
   pub query : Cnf
   pub is_query : IsQuery j (certain waveform) place query

@@ -33,7 +33,8 @@ FollowsClass earlier (Carried from inverted) written = FollowsCarrier inverted (
 FollowsClass earlier Line written = Unit {0}
 
 -- The licence of a place stands in the line of its root.
-pub record HasLicence (j : Job) (limits : Limits) (waveform : List Written) (lines : List ALine) (place : ℕ) : Type 0 where
+pub record HasLicence (j : Job) (limits : Limits) (waveform : List Written) (lines : List ALine)
+    (place : ℕ) : Type 0 where
   pub log : List (List ℤ)
   pub line : body_at j lines (root_of j (certain waveform) place).place ≡ Some (Budget log)
   pub holds : IsLicence j limits waveform (root_of j (certain waveform) place).place log
@@ -46,7 +47,8 @@ SoundBy j limits waveform lines place mark value =
 
 -- A waveform with its lines is sound for what a history shows: each place follows its class, is exact or has its
 -- licence, and shows what the history knows.
-pub record Sound (j : Job) (limits : Limits) (shown : ℕ → Value) (waveform : List Written) (lines : List ALine) : Type 0 where
+pub record Sound (j : Job) (limits : Limits) (shown : ℕ → Value) (waveform : List Written)
+    (lines : List ALine) : Type 0 where
   pub within : length waveform ≤ places_of j
   pub classes : (place : ℕ) → place < length waveform
       → FollowsClass (written_at waveform) (class_of j (certain waveform) place) (written_at waveform place)
