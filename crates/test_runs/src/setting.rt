@@ -33,7 +33,7 @@ fn of_memory(answer: Result<(), Memory>) -> Result<(), AllocError> {
 }
 
 impl Run {
-    /// No file, and no call fails. Takes no memory.
+    /// No file, and no call fails.
     pub fn new(case: Case<'_>) -> Run {
         let piece = number_of(case.line("pieces ").unwrap_or("4096"));
         let piece = (piece as usize).max(1);

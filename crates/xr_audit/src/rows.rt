@@ -16,7 +16,7 @@ use xr_design::{Circuit, Driver, History, Latching, Pin, Place, Shown, Table, pi
 use xr_wave::Wave;
 
 /// The row of the primitive that drives a place which the replay's value there comes from, the first being 1; none
-/// where no primitive drives it, no pin changed or no row matches. Takes no memory.
+/// where no primitive drives it, no pin changed or no row matches.
 pub fn row_at(wave: &Wave<'_>, replayed: &History, place: Place) -> Option<usize>
     requires audit { IsAudit wave.now replayed.now }
     requires step { place.step < (job wave.now).moments * (job wave.now).rounds }

@@ -10,7 +10,7 @@ use xr_cell::Value;
 use xr_design::{Driver, History, Latching, Mark, Pin, Place};
 use xr_wave::Wave;
 
-/// Whether none of the places whose values the replay reads for a listed place is listed or open. Takes no memory.
+/// Whether none of the places whose values the replay reads for a listed place is listed or open.
 pub fn is_origin(wave: &Wave<'_>, replayed: &History, place: Place) -> bool
     requires audit { spec.IsAudit wave.now replayed.now }
     requires step { place.step < (job wave.now).moments * (job wave.now).rounds }
@@ -141,7 +141,7 @@ fn is_open(wave: &Wave<'_>, replayed: &History, place: Place) -> bool
     }
 }
 
-/// Whether the replay's value is known, at a place that is certain with another one, or unknown. Takes no memory.
+/// Whether the replay's value is known, at a place that is certain with another one, or unknown.
 pub fn lists(mark: Mark, value: Value, replayed: Value) -> bool
     ensures { result ≡ spec.lists mark value replayed }
 {
@@ -152,7 +152,7 @@ pub fn lists(mark: Mark, value: Value, replayed: Value) -> bool
     }
 }
 
-/// Whether it is known, at a place that is undecided. Takes no memory.
+/// Whether it is known, at a place that is undecided.
 pub fn leaves_open(mark: Mark, replayed: Value) -> bool
     ensures { result ≡ spec.leaves_open mark replayed }
 {

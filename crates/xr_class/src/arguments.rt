@@ -32,7 +32,7 @@ impl Model for ArgumentsByNumber {
 }
 
 impl ArgumentsByNumber {
-    /// No places. Takes no memory.
+    /// No places.
     pub fn new() -> ArgumentsByNumber
         ensures { result ≡ [] }
     {
@@ -42,7 +42,7 @@ impl ArgumentsByNumber {
         }
     }
 
-    /// Appends a place. Takes no memory.
+    /// Appends a place.
     pub fn push(&mut self, place: usize)
         requires { length self.old < 13 }
         ensures { self.new ≡ self.old ++ place ∷ [] }
@@ -51,7 +51,7 @@ impl ArgumentsByNumber {
         self.len += 1;
     }
 
-    /// The places. Takes no memory.
+    /// The places.
     pub fn as_slice(&self) -> &[usize]
         ensures places { result.now ≡ self.now }
         ensures few { length result.now ≤ 13 }
@@ -60,8 +60,7 @@ impl ArgumentsByNumber {
     }
 }
 
-/// The argument places of a place, in place order and without doubles: those before it whose bits its rule reads. No
-/// memory.
+/// The argument places of a place, in place order and without doubles: those before it whose bits its rule reads.
 pub fn argument_places<C: Source>(
     circuit: &Circuit<'_>,
     certain: &C,
@@ -74,7 +73,7 @@ pub fn argument_places<C: Source>(
     ascending(ruled_arguments(circuit, certain, place).as_slice())
 }
 
-/// Those of them that aren't certain. Takes no memory.
+/// Those of them that aren't certain.
 pub fn uncertain_places<C: Source>(
     circuit: &Circuit<'_>,
     certain: &C,

@@ -57,7 +57,7 @@ impl<'a, C: Source> BitSource for Assigned<'a, C> {
     }
 }
 
-/// What the rule of a place gives where bit i of a number is the bit of its argument place i. Takes no memory.
+/// What the rule of a place gives where bit i of a number is the bit of its argument place i.
 pub fn rule_value<C: Source>(circuit: &Circuit<'_>, certain: &C, place: usize, number: u16) -> Value
     requires within { place < places_of (job_in circuit.now) }
     requires certain { (k : ℕ) → k < place → C.has certain.now k }

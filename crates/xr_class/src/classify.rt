@@ -18,7 +18,7 @@ use xr_model::ClassByNumber;
 use xr_wiring::{Kind, Wiring};
 
 /// The class of a place, from what is known of the places before it: the first that applies. It is told whether all
-/// places before it in its step keep, so that its pins needn't be looked at. Takes no memory.
+/// places before it in its step keep, so that its pins needn't be looked at.
 pub fn class_at<E: Earlier>(
     circuit: &Circuit<'_>,
     wiring: &Wiring,
@@ -54,8 +54,7 @@ pub fn class_at<E: Earlier>(
     }
 }
 
-/// The class of a place of which facts are kept, as of those before it: found anew where they leave it open. Takes no
-/// memory.
+/// The class of a place of which facts are kept, as of those before it: found anew where they leave it open.
 pub fn kept_class<E: Earlier>(
     circuit: &Circuit<'_>,
     wiring: &Wiring,

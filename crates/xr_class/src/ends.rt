@@ -20,7 +20,7 @@ pub struct Ends {
     pub last: Value,
 }
 
-/// What the rule of a place gives for the first and for the last choice of bits for some places. Takes no memory.
+/// What the rule of a place gives for the first and for the last choice of bits for some places.
 pub fn ends_of<C: Source>(
     circuit: &Circuit<'_>,
     certain: &C,
@@ -59,7 +59,7 @@ fn value_at<C: Source>(
 }
 
 impl Ends {
-    /// Whether one of them is 0, 1 or x and the other isn't: the place is then neither local nor free. Takes no memory.
+    /// Whether one of them is 0, 1 or x and the other isn't: the place is then neither local nor free.
     pub fn are_mixed(self) -> bool
         ensures { result ≡ differ self.first self.last }
     {
@@ -71,7 +71,7 @@ impl Ends {
         }
     }
 
-    /// The test that the place passes for every assignment, if it is local or free. Takes no memory.
+    /// The test that the place passes for every assignment, if it is local or free.
     pub fn test(self) -> Test
         ensures { result ≡ spec.test_at self.first }
     {
@@ -83,8 +83,7 @@ impl Ends {
         }
     }
 
-    /// Whether the place is inverted, if it is carried from one of the places; nothing where it can't be. Takes no
-    /// memory.
+    /// Whether the place is inverted, if it is carried from one of the places; nothing where it can't be.
     pub fn inverted(self) -> Option<bool>
         ensures { result ≡ spec.inverted_by self.first self.last }
     {

@@ -16,7 +16,7 @@ use xr_cell::Value;
 use xr_design::{BitSource, Circuit, Source, rule_value};
 
 /// Whether a test passes for every assignment of a place, given its uncertain argument places. Tries them all, and
-/// stops at the first that fails. Takes no memory.
+/// stops at the first that fails.
 pub fn passes_every<C: Source>(
     circuit: &Circuit<'_>,
     certain: &C,

@@ -25,7 +25,7 @@ use xr_design::{
     recorded_at, spot_of, width_of,
 };
 
-/// Whether a place passes its net's bit on, given its argument places that aren't certain. Takes no memory.
+/// Whether a place passes its net's bit on, given its argument places that aren't certain.
 pub fn passes_on<E: Earlier>(
     circuit: &Circuit<'_>,
     earlier: &E,
@@ -125,7 +125,7 @@ fn cell_passes<E: Earlier>(
     passes_every(circuit, earlier, place, uncertain, Test::Known)
 }
 
-/// Whether the place of a cell reads its filling. Takes no memory.
+/// Whether the place of a cell reads its filling.
 pub fn cell_chooses(table: Table, pins: &[Pin]) -> bool
     ensures { result ≡ cell_chooses table pins.now }
 {
@@ -195,7 +195,7 @@ pub fn pins_keep<E: Earlier>(
     }
 }
 
-/// Whether a net keeps at a step, where its place stands before another. Takes no memory.
+/// Whether a net keeps at a step, where its place stands before another.
 pub fn net_keeps<E: Earlier>(
     circuit: &Circuit<'_>,
     earlier: &E,
@@ -213,7 +213,7 @@ pub fn net_keeps<E: Earlier>(
 }
 
 /// Whether a net keeps at a place, given its certain value there and whether its class is Carried from the step before,
-/// as it is. Takes no memory.
+/// as it is.
 pub fn keeps_here<C: Source>(
     circuit: &Circuit<'_>,
     certain: &C,
@@ -240,7 +240,7 @@ fn are_equal(x: Value, y: Value) -> bool
     }
 }
 
-/// The place of the same net a step before. Takes no memory.
+/// The place of the same net a step before.
 pub fn place_before(circuit: &Circuit<'_>, place: usize) -> usize
     requires within { place < places_of (job_in circuit.now) }
     ensures { result ≡ before (job_in circuit.now) place }

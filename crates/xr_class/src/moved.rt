@@ -24,7 +24,7 @@ use xr_design::{
 };
 use xr_model::ClassByNumber;
 
-/// The class of a cell's place. Takes no memory.
+/// The class of a cell's place.
 pub fn moved_cell<E: Earlier>(
     circuit: &Circuit<'_>,
     earlier: &E,
@@ -49,7 +49,7 @@ pub fn moved_cell<E: Earlier>(
     }
 }
 
-/// The class of a register's place. Takes no memory.
+/// The class of a register's place.
 pub fn moved_register<E: Earlier>(
     circuit: &Circuit<'_>,
     earlier: &E,

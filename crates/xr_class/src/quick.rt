@@ -101,7 +101,7 @@ pub fn settled_class<C: Source>(circuit: &Circuit<'_>, certain: &C, place: usize
     plain_class(rule_value(circuit, certain, &bits, place))
 }
 
-/// The class of a place that is local or free, by its certain value or by what its rule gives. Takes no memory.
+/// The class of a place that is local or free, by its certain value or by what its rule gives.
 pub fn plain_class(value: Value) -> ClassByNumber
     ensures { result ≡ spec.plain_class value }
 {

@@ -17,7 +17,7 @@ use xr_design::{
     spot_of, width_of,
 };
 
-/// The argument places of a place, in the order in which its rule names them, with doubles. Takes no memory.
+/// The argument places of a place, in the order in which its rule names them, with doubles.
 #[tactic(auto, unfolding(xr_design::specs::Rule::arguments))]
 pub fn ruled_arguments<C: Source>(
     circuit: &Circuit<'_>,

@@ -21,7 +21,7 @@ use xr_design::{Circuit, Pin, Source, Table, width_of};
 use xr_model::ClassByNumber;
 
 /// The class of a cell's place. Where its pins keep it gives at the step before what it gives here; so they do where
-/// all places before it in its step keep. Takes no memory.
+/// all places before it in its step keep.
 pub fn cell_class<E: Earlier>(
     circuit: &Circuit<'_>,
     earlier: &E,
@@ -76,7 +76,7 @@ fn pins_keep<E: Earlier>(earlier: &E, first: usize, pins: &[Pin], all_keep: bool
     all_keep || positions_keep(earlier, first, pins)
 }
 
-/// The class of a register's place. Where it sees the step before what it sees here, it does the same. Takes no memory.
+/// The class of a register's place. Where it sees the step before what it sees here, it does the same.
 pub fn register_class<E: Earlier>(
     circuit: &Circuit<'_>,
     earlier: &E,

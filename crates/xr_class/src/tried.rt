@@ -24,7 +24,7 @@ use crate::test::Test;
 use xr_design::{Circuit, Source};
 use xr_model::ClassByNumber;
 
-/// The class of a place, by what its rule gives. Takes no memory.
+/// The class of a place, by what its rule gives.
 pub fn tried_class<E: Earlier>(circuit: &Circuit<'_>, earlier: &E, place: usize) -> ClassByNumber
     requires within { place < places_of (job_in circuit.now) }
     requires certain { (k : ℕ) → k < place → E.has earlier.now k }

@@ -75,7 +75,7 @@ fn report_of<'a>(
     Ok(ready_with(alloc, Report::new(alloc, report)?))
 }
 
-/// No file, and a report. Takes no memory.
+/// No file, and a report.
 pub fn ready_with<'a>(alloc: Global, report: Report) -> Ready<'a>
     ensures { answer_of result ≡ record { files = []; printed = report.bytes.items } }
 {

@@ -13,8 +13,7 @@ use xr_cone_nodes::Cone;
 use xr_proof::{Exhausted, Refuted};
 use xr_wave::{Budget, How, Settled, Wave};
 
-/// A log that refutes the query of the next place shows that every filling gives the bit that the query denies. Takes
-/// no memory.
+/// A log that refutes the query of the next place shows that every filling gives the bit that the query denies.
 pub fn conclude(wave: &Wave<'_>, cone: &Cone, proof: Refuted) -> Settled
     requires cone { IsNextCone wave.now cone.now.nodes }
     requires refutes { RefutesNext wave.now proof }

@@ -26,7 +26,7 @@ impl Model for Lists {
 }
 
 impl Lists {
-    /// No list. Takes no memory.
+    /// No list.
     pub fn new(alloc: Global) -> Lists
         ensures { result ≡ [] }
     {

@@ -9,7 +9,7 @@ use std::alloc::Global;
 use xr_base::Memory;
 use xr_cone_nodes::{Node, NodeBody};
 
-/// How many nodes aren't carried. Takes no memory.
+/// How many nodes aren't carried.
 pub fn variables_of(nodes: &[Node]) -> usize
     ensures { result ≡ variables_of nodes.now }
 {
@@ -64,7 +64,7 @@ pub fn variables_with(variables: u32, body: &NodeBody) -> u32
     }
 }
 
-/// The literal that says that what a literal says has a bit. Takes no memory.
+/// The literal that says that what a literal says has a bit.
 pub fn turned(literal: i32, bit: bool) -> i32
     requires { nat_abs literal ≤ 2 ^ 27 }
     ensures { result ≡ says literal bit }

@@ -79,7 +79,7 @@ impl<'a> Progress<'a> {
             statements: Statements::new(alloc, code.design.nets.as_slice().len())?,
         })
     }
-    /// The events of the statements. Takes no memory.
+    /// The events of the statements.
     pub fn into_events(self) -> Vec<Event>
         ensures { result.items ≡ self.entry.events }
     {

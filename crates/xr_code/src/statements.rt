@@ -38,7 +38,7 @@ impl Statements {
         })
     }
 
-    /// To what a net is forced now. Takes no memory.
+    /// To what a net is forced now.
     pub fn forced(&self, net: u32) -> Option<Value>
         requires { net < self.now.nets }
         ensures { result ≡ forced_now self.now.events net }
@@ -57,7 +57,7 @@ impl Statements {
         Ok(())
     }
 
-    /// The events. Takes no memory.
+    /// The events.
     pub fn into_events(self) -> Vec<Event>
         ensures { result.items ≡ self.events }
     {

@@ -32,7 +32,7 @@ pub fn next_exchanged(next: NextQuery, kept: usize, due: usize) -> NextQuery
     next
 }
 
-/// The unit clause at a place is taken away, and the one that was away is forgotten. Takes no memory.
+/// The unit clause at a place is taken away, and the one that was away is forgotten.
 fn take(next: NextQuery, place: usize) -> NextQuery
     requires { place < length next.query.clauses }
     ensures { IsTakenAway next place result }
@@ -48,7 +48,7 @@ fn take(next: NextQuery, place: usize) -> NextQuery
     NextQuery { query, cone, away }
 }
 
-/// The unit clause at a place is taken away, and the one that was away stands there. Takes no memory.
+/// The unit clause at a place is taken away, and the one that was away stands there.
 fn exchange(next: NextQuery, place: usize) -> NextQuery
     requires { place < length next.query.clauses }
     ensures { IsExchanged next place result }

@@ -56,49 +56,49 @@ impl marker::Model for Condition {
 }
 
 impl Condition {
-    /// How many turns are still to be made. Takes no memory.
+    /// How many turns are still to be made.
     pub fn turns_due(&self) -> usize
         ensures { result ≡ self.now.due }
     {
         self.due
     }
 
-    /// Its place. Takes no memory.
+    /// Its place.
     pub fn place(&self) -> Place
         ensures { result ≡ self.now.place }
     {
         self.place
     }
 
-    /// All certain boundary places, in place order. Takes no memory.
+    /// All certain boundary places, in place order.
     pub fn boundary(&self) -> &[Place]
         ensures { result.now ≡ self.now.boundary }
     {
         self.boundary.as_slice()
     }
 
-    /// The list, in place order. Takes no memory.
+    /// The list, in place order.
     pub fn places(&self) -> &[Place]
         ensures { result.now ≡ self.now.listed }
     {
         self.listed.as_slice()
     }
 
-    /// The turns that were made. Takes no memory.
+    /// The turns that were made.
     pub fn turns(&self) -> &[Turn]
         ensures { result.now ≡ self.now.turns }
     {
         self.turns.as_slice()
     }
 
-    /// How long a fresh log is. Takes no memory.
+    /// How long a fresh log is.
     pub fn limit(&self) -> u32
         ensures { result ≡ self.now.limit }
     {
         self.limit
     }
 
-    /// The place of the next turn. Takes no memory.
+    /// The place of the next turn.
     pub fn next_place(&self) -> Place
         requires { 0 < self.now.due }
         ensures { IsNextPlace self.now result }
@@ -106,7 +106,7 @@ impl Condition {
         self.boundary[self.turns.len()]
     }
 
-    /// The query of the next turn, as it is kept: that of the list without the next place. Takes no memory.
+    /// The query of the next turn, as it is kept: that of the list without the next place.
     pub fn next_query(&self) -> &Cnf
         requires { 0 < self.now.due }
         ensures query { IsNextQuery self.now result.now }
@@ -125,7 +125,7 @@ impl Condition {
         copy_of(alloc, self.next_query())
     }
 
-    /// The next place leaves the list, since a log refutes the query without it. Takes no memory.
+    /// The next place leaves the list, since a log refutes the query without it.
     pub fn drop_place(self, proof: Refuted) -> Condition
         requires due { 0 < self.due }
         requires refutes { FindsNext self (λ query. Fit query.vars proof × Refutes query.clauses proof) }
@@ -156,7 +156,7 @@ impl Condition {
         }
     }
 
-    /// The next place stays, since a model makes each clause of the query without it true. Takes no memory.
+    /// The next place stays, since a model makes each clause of the query without it true.
     pub fn need(self, model: Model) -> Condition
         requires due { 0 < self.due }
         requires model { FindsNext self (λ query. IsModel query.vars query.clauses model) }
@@ -165,7 +165,7 @@ impl Condition {
         self.stay(Turn::Needed(model))
     }
 
-    /// The next place stays, since the search ended with a fresh log. Takes no memory.
+    /// The next place stays, since the search ended with a fresh log.
     pub fn tried(self, proof: Exhausted) -> Condition
         requires due { 0 < self.due }
         requires fresh { FindsNext self

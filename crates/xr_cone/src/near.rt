@@ -41,7 +41,7 @@ pub fn cone_places(alloc: Global, wave: &Wave<'_>, cone: &Cone) -> Result<Vec<us
     numbers_of(alloc, &wave.circuit(), cone.nodes())
 }
 
-/// Where a place stands in a list that ascends. Takes no memory.
+/// Where a place stands in a list that ascends.
 pub fn position_in(places: &[usize], place: usize) -> u32
     requires rising { IsStrictlyIncreasing places.now }
     requires few { length places.now ≤ 2 ^ 27 }
@@ -52,7 +52,7 @@ pub fn position_in(places: &[usize], place: usize) -> u32
     position_of(&[], places, place)
 }
 
-/// Where at most 13 places stand in a list that ascends. Takes no memory.
+/// Where at most 13 places stand in a list that ascends.
 pub fn positions_in(places: &[usize], some: &[usize]) -> Positions
     requires rising { IsStrictlyIncreasing places.now }
     requires few { length places.now ≤ 2 ^ 27 }

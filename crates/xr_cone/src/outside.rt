@@ -134,7 +134,7 @@ fn add_outside(cone: &[usize], places: &[usize], reached: &mut Reached) -> Resul
     Ok(())
 }
 
-/// Whether a place is among places that ascend. Takes no memory.
+/// Whether a place is among places that ascend.
 pub fn is_among(places: &[usize], place: usize) -> bool
     requires { IsStrictlyIncreasing places.now }
     ensures { result ≡ among places.now place }

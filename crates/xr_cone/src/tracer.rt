@@ -45,7 +45,7 @@ impl Model for Tracer {
 }
 
 impl Tracer {
-    /// Nothing is known. Takes no memory.
+    /// Nothing is known.
     pub fn new(alloc: Global) -> Tracer
         ensures nothing { KnowsNothing result }
         ensures right { (c : Contents) → IsRightOf c result }

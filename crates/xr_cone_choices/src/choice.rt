@@ -18,7 +18,7 @@ impl Choice {
     ghost use Rattle.xr_cone_choices.specs.Choices.{IsAmong, bits_in, chosen_in};
     ghost use Rattle.xr_cone_choices.specs.Halves.{with_argument};
 
-    /// Whether an argument is chosen. Takes no memory.
+    /// Whether an argument is chosen.
     pub fn has(&self, argument: usize) -> bool
         requires { argument < 16 }
         ensures { result ≡ chosen_in self.now argument }
@@ -26,7 +26,7 @@ impl Choice {
         (self.care >> argument) % 2 == 1
     }
 
-    /// The bit of an argument, 0 where it isn't chosen. Takes no memory.
+    /// The bit of an argument, 0 where it isn't chosen.
     pub fn bit(&self, argument: usize) -> bool
         requires { argument < 16 }
         ensures { result ≡ bits_in self.now argument }
@@ -34,7 +34,7 @@ impl Choice {
         (self.bits >> argument) % 2 == 1
     }
 
-    /// The choice of the same bits and a bit for the next argument. Takes no memory.
+    /// The choice of the same bits and a bit for the next argument.
     #[tactic(auto, using(crate::proofs::ChoiceBits::power_small))]
     pub(crate) fn with_argument(self, count: usize, last: bool) -> Choice
         requires few { count < 13 }

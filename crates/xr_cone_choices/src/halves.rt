@@ -10,7 +10,7 @@ use std::alloc::Global;
 use xr_base::Memory;
 use xr_cell::Value;
 
-/// Whether a choice forces a bit in a table. Looks at the values that agree with the choice. Takes no memory.
+/// Whether a choice forces a bit in a table. Looks at the values that agree with the choice.
 pub fn forces(values: &[Value], count: usize, choice: Choice, bit: bool) -> bool
     requires few { count ≤ 13 }
     requires long { length values.now ≡ 2 ^ count }

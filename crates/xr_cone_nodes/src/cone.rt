@@ -52,7 +52,7 @@ impl Cone {
         })
     }
 
-    /// The nodes, in place order. Takes no memory.
+    /// The nodes, in place order.
     pub fn nodes(&self) -> &[Node]
         ensures nodes { result.now ≡ self.now.nodes }
         ensures are { AreNodes result.now }
@@ -60,14 +60,14 @@ impl Cone {
         self.nodes.as_slice()
     }
 
-    /// The sources, in place order. Takes no memory.
+    /// The sources, in place order.
     pub fn sources(&self) -> &[Place]
         ensures { result.now ≡ sources_of self.now.nodes }
     {
         self.sources.as_slice()
     }
 
-    /// The bit of the place in the world of the empty filling. Takes no memory.
+    /// The bit of the place in the world of the empty filling.
     pub fn base(&self) -> bool
         ensures { result ≡ root_bit nothing self.now.nodes }
     {

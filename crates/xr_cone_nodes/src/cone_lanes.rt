@@ -33,7 +33,7 @@ impl ConeLanes {
         Ok(ConeLanes { lane_table })
     }
 
-    /// The lanes of the root, where source i has given[i], or 0 where nothing is given. Takes no memory.
+    /// The lanes of the root, where source i has given[i], or 0 where nothing is given.
     pub fn root(&mut self, cone: &Cone, given: &[LaneBits]) -> LaneBits
         requires room { self.old.nodes ≡ length cone.now.nodes }
         ensures lanes { HasLanes result (root_in_lane cone.now.nodes given.now) }

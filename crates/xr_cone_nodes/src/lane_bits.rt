@@ -23,21 +23,21 @@ impl Model for LaneBits {
 }
 
 impl LaneBits {
-    /// The lanes that have bit l % 64 of part l / 64 in lane l. Takes no memory.
+    /// The lanes that have bit l % 64 of part l / 64 in lane l.
     pub fn new(parts: [u64; 4]) -> LaneBits
         ensures { result ≡ parts }
     {
         LaneBits { parts }
     }
 
-    /// The lanes with 0 in each lane. Takes no memory.
+    /// The lanes with 0 in each lane.
     pub fn zeros() -> LaneBits
         ensures { HasLanes result (λ lane. false) }
     {
         LaneBits { parts: [0; 4] }
     }
 
-    /// The lanes with 1 in each lane. Takes no memory.
+    /// The lanes with 1 in each lane.
     pub fn ones() -> LaneBits
         ensures { HasLanes result (λ lane. true) }
     {
@@ -46,7 +46,7 @@ impl LaneBits {
         }
     }
 
-    /// The bit in a lane. Takes no memory.
+    /// The bit in a lane.
     pub fn in_lane(self, lane: u32) -> bool
         requires { lane < 256 }
         ensures { result ≡ in_lane self lane }
@@ -54,7 +54,7 @@ impl LaneBits {
         (self.parts[lane as usize / 64] >> (lane % 64)) & 1 == 1
     }
 
-    /// 1 where both have it. Takes no memory.
+    /// 1 where both have it.
     pub fn and(self, other: LaneBits) -> LaneBits
         ensures { HasLanes result (λ lane. in_lane self lane && in_lane other lane) }
     {
@@ -68,7 +68,7 @@ impl LaneBits {
         }
     }
 
-    /// 1 where one of them has it. Takes no memory.
+    /// 1 where one of them has it.
     pub fn or(self, other: LaneBits) -> LaneBits
         ensures { HasLanes result (λ lane. in_lane self lane || in_lane other lane) }
     {
@@ -82,14 +82,14 @@ impl LaneBits {
         }
     }
 
-    /// A lane in which the bits have a 1. Takes no memory.
+    /// A lane in which the bits have a 1.
     pub fn first(self) -> Option<u32>
         ensures { MatchOption result (HasNone self) (IsOne self) }
     {
         first_in(&self.parts)
     }
 
-    /// The lanes, or their complement. Takes no memory.
+    /// The lanes, or their complement.
     pub fn turned(self, inverted: bool) -> LaneBits
         ensures { HasLanes result (λ lane. flipped inverted (in_lane self lane)) }
     {

@@ -35,7 +35,7 @@ pub struct Node {
 impl Node {
     ghost use Rattle.xr_cone_nodes.specs.Nodes.{is_source_node};
 
-    /// Whether it is a source: its table has x somewhere. Takes no memory.
+    /// Whether it is a source: its table has x somewhere.
     pub fn is_source(&self) -> bool
         ensures { result ≡ is_source_node self.now }
     {

@@ -22,7 +22,7 @@ impl Model for Positions {
 }
 
 impl Positions {
-    /// No positions. Takes no memory.
+    /// No positions.
     pub fn new() -> Positions
         ensures { result ≡ [] }
     {
@@ -32,7 +32,7 @@ impl Positions {
         }
     }
 
-    /// Appends a position. Takes no memory.
+    /// Appends a position.
     pub fn push(&mut self, position: u32)
         requires { length self.old < 13 }
         ensures { self.new ≡ self.old ++ position ∷ [] }
@@ -41,7 +41,7 @@ impl Positions {
         self.len += 1;
     }
 
-    /// The positions. Takes no memory.
+    /// The positions.
     pub fn as_slice(&self) -> &[u32]
         ensures { result.now ≡ self.now }
     {

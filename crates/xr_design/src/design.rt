@@ -77,7 +77,7 @@ impl Design {
     ghost use Rattle.xr_design.specs.Job.{driver_in};
     ghost use Rattle.xr_design.specs.Name.{written_name};
 
-    /// What a cell gives for the values at its pins, in port order (IEEE 1364-2005, clauses 7 and 8). Takes no memory.
+    /// What a cell gives for the values at its pins, in port order (IEEE 1364-2005, clauses 7 and 8).
     pub fn cell_value(&self, net: u32, pins: &[Value]) -> Value
         requires net { net < length self.now.nets }
         requires cell { IsCell self.now.udps (length pins.now) (driver_in self.now net) }
@@ -93,7 +93,7 @@ impl Design {
     }
 
     /// What a register keeps when the values at its pins go from the old ones to the new ones, from what it kept before
-    /// (IEEE 1364-2005, clause 8). Takes no memory.
+    /// (IEEE 1364-2005, clause 8).
     pub fn register_value(&self, net: u32, old: &[Value], new: &[Value], kept: Value) -> Value
         requires net { net < length self.now.nets }
         requires register { IsRegister self.now.udps (length old.now) (driver_in self.now net) }

@@ -15,7 +15,7 @@ use crate::rule::table_value;
 use crate::spot::{Spot, recorded_at, start_at};
 use xr_cell::Value;
 
-/// What the driver of a place gives, where its net kept this one step before. Takes no memory.
+/// What the driver of a place gives, where its net kept this one step before.
 pub fn driven_value<S: Source>(
     circuit: &Circuit<'_>,
     source: &S,
@@ -47,7 +47,7 @@ pub fn driven_value<S: Source>(
     }
 }
 
-/// What a cell gives on the values of its pins at a step. Takes no memory.
+/// What a cell gives on the values of its pins at a step.
 pub fn cell_value<S: Source>(
     circuit: &Circuit<'_>,
     source: &S,
@@ -88,7 +88,7 @@ fn register_value<S: Source>(
     }
 }
 
-/// What a driver keeps where it gives a value: x where it is no register. Takes no memory.
+/// What a driver keeps where it gives a value: x where it is no register.
 pub fn kept_value(driver: &Driver, given: Value) -> Value
     ensures { result ≡ kept_by driver.now given }
 {

@@ -10,7 +10,7 @@ ghost use Rattle.xr_design.specs.Job.{number_of};
 use crate::circuit::Circuit;
 use crate::place::Place;
 
-/// Whether places are those of the job, in place order and without doubles. Takes no memory.
+/// Whether places are those of the job, in place order and without doubles.
 pub fn is_filling(circuit: &Circuit<'_>, places: &[Place]) -> bool
     ensures { IsTrue result ↔ IsFilling (job_in circuit.now) places.now }
 {

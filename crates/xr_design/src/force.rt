@@ -31,7 +31,7 @@ impl Model for Forces {
 }
 
 impl Forces {
-    /// No events. Takes no memory.
+    /// No events.
     pub fn empty(alloc: Global) -> Forces
         ensures { result ≡ [] }
     {
@@ -40,21 +40,21 @@ impl Forces {
         }
     }
 
-    /// These events. Takes no memory.
+    /// These events.
     pub fn from_vec(events: Vec<Event>) -> Forces
         ensures { result ≡ events.items }
     {
         Forces { events }
     }
 
-    /// The events. Takes no memory.
+    /// The events.
     pub fn as_slice(&self) -> &[Event]
         ensures { result.now ≡ self.now }
     {
         self.events.as_slice()
     }
 
-    /// The events. Takes no memory.
+    /// The events.
     pub fn into_vec(self) -> Vec<Event>
         ensures { result.items ≡ self }
     {

@@ -57,7 +57,7 @@ impl History {
         History { nets, steps, rows }
     }
 
-    /// What the place shows. Takes no memory.
+    /// What the place shows.
     pub fn shown(&self, place: Place) -> Value
         requires { HasPlace self.now place }
         ensures { result ≡ (held_in self.now place).shown }
@@ -65,7 +65,7 @@ impl History {
         value_of_two_bits(self.byte(place.net as usize, place.step as usize) % 4)
     }
 
-    /// What the place keeps. Takes no memory.
+    /// What the place keeps.
     pub fn kept(&self, place: Place) -> Value
         requires { HasPlace self.now place }
         ensures { result ≡ (held_in self.now place).kept }
@@ -73,8 +73,8 @@ impl History {
         value_of_two_bits(self.byte(place.net as usize, place.step as usize) / 4 % 4)
     }
 
-    /// The nets that were written at a step behind the first, in order; each other has what it had one step before. None
-    /// where every place of the step is blank, since nothing was written so late. Takes no memory.
+    /// The nets that were written at a step behind the first, in order; each other has what it had one step before.
+    /// None where every place of the step is blank, since nothing was written so late.
     pub fn written(&self, step: usize) -> Option<&[Change]>
         requires later { 0 < step }
         ensures some { IfSome result (λ changes. AreWritten self.now step changes.now) }

@@ -56,7 +56,7 @@ fn new_values<S: Source>(
     pin_values(circuit, source, step - 1, latching.pins.as_slice())
 }
 
-/// What a register keeps at a later step. Takes no memory.
+/// What a register keeps at a later step.
 pub fn updated_value<S: Source>(
     circuit: &Circuit<'_>,
     source: &S,
@@ -83,7 +83,7 @@ fn udp_of<'a>(circuit: &Circuit<'a>, latching: &Latching) -> &'a Udp
     &circuit.design.udps.as_slice()[latching.udp as usize]
 }
 
-/// The bit at which the pins one step back hold a register whatever its state is, else x. Takes no memory.
+/// The bit at which the pins one step back hold a register whatever its state is, else x.
 pub fn hold_value<S: Source>(
     circuit: &Circuit<'_>,
     source: &S,
@@ -101,7 +101,7 @@ pub fn hold_value<S: Source>(
     udp_of(circuit, latching).hold(&new[..count])
 }
 
-/// Whether a clock pin isn't certain where the register looks back at it. Takes no memory.
+/// Whether a clock pin isn't certain where the register looks back at it.
 pub fn clock_is_uncertain<S: Source>(
     circuit: &Circuit<'_>,
     certain: &S,
@@ -122,7 +122,7 @@ pub fn clock_is_uncertain<S: Source>(
     old_unknown || new_unknown
 }
 
-/// The same, and where levels hold registers also where it looked back one step before. Takes no memory.
+/// The same, and where levels hold registers also where it looked back one step before.
 pub fn clock_was_uncertain<S: Source>(
     circuit: &Circuit<'_>,
     certain: &S,

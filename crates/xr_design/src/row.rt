@@ -45,21 +45,21 @@ impl<'a> HistoryRow<'a> {
         })
     }
 
-    /// The step. Takes no memory.
+    /// The step.
     pub fn step(&self) -> usize
         ensures { result ≡ self.now.step }
     {
         self.step
     }
 
-    /// The history. Takes no memory.
+    /// The history.
     pub fn history(&self) -> &'a History
         ensures { result.now ≡ self.now.history }
     {
         self.history
     }
 
-    /// Goes on to the next step. Costs the places that were written at it. Takes no memory.
+    /// Goes on to the next step. Costs the places that were written at it.
     pub fn next_step(&mut self)
         requires { self.old.step < 2 ^ 32 }
         ensures { self.new ≡ next_row self.old }
@@ -74,7 +74,7 @@ impl<'a> HistoryRow<'a> {
         }
     }
 
-    /// What a net shows at the step. Takes no memory.
+    /// What a net shows at the step.
     pub fn shown(&self, net: u32) -> Value
         requires { HasPlace self.now.history (net_place self.now.step net) }
         ensures { result ≡ (held_in self.now.history (net_place self.now.step net)).shown }
@@ -82,7 +82,7 @@ impl<'a> HistoryRow<'a> {
         value_of_two_bits(self.bytes[net as usize] % 4)
     }
 
-    /// What it keeps there. Takes no memory.
+    /// What it keeps there.
     pub fn kept(&self, net: u32) -> Value
         requires { HasPlace self.now.history (net_place self.now.step net) }
         ensures { result ≡ (held_in self.now.history (net_place self.now.step net)).kept }

@@ -18,7 +18,7 @@ use crate::spot::{Spot, driver_at, recorded_at, spot_of, start_at};
 use crate::stim::Levels;
 use xr_cell::{Value, gate_value};
 
-/// What the certain values and the bits of the places before a place make of it. Takes no memory.
+/// What the certain values and the bits of the places before a place make of it.
 #[tactic(auto, unfolding(crate::specs::Rule::rule))]
 pub fn rule_value<C: Source, B: BitSource>(
     circuit: &Circuit<'_>,
@@ -140,7 +140,7 @@ fn register_value<C: Source, B: BitSource>(
     }
 }
 
-/// What a register makes at a later step of the values at its pins and of its own one step back. Takes no memory.
+/// What a register makes at a later step of the values at its pins and of its own one step back.
 pub fn remade_value<S: Source>(
     circuit: &Circuit<'_>,
     source: &S,

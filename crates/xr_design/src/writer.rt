@@ -77,8 +77,7 @@ impl HistoryWriter {
         Ok(())
     }
 
-    /// What the place shows. One that lies more than two steps back is looked for in all that was written. Takes no
-    /// memory.
+    /// What the place shows. One that lies more than two steps back is looked for in all that was written.
     pub fn shown(&self, place: Place) -> Value
         requires { HasPlace self.now.history place }
         ensures { result ≡ (held_in self.now.history place).shown }
@@ -86,7 +85,7 @@ impl HistoryWriter {
         value_of_two_bits(self.byte(place) % 4)
     }
 
-    /// What the place keeps, looked for in the same way. Takes no memory.
+    /// What the place keeps, looked for in the same way.
     pub fn kept(&self, place: Place) -> Value
         requires { HasPlace self.now.history place }
         ensures { result ≡ (held_in self.now.history place).kept }

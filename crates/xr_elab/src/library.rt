@@ -60,7 +60,7 @@ impl<'t> Library<'t> {
     ghost use Rattle.xr_elab.specs.Busy.{IsToDo, busy_of_module};
 
     /// The library of a text whose names are in order, with the tables of its primitives, what the declarations of its
-    /// modules come to, and what is idle in them. Takes no memory.
+    /// modules come to, and what is idle in them.
     pub fn new(
         definitions: &'t Definitions<'t>,
         udps: &'t [Udp],
@@ -81,7 +81,7 @@ impl<'t> Library<'t> {
         }
     }
 
-    /// What a name defines. Takes no memory.
+    /// What a name defines.
     pub fn find(&self, name: &[u8]) -> Option<Definition>
         ensures found { result ≡ definition_of self.now.source name.now }
         ensures there { IfSome result (λ d. IsThere self.now.source d) }
@@ -96,7 +96,7 @@ impl<'t> Library<'t> {
         self.udps
     }
 
-    /// The table of the primitive at a position. Takes no memory.
+    /// The table of the primitive at a position.
     pub fn udp(&self, k: usize) -> &'t Udp
         requires { k < length self.now.source.primitives }
         ensures table { result.now ≡ primitive_of self.now.tables k }
@@ -107,7 +107,7 @@ impl<'t> Library<'t> {
         udp_at(self.udps, k)
     }
 
-    /// The module at a position, with what its declarations come to. Takes no memory.
+    /// The module at a position, with what its declarations come to.
     pub fn module(&self, k: usize) -> &Declarations<'t>
         requires { k < length self.now.source.modules }
         ensures { result.now ≡ module_of self.now k }
@@ -115,8 +115,8 @@ impl<'t> Library<'t> {
         module_at(self.modules, k)
     }
 
-    /// Which items of the module at a position are to be gone through, where it ends this path. The path before it may have
-    /// `room` modules more. Takes no memory.
+    /// Which items of the module at a position are to be gone through, where it ends this path. The path before it may
+    /// have `room` modules more.
     #[tactic(auto, using(crate::proofs::Choosing::busy_there))]
     pub fn to_do(&self, path: &[usize], room: usize, k: usize) -> &[&'t Item]
         requires { k < length self.now.source.modules }
@@ -134,7 +134,7 @@ impl<'t> Library<'t> {
     }
 
     /// Whether depth and path allow that an instance of a module that makes no net is passed over. The path may have
-    /// `room` modules more. Takes no memory.
+    /// `room` modules more.
     pub fn passes_over(&self, path: &[usize], room: usize, k: usize, item: &InstanceItem) -> bool
         ensures { IsPassing self.now.source path.now room k item.now result }
     {

@@ -10,7 +10,7 @@ use crate::runs::Runs;
 use xr_design::{Driver, Pin};
 use xr_elab_nets::{ElabErr, Nets};
 
-/// Gives the bits on the left those on the right, from left to right. Takes no memory.
+/// Gives the bits on the left those on the right, from left to right.
 pub fn drive(nets: &mut Nets, left: &Runs, right: &Runs) -> Result<(), ElabErr>
     ensures driven { Gives (spec.all_driven left.now right.now nets.old) result (λ _. nets.new) }
     ensures no_memory { IfErr result (λ e. e ≢ OutOfMemory) }
@@ -26,7 +26,7 @@ pub fn drive(nets: &mut Nets, left: &Runs, right: &Runs) -> Result<(), ElabErr>
     Ok(())
 }
 
-/// Gives the nets from the first on the bits, whatever they have. Takes no memory.
+/// Gives the nets from the first on the bits, whatever they have.
 pub fn feed(nets: &mut Nets, first: u32, lanes: &Runs)
     requires { first + length lanes.now ≤ 2 ^ 20 }
     ensures { nets.new ≡ spec.fed first lanes.now nets.old }

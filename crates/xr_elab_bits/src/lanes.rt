@@ -26,7 +26,7 @@ impl<'r> Lanes<'r> {
     ghost use Rattle.std.specs.Prelude.{◌≡◌, ◌∷◌, [], MatchOption};
     ghost use Rattle.xr_elab_bits.specs.Runs.{runs_lanes, AreRuns};
 
-    /// The bits of these runs. Takes no memory.
+    /// The bits of these runs.
     pub fn new(runs: &'r [Run]) -> Lanes<'r>
         requires { AreRuns runs.now }
         ensures { result ≡ runs_lanes runs.now }

@@ -32,7 +32,7 @@ impl Runs {
     ghost use Rattle.xr_elab_bits.specs.Lanes.{lane, lanes_in, literal_lanes, single};
     ghost use Rattle.xr_elab_bits.specs.Runs.{AreFew, run_lanes};
 
-    /// No bits. Takes no memory.
+    /// No bits.
     pub fn new(alloc: Global) -> Runs
         ensures { result ≡ [] }
     {

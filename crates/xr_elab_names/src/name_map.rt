@@ -30,7 +30,7 @@ impl<'t> NameMap<'t> {
     ghost use Rattle.std.specs.Map.{lookup};
     ghost use Rattle.xr_elab_nets.specs.State.{net_count};
 
-    /// No names. Takes no memory.
+    /// No names.
     pub fn new(alloc: Global) -> NameMap<'t>
         ensures { result ≡ [] }
     {

@@ -25,7 +25,7 @@ impl<'t> NameSet<'t> {
     ghost use Rattle.std.specs.Prelude.{◌≡◌, ◌∷◌, ◌++◌, [], not, IfOk, if◌then◌else◌};
     ghost use Rattle.xr_elab_names.specs.Sets.{has};
 
-    /// No names. Takes no memory.
+    /// No names.
     pub fn new(alloc: Global) -> NameSet<'t>
         ensures { result ≡ [] }
     {

@@ -43,7 +43,7 @@ impl<'t> Outline<'t> {
     ghost use Rattle.xr_elab_names.specs.Here.{here_of};
     ghost use Rattle.xr_elab_names.specs.Outline as spec;
 
-    /// No names. Takes no memory.
+    /// No names.
     pub(crate) fn new(alloc: Global) -> Outline<'t>
         ensures { result ≡ spec.no_outline }
     {

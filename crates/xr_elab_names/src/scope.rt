@@ -53,7 +53,7 @@ impl<'t> Scope<'t> {
     ghost use Rattle.xr_elab_names.specs.NameMap.{names_from, HaveNets};
     ghost use Rattle.xr_elab_names.specs.Scope.{entry_of, with_name, named_instance};
 
-    /// No names, behind these instances. Takes no memory.
+    /// No names, behind these instances.
     pub fn new(alloc: Global, prefix: Items<NamePart>) -> Scope<'t>
         ensures { result ≡ record { prefix = prefix; names = []; instances = [] } }
     {
@@ -66,7 +66,7 @@ impl<'t> Scope<'t> {
         }
     }
 
-    /// These names, with their nets behind so many, behind these instances. Takes no memory.
+    /// These names, with their nets behind so many, behind these instances.
     pub(crate) fn over(
         alloc: Global,
         prefix: Items<NamePart>,

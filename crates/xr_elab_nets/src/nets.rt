@@ -41,7 +41,7 @@ impl Nets {
     ghost use Rattle.xr_elab_nets.specs.Outcome.{Gives};
     ghost use Rattle.xr_elab_nets.specs.State as spec;
 
-    /// No nets. Takes no memory.
+    /// No nets.
     pub fn new(alloc: Global) -> Nets
         ensures { result ≡ spec.nothing_made }
     {
@@ -117,7 +117,7 @@ impl Nets {
         Ok(())
     }
 
-    /// The design of these nets and the primitives that their drivers name. Takes no memory.
+    /// The design of these nets and the primitives that their drivers name.
     #[tactic(auto, using(crate::proofs::BoardLemmas::nets_at_end))]
     pub fn into_design(self, udps: Vec<Udp>) -> Design
         ensures { result ≡ spec.finished udps.items self }

@@ -10,7 +10,7 @@ use std::marker::Model;
 use xr_cell::Udp;
 use xr_design::Pin;
 
-/// How many pins are live. A constant is live. Takes no memory.
+/// How many pins are live. A constant is live.
 pub fn live_count(pins: &[Pin]) -> usize
     ensures { result ≡ spec.live_count pins.now }
 {
@@ -41,7 +41,7 @@ impl<'u> Clocks<'u> {
     ghost use Rattle.xr_design.specs.Job.{primitive_of};
     ghost use Rattle.xr_elab_prims.specs.Pins.{clocks_of, AreClocks};
 
-    /// None so far, for instances of these primitives. Takes no memory.
+    /// None so far, for instances of these primitives.
     pub fn new(alloc: Global, udps: &'u [Udp]) -> Clocks<'u>
         ensures { result ≡ udps.now }
     {

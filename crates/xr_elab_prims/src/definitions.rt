@@ -60,14 +60,14 @@ impl<'t> Definitions<'t> {
         Ok(Definitions { source, numbers })
     }
 
-    /// The text. Takes no memory.
+    /// The text.
     pub fn source(&self) -> &'t Source
         ensures { result.now ≡ self.now }
     {
         self.source
     }
 
-    /// What a name defines. Takes no memory.
+    /// What a name defines.
     pub fn find(&self, name: &[u8]) -> Option<Definition>
         ensures found { result ≡ definition_of self.now name.now }
         ensures there { IfSome result (λ d. IsThere self.now d) }

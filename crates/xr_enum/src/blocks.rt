@@ -5,7 +5,7 @@ ghost use Rattle.xr_enum.specs.Blocks.{IsBlock, AreLanesOf};
 
 use xr_cone_nodes::LaneBits;
 
-/// How many blocks hold all fillings. Takes no memory.
+/// How many blocks hold all fillings.
 pub fn number_blocks(sources: usize) -> usize
     requires { sources ≤ 16 }
     ensures enough { 2 ^ sources ≤ 256 * result }
@@ -25,7 +25,7 @@ pub fn fill_block(given: &mut [LaneBits; 16], block: usize)
     }
 }
 
-/// The lanes of a source in a block. Takes no memory.
+/// The lanes of a source in a block.
 pub fn source_lanes(block: usize, source: usize) -> LaneBits
     requires { source < 64 }
     ensures { AreLanesOf block source result }

@@ -53,7 +53,7 @@ fn has_no_fewer(block: usize, found: Option<usize>) -> bool
     }
 }
 
-/// Of what is found twice, the number with fewer ones, the first where they have as many. Takes no memory.
+/// Of what is found twice, the number with fewer ones, the first where they have as many.
 pub fn fewer(first: Option<usize>, second: Option<usize>) -> Option<usize>
     ensures { result ≡ fewer first second }
 {

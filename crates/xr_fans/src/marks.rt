@@ -14,7 +14,7 @@ use crate::waiting::Waiting;
 use xr_design::{Change, Circuit, width_of};
 use xr_replay_due::{Due, Readers};
 
-/// The inputs become due that a step records otherwise than the one before. Takes no memory.
+/// The inputs become due that a step records otherwise than the one before.
 pub fn mark_inputs(circuit: &Circuit<'_>, step: u32, due: &mut Due)
     requires later { 0 < step }
     requires step { step < (job_in circuit.now).moments * (job_in circuit.now).rounds }
@@ -30,7 +30,7 @@ pub fn mark_inputs(circuit: &Circuit<'_>, step: u32, due: &mut Due)
     mark_changes(circuit, circuit.stim.inputs.changed(moment), due);
 }
 
-/// The nets of changes become due. Takes no memory.
+/// The nets of changes become due.
 pub fn mark_changes(circuit: &Circuit<'_>, changes: &[Change], due: &mut Due)
     requires nets { AreInWidth (job_in circuit.now).width changes.now }
     requires room { HasRoomFor due.old (job_in circuit.now).width }
@@ -43,7 +43,7 @@ pub fn mark_changes(circuit: &Circuit<'_>, changes: &[Change], due: &mut Due)
     }
 }
 
-/// The position of a net becomes due. Takes no memory.
+/// The position of a net becomes due.
 pub fn mark_net(circuit: &Circuit<'_>, net: u32, due: &mut Due)
     requires net { net < (job_in circuit.now).width }
     requires room { HasRoomFor due.old (job_in circuit.now).width }
@@ -55,8 +55,7 @@ pub fn mark_net(circuit: &Circuit<'_>, net: u32, due: &mut Due)
     due.insert(position as usize);
 }
 
-/// The copies and cells that read a net become due, and the registers that look back at it one step later. Takes no
-/// memory.
+/// The copies and cells that read a net become due, and the registers that look back at it one step later.
 pub fn mark_readers(circuit: &Circuit<'_>, fans: &Fans, net: u32, waiting: &mut Waiting)
     requires fans { AreFans (job_in circuit.now) fans.now }
     requires net { net < (job_in circuit.now).width }
@@ -72,7 +71,7 @@ pub fn mark_readers(circuit: &Circuit<'_>, fans: &Fans, net: u32, waiting: &mut 
     mark_all(&fans.registers, net as usize, nets, &mut waiting.ahead);
 }
 
-/// The readers of a net, of so many, become due. Takes no memory.
+/// The readers of a net, of so many, become due.
 pub fn mark_all(readers: &Readers, net: usize, nets: usize, due: &mut Due)
     requires table { IsTable nets readers.now }
     requires net { net < nets }

@@ -28,7 +28,7 @@ impl Waiting {
         Ok(Waiting { due, ahead })
     }
 
-    /// What was ahead is due, and nothing is ahead. Takes no memory.
+    /// What was ahead is due, and nothing is ahead.
     pub fn turn(&mut self)
         ensures due { self.new.due ≡ self.old.ahead }
         ensures ahead { length self.new.ahead ≡ length self.old.due }

@@ -28,7 +28,7 @@ pub struct Fetched {
 }
 
 impl Fetched {
-    /// No text. Takes no memory.
+    /// No text.
     pub fn new(alloc: Global, limit: usize) -> Fetched
         ensures limit { result.limit ≡ limit }
         ensures texts { result.texts ≡ [] }
@@ -44,7 +44,7 @@ impl Fetched {
         }
     }
 
-    /// Whether a file has a text. Takes no memory.
+    /// Whether a file has a text.
     pub fn has(&self, name: &str) -> bool
         ensures { result ≡ is_some (files_of self.now.texts name.now) }
     {
@@ -54,7 +54,7 @@ impl Fetched {
         }
     }
 
-    /// Its bytes, none where it has no text. Takes no memory.
+    /// Its bytes, none where it has no text.
     #[tactic(auto)]
     pub fn bytes(&self, name: &str) -> &[u8]
         ensures { result.now ≡ bytes_of (files_of self.now.texts name.now) }

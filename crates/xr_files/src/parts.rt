@@ -20,7 +20,7 @@ pub struct Parts {
 }
 
 impl Parts {
-    /// No file. Takes no memory.
+    /// No file.
     pub fn new(alloc: Global) -> Parts {
         Parts {
             alloc,

@@ -25,7 +25,7 @@ impl Model for TextMap {
 }
 
 impl TextMap {
-    /// No text. Takes no memory.
+    /// No text.
     pub fn new(alloc: Global) -> TextMap
         ensures { result ≡ [] }
     {
@@ -35,7 +35,7 @@ impl TextMap {
         }
     }
 
-    /// The text of a name. Takes no memory.
+    /// The text of a name.
     pub fn get(&self, name: &str) -> Option<&[u8]>
         ensures { option_copied result ≡ files_of self.now name.now }
     {

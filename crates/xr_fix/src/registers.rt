@@ -44,7 +44,7 @@ impl<'a> Registers<'a> {
         Ok(Registers { design, nets })
     }
 
-    /// The first register with this written name. Takes no memory.
+    /// The first register with this written name.
     pub fn find(&self, name: &[u8]) -> Option<u32>
         ensures named { result ≡ register_named self.now.nets name.now }
         ensures within { IfSome result (λ net. net < length self.now.nets) }

@@ -14,7 +14,7 @@ use xr_fans::{Fans, Waiting, mark_readers};
 use xr_replay::is_same;
 
 /// The nets become due that have another value at a step than one step before, and the copies and cells that read them;
-/// the registers that look back at them do one step later. Visits only places at which the values may move. Takes no memory.
+/// the registers that look back at them do one step later. Visits only places at which the values may move.
 pub fn mark_moves<S: Moving>(
     circuit: &Circuit<'_>,
     values: &S,

@@ -64,7 +64,7 @@ impl<'w, 'a> PlaceRow<'w, 'a> {
         }
     }
 
-    /// What stands at the place of a number, where it is one of its step. Takes no memory.
+    /// What stands at the place of a number, where it is one of its step.
     fn written(&self, place: usize) -> Option<Written>
         requires { place < length self.now.row.wave.written }
         ensures { IfSome result (λ written. written ≡ written_at self.now.row.wave.written place) }

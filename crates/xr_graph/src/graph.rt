@@ -45,7 +45,7 @@ impl Graph {
         }
     }
 
-    /// How many there are. Takes no memory.
+    /// How many there are.
     pub fn len(&self) -> usize
         ensures { result ≡ length self.now }
     {
@@ -73,7 +73,7 @@ impl Graph {
         Ok(())
     }
 
-    /// The node of a number: its place, the nodes that it reads, and its table over these. Takes no memory.
+    /// The node of a number: its place, the nodes that it reads, and its table over these.
     pub fn node(&self, number: usize) -> KeptNode<'_>
         requires { number < length self.now }
         ensures node { node_at self.now number ≡ node_of result }

@@ -64,7 +64,7 @@ impl KeptNodes {
         }
     }
 
-    /// How many there are. Takes no memory.
+    /// How many there are.
     pub fn len(&self) -> usize
         ensures { result ≡ length self.now }
     {
@@ -91,7 +91,7 @@ impl KeptNodes {
         Ok(())
     }
 
-    /// The node of a number. Takes no memory.
+    /// The node of a number.
     pub fn node(&self, number: usize) -> KeptNode<'_>
         requires { number < length self.now }
         ensures { node_at self.now number ≡ node_of result }

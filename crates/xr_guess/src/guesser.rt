@@ -30,7 +30,7 @@ pub struct Guesser {
 }
 
 impl Guesser {
-    /// No table is known. Takes no memory.
+    /// No table is known.
     pub fn new(alloc: Global) -> Guesser
         ensures { hash_map_len result.tables ≡ 0 }
     {

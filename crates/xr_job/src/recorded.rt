@@ -105,7 +105,7 @@ fn find_recording(
     })
 }
 
-/// Makes nets without a driver that are held inputs, where the rule says so. Takes no memory.
+/// Makes nets without a driver that are held inputs, where the rule says so.
 fn give_inputs(alloc: Global, netlist: &mut Netlist, holders: &[Option<Holder>], rule: UndrivenRule)
     requires { length holders.now ≡ length netlist.old.design.nets }
     ensures { netlist.new ≡ spec.netlist_by rule holders.now netlist.old }

@@ -6,7 +6,7 @@ ghost use Rattle.xr_lane_nodes.specs.Given.{folded, given_lanes, mixed, number_f
 use xr_cone_nodes::LaneBits;
 use xr_design::Place;
 
-/// The bits of a place in the fillings of all lanes. Takes no memory.
+/// The bits of a place in the fillings of all lanes.
 #[tactic(auto, unfolding(crate::specs::Given::given_by))]
 pub fn given(place: Place) -> LaneBits
     ensures { result ≡ given_lanes place }

@@ -45,14 +45,14 @@ impl Lists {
         }
     }
 
-    /// How many there are. Takes no memory.
+    /// How many there are.
     pub fn len(&self) -> usize
         ensures { result ≡ length self.now }
     {
         self.spans.len()
     }
 
-    /// Whether they have so many places that no more are to come in. Takes no memory.
+    /// Whether they have so many places that no more are to come in.
     pub fn is_full(&self) -> bool {
         self.places.len() >= MOST_LISTED
     }
@@ -71,7 +71,7 @@ impl Lists {
         Ok(())
     }
 
-    /// The list of a number. Takes no memory.
+    /// The list of a number.
     pub fn list(&self, number: usize) -> &[u32]
         requires { number < length self.now }
         ensures { result.now ≡ slice_index_or self.now number [] }
@@ -104,7 +104,7 @@ impl Model for ListNumber {
 }
 
 impl ListNumber {
-    /// No list. Takes no memory.
+    /// No list.
     pub fn none() -> ListNumber
         ensures { result ≡ None }
     {
@@ -122,7 +122,7 @@ impl ListNumber {
         Ok(ListNumber { code: below + 1 })
     }
 
-    /// The number, if there is one. Takes no memory.
+    /// The number, if there is one.
     pub fn number(self) -> Option<usize>
         ensures { result ≡ self }
     {

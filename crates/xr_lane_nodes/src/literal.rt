@@ -31,7 +31,7 @@ impl Model for Literal {
 }
 
 impl Literal {
-    /// The literal of a node. Takes no memory.
+    /// The literal of a node.
     pub fn new(node: usize, inverted: bool) -> Literal
         requires { node < 2 ^ 31 }
         ensures { result ≡ literal_of node inverted }
@@ -42,7 +42,7 @@ impl Literal {
         }
     }
 
-    /// Its node. Takes no memory.
+    /// Its node.
     pub fn node(self) -> usize
         ensures node { result ≡ self.node }
         ensures few { result < 2 ^ 31 }
@@ -50,21 +50,21 @@ impl Literal {
         self.code as usize / 2
     }
 
-    /// Whether it is inverted. Takes no memory.
+    /// Whether it is inverted.
     pub fn is_inverted(self) -> bool
         ensures { result ≡ self.inverted }
     {
         self.code % 2 == 1
     }
 
-    /// Whether it is the same as another one. Takes no memory.
+    /// Whether it is the same as another one.
     pub fn is_same(self, other: Literal) -> bool
         ensures { IsTrue result → self ≡ other }
     {
         self.code == other.code
     }
 
-    /// The literal, or its complement. Takes no memory.
+    /// The literal, or its complement.
     pub fn turned(self, inverted: bool) -> Literal
         ensures { result ≡ turned inverted self }
     {
@@ -78,7 +78,7 @@ fn flipped(inverted: bool, bit: bool) -> bool
     if inverted { !bit } else { bit }
 }
 
-/// The literal of a bit. Takes no memory.
+/// The literal of a bit.
 pub fn constant(bit: bool) -> Literal
     ensures { result ≡ constant bit }
 {
@@ -93,7 +93,7 @@ pub struct Covered<'t> {
     pub literals: &'t LiteralRows,
 }
 
-/// The literal of a place. Takes no memory.
+/// The literal of a place.
 pub fn literal_at(covered: Covered<'_>, place: usize) -> Literal
     requires { IsCovered covered place }
     ensures { result ≡ covered_literal covered.entry place }

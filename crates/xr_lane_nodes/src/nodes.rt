@@ -61,7 +61,7 @@ impl Nodes {
         })
     }
 
-    /// How many there are. Takes no memory.
+    /// How many there are.
     pub fn len(&self) -> usize
         ensures count { result ≡ length self.now }
         ensures few { length self.now ≤ 2 ^ 31 }
@@ -69,12 +69,12 @@ impl Nodes {
         self.nodes.len()
     }
 
-    /// Whether the lists have so many places that no more are to come in. Takes no memory.
+    /// Whether the lists have so many places that no more are to come in.
     pub(crate) fn is_full(&self) -> bool {
         self.lists.is_full()
     }
 
-    /// The place of a node, by number. Takes no memory.
+    /// The place of a node, by number.
     pub fn place(&self, node: usize) -> usize
         requires { node < length self.now }
         ensures { result ≡ (node_at self.now node).place }
@@ -82,7 +82,7 @@ impl Nodes {
         self.nodes[node].place
     }
 
-    /// The bits of a node in the lanes. Takes no memory.
+    /// The bits of a node in the lanes.
     pub fn lane_bits(&self, node: usize) -> LaneBits
         requires { node < length self.now }
         ensures { result ≡ (node_at self.now node).lane_bits }
@@ -90,7 +90,7 @@ impl Nodes {
         self.nodes[node].lane_bits
     }
 
-    /// The sources of a node, where they are kept. Takes no memory.
+    /// The sources of a node, where they are kept.
     pub fn sources(&self, node: usize) -> Option<&[u32]>
         requires { node < length self.now }
         ensures { MatchOption result ((node_at self.now node).sources ≡ None)

@@ -70,14 +70,14 @@ impl LiteralRows {
         })
     }
 
-    /// How many there are. Takes no memory.
+    /// How many there are.
     pub fn len(&self) -> usize
         ensures { result ≡ length self.now.literals }
     {
         self.whole * self.width + self.position
     }
 
-    /// How many places of the row under way are still to come, one at least. Takes no memory.
+    /// How many places of the row under way are still to come, one at least.
     pub fn room(&self) -> usize
         ensures some { 0 < result }
         ensures room { result ≡ self.now.width - length self.now.literals % self.now.width }
@@ -85,7 +85,7 @@ impl LiteralRows {
         self.width - self.position
     }
 
-    /// The literal of a number. Takes no memory.
+    /// The literal of a number.
     pub fn at(&self, number: usize) -> Literal
         requires { number < length self.now.literals }
         ensures { result ≡ slice_index_or self.now.literals number no_literal }
@@ -123,7 +123,7 @@ impl LiteralRows {
     }
 
     /// Appends so many literals of the row under way, each that of its position a row before; as `push` does where that
-    /// ends a fourth row. Takes no memory.
+    /// ends a fourth row.
     pub fn repeat(&mut self, many: usize) -> usize
         requires before { self.old.width ≤ length self.old.literals }
         requires room { many ≤ self.old.width - length self.old.literals % self.old.width }

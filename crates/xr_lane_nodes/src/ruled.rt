@@ -12,7 +12,7 @@ use crate::literal::{Covered, lanes_at};
 use xr_cell::Value;
 use xr_cone_nodes::LaneBits;
 
-/// The lanes of a table over some arguments. Takes no memory.
+/// The lanes of a table over some arguments.
 pub fn table_lanes(
     covered: Covered<'_>,
     arguments: &[usize],

@@ -73,7 +73,7 @@ pub fn with_own(sources: Vec<u32>, place: usize, is_source: bool) -> Result<Vec<
     Ok(all)
 }
 
-/// Whether a table has x: the place then is a source. Takes no memory.
+/// Whether a table has x: the place then is a source.
 pub fn any_unknown(values: &[Value]) -> bool
     ensures { result ≡ list_any is_unknown values.now }
 {

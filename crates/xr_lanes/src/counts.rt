@@ -15,14 +15,14 @@ pub struct Counts {
 }
 
 impl Counts {
-    /// Each count is 0. Takes no memory.
+    /// Each count is 0.
     pub fn new() -> Counts {
         Counts {
             digits: [LaneBits::zeros(); 11],
         }
     }
 
-    /// Adds 1 to the count of each lane that has a 1. Takes no memory.
+    /// Adds 1 to the count of each lane that has a 1.
     pub fn add(&mut self, ones: LaneBits) {
         let mut carried = ones;
         'digits: for digit in 0..DIGITS {
@@ -35,7 +35,7 @@ impl Counts {
         }
     }
 
-    /// Those of some lanes whose count is the least. Takes no memory.
+    /// Those of some lanes whose count is the least.
     pub fn least(&self, lanes: LaneBits) -> LaneBits
         ensures { AreAmong result lanes }
     {

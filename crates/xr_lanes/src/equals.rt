@@ -22,7 +22,7 @@ pub struct Equals {
 }
 
 impl Equals {
-    /// No nodes. Takes no memory.
+    /// No nodes.
     pub fn new(alloc: Global) -> Equals {
         Equals {
             nodes: HashMap::new(alloc),

@@ -83,7 +83,7 @@ impl Lanes {
         })
     }
 
-    /// How many places are covered. Takes no memory.
+    /// How many places are covered.
     pub fn count(&self) -> usize
         ensures { result ≡ count_of self.now }
     {

@@ -14,8 +14,8 @@ use xr_lane_nodes::literal_at;
 use xr_wave::Wave;
 
 impl Lanes {
-    /// The node of the root of an uncertain place, and that root as `Wave::root_at` gives it, without the way there; none
-    /// where the place isn't covered yet, or its literal was forgotten. Takes no memory.
+    /// The node of the root of an uncertain place, and that root as `Wave::root_at` gives it, without the way there;
+    /// none where the place isn't covered yet, or its literal was forgotten.
     pub fn root_at(&self, wave: &Wave<'_>, place: Place) -> Option<(usize, (Place, bool))>
         requires right { IsRightOf wave.now self.now }
         requires written { IsWritten wave.now place }

@@ -42,7 +42,7 @@ impl Model for Shared {
 }
 
 impl Shared {
-    /// No list, and no tables. Takes no memory.
+    /// No list, and no tables.
     pub fn new(alloc: Global) -> Shared
         ensures { IsSharedOfAny result }
     {

@@ -14,7 +14,7 @@ pub struct Draws {
 }
 
 impl Draws {
-    /// The next draw below a limit. Takes no memory.
+    /// The next draw below a limit.
     #[tactic(auto, unfolding(crate::specs::Draw::draw))]
     pub fn draw(&mut self, limit: u64) -> u64
         requires { 0 < limit }
@@ -26,7 +26,7 @@ impl Draws {
         (self.state >> 33) % limit
     }
 
-    /// Passes over a draw. Takes no memory.
+    /// Passes over a draw.
     pub fn pass(&mut self)
         ensures { self.new.state ≡ spec.after_draw self.old.state }
     {

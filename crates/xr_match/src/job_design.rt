@@ -9,7 +9,7 @@ use crate::inputs::Holder;
 use xr_base::Items;
 use xr_design::{Design, Driver, Net};
 
-/// A design with an input in place of each net without a driver that a variable holds. Takes no memory.
+/// A design with an input in place of each net without a driver that a variable holds.
 pub fn with_inputs(design: Design, holders: &[Option<Holder>]) -> Design
     requires { length holders.now ≡ length design.nets }
     ensures { result ≡ spec.with_inputs (held_in holders.now) design }

@@ -62,7 +62,7 @@ impl<'a> Matcher<'a> {
         })
     }
 
-    /// The design. Takes no memory.
+    /// The design.
     pub fn design(&self) -> &'a Design
         ensures is { result.now ≡ self.now.design }
         ensures fits { FitsDesign self.now.design }
@@ -70,7 +70,7 @@ impl<'a> Matcher<'a> {
         self.names.design()
     }
 
-    /// The recording. Takes no memory.
+    /// The recording.
     pub fn recording(&self) -> &'a Recording
         ensures is { result.now ≡ self.now.recording }
         ensures outside { path_at self.now.recording.scopes 0 ≡ [] }
@@ -78,7 +78,7 @@ impl<'a> Matcher<'a> {
         self.recording
     }
 
-    /// Whether a scope of the recording has the scope path. Takes no memory.
+    /// Whether a scope of the recording has the scope path.
     pub fn has_scope(&self) -> bool
         ensures { result ≡ has_scope self.now.scope self.now.recording.scopes }
     {

@@ -55,7 +55,7 @@ impl<'a> Names<'a> {
         })
     }
 
-    /// The design. Takes no memory.
+    /// The design.
     pub fn design(&self) -> &'a Design
         ensures is { result.now ≡ self.now }
         ensures fits { FitsDesign self.now }
@@ -63,7 +63,7 @@ impl<'a> Names<'a> {
         self.design
     }
 
-    /// The nets of the name with this key, in number order. Takes no memory.
+    /// The nets of the name with this key, in number order.
     pub fn nets(&self, key: &[u8]) -> &[u32]
         ensures named { (name : Texts) → IsKey name key.now → result.now ≡ nets_of self.now name }
         ensures within { All (λ net. net < length self.now.nets) result.now }
@@ -75,7 +75,7 @@ impl<'a> Names<'a> {
         }
     }
 
-    /// The length of the longest key of a net. Takes no memory.
+    /// The length of the longest key of a net.
     pub fn longest(&self) -> usize
         ensures { (name : Texts) → result < length (key_of name) → nets_of self.now name ≡ [] }
     {

@@ -13,7 +13,7 @@ use xr_design::Stim;
 use xr_replay_due::Due;
 
 /// The bound variables become due that have a bit whose net is written in a moment, and no others. False at the first
-/// moment, and where the row doesn't tell what is written. Costs what is written. Takes no memory.
+/// moment, and where the row doesn't tell what is written. Costs what is written.
 pub fn mark_moment<R: Shown>(
     readers: &BitReaders,
     stim: &Stim,
@@ -38,7 +38,7 @@ pub fn mark_moment<R: Shown>(
 }
 
 /// At a later moment the readers become due, beside what is due, of each net that is written in it. False where the row
-/// doesn't tell what is written. Costs what is written. Takes no memory.
+/// doesn't tell what is written. Costs what is written.
 pub fn mark_rounds<R: Shown>(
     readers: &BitReaders,
     stim: &Stim,

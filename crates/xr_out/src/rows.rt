@@ -49,7 +49,7 @@ impl<R: Shown> MomentRows<R> {
         }
     }
 
-    /// Goes on to the next moment. Costs what is written in it and in the moment before. Takes no memory.
+    /// Goes on to the next moment. Costs what is written in it and in the moment before.
     pub fn next_moment(&mut self)
         requires { settled.last_round self.old.rounds (self.old.moment + 1) < 2 ^ 32 }
         ensures { self.new ≡ spec.moment_view self.old.history self.old.rounds (self.old.moment + 1) }
@@ -60,21 +60,21 @@ impl<R: Shown> MomentRows<R> {
         self.moment += 1;
     }
 
-    /// The moment. Takes no memory.
+    /// The moment.
     pub fn moment(&self) -> u32
         ensures { result ≡ self.now.moment }
     {
         self.moment
     }
 
-    /// The row of the moment's last step. Takes no memory.
+    /// The row of the moment's last step.
     pub fn row(&self) -> &R
         ensures { R.view result.now ≡ spec.row_at_step self.now.history (spec.moment_end self.now) }
     {
         &self.row
     }
 
-    /// That of the moment before; at the first moment, of its own. Takes no memory.
+    /// That of the moment before; at the first moment, of its own.
     pub fn before(&self) -> &R
         ensures { R.view result.now ≡ spec.row_at_step self.now.history (spec.end_before self.now) }
     {

@@ -52,7 +52,6 @@ pub fn try_in(
 }
 
 /// A lane whose filling gives the place another bit than the empty one, of these one whose number has the least ones.
-/// Takes no memory.
 pub fn other_lane(cone: &Cone, lane_table: &mut ConeLanes, given: &[LaneBits]) -> Option<u32>
     requires { lane_table.old.nodes ≡ length cone.now.nodes }
     ensures lane { MatchOption result (AllAgree cone.now.nodes given.now) (IsLeastOther cone.now.nodes given.now) }

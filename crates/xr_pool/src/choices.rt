@@ -27,7 +27,7 @@ impl Span {
         }
     }
 
-    /// Where those that force a bit begin. Takes no memory.
+    /// Where those that force a bit begin.
     pub(crate) fn start(self, bit: bool) -> usize {
         if bit {
             self.start as usize
@@ -36,7 +36,7 @@ impl Span {
         }
     }
 
-    /// Where they end. Takes no memory.
+    /// Where they end.
     pub(crate) fn end(self, bit: bool) -> usize {
         if bit {
             self.middle as usize
@@ -55,7 +55,7 @@ pub(crate) struct Tables {
 }
 
 impl Tables {
-    /// No tables. Takes no memory.
+    /// No tables.
     pub(crate) fn new(alloc: Global) -> Tables {
         Tables {
             numbers: HashMap::new(alloc),
@@ -64,7 +64,7 @@ impl Tables {
         }
     }
 
-    /// How many there are. Takes no memory.
+    /// How many there are.
     pub(crate) fn len(&self) -> usize {
         self.spans.len()
     }
@@ -103,12 +103,12 @@ impl Tables {
         Ok(narrow(self.choices.len()))
     }
 
-    /// Where the choices of a table stand. Takes no memory.
+    /// Where the choices of a table stand.
     pub(crate) fn span(&self, number: u32) -> Span {
         item_at(&self.spans, number as usize, Span::empty())
     }
 
-    /// The choice of a place. Takes no memory.
+    /// The choice of a place.
     pub(crate) fn choice(&self, place: usize) -> Choice {
         item_at(&self.choices, place, Choice { care: 0, bits: 0 })
     }

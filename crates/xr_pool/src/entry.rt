@@ -18,7 +18,7 @@ pub(crate) struct Entry {
 }
 
 impl Entry {
-    /// That of a node that wasn't evaluated. Takes no memory.
+    /// That of a node that wasn't evaluated.
     pub(crate) fn unread(node: u32) -> Entry {
         Entry {
             node,
@@ -32,7 +32,7 @@ impl Entry {
         }
     }
 
-    /// Whether the node has given bits. Takes no memory.
+    /// Whether the node has given bits.
     pub(crate) fn is_source(self) -> bool {
         self.given != 0
     }

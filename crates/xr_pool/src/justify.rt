@@ -24,12 +24,12 @@ struct Marks {
 }
 
 impl Marks {
-    /// Whether a choice holds. Takes no memory.
+    /// Whether a choice holds.
     fn satisfy(self, choice: Choice) -> bool {
         (choice.bits ^ self.ones) & choice.care == 0
     }
 
-    /// What a choice costs: 1 for a source, 2 for another node. Takes no memory.
+    /// What a choice costs: 1 for a source, 2 for another node.
     fn cost(self, choice: Choice) -> u32 {
         let open = choice.care & !self.free;
         open.count_ones()

@@ -20,7 +20,7 @@ const SOURCE_BYTES: usize = 64;
 const REST: u32 = 1_000;
 
 impl Pool {
-    /// Whether as much is kept as there may be. Takes no memory.
+    /// Whether as much is kept as there may be.
     pub(crate) fn is_full(&self) -> bool {
         let nodes = self.entries.len().saturating_mul(NODE_BYTES);
         let reads = self.reads.len().saturating_mul(READ_BYTES);

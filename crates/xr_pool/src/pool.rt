@@ -44,7 +44,7 @@ pub struct Pool {
 }
 
 impl Pool {
-    /// No node is known. Takes no memory.
+    /// No node is known.
     pub fn new(alloc: Global) -> Pool {
         Pool {
             tables: Tables::new(alloc),
@@ -103,7 +103,7 @@ impl Pool {
         Ok(())
     }
 
-    /// Where the entry of a node stands, if it has one. Takes no memory.
+    /// Where the entry of a node stands, if it has one.
     pub(crate) fn known(&self, node: u32) -> Option<u32> {
         match self.places.get(&node) {
             Some(place) => Some(*place),
@@ -111,17 +111,17 @@ impl Pool {
         }
     }
 
-    /// The entry of a place. Takes no memory.
+    /// The entry of a place.
     pub(crate) fn entry(&self, place: u32) -> Entry {
         item_at(&self.entries, place as usize, Entry::unread(0))
     }
 
-    /// The place of what is listed as read. Takes no memory.
+    /// The place of what is listed as read.
     pub(crate) fn read_at(&self, k: u32) -> u32 {
         item_at(&self.reads, k as usize, 0)
     }
 
-    /// The bits of a place, 0 where it has none. Takes no memory.
+    /// The bits of a place, 0 where it has none.
     pub(crate) fn bits_of(&self, place: u32) -> PoolBits {
         item_at(&self.bits, place as usize, PoolBits::all(false))
     }

@@ -23,14 +23,14 @@ impl PoolBits {
         PoolBits { parts }
     }
 
-    /// The bit in each lane. Takes no memory.
+    /// The bit in each lane.
     pub(crate) fn all(bit: bool) -> PoolBits {
         PoolBits {
             parts: [equal_bits(bit); 8],
         }
     }
 
-    /// 1 where both have it, the other ones as they are or turned. Takes no memory.
+    /// 1 where both have it, the other ones as they are or turned.
     pub(crate) fn and(self, other: PoolBits, turned: bool) -> PoolBits {
         let mask = equal_bits(turned);
         let a = self.parts;
@@ -49,7 +49,7 @@ impl PoolBits {
         }
     }
 
-    /// 1 where one of them has it. Takes no memory.
+    /// 1 where one of them has it.
     pub(crate) fn or(self, other: PoolBits) -> PoolBits {
         let a = self.parts;
         let b = other.parts;
@@ -67,12 +67,12 @@ impl PoolBits {
         }
     }
 
-    /// The bit in a lane. Takes no memory.
+    /// The bit in a lane.
     pub(crate) fn in_lane(&self, lane: PoolLane) -> bool {
         item_at(&self.parts, lane.part, 0) & lane.mark != 0
     }
 
-    /// Another bit in a lane. Takes no memory.
+    /// Another bit in a lane.
     pub(crate) fn set_lane(&mut self, lane: PoolLane, bit: bool) {
         let old = item_at(&self.parts, lane.part, 0);
         let new = if bit {
@@ -83,12 +83,12 @@ impl PoolBits {
         set_item(&mut self.parts, lane.part, new);
     }
 
-    /// Other bits in a part. Takes no memory.
+    /// Other bits in a part.
     pub(crate) fn set_part(&mut self, part: usize, bits: u64) {
         set_item(&mut self.parts, part, bits);
     }
 
-    /// The first lane that has a bit. Takes no memory.
+    /// The first lane that has a bit.
     pub(crate) fn first(&self, bit: bool) -> Option<PoolLane> {
         let mask = equal_bits(!bit);
         'parts: for part in 0..PARTS {

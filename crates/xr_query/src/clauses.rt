@@ -20,7 +20,7 @@ pub(crate) struct Clauses {
 }
 
 impl Clauses {
-    /// No clauses. Takes no memory.
+    /// No clauses.
     pub(crate) fn new(alloc: Global) -> Clauses {
         Clauses {
             literals: Vec::new(alloc),
@@ -28,13 +28,13 @@ impl Clauses {
         }
     }
 
-    /// No clauses any more. Takes no memory.
+    /// No clauses any more.
     pub(crate) fn clear(&mut self) {
         self.literals.clear();
         self.spans.clear();
     }
 
-    /// How many clauses there are. Takes no memory.
+    /// How many clauses there are.
     pub(crate) fn len(&self) -> u32 {
         narrow(self.spans.len())
     }
@@ -66,18 +66,18 @@ impl Clauses {
         item_at(&self.spans, clause as usize, Span { start: 0, count: 0 })
     }
 
-    /// How many literals a clause has. Takes no memory.
+    /// How many literals a clause has.
     pub(crate) fn count(&self, clause: u32) -> usize {
         self.span(clause).count as usize
     }
 
-    /// Literal k of a clause. Takes no memory.
+    /// Literal k of a clause.
     pub(crate) fn literal(&self, clause: u32, k: usize) -> Literal {
         let place = (self.span(clause).start as usize).saturating_add(k);
         item_at(&self.literals, place, Literal::none())
     }
 
-    /// Two literals of a clause change places. Takes no memory.
+    /// Two literals of a clause change places.
     pub(crate) fn swap(&mut self, clause: u32, i: usize, j: usize) {
         let start = self.span(clause).start as usize;
         let first = self.literal(clause, i);

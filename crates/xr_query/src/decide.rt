@@ -24,7 +24,7 @@ pub struct Decider {
 }
 
 impl Decider {
-    /// No formula is known. Takes no memory.
+    /// No formula is known.
     pub fn new(alloc: Global) -> Decider {
         Decider {
             solver: Solver::new(alloc),

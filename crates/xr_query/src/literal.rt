@@ -12,7 +12,7 @@ pub(crate) struct Literal {
 }
 
 impl Literal {
-    /// The literal that a variable has a bit. Takes no memory.
+    /// The literal that a variable has a bit.
     pub(crate) fn new(variable: u32, bit: bool) -> Literal {
         let twice = variable.wrapping_mul(2);
         Literal {
@@ -20,44 +20,44 @@ impl Literal {
         }
     }
 
-    /// A literal of a formula. Takes no memory.
+    /// A literal of a formula.
     pub(crate) fn of(literal: i32) -> Literal {
         Literal::new(literal.unsigned_abs().saturating_sub(1), literal > 0)
     }
 
-    /// Any literal, where there is none. Takes no memory.
+    /// Any literal, where there is none.
     pub(crate) fn none() -> Literal {
         Literal { code: 0 }
     }
 
-    /// Its variable. Takes no memory.
+    /// Its variable.
     pub(crate) fn variable(self) -> u32 {
         self.code / 2
     }
 
-    /// The place of its variable in lists. Takes no memory.
+    /// The place of its variable in lists.
     pub(crate) fn place(self) -> usize {
         (self.code / 2) as usize
     }
 
-    /// Its bit. Takes no memory.
+    /// Its bit.
     pub(crate) fn bit(self) -> bool {
         self.code % 2 == 1
     }
 
-    /// The variable with the other bit. Takes no memory.
+    /// The variable with the other bit.
     pub(crate) fn turned(self) -> Literal {
         Literal {
             code: self.code ^ 1,
         }
     }
 
-    /// Its place in lists by literal. Takes no memory.
+    /// Its place in lists by literal.
     pub(crate) fn index(self) -> usize {
         self.code as usize
     }
 
-    /// As a literal of a formula. Takes no memory.
+    /// As a literal of a formula.
     pub(crate) fn number(self) -> i32
         ensures { result ≢ pos 0 }
     {

@@ -8,7 +8,7 @@ use std::alloc::Global;
 use xr_base::Memory;
 use xr_proof::{Checker, Clause, Cnf, Log};
 
-/// Whether a log names variables up to this one alone. Takes no memory.
+/// Whether a log names variables up to this one alone.
 pub fn fits(log: &Log, vars: u32) -> bool
     ensures { IsTrue result ↔ Fit vars log.now }
 {

@@ -6,8 +6,7 @@ ghost use Rattle.xr_proof.specs.Assignment.{IsMet, IsModel, assigned, value_of};
 
 use xr_proof::{Clause, Cnf, Model};
 
-/// Whether values are a model of a formula: one for each variable, by which each clause has a true literal. Takes no
-/// memory.
+/// Whether values are a model of a formula: one for each variable, by which each clause has a true literal.
 pub fn is_model(query: &Cnf, model: &Model) -> bool
     ensures { IsTrue result ↔ IsModel query.now.vars query.now.clauses model.now }
 {

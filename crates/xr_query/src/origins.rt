@@ -13,7 +13,7 @@ pub(crate) struct Origins {
 }
 
 impl Origins {
-    /// No clause is learned. Takes no memory.
+    /// No clause is learned.
     pub(crate) fn new(alloc: Global) -> Origins {
         Origins {
             numbers: Vec::new(alloc),
@@ -21,7 +21,7 @@ impl Origins {
         }
     }
 
-    /// None any more. Takes no memory.
+    /// None any more.
     pub(crate) fn clear(&mut self) {
         self.numbers.clear();
         self.ends.clear();
@@ -40,7 +40,7 @@ impl Origins {
         Ok(())
     }
 
-    /// How many are learned. Takes no memory.
+    /// How many are learned.
     pub(crate) fn len(&self) -> usize {
         self.ends.len()
     }
@@ -53,7 +53,7 @@ impl Origins {
         item_at(&self.ends, learned - 1, 0) as usize
     }
 
-    /// Marks those that a learned clause was made from. Takes no memory.
+    /// Marks those that a learned clause was made from.
     pub(crate) fn mark(&self, learned: usize, marks: &mut [bool]) {
         let end = item_at(&self.ends, learned, 0) as usize;
         'numbers: for k in self.start(learned)..end {

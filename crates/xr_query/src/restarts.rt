@@ -11,7 +11,6 @@ pub(crate) struct Restarts {
 }
 
 impl Restarts {
-    /// Takes no memory.
     pub(crate) fn new(allowed: u32) -> Restarts {
         Restarts {
             allowed,
@@ -20,7 +19,7 @@ impl Restarts {
         }
     }
 
-    /// One more conflict; whether it is one too many. Takes no memory.
+    /// One more conflict; whether it is one too many.
     pub(crate) fn is_over(&mut self) -> bool {
         if self.allowed == 0 {
             return true;
@@ -29,7 +28,7 @@ impl Restarts {
         false
     }
 
-    /// The conflict is dealt with; whether to restart. Takes no memory.
+    /// The conflict is dealt with; whether to restart.
     pub(crate) fn is_due(&mut self) -> bool {
         if self.left > 1 {
             self.left -= 1;

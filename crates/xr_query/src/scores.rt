@@ -29,7 +29,7 @@ pub(crate) struct Scores {
 }
 
 impl Scores {
-    /// No variables. Takes no memory.
+    /// No variables.
     pub(crate) fn new(alloc: Global) -> Scores {
         Scores {
             scores: Vec::new(alloc),
@@ -53,7 +53,7 @@ impl Scores {
         Ok(())
     }
 
-    /// The variable of the highest score leaves the heap. Takes no memory.
+    /// The variable of the highest score leaves the heap.
     pub(crate) fn pop(&mut self) -> Option<u32> {
         if self.heap.len() == 0 {
             return None;
@@ -78,12 +78,12 @@ impl Scores {
         Ok(())
     }
 
-    /// The next scores count more. Takes no memory.
+    /// The next scores count more.
     pub(crate) fn grow(&mut self) {
         self.step = self.step.saturating_add(self.step / GROWTH);
     }
 
-    /// A conflict met a variable. Takes no memory.
+    /// A conflict met a variable.
     pub(crate) fn bump(&mut self, variable: u32) {
         let score = self.score(variable).saturating_add(self.step);
         set_item(&mut self.scores, variable as usize, score);

@@ -14,7 +14,7 @@ pub(crate) struct Seen {
 }
 
 impl Seen {
-    /// No variables. Takes no memory.
+    /// No variables.
     pub(crate) fn new(alloc: Global) -> Seen {
         Seen {
             flags: Vec::new(alloc),
@@ -44,7 +44,7 @@ impl Seen {
         Ok(())
     }
 
-    /// Whether the variable of a literal was met. Takes no memory.
+    /// Whether the variable of a literal was met.
     pub(crate) fn is_met(&self, literal: Literal) -> bool {
         item_at(&self.flags, literal.place(), false)
     }
@@ -56,12 +56,12 @@ impl Seen {
         Ok(())
     }
 
-    /// The literals of the clause. Takes no memory.
+    /// The literals of the clause.
     pub(crate) fn clause(&self) -> &[Literal] {
         self.clause.as_slice()
     }
 
-    /// Literal k of the clause. Takes no memory.
+    /// Literal k of the clause.
     pub(crate) fn literal(&self, k: usize) -> Literal {
         item_at(&self.clause, k, Literal::none())
     }
@@ -72,12 +72,12 @@ impl Seen {
         Ok(())
     }
 
-    /// Literal k is this now. Takes no memory.
+    /// Literal k is this now.
     pub(crate) fn set(&mut self, k: usize, literal: Literal) {
         set_item(&mut self.clause, k, literal);
     }
 
-    /// Only the first literals stay. Takes no memory.
+    /// Only the first literals stay.
     pub(crate) fn keep(&mut self, count: usize) {
         self.clause.truncate(count);
     }

@@ -41,7 +41,7 @@ pub(crate) enum Decision {
 }
 
 impl Solver {
-    /// No formula. Takes no memory.
+    /// No formula.
     pub(crate) fn new(alloc: Global) -> Solver {
         Solver {
             clauses: Clauses::new(alloc),

@@ -18,7 +18,7 @@ pub(crate) struct Trail {
 }
 
 impl Trail {
-    /// No variables. Takes no memory.
+    /// No variables.
     pub(crate) fn new(alloc: Global) -> Trail {
         Trail {
             truths: Vec::new(alloc),
@@ -44,22 +44,20 @@ impl Trail {
         Ok(())
     }
 
-    /// Takes no memory.
     pub(crate) fn is_true(&self, literal: Literal) -> bool {
         item_at(&self.truths, literal.index(), false)
     }
 
-    /// Takes no memory.
     pub(crate) fn is_false(&self, literal: Literal) -> bool {
         self.is_true(literal.turned())
     }
 
-    /// How many decisions came before the bit of a literal's variable. Takes no memory.
+    /// How many decisions came before the bit of a literal's variable.
     pub(crate) fn level_of(&self, literal: Literal) -> u32 {
         item_at(&self.levels, literal.place(), 0)
     }
 
-    /// The clause that forced it; none for a decision. Takes no memory.
+    /// The clause that forced it; none for a decision.
     pub(crate) fn reason_of(&self, literal: Literal) -> Option<u32> {
         item_at(&self.reasons, literal.place(), None)
     }
@@ -79,27 +77,27 @@ impl Trail {
         Ok(true)
     }
 
-    /// How many variables there are. Takes no memory.
+    /// How many variables there are.
     pub(crate) fn vars(&self) -> usize {
         self.levels.len()
     }
 
-    /// How many decisions there are. Takes no memory.
+    /// How many decisions there are.
     pub(crate) fn level(&self) -> u32 {
         narrow(self.starts.len())
     }
 
-    /// How many literals there are. Takes no memory.
+    /// How many literals there are.
     pub(crate) fn len(&self) -> usize {
         self.literals.len()
     }
 
-    /// The literal of a place on the trail. Takes no memory.
+    /// The literal of a place on the trail.
     pub(crate) fn literal(&self, place: usize) -> Literal {
         item_at(&self.literals, place, Literal::none())
     }
 
-    /// The first literal that isn't read, which is read then. Takes no memory.
+    /// The first literal that isn't read, which is read then.
     pub(crate) fn read_next(&mut self) -> Option<Literal> {
         if self.read < self.literals.len() {
             let literal = self.literals[self.read];
@@ -117,7 +115,7 @@ impl Trail {
         Ok(())
     }
 
-    /// The last literal goes, if it is past a level. Takes no memory.
+    /// The last literal goes, if it is past a level.
     pub(crate) fn pop_past(&mut self, level: u32) -> Option<Literal> {
         let start = item_at(&self.starts, level as usize, u32::MAX);
         if self.literals.len() <= start as usize {
@@ -128,7 +126,7 @@ impl Trail {
         Some(literal)
     }
 
-    /// Only the levels up to one stay, whose literals are those that are left. Takes no memory.
+    /// Only the levels up to one stay, whose literals are those that are left.
     pub(crate) fn close_levels(&mut self, level: u32) {
         self.starts.truncate(level as usize);
         self.read = self.read.min(self.literals.len());

@@ -12,17 +12,17 @@ pub(crate) struct Watch {
 }
 
 impl Watch {
-    /// Its clause. Takes no memory.
+    /// Its clause.
     pub(crate) fn clause(self) -> u32 {
         self.number / 2
     }
 
-    /// The place in the clause of the literal that is watched. Takes no memory.
+    /// The place in the clause of the literal that is watched.
     pub(crate) fn side(self) -> usize {
         (self.number % 2) as usize
     }
 
-    /// That of the other one. Takes no memory.
+    /// That of the other one.
     pub(crate) fn other_side(self) -> usize {
         if self.side() == 0 { 1 } else { 0 }
     }
@@ -43,7 +43,7 @@ pub(crate) struct Watches {
 }
 
 impl Watches {
-    /// No variables. Takes no memory.
+    /// No variables.
     pub(crate) fn new(alloc: Global) -> Watches {
         Watches {
             first: Vec::new(alloc),
@@ -66,7 +66,7 @@ impl Watches {
         Ok(())
     }
 
-    /// The watches of a clause come into the lists of its first two literals. Takes no memory.
+    /// The watches of a clause come into the lists of its first two literals.
     pub(crate) fn note_clause(&mut self, clause: u32, first: Literal, second: Literal) {
         let number = clause.saturating_mul(2);
         self.note(first, Watch { number }, second);
@@ -74,12 +74,12 @@ impl Watches {
         self.note(second, Watch { number }, first);
     }
 
-    /// How many watches there are. Takes no memory.
+    /// How many watches there are.
     pub(crate) fn len(&self) -> usize {
         self.entries.len()
     }
 
-    /// Takes the list of a literal off, and gives its first watch. Takes no memory.
+    /// Takes the list of a literal off, and gives its first watch.
     pub(crate) fn take(&mut self, literal: Literal) -> Option<Watch> {
         let first = self.first(literal);
         set_item(&mut self.first, literal.index(), None);
@@ -94,17 +94,17 @@ impl Watches {
         item_at(&self.entries, watch.number as usize, unused())
     }
 
-    /// The watch after one in its list. Takes no memory.
+    /// The watch after one in its list.
     pub(crate) fn next(&self, watch: Watch) -> Option<Watch> {
         watch_of(self.entry(watch).next)
     }
 
-    /// The blocker of a watch. Takes no memory.
+    /// The blocker of a watch.
     pub(crate) fn blocker(&self, watch: Watch) -> Literal {
         self.entry(watch).blocker
     }
 
-    /// A watch comes into the list of a literal. Takes no memory.
+    /// A watch comes into the list of a literal.
     pub(crate) fn note(&mut self, literal: Literal, watch: Watch, blocker: Literal) {
         let next = self.first(literal);
         let entry = Entry { next, blocker };

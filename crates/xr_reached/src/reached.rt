@@ -36,7 +36,7 @@ impl Model for Reached {
 }
 
 impl Reached {
-    /// No places. Takes no memory.
+    /// No places.
     pub fn new(alloc: Global) -> Reached
         ensures { result ≡ [] }
     {
@@ -69,7 +69,7 @@ impl Reached {
         }
     }
 
-    /// Takes the greatest out, if there is one. No memory.
+    /// Takes the greatest out, if there is one.
     pub fn take_greatest(&mut self) -> Option<usize>
         ensures { Takes self.old result self.new }
     {

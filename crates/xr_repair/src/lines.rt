@@ -8,7 +8,7 @@ ghost use Rattle.xr_wave.specs.Pairs.{numbers_of};
 use xr_model::Body;
 use xr_wave::Wave;
 
-/// What the line of the place of a number says, if one is found. Takes no memory.
+/// What the line of the place of a number says, if one is found.
 pub fn body_of<'l>(wave: &'l Wave<'_>, number: usize) -> Option<&'l Body>
     ensures { IfSome result (λ body. body_at (job wave.now) wave.now.lines number ≡ Some body.now) }
 {

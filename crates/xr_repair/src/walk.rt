@@ -100,14 +100,14 @@ impl<'a> Walk<'a> {
         }
     }
 
-    /// Whether every place is written. Takes no memory.
+    /// Whether every place is written.
     pub fn is_finished(&self) -> bool
         ensures { result ≡ (left_of self.now == 0) }
     {
         self.all() - self.count() == 0
     }
 
-    /// How many places are written. Takes no memory.
+    /// How many places are written.
     pub fn count(&self) -> usize
         ensures count { result ≡ count_of self.now }
         ensures within { count_of self.now ≤ all_of self.now }
@@ -115,14 +115,14 @@ impl<'a> Walk<'a> {
         self.wave.count()
     }
 
-    /// How many places the job has. Takes no memory.
+    /// How many places the job has.
     pub fn all(&self) -> usize
         ensures { result ≡ all_of self.now }
     {
         count_places(&self.wave.circuit())
     }
 
-    /// The wave of a finished walk. Takes no memory.
+    /// The wave of a finished walk.
     pub fn into_wave(self) -> Wave<'a>
         requires { left_of self ≡ 0 }
         ensures job { IsOfJob self.entry.start result }

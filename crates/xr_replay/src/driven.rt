@@ -9,7 +9,7 @@ use crate::held::kept_so_far;
 use xr_cell::Value;
 use xr_design::{Circuit, Driver, HistoryWriter, ShownSoFar, Spot, driven_value, width_of};
 
-/// What it gives. Takes no memory.
+/// What it gives.
 pub fn given_value(
     circuit: &Circuit<'_>,
     writer: &HistoryWriter,

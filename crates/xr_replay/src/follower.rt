@@ -38,7 +38,7 @@ impl<'a> Follower<'a> {
         })
     }
 
-    /// Goes on to the last step of a moment. Costs what is written on the way. Takes no memory.
+    /// Goes on to the last step of a moment. Costs what is written on the way.
     pub fn bring(&mut self, sides: &Sides<'_>, moment: u32)
         requires sides { AreSides sides.now }
         requires moment { moment < (job_beside sides.now).moments }
@@ -50,7 +50,7 @@ impl<'a> Follower<'a> {
         bring_on(&mut self.row, step);
     }
 
-    /// What a place shows: by a row that stands at its step, else by the history. Takes no memory.
+    /// What a place shows: by a row that stands at its step, else by the history.
     pub fn shown(&self, place: Place) -> Value
         requires place { HasPlace self.now.row.history place }
         requires same { self.now.before.history ≡ self.now.row.history }

@@ -8,7 +8,7 @@ use xr_cell::Value;
 use xr_design::Event;
 
 /// Takes the events up to a step, behind the first ones that were taken before, and says how many are taken then. For
-/// each net the values have that of its last event among these. Takes no memory.
+/// each net the values have that of its last event among these.
 pub fn take_events(events: &[Event], taken: usize, step: u32, values: &mut [Option<Value>]) -> usize
     requires ordered { AreOrdered (length values.old) events.now }
     requires taken { HasTaken (length values.old) events.now step taken values.old }

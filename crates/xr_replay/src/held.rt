@@ -8,7 +8,7 @@ ghost use Rattle.xr_design.specs.Job.{at};
 use xr_cell::Value;
 use xr_design::{Circuit, HistoryRow, HistoryWriter, Place};
 
-/// The value that a net shows at the step of a row. Takes no memory.
+/// The value that a net shows at the step of a row.
 pub fn net_value(circuit: &Circuit<'_>, row: &HistoryRow<'_>, net: u32) -> Value
     requires net { net < (job_in circuit.now).width }
     requires places { HasPlaces (job_in circuit.now) row.now.history }
@@ -18,7 +18,7 @@ pub fn net_value(circuit: &Circuit<'_>, row: &HistoryRow<'_>, net: u32) -> Value
     row.shown(net)
 }
 
-/// The value that a net keeps there. Takes no memory.
+/// The value that a net keeps there.
 pub fn net_kept(circuit: &Circuit<'_>, row: &HistoryRow<'_>, net: u32) -> Value
     requires net { net < (job_in circuit.now).width }
     requires places { HasPlaces (job_in circuit.now) row.now.history }
@@ -28,7 +28,7 @@ pub fn net_kept(circuit: &Circuit<'_>, row: &HistoryRow<'_>, net: u32) -> Value
     row.kept(net)
 }
 
-/// The value that a net shows at a step of a history that is being written. Takes no memory.
+/// The value that a net shows at a step of a history that is being written.
 pub fn value_so_far(circuit: &Circuit<'_>, writer: &HistoryWriter, step: u32, net: u32) -> Value
     requires net { net < (job_in circuit.now).width }
     requires places { HasPlaces (job_in circuit.now) writer.now.history }
@@ -38,7 +38,7 @@ pub fn value_so_far(circuit: &Circuit<'_>, writer: &HistoryWriter, step: u32, ne
     writer.shown(Place { step, net })
 }
 
-/// The value that it keeps there. Takes no memory.
+/// The value that it keeps there.
 pub fn kept_so_far(circuit: &Circuit<'_>, writer: &HistoryWriter, step: u32, net: u32) -> Value
     requires net { net < (job_in circuit.now).width }
     requires places { HasPlaces (job_in circuit.now) writer.now.history }

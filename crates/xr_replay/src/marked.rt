@@ -48,7 +48,7 @@ impl<'a> Marked<'a> {
     }
 
     /// What may be otherwise in a moment than in the one before is due, and nothing else. Costs what is written and
-    /// recorded in it. False where the history doesn't tell what is written. Takes no memory.
+    /// recorded in it. False where the history doesn't tell what is written.
     pub fn mark(&mut self, sides: &Sides<'_>, watchers: &Watchers<'_>, moment: u32) -> bool
         requires sides { AreSides sides.now }
         requires watchers { FitsWatchers sides.now watchers.now }
@@ -124,7 +124,7 @@ fn mark_written(sides: &Sides<'_>, readers: &Readers, room: usize, step: u32, du
     }
 }
 
-/// The readers of the net of each change become due, with nets and readers below a number. Takes no memory.
+/// The readers of the net of each change become due, with nets and readers below a number.
 pub fn mark_changes(readers: &Readers, room: usize, changes: &[Change], due: &mut Due)
     requires table { IsTable room readers.now }
     requires within { AreInWidth room changes.now }

@@ -11,7 +11,7 @@ use xr_design::{Circuit, Event};
 use xr_fans::mark_net;
 use xr_replay_due::Due;
 
-/// The nets of events become due. Takes no memory.
+/// The nets of events become due.
 pub fn mark_events(circuit: &Circuit<'_>, events: &[Event], from: usize, to: usize, due: &mut Due)
     requires ordered { AreOrdered (job_in circuit.now).width events.now }
     requires range { to ≤ length events.now }

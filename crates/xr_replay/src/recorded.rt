@@ -17,7 +17,7 @@ use xr_match::{Binding, Bound};
 use xr_replay_due::Due;
 
 /// Whether each bound variable agrees in a moment, else the first bit of the first variable that doesn't. Costs all
-/// their bits. Takes no memory.
+/// their bits.
 pub fn check_recorded(
     sides: &Sides<'_>,
     follower: &mut Follower<'_>,
@@ -39,7 +39,7 @@ pub fn check_recorded(
     Ok(())
 }
 
-/// The same, where each bound variable that isn't due agrees. Costs the bits of those that are. Takes no memory.
+/// The same, where each bound variable that isn't due agrees. Costs the bits of those that are.
 pub fn check_due_variables(
     sides: &Sides<'_>,
     follower: &mut Follower<'_>,

@@ -15,7 +15,6 @@ use xr_design::{Driver, Latching, driver_at, updated_value, width_of};
 use xr_replay_due::Due;
 
 /// Whether each register is settled at the last step of a moment, else the first in the order of the nets that isn't.
-/// Takes no memory.
 pub fn check_settled(sides: &Sides<'_>, follower: &Follower<'_>, moment: u32) -> Result<(), Differ>
     requires sides { AreSides sides.now }
     requires moment { moment < (job_beside sides.now).moments }
@@ -30,7 +29,7 @@ pub fn check_settled(sides: &Sides<'_>, follower: &Follower<'_>, moment: u32) ->
     Ok(())
 }
 
-/// The same, where each register that isn't due is settled. Costs the registers that are. Takes no memory.
+/// The same, where each register that isn't due is settled. Costs the registers that are.
 pub fn check_due_registers(
     sides: &Sides<'_>,
     follower: &Follower<'_>,

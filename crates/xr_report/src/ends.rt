@@ -51,7 +51,7 @@ impl Ends {
         Ok(Ends { ends, counts })
     }
 
-    /// How many have which. Takes no memory.
+    /// How many have which.
     pub fn counts(&self) -> Counts
         ensures { result ≡ counts_of_ends self.now.ends.items }
     {

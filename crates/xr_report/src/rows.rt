@@ -68,7 +68,7 @@ fn bring_wave<'w, 'a>(
     Ok(())
 }
 
-/// What is told of a net at their step. Takes no memory.
+/// What is told of a net at their step.
 pub fn told_in(wave: &Wave<'_>, rows: &Rows<'_, '_>, step: u32, net: u32) -> Told
     requires there { HasStep wave.now step }
     requires net { net < length wave.now.design.nets }

@@ -90,7 +90,7 @@ fn is_same_result(written: Written, other: Written) -> bool
     }
 }
 
-/// The step of a moment's last round, which a wave has. Takes no memory.
+/// The step of a moment's last round, which a wave has.
 pub fn last_step(wave: &Wave<'_>, moment: u32) -> u32
     requires moments { HasMoments wave.now }
     requires moment { moment < length wave.now.stim.times }

@@ -21,14 +21,14 @@ impl Model for FaultCount {
 }
 
 impl FaultCount {
-    /// No fault. Takes no memory.
+    /// No fault.
     pub fn new() -> FaultCount
         ensures { result ≡ 0 }
     {
         FaultCount { count: 0 }
     }
 
-    /// How many. Takes no memory.
+    /// How many.
     pub fn count(&self) -> u64
         ensures { result ≡ self.now }
     {

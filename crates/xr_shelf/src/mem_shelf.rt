@@ -42,7 +42,7 @@ impl Model for MemShelf {
 }
 
 impl MemShelf {
-    /// No file, none in hand; it moves at most `piece` bytes a call. Takes no memory.
+    /// No file, none in hand; it moves at most `piece` bytes a call.
     pub fn new(alloc: Global, piece: usize) -> MemShelf
         requires { 1 ≤ piece }
         ensures { result ≡ empty_shelf piece }
@@ -68,28 +68,28 @@ impl MemShelf {
         self.files.set(name, copy)
     }
 
-    /// The bytes of a file. Takes no memory.
+    /// The bytes of a file.
     pub fn get(&self, name: &str) -> Option<&[u8]>
         ensures { option_copied result ≡ files_of self.now.files name.now }
     {
         self.files.get(name)
     }
 
-    /// What was written of a file since it was created, be it put under its name or not. Takes no memory.
+    /// What was written of a file since it was created, be it put under its name or not.
     pub fn written(&self, name: &str) -> Option<&[u8]>
         ensures { option_copied result ≡ files_of self.now.written name.now }
     {
         self.written.get(name)
     }
 
-    /// How many calls of reading failed, which stays at the end of its type. Takes no memory.
+    /// How many calls of reading failed, which stays at the end of its type.
     pub fn read_faults(&self) -> u64
         ensures { result ≡ self.now.read_faults }
     {
         self.read_faults.count()
     }
 
-    /// How many calls of writing failed, which stays at the end of its type. Takes no memory.
+    /// How many calls of writing failed, which stays at the end of its type.
     pub fn write_faults(&self) -> u64
         ensures { result ≡ self.now.write_faults }
     {

@@ -34,7 +34,7 @@ impl Model for MemSink {
 }
 
 impl MemSink {
-    /// An empty sink that takes at most `piece` bytes a call. Takes no memory.
+    /// An empty sink that takes at most `piece` bytes a call.
     pub fn new(alloc: Global, piece: usize) -> MemSink
         requires { 1 ≤ piece }
         ensures { result ≡ empty_sink piece }
@@ -47,14 +47,14 @@ impl MemSink {
         }
     }
 
-    /// The bytes so far. Takes no memory.
+    /// The bytes so far.
     pub fn bytes(&self) -> &[u8]
         ensures { result.now ≡ self.now.bytes }
     {
         self.bytes.as_slice()
     }
 
-    /// How many calls failed, which stays at the end of its type. Takes no memory.
+    /// How many calls failed, which stays at the end of its type.
     pub fn faults(&self) -> u64
         ensures { result ≡ self.now.faults }
     {

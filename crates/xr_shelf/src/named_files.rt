@@ -25,7 +25,7 @@ impl Model for NamedFiles {
 }
 
 impl NamedFiles {
-    /// No file. Takes no memory.
+    /// No file.
     pub fn new(alloc: Global) -> NamedFiles
         ensures { result ≡ [] }
     {
@@ -35,7 +35,7 @@ impl NamedFiles {
         }
     }
 
-    /// The bytes of a file. Takes no memory.
+    /// The bytes of a file.
     pub fn get(&self, name: &str) -> Option<&[u8]>
         ensures { option_copied result ≡ files_of self.now name.now }
     {

@@ -32,7 +32,7 @@ impl Model for PlainShelf {
 }
 
 impl PlainShelf {
-    /// No file, and none in hand. Takes no memory.
+    /// No file, and none in hand.
     pub fn new(alloc: Global) -> PlainShelf
         ensures { result ≡ empty_plain_shelf }
     {
@@ -53,7 +53,7 @@ impl PlainShelf {
         self.files.set(name, copy)
     }
 
-    /// The bytes of a file. Takes no memory.
+    /// The bytes of a file.
     pub fn get(&self, name: &str) -> Option<&[u8]>
         ensures { option_copied result ≡ files_of self.now.files name.now }
     {

@@ -25,7 +25,7 @@ impl Model for PlainSink {
 }
 
 impl PlainSink {
-    /// An empty sink. Takes no memory.
+    /// An empty sink.
     pub fn new(alloc: Global) -> PlainSink
         ensures { result ≡ [] }
     {
@@ -34,7 +34,7 @@ impl PlainSink {
         }
     }
 
-    /// The bytes so far. Takes no memory.
+    /// The bytes so far.
     pub fn bytes(&self) -> &[u8]
         ensures { result.now ≡ self.now }
     {

@@ -23,7 +23,7 @@ impl Model for Plan {
 }
 
 impl Plan {
-    /// No call made, and none set to fail. Takes no memory.
+    /// No call made, and none set to fail.
     pub fn new(alloc: Global) -> Plan
         ensures { result ≡ no_calls }
     {

@@ -22,14 +22,14 @@ impl Model for Reader {
 }
 
 impl Reader {
-    /// A file of which nothing is read. Takes no memory.
+    /// A file of which nothing is read.
     pub fn new(bytes: Vec<u8>) -> Reader
         ensures { result ≡ bytes.items }
     {
         Reader { bytes, done: 0 }
     }
 
-    /// Reads the next bytes, at most a piece, to the front of the buffer, and says how many. Takes no memory.
+    /// Reads the next bytes, at most a piece, to the front of the buffer, and says how many.
     pub fn read(&mut self, piece: usize, buffer: &mut [u8]) -> usize
         ensures count { result ≡ min piece (min (length buffer.old) (length self.old)) }
         ensures filled { buffer.new ≡ take result self.old ++ drop result buffer.old }

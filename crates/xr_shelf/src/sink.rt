@@ -24,7 +24,7 @@ pub trait Sink {
         ensures { view self.new ≡ view self.old };
 }
 
-/// Prints all the bytes. Takes no memory.
+/// Prints all the bytes.
 pub fn print_all<O: Sink>(out: &mut O, bytes: &[u8]) -> Result<(), WriteErr>
     ensures { PrintAll O.told bytes.now (O.view out.old) (O.view out.new) result }
 {

@@ -16,7 +16,7 @@ use xr_out::BitReaders;
 use xr_replay_due::Due;
 use xr_wave::Wave;
 
-/// The bound variables become due that have a bit whose place a finished wave wrote anew at a step. Takes no memory.
+/// The bound variables become due that have a bit whose place a finished wave wrote anew at a step.
 pub fn mark_anew(wave: &Wave<'_>, readers: &BitReaders, step: usize, due: &mut Due)
     requires finished { IsFinished wave.now }
     requires readers { FitsReaders (job wave.now).width readers.now }

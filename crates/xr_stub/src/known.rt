@@ -85,7 +85,7 @@ impl<'t> Known<'t> {
         self.heading
     }
 
-    /// The ports. Takes no memory.
+    /// The ports.
     pub fn listed(&self) -> &Listed<'t>
         ensures { result.now ≡ self.now.listed }
     {

@@ -29,7 +29,7 @@ impl<'t> Listed<'t> {
     ghost use Rattle.xr_trim.specs.Shown.{seen};
     ghost use Rattle.xr_stub.specs.Known as spec;
 
-    /// No ports. Takes no memory.
+    /// No ports.
     pub fn new(alloc: Global) -> Listed<'t>
         ensures { result ≡ spec.unlisted }
     {
@@ -40,14 +40,14 @@ impl<'t> Listed<'t> {
         }
     }
 
-    /// The names of the header. Takes no memory.
+    /// The names of the header.
     pub fn names(&self) -> &Names<'t>
         ensures { result.now ≡ self.now.names }
     {
         &self.names
     }
 
-    /// How a name is declared first. Takes no memory.
+    /// How a name is declared first.
     pub fn declaration_of(&self, token: Spelled<'_>) -> Option<Declared>
         ensures { result ≡ spec.declaration_of self.now (seen token.entry) }
     {
@@ -122,7 +122,7 @@ impl<'t> Names<'t> {
         Ok(())
     }
 
-    /// The tokens as a slice. Takes no memory.
+    /// The tokens as a slice.
     pub fn as_slice(&self) -> &[Spelled<'t>]
         ensures { map seen result.now ≡ self.now }
     {

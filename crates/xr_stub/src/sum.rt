@@ -48,7 +48,7 @@ impl Sum {
     ghost use Rattle.xr_stub.specs.Sums.{Pops, begun, closed, nested, put_back, value_of};
     ghost use Rattle.xr_stub.specs.Sums.{with_operand, with_sign, with_times, with_token};
 
-    /// Nothing that is worked out. Takes no memory.
+    /// Nothing that is worked out.
     pub fn new(alloc: Global) -> Sum
         ensures { result ≡ [] }
     {
@@ -65,14 +65,14 @@ impl Sum {
         self.push(Frame::begun())
     }
 
-    /// Nothing is worked out any more. Takes no memory.
+    /// Nothing is worked out any more.
     pub fn clear(&mut self)
         ensures { self.new ≡ [] }
     {
         self.frames.clear();
     }
 
-    /// What is worked out. Takes no memory.
+    /// What is worked out.
     #[tactic(auto, using(crate::proofs::Stack::one_value, crate::proofs::Stack::no_value))]
     pub fn value(&self) -> Option<usize>
         ensures { result ≡ value_of self.now }

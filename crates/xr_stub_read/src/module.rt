@@ -82,7 +82,7 @@ impl<'t> Module<'t> {
         self.is_module && name == self.name.name()
     }
 
-    /// Its parts that declare. Takes no memory.
+    /// Its parts that declare.
     pub fn parts(&self) -> &[Part<'t>]
         ensures { map seen_part result.now ≡ self.now.parts }
     {

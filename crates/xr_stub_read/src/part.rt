@@ -33,7 +33,7 @@ impl<'t> Parts<'t> {
     ghost use Rattle.std.specs.Prelude.{◌≡◌, ◌∷◌, ◌++◌, [], map, OnOk};
     ghost use Rattle.xr_stub_read.specs.Parts.{seen_part};
 
-    /// No parts. Takes no memory.
+    /// No parts.
     pub fn new(alloc: Global) -> Parts<'t>
         ensures { result ≡ [] }
     {
@@ -49,7 +49,7 @@ impl<'t> Parts<'t> {
         self.parts.push(part)
     }
 
-    /// The parts as a slice. Takes no memory.
+    /// The parts as a slice.
     pub fn as_slice(&self) -> &[Part<'t>]
         ensures { map seen_part result.now ≡ self.now }
     {

@@ -10,7 +10,7 @@ use xr_cell::Value;
 use xr_cone_nodes::LaneBits;
 
 /// The lanes of a table: in each lane the value whose number the arguments have there, or what the filling gives where
-/// that is x. Takes no memory.
+/// that is x.
 pub fn table_lanes(arguments: &[LaneBits], values: &[Value], own: LaneBits) -> LaneBits
     requires few { length arguments.now ≤ 13 }
     requires long { length values.now ≡ 2 ^ length arguments.now }

@@ -61,17 +61,17 @@ impl KeptTables {
         self.blocks.clear();
     }
 
-    /// Whether they have so many blocks that no more are to come in. Takes no memory.
+    /// Whether they have so many blocks that no more are to come in.
     pub fn is_full(&self) -> bool {
         self.blocks.len() >= MANY_BLOCKS
     }
 
-    /// Whether the table of a node is found. Takes no memory.
+    /// Whether the table of a node is found.
     pub fn has(&self, node: usize) -> bool {
         self.find(node).is_some()
     }
 
-    /// The blocks of a node, where they are found. Takes no memory.
+    /// The blocks of a node, where they are found.
     pub fn find(&self, node: usize) -> Option<&[LaneBits]>
         ensures { IfSome result (λ blocks. HasTable self.now node blocks.now) }
     {

@@ -46,7 +46,7 @@ impl Model for SourceTables {
 }
 
 impl SourceTables {
-    /// No list, and no tables. Takes no memory.
+    /// No list, and no tables.
     pub fn new(alloc: Global) -> SourceTables
         ensures list { result.list ≡ [] }
         ensures right { AreTablesOfAny result }
@@ -59,7 +59,7 @@ impl SourceTables {
         }
     }
 
-    /// Another list: all tables go. Takes no memory.
+    /// Another list: all tables go.
     pub fn set_list(&mut self, list: Vec<Place>)
         requires { length list.items ≤ 16 }
         ensures list { self.new.list ≡ list.items }

@@ -44,14 +44,14 @@ impl<'t> Library<'t> {
         })
     }
 
-    /// The definitions. Takes no memory.
+    /// The definitions.
     pub fn definitions(&self) -> &[Definition<'t>]
         ensures { result.now ≡ self.now }
     {
         self.definitions.as_slice()
     }
 
-    /// How many they are. Takes no memory.
+    /// How many they are.
     pub fn count(&self) -> usize
         ensures is { result ≡ length self.now }
         ensures small { result < 2 ^ 63 }
@@ -59,7 +59,7 @@ impl<'t> Library<'t> {
         self.definitions.len()
     }
 
-    /// The number of the first definition of a name. Takes no memory.
+    /// The number of the first definition of a name.
     pub fn find(&self, name: &[u8]) -> Option<usize>
         ensures found { result ≡ first_named self.now name.now }
         ensures there { IfSome result (λ k. k < length self.now) }
@@ -88,7 +88,7 @@ impl<'t> Numbers<'t> {
     ghost use Rattle.std.specs.Map.{lookup};
     ghost use Rattle.xr_trim.specs.Library.{with_number};
 
-    /// No names. Takes no memory.
+    /// No names.
     pub fn new(alloc: Global) -> Numbers<'t>
         ensures { result ≡ [] }
     {
@@ -97,7 +97,7 @@ impl<'t> Numbers<'t> {
         }
     }
 
-    /// The number of a name. Takes no memory.
+    /// The number of a name.
     pub fn find(&self, name: &[u8]) -> Option<usize>
         ensures { result ≡ lookup (bytes_eq name.now) self.now }
     {

@@ -24,7 +24,7 @@ impl<'t> Names<'t> {
     ghost use Rattle.std.specs.Prelude.{◌≡◌, ◌∷◌, ◌++◌, [], List, ℕ, map, OnOk};
     ghost use denote.Ref.{Bor};
 
-    /// No names. Takes no memory.
+    /// No names.
     pub fn new(alloc: Global) -> Names<'t>
         ensures { result ≡ [] }
     {
@@ -40,7 +40,7 @@ impl<'t> Names<'t> {
         self.names.push(name)
     }
 
-    /// The names as a slice. Takes no memory.
+    /// The names as a slice.
     pub fn as_slice(&self) -> &[&'t [u8]]
         ensures { map (λ (name : Bor (List ℕ)). name.now) result.now ≡ self.now }
     {

@@ -28,7 +28,7 @@ impl NumberSet {
     ghost use Rattle.std.specs.List.{IsDistinct, list_any};
     ghost use Rattle.indexmap.specs.IndexSet.{insert_key};
 
-    /// No numbers. Takes no memory.
+    /// No numbers.
     pub fn new(alloc: Global) -> NumberSet
         ensures { result ≡ [] }
     {

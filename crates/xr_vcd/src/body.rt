@@ -65,7 +65,7 @@ impl<'a> Body<'a> {
         })
     }
 
-    /// What stands in the text so far. Takes no memory.
+    /// What stands in the text so far.
     pub fn into_recording(self) -> Recording
         requires { 0 < length self.times }
         ensures { result ≡ recorded_so_far self.entry }

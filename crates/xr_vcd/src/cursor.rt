@@ -37,7 +37,7 @@ impl<'a> Cursor<'a> {
         Ok(Cursor { recording, hints })
     }
 
-    /// The recording that it reads. Takes no memory.
+    /// The recording that it reads.
     pub fn recording(&self) -> &'a Recording
         ensures { result.now ≡ self.now }
     {

@@ -39,7 +39,7 @@ impl Recording {
     ghost use Rattle.xr_vcd.specs.Recording.{IsRecording, IsValueAt, IsWithin, path_at, last_name, value_at, width_at};
     ghost use Rattle.xr_vcd.specs.Trees.{AreTimes};
 
-    /// The recording of these declarations, times and changes. Takes no memory.
+    /// The recording of these declarations, times and changes.
     pub(crate) fn new(declared: Declarations<'_>, times: Vec<u64>, changes: Changes) -> Recording
         requires { AreTimes times.items }
         ensures { result ≡ recorded declared.entry times.items changes.tracks }
@@ -63,7 +63,7 @@ impl Recording {
         }
     }
 
-    /// The number and the unit of the timescale, joined. Takes no memory.
+    /// The number and the unit of the timescale, joined.
     pub fn timescale(&self) -> Option<&[u8]>
         ensures { option_map (λ scale. scale.now) result ≡ self.now.timescale }
     {
@@ -73,7 +73,7 @@ impl Recording {
         }
     }
 
-    /// How many scopes there are, with the place outside every scope. Takes no memory.
+    /// How many scopes there are, with the place outside every scope.
     pub fn scope_count(&self) -> usize
         ensures count { result ≡ length self.now.scopes }
         ensures some { 0 < result }
@@ -83,7 +83,7 @@ impl Recording {
         self.scopes.len() + 1
     }
 
-    /// The scope that a scope is in. Takes no memory.
+    /// The scope that a scope is in.
     pub fn scope_parent(&self, scope: u32) -> u32
         requires some { 0 < scope }
         requires known { scope < length self.now.scopes }
@@ -93,7 +93,7 @@ impl Recording {
         self.scopes[scope as usize - 1].parent
     }
 
-    /// The name of a scope. Takes no memory.
+    /// The name of a scope.
     pub fn scope_name(&self, scope: u32) -> &[u8]
         requires some { 0 < scope }
         requires known { scope < length self.now.scopes }
@@ -102,7 +102,7 @@ impl Recording {
         self.scopes[scope as usize - 1].name.as_slice()
     }
 
-    /// The variables, in the order of the text. Takes no memory.
+    /// The variables, in the order of the text.
     pub fn variables(&self) -> &[Variable]
         ensures list { result.now ≡ self.now.variables }
         ensures recording { IsRecording self.now }
@@ -110,7 +110,7 @@ impl Recording {
         self.variables.as_slice()
     }
 
-    /// The width of a variable. Takes no memory.
+    /// The width of a variable.
     pub fn width(&self, variable: u32) -> u32
         requires { variable < length self.now.variables }
         ensures is { result ≡ width_at self.now variable }
@@ -120,7 +120,7 @@ impl Recording {
         self.variables[variable as usize].width
     }
 
-    /// How many changes the text has of the variable's code. Takes no memory.
+    /// How many changes the text has of the variable's code.
     pub fn change_count(&self, variable: u32) -> usize
         requires { variable < length self.now.variables }
         ensures { result ≡ length (slice_index_or self.now.changes variable []) }
@@ -129,7 +129,7 @@ impl Recording {
         self.changes.count(number as usize)
     }
 
-    /// The moment of a change of the variable's code, by its number among them. Takes no memory.
+    /// The moment of a change of the variable's code, by its number among them.
     pub fn change_moment(&self, variable: u32, change: usize) -> u32
         requires variable { variable < length self.now.variables }
         requires change { change < length (slice_index_or self.now.changes variable []) }
@@ -139,7 +139,7 @@ impl Recording {
         self.changes.moment_of(number as usize, change)
     }
 
-    /// The time of each moment, ascending. Takes no memory.
+    /// The time of each moment, ascending.
     pub fn times(&self) -> &[u64]
         ensures list { result.now ≡ self.now.times }
         ensures recording { IsRecording self.now }

@@ -26,7 +26,7 @@ impl Variable {
     ghost use Rattle.std.specs.Prelude.{◌≡◌};
     ghost use Rattle.xr_vcd.specs.Bytes.{without_range};
 
-    /// The reference without a range directly after it. Takes no memory.
+    /// The reference without a range directly after it.
     pub fn bare_reference(&self) -> &[u8]
         ensures { result.now ≡ without_range self.now.direct self.now.reference }
     {

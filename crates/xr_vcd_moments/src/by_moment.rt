@@ -49,15 +49,14 @@ impl<'a> ChangesByMoment<'a> {
         })
     }
 
-    /// The recording whose changes these are. Takes no memory.
+    /// The recording whose changes these are.
     pub fn recording(&self) -> &'a Recording
         ensures { result.now ≡ self.now }
     {
         self.recording
     }
 
-    /// The variables of which the text has a change in a moment, in any order, some perhaps more than once. Takes no
-    /// memory.
+    /// The variables of which the text has a change in a moment, in any order, some perhaps more than once.
     pub fn changed(&self, moment: u32) -> &[u32]
         requires { moment < length self.now.times }
         ensures { AreChanged self.now moment result.now }

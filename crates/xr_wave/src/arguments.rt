@@ -45,7 +45,7 @@ impl Arguments {
         self.len += 1;
     }
 
-    /// The places. Takes no memory.
+    /// The places.
     pub fn as_slice(&self) -> &[Place]
         ensures places { result.now ≡ self.now }
         ensures few { length result.now ≤ 13 }

@@ -9,7 +9,7 @@ use xr_design::width_of;
 
 impl<'a> Wave<'a> {
     /// Up to where every written place from one on keeps, at most up to an end. Costs a binary search, and one more for
-    /// each place that was written anew. Takes no memory.
+    /// each place that was written anew.
     pub fn kept_up_to(&self, number: usize, end: usize) -> usize
         requires from { number ≤ end }
         requires written { end ≤ length self.now.written }

@@ -40,15 +40,15 @@ impl<'w, 'a> WaveRow<'w, 'a> {
         Ok(WaveRow { wave, row })
     }
 
-    /// The step. Takes no memory.
+    /// The step.
     pub fn step(&self) -> usize
         ensures { result ≡ self.now.step }
     {
         self.row.step()
     }
 
-    /// Goes on to the next step, all places of which are written. Costs the places that were written anew at it, and two
-    /// binary searches. Takes no memory.
+    /// Goes on to the next step, all places of which are written. Costs the places that were written anew at it, and
+    /// two binary searches.
     pub fn next_step(&mut self)
         requires few { self.old.step < 2 ^ 32 }
         requires whole { (self.old.step + 2) * (job self.old.wave).width ≤ length self.old.wave.written }
@@ -57,7 +57,7 @@ impl<'w, 'a> WaveRow<'w, 'a> {
         self.row.next_step();
     }
 
-    /// What stands at a position of the step. Takes no memory.
+    /// What stands at a position of the step.
     pub fn written(&self, position: usize) -> Written
         requires { IsWrittenAt (job self.now.wave) self.now.wave.written self.now.step position }
         ensures { result ≡ written_at self.now.wave.written (self.now.step * (job self.now.wave).width + position) }
@@ -68,7 +68,7 @@ impl<'w, 'a> WaveRow<'w, 'a> {
 
 impl<'a> Wave<'a> {
     /// The places of a step behind the first that were written anew, in place order: each other one has what its net's
-    /// place a step before has. Costs two binary searches. Takes no memory.
+    /// place a step before has. Costs two binary searches.
     pub fn anew_at(&self, step: usize) -> &[Anew]
         requires { IsWholeLater (job self.now) self.now.written step }
         ensures { AreAnewAt (job self.now) self.now.written step result.now }

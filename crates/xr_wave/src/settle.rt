@@ -62,7 +62,7 @@ impl<'a> Wave<'a> {
         }
     }
 
-    /// Whether a token contradicts what the history knows at the next place. Takes no memory.
+    /// Whether a token contradicts what the history knows at the next place.
     pub fn contradicts_settled(&self, proof: &Settled) -> bool
         requires { HasNext self.now }
         ensures { IsTrue result ↔ LineContradicts self.now (settled_line proof.now) }
@@ -70,7 +70,7 @@ impl<'a> Wave<'a> {
         is_optimistic(certain_written(proof.value()), self.shown_next())
     }
 
-    /// Whether a token contradicts what the history knows at the next place. Takes no memory.
+    /// Whether a token contradicts what the history knows at the next place.
     pub fn contradicts_pair(&self, proof: &Pair) -> bool
         requires { HasNext self.now }
         ensures { IsTrue result ↔ LineContradicts self.now (pair_line proof.now) }
@@ -78,7 +78,7 @@ impl<'a> Wave<'a> {
         self.shown_next().is_known()
     }
 
-    /// Gives the wave up over its next place, which the history knows otherwise. Takes no memory.
+    /// Gives the wave up over its next place, which the history knows otherwise.
     pub fn object_settled(self, proof: Settled) -> Optimistic
         requires class { IsLineNext self }
         requires token { LineHolds self (settled_line proof) }
@@ -92,7 +92,7 @@ impl<'a> Wave<'a> {
         optimistic_of(self, written, shown)
     }
 
-    /// Gives the wave up over its next place, which the history knows and which is unknown. Takes no memory.
+    /// Gives the wave up over its next place, which the history knows and which is unknown.
     pub fn object_pair(self, proof: Pair) -> Optimistic
         requires class { IsLineNext self }
         requires token { LineHolds self (pair_line proof) }

@@ -40,7 +40,7 @@ impl<'a> Wave<'a> {
     }
 
     /// The root of a written place, and whether the way to it inverts: in the world of every filling the place has the
-    /// bit of its root, or its complement where the way inverts. Takes no memory.
+    /// bit of its root, or its complement where the way inverts.
     pub fn root_at(&self, place: Place) -> (Place, bool)
         requires { IsWritten self.now place }
         ensures { IsRootOf self.now place result }

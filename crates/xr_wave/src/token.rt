@@ -37,7 +37,7 @@ impl Model for Settled {
 }
 
 impl Settled {
-    /// The token of the next place. Takes no memory.
+    /// The token of the next place.
     pub fn from_law(wave: &Wave<'_>, how: How) -> Settled
         requires next { HasNext wave.now }
         requires law { HoldsNext wave.now (body_of how) }
@@ -48,7 +48,7 @@ impl Settled {
         Settled { place, how }
     }
 
-    /// The bit. Takes no memory.
+    /// The bit.
     pub fn value(&self) -> bool
         ensures { result ≡ bit_of self.now.how }
     {
@@ -125,7 +125,7 @@ impl Model for Pair {
 }
 
 impl Pair {
-    /// The token of the next place. Takes no memory.
+    /// The token of the next place.
     pub fn from_law(wave: &Wave<'_>, zero: Filling, one: Filling) -> Pair
         requires next { HasNext wave.now }
         requires law { HoldsNext wave.now (PairBody zero one) }
@@ -176,7 +176,7 @@ impl Model for Budget {
 }
 
 impl Budget {
-    /// The token of the next place. Takes no memory.
+    /// The token of the next place.
     pub fn from_law(wave: &Wave<'_>, log: Log) -> Budget
         requires next { HasNext wave.now }
         requires law { HoldsNext wave.now (BudgetBody log) }

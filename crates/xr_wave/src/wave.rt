@@ -87,28 +87,28 @@ impl<'a> Wave<'a> {
         })
     }
 
-    /// The design, as it was handed in. Takes no memory.
+    /// The design, as it was handed in.
     pub fn design(&self) -> &'a Design
         ensures { result.now ≡ self.now.design }
     {
         self.parts.waveform.circuit().design
     }
 
-    /// The order, as it was handed in. Takes no memory.
+    /// The order, as it was handed in.
     pub fn order(&self) -> &'a Order
         ensures { result.now ≡ self.now.order }
     {
         self.parts.waveform.circuit().order
     }
 
-    /// The stimulus, as it was handed in. Takes no memory.
+    /// The stimulus, as it was handed in.
     pub fn stim(&self) -> &'a Stim
         ensures { result.now ≡ self.now.stim }
     {
         self.parts.waveform.circuit().stim
     }
 
-    /// The history, as it was handed in. Takes no memory.
+    /// The history, as it was handed in.
     pub fn replayed(&self) -> &'a History
         ensures { result.now ≡ self.now.history }
     {
@@ -122,7 +122,7 @@ impl<'a> Wave<'a> {
         self.parts.limits
     }
 
-    /// The class of the next place. Takes no memory.
+    /// The class of the next place.
     pub fn class(&self) -> Class
         ensures { result ≡ next_seen self.now }
     {
@@ -132,7 +132,7 @@ impl<'a> Wave<'a> {
         }
     }
 
-    /// The next place, if there is one. Takes no memory.
+    /// The next place, if there is one.
     pub fn next_place(&self) -> Option<Place>
         ensures { result ≡ next_place (job self.now) self.now.written }
     {
@@ -143,7 +143,7 @@ impl<'a> Wave<'a> {
         }
     }
 
-    /// The class of a place that is written, or of the next one. Takes no memory.
+    /// The class of a place that is written, or of the next one.
     pub fn class_at(&self, place: Place) -> Class
         requires { IsReached self.now place }
         ensures { result ≡ class_seen (job self.now) (class_in self.now (number_of (job self.now) place)) }
@@ -153,7 +153,7 @@ impl<'a> Wave<'a> {
         seen_class(&circuit, self.class_by_number(number))
     }
 
-    /// The class of the place of a number, of one that is written or of the next one. Takes no memory.
+    /// The class of the place of a number, of one that is written or of the next one.
     pub fn class_by_number(&self, number: usize) -> ClassByNumber
         requires reached { number ≤ length self.now.written }
         requires within { number < places_of (job self.now) }
@@ -162,8 +162,7 @@ impl<'a> Wave<'a> {
         self.parts.waveform.class_by_number(number)
     }
 
-    /// The argument places of a place that is written, or of the next one, in place order and without doubles. Takes no
-    /// memory.
+    /// The argument places of a place that is written, or of the next one, in place order and without doubles.
     pub fn arguments(&self, place: Place) -> Arguments
         requires { IsReached self.now place }
         ensures { result ≡ map (place_at (job self.now)) (arguments_in self.now (number_of (job self.now) place)) }
@@ -175,7 +174,7 @@ impl<'a> Wave<'a> {
     }
 
     /// What the rule of a place that is written, or of the next one, gives where bit i of a number is the bit of its
-    /// argument place i. Takes no memory.
+    /// argument place i.
     pub fn rule_value(&self, place: Place, bits: u16) -> Value
         requires { IsReached self.now place }
         ensures { result ≡ rule_in self.now (number_of (job self.now) place) bits }
@@ -184,7 +183,7 @@ impl<'a> Wave<'a> {
         self.parts.waveform.rule_value(number, bits)
     }
 
-    /// What the waveform shows at a place. Takes no memory.
+    /// What the waveform shows at a place.
     pub fn value(&self, place: Place) -> Value
         requires { IsWritten self.now place }
         ensures { result ≡ (written_of self.now place).value }
@@ -192,7 +191,7 @@ impl<'a> Wave<'a> {
         self.written(self.circuit().number_of(place)).value
     }
 
-    /// What is known of a place. Takes no memory.
+    /// What is known of a place.
     pub fn mark(&self, place: Place) -> Mark
         requires { IsWritten self.now place }
         ensures { result ≡ (written_of self.now place).mark }
@@ -200,8 +199,7 @@ impl<'a> Wave<'a> {
         self.written(self.circuit().number_of(place)).mark
     }
 
-    /// The lines, one for each Line place that is written, in place order. They yield the waveform, which is sound. No
-    /// memory.
+    /// The lines, one for each Line place that is written, in place order. They yield the waveform, which is sound.
     pub fn lines(&self) -> &[Line]
         ensures lines { result.now ≡ self.now.lines }
         ensures yields { Yields (job self.now) self.now.limits (shown_in self.now) self.now.written result.now }
@@ -210,7 +208,7 @@ impl<'a> Wave<'a> {
         self.parts.lines.as_slice()
     }
 
-    /// The design with its order and its stimulus. Takes no memory.
+    /// The design with its order and its stimulus.
     pub fn circuit(&self) -> Circuit<'a>
         ensures job { job_in result ≡ job self.now }
         ensures wave { IsWave self.now }
@@ -225,7 +223,7 @@ impl<'a> Wave<'a> {
         let _ = &self.parts;
     }
 
-    /// How many places are written. Takes no memory.
+    /// How many places are written.
     pub fn count(&self) -> usize
         ensures count { result ≡ length self.now.written }
         ensures wave { IsWave self.now }
@@ -233,7 +231,7 @@ impl<'a> Wave<'a> {
         self.parts.waveform.count()
     }
 
-    /// What stands at the place of a number: its value and its mark. Takes no memory.
+    /// What stands at the place of a number: its value and its mark.
     pub fn written(&self, number: usize) -> Written
         requires { number < length self.now.written }
         ensures { result ≡ written_at self.now.written number }

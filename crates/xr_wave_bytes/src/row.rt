@@ -43,15 +43,15 @@ impl<'w, 'a> WaveformRow<'w, 'a> {
         })
     }
 
-    /// The step. Takes no memory.
+    /// The step.
     pub fn step(&self) -> usize
         ensures { result ≡ self.now.step }
     {
         self.step
     }
 
-    /// Goes on to the next step, all places of which are written. Costs the places that were written anew at it, and two
-    /// binary searches. Takes no memory.
+    /// Goes on to the next step, all places of which are written. Costs the places that were written anew at it, and
+    /// two binary searches.
     pub fn next_step(&mut self)
         requires few { self.old.step < 2 ^ 32 }
         requires whole { (self.old.step + 2) * (job self.old.waveform).width ≤ length self.old.waveform.written }
@@ -62,7 +62,7 @@ impl<'w, 'a> WaveformRow<'w, 'a> {
         self.step += 1;
     }
 
-    /// What stands at a position of the step. Takes no memory.
+    /// What stands at a position of the step.
     pub fn written(&self, position: usize) -> Written
         requires { IsWrittenAt (job self.now.waveform) self.now.waveform.written self.now.step position }
         ensures { result ≡ written_at self.now.waveform.written (self.now.step * (job self.now.waveform).width + position) }

@@ -64,15 +64,15 @@ impl Rows {
         })
     }
 
-    /// How many places there are. Takes no memory.
+    /// How many places there are.
     pub fn count(&self) -> usize
         ensures { result ≡ length self.now.bytes }
     {
         self.count
     }
 
-    /// The byte of the place of a number: quick for one of the last two rows, else by a binary search of its
-    /// position's bytes. Takes no memory.
+    /// The byte of the place of a number: quick for one of the last two rows, else by a binary search of its position's
+    /// bytes.
     pub fn byte(&self, number: usize) -> u8
         requires { number < length self.now.bytes }
         ensures { result ≡ slice_index_or self.now.bytes number 0 }
@@ -81,8 +81,8 @@ impl Rows {
         self.tracks[place.position].byte_at(place.step)
     }
 
-    /// The first place from a number on that is written anew, or the end: each place between has the byte of its position
-    /// a row before, written again. Costs a binary search. Takes no memory.
+    /// The first place from a number on that is written anew, or the end: each place between has the byte of its
+    /// position a row before, written again. Costs a binary search.
     pub fn anew_from(&self, number: usize, end: usize) -> usize
         requires number { number ≤ end }
         requires end { end ≤ length self.now.bytes }
@@ -94,7 +94,7 @@ impl Rows {
         noted_or(self.log.as_slice(), count, end)
     }
 
-    /// The places from a number on, below an end, that are written anew. Costs two binary searches. Takes no memory.
+    /// The places from a number on, below an end, that are written anew. Costs two binary searches.
     pub fn anew_between(&self, number: usize, end: usize) -> &[Anew]
         requires number { number ≤ end }
         requires end { end ≤ length self.now.bytes }

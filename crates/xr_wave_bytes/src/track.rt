@@ -43,7 +43,7 @@ impl Model for Track {
 }
 
 impl Track {
-    /// One without entries. Takes no memory.
+    /// One without entries.
     pub fn new(alloc: Global) -> Track
         ensures { result ≡ [] }
     {
@@ -77,14 +77,14 @@ impl Track {
         Ok(())
     }
 
-    /// Whether a byte at a step is the one a step before, written again. Takes no memory.
+    /// Whether a byte at a step is the one a step before, written again.
     pub fn is_again(&self, step: usize, byte: u8) -> bool
         ensures { result ≡ is_again self.now step byte }
     {
         step > 0 && byte == repeated_byte(self.byte_at(step - 1))
     }
 
-    /// The byte at a step: quick for one from the last entry's on. Takes no memory.
+    /// The byte at a step: quick for one from the last entry's on.
     pub fn byte_at(&self, step: usize) -> u8
         ensures { result ≡ byte_at self.now step }
     {

@@ -90,7 +90,7 @@ impl<'a> Waveform<'a> {
         })
     }
 
-    /// The circuit, as it was handed in. Takes no memory.
+    /// The circuit, as it was handed in.
     pub fn circuit(&self) -> Circuit<'a>
         ensures design { result.design.now ≡ self.now.design }
         ensures order { result.order.now ≡ self.now.order }
@@ -100,7 +100,7 @@ impl<'a> Waveform<'a> {
         self.circuit
     }
 
-    /// How many places are written. Takes no memory.
+    /// How many places are written.
     pub fn count(&self) -> usize
         ensures count { result ≡ length self.now.written }
         ensures agrees { ValuesAgree (job self.now) self.now.written }
@@ -108,7 +108,7 @@ impl<'a> Waveform<'a> {
         self.rows.count()
     }
 
-    /// What stands at the place of a number. Takes no memory.
+    /// What stands at the place of a number.
     pub fn written(&self, number: usize) -> Written
         requires { number < length self.now.written }
         ensures { result ≡ written_at self.now.written number }
@@ -116,7 +116,7 @@ impl<'a> Waveform<'a> {
         written_in(self.rows.byte(number))
     }
 
-    /// Whether the net of the place of a number keeps there. Takes no memory.
+    /// Whether the net of the place of a number keeps there.
     pub fn keeps(&self, number: usize) -> bool
         requires { number < length self.now.written }
         ensures { result ≡ keeps_there (job self.now) self.now.written number }
@@ -124,8 +124,7 @@ impl<'a> Waveform<'a> {
         keeps(self.rows.byte(number))
     }
 
-    /// The places of a step behind the first that were written anew, in place order. Costs two binary searches. Takes no
-    /// memory.
+    /// The places of a step behind the first that were written anew, in place order. Costs two binary searches.
     pub fn anew_at(&self, step: usize) -> &[Anew]
         requires { IsWholeLater (job self.now) self.now.written step }
         ensures { AreAnewAt (job self.now) self.now.written step result.now }
@@ -135,8 +134,8 @@ impl<'a> Waveform<'a> {
         self.rows.anew_between(start, start + width)
     }
 
-    /// The first place from one of a later step on that was written anew, or the end: the net of each place between keeps
-    /// there. Costs a binary search. Takes no memory.
+    /// The first place from one of a later step on that was written anew, or the end: the net of each place between
+    /// keeps there. Costs a binary search.
     pub fn anew_from(&self, number: usize, end: usize) -> usize
         requires later { (job self.now).width ≤ number }
         requires number { number ≤ end }
@@ -148,7 +147,7 @@ impl<'a> Waveform<'a> {
         self.rows.anew_from(number, end)
     }
 
-    /// The class of the next place: found here, unless `find_next` did. Takes no memory.
+    /// The class of the next place: found here, unless `find_next` did.
     pub fn next_class(&self) -> Option<ClassByNumber>
         ensures { result ≡ spec.next_class (job self.now) self.now.written }
     {
@@ -164,7 +163,7 @@ impl<'a> Waveform<'a> {
         )
     }
 
-    /// Finds the class of the next place, which is kept. Takes no memory.
+    /// Finds the class of the next place, which is kept.
     pub fn find_next(&mut self)
         ensures { self.new ≡ self.old }
     {
@@ -173,7 +172,7 @@ impl<'a> Waveform<'a> {
         self.found = true;
     }
 
-    /// The next place, where there is one. Takes no memory.
+    /// The next place, where there is one.
     pub fn place_behind(&self) -> Place
         requires { HasMore self.now }
         ensures { result ≡ place_at (job self.now) (length self.now.written) }
@@ -181,7 +180,7 @@ impl<'a> Waveform<'a> {
         place_there(&self.circuit, self.front)
     }
 
-    /// Its position in the order. Takes no memory.
+    /// Its position in the order.
     pub fn position_behind(&self) -> usize
         requires { HasMore self.now }
         ensures { result ≡ length self.now.written % (job self.now).width }
@@ -189,7 +188,7 @@ impl<'a> Waveform<'a> {
         self.front.position
     }
 
-    /// The class of the place of a number. Takes no memory.
+    /// The class of the place of a number.
     pub fn class_by_number(&self, number: usize) -> ClassByNumber
         requires { IsNumber self.now number }
         ensures { result ≡ class_of (job self.now) (certain self.now.written) number }
@@ -203,7 +202,7 @@ impl<'a> Waveform<'a> {
         }
     }
 
-    /// The argument places of the place of a number, in place order and without doubles. Takes no memory.
+    /// The argument places of the place of a number, in place order and without doubles.
     pub fn argument_places(&self, number: usize) -> ArgumentsByNumber
         requires { IsNumber self.now number }
         ensures { result ≡ assignment.argument_places (job self.now) (certain self.now.written) number }
@@ -212,8 +211,7 @@ impl<'a> Waveform<'a> {
         argument_places(&self.circuit, &bytes, number)
     }
 
-    /// What the rule of the place of a number gives where bit i of `bits` is the bit of its argument place i. Takes no
-    /// memory.
+    /// What the rule of the place of a number gives where bit i of `bits` is the bit of its argument place i.
     pub fn rule_value(&self, number: usize, bits: u16) -> Value
         requires { IsNumber self.now number }
         ensures { result ≡ numbered_value (job self.now) (certain self.now.written) number bits }
@@ -240,7 +238,7 @@ impl<'a> Waveform<'a> {
         Ok(())
     }
 
-    /// Writes so many places, each as its net's place a step before stands. Takes no memory.
+    /// Writes so many places, each as its net's place a step before stands.
     pub fn repeat(&mut self, many: usize)
         requires { IsRepeatable self.old many }
         ensures { self.new ≡ and_repeated self.old many }

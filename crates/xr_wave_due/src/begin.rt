@@ -12,7 +12,7 @@ use xr_design::{Circuit, History, width_of};
 use xr_fans::mark_changes;
 use xr_replay_due::Due;
 
-/// The positions become due at which the history shows something else in a step than one step before. Takes no memory.
+/// The positions become due at which the history shows something else in a step than one step before.
 pub fn mark_history(circuit: &Circuit<'_>, history: &History, step: usize, due: &mut Due)
     requires places { HasPlaces (job_in circuit.now) history.now }
     requires later { 0 < step }

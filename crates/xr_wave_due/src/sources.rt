@@ -56,7 +56,7 @@ fn is_source(driver: &Driver) -> bool
     }
 }
 
-/// Those become due that the recording may stir in a step. Takes no memory.
+/// Those become due that the recording may stir in a step.
 pub fn mark_sources(circuit: &Circuit<'_>, sources: &[u32], step: usize, due: &mut Due)
     requires sources { AreSources (job_in circuit.now) (job_in circuit.now).width sources.now }
     requires later { 0 < step }

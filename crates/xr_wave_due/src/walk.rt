@@ -87,7 +87,7 @@ impl<'a> Walk<'a> {
     }
 
     /// Passes over the places of the step up to the next one that is due, each of which is written as its net's place a
-    /// step before; says how many. Takes no memory.
+    /// step before; says how many.
     pub fn skip(&mut self, waveform: &mut Waveform<'_>) -> usize
         requires next { HasMore waveform.old }
         requires held { IsHeldFor waveform.old self.old }

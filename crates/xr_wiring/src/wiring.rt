@@ -82,7 +82,7 @@ impl Wiring {
         Ok(Wiring { heads, pins })
     }
 
-    /// What stands at a position. Takes no memory.
+    /// What stands at a position.
     pub fn kind(&self, position: usize) -> Kind
         requires { position < length self.now }
         ensures { result ≡ (spec.wire_at self.now position).kind }
@@ -90,7 +90,7 @@ impl Wiring {
         self.heads[position].kind
     }
 
-    /// The pins that it reads, in port order; a copy has one. Takes no memory.
+    /// The pins that it reads, in port order; a copy has one.
     pub fn pins(&self, position: usize) -> &[Pin]
         requires { position < length self.now }
         ensures { result.now ≡ (spec.wire_at self.now position).pins }

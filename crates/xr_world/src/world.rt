@@ -41,7 +41,7 @@ pub fn fill(alloc: Global, wave: &Wave<'_>, filling: &Filling) -> Result<World, 
 }
 
 impl World {
-    /// The bit of a place. Takes no memory.
+    /// The bit of a place.
     pub fn value(&self, place: Place) -> bool
         requires { HasPlace self.now place }
         ensures { result ≡ bit_in self.now place }

@@ -173,8 +173,8 @@ impl Lanes {
         }
     }
 
-    /// Two lanes that give the next place, which was looked at, 0 and 1; none exactly where all lanes give it the same bit.
-    /// Takes no memory.
+    /// Two lanes that give the next place, which was looked at, 0 and 1; none exactly where all lanes give it the same
+    /// bit.
     pub fn pair(&self, wave: &Wave<'_>) -> Option<(u32, u32)>
         requires right { IsRightOf wave.now self.now }
         requires looked { IsLookedAt wave.now self.now }

@@ -5,7 +5,7 @@ use crate::pair::EMPTY;
 use xr_graph::Graph;
 
 impl Lanes {
-    /// The graph, as long as it is kept. Takes no memory.
+    /// The graph, as long as it is kept.
     pub fn graph(&self) -> Option<&Graph> {
         match &self.graph {
             Some(graph) => Some(graph),
@@ -13,7 +13,7 @@ impl Lanes {
         }
     }
 
-    /// The node in the graph of the next place, if that was looked at. Takes no memory.
+    /// The node in the graph of the next place, if that was looked at.
     pub fn next_node(&self) -> Option<u32> {
         match self.next {
             Some(node) => narrow(node.saturating_sub(1)),
@@ -21,7 +21,7 @@ impl Lanes {
         }
     }
 
-    /// The bit of the next place in the lane whose filling is empty, if that place was looked at. Takes no memory.
+    /// The bit of the next place in the lane whose filling is empty, if that place was looked at.
     pub fn empty_bit(&self) -> Option<bool> {
         match self.next {
             Some(node) if node < self.nodes.len() => {
@@ -31,7 +31,7 @@ impl Lanes {
         }
     }
 
-    /// Whether the next place was looked at and has up to so many sources, which are kept. Takes no memory.
+    /// Whether the next place was looked at and has up to so many sources, which are kept.
     pub fn has_few_sources(&self, most: usize) -> bool {
         match self.next {
             Some(node) if node < self.nodes.len() => match self.nodes.sources(node) {
@@ -42,8 +42,8 @@ impl Lanes {
         }
     }
 
-    /// The positions that the nodes of the graph have in the cone that `cone` made last, by node; for a node that isn't in
-    /// it any number, or none. Takes no memory.
+    /// The positions that the nodes of the graph have in the cone that `cone` made last, by node; for a node that isn't
+    /// in it any number, or none.
     pub fn positions(&self) -> &[u32] {
         self.positions.as_slice()
     }
