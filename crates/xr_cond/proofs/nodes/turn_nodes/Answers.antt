@@ -10,12 +10,14 @@ use Rattle.xr_cond.proofs.NodeLists.{all_nodes, more_nodes}
 use Rattle.xr_cond.proofs.nodes.turn_nodes.Goals as goal
 
 pub place_of-requires : goal.place_of-requires
-place_of-requires c = record { within =
-    let places : List ℕ = c.args.places.now in
-    let place : ℕ = slice_index places c.places.position in
-    subst (λ (j : Job). place < places_of j) (sym c.circuit-circuit.ensures.job)
-    (near_reach c.args.wave.now c.requires.0 places c.args.inside.now c.requires.1 place
-    (among_contains places place (Contains-get_or places c.places.position 0 c.places-test.true))).within }
+place_of-requires c = record {
+  within =
+      let places : List ℕ = c.args.places.now in
+      let place : ℕ = slice_index places c.places.position in
+      subst (λ (j : Job). place < places_of j) (sym c.circuit-circuit.ensures.job)
+      (near_reach c.args.wave.now c.requires.0 places c.args.inside.now c.requires.1 place
+      (among_contains places place (Contains-get_or places c.places.position 0 c.places-test.true))).within;
+}
 
 pub places-preserved : goal.places-preserved
 places-preserved c =

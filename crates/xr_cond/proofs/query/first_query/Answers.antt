@@ -13,10 +13,12 @@ use Rattle.xr_cond.proofs.FirstNodes.{around_of, has_turn_nodes, listed_places}
 use Rattle.xr_cond.proofs.query.first_query.Goals as goal
 
 pub numbers_of-requires : goal.numbers_of-requires
-numbers_of-requires c = record { places =
-    subst (λ (j : Job). AllByRecursion (IsPlace j) c.args.listed.now) (sym c.circuit.ensures.job)
-    (listed_places c.args.wave.now c.requires.cone.0 c.args.cone.now.nodes c.requires.cone.1 c.args.listed.now
-    (c.requires.listed c.requires.cone.0 c.requires.cone.1.whole)) }
+numbers_of-requires c = record {
+  places =
+      subst (λ (j : Job). AllByRecursion (IsPlace j) c.args.listed.now) (sym c.circuit.ensures.job)
+      (listed_places c.args.wave.now c.requires.cone.0 c.args.cone.now.nodes c.requires.cone.1 c.args.listed.now
+      (c.requires.listed c.requires.cone.0 c.requires.cone.1.whole));
+}
 
 pub turn_nodes-requires : goal.turn_nodes-requires
 turn_nodes-requires c = (
