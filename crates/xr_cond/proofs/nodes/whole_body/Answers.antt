@@ -12,14 +12,12 @@ use Rattle.xr_cond.specs.TurnNodes.{AreWholeValues}
 use Rattle.xr_cond.proofs.AroundPlaces.{arguments_near, inside_near, near_reach, place_reached, places_few, places_rise, whole_for}
 use Rattle.xr_cond.proofs.nodes.whole_body.Goals as goal
 
-pub argument_places-arguments-requires : goal.argument_places-arguments-requires
-argument_places-arguments-requires c = record {
-  within =
-      let reach = near_reach c.args.wave.now c.requires.around.0 c.args.places.now c.args.inside.now c.requires.around.1
-      c.args.place (inside_near c.args.wave.now c.requires.around.0 c.args.places.now c.args.inside.now c.requires.around.1
-      c.args.place c.requires.inside) in
-      subst (λ (j : Job). c.args.place < places_of j) (sym c.circuit-circuit.ensures.job) reach.within;
-}
+pub argument_places-arguments-requires-clause-within : goal.argument_places-arguments-requires-clause-within
+argument_places-arguments-requires-clause-within c =
+    let reach = near_reach c.args.wave.now c.requires.around.0 c.args.places.now c.args.inside.now c.requires.around.1
+    c.args.place (inside_near c.args.wave.now c.requires.around.0 c.args.places.now c.args.inside.now c.requires.around.1
+    c.args.place c.requires.inside) in
+    subst (λ (j : Job). c.args.place < places_of j) (sym c.circuit-circuit.ensures.job) reach.within
 
 pub argument_places-arguments-requires-clause-certain : goal.argument_places-arguments-requires-clause-certain
 argument_places-arguments-requires-clause-certain c k less =
