@@ -59,7 +59,7 @@ own_accepted form start c conditions written lines goes wave finished are =
     let own : c.lines ≡ lines_in (cert_in form c conditions).entries = sym (own_lines c.lines conditions) in
     let there : IsAccepted (record c { written = start.written; lines = start.lines })
     (cert_in form c conditions) c.written = record {
-      numbers = record { rounds = refl; conflicts = refl; moments = refl; nets = refl };
+      numbers = record { rounds = refl; log_length = refl; moments = refl; nets = refl };
       long = finished;
       yields = subst (λ (ls : List ALine). Yields (job c) c.limits (shown_in c) c.written ls) own wave.holds.yields;
       honest = sound_honest (job c) c.limits (shown_in c) c.written c.lines wave.holds.sound;
