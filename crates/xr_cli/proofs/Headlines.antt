@@ -101,7 +101,7 @@ undecided_licence j limits waveform lines place Undecided value exact is = exact
 
 -- ---- a wave of a job
 
-abbrev pub wave_with : Design → List ℕ → Stim → HistoryView → ℕ → List Written → List ALine → Contents
+abbrev pub wave_with : Design → List ℕ → Stim → HistoryView → Limits → List Written → List ALine → Contents
 wave_with design order stim history limits written lines = record {
   design = design;
   order = order;

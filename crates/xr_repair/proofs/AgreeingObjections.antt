@@ -86,7 +86,7 @@ found_said c written (by_line line next holds) wave =
 
 -- ---- over the start
 
-abbrev contents : Design → List ℕ → Stim → HistoryView → ℕ → List Written → List ALine → Contents
+abbrev contents : Design → List ℕ → Stim → HistoryView → Limits → List Written → List ALine → Contents
 contents design order stim history limits written lines = record {
   design = design;
   order = order;
