@@ -5,7 +5,7 @@ use Rattle.xr_repair.specs.Walk.{left_of}
 use Rattle.xr_repair.proofs.walk.repair.Given as goal
 
 abbrev pub invariant-pieces : goal.invariant-pieces
-invariant-pieces l = l.walk.start ≡ nothing_of l.circuit l.replayed l.limits
+invariant-pieces l = l.walk.start ≡ nothing_of l.circuit l.replayed l.fn.limits
 
 abbrev pub decreases-pieces : goal.decreases-pieces
 decreases-pieces l = left_of l.walk
