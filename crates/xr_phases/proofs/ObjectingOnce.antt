@@ -160,7 +160,7 @@ netlists_same : (a b : ANetlist) → ◌≡◌ {A = Result ANetlist NetlistRefus
 netlists_same a b same = cc
 
 -- Two objections of one design under one stimulus are the same.
-module _ (n : ANetlist) (stim : Stim) (c d : ℕ) (a b : Objection) (first : IsObjectionIn c n stim a)
+module _ (n : ANetlist) (stim : Stim) (c d : Limits) (a b : Objection) (first : IsObjectionIn c n stim a)
     (second : IsObjectionIn d n stim b) (none_a : a.undecided ≡ 0) (none_b : b.undecided ≡ 0) where
   abbrev one : FoundOtherwise
   one = first.objects.otherwise
@@ -211,7 +211,7 @@ module _ (w : JobValues) (netlist recording : List ℕ) (n m : ANetlist) (r s : 
   back : (Holds : ANetlist → Stim → Type 0) → Holds m s.stim → Holds n r.stim
   back Holds there = subst (Holds n) (sym stims) (subst (λ (x : ANetlist). Holds x s.stim) (sym nets) there)
 
-module _ (w : JobValues) (netlist recording : List ℕ) (c d : ℕ) (a b : Objection) (none_a : a.undecided ≡ 0)
+module _ (w : JobValues) (netlist recording : List ℕ) (c d : Limits) (a b : Objection) (none_a : a.undecided ≡ 0)
     (none_b : b.undecided ≡ 0) where
   once : HasJob w netlist recording (IsObjected c a) → HasJob w netlist recording (IsObjected d b) → b ≡ a
   once first second =
