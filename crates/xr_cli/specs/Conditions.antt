@@ -69,7 +69,7 @@ cert_by form c conditions = record {
   form = form;
   head = record {
     rounds = c.stim.rounds;
-    limits = c.limits;
+    conflicts = c.limits.conflicts;
     moments = length c.stim.times;
     nets = length c.design.nets;
   };
