@@ -6,12 +6,12 @@ ghost use Rattle.xr_shelf.specs.Shelf.{bytes_of};
 ghost use Rattle.xr_files.specs.Fetched.{AddsAmong, IsFetched, IsGiven, OthersTraced};
 
 use crate::noted::read_noted;
-use crate::text_map::TextMap;
 use std::alloc::Global;
 use std::fs;
 use std::fs::File;
 use std::rt::Files;
 use xr_base::Memory;
+use xr_shelf::NamedFiles;
 use xr_trace::Record;
 
 /// The most bytes that one call of `read` is asked for.
@@ -22,7 +22,7 @@ const BUFFER_BYTES: usize = 65_536;
 pub struct Fetched {
     alloc: Global,
     limit: usize,
-    texts: TextMap,
+    texts: NamedFiles,
     gave: Record,
     ended: Record,
 }
@@ -38,7 +38,7 @@ impl Fetched {
         Fetched {
             alloc,
             limit,
-            texts: TextMap::new(alloc),
+            texts: NamedFiles::new(alloc),
             gave: Record::new(),
             ended: Record::new(),
         }

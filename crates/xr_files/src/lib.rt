@@ -14,7 +14,6 @@ mod parts;
 mod progress;
 mod stage;
 mod target;
-mod text_map;
 mod words;
 
 pub use fetched::Fetched;

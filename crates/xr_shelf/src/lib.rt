@@ -20,6 +20,7 @@ pub use fault::{IoErr, ReadErr, WriteErr};
 pub use fault_count::FaultCount;
 pub use mem_shelf::MemShelf;
 pub use mem_sink::MemSink;
+pub use named_files::NamedFiles;
 pub use plain_shelf::PlainShelf;
 pub use plain_sink::PlainSink;
 pub use shelf::{Shelf, read_all, write_all};
