@@ -6,7 +6,7 @@ use Rattle.xr_model.specs.Places.{places_where}
 use Rattle.xr_cone_nodes.specs.declared.node.Node.{Node}
 use Rattle.xr_cone_nodes.specs.Lanes.{in_lane}
 use Rattle.xr_cone_nodes.specs.Nodes.{is_source_node, node_at}
-use Rattle.xr_justify.specs.declared.literal.NodeBit.{NodeBit}
+use Rattle.xr_justify.specs.declared.node_bit.NodeBit.{NodeBit}
 
 -- Whether a node has a position, and whether one of some nodes has it.
 abbrev pub stands_at : List ℕ → ℕ → ℕ → Bool

@@ -3,11 +3,11 @@
 
 use crate::gates::Gate;
 use crate::implication::Implication;
-use crate::literal::{Literal, Variable};
 use crate::reason::Reason;
 use crate::solver::Solver;
 use crate::trail::{Level, Start};
 use xr_base::Memory;
+use xr_watches::{Literal, Variable};
 
 /// A clause that was learned, by number, and whether no table says it.
 #[derive(Clone, Copy, Debug)]
@@ -21,7 +21,7 @@ impl Solver {
     /// there is no such clause.
     pub(crate) fn learn(&mut self, conflict: Reason) -> Result<Option<Learned>, Memory> {
         self.seen.forget();
-        self.seen.push(Literal::new(Variable { number: 0 }, false))?;
+        self.seen.push(Literal::none())?;
         let Some(steps) = self.find_point(conflict)? else {
             return Ok(None);
         };

@@ -1,10 +1,9 @@
 //! The clauses that a search learns.
 
-use crate::literal::{Literal, Variable};
-use crate::reads::{item_at, narrow, set_item};
 use crate::span::Span;
 use std::alloc::Global;
 use xr_base::Memory;
+use xr_watches::{Literal, Variable, item_at, narrow, set_item};
 
 /// Clauses by number, in the order in which they were learned. Takes 8 bytes a clause, and 4 a literal.
 #[derive(Drop)]
@@ -44,7 +43,7 @@ impl Clauses {
 
     /// Literal k of a clause.
     pub(crate) fn literal(&self, clause: u32, k: usize) -> Literal {
-        let other = Literal::new(Variable { number: 0 }, false);
+        let other = Literal::none();
         item_at(&self.literals, self.span(clause).place(k), other)
     }
 

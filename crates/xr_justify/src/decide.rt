@@ -2,10 +2,10 @@
 
 use crate::gates::Gate;
 use crate::implication::Implication;
-use crate::literal::{Literal, Variable};
 use crate::reason::Reason;
 use crate::solver::Solver;
 use xr_base::Memory;
+use xr_watches::{Literal, Variable};
 
 /// A literal with its score.
 #[derive(Clone, Copy, Debug)]

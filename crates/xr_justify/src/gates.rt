@@ -1,10 +1,9 @@
 //! The nodes that were read, by variable.
 
-use crate::literal::Variable;
-use crate::reads::{item_at, narrow, set_item};
 use crate::span::Span;
 use std::alloc::Global;
 use xr_base::Memory;
+use xr_watches::{Variable, item_at, narrow, set_item};
 
 /// What a node reads, where its implications stand, and whether it is a source: it has bits that these don't force.
 #[derive(Clone, Copy, Debug)]

@@ -1,8 +1,8 @@
 //! Saved phases: the bit that each node of the circuit had last before it was taken back. They stay between searches.
 
-use crate::reads::{item_at, set_item};
 use std::alloc::Global;
 use xr_base::Memory;
+use xr_watches::{item_at, set_item};
 
 /// The bit that a node had last, if it had one. Takes a byte for each node up to the highest that was met.
 #[derive(Drop)]

@@ -3,12 +3,10 @@
 
 use crate::gates::Gate;
 use crate::implication::{Force, Known};
-use crate::literal::{Literal, Variable};
-use crate::reads::narrow;
 use crate::reason::Reason;
 use crate::solver::Solver;
-use crate::watches::Watch;
 use xr_base::Memory;
+use xr_watches::{Literal, Variable, Watch, narrow};
 
 /// How propagation ends: nothing more follows, a node isn't read in yet, or there is a conflict: all literals of a reason
 /// are false.

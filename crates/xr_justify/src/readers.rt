@@ -1,9 +1,8 @@
 //! Which gates read a variable, as linked lists.
 
-use crate::literal::Variable;
-use crate::reads::{item_at, narrow, set_item};
 use std::alloc::Global;
 use xr_base::Memory;
+use xr_watches::{Variable, item_at, narrow, set_item};
 
 /// A gate that reads a variable, and the entry of the next one.
 #[derive(Clone, Copy, Debug)]

@@ -1,6 +1,6 @@
 //! Why a variable has its bit.
 
-use crate::literal::Variable;
+use xr_watches::Variable;
 
 /// A decision or a clause of one literal; an implication of a gate, by its place; or a learned clause, by number.
 #[derive(Clone, Copy, Debug)]

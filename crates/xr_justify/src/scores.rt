@@ -1,9 +1,8 @@
 //! Scores of variables, which grow as conflicts meet them and count newer conflicts more.
 
-use crate::literal::Variable;
-use crate::reads::{item_at, set_item};
 use std::alloc::Global;
 use xr_base::Memory;
+use xr_watches::{Variable, item_at, set_item};
 
 /// The step by which a score grows grows itself by this part of it at each conflict.
 const GROWTH: u64 = 20;

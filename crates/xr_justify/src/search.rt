@@ -5,7 +5,7 @@ ghost use Rattle.xr_justify.specs.Search.{TablesFit, clauses_allowed, implicatio
 ghost use Rattle.xr_justify.specs.Step.{HasAtMost};
 
 use crate::implication::Implication;
-use crate::literal::NodeBit;
+use crate::node_bit::NodeBit;
 use crate::propagate::Propagated;
 use crate::reason::Reason;
 use crate::restarts::Restarts;

@@ -3,20 +3,18 @@
 use crate::clauses::Clauses;
 use crate::gates::{Gate, Gates};
 use crate::implication::Implication;
-use crate::literal::{Literal, NodeBit, Variable};
+use crate::node_bit::NodeBit;
 use crate::phases::Phases;
 use crate::readers::Readers;
-use crate::reads::narrow;
 use crate::reason::Reason;
 use crate::scores::Scores;
-use crate::seen::Seen;
 use crate::span::Span;
 use crate::tables::{Table, Tables};
 use crate::trail::Trail;
 use crate::variables::Variables;
-use crate::watches::Watches;
 use std::alloc::Global;
 use xr_base::Memory;
+use xr_watches::{Literal, Seen, Variable, Watches, narrow};
 
 /// The state of a search. Tables, and the bits that nodes had last, stay from one search to the next.
 #[derive(Drop)]

@@ -1,6 +1,6 @@
 //! What a search comes to.
 
-use crate::literal::NodeBit;
+use crate::node_bit::NodeBit;
 
 /// What a search comes to. Nothing of it is promised but how many clauses a log has.
 #[derive(Debug, Drop)]

@@ -4,10 +4,10 @@ ghost use Rattle.std.specs.Prelude.{◌≡◌, IfOk};
 ghost use Rattle.xr_justify.specs.Tables.{FitFourBytes, implications_of};
 
 use crate::implication::Implication;
-use crate::reads::{item_at, narrow};
 use crate::span::Span;
 use std::alloc::Global;
 use xr_base::Memory;
+use xr_watches::{item_at, narrow};
 
 /// A table that was read in, by number.
 #[derive(Clone, Copy, Debug)]

@@ -1,10 +1,9 @@
 //! The bits that variables have, in the order in which they got them, by levels of decisions.
 
-use crate::literal::{Literal, Variable};
-use crate::reads::{item_at, narrow, set_item};
 use crate::reason::Reason;
 use std::alloc::Global;
 use xr_base::Memory;
+use xr_watches::{Literal, Variable, item_at, narrow, set_item};
 
 /// How many decisions came before. Bits of the base level need none.
 #[derive(Clone, Copy, Debug)]
@@ -152,7 +151,7 @@ impl Trail {
 
     /// The literal of a place on the trail. Takes no memory.
     pub(crate) fn literal(&self, place: usize) -> Literal {
-        let other = Literal::new(Variable { number: 0 }, false);
+        let other = Literal::none();
         item_at(&self.literals, place, other)
     }
 

@@ -1,9 +1,8 @@
 //! The nodes that a search met, as variables.
 
-use crate::literal::Variable;
-use crate::reads::{item_at, narrow, set_item};
 use std::alloc::Global;
 use xr_base::Memory;
+use xr_watches::{Variable, item_at, narrow, set_item};
 
 /// The node of each variable, and for each node of the circuit 0 where the search hasn't met it, else one more than the
 /// number of its variable. Takes 4 bytes for each node up to the highest that was met.

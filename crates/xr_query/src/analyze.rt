@@ -1,15 +1,16 @@
 //! The analysis of a conflict: the first unique implication point, from the clauses that forced the literals of the last level,
 //! back from the one that is false; then local minimisation. Linear in the trail and in the clauses that it meets.
 
-use crate::literal::Literal;
 use crate::solver::Solver;
 use xr_base::Memory;
+use xr_watches::Literal;
 
 impl Solver {
     /// Learns a clause from a conflict, goes back to where it forces its first literal, and makes that true; whether there is
     /// such a clause.
     pub(crate) fn learn(&mut self, conflict: u32) -> Result<bool, Memory> {
-        self.seen.forget()?;
+        self.seen.forget();
+        self.seen.push(Literal::none())?;
         if !self.find_point(conflict)? {
             return Ok(false);
         }
@@ -29,7 +30,7 @@ impl Solver {
         let mut open = self.meet_clause(conflict)?;
         'places: for place in (0..self.trail.len()).rev() {
             let literal = self.trail.literal(place);
-            if !self.seen.is_met(literal) {
+            if !self.seen.is_met(literal.variable()) {
                 continue 'places;
             }
             if open <= 1 {
@@ -60,11 +61,11 @@ impl Solver {
     /// Meets one, if it is false, new, and not there without a decision; whether it is of the last level.
     fn meet_literal(&mut self, literal: Literal) -> Result<bool, Memory> {
         let level = self.trail.level_of(literal);
-        if !self.trail.is_false(literal) || self.seen.is_met(literal) || level == 0 {
+        if !self.trail.is_false(literal) || self.seen.is_met(literal.variable()) || level == 0 {
             return Ok(false);
         }
-        self.seen.meet(literal)?;
-        self.scores.bump(literal.variable());
+        self.seen.meet(literal.variable())?;
+        self.scores.bump(literal.variable().number);
         if level >= self.trail.level() {
             return Ok(true);
         }
@@ -112,7 +113,7 @@ impl Solver {
 
     /// Whether the variable of a literal was met, or has its bit without a decision.
     fn is_covered(&self, literal: Literal) -> bool {
-        self.seen.is_met(literal) || self.trail.level_of(literal) == 0
+        self.seen.is_met(literal.variable()) || self.trail.level_of(literal) == 0
     }
 
     /// Puts a literal of the highest level of those after the first in the second place; that level.

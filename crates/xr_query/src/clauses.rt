@@ -1,9 +1,8 @@
 //! The clauses of a search: those of the formula with two literals or more, and those that it learned.
 
-use crate::literal::Literal;
-use crate::reads::{item_at, narrow, set_item};
 use std::alloc::Global;
 use xr_base::Memory;
+use xr_watches::{Literal, item_at, narrow, set_item};
 
 /// So many literals of a list, from one on.
 #[derive(Clone, Copy, Debug)]

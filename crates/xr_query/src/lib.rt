@@ -12,20 +12,16 @@
 mod analyze;
 mod clauses;
 mod decide;
-mod literal;
 pub mod logs;
 pub mod models;
 mod needed;
 mod origins;
 mod propagate;
-mod reads;
 mod restarts;
 mod scores;
 mod search;
-mod seen;
 mod solver;
 mod trail;
-mod watches;
 
 pub use decide::Decider;
 pub use xr_sat::Outcome;

@@ -3,18 +3,17 @@
 ghost use Rattle.std.specs.Prelude.{◌≢◌, IfOk, pos};
 ghost use Rattle.xr_proof.specs.Assignment.{HasNoZero};
 
-use crate::literal::Literal;
-use crate::reads::set_item;
 use crate::solver::Solver;
 use std::alloc::Global;
 use xr_base::Memory;
 use xr_proof::{Clause, Log};
+use xr_watches::{Literal, set_item};
 
 impl Solver {
     /// The log of what a clause needs that is false. Takes some 24 bytes a clause, 4 a literal, and a byte for each clause that
     /// was learned.
     pub(crate) fn log_of_conflict(&mut self, alloc: Global, conflict: u32) -> Result<Log, Memory> {
-        self.seen.forget()?;
+        self.seen.forget();
         let mut marks = vec![in alloc; false; self.origins.len()]?;
         self.need(&mut marks, conflict)?;
         self.log(alloc, marks)
@@ -22,9 +21,9 @@ impl Solver {
 
     /// That of what it needs that a literal is false.
     pub(crate) fn log_of_denied(&mut self, alloc: Global, literal: Literal) -> Result<Log, Memory> {
-        self.seen.forget()?;
+        self.seen.forget();
         let marks = vec![in alloc; false; self.origins.len()]?;
-        self.seen.meet(literal)?;
+        self.seen.meet(literal.variable())?;
         self.log(alloc, marks)
     }
 
@@ -32,7 +31,7 @@ impl Solver {
     fn log(&mut self, alloc: Global, mut marks: Vec<bool>) -> Result<Log, Memory> {
         'places: for place in (0..self.trail.len()).rev() {
             let literal = self.trail.literal(place);
-            if self.seen.is_met(literal) || self.trail.level_of(literal) == 0 {
+            if self.seen.is_met(literal.variable()) || self.trail.level_of(literal) == 0 {
                 if let Some(reason) = self.trail.reason_of(literal) {
                     self.need(&mut marks, reason)?;
                 }
@@ -53,8 +52,8 @@ impl Solver {
         }
         'literals: for k in 0..self.clauses.count(clause) {
             let literal = self.clauses.literal(clause, k);
-            if !self.seen.is_met(literal) {
-                self.seen.meet(literal)?;
+            if !self.seen.is_met(literal.variable()) {
+                self.seen.meet(literal.variable())?;
             }
         }
         Ok(())

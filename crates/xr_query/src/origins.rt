@@ -1,8 +1,8 @@
 //! From which learned clauses a learned clause came.
 
-use crate::reads::{item_at, narrow};
 use std::alloc::Global;
 use xr_base::Memory;
+use xr_watches::{item_at, narrow};
 
 /// For each learned clause, by how many came before, the numbers of the learned clauses that it was made from, one after the
 /// other. Takes 4 bytes for each of both.

@@ -1,9 +1,8 @@
 //! Unit propagation: each literal that became false is read once, and the clauses that watch it are looked at.
 
-use crate::literal::Literal;
 use crate::solver::Solver;
-use crate::watches::Watch;
 use xr_base::Memory;
+use xr_watches::{Literal, Watch};
 
 /// What becomes of a watch whose literal is false.
 #[derive(Clone, Copy, Debug)]

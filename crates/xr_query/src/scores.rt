@@ -1,9 +1,9 @@
 //! Scores of variables, which grow as conflicts meet them and count newer conflicts more, in a heap: a change takes the
 //! logarithm of the number of variables.
 
-use crate::reads::{item_at, narrow, set_item};
 use std::alloc::Global;
 use xr_base::Memory;
+use xr_watches::{item_at, narrow, set_item};
 
 /// The step by which a score grows grows itself by this part of it at each conflict.
 const GROWTH: u64 = 20;

@@ -1,12 +1,12 @@
 //! A search by conflict-driven clause learning: decisions by score, each to the bit that its variable had last, up to a
 //! conflict, a clause from that, and back to where the clause forces its first literal. What it finds isn't promised.
 
-use crate::reads::narrow;
 use crate::restarts::Restarts;
 use crate::solver::{Decision, Solver};
 use std::alloc::Global;
 use xr_base::Memory;
 use xr_proof::{Cnf, Log, Model};
+use xr_watches::narrow;
 
 /// What a search comes to: a model, a log that refutes, or nothing in as many conflicts as were allowed. Nothing of it is
 /// promised.

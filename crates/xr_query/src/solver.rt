@@ -1,16 +1,13 @@
 //! What a search knows: clauses, the bits that variables have, and those that they had last.
 
 use crate::clauses::Clauses;
-use crate::literal::Literal;
 use crate::origins::Origins;
-use crate::reads::{item_at, narrow, set_item};
 use crate::scores::Scores;
-use crate::seen::Seen;
 use crate::trail::Trail;
-use crate::watches::Watches;
 use std::alloc::Global;
 use xr_base::Memory;
 use xr_proof::{Clause, Cnf};
+use xr_watches::{Literal, Seen, Variable, Watches, item_at, narrow, set_item};
 
 /// So many clauses are learned, at most, before all are forgotten with the next formula.
 const MOST_LEARNED: usize = 65_536;
@@ -95,7 +92,7 @@ impl Solver {
         let count = vars as usize;
         self.clauses.clear();
         self.origins.clear();
-        self.watches.start(count.saturating_mul(2))?;
+        self.watches.start(count)?;
         self.trail.start(count)?;
         self.scores.start(vars)?;
         self.seen.start(count)?;
@@ -147,7 +144,7 @@ impl Solver {
                 return Ok(Decision::Complete);
             };
             let bit = item_at(&self.phases, variable as usize, false);
-            let literal = Literal::new(variable, bit);
+            let literal = Literal::new(Variable { number: variable }, bit);
             if !self.trail.is_true(literal) && !self.trail.is_false(literal) {
                 self.trail.open_level()?;
                 self.trail.assign(literal, None)?;
@@ -164,8 +161,8 @@ impl Solver {
                 self.trail.close_levels(level);
                 return Ok(());
             };
-            set_item(&mut self.phases, literal.place(), literal.bit());
-            self.scores.put_back(literal.variable())?;
+            set_item(&mut self.phases, literal.variable().index(), literal.bit());
+            self.scores.put_back(literal.variable().number)?;
         }
         self.trail.close_levels(level);
         Ok(())
@@ -175,7 +172,10 @@ impl Solver {
     pub(crate) fn values(&self, alloc: Global, vars: u32) -> Result<Vec<bool>, Memory> {
         let mut values = Vec::with_capacity(alloc, vars as usize)?;
         'variables: for variable in 0..vars {
-            values.push(self.trail.is_true(Literal::new(variable, true)))?;
+            values.push(
+                self.trail
+                    .is_true(Literal::new(Variable { number: variable }, true)),
+            )?;
         }
         Ok(values)
     }

@@ -1,9 +1,8 @@
 //! The bits that variables have, in the order in which they got them, by levels of decisions.
 
-use crate::literal::Literal;
-use crate::reads::{item_at, narrow, set_item};
 use std::alloc::Global;
 use xr_base::Memory;
+use xr_watches::{Literal, item_at, narrow, set_item};
 
 /// Which literals are true; for each variable how many decisions came before its bit, and the clause that forced it; and the true
 /// literals in order, of which the first ones are read. Takes 20 bytes a variable, and 4 a level.
@@ -54,12 +53,12 @@ impl Trail {
 
     /// How many decisions came before the bit of a literal's variable.
     pub(crate) fn level_of(&self, literal: Literal) -> u32 {
-        item_at(&self.levels, literal.place(), 0)
+        item_at(&self.levels, literal.variable().index(), 0)
     }
 
     /// The clause that forced it; none for a decision.
     pub(crate) fn reason_of(&self, literal: Literal) -> Option<u32> {
-        item_at(&self.reasons, literal.place(), None)
+        item_at(&self.reasons, literal.variable().index(), None)
     }
 
     /// Makes a literal true, unless it is; whether it wasn't false.
@@ -71,8 +70,8 @@ impl Trail {
             let level = self.level();
             self.literals.push(literal)?;
             set_item(&mut self.truths, literal.index(), true);
-            set_item(&mut self.levels, literal.place(), level);
-            set_item(&mut self.reasons, literal.place(), reason);
+            set_item(&mut self.levels, literal.variable().index(), level);
+            set_item(&mut self.reasons, literal.variable().index(), reason);
         }
         Ok(true)
     }

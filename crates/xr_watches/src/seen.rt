@@ -7,14 +7,15 @@ use xr_base::Memory;
 
 /// For each variable whether it was met, those that were, and the literals of the clause. Takes 9 bytes a variable.
 #[derive(Drop)]
-pub(crate) struct Seen {
+pub struct Seen {
     flags: Vec<bool>,
     met: Vec<Variable>,
     clause: Vec<Literal>,
 }
 
 impl Seen {
-    pub(crate) fn new(alloc: Global) -> Seen {
+    /// No variables.
+    pub fn new(alloc: Global) -> Seen {
         Seen {
             flags: Vec::new(alloc),
             met: Vec::new(alloc),
@@ -22,20 +23,28 @@ impl Seen {
         }
     }
 
-    pub(crate) fn clear(&mut self) {
+    /// No variables any more, and an empty clause.
+    pub fn clear(&mut self) {
         self.flags.clear();
         self.met.clear();
         self.clause.clear();
     }
 
+    /// So many variables, that weren't met, and an empty clause.
+    pub fn start(&mut self, vars: usize) -> Result<(), Memory> {
+        self.clear();
+        self.flags.resize(vars, false)?;
+        Ok(())
+    }
+
     /// One more variable, that wasn't met.
-    pub(crate) fn add(&mut self) -> Result<(), Memory> {
+    pub fn add(&mut self) -> Result<(), Memory> {
         self.flags.push(false)?;
         Ok(())
     }
 
     /// Nothing is met, and the clause is empty.
-    pub(crate) fn forget(&mut self) {
+    pub fn forget(&mut self) {
         'met: for k in 0..self.met.len() {
             let variable = item_at(&self.met, k, Variable { number: 0 });
             set_item(&mut self.flags, variable.index(), false);
@@ -44,37 +53,41 @@ impl Seen {
         self.clause.clear();
     }
 
-    pub(crate) fn is_met(&self, variable: Variable) -> bool {
+    /// Whether a variable was met.
+    pub fn is_met(&self, variable: Variable) -> bool {
         item_at(&self.flags, variable.index(), false)
     }
 
-    pub(crate) fn meet(&mut self, variable: Variable) -> Result<(), Memory> {
+    /// A variable is met.
+    pub fn meet(&mut self, variable: Variable) -> Result<(), Memory> {
         self.met.push(variable)?;
         set_item(&mut self.flags, variable.index(), true);
         Ok(())
     }
 
     /// The literals of the clause.
-    pub(crate) fn clause(&self) -> &[Literal] {
+    pub fn clause(&self) -> &[Literal] {
         self.clause.as_slice()
     }
 
-    pub(crate) fn literal(&self, k: usize) -> Literal {
-        let other = Literal::new(Variable { number: 0 }, false);
-        item_at(&self.clause, k, other)
+    /// Literal k of the clause.
+    pub fn literal(&self, k: usize) -> Literal {
+        item_at(&self.clause, k, Literal::none())
     }
 
-    pub(crate) fn push(&mut self, literal: Literal) -> Result<(), Memory> {
+    /// One literal more.
+    pub fn push(&mut self, literal: Literal) -> Result<(), Memory> {
         self.clause.push(literal)?;
         Ok(())
     }
 
-    pub(crate) fn set(&mut self, k: usize, literal: Literal) {
+    /// Literal k is this now.
+    pub fn set(&mut self, k: usize, literal: Literal) {
         set_item(&mut self.clause, k, literal);
     }
 
     /// Only the first literals stay.
-    pub(crate) fn keep(&mut self, count: usize) {
+    pub fn keep(&mut self, count: usize) {
         self.clause.truncate(count);
     }
 }

@@ -7,23 +7,23 @@ use xr_base::Memory;
 
 /// A watch by number: twice that of its clause, and 1 more for the second literal.
 #[derive(Clone, Copy, Debug)]
-pub(crate) struct Watch {
+pub struct Watch {
     number: u32,
 }
 
 impl Watch {
     /// Its clause.
-    pub(crate) fn clause(self) -> u32 {
+    pub fn clause(self) -> u32 {
         self.number / 2
     }
 
     /// The place in the clause of the literal that is watched.
-    pub(crate) fn side(self) -> usize {
+    pub fn side(self) -> usize {
         (self.number % 2) as usize
     }
 
     /// That of the other one.
-    pub(crate) fn other_side(self) -> usize {
+    pub fn other_side(self) -> usize {
         if self.side() == 0 { 1 } else { 0 }
     }
 }
@@ -37,37 +37,49 @@ struct Entry {
 
 /// The watches of each literal. Takes 16 bytes a variable, and 24 a clause.
 #[derive(Drop)]
-pub(crate) struct Watches {
+pub struct Watches {
     first: Vec<Option<u32>>,
     entries: Vec<Entry>,
 }
 
 impl Watches {
     /// No variables.
-    pub(crate) fn new(alloc: Global) -> Watches {
+    pub fn new(alloc: Global) -> Watches {
         Watches {
             first: Vec::new(alloc),
             entries: Vec::new(alloc),
         }
     }
 
-    /// A number of literals, which nothing watches.
-    pub(crate) fn start(&mut self, literals: usize) -> Result<(), Memory> {
+    /// No variables and no clauses any more.
+    pub fn clear(&mut self) {
         self.first.clear();
         self.entries.clear();
-        self.first.resize(literals, None)?;
+    }
+
+    /// So many variables, whose literals nothing watches, and no clauses.
+    pub fn start(&mut self, vars: usize) -> Result<(), Memory> {
+        self.clear();
+        self.first.resize(vars.saturating_mul(2), None)?;
+        Ok(())
+    }
+
+    /// One more variable, whose literals nothing watches.
+    pub fn add(&mut self) -> Result<(), Memory> {
+        self.first.push(None)?;
+        self.first.push(None)?;
         Ok(())
     }
 
     /// One more clause, whose watches stand in no list.
-    pub(crate) fn add_clause(&mut self) -> Result<(), Memory> {
+    pub fn add_clause(&mut self) -> Result<(), Memory> {
         self.entries.push(unused())?;
         self.entries.push(unused())?;
         Ok(())
     }
 
     /// The watches of a clause come into the lists of its first two literals.
-    pub(crate) fn note_clause(&mut self, clause: u32, first: Literal, second: Literal) {
+    pub fn note_clause(&mut self, clause: u32, first: Literal, second: Literal) {
         let number = clause.saturating_mul(2);
         self.note(first, Watch { number }, second);
         let number = number.saturating_add(1);
@@ -75,12 +87,12 @@ impl Watches {
     }
 
     /// How many watches there are.
-    pub(crate) fn len(&self) -> usize {
+    pub fn len(&self) -> usize {
         self.entries.len()
     }
 
     /// Takes the list of a literal off, and gives its first watch.
-    pub(crate) fn take(&mut self, literal: Literal) -> Option<Watch> {
+    pub fn take(&mut self, literal: Literal) -> Option<Watch> {
         let first = self.first(literal);
         set_item(&mut self.first, literal.index(), None);
         watch_of(first)
@@ -95,17 +107,17 @@ impl Watches {
     }
 
     /// The watch after one in its list.
-    pub(crate) fn next(&self, watch: Watch) -> Option<Watch> {
+    pub fn next(&self, watch: Watch) -> Option<Watch> {
         watch_of(self.entry(watch).next)
     }
 
     /// The blocker of a watch.
-    pub(crate) fn blocker(&self, watch: Watch) -> Literal {
+    pub fn blocker(&self, watch: Watch) -> Literal {
         self.entry(watch).blocker
     }
 
     /// A watch comes into the list of a literal.
-    pub(crate) fn note(&mut self, literal: Literal, watch: Watch, blocker: Literal) {
+    pub fn note(&mut self, literal: Literal, watch: Watch, blocker: Literal) {
         let next = self.first(literal);
         let entry = Entry { next, blocker };
         set_item(&mut self.entries, watch.number as usize, entry);

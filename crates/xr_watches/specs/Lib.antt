@@ -1,0 +1,1 @@
+-- What searches that learn clauses are made of has no definitions.
