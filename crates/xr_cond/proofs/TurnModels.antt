@@ -21,6 +21,7 @@ use Rattle.xr_model.proofs.MetClauses.{bit_is, is_bit, choice_met}
 use Rattle.xr_model.proofs.ConeModels.{position_rises}
 use Rattle.xr_model.proofs.Cones.{cone_self, cone_within}
 use Rattle.xr_model.proofs.MinimalChoices.{Setting, obeys}
+use Rattle.xr_model.proofs.RefutedQueries.{same_value, values, values_length}
 use Rattle.xr_model.proofs.PlacesWhere.{among_contains, in_picked, picked_rises, or_left, or_right}
 use Rattle.xr_cone.specs.Boundary.{is_boundary, is_near}
 use Rattle.xr_cond.specs.Condition.{AreOfBoundary, Obeys}
@@ -180,34 +181,6 @@ models_are_choices j c root value listed model fits within all met = record {
   other = root_other j fits c root value listed model within all met;
   back = λ n less. model_back j c root n model less;
 }
-
--- The first n values of an assignment as a list.
-values : (ℕ → Bool) → ℕ → List Bool
-values v zero = []
-values v (suc n) = values v n ++ v n ∷ []
-
-values_length : (v : ℕ → Bool) (n : ℕ) → length (values v n) ≡ n
-unfolding values
-values_length v zero = refl
-values_length v (suc n) = let ih = values_length v n in simp length-append (omega arith)
-
-values_at : (v : ℕ → Bool) (n k : ℕ) → k < n → slice_index_or (values v n) k false ≡ v k
-unfolding values
-values_at v zero k less = absurd (omega arith)
-values_at v (suc n) k less =
-    let long = values_length v n in
-    ⊎_elim (λ (here : k ≡ n). subst (λ i. slice_index_or (values v n ++ v n ∷ []) i false ≡ v i) (sym here) (last long))
-    (λ (other : k ≡ n → ⊥). get_or-append (values v n) (v n ∷ []) false k (omega (arith, long, less, other))
-    ∙ values_at v n k (omega (arith, less, other))) (cases_eq k n)
-  where
-    last : length (values v n) ≡ n → slice_index_or (values v n ++ v n ∷ []) n false ≡ v n
-    last long = subst (λ i. slice_index_or (values v n ++ v n ∷ []) i false ≡ v n) long
-        (get_or-append_seam (values v n) (v n) [] false)
-
-same_value : (v : ℕ → Bool) (n : ℕ) (l : ℤ) → nat_abs l ≤ n → value_of (assigned (values v n)) l ≡ value_of v l
-same_value v n (pos zero) low = refl
-same_value v n (pos (suc k)) low = values_at v n k (omega (arith, low))
-same_value v n (negsuc k) low = ap not (values_at v n k (omega (arith, low)))
 
 -- The literals of a turn query are of its variables.
 fits_in : (j : Job) → Fits j → (c : ℕ → Value) (root : ℕ) (value : Bool) (listed : List ℕ) → root < places_of j

@@ -25,6 +25,7 @@ use Rattle.xr_cone_nodes.proofs.ConeBits.{count, fits, picked, place_within, roo
 use Rattle.xr_cone_nodes.proofs.ListedPlaces.{listed_bit}
 use Rattle.xr_cone_nodes.proofs.NodeSources.{masked_at}
 use Rattle.xr_cone_nodes.proofs.PickedLists.{chosen_places, filter_position}
+use Rattle.xr_cone_nodes.proofs.RisingNumbers.{place_position}
 
 pub sources_law : SourcesLaw
 sources_law c root nodes is = sources_are c root nodes is
@@ -65,35 +66,6 @@ chosen_law c root nodes bits is =
 pub base_law : BaseLaw
 base_law c root nodes is =
     root_world c root nodes is nothing [] (empty_filling (job c)) (λ p less born. refl)
-
--- A place at which a test holds stands behind those below it.
-place_position : (t : ℕ → Bool) (n k : ℕ) → k < n → t k ≡ true
-    → (length (places_where t k) < length (places_where t n))
-    × (slice_index_or (places_where t n) (length (places_where t k)) 0 ≡ k)
-place_position t zero k less holds = absurd (omega arith)
-place_position t (suc n) k less holds =
-    ⊎_elim at_last (λ (other : k ≡ n → ⊥). (let inner : k < n = omega (arith, less, other) in
-    earlier (t n) (place_position t n k inner holds))) (cases_eq k n)
-  where
-    xs : List ℕ
-    xs = places_where t n
-
-    earlier : (b : Bool) → (length (places_where t k) < length xs)
-        × (slice_index_or xs (length (places_where t k)) 0 ≡ k)
-        → (length (places_where t k) < length (if b then xs ++ n ∷ [] else xs))
-        × (slice_index_or (if b then xs ++ n ∷ [] else xs) (length (places_where t k)) 0 ≡ k)
-    earlier true at = (let long = length-append xs (n ∷ []) in let low = at.0 in (
-      omega (arith, long, low),
-      get_or-append xs (n ∷ []) 0 (length (places_where t k)) at.0 ∙ at.1,
-    ))
-    earlier false at = at
-
-    at_last : k ≡ n → (length (places_where t k) < length (places_where t (suc n)))
-        × (slice_index_or (places_where t (suc n)) (length (places_where t k)) 0 ≡ k)
-    at_last same =
-        let on : t n ≡ true = subst (λ i. t i ≡ true) same holds in
-        let long = length-append xs (n ∷ []) in
-        rw (same, on) (omega (arith, long), get_or-append_seam xs n [] 0)
 
 -- A node that is a source is one of the sources, in its place.
 source_within : (c : Contents) (root : ℕ) (nodes : List Node) → IsConeOf c root nodes → (p : ℕ) → p < length nodes

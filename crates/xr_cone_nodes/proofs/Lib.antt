@@ -8,3 +8,4 @@ pub mod ListedSpots
 pub mod NodeSources
 pub mod NodeWorlds
 pub mod PickedLists
+pub mod RisingNumbers

@@ -33,7 +33,8 @@ use Rattle.xr_graph.specs.Walk.{AreReached, AreTakenFrom, IsClosedSet, read_node
 use Rattle.xr_graph.proofs.ReadNodes.{reads_before}
 use Rattle.xr_graph.proofs.ReachedCones.{at_position, cone_at, cone_long, cone_nodes, mapped_all, mark_low, node_marked, node_within, nodes_rise, reads_marked}
 use Rattle.xr_graph.specs.Picked.{before_node, moved_body, moved_node, picked_by, picked_of}
-use Rattle.xr_graph.proofs.Rising.{among_where, index_map, rises_map, rises_upto}
+use Rattle.xr_cone_nodes.proofs.RisingNumbers.{among_where}
+use Rattle.xr_graph.proofs.Rising.{index_map, rises_map, rises_upto}
 
 -- A cone has the roots of its places.
 root_at : (j : Job) → Fits j → (c : ℕ → Value) (root k : ℕ) (class : ClassByNumber) → root < places_of j

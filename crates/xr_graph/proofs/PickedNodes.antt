@@ -14,11 +14,12 @@ use Rattle.xr_cone_nodes.specs.declared.node.Node.{Node}
 use Rattle.xr_cone_nodes.specs.declared.node.NodeBody.{NodeBody as Body}
 use Rattle.xr_cone_nodes.specs.declared.node.NodeBody.TheVariants.{Carried, Rule}
 use Rattle.xr_cone_nodes.specs.Nodes.{StandsAt, node_at}
+use Rattle.xr_cone_nodes.proofs.RisingNumbers.{place_position}
 use Rattle.xr_graph.specs.Graph.{AreOrdered}
 use Rattle.xr_graph.specs.Picked.{before_node, moved_body, moved_node, picked_by}
 use Rattle.xr_graph.specs.Walk.{AreAllTaken, read_nodes, is_taken, reads_node}
 use Rattle.xr_graph.proofs.ReadNodes.{reads_before}
-use Rattle.xr_graph.proofs.Rising.{one_position, place_position}
+use Rattle.xr_graph.proofs.Rising.{one_position}
 
 pub few_where : (test : ℕ → Bool) (n : ℕ) → length (places_where test n) ≤ n
 few_where test zero = omega arith

@@ -10,11 +10,12 @@ use Rattle.xr_cone_nodes.specs.declared.node.Node.{Node}
 use Rattle.xr_cone_nodes.specs.declared.node.NodeBody.{NodeBody as Body}
 use Rattle.xr_cone_nodes.specs.declared.node.NodeBody.TheVariants.{Carried, Rule}
 use Rattle.xr_cone_nodes.specs.Nodes.{AreNodes, StandsAt, no_node, node_at}
+use Rattle.xr_cone_nodes.proofs.RisingNumbers.{place_position}
 use Rattle.xr_graph.specs.Graph.{AreOrdered}
 use Rattle.xr_graph.specs.Walk.{AreReached, read_nodes, reads_node}
 use Rattle.xr_graph.specs.Picked.{before_node, moved_body, moved_node, picked_of}
 use Rattle.xr_graph.proofs.PickedNodes.{few_where}
-use Rattle.xr_graph.proofs.Rising.{place_position, stands_before}
+use Rattle.xr_graph.proofs.Rising.{stands_before}
 
 pub mapped_all : (P : ℕ → Type 0) (f : ℕ → ℕ) (xs : List ℕ) → AllByRecursion (λ x. P (f x)) xs → AllByRecursion P (map f xs)
 mapped_all P f [] all = tt

@@ -10,4 +10,3 @@ pub mod SpanLists
 pub mod TableLanes
 pub mod Unions
 pub mod WorkedLanes
-pub use Rattle.xr_rests.proofs.RisingLists

@@ -19,7 +19,7 @@ use Rattle.xr_wave.specs.Contents.{Contents, IsWave, job}
 use Rattle.xr_sources.proofs.SourceUnions.{union_law}
 use Rattle.xr_cone_nodes.proofs.NodeSources.{values_born}
 use Rattle.xr_rests.specs.Table.{IsTableOver}
-use Rattle.xr_rests.proofs.RisingLists.{Rises, rises}
+use Rattle.xr_cone_nodes.proofs.RisingNumbers.{Rises, rises, rises_same}
 use Rattle.xr_lane_nodes.specs.InWave.{IsInReach, IsRuleIn, CoversBeforeIn}
 use Rattle.xr_lane_nodes.specs.Joined.{AreListed, IsJoined, IsKept, is_in, keeps_source}
 use Rattle.xr_lane_nodes.specs.Made.{AreSourcesIn}
@@ -29,7 +29,7 @@ use Rattle.xr_lane_nodes.specs.Union.{IsUnion}
 use Rattle.xr_lane_nodes.specs.declared.literal.Covered.{Covered}
 use Rattle.xr_lane_nodes.proofs.NearPlaces.{essential_argument}
 use Rattle.xr_lane_nodes.proofs.LiteralBits.{covered_arguments}
-use Rattle.xr_lane_nodes.proofs.Unions.{rises_more, rises_same}
+use Rattle.xr_lane_nodes.proofs.Unions.{rises_more}
 
 -- No places have no sources.
 pub joined_none : (covered : Covered) → IsJoined covered [] []

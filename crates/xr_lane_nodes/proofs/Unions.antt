@@ -6,7 +6,7 @@ use Rattle.std.proofs.lemmas.Bool.{cases_Bool, cases_eq, eq-eqb, eqb-true, lt-lt
 use Rattle.std.proofs.lemmas.List.Folds.{list_any-append}
 use Rattle.xr_model.specs.Places.{among}
 use Rattle.xr_model.proofs.PlacesWhere.{all_among, among_all, or_left, or_right}
-use Rattle.xr_rests.proofs.RisingLists.{Rises, rises}
+use Rattle.xr_cone_nodes.proofs.RisingNumbers.{Rises, rises}
 use Rattle.xr_lane_nodes.specs.Union.{IsUnion, after, first, least}
 
 -- Lists that rise ascend strictly.
@@ -220,43 +220,3 @@ merge_ends some others all left right so is =
 pub fewer_left : (left right : List ℕ) (p : ℕ) → least left right ≡ Some p
     → length (after left p) + length (after right p) < length left + length right
 fewer_left left right p is = (least_is left right p is).fewer
-
--- Lists that rise with the same places are the same.
-pub rises_same : (xs ys : List ℕ) → Rises xs → Rises ys → ((k : ℕ) → among xs k ≡ among ys k) → xs ≡ ys
-rises_same [] [] up over same = refl
-rises_same [] (y ∷ ys) up over same =
-    (let e : false ≡ true = same y ∙ or_left (y == y) (among ys y) (eq-eqb y y refl) in cc)
-rises_same (x ∷ xs) [] up over same =
-    (let e : true ≡ false = sym (or_left (x == x) (among xs x) (eq-eqb x x refl)) ∙ same x in cc)
-rises_same (x ∷ xs) (y ∷ ys) up over same =
-    rw (head, rises_same xs ys up.1 over.1 tail) refl
-  where
-    low : (a b : ℕ) (bs : List ℕ) → Rises (b ∷ bs) → among (b ∷ bs) a ≡ true → b ≤ a
-    low a b bs up at = ⊎_elim (λ (e : (b == a) ≡ true). (let same = eqb-true b a e in omega (arith, same)))
-        (λ (e : among bs a ≡ true). (let less : b < a = all_among (λ k. b < k) bs a up.0 e in omega (arith, less)))
-        (or_cases (b == a) (among bs a) at)
-
-    head : x ≡ y
-    head =
-        let first = low y x xs up (same y ∙ or_left (y == y) (among ys y) (eq-eqb y y refl)) in
-        let second = low x y ys over (sym (same x) ∙ or_left (x == x) (among xs x) (eq-eqb x x refl)) in
-        omega (arith, first, second)
-
-    off : (a : ℕ) (list : List ℕ) → AllByRecursion (λ k. a < k) list → among list a ≡ false
-    off a list all = ⊎_elim (λ (h : among list a ≡ true). (let less : a < a = all_among (λ k. a < k) list a all h in absurd (omega (arith, less))))
-        (λ (h : among list a ≡ false). h) (cases_Bool (among list a))
-
-    tail : (k : ℕ) → among xs k ≡ among ys k
-    tail k = ⊎_elim (λ (e : x ≡ k). off_at k e) (λ (e : x ≡ k → ⊥). rest k e) (cases_eq x k)
-      where
-        cancel : (a b p q : Bool) → a ≡ false → b ≡ false → a || p ≡ b || q → p ≡ q
-        cancel a b p q first second both = rw (first, second) at both
-
-        off_at : (k : ℕ) → x ≡ k → among xs k ≡ among ys k
-        off_at k e = subst (λ i. among xs i ≡ among ys i) e (off x xs up.0
-            ∙ sym (off x ys (subst (λ i. AllByRecursion (λ k. i < k) ys) (sym head) over.0)))
-
-        rest : (k : ℕ) → (x ≡ k → ⊥) → among xs k ≡ among ys k
-        rest k e = cancel (x == k) (y == k) (among xs k) (among ys k)
-            (ne_eqb x k e)
-            (ne_eqb y k (λ same. e (head ∙ same))) (same k)

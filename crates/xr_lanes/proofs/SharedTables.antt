@@ -25,7 +25,7 @@ use Rattle.xr_model.proofs.Cones.{cone_self}
 use Rattle.xr_model.proofs.LawProofs.{sources_decide}
 use Rattle.xr_model.proofs.PlacesWhere.{all_among, among_all, or_right, picked_rises}
 use Rattle.xr_model.proofs.SourceFillings.{source_among}
-use Rattle.xr_lane_nodes.proofs.RisingLists.{Rises, rises}
+use Rattle.xr_cone_nodes.proofs.RisingNumbers.{Rises, rises}
 use Rattle.xr_wave.specs.Contents.{Contents, IsWave, job, next_number, shown_in}
 use Rattle.xr_wave.specs.Token.{HasNext, HoldsNext}
 use Rattle.xr_cone_nodes.specs.declared.node.Node.{Node}

@@ -11,11 +11,11 @@ use Rattle.xr_proof.proofs.ClosedSets.{all_from}
 use Rattle.xr_proof.proofs.Sound.{no_model}
 
 -- The first n values of an assignment as a list.
-values : (ℕ → Bool) → ℕ → List Bool
+pub values : (ℕ → Bool) → ℕ → List Bool
 values v zero = []
 values v (suc n) = values v n ++ v n ∷ []
 
-values_length : (v : ℕ → Bool) (n : ℕ) → length (values v n) ≡ n
+pub values_length : (v : ℕ → Bool) (n : ℕ) → length (values v n) ≡ n
 unfolding values
 values_length v zero = refl
 values_length v (suc n) = let ih = values_length v n in simp length-append (omega arith)
@@ -33,7 +33,7 @@ values_at v (suc n) k less =
     last long = subst (λ i. slice_index_or (values v n ++ v n ∷ []) i false ≡ v n) long
         (get_or-append_seam (values v n) (v n) [] false)
 
-same_value : (v : ℕ → Bool) (n : ℕ) (l : ℤ) → nat_abs l ≤ n → value_of (assigned (values v n)) l ≡ value_of v l
+pub same_value : (v : ℕ → Bool) (n : ℕ) (l : ℤ) → nat_abs l ≤ n → value_of (assigned (values v n)) l ≡ value_of v l
 same_value v n (pos zero) low = refl
 same_value v n (pos (suc k)) low = values_at v n k (omega (arith, low))
 same_value v n (negsuc k) low = ap not (values_at v n k (omega (arith, low)))

@@ -13,27 +13,8 @@ use Rattle.std.proofs.lemmas.List.Sorted.{searched}
 use Rattle.std.proofs.lemmas.Map.Keys.{below_from_sorted, sorted_from_strictly_increasing}
 use Rattle.xr_model.specs.Places.{among}
 use Rattle.xr_model.proofs.PlacesWhere.{all_among, contains_among}
+use Rattle.xr_cone_nodes.proofs.RisingNumbers.{Rises, rises}
 use Rattle.xr_rests.proofs.NumberBits.{AreApart}
-
--- Each number stands below all behind it.
-abbrev pub Rises : List ℕ → Type 0
-Rises [] = Unit {0}
-Rises (x ∷ xs) = AllByRecursion (λ y. x < y) xs × Rises xs
-
-less_is : (a b : ℕ) → nat_cmp a b ≡ Less → a < b
-less_is a b is = subst (λ o. MatchOrdering o (a < b) (a ≡ b) (b < a)) is (ranks a b)
-
-rises_by : (xs : List ℕ) → IsStrictlySortedBy nat_cmp xs → Rises xs
-unfolding IsStrictlySortedBy
-rises_by [] sorted = tt
-rises_by (x ∷ xs) sorted = (all_less xs sorted.0, rises_by xs sorted.1)
-  where
-    all_less : (ys : List ℕ) → AllByRecursion (λ y. nat_cmp x y ≡ Less) ys → AllByRecursion (λ y. x < y) ys
-    all_less [] all = tt
-    all_less (y ∷ ys) all = (less_is x y all.0, all_less ys all.1)
-
-pub rises : (xs : List ℕ) → IsStrictlyIncreasing xs → Rises xs
-rises xs increases = rises_by xs (sorted_from_strictly_increasing xs increases)
 
 none_there : (x : ℕ) (xs : List ℕ) → AllByRecursion (λ y. x < y) xs → among xs x ≡ false
 none_there x xs above = not_true (among xs x) (λ at. (let up : x < x = all_among (λ y. x < y) xs x above at in omega arith))
