@@ -2,6 +2,7 @@
 use Rattle.std.proofs.Common.{◌≡◌, ◌∙◌, ℕ, List, [], ◌∷◌, ◌++◌, Option, Some, IfOk, IsErrAnd, Ok, Err, ◌≢◌, sym, ap, subst}
 use Rattle.xr_netlist_grammar.specs.declared.tree.InstanceItem.{InstanceItem}
 use Rattle.xr_netlist_grammar.specs.declared.tree.Module.{Module}
+use Rattle.xr_design.specs.Job.{primitive_of}
 use Rattle.xr_elab_nets.specs.declared.fault.ElabErr.{ElabErr}
 use Rattle.xr_elab_nets.specs.declared.fault.ElabErr.TheVariants.{Memory}
 use Rattle.xr_elab_nets.specs.Outcome.{Outcome, after, Gives}
@@ -12,6 +13,7 @@ use Rattle.xr_elab_names.specs.Here.{Here, here_of}
 use Rattle.xr_elab_prims.specs.declared.definitions.Definition.{Definition}
 use Rattle.xr_elab_prims.specs.declared.definitions.Definition.TheVariants as definition
 use Rattle.xr_elab_prims.specs.Definitions.{definition_of}
+use Rattle.xr_elab_gates.specs.Primitives.{udp_item}
 use Rattle.xr_elab_joins.specs.Joined.{joined}
 use Rattle.xr_elab_tree.specs.Library.{Library, module_of}
 use Rattle.xr_elab_tree.specs.Elaborate.{entered, filled, instance_of, instance_item, body, at_top, whole}
@@ -60,6 +62,12 @@ module _ (l : Library) (path : List ℕ) (room k : ℕ) (i : InstanceItem) (here
       → (t : State) (r : Outcome A) → Gives (state_of (body l room (path ++ k ∷ []) (module_of l k).items (here_of inner s))) r (λ _. t) → Gives (instance_item l path room i here) r (λ _. here_of outer t)
   instance_gives found enters joint t (Ok x) given = instance_made found enters joint t given
   instance_gives found enters joint t (Err e) given = λ told. instance_refused found enters joint e (given told)
+
+-- What a primitive gives, an instance of it gives.
+pub primitive_gives : {A : Type 0} (l : Library) (path : List ℕ) (room k : ℕ) (i : InstanceItem) (here : Here) (r : Outcome A) (seen : A → Here) → definition_of l.source i.definition.text ≡ Some (definition.Primitive k)
+    → Gives (udp_item k (primitive_of l.tables k) i here) r seen → Gives (instance_item l path room i here) r seen
+primitive_gives l path room k i here r seen found given =
+    subst (λ (wanted : Outcome Here). Gives wanted r seen) (sym (ap (λ (o : Option Definition). instance_of l path room (body l room) o i here) found)) given
 
 -- ---- the top
 

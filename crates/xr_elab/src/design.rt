@@ -1,13 +1,12 @@
 //! The design of a tree.
 
-ghost use Rattle.std.specs.Prelude.{◌≡◌, ◌≢◌, ◌<◌, ◌≤◌, ◌^◌, [], ◌∷◌, None, Ok, Err, IfOk, IfErr, length};
+ghost use Rattle.std.specs.Prelude.{◌≡◌, ◌≢◌, ◌<◌, ◌^◌, [], ◌∷◌, None, Ok, Err, IfOk, IfErr, length};
 ghost use Rattle.xr_netlist_grammar.specs.Whole.{IsWhole};
 ghost use Rattle.xr_design.specs.Design.{FitsDesign};
 ghost use Rattle.xr_elab_nets.specs.declared.fault.ElabErr.TheVariants.{Memory as OutOfMemory};
 ghost use Rattle.xr_elab_nets.specs.Outcome.{Gives};
-ghost use Rattle.xr_elab_nets.specs.State.{finished, nothing_made};
-ghost use Rattle.xr_elab_names.specs.Here.{here_of};
-ghost use Rattle.xr_elab_prims.specs.Built.{AreBuilt};
+ghost use Rattle.xr_elab_nets.specs.State.{finished};
+ghost use Rattle.xr_elab_names.specs.Names.{opened};
 ghost use Rattle.xr_elab_prims.specs.Definitions.{definition_of, repeated};
 ghost use Rattle.xr_elab_tree.specs.Elaborate as spec;
 ghost use Rattle.xr_elab_tree.specs.Library.{library_of, module_of};
@@ -15,15 +14,17 @@ ghost use Rattle.xr_elab_tree.specs.Text.{Elaborates, IsAnswer};
 ghost use Rattle.xr_elab.specs.Held.{AreTables};
 ghost use Rattle.xr_elab.specs.Busy.{state_of};
 
-use crate::instances::{add_below, copy_of};
+use crate::elaborator::Elaborator;
+use crate::instances::add_below;
 use crate::library::{Idle, Library, modules_of};
+use crate::path::{Path, copy_of};
 use std::alloc::Global;
 use xr_base::Items;
 use xr_cell::Udp;
 use xr_design::Design;
-use xr_elab_names::{Declarations, Scope};
+use xr_elab_names::{Declarations, Here};
 use xr_elab_nets::{ElabErr, Nets};
-use xr_elab_prims::{Clocks, Definition, Definitions, build_primitives};
+use xr_elab_prims::{Definition, Definitions, build_primitives};
 use xr_netlist_grammar::Source;
 
 /// How many modules a path may have.
@@ -126,50 +127,35 @@ fn fill_top<'t>(alloc: Global, library: &'t Library<'t>, k: usize) -> Result<Net
     requires { k < length library.now.source.modules }
     ensures { Gives (spec.whole library.now k) result (λ nets. finished library.now.tables nets) }
 {
-    let mut nets = Nets::new(alloc);
-    add_top(alloc, library, &mut nets, k)?;
-    Ok(nets)
+    let mut here = open_top(alloc, library, k)?;
+    add_top_items(library, &mut here, k)?;
+    Ok(here.nets)
 }
 
-/// Opens the module at a position as the top, and adds its items.
-fn add_top<'t>(
-    alloc: Global,
-    library: &'t Library<'t>,
-    nets: &mut Nets,
-    k: usize,
-) -> Result<(), ElabErr>
-    requires within { k < length library.now.source.modules }
-    requires nothing { nets.old ≡ nothing_made }
-    ensures { Gives (spec.whole library.now k) result (λ _. finished library.now.tables nets.new) }
+/// Opens the module at a position as the top.
+fn open_top<'t>(alloc: Global, library: &'t Library<'t>, k: usize) -> Result<Here<'t>, ElabErr>
+    requires { k < length library.now.source.modules }
+    ensures open { let unit = module_of library.now k in
+        Gives (opened unit.ports unit.items spec.at_top) result (λ here. here) }
+    ensures new { IfOk result (λ here. here.scope.instances ≡ []) }
 {
+    let mut nets = Nets::new(alloc);
     let prefix = Items::from_vec(Vec::new(alloc));
-    let mut scope = library.module(k).open(alloc, prefix, nets)?;
-    add_top_items(alloc, library, &mut scope, nets, k)
+    let scope = library.module(k).open(alloc, prefix, &mut nets)?;
+    Ok(Here { alloc, scope, nets })
 }
 
 /// The items of the module at a position, once it is open as the top.
-fn add_top_items<'t>(
-    alloc: Global,
-    library: &'t Library<'t>,
-    scope: &mut Scope<'t>,
-    nets: &mut Nets,
-    k: usize,
-) -> Result<(), ElabErr>
+fn add_top_items<'t>(library: &'t Library<'t>, here: &mut Here<'t>, k: usize) -> Result<(), ElabErr>
     requires within { k < length library.now.source.modules }
-    requires new { scope.old.instances ≡ [] }
-    ensures { let here = here_of scope.old nets.old in
-        let items = (module_of library.now k).items in
-        Gives (state_of (spec.body library.now 32 (k ∷ []) items here)) result (λ _. nets.new) }
+    requires new { here.old.scope.instances ≡ [] }
+    ensures { let items = (module_of library.now k).items in
+        Gives (state_of (spec.body library.now 32 (k ∷ []) items here.old)) result (λ _. here.new.state) }
 {
-    let mut clocks = Clocks::new(alloc, library.udps());
-    add_below(
-        alloc,
-        library,
-        &mut clocks,
-        &[],
-        MOST_MODULES,
-        scope,
-        nets,
-        k,
-    )
+    let mut elaborator = Elaborator::new(here.alloc, library);
+    let path = Path {
+        modules: &[],
+        room: MOST_MODULES,
+    };
+    add_below(&mut elaborator, &path, here, k)
 }

@@ -8,6 +8,15 @@ use std::alloc::{AllocError, Global};
 use xr_elab_prims::Definitions;
 use xr_netlist_grammar::Module;
 
+/// A level that modules of a text are raised to.
+#[derive(Clone, Copy)]
+struct NextLevel<'d> {
+    definitions: &'d Definitions<'d>,
+    level: u32,
+    ghost some: { 0 < level },
+    ghost few: { level ≤ 32 },
+}
+
 /// A level for each module that makes no net, and 33 for each other. Reads the modules once for each level.
 #[tactic(auto, using(crate::proofs::Raising::none_at_first))]
 pub fn levels_of(
@@ -20,7 +29,8 @@ pub fn levels_of(
 {
     let mut levels = no_levels(alloc, modules.len())?;
     'levels: for level in 1..MOST_LEVEL + 1 {
-        if !raise(alloc, definitions, modules, level, &mut levels)? {
+        let next = NextLevel { definitions, level };
+        if !raise(alloc, &next, modules, &mut levels)? {
             return Ok(levels);
         }
     }
@@ -37,21 +47,18 @@ fn no_levels(alloc: Global, count: usize) -> Result<Vec<u32>, AllocError>
 #[tactic(auto, using(crate::proofs::Raising::none_asked))]
 fn raise(
     alloc: Global,
-    definitions: &Definitions<'_>,
+    next: &NextLevel<'_>,
     modules: &[Module],
-    level: u32,
     levels: &mut Vec<u32>,
 ) -> Result<bool, AllocError>
-    requires some { 0 < level }
-    requires few { level ≤ 32 }
-    requires modules { modules.now ≡ definitions.now.modules }
-    requires levels { AreLevels definitions.now (level - 1) levels.old.items }
-    ensures raised { OnOk result (AreLevels definitions.now level levels.new.items) }
+    requires modules { modules.now ≡ next.now.definitions.now.modules }
+    requires levels { AreLevels next.now.definitions.now (next.now.level - 1) levels.old.items }
+    ensures raised { OnOk result (AreLevels next.now.definitions.now next.now.level levels.new.items) }
     ensures any { IfOk result (λ any. any ≡ false → levels.new.items ≡ levels.old.items) }
 {
     let mut any = false;
     'modules: for (k, unit) in modules.iter().enumerate() {
-        if raise_one(alloc, definitions, level, levels, k, unit)? {
+        if raise_one(alloc, next, levels, k, unit)? {
             any = true;
         }
     }
@@ -62,25 +69,22 @@ fn raise(
 #[tactic(auto, using(crate::proofs::Raising::raised_had, crate::proofs::Raising::raised_not, crate::proofs::Raising::within))]
 fn raise_one(
     alloc: Global,
-    definitions: &Definitions<'_>,
-    level: u32,
+    next: &NextLevel<'_>,
     levels: &mut Vec<u32>,
     k: usize,
     unit: &Module,
 ) -> Result<bool, AllocError>
-    requires some { 0 < level }
-    requires few { level ≤ 32 }
-    requires levels { AreRaised definitions.now level k levels.old.items }
-    requires unit { slice_get definitions.now.modules k ≡ Some unit.now }
-    ensures raised { OnOk result (AreRaised definitions.now level (k + 1) levels.new.items) }
+    requires levels { AreRaised next.now.definitions.now next.now.level k levels.old.items }
+    requires unit { slice_get next.now.definitions.now.modules k ≡ Some unit.now }
+    ensures raised { OnOk result (AreRaised next.now.definitions.now next.now.level (k + 1) levels.new.items) }
     ensures any { IfOk result (λ any. any ≡ false → levels.new.items ≡ levels.old.items) }
 {
     if level_at(levels, k) <= MOST_LEVEL {
         return Ok(false);
     }
-    if !is_quiet(alloc, definitions, levels, level, unit)? {
+    if !is_quiet(alloc, next.definitions, levels, next.level, unit)? {
         return Ok(false);
     }
-    levels[k] = level;
+    levels[k] = next.level;
     Ok(true)
 }

@@ -7,10 +7,12 @@
 
 mod busy;
 mod design;
+mod elaborator;
 mod instances;
 mod laws;
 mod levels;
 mod library;
+mod path;
 mod quiet;
 
 pub use design::elaborate;

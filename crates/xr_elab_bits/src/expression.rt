@@ -1,17 +1,16 @@
 //! The bits of an expression (IEEE 1364-2005, clauses 3.5, 4.2 and 5.1).
 
-ghost use Rattle.std.specs.Prelude.{◌≡◌, ◌≤◌, ◌+◌, ◌^◌, [], None, Some, IfOk, IfSome, MatchOption};
+ghost use Rattle.std.specs.Prelude.{◌≡◌, ◌≤◌, ◌+◌, ◌^◌, None, Some, IfOk, IfSome};
+ghost use Rattle.xr_netlist_grammar.specs.declared.tree.NetKind.TheVariants.{Wire};
 ghost use Rattle.xr_elab_nets.specs.Outcome.{Gives};
 ghost use Rattle.xr_elab_nets.specs.State.{net_count};
 ghost use Rattle.xr_elab_nets.specs.Ranges.{width_of as spec_width_of};
 ghost use Rattle.xr_elab_names.specs.Scope.{entry_of};
-ghost use Rattle.xr_elab_names.specs.Here.{here_of};
 ghost use Rattle.xr_elab_bits.specs.Bits as spec;
 
 use crate::runs::Runs;
-use std::alloc::Global;
-use xr_elab_names::{Entry, Scope, introduce};
-use xr_elab_nets::{ElabErr, Nets, offset, width_of, within};
+use xr_elab_names::{Entry, Here, Scope, introduce};
+use xr_elab_nets::{ElabErr, NetDeclaration, offset, width_of, within};
 use xr_netlist_grammar::{Expr, NetKind, Part, PartKind, Word};
 
 /// For what an expression stands: what drives it, or what reads it.
@@ -26,108 +25,92 @@ pub enum Role {
 }
 
 /// The bits of an expression from left to right. Takes memory for each of its parts, and for the implicit wires.
-pub fn bits_of<'t>(
-    alloc: Global,
-    scope: &mut Scope<'t>,
-    nets: &mut Nets,
-    role: Role,
-    expr: &'t Expr,
-) -> Result<Runs, ElabErr>
-    ensures { let here = here_of scope.old nets.old in
-        Gives (spec.bits_of role expr.now here) result (λ runs. (runs, here_of scope.new nets.new)) }
+pub fn bits_of<'t>(here: &mut Here<'t>, role: Role, expr: &'t Expr) -> Result<Runs, ElabErr>
+    ensures { Gives (spec.bits_of role expr.now here.old) result (λ runs. (runs, here.new)) }
 {
-    let mut runs = Runs::new(alloc);
-    push_parts(alloc, scope, nets, &mut runs, role, expr.parts.as_slice())?;
+    let mut runs = Runs::new(here.alloc);
+    push_parts(here, &mut runs, role, expr.parts.as_slice())?;
     Ok(runs)
 }
 
 /// The bits of a name by itself, from left to right.
-pub fn name_bits<'t>(
-    alloc: Global,
-    scope: &mut Scope<'t>,
-    nets: &mut Nets,
-    role: Role,
-    word: &'t Word,
-) -> Result<Runs, ElabErr>
-    ensures { let here = here_of scope.old nets.old in
-        Gives (spec.bits_of role (spec.whole_name word.now) here) result (λ runs. (runs, here_of scope.new nets.new)) }
+pub fn name_bits<'t>(here: &mut Here<'t>, role: Role, word: &'t Word) -> Result<Runs, ElabErr>
+    ensures { Gives (spec.bits_of role (spec.whole_name word.now) here.old) result (λ runs. (runs, here.new)) }
 {
-    let mut runs = Runs::new(alloc);
-    push_whole(alloc, scope, nets, &mut runs, role, word.at, word)?;
+    let mut runs = Runs::new(here.alloc);
+    push_whole(here, &mut runs, role, word.at, word)?;
     Ok(runs)
 }
 
 /// Puts the bits of the parts behind the others.
 fn push_parts<'t>(
-    alloc: Global,
-    scope: &mut Scope<'t>,
-    nets: &mut Nets,
+    here: &mut Here<'t>,
     runs: &mut Runs,
     role: Role,
     parts: &'t [Part],
 ) -> Result<(), ElabErr>
-    ensures { let here = here_of scope.old nets.old in
-        Gives (spec.lanes_of role runs.old parts.now here) result (λ _. (runs.new, here_of scope.new nets.new)) }
+    ensures { Gives (spec.lanes_of role runs.old parts.now here.old) result (λ _. (runs.new, here.new)) }
 {
     'parts: for part in parts {
-        push_part(alloc, scope, nets, runs, role, part)?;
+        push_part(here, runs, role, part)?;
     }
     Ok(())
 }
 
 /// Puts the bits of a part behind the others.
 fn push_part<'t>(
-    alloc: Global,
-    scope: &mut Scope<'t>,
-    nets: &mut Nets,
+    here: &mut Here<'t>,
     runs: &mut Runs,
     role: Role,
     part: &'t Part,
 ) -> Result<(), ElabErr>
-    ensures { let here = here_of scope.old nets.old in
-        Gives (spec.part_lanes role runs.old part.now here) result (λ _. (runs.new, here_of scope.new nets.new)) }
+    ensures { Gives (spec.part_lanes role runs.old part.now here.old) result (λ _. (runs.new, here.new)) }
 {
     let at = part.at;
     match &part.what {
-        PartKind::Whole(word) => push_whole(alloc, scope, nets, runs, role, at, word),
-        PartKind::Bit(word, i) => push_select(scope, runs, at, word, *i, *i),
-        PartKind::Slice(word, i, j) => push_select(scope, runs, at, word, *i, *j),
+        PartKind::Whole(word) => push_whole(here, runs, role, at, word),
+        PartKind::Bit(word, i) => push_select(&here.scope, runs, at, word, (*i, *i)),
+        PartKind::Slice(word, i, j) => push_select(&here.scope, runs, at, word, (*i, *j)),
         PartKind::Literal(size, value) => push_literal(runs, role, at, *size, *value),
     }
 }
 
 /// Puts the bits of a plain name behind the others.
 fn push_whole<'t>(
-    alloc: Global,
-    scope: &mut Scope<'t>,
-    nets: &mut Nets,
+    here: &mut Here<'t>,
     runs: &mut Runs,
     role: Role,
     at: usize,
     word: &'t Word,
 ) -> Result<(), ElabErr>
-    ensures { let here = here_of scope.old nets.old in
-        Gives (spec.whole_lanes role runs.old at word.now here) result (λ _. (runs.new, here_of scope.new nets.new)) }
+    ensures { Gives (spec.whole_lanes role runs.old at word.now here.old) result (λ _. (runs.new, here.new)) }
 {
-    let entry = find_or_wire(alloc, scope, nets, word)?;
+    let entry = find_or_wire(here, word)?;
     push_name(runs, role, at, word, entry)?;
     Ok(())
 }
 
 /// What a plain name stands for. One that isn't declared is an implicit wire.
-fn find_or_wire<'t>(
-    alloc: Global,
-    scope: &mut Scope<'t>,
-    nets: &mut Nets,
-    word: &'t Word,
-) -> Result<Entry, ElabErr>
-    ensures known { let here = here_of scope.old nets.old in let known = entry_of scope.old word.now.text in
-        Gives (spec.known_or_wire known word.now here) result (λ e. (e, here_of scope.new nets.new)) }
+fn find_or_wire<'t>(here: &mut Here<'t>, word: &'t Word) -> Result<Entry, ElabErr>
+    ensures known { let known = entry_of here.old.scope word.now.text in
+        Gives (spec.known_or_wire known word.now here.old) result (λ e. (e, here.new)) }
     ensures few { IfOk result (λ e. e.base + net_count e.what e.range ≤ 2 ^ 20) }
 {
-    match scope.find(word.text.as_slice()) {
+    match here.scope.find(word.text.as_slice()) {
         Some(entry) => Ok(entry),
-        None => introduce(alloc, scope, nets, NetKind::Wire, None, word),
+        None => introduce(here, &implicit_wire(word)),
+    }
+}
+
+fn implicit_wire(word: &Word) -> NetDeclaration<'_>
+    ensures what { result.what ≡ Wire }
+    ensures range { result.range ≡ None }
+    ensures name { result.name.now ≡ word.now }
+{
+    NetDeclaration {
+        what: NetKind::Wire,
+        range: None,
+        name: word,
     }
 }
 
@@ -170,15 +153,14 @@ fn push_select(
     runs: &mut Runs,
     at: usize,
     word: &Word,
-    i: u32,
-    j: u32,
+    bounds: (u32, u32),
 ) -> Result<(), ElabErr>
-    ensures { Gives (spec.select_lanes runs.old at word.now i j scope.now) result (λ _. runs.new) }
+    ensures { Gives (spec.select_lanes runs.old at word.now bounds.0 bounds.1 scope.now) result (λ _. runs.new) }
 {
     let Some(entry) = scope.find(word.text.as_slice()) else {
         return Err(ElabErr::BadName { at: word.at });
     };
-    let Some((first, count)) = between(entry, i, j) else {
+    let Some((first, count)) = between(entry, bounds.0, bounds.1) else {
         return Err(ElabErr::BadName { at: word.at });
     };
     runs.push_nets(at, first, count)?;

@@ -2,65 +2,43 @@
 
 ghost use Rattle.std.specs.Prelude.{◌≡◌};
 ghost use Rattle.xr_elab_nets.specs.Outcome.{Gives};
-ghost use Rattle.xr_elab_names.specs.Here.{here_of};
 ghost use Rattle.xr_elab_gates.specs.Assigns as spec;
 
-use std::alloc::Global;
 use xr_elab_bits::{Role, Runs, bits_of, drive, name_bits};
-use xr_elab_names::Scope;
+use xr_elab_names::Here;
 use xr_elab_nets::{ElabErr, Nets};
 use xr_netlist_grammar::{Declare, Expr};
 
 /// An assignment: the bits on the left take those on the right. Takes memory for the parts of both sides, and for the
 /// implicit wires.
-pub fn add_assign<'t>(
-    alloc: Global,
-    scope: &mut Scope<'t>,
-    nets: &mut Nets,
-    left: &'t Expr,
-    right: &'t Expr,
-) -> Result<(), ElabErr>
-    ensures { let here = here_of scope.old nets.old in
-        Gives (spec.assign_item left.now right.now here) result (λ _. here_of scope.new nets.new) }
+pub fn add_assign<'t>(here: &mut Here<'t>, left: &'t Expr, right: &'t Expr) -> Result<(), ElabErr>
+    ensures { Gives (spec.assign_item left.now right.now here.old) result (λ _. here.new) }
 {
-    let bits = bits_of(alloc, scope, nets, Role::Driven, left)?;
-    assign(alloc, scope, nets, &bits, right)?;
+    let bits = bits_of(here, Role::Driven, left)?;
+    assign(here, &bits, right)?;
     Ok(())
 }
 
 /// The `=` of a declaration, where it has one: an assignment to the whole name.
-pub fn add_value<'t>(
-    alloc: Global,
-    scope: &mut Scope<'t>,
-    nets: &mut Nets,
-    declare: &'t Declare,
-) -> Result<(), ElabErr>
-    ensures { let here = here_of scope.old nets.old in
-        Gives (spec.value_item declare.now here) result (λ _. here_of scope.new nets.new) }
+pub fn add_value<'t>(here: &mut Here<'t>, declare: &'t Declare) -> Result<(), ElabErr>
+    ensures { Gives (spec.value_item declare.now here.old) result (λ _. here.new) }
 {
     match &declare.value {
         None => Ok(()),
         Some(right) => {
-            let bits = name_bits(alloc, scope, nets, Role::Driven, &declare.name)?;
-            assign(alloc, scope, nets, &bits, right)?;
+            let bits = name_bits(here, Role::Driven, &declare.name)?;
+            assign(here, &bits, right)?;
             Ok(())
         }
     }
 }
 
 /// The bits on the left take those of the expression on the right.
-fn assign<'t>(
-    alloc: Global,
-    scope: &mut Scope<'t>,
-    nets: &mut Nets,
-    left: &Runs,
-    right: &'t Expr,
-) -> Result<(), ElabErr>
-    ensures { let here = here_of scope.old nets.old in
-        Gives (spec.assigned left.now right.now here) result (λ _. here_of scope.new nets.new) }
+fn assign<'t>(here: &mut Here<'t>, left: &Runs, right: &'t Expr) -> Result<(), ElabErr>
+    ensures { Gives (spec.assigned left.now right.now here.old) result (λ _. here.new) }
 {
-    let bits = bits_of(alloc, scope, nets, Role::Taken, right)?;
-    drive_equal(nets, right.at, left, &bits)?;
+    let bits = bits_of(here, Role::Taken, right)?;
+    drive_equal(&mut here.nets, right.at, left, &bits)?;
     Ok(())
 }
 

@@ -1,8 +1,7 @@
 //! Gates, pullups and pulldowns (IEEE 1364-2005, clauses 7.2, 7.3 and 7.8).
 
-ghost use Rattle.std.specs.Prelude.{◌≡◌, ◌≤◌, OnOk, IfOk};
+ghost use Rattle.std.specs.Prelude.{◌≡◌, ◌≤◌, OnOk};
 ghost use Rattle.xr_elab_nets.specs.Outcome.{Gives};
-ghost use Rattle.xr_elab_names.specs.Here.{here_of};
 ghost use Rattle.xr_elab_gates.specs.Gates as spec;
 
 use crate::terminals::{input_pins, output_net, output_nets};
@@ -10,45 +9,36 @@ use std::alloc::{AllocError, Global};
 use xr_base::Items;
 use xr_cell::Gate;
 use xr_design::{Driver, Pin, Table};
-use xr_elab_names::Scope;
+use xr_elab_names::Here;
 use xr_elab_nets::{ElabErr, Nets};
 use xr_netlist_grammar::{Expr, GateItem, GateKind};
 
 /// A gate, a pullup or a pulldown: its outputs take it. Takes memory for the drivers and the implicit wires.
-pub fn add_gate<'t>(
-    alloc: Global,
-    scope: &mut Scope<'t>,
-    nets: &mut Nets,
-    item: &'t GateItem,
-) -> Result<(), ElabErr>
-    ensures { let here = here_of scope.old nets.old in
-        Gives (spec.gate_item item.now here) result (λ _. here_of scope.new nets.new) }
+pub fn add_gate<'t>(here: &mut Here<'t>, item: &'t GateItem) -> Result<(), ElabErr>
+    ensures { Gives (spec.gate_item item.now here.old) result (λ _. here.new) }
 {
     let terminals = item.terminals.as_slice();
     match item.kind {
-        GateKind::Logic(gate) => add_logic(alloc, scope, nets, gate, item.at, terminals),
-        GateKind::Pullup => add_pull(alloc, scope, nets, true, item.at, terminals),
-        GateKind::Pulldown => add_pull(alloc, scope, nets, false, item.at, terminals),
+        GateKind::Logic(gate) => add_logic(here, gate, item.at, terminals),
+        GateKind::Pullup => add_pull(here, true, item.at, terminals),
+        GateKind::Pulldown => add_pull(here, false, item.at, terminals),
     }
 }
 
 /// The number of terminals comes first.
 fn add_logic<'t>(
-    alloc: Global,
-    scope: &mut Scope<'t>,
-    nets: &mut Nets,
+    here: &mut Here<'t>,
     gate: Gate,
     at: usize,
     terminals: &'t [Expr],
 ) -> Result<(), ElabErr>
-    ensures { let here = here_of scope.old nets.old in
-        Gives (spec.logic_gate gate at terminals.now here) result (λ _. here_of scope.new nets.new) }
+    ensures { Gives (spec.logic_gate gate at terminals.now here.old) result (λ _. here.new) }
 {
     if !takes(gate, terminals.len()) {
         return Err(ElabErr::PortMismatch { at });
     }
     let (outputs, inputs) = terminals.split_at(output_count(gate, terminals.len()));
-    connect_gate(alloc, scope, nets, gate, outputs, inputs)?;
+    connect_gate(here, gate, outputs, inputs)?;
     Ok(())
 }
 
@@ -76,19 +66,16 @@ fn output_count(gate: Gate, terminals: usize) -> usize
 
 /// The outputs, the inputs, and then the outputs take the gate.
 fn connect_gate<'t>(
-    alloc: Global,
-    scope: &mut Scope<'t>,
-    nets: &mut Nets,
+    here: &mut Here<'t>,
     gate: Gate,
     outputs: &'t [Expr],
     inputs: &'t [Expr],
 ) -> Result<(), ElabErr>
-    ensures { let here = here_of scope.old nets.old in
-        Gives (spec.connected_gate gate outputs.now inputs.now here) result (λ _. here_of scope.new nets.new) }
+    ensures { Gives (spec.connected_gate gate outputs.now inputs.now here.old) result (λ _. here.new) }
 {
-    let outputs = output_nets(alloc, scope, nets, outputs)?;
-    let pins = input_pins(alloc, scope, nets, inputs)?;
-    set_each(alloc, nets, &outputs, gate, pins.as_slice())?;
+    let outputs = output_nets(here, outputs)?;
+    let pins = input_pins(here, inputs)?;
+    set_each(here.alloc, &mut here.nets, &outputs, gate, pins.as_slice())?;
     Ok(())
 }
 
@@ -111,20 +98,17 @@ fn set_each(
 
 /// A pullup or a pulldown.
 fn add_pull<'t>(
-    alloc: Global,
-    scope: &mut Scope<'t>,
-    nets: &mut Nets,
+    here: &mut Here<'t>,
     bit: bool,
     at: usize,
     terminals: &'t [Expr],
 ) -> Result<(), ElabErr>
-    ensures { let here = here_of scope.old nets.old in
-        Gives (spec.pull bit at terminals.now here) result (λ _. here_of scope.new nets.new) }
+    ensures { Gives (spec.pull bit at terminals.now here.old) result (λ _. here.new) }
 {
     let [terminal] = terminals else {
         return Err(ElabErr::PortMismatch { at });
     };
-    let net = output_net(alloc, scope, nets, terminal)?;
-    nets.set(net, Driver::Constant(bit));
+    let net = output_net(here, terminal)?;
+    here.nets.set(net, Driver::Constant(bit));
     Ok(())
 }

@@ -4,17 +4,15 @@ ghost use Rattle.std.specs.Prelude.{◌≡◌, ◌≤◌, ◌<◌, ◌+◌, [], 
 ghost use Rattle.xr_cell.specs.Refusal.{input_limit};
 ghost use Rattle.xr_design.specs.Job.{primitive_of};
 ghost use Rattle.xr_elab_nets.specs.Outcome.{Gives};
-ghost use Rattle.xr_elab_names.specs.Here.{here_of};
 ghost use Rattle.xr_elab_gates.specs.Primitives as spec;
 
 use crate::terminals::{PinList, input_pin, output_net};
 use smallvec::SmallVec;
-use std::alloc::Global;
 use xr_base::Items;
 use xr_cell::Udp;
 use xr_design::{Driver, Latching, Pin, Table};
-use xr_elab_names::Scope;
-use xr_elab_nets::{ElabErr, Nets};
+use xr_elab_names::Here;
+use xr_elab_nets::ElabErr;
 use xr_elab_prims::{Clocks, live_count};
 use xr_netlist_grammar::{Connection, Connections, Expr, InstanceItem};
 
@@ -24,9 +22,7 @@ const MOST_LIVE: usize = 6;
 /// An instance of the primitive at a position: its output takes it. Takes memory for the driver, for the implicit wires,
 /// and for clock pins that come for the first time.
 pub fn add_udp<'t>(
-    alloc: Global,
-    scope: &mut Scope<'t>,
-    nets: &mut Nets,
+    here: &mut Here<'t>,
     clocks: &mut Clocks<'_>,
     number: u32,
     udp: &Udp,
@@ -36,8 +32,7 @@ pub fn add_udp<'t>(
     requires udp { udp.now ≡ primitive_of clocks.old number }
     requires few { udp.now.inputs ≤ input_limit udp.now.sequential }
 
-    ensures added { let here = here_of scope.old nets.old in
-        Gives (spec.udp_item number udp.now item.now here) result (λ _. here_of scope.new nets.new) }
+    ensures added { Gives (spec.udp_item number udp.now item.now here.old) result (λ _. here.new) }
     ensures same { clocks.new ≡ clocks.old }
 {
     let at = item.definition.at;
@@ -48,8 +43,8 @@ pub fn add_udp<'t>(
     if !are_there(connections) || connections.len() != udp.inputs() + 1 {
         return Err(ElabErr::PortMismatch { at });
     }
-    let (net, pins) = connect_terminals(alloc, scope, nets, at, connections)?;
-    nets.set(net, udp_driver(clocks, number, udp, at, pins.into_vec()?)?);
+    let (net, pins) = connect_terminals(here, at, connections)?;
+    here.nets.set(net, udp_driver(clocks, number, udp, at, pins.into_vec()?)?);
     Ok(())
 }
 
@@ -63,40 +58,34 @@ fn are_there(connections: &[Connection]) -> bool
 
 /// The net of the output terminal, and the pins of the input terminals.
 fn connect_terminals<'t>(
-    alloc: Global,
-    scope: &mut Scope<'t>,
-    nets: &mut Nets,
+    here: &mut Here<'t>,
     at: usize,
     connections: &'t [Connection],
 ) -> Result<(u32, PinList), ElabErr>
-    ensures terminals { let here = here_of scope.old nets.old in
-        Gives (spec.connected_terminals at connections.now here) result
-        (λ t. ((t.0, t.1.items), here_of scope.new nets.new)) }
+    ensures terminals { Gives (spec.connected_terminals at connections.now here.old) result
+        (λ t. ((t.0, t.1.items), here.new)) }
     ensures count { IfOk result (λ t. length t.1.items + 1 ≡ length connections.now) }
 {
     let [output, inputs @ ..] = connections else {
         return Err(ElabErr::PortMismatch { at });
     };
-    let net = output_net(alloc, scope, nets, terminal_of(output, at)?)?;
-    let pins = connect_pins(alloc, scope, nets, at, inputs)?;
+    let net = output_net(here, terminal_of(output, at)?)?;
+    let pins = connect_pins(here, at, inputs)?;
     Ok((net, pins))
 }
 
 /// The pins of the input terminals.
 fn connect_pins<'t>(
-    alloc: Global,
-    scope: &mut Scope<'t>,
-    nets: &mut Nets,
+    here: &mut Here<'t>,
     at: usize,
     inputs: &'t [Connection],
 ) -> Result<PinList, ElabErr>
-    ensures pins { let here = here_of scope.old nets.old in
-        Gives (spec.connected_pins at [] inputs.now here) result (λ pins. (pins.items, here_of scope.new nets.new)) }
+    ensures pins { Gives (spec.connected_pins at [] inputs.now here.old) result (λ pins. (pins.items, here.new)) }
     ensures count { IfOk result (λ pins. length pins.items ≡ length inputs.now) }
 {
-    let mut pins = SmallVec::new(alloc);
+    let mut pins = SmallVec::new(here.alloc);
     'inputs: for input in inputs {
-        pins.push(input_pin(alloc, scope, nets, terminal_of(input, at)?)?)?;
+        pins.push(input_pin(here, terminal_of(input, at)?)?)?;
     }
     Ok(pins)
 }

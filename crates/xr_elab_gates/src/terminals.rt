@@ -2,52 +2,38 @@
 
 ghost use Rattle.std.specs.Prelude.{◌≡◌, []};
 ghost use Rattle.xr_elab_nets.specs.Outcome.{Gives};
-ghost use Rattle.xr_elab_names.specs.Here.{here_of};
 ghost use Rattle.xr_elab_gates.specs.Terminals as spec;
 
 use smallvec::SmallVec;
-use std::alloc::Global;
 use xr_design::{Driver, Pin};
 use xr_elab_bits::{Lane, Role, bits_of};
-use xr_elab_names::Scope;
-use xr_elab_nets::{ElabErr, Nets};
+use xr_elab_names::Here;
+use xr_elab_nets::ElabErr;
 use xr_netlist_grammar::Expr;
 
 /// Pins while they are collected, up to three in the place itself.
 pub type PinList = SmallVec<Pin, 3>;
 
 /// The nets that output terminals are, which are taken from now on.
-pub fn output_nets<'t>(
-    alloc: Global,
-    scope: &mut Scope<'t>,
-    nets: &mut Nets,
-    outputs: &'t [Expr],
-) -> Result<Vec<u32>, ElabErr>
-    ensures { let here = here_of scope.old nets.old in
-        Gives (spec.output_nets [] outputs.now here) result (λ numbers. (numbers.items, here_of scope.new nets.new)) }
+pub fn output_nets<'t>(here: &mut Here<'t>, outputs: &'t [Expr]) -> Result<Vec<u32>, ElabErr>
+    ensures { Gives (spec.output_nets [] outputs.now here.old) result (λ numbers. (numbers.items, here.new)) }
 {
-    let mut numbers = Vec::new(alloc);
+    let mut numbers = Vec::new(here.alloc);
     'outputs: for output in outputs {
-        numbers.push(output_net(alloc, scope, nets, output)?)?;
+        numbers.push(output_net(here, output)?)?;
     }
     Ok(numbers)
 }
 
 /// The net that an output terminal is, which is taken from now on.
-pub fn output_net<'t>(
-    alloc: Global,
-    scope: &mut Scope<'t>,
-    nets: &mut Nets,
-    expr: &'t Expr,
-) -> Result<u32, ElabErr>
-    ensures { let here = here_of scope.old nets.old in
-        Gives (spec.one_net expr.now here) result (λ net. (net, here_of scope.new nets.new)) }
+pub fn output_net<'t>(here: &mut Here<'t>, expr: &'t Expr) -> Result<u32, ElabErr>
+    ensures { Gives (spec.one_net expr.now here.old) result (λ net. (net, here.new)) }
 {
-    let bits = bits_of(alloc, scope, nets, Role::Terminal, expr)?;
+    let bits = bits_of(here, Role::Terminal, expr)?;
     let Some((at, net)) = single_net(bits.single()) else {
         return Err(ElabErr::PortMismatch { at: expr.at });
     };
-    nets.drive(at, net, Driver::Undriven)?;
+    here.nets.drive(at, net, Driver::Undriven)?;
     Ok(net)
 }
 
@@ -62,33 +48,21 @@ fn single_net(lane: Option<Lane>) -> Option<(usize, u32)>
 }
 
 /// The pins that input terminals are.
-pub fn input_pins<'t>(
-    alloc: Global,
-    scope: &mut Scope<'t>,
-    nets: &mut Nets,
-    inputs: &'t [Expr],
-) -> Result<PinList, ElabErr>
-    ensures { let here = here_of scope.old nets.old in
-        Gives (spec.input_pins [] inputs.now here) result (λ pins. (pins.items, here_of scope.new nets.new)) }
+pub fn input_pins<'t>(here: &mut Here<'t>, inputs: &'t [Expr]) -> Result<PinList, ElabErr>
+    ensures { Gives (spec.input_pins [] inputs.now here.old) result (λ pins. (pins.items, here.new)) }
 {
-    let mut pins = SmallVec::new(alloc);
+    let mut pins = SmallVec::new(here.alloc);
     'inputs: for input in inputs {
-        pins.push(input_pin(alloc, scope, nets, input)?)?;
+        pins.push(input_pin(here, input)?)?;
     }
     Ok(pins)
 }
 
 /// The pin that an input terminal is.
-pub fn input_pin<'t>(
-    alloc: Global,
-    scope: &mut Scope<'t>,
-    nets: &mut Nets,
-    expr: &'t Expr,
-) -> Result<Pin, ElabErr>
-    ensures { let here = here_of scope.old nets.old in
-        Gives (spec.one_pin expr.now here) result (λ pin. (pin, here_of scope.new nets.new)) }
+pub fn input_pin<'t>(here: &mut Here<'t>, expr: &'t Expr) -> Result<Pin, ElabErr>
+    ensures { Gives (spec.one_pin expr.now here.old) result (λ pin. (pin, here.new)) }
 {
-    let bits = bits_of(alloc, scope, nets, Role::Terminal, expr)?;
+    let bits = bits_of(here, Role::Terminal, expr)?;
     let Some(pin) = single_pin(bits.single()) else {
         return Err(ElabErr::Width { at: expr.at });
     };

@@ -10,50 +10,44 @@ ghost use Rattle.xr_elab_joins.specs.Joined as spec;
 
 use crate::connect::connect_all;
 use std::alloc::{AllocError, Global};
+use std::mem;
 use xr_base::Items;
 use xr_design::{Bytes, NamePart};
-use xr_elab_names::{Declarations, PortNames, Scope};
+use xr_elab_names::{Declarations, Here, PortNames, Scope};
 use xr_elab_nets::{ElabErr, Nets, part_of};
 use xr_netlist_grammar::{Connections, InstanceItem, Word};
 
-/// Opens the module of an instance, the child, and connects its ports. Answers the child's names. Takes memory for its
-/// nets, for its path, and for the parts of the connections.
-pub fn join<'o, 't>(
-    alloc: Global,
-    scope: &mut Scope<'o>,
-    nets: &mut Nets,
+/// Opens the module of an instance, the child, and connects its ports. Goes into the child, and answers the names outside.
+/// Takes memory for its nets, for its path, and for the parts of the connections.
+pub fn join<'t>(
+    here: &mut Here<'t>,
     child: &'t Declarations<'t>,
-    instance: &'o InstanceItem,
+    instance: &'t InstanceItem,
 ) -> Result<Scope<'t>, ElabErr>
-    ensures { let here = here_of scope.old nets.old in
-        Gives (spec.joined instance.now child.now here) result (λ inner. (scope.new, here_of inner nets.new)) }
+    ensures { Gives (spec.joined instance.now child.now here.old) result (λ outer. (outer, here.new)) }
 {
     let Some(name) = &instance.name else {
         return Err(ElabErr::PortMismatch {
             at: instance.definition.at,
         });
     };
-    scope.add_instance(name)?;
-    let inner = open_behind(alloc, scope.prefix(), nets, child, name)?;
-    let list = &instance.connections;
-    let inner = connect_open(alloc, scope, nets, inner, child.ports(), list)?;
-    Ok(inner)
+    here.scope.add_instance(name)?;
+    let inner = open_behind(here.alloc, here.scope.prefix(), &mut here.nets, child, name)?;
+    let inner = connect_open(here, inner, child.ports(), &instance.connections)?;
+    Ok(mem::replace(&mut here.scope, inner))
 }
 
 /// Connects the ports of the open child.
-fn connect_open<'o, 't>(
-    alloc: Global,
-    scope: &mut Scope<'o>,
-    nets: &mut Nets,
+fn connect_open<'t>(
+    here: &mut Here<'t>,
     inner: Scope<'t>,
     ports: &PortNames<'_>,
-    connections: &'o Connections,
+    connections: &'t Connections,
 ) -> Result<Scope<'t>, ElabErr>
-    ensures connected { let here = here_of scope.old nets.old in
-        Gives (all_connected inner.entry ports.now connections.now here) result (λ _. here_of scope.new nets.new) }
+    ensures connected { Gives (all_connected inner.entry ports.now connections.now here.old) result (λ _. here.new) }
     ensures same { IfOk result (λ scope. scope ≡ inner.entry) }
 {
-    connect_all(alloc, scope, nets, &inner, ports, connections)?;
+    connect_all(here, &inner, ports, connections)?;
     Ok(inner)
 }
 

@@ -8,6 +8,7 @@ ghost use Rattle.xr_elab_names.specs.Outline as spec;
 ghost use Rattle.xr_elab_names.specs.Outline.{AreOutlined, items_in};
 
 use crate::declare::{is_directed, open_module};
+use crate::here::Here;
 use crate::name_map::NameMap;
 use crate::name_set::NameSet;
 use crate::outline::{Outline, note_all};
@@ -15,6 +16,7 @@ use crate::ports::PortNames;
 use crate::scope::Scope;
 use std::alloc::{AllocError, Global};
 use std::marker::Model;
+use std::mem;
 use xr_base::Items;
 use xr_design::NamePart;
 use xr_elab_nets::{ElabErr, MOST_NETS, Nets};
@@ -96,13 +98,33 @@ impl<'t> Declarations<'t> {
                 let scope = outline.open(alloc, prefix, nets)?;
                 Ok(scope)
             }
-            _ => {
-                let mut scope = Scope::new(alloc, prefix);
-                let items = self.unit.items.as_slice();
-                open_module(alloc, &mut scope, nets, &self.ports, items)?;
-                Ok(scope)
-            }
+            _ => self.open_each(alloc, prefix, nets),
         }
+    }
+
+    /// The same declaration by declaration, up to the first that is refused.
+    fn open_each(
+        &'t self,
+        alloc: Global,
+        prefix: Items<NamePart>,
+        nets: &mut Nets,
+    ) -> Result<Scope<'t>, ElabErr>
+        ensures { let here = here_of (scope_of prefix [] []) nets.old in
+            Gives (opened self.now.ports self.now.items here) result (λ scope. here_of scope nets.new) }
+    {
+        let mut here = Here {
+            alloc,
+            scope: Scope::new(alloc, prefix),
+            nets: mem::replace(nets, Nets::new(alloc)),
+        };
+        open_module(&mut here, &self.ports, self.unit.items.as_slice())?;
+        let Here {
+            alloc: _,
+            scope,
+            nets: made,
+        } = here;
+        *nets = made;
+        Ok(scope)
     }
 }
 

@@ -4,65 +4,57 @@ ghost use Rattle.std.specs.Prelude.{◌≡◌, ◌≤◌, ◌+◌, ◌^◌, ◌=
 ghost use Rattle.xr_elab_nets.specs.Outcome.{Gives};
 ghost use Rattle.xr_elab_nets.specs.State.{net_count};
 ghost use Rattle.xr_elab_names.specs.Scope.{entry_of};
-ghost use Rattle.xr_elab_names.specs.Here.{here_of, introduced};
+ghost use Rattle.xr_elab_names.specs.Here.{introduced};
 ghost use Rattle.xr_elab_names.specs.Names as spec;
 
+use crate::here::Here;
 use crate::name_set::NameSet;
 use crate::ports::PortNames;
 use crate::scope::{Entry, Scope};
 use std::alloc::Global;
-use xr_elab_nets::{ElabErr, Nets};
+use xr_elab_nets::{ElabErr, NetDeclaration};
 use xr_netlist_grammar::{Declare, Item, NetKind, Word};
 
 /// A new name of the module, with nets of its own.
-pub fn introduce<'t>(
-    alloc: Global,
-    scope: &mut Scope<'t>,
-    nets: &mut Nets,
-    what: NetKind,
-    range: Option<(u32, u32)>,
-    word: &'t Word,
-) -> Result<Entry, ElabErr>
-    requires { entry_of scope.old word.now.text ≡ None }
-    ensures introduced { let here = here_of scope.old nets.old in
-        Gives (introduced what range word.now here) result (λ e. (e, here_of scope.new nets.new)) }
+pub fn introduce<'t>(here: &mut Here<'t>, net: &NetDeclaration<'t>) -> Result<Entry, ElabErr>
+    requires { entry_of here.old.scope net.now.name.now.text ≡ None }
+    ensures introduced { let wanted = introduced net.now.what net.now.range net.now.name.now here.old in
+        Gives wanted result (λ e. (e, here.new)) }
     ensures few { IfOk result (λ e. e.base + net_count e.what e.range ≤ 2 ^ 20) }
 {
-    let base = nets.make(alloc, scope.prefix(), what, range, word)?;
-    let entry = Entry { what, range, base };
-    scope.add(word.text.as_slice(), entry)?;
+    let base = here.nets.make(here.alloc, here.scope.prefix(), net)?;
+    let entry = Entry {
+        what: net.what,
+        range: net.range,
+        base,
+    };
+    here.scope.add(net.name.text.as_slice(), entry)?;
     Ok(entry)
 }
 
 /// A module's declarations in text order, and then its ports in theirs.
 pub(crate) fn open_module<'t>(
-    alloc: Global,
-    scope: &mut Scope<'t>,
-    nets: &mut Nets,
+    here: &mut Here<'t>,
     ports: &PortNames<'t>,
     items: &'t [Item],
 ) -> Result<(), ElabErr>
-    ensures { let here = here_of scope.old nets.old in
-        Gives (spec.opened ports.now items.now here) result (λ _. here_of scope.new nets.new) }
+    ensures { Gives (spec.opened ports.now items.now here.old) result (λ _. here.new) }
 {
-    declare_all(alloc, scope, nets, ports, items)?;
-    check_ports(alloc, scope, ports.ports())?;
+    declare_all(here, ports, items)?;
+    check_ports(here.alloc, &here.scope, ports.ports())?;
     Ok(())
 }
 
 fn declare_all<'t>(
-    alloc: Global,
-    scope: &mut Scope<'t>,
-    nets: &mut Nets,
+    here: &mut Here<'t>,
     ports: &PortNames<'_>,
     items: &'t [Item],
 ) -> Result<(), ElabErr>
-    ensures { let here = here_of scope.old nets.old in
-        Gives (spec.all_declared ports.now items.now here) result (λ _. here_of scope.new nets.new) }
+    ensures { Gives (spec.all_declared ports.now items.now here.old) result (λ _. here.new) }
 {
     'items: for item in items {
         if let Item::Declare(declare) = item {
-            declare_one(alloc, scope, nets, ports, declare)?;
+            declare_one(here, ports, declare)?;
         }
     }
     Ok(())
@@ -70,34 +62,26 @@ fn declare_all<'t>(
 
 /// A direction is for a port.
 fn declare_one<'t>(
-    alloc: Global,
-    scope: &mut Scope<'t>,
-    nets: &mut Nets,
+    here: &mut Here<'t>,
     ports: &PortNames<'_>,
     declare: &'t Declare,
 ) -> Result<(), ElabErr>
-    ensures { let here = here_of scope.old nets.old in
-        Gives (spec.declared ports.now declare.now here) result (λ _. here_of scope.new nets.new) }
+    ensures { Gives (spec.declared ports.now declare.now here.old) result (λ _. here.new) }
 {
     let name = &declare.name;
     if is_directed(declare.what) && !ports.has(name.text.as_slice()) {
         return Err(ElabErr::PortMismatch { at: name.at });
     }
-    declare_name(alloc, scope, nets, declare)?;
+    declare_name(here, declare)?;
     Ok(())
 }
 
 /// A name is declared, or declared again.
-fn declare_name<'t>(
-    alloc: Global,
-    scope: &mut Scope<'t>,
-    nets: &mut Nets,
-    declare: &'t Declare,
-) -> Result<(), ElabErr>
-    ensures { let here = here_of scope.old nets.old in let known = entry_of scope.old declare.now.name.text in
-        Gives (spec.declared_again known declare.now here) result (λ _. here_of scope.new nets.new) }
+fn declare_name<'t>(here: &mut Here<'t>, declare: &'t Declare) -> Result<(), ElabErr>
+    ensures { let known = entry_of here.old.scope declare.now.name.text in
+        Gives (spec.declared_again known declare.now here.old) result (λ _. here.new) }
 {
-    match scope.find(declare.name.text.as_slice()) {
+    match here.scope.find(declare.name.text.as_slice()) {
         Some(entry) => {
             if !repeats(entry, declare) {
                 return Err(ElabErr::BadName {
@@ -107,16 +91,22 @@ fn declare_name<'t>(
             Ok(())
         }
         None => {
-            introduce(
-                alloc,
-                scope,
-                nets,
-                declare.what,
-                declare.range,
-                &declare.name,
-            )?;
+            introduce(here, &net_of(declare))?;
             Ok(())
         }
+    }
+}
+
+/// The nets that a declaration makes.
+pub(crate) fn net_of(declare: &Declare) -> NetDeclaration<'_>
+    ensures what { result.what ≡ declare.now.what }
+    ensures range { result.range ≡ declare.now.range }
+    ensures name { result.name.now ≡ declare.now.name }
+{
+    NetDeclaration {
+        what: declare.what,
+        range: declare.range,
+        name: &declare.name,
     }
 }
 

@@ -1,12 +1,12 @@
 //! What the declarations of a module come to in each of its instances.
 
 ghost use Rattle.std.specs.Prelude.{◌≡◌, ◌≤◌, ◌+◌, ◌^◌, OnOk, IfOk, length};
-ghost use Rattle.xr_elab_nets.specs.Outcome.{Gives, after};
+ghost use Rattle.xr_elab_nets.specs.Outcome.{Gives};
 ghost use Rattle.xr_elab_nets.specs.State.{net_count as spec_net_count};
 ghost use Rattle.xr_elab_names.specs.Outline as spec;
 ghost use Rattle.xr_elab_names.specs.Outline.{declares_in, with_maker, Tells};
 
-use crate::declare::{is_directed, repeats};
+use crate::declare::{is_directed, net_of, repeats};
 use crate::name_map::NameMap;
 use crate::ports::PortNames;
 use crate::scope::{Entry, Scope};
@@ -161,7 +161,7 @@ fn make_all(
     ensures { Gives (spec.all_made prefix.now (declares_in makers.now) nets.old) result (λ _. nets.new) }
 {
     'makers: for declare in makers {
-        nets.make(alloc, prefix, declare.what, declare.range, &declare.name)?;
+        nets.make(alloc, prefix, &net_of(declare))?;
     }
     Ok(())
 }

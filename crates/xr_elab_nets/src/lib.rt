@@ -6,5 +6,5 @@ mod nets;
 mod ranges;
 
 pub use fault::{ElabErr, ElabFault};
-pub use nets::{MOST_NETS, Nets, part_of};
+pub use nets::{MOST_NETS, NetDeclaration, Nets, part_of};
 pub use ranges::{bit_at, offset, width_of, within};

@@ -16,6 +16,14 @@ use xr_netlist_grammar::{NetKind, Word};
 /// The most nets of a design.
 pub const MOST_NETS: usize = 1 << 20;
 
+/// A declaration that makes nets: their kind, their range, and the word that names them.
+#[derive(Clone, Copy)]
+pub struct NetDeclaration<'t> {
+    pub what: NetKind,
+    pub range: Option<(u32, u32)>,
+    pub name: &'t Word,
+}
+
 /// The name of each net, and its driver where it has one: at most 2^20 of them. Takes 81 bytes for each, its name and its
 /// pins apart.
 #[derive(Drop)]
@@ -51,32 +59,24 @@ impl Nets {
         }
     }
 
-    /// Makes the nets of a name, and answers the number of the first. `prefix` are the instances that lead to its module.
+    /// Makes the nets of a declaration, and answers the number of the first. `prefix` are the instances that lead to its
+    /// module.
     #[tactic(auto, unfolding(crate::specs::State::made))]
     pub fn make(
         &mut self,
         alloc: Global,
         prefix: &[NamePart],
-        what: NetKind,
-        range: Option<(u32, u32)>,
-        word: &Word,
+        net: &NetDeclaration<'_>,
     ) -> Result<u32, ElabErr>
-        ensures made { Gives (spec.made prefix.now what range word.now self.old) result (λ base. (base, self.new)) }
-        ensures few { IfOk result (λ base. base + spec.net_count what range ≤ 2 ^ 20) }
+        ensures made { let wanted = spec.made prefix.now net.now.what net.now.range net.now.name.now self.old in
+            Gives wanted result (λ base. (base, self.new)) }
+        ensures few { IfOk result (λ base. base + spec.net_count net.now.what net.now.range ≤ 2 ^ 20) }
     {
         let base = self.nets.len();
-        if net_count(what, range) > MOST_NETS - base {
-            return Err(ElabErr::TooManyNets { at: word.at });
+        if net_count(net.what, net.range) > MOST_NETS - base {
+            return Err(ElabErr::TooManyNets { at: net.name.at });
         }
-        push_nets(
-            alloc,
-            &mut self.nets,
-            &mut self.driven,
-            prefix,
-            what,
-            range,
-            word,
-        )?;
+        push_nets(alloc, &mut self.nets, &mut self.driven, prefix, net)?;
         Ok(base as u32)
     }
 
@@ -140,26 +140,25 @@ fn net_count(what: NetKind, range: Option<(u32, u32)>) -> usize
     }
 }
 
-/// The nets of a name.
+/// The nets of a declaration.
 #[tactic(auto, using(crate::proofs::Making::one_more))]
 fn push_nets(
     alloc: Global,
     nets: &mut Vec<Net>,
     driven: &mut Vec<bool>,
     prefix: &[NamePart],
-    what: NetKind,
-    range: Option<(u32, u32)>,
-    word: &Word,
+    net: &NetDeclaration<'_>,
 ) -> Result<(), AllocError>
-    requires few { length nets.old.items + spec.net_count what range ≤ 2 ^ 20 }
+    requires few { length nets.old.items + spec.net_count net.now.what net.now.range ≤ 2 ^ 20 }
     requires board { IsBoard nets.old.items driven.old.items }
     ensures made { let state = state_of nets.old.items driven.old.items in
-        OnOk result (state_of nets.new.items driven.new.items ≡ spec.with_nets prefix.now what range word.now state) }
+        let made = spec.with_nets prefix.now net.now.what net.now.range net.now.name.now state in
+        OnOk result (state_of nets.new.items driven.new.items ≡ made) }
     ensures board { IsBoard nets.new.items driven.new.items }
 {
-    'bits: for bit in 0..net_count(what, range) {
-        let path = name_of(alloc, prefix, word, bit_at(range, bit))?;
-        push_net(nets, driven, path, first_driver(prefix, what))?;
+    'bits: for bit in 0..net_count(net.what, net.range) {
+        let path = name_of(alloc, prefix, net.name, bit_at(net.range, bit))?;
+        push_net(nets, driven, path, first_driver(prefix, net.what))?;
     }
     Ok(())
 }

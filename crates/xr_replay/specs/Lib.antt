@@ -8,6 +8,7 @@ pub mod Marks
 pub mod Read
 pub mod Seen
 pub mod Sides
+pub mod Step
 pub mod Still
 pub mod Sweep
 pub mod Watched

@@ -14,6 +14,7 @@ mod moments;
 mod recorded;
 mod settled;
 mod sides;
+mod step;
 mod steps;
 mod sweep;
 mod values;

@@ -7,50 +7,37 @@ use std::test::Fail;
 use xr_base::Items;
 use xr_cell::{Udp, Value};
 use xr_elab_gates::{add_assign, add_gate, add_udp, add_value};
-use xr_elab_names::Scope;
-use xr_elab_nets::Nets;
+use xr_elab_names::Here;
 use xr_elab_prims::Clocks;
 use xr_netlist_grammar::{
     Connection, Connections, Declare, GateItem, GateKind, InstanceItem, Item, NetKind,
 };
 
 /// Adds an instance of a primitive of one input.
-fn add_instance<'t>(
-    alloc: Global,
-    scope: &mut Scope<'t>,
-    nets: &mut Nets,
-    item: &'t InstanceItem,
-) -> Result<(), Fail> {
-    let mut udps = Vec::new(alloc);
-    udps.push(Udp::build(alloc, false, 1, &[], Value::X)?)?;
-    let mut clocks = Clocks::new(alloc, &udps);
-    add_udp(alloc, scope, nets, &mut clocks, 0, &udps[0], item)?;
+fn add_instance<'t>(here: &mut Here<'t>, item: &'t InstanceItem) -> Result<(), Fail> {
+    let mut udps = Vec::new(here.alloc);
+    udps.push(Udp::build(here.alloc, false, 1, &[], Value::X)?)?;
+    let mut clocks = Clocks::new(here.alloc, &udps);
+    add_udp(here, &mut clocks, 0, &udps[0], item)?;
     Ok(())
 }
 
 /// The first net has a driver once the item is added.
-fn check_added<'t>(
-    rt: &impl Abort,
-    alloc: Global,
-    scope: &mut Scope<'t>,
-    nets: &mut Nets,
-    item: &'t Item,
-) -> Result<(), Fail> {
+fn check_added<'t>(rt: &impl Abort, here: &mut Here<'t>, item: &'t Item) -> Result<(), Fail> {
     match item {
-        Item::Declare(declare) => add_value(alloc, scope, nets, declare)?,
-        Item::Gate(gate) => add_gate(alloc, scope, nets, gate)?,
-        Item::Instance(instance) => add_instance(alloc, scope, nets, instance)?,
-        Item::Assign(left, right) => add_assign(alloc, scope, nets, left, right)?,
+        Item::Declare(declare) => add_value(here, declare)?,
+        Item::Gate(gate) => add_gate(here, gate)?,
+        Item::Instance(instance) => add_instance(here, instance)?,
+        Item::Assign(left, right) => add_assign(here, left, right)?,
     }
-    assert!(rt; nets.has_driver(0));
+    assert!(rt; here.nets.has_driver(0));
     Ok(())
 }
 
 /// The same where there is no other item.
 fn check_drives(rt: &impl Abort, alloc: Global, item: &Item) -> Result<(), Fail> {
-    let mut nets = Nets::new(alloc);
-    let mut scope = top(alloc);
-    check_added(rt, alloc, &mut scope, &mut nets, item)
+    let mut here = top(alloc);
+    check_added(rt, &mut here, item)
 }
 
 #[test]

@@ -5,8 +5,7 @@ use std::alloc::Global;
 use std::process::Abort;
 use std::test::Fail;
 use xr_elab_bits::{Role, Runs, bits_of, name_bits};
-use xr_elab_names::Scope;
-use xr_elab_nets::Nets;
+use xr_elab_names::Here;
 use xr_netlist_grammar::{Expr, PartKind, Word};
 
 /// What has bits.
@@ -19,15 +18,13 @@ enum Wide {
 /// The bits are so many.
 fn check_bits<'t>(
     rt: &impl Abort,
-    alloc: Global,
-    scope: &mut Scope<'t>,
+    here: &mut Here<'t>,
     wide: &'t Wide,
     width: usize,
 ) -> Result<(), Fail> {
-    let mut nets = Nets::new(alloc);
     let bits = match wide {
-        Wide::Expression(expr) => bits_of(alloc, scope, &mut nets, Role::Taken, expr)?,
-        Wide::Name(word) => name_bits(alloc, scope, &mut nets, Role::Driven, word)?,
+        Wide::Expression(expr) => bits_of(here, Role::Taken, expr)?,
+        Wide::Name(word) => name_bits(here, Role::Driven, word)?,
     };
     assert!(rt; bits.has_width(width));
     Ok(())
@@ -35,8 +32,8 @@ fn check_bits<'t>(
 
 /// The same where no name is declared.
 fn check_width(rt: &impl Abort, alloc: Global, wide: &Wide, width: usize) -> Result<(), Fail> {
-    let mut scope = top(alloc);
-    check_bits(rt, alloc, &mut scope, wide, width)
+    let mut here = top(alloc);
+    check_bits(rt, &mut here, wide, width)
 }
 
 #[test]

@@ -2,7 +2,8 @@
 
 use std::alloc::{AllocError, Global};
 use xr_base::Items;
-use xr_elab_names::Scope;
+use xr_elab_names::{Here, Scope};
+use xr_elab_nets::Nets;
 use xr_netlist_grammar::{Expr, Part, PartKind, Word};
 
 /// A plain name, at byte 7.
@@ -32,7 +33,11 @@ pub fn zero(alloc: Global) -> Result<Expr, AllocError> {
     expr(alloc, PartKind::Literal(1, 0))
 }
 
-/// The top, in which no name is declared.
-pub fn top<'t>(alloc: Global) -> Scope<'t> {
-    Scope::new(alloc, Items::from_vec(Vec::new(alloc)))
+/// At the top, in which no name is declared and no net is made.
+pub fn top<'t>(alloc: Global) -> Here<'t> {
+    Here {
+        alloc,
+        scope: Scope::new(alloc, Items::from_vec(Vec::new(alloc))),
+        nets: Nets::new(alloc),
+    }
 }

@@ -6,5 +6,5 @@ use Rattle.xr_elab.proofs.levels.raise.Goals as goal
 
 pub returns-clause-raised : goal.returns-clause-raised
 returns-clause-raised c =
-    all_asked c.args.definitions.now c.modules.levels.items c.args.level c.modules.k
+    all_asked c.args.next.now.definitions.now c.modules.levels.items c.args.next.now.level c.modules.k
     (subst (λ (ms : List Module). length ms ≤ c.modules.k) c.requires.modules c.modules-test.false) c.modules.invariant.raised

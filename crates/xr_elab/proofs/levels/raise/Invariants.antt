@@ -5,6 +5,6 @@ use Rattle.xr_elab.proofs.levels.raise.Given as goal
 
 abbrev pub invariant-modules : goal.invariant-modules
 invariant-modules l = record {
-  raised : AreRaised l.definitions l.level l.k l.levels.items;
+  raised : AreRaised l.next.definitions.now l.next.level l.k l.levels.items;
   same : l.any ≡ false → l.levels.items ≡ l.fn.levels.items;
 }

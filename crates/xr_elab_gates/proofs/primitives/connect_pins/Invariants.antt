@@ -1,11 +1,10 @@
 -- What is left decides, behind the pins so far.
 use Rattle.std.proofs.Common.{◌≡◌, [], drop, length}
-use Rattle.xr_elab_names.specs.Here.{here_of}
 use Rattle.xr_elab_gates.specs.Primitives.{connected_pins}
 use Rattle.xr_elab_gates.proofs.primitives.connect_pins.Given as goal
 
 abbrev pub invariant-inputs : goal.invariant-inputs
 invariant-inputs l = record {
-  pins : connected_pins l.at [] l.inputs (here_of l.fn.scope l.fn.nets) ≡ connected_pins l.at l.pins.items (drop l.input-index l.inputs) (here_of l.scope l.nets);
+  pins : connected_pins l.at [] l.inputs l.fn.here ≡ connected_pins l.at l.pins.items (drop l.input-index l.inputs) l.here;
   count : length l.pins.items ≡ l.input-index;
 }

@@ -7,8 +7,8 @@ use Rattle.xr_elab_nets.proofs.nets.push_nets.Given as goal
 
 abbrev pub invariant-bits : goal.invariant-bits
 invariant-bits l = record {
-  names : names_of l.nets.items ≡ names_of l.fn.nets.items ++ upto (λ bit. name_of l.prefix l.word (bit_at l.range bit)) l.bit;
-  drivers : drivers_of l.nets.items l.driven.items ≡ drivers_of l.fn.nets.items l.fn.driven.items ++ upto (λ _. first_driver l.prefix l.what) l.bit;
+  names : names_of l.nets.items ≡ names_of l.fn.nets.items ++ upto (λ bit. name_of l.prefix l.net.name.now (bit_at l.net.range bit)) l.bit;
+  drivers : drivers_of l.nets.items l.driven.items ≡ drivers_of l.fn.nets.items l.fn.driven.items ++ upto (λ _. first_driver l.prefix l.net.what) l.bit;
   count : length l.nets.items ≡ length l.fn.nets.items + l.bit;
   board : IsBoard l.nets.items l.driven.items;
 }

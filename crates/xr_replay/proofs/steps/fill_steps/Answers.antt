@@ -8,36 +8,55 @@ use Rattle.xr_replay.specs.Filled.{IsFilled}
 use Rattle.xr_replay.specs.Forced.{HasForced}
 use Rattle.xr_replay.proofs.Forces.{in_order, taken_later}
 use Rattle.xr_replay.proofs.Marking.{forced_but_for}
+use Rattle.xr_replay.proofs.Sweeps.{awaited_all}
 use Rattle.xr_replay.proofs.Writing.{filled_all}
 use Rattle.xr_replay.proofs.steps.fill_steps.Goals as goal
+
+pub steps-init : goal.steps-init
+steps-init c =
+    let j = job_in c.args.circuit.now in
+    let count = c.width_of-nets.ensures in
+    let room = c.in_ok-waiting.ensures.due in
+    let ahead = c.in_ok-waiting.ensures.ahead in
+    record {
+      under_way = c.requires.first;
+      filled = record { places = c.requires.places; held = λ place low. absurd (omega (arith, low)) };
+      taken = c.requires.forced;
+      before = λ later. absurd (omega (arith, later));
+      due = awaited_all j (forced_by j c.args.events.now) 0 c.in_ok-waiting.waiting.due (omega (arith, count, room)) (λ p low. c.in_ok-waiting.ensures.all p (omega (arith, count, low)));
+      ahead = omega (arith, count, ahead);
+    }
 
 pub take_events-taken-requires-clause-ordered : goal.take_events-taken-requires-clause-ordered
 take_events-taken-requires-clause-ordered c =
     rw c.steps.invariant.taken.long (in_order (job_in c.args.circuit.now) c.args.circuit.now.fits.fits_job c.args.events.now c.requires.events)
 
-pub next_step-requires-clause-ordered : goal.next_step-requires-clause-ordered
-next_step-requires-clause-ordered c = in_order (job_in c.args.circuit.now) c.args.circuit.now.fits.fits_job c.args.events.now c.requires.events
-
-pub next_step-requires-clause-range : goal.next_step-requires-clause-range
-next_step-requires-clause-range c = c.take_events-taken.ensures.taken.few
-
-pub next_step-requires-clause-before : goal.next_step-requires-clause-before
-next_step-requires-clause-before c = λ later.
-    (let j = job_in c.args.circuit.now in
+pub invariant_of-step : goal.invariant_of-step
+invariant_of-step c =
+    let j = job_in c.args.circuit.now in
+    let times = ap length c.as_slice.ensures in
     let long = c.steps.invariant.taken.long in
-    let now : HasForced j.width c.args.events.now c.steps.step c.take_events-taken.new.values = rw long at c.take_events-taken.ensures.forced in
-    forced_but_for j c.args.circuit.now.fits.fits_job c.args.events.now c.steps.step c.steps.taken c.take_events-taken.result c.steps.forced c.take_events-taken.new.values now (c.steps.invariant.before later) c.take_events-taken.ensures.elsewhere)
+    let now : HasForced j.width c.args.events.now c.steps.number c.take_events-taken.new.values = rw long at c.take_events-taken.ensures.forced in
+    record {
+      fits = record {
+        ordered = in_order j c.args.circuit.now.fits.fits_job c.args.events.now c.requires.events;
+        within = rw (← times) (omega arith);
+        forces = now;
+        range = c.take_events-taken.ensures.taken.few;
+        before = λ later. forced_but_for j c.args.circuit.now.fits.fits_job c.args.events.now c.steps.number c.steps.taken c.take_events-taken.result c.steps.forced c.take_events-taken.new.values now (c.steps.invariant.before later) c.take_events-taken.ensures.elsewhere;
+      };
+    }
 
 pub steps-preserved : goal.steps-preserved
 steps-preserved c =
     let j = job_in c.args.circuit.now in
     let long = c.steps.invariant.taken.long in
-    let back : c.steps.step ≡ c.steps.step + 1 - 1 = omega arith in
+    let back : c.steps.number ≡ c.steps.number + 1 - 1 = omega arith in
     let values = c.take_events-taken.new.values in
     record {
       under_way = (let under_way = c.in_ok-next_step.ensures.under_way in omega (arith, under_way));
       filled = c.in_ok-next_step.ensures.filled;
-      taken = taken_later j.width c.args.events.now c.steps.step c.take_events-taken.result values (rw long at c.take_events-taken.ensures.taken);
+      taken = taken_later j.width c.args.events.now c.steps.number c.take_events-taken.result values (rw long at c.take_events-taken.ensures.taken);
       before = λ later. (let P : ℕ → Type 0 = λ n. HasForced (length c.args.circuit.now.design.now.nets) c.args.events.now n c.take_events-taken.new.values in subst P back (rw long at c.take_events-taken.ensures.forced));
       due = c.in_ok-next_step.ensures.due;
       ahead = c.in_ok-next_step.ensures.ahead;
@@ -47,7 +66,7 @@ pub returns : goal.returns
 returns c =
     let j = job_in c.args.circuit.now in
     let times = ap length c.as_slice.ensures in
-    let last : c.steps.step ≡ j.moments * j.rounds = rw (← times) (omega arith) in
-    let all : c.steps.step * j.width ≡ places_of j = rw last (mul_comm (j.moments * j.rounds) j.width) in
+    let last : c.steps.number ≡ j.moments * j.rounds = rw (← times) (omega arith) in
+    let all : c.steps.number * j.width ≡ places_of j = rw last (mul_comm (j.moments * j.rounds) j.width) in
     let f = forced_by j c.args.events.now in
     filled_all j f c.steps.writer.history (subst (λ n. IsFilled (job_in c.args.circuit.now) (forced_by (job_in c.args.circuit.now) c.args.events.now) n c.steps.writer.history) all c.steps.invariant.filled)

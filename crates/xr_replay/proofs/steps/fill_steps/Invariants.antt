@@ -10,10 +10,10 @@ use Rattle.xr_replay.proofs.steps.fill_steps.Given as goal
 
 abbrev pub invariant-steps : goal.invariant-steps
 invariant-steps l = record {
-  under_way : l.writer.step ≡ l.step - 1;
-  filled : IsFilled (job_in l.circuit) (forced_by (job_in l.circuit) l.events) (l.step * (job_in l.circuit).width) l.writer.history;
-  taken : HasTaken (job_in l.circuit).width l.events l.step l.taken l.forced;
-  before : 0 < l.step → HasForced (job_in l.circuit).width l.events (l.step - 1) l.forced;
-  due : AreAwaited (job_in l.circuit) (forced_by (job_in l.circuit) l.events) l.step l.waiting.due;
+  under_way : l.writer.step ≡ l.number - 1;
+  filled : IsFilled (job_in l.circuit) (forced_by (job_in l.circuit) l.events) (l.number * (job_in l.circuit).width) l.writer.history;
+  taken : HasTaken (job_in l.circuit).width l.events l.number l.taken l.forced;
+  before : 0 < l.number → HasForced (job_in l.circuit).width l.events (l.number - 1) l.forced;
+  due : AreAwaited (job_in l.circuit) (forced_by (job_in l.circuit) l.events) l.number l.waiting.due;
   ahead : HasRoomFor l.waiting.ahead (job_in l.circuit).width;
 }

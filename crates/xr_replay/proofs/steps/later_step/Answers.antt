@@ -1,7 +1,6 @@
 -- The step is repeated, what differs is due, and gone over.
 use Rattle.std.proofs.Common.{◌+◌, arith, subst, sym, List, ℕ}
-use Rattle.xr_design.specs.Circuit.{job_in}
-use Rattle.xr_design.specs.Force.{forced_by}
+use Rattle.xr_replay.specs.Going.{forced_in, job_at}
 use Rattle.xr_replay.specs.Sweep.{AreAwaited}
 use Rattle.xr_replay.proofs.Marking.{due_marked_first}
 use Rattle.xr_replay.proofs.Sweeps.{ahead_first, awaited_next, filled_next, swept_none}
@@ -25,31 +24,31 @@ sweep-requires-clause-under_way c =
 
 pub sweep-requires-clause-swept : goal.sweep-requires-clause-swept
 sweep-requires-clause-swept c =
-    let j = job_in c.args.circuit.now in
+    let j = job_at c.args.step.now in
     let under_way = c.requires.under_way in
     let later = c.requires.later in
-    swept_none j c.args.circuit.now.fits.fits_job (forced_by j c.args.events.now) c.args.step c.args.writer.now c.next_step.new.self c.requires.step (omega (arith, under_way, later)) c.requires.filled c.in_ok-next_step.ensures.ok
+    swept_none j c.args.step.now.circuit.now.fits.fits_job (forced_in c.args.step.now) c.args.step.now.number c.args.writer.now c.next_step.new.self c.args.step.now.fits.within (omega (arith, under_way, later)) c.requires.filled c.in_ok-next_step.ensures.ok
 
 pub sweep-requires-clause-due : goal.sweep-requires-clause-due
 sweep-requires-clause-due c =
-    let j = job_in c.args.circuit.now in
-    due_marked_first j c.args.circuit.now.fits.fits_job (forced_by j c.args.events.now) c.args.events.now c.args.step c.args.from c.args.to c.args.waiting.now.due c.mark_events.new.due c.mark_inputs.new.due c.mark_events.ensures.long c.mark_inputs.ensures.long c.mark_events.ensures.more c.mark_inputs.ensures.more c.mark_events.ensures.events c.mark_inputs.ensures.inputs c.requires.before c.requires.due
+    let j = job_at c.args.step.now in
+    due_marked_first j c.args.step.now.circuit.now.fits.fits_job (forced_in c.args.step.now) c.args.step.now.events.now c.args.step.now.number c.args.step.now.from c.args.step.now.to c.args.waiting.now.due c.mark_events.new.due c.mark_inputs.new.due c.mark_events.ensures.long c.mark_inputs.ensures.long c.mark_events.ensures.more c.mark_inputs.ensures.more c.mark_events.ensures.events c.mark_inputs.ensures.inputs (c.args.step.now.fits.before c.requires.later) c.requires.due
 
 pub sweep-requires-clause-ahead : goal.sweep-requires-clause-ahead
 sweep-requires-clause-ahead c =
-    let j = job_in c.args.circuit.now in
-    ahead_first j (forced_by j c.args.events.now) c.args.step c.args.waiting.now.ahead c.requires.ahead
+    let j = job_at c.args.step.now in
+    ahead_first j (forced_in c.args.step.now) c.args.step.now.number c.args.waiting.now.ahead c.requires.ahead
 
 pub returns-clause-filled : goal.returns-clause-filled
 returns-clause-filled c =
-    let j = job_in c.args.circuit.now in
-    filled_next j (forced_by j c.args.events.now) c.args.step c.sweep.new.writer.history c.in_ok-sweep.ensures.swept
+    let j = job_at c.args.step.now in
+    filled_next j (forced_in c.args.step.now) c.args.step.now.number c.sweep.new.writer.history c.in_ok-sweep.ensures.swept
 
 pub returns-clause-due : goal.returns-clause-due
 returns-clause-due c =
-    let j = job_in c.args.circuit.now in
-    let P = λ (due : List ℕ). AreAwaited (job_in c.args.circuit.now) (forced_by (job_in c.args.circuit.now) c.args.events.now) (c.args.step + 1) due in
-    subst P (sym c.turn.ensures.due) (awaited_next j c.args.circuit.now.fits.fits_job (forced_by j c.args.events.now) c.args.step c.sweep.new.waiting.ahead c.requires.later c.in_ok-sweep.ensures.ahead)
+    let j = job_at c.args.step.now in
+    let P = λ (due : List ℕ). AreAwaited (job_at c.args.step.now) (forced_in c.args.step.now) (c.args.step.now.number + 1) due in
+    subst P (sym c.turn.ensures.due) (awaited_next j c.args.step.now.circuit.now.fits.fits_job (forced_in c.args.step.now) c.args.step.now.number c.sweep.new.waiting.ahead c.requires.later c.in_ok-sweep.ensures.ahead)
 
 pub returns-clause-ahead : goal.returns-clause-ahead
 returns-clause-ahead c =

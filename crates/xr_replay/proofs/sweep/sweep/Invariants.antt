@@ -1,14 +1,13 @@
 -- All is gone over up to the next position that is due, or to the end.
 use Rattle.std.proofs.Common.{◌≡◌, ◌-◌, min}
-use Rattle.xr_design.specs.Circuit.{job_in}
-use Rattle.xr_design.specs.Force.{forced_by}
+use Rattle.xr_replay.specs.Going.{forced_in, job_at}
 use Rattle.xr_replay.proofs.Sweeps.{IsGone}
 use Rattle.xr_replay.proofs.sweep.sweep.Given as goal
 
 abbrev pub invariant-positions : goal.invariant-positions
 invariant-positions l = record {
-  under_way : l.writer.step ≡ l.step;
-  gone : IsGone (job_in l.circuit) (forced_by (job_in l.circuit) l.events) l.step (min l.position (job_in l.circuit).width) l.writer.history l.waiting.due l.waiting.ahead;
+  under_way : l.writer.step ≡ l.step.number;
+  gone : IsGone (job_at l.step) (forced_in l.step) l.step.number (min l.position (job_at l.step).width) l.writer.history l.waiting.due l.waiting.ahead;
 }
 
 abbrev pub decreases-positions : goal.decreases-positions
