@@ -1,0 +1,38 @@
+//! The clauses of a formula and those of a log, as slices.
+
+ghost use Rattle.std.specs.Prelude.{◌≡◌, ◌<◌, length};
+ghost use Rattle.xr_proof.specs.Assignment.{HasNoZero};
+ghost use Rattle.xr_proof.specs.Log.{clause_at};
+
+use crate::clause::Clause;
+
+/// A formula's clauses, and a log's after them.
+#[derive(Clone, Copy)]
+pub struct Clauses<'a> {
+    pub formula: &'a [Clause],
+    pub log: &'a [Clause],
+}
+
+impl<'a> Clauses<'a> {
+    ghost use Rattle.xr_proof.specs.Clauses.{all_of};
+
+    /// How many there are.
+    pub fn len(&self) -> usize
+        ensures { result ≡ length (all_of self.now) }
+    {
+        self.formula.len() + self.log.len()
+    }
+
+    /// The literals of clause n.
+    pub fn literals(&self, n: usize) -> &'a [i32]
+        requires { n < length (all_of self.now) }
+        ensures value { result.now ≡ clause_at (all_of self.now) n }
+        ensures no_zero { HasNoZero result.now }
+    {
+        if n < self.formula.len() {
+            self.formula[n].as_slice()
+        } else {
+            self.log[n - self.formula.len()].as_slice()
+        }
+    }
+}
