@@ -10,6 +10,7 @@
 #![tactic(auto)]
 
 mod analysis;
+mod conflict;
 mod decide;
 mod hints;
 mod learn;
