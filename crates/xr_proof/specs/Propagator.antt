@@ -9,7 +9,7 @@ use Rattle.xr_proof.specs.Watch.{IsLaced}
 use Rattle.xr_proof.specs.declared.propagator.Propagator.{Propagator}
 
 -- nothing is false, and no clause is taken in
-pub record IsBlank (p : Propagator) : Type 0 where
+pub record IsUnstarted (p : Propagator) : Type 0 where
   pub empty : IsEmpty p.trail
   pub none : IsLaced p.watch [] 0 0
 

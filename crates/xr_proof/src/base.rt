@@ -5,7 +5,7 @@ ghost use Rattle.std.specs.Prelude.{◌≡◌, ◌<◌, ◌+◌, ◌++◌, [], t
 ghost use Rattle.std.specs.List.{All};
 
 use crate::clause::Clause;
-use crate::clauses::Clauses;
+use crate::premises::Premises;
 use crate::propagator::Propagator;
 
 impl Propagator {
@@ -13,12 +13,12 @@ impl Propagator {
     ghost use Rattle.xr_proof.specs.Lines.{IsReady};
     ghost use Rattle.xr_proof.specs.Log.{before};
     ghost use Rattle.xr_proof.specs.Propagation.{AreRefuted, IsGrowth};
-    ghost use Rattle.xr_proof.specs.Propagator.{CanPropagate, IsBlank};
+    ghost use Rattle.xr_proof.specs.Propagator.{CanPropagate, IsUnstarted};
     ghost use Rattle.xr_proof.specs.Trail.{HaveMarks, StaysOver};
 
     /// Puts on the trail what a formula's clauses propagate with nothing assumed; whether they conflict.
     pub fn start(&mut self, query: &[Clause], none: &[Clause]) -> bool
-        requires blank { IsBlank self.old }
+        requires blank { IsUnstarted self.old }
         requires query { HaveMarks self.old.trail query.now }
         requires log { none.now ≡ [] }
         ensures ready { IsReady self.new result (query.now ++ none.now) }
@@ -28,7 +28,7 @@ impl Propagator {
         if self.gather(query) {
             return true;
         }
-        self.propagate(&Clauses {
+        self.propagate(&Premises {
             formula: query,
             log: none,
         })
@@ -36,7 +36,7 @@ impl Propagator {
 
     /// Takes in a formula's clauses; whether one is false.
     fn gather(&mut self, query: &[Clause]) -> bool
-        requires blank { IsBlank self.old }
+        requires blank { IsUnstarted self.old }
         requires query { HaveMarks self.old.trail query.now }
         ensures conflict { result ≡ true → AreRefuted self.old.trail.marks.items query.now }
         ensures no_zero { result ≡ false → All HasNoZero query.now }
@@ -67,7 +67,7 @@ impl Propagator {
         if self.add_clause(log[k].as_slice()) {
             return true;
         }
-        self.propagate(&Clauses {
+        self.propagate(&Premises {
             formula: query,
             log: &log[..k + 1],
         })

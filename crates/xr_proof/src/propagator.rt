@@ -16,7 +16,7 @@ pub struct Propagator {
 
 impl Propagator {
     ghost use Rattle.xr_proof.specs.Guard.{GoesOnServing};
-    ghost use Rattle.xr_proof.specs.Propagator.{IsBlank};
+    ghost use Rattle.xr_proof.specs.Propagator.{IsUnstarted};
 
     /// Room for as many codes and, in watches, as many clauses. Takes 25 bytes for each code, and 24 for each clause.
     pub fn new(alloc: Global, codes: usize, clauses: usize) -> Result<Propagator, AllocError>
@@ -29,7 +29,7 @@ impl Propagator {
 
     /// Nothing is held false, and no clause is taken in.
     pub fn clear(&mut self)
-        ensures blank { IsBlank self.new }
+        ensures blank { IsUnstarted self.new }
         ensures size { length self.new.trail.marks.items ≡ length self.old.trail.marks.items }
     {
         self.trail.clear();

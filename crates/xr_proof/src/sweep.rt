@@ -1,22 +1,22 @@
 //! Unit propagation without watches, by passes over all clauses until one changes nothing: the rounds times all literals.
 
-ghost use Rattle.std.specs.Prelude.{◌≡◌, ◌+◌, true, false, length};
+ghost use Rattle.std.specs.Prelude.{◌≡◌, true, false};
 ghost use Rattle.std.specs.List.{All};
-ghost use Rattle.xr_proof.specs.Clauses.{all_of};
+ghost use Rattle.xr_proof.specs.Premises.{all_in};
 ghost use Rattle.xr_proof.specs.Closed.{IsQuiet, IsFalse};
 ghost use Rattle.xr_proof.specs.Propagation.{IsGrowth, AreRefuted, IsRunning, IsVisit};
 ghost use Rattle.xr_proof.specs.Trail.{HasMarks, HaveMarks, StaysOver, held};
 
 use crate::clause_status::{Status, status_of};
-use crate::clauses::Clauses;
+use crate::premises::Premises;
 use crate::trail::Trail;
 
 /// Propagates until nothing changes; whether a clause became false.
-pub(crate) fn sweep(trail: &mut Trail, clauses: &Clauses<'_>) -> bool
-    requires { HaveMarks trail.old (all_of clauses.now) }
-    ensures conflict { result ≡ true → AreRefuted trail.old.marks.items (all_of clauses.now) }
-    ensures growth { result ≡ false → IsGrowth trail.old.marks.items trail.new.marks.items (all_of clauses.now) }
-    ensures quiet { result ≡ false → All (IsQuiet (held trail.new)) (all_of clauses.now) }
+pub(crate) fn sweep(trail: &mut Trail, clauses: &Premises<'_>) -> bool
+    requires { HaveMarks trail.old (all_in clauses.now) }
+    ensures conflict { result ≡ true → AreRefuted trail.old.marks.items (all_in clauses.now) }
+    ensures growth { result ≡ false → IsGrowth trail.old.marks.items trail.new.marks.items (all_in clauses.now) }
+    ensures quiet { result ≡ false → All (IsQuiet (held trail.new)) (all_in clauses.now) }
     ensures read { result ≡ false → trail.new.read ≡ trail.new.len }
     ensures over { StaysOver trail.old trail.new }
 {
@@ -33,10 +33,10 @@ pub(crate) fn sweep(trail: &mut Trail, clauses: &Clauses<'_>) -> bool
 }
 
 /// Looks at each clause once; whether one is false. Each clause is then quiet unless one of its literals came during the pass.
-pub(crate) fn pass_once(trail: &mut Trail, clauses: &Clauses<'_>) -> bool
-    requires { HaveMarks trail.old (all_of clauses.now) }
-    ensures conflict { result ≡ true → AreRefuted trail.old.marks.items (all_of clauses.now) }
-    ensures running { result ≡ false → IsRunning trail.old trail.new (all_of clauses.now) trail.old.len (λ _. ⊥) }
+pub(crate) fn pass_once(trail: &mut Trail, clauses: &Premises<'_>) -> bool
+    requires { HaveMarks trail.old (all_in clauses.now) }
+    ensures conflict { result ≡ true → AreRefuted trail.old.marks.items (all_in clauses.now) }
+    ensures running { result ≡ false → IsRunning trail.old trail.new (all_in clauses.now) trail.old.len (λ _. ⊥) }
     ensures over { StaysOver trail.old trail.new }
     ensures read { trail.new.read ≡ trail.old.read }
 {

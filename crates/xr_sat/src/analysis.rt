@@ -2,7 +2,7 @@
 //! from the false clause. Linear in the trail and in the clauses that watch a literal which it meets. No reasons are kept: the clause
 //! that forced a literal watches it, and its other literals came earlier.
 
-use crate::conflict::Conflict;
+use crate::found_conflict::FoundConflict;
 use crate::reads::{flag_at, number_at, set_flag, set_number};
 use crate::scores::Scores;
 use std::alloc::{AllocError, Global};
@@ -35,7 +35,7 @@ impl Analysis {
     }
 
     /// Looks for the first unique implication point of the last level; leaves the candidate empty where there is none.
-    pub(crate) fn find(&mut self, scores: &mut Scores, conflict: &Conflict<'_>) {
+    pub(crate) fn find(&mut self, scores: &mut Scores, conflict: &FoundConflict<'_>) {
         let trail = &conflict.propagator.trail;
         self.start(trail);
         if trail.read == 0 {
@@ -80,7 +80,7 @@ impl Analysis {
     /// of the literal of code `forced`. In a conflict the watched literal is false itself.
     fn clause_of(
         &self,
-        conflict: &Conflict<'_>,
+        conflict: &FoundConflict<'_>,
         watched: usize,
         forced: usize,
         before: usize,
@@ -120,7 +120,7 @@ impl Analysis {
     }
 
     /// Meets the false literals of a clause; how many are new and of the last level.
-    fn meet(&mut self, scores: &mut Scores, conflict: &Conflict<'_>, owner: usize) -> usize {
+    fn meet(&mut self, scores: &mut Scores, conflict: &FoundConflict<'_>, owner: usize) -> usize {
         let trail = &conflict.propagator.trail;
         let mut count: usize = 0;
         if owner < conflict.clauses.len() {
@@ -145,7 +145,7 @@ impl Analysis {
     }
 
     /// Writes the candidate: the literals of earlier levels in the order of the trail, and the one of the last level.
-    fn write(&mut self, conflict: &Conflict<'_>, point: usize) {
+    fn write(&mut self, conflict: &FoundConflict<'_>, point: usize) {
         let trail = &conflict.propagator.trail;
         for j in conflict.base..conflict.top {
             let here = number_at(&trail.codes, j);

@@ -1,7 +1,7 @@
 //! Deciding variables until all have a value or there is a conflict.
 
 ghost use Rattle.std.specs.Prelude.{◌≡◌, ◌≤◌, ◌<◌, ◌+◌, ◌*◌, ◌++◌, ◌∷◌, [], ℕ, ℤ, true, false, length, neg_ℤ, IfOk, IfSome, IfNone, OnOk};
-ghost use Rattle.xr_proof.specs.Clauses.{all_of};
+ghost use Rattle.xr_proof.specs.Premises.{all_in};
 ghost use Rattle.xr_proof.specs.Code.{is_false};
 ghost use Rattle.xr_proof.specs.Propagator.{IsAtBase, LeadsBack};
 ghost use Rattle.xr_proof.specs.Trail.{HasMarks};
@@ -9,32 +9,32 @@ ghost use Rattle.xr_sat.specs.Decide.{IsLiteralOf, HasValue, HasNone, AreValued,
 ghost use Rattle.xr_sat.specs.Learn.{last_of, front_of};
 ghost use Rattle.xr_sat.specs.Reach.{IsSettled, IsFrom};
 
-use crate::conflict::Conflict;
+use crate::found_conflict::FoundConflict;
 use crate::hints::Hints;
 use crate::reach::reach;
 use std::alloc::AllocError;
-use xr_proof::clauses::Clauses;
+use xr_proof::premises::Premises;
 use xr_proof::propagator::Propagator;
 
 /// Decides open variables, the lowest first or as the hints say, each to the value that it had last; whether there is a conflict. The trail is
 /// then that before the last decision. A decision is kept as the literal that it makes false.
 pub(crate) fn descend(
     propagator: &mut Propagator,
-    clauses: &Clauses<'_>,
+    clauses: &Premises<'_>,
     vars: usize,
     hints: &mut Hints,
     decisions: &mut Vec<i32>,
 ) -> Result<bool, AllocError>
-    requires base { IsAtBase propagator.old (all_of clauses.now) }
+    requires base { IsAtBase propagator.old (all_in clauses.now) }
     requires vars { vars ≤ 2147483647 }
     requires codes { length propagator.old.trail.marks.items ≡ 2 * vars + 2 }
     requires none { decisions.old.items ≡ [] }
-    ensures settled { IfOk result (λ b. b ≡ false → IsSettled propagator.new (all_of clauses.now)) }
+    ensures settled { IfOk result (λ b. b ≡ false → IsSettled propagator.new (all_in clauses.now)) }
     ensures valued { IfOk result (λ b. b ≡ false → AreValued propagator.new.trail.marks.items vars) }
     ensures conflict { IfOk result (λ b.
-        b ≡ true → IsConflict propagator.new.trail (all_of clauses.now) decisions.new.items) }
+        b ≡ true → IsConflict propagator.new.trail (all_in clauses.now) decisions.new.items) }
     ensures room { OnOk result (HasMarks propagator.old.trail decisions.new.items) }
-    ensures back { OnOk result (LeadsBack propagator.old propagator.new (all_of clauses.now)) }
+    ensures back { OnOk result (LeadsBack propagator.old propagator.new (all_in clauses.now)) }
 {
     let base = propagator.trail.len;
     let mut cursor = 0;
@@ -55,26 +55,26 @@ pub(crate) fn descend(
 /// Makes the last decision; whether it leads to a conflict. The trail is then as it was.
 fn attempt(
     propagator: &mut Propagator,
-    clauses: &Clauses<'_>,
+    clauses: &Premises<'_>,
     decisions: &[i32],
     base: usize,
     hints: &mut Hints,
 ) -> bool
-    requires settled { IsSettled propagator.old (all_of clauses.now) }
+    requires settled { IsSettled propagator.old (all_in clauses.now) }
     requires filled { 0 < length decisions.now }
-    requires from { IsFrom propagator.old.trail.marks.items (all_of clauses.now) (front_of decisions.now) }
+    requires from { IsFrom propagator.old.trail.marks.items (all_in clauses.now) (front_of decisions.now) }
     requires not_false { is_false propagator.old.trail.marks.items (last_of decisions.now) ≡ false }
     requires not_true { is_false propagator.old.trail.marks.items (neg_ℤ (last_of decisions.now)) ≡ false }
     requires room { HasMarks propagator.old.trail decisions.now }
-    ensures conflict { result ≡ true → IsConflict propagator.new.trail (all_of clauses.now) decisions.now }
-    ensures settled { result ≡ false → IsSettled propagator.new (all_of clauses.now) }
-    ensures from { result ≡ false → IsFrom propagator.new.trail.marks.items (all_of clauses.now) decisions.now }
+    ensures conflict { result ≡ true → IsConflict propagator.new.trail (all_in clauses.now) decisions.now }
+    ensures settled { result ≡ false → IsSettled propagator.new (all_in clauses.now) }
+    ensures from { result ≡ false → IsFrom propagator.new.trail.marks.items (all_in clauses.now) decisions.now }
     ensures longer { result ≡ false → propagator.old.trail.len < propagator.new.trail.len }
-    ensures back { LeadsBack propagator.old propagator.new (all_of clauses.now) }
+    ensures back { LeadsBack propagator.old propagator.new (all_in clauses.now) }
 {
     let len = propagator.trail.len;
     if reach(propagator, clauses, decisions, decisions.len() - 1) {
-        hints.take_conflict(&Conflict {
+        hints.take_conflict(&FoundConflict {
             propagator,
             clauses,
             base,

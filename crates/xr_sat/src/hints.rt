@@ -2,7 +2,7 @@
 //! hint says is tested before it counts, so a wrong one costs time alone.
 
 use crate::analysis::Analysis;
-use crate::conflict::Conflict;
+use crate::found_conflict::FoundConflict;
 use crate::phases::Phases;
 use crate::scores::Scores;
 use std::alloc::{AllocError, Global};
@@ -32,7 +32,7 @@ impl Hints {
     }
 
     /// Learns from a conflict.
-    pub(crate) fn take_conflict(&mut self, conflict: &Conflict<'_>) {
+    pub(crate) fn take_conflict(&mut self, conflict: &FoundConflict<'_>) {
         self.phases.note(&conflict.propagator.trail);
         self.scores
             .put_back(&conflict.propagator.trail, conflict.base);

@@ -2,7 +2,7 @@
 
 ghost use Rattle.std.specs.Prelude.{◌≡◌, ◌<◌, ◌+◌, ◌*◌, true, false, length, neg_ℤ, IfOk, IfSome, IfNone, OnOk};
 ghost use Rattle.std.specs.List.{All};
-ghost use Rattle.xr_proof.specs.Clauses.{all_of};
+ghost use Rattle.xr_proof.specs.Premises.{all_in};
 ghost use Rattle.xr_proof.specs.Closed.{NoneResists, IsFalse};
 ghost use Rattle.xr_proof.specs.Code.{HasRoom, is_false};
 ghost use Rattle.xr_proof.specs.Log.{IsFresh};
@@ -14,22 +14,22 @@ ghost use Rattle.xr_sat.specs.Learn.{CanBeTried, IsAssertingNow};
 use crate::tighten::{push_at, tighten};
 use std::alloc::{AllocError, Global};
 use xr_proof::clause_status::{Value, is_marked, value_at};
-use xr_proof::clauses::Clauses;
+use xr_proof::premises::Premises;
 use xr_proof::propagator::Propagator;
 
 /// The tight part of a candidate, which is fresh; or none, where the candidate doesn't follow.
 pub(crate) fn learn_from(
     alloc: Global,
     propagator: &mut Propagator,
-    clauses: &Clauses<'_>,
+    clauses: &Premises<'_>,
     candidate: &[i32],
 ) -> Result<Option<Vec<i32>>, AllocError>
-    requires base { IsAtBase propagator.old (all_of clauses.now) }
-    requires candidate { CanBeTried propagator.old.trail (all_of clauses.now) candidate.now }
-    ensures none { IfOk result (λ o. IfNone o (NoneResists (all_of clauses.now) candidate.now → ⊥)) }
-    ensures fresh { IfOk result (λ o. IfSome o (λ v. IsFresh (all_of clauses.now) v.items)) }
+    requires base { IsAtBase propagator.old (all_in clauses.now) }
+    requires candidate { CanBeTried propagator.old.trail (all_in clauses.now) candidate.now }
+    ensures none { IfOk result (λ o. IfNone o (NoneResists (all_in clauses.now) candidate.now → ⊥)) }
+    ensures fresh { IfOk result (λ o. IfSome o (λ v. IsFresh (all_in clauses.now) v.items)) }
     ensures room { IfOk result (λ o. IfSome o (λ v. HasMarks propagator.old.trail v.items)) }
-    ensures back { OnOk result (ComesBack propagator.old propagator.new (all_of clauses.now)) }
+    ensures back { OnOk result (ComesBack propagator.old propagator.new (all_in clauses.now)) }
 {
     let last = candidate.len() - 1;
     let mut kept = Vec::new(alloc);
@@ -45,17 +45,17 @@ pub(crate) fn learn_from(
 pub(crate) fn learn(
     alloc: Global,
     propagator: &mut Propagator,
-    clauses: &Clauses<'_>,
+    clauses: &Premises<'_>,
     decisions: &[i32],
     hint: Option<&[i32]>,
 ) -> Result<Vec<i32>, AllocError>
-    requires base { IsAtBase propagator.old (all_of clauses.now) }
-    requires decisions { CanBeTried propagator.old.trail (all_of clauses.now) decisions.now }
-    requires follows { NoneResists (all_of clauses.now) decisions.now }
-    requires hint { IfSome hint (λ c. CanBeTried propagator.old.trail (all_of clauses.now) c.now) }
-    ensures fresh { IfOk result (λ v. IsFresh (all_of clauses.now) v.items) }
+    requires base { IsAtBase propagator.old (all_in clauses.now) }
+    requires decisions { CanBeTried propagator.old.trail (all_in clauses.now) decisions.now }
+    requires follows { NoneResists (all_in clauses.now) decisions.now }
+    requires hint { IfSome hint (λ c. CanBeTried propagator.old.trail (all_in clauses.now) c.now) }
+    ensures fresh { IfOk result (λ v. IsFresh (all_in clauses.now) v.items) }
     ensures room { IfOk result (λ v. HasMarks propagator.old.trail v.items) }
-    ensures back { OnOk result (ComesBack propagator.old propagator.new (all_of clauses.now)) }
+    ensures back { OnOk result (ComesBack propagator.old propagator.new (all_in clauses.now)) }
 {
     if let Some(literals) = learn_hint(alloc, propagator, clauses, hint)? {
         return Ok(literals);
@@ -69,14 +69,14 @@ pub(crate) fn learn(
 fn learn_hint(
     alloc: Global,
     propagator: &mut Propagator,
-    clauses: &Clauses<'_>,
+    clauses: &Premises<'_>,
     hint: Option<&[i32]>,
 ) -> Result<Option<Vec<i32>>, AllocError>
-    requires base { IsAtBase propagator.old (all_of clauses.now) }
-    requires hint { IfSome hint (λ c. CanBeTried propagator.old.trail (all_of clauses.now) c.now) }
-    ensures fresh { IfOk result (λ o. IfSome o (λ v. IsFresh (all_of clauses.now) v.items)) }
+    requires base { IsAtBase propagator.old (all_in clauses.now) }
+    requires hint { IfSome hint (λ c. CanBeTried propagator.old.trail (all_in clauses.now) c.now) }
+    ensures fresh { IfOk result (λ o. IfSome o (λ v. IsFresh (all_in clauses.now) v.items)) }
     ensures room { IfOk result (λ o. IfSome o (λ v. HasMarks propagator.old.trail v.items)) }
-    ensures back { OnOk result (ComesBack propagator.old propagator.new (all_of clauses.now)) }
+    ensures back { OnOk result (ComesBack propagator.old propagator.new (all_in clauses.now)) }
 {
     match hint {
         None => Ok(None),

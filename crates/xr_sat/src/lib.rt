@@ -10,8 +10,8 @@
 #![tactic(auto)]
 
 mod analysis;
-mod conflict;
 mod decide;
+mod found_conflict;
 mod hints;
 mod learn;
 mod outcome;

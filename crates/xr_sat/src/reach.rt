@@ -1,32 +1,32 @@
 //! Making the literals of a clause false one after the other, each with all that it propagates.
 
 ghost use Rattle.std.specs.Prelude.{◌≡◌, ◌<◌, ◌∷◌, [], true, false, length, IfSome, IfNone};
-ghost use Rattle.xr_proof.specs.Clauses.{all_of};
+ghost use Rattle.xr_proof.specs.Premises.{all_in};
 ghost use Rattle.xr_proof.specs.Propagator.{LeadsBack};
 ghost use Rattle.xr_proof.specs.Status.{literal_at};
 ghost use Rattle.xr_proof.specs.Trail.{HasMarks};
 ghost use Rattle.xr_sat.specs.Reach.{IsSettled, GoesOnFrom, FollowsWith, IsMetBehind};
 
 use xr_proof::clause_status::{Value, value_at};
-use xr_proof::clauses::Clauses;
+use xr_proof::premises::Premises;
 use xr_proof::propagator::Propagator;
 
 /// Makes the literal at a place false, and propagates; whether that leads to a conflict.
 pub(crate) fn reach(
     propagator: &mut Propagator,
-    clauses: &Clauses<'_>,
+    clauses: &Premises<'_>,
     literals: &[i32],
     k: usize,
 ) -> bool
-    requires settled { IsSettled propagator.old (all_of clauses.now) }
+    requires settled { IsSettled propagator.old (all_in clauses.now) }
     requires below { k < length literals.now }
     requires room { HasMarks propagator.old.trail literals.now }
     ensures conflict { result ≡ true →
-        FollowsWith propagator.old.trail.marks.items (all_of clauses.now) (literal_at literals.now k) }
+        FollowsWith propagator.old.trail.marks.items (all_in clauses.now) (literal_at literals.now k) }
     ensures from { result ≡ false →
-        GoesOnFrom propagator.old.trail propagator.new.trail (all_of clauses.now) (literal_at literals.now k ∷ []) }
-    ensures settled { result ≡ false → IsSettled propagator.new (all_of clauses.now) }
-    ensures back { LeadsBack propagator.old propagator.new (all_of clauses.now) }
+        GoesOnFrom propagator.old.trail propagator.new.trail (all_in clauses.now) (literal_at literals.now k ∷ []) }
+    ensures settled { result ≡ false → IsSettled propagator.new (all_in clauses.now) }
+    ensures back { LeadsBack propagator.old propagator.new (all_in clauses.now) }
 {
     match value_at(&propagator.trail.marks, literals, k) {
         Value::True => true,
@@ -41,16 +41,17 @@ pub(crate) fn reach(
 /// Makes the literals false in turn; the place of the one that leads to a conflict.
 pub(crate) fn reach_all(
     propagator: &mut Propagator,
-    clauses: &Clauses<'_>,
+    clauses: &Premises<'_>,
     literals: &[i32],
 ) -> Option<usize>
-    requires settled { IsSettled propagator.old (all_of clauses.now) }
+    requires settled { IsSettled propagator.old (all_in clauses.now) }
     requires room { HasMarks propagator.old.trail literals.now }
     ensures below { IfSome result (λ k. k < length literals.now) }
-    ensures met { IfSome result (IsMetBehind propagator.old.trail.marks.items (all_of clauses.now) literals.now) }
-    ensures from { IfNone result (GoesOnFrom propagator.old.trail propagator.new.trail (all_of clauses.now) literals.now) }
-    ensures settled { IfNone result (IsSettled propagator.new (all_of clauses.now)) }
-    ensures back { LeadsBack propagator.old propagator.new (all_of clauses.now) }
+    ensures met { IfSome result (IsMetBehind propagator.old.trail.marks.items (all_in clauses.now) literals.now) }
+    ensures from { IfNone result
+        (GoesOnFrom propagator.old.trail propagator.new.trail (all_in clauses.now) literals.now) }
+    ensures settled { IfNone result (IsSettled propagator.new (all_in clauses.now)) }
+    ensures back { LeadsBack propagator.old propagator.new (all_in clauses.now) }
 {
     for k in 0..literals.len() {
         if reach(propagator, clauses, literals, k) {

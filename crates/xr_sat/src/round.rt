@@ -1,7 +1,7 @@
 //! One round: decisions up to a conflict, and what is learnt from it.
 
 ghost use Rattle.std.specs.Prelude.{◌≡◌, ◌≤◌, ◌+◌, ◌*◌, length, IfOk, IfSome, IfNone, OnOk, OnSome};
-ghost use Rattle.xr_proof.specs.Clauses.{all_of};
+ghost use Rattle.xr_proof.specs.Premises.{all_in};
 ghost use Rattle.xr_proof.specs.Log.{IsFresh};
 ghost use Rattle.xr_proof.specs.Propagator.{ComesBack, IsAtBase};
 ghost use Rattle.xr_proof.specs.Trail.{HasMarks};
@@ -12,26 +12,26 @@ use crate::decide::descend;
 use crate::hints::Hints;
 use crate::learn::{learn, tested};
 use std::alloc::{AllocError, Global};
-use xr_proof::clauses::Clauses;
+use xr_proof::premises::Premises;
 use xr_proof::propagator::Propagator;
 
 /// A fresh clause, with the trail as it was; or none, where each variable has a value on the trail and no clause is false.
 pub(crate) fn round(
     alloc: Global,
     propagator: &mut Propagator,
-    clauses: &Clauses<'_>,
+    clauses: &Premises<'_>,
     vars: usize,
     hints: &mut Hints,
 ) -> Result<Option<Vec<i32>>, AllocError>
-    requires base { IsAtBase propagator.old (all_of clauses.now) }
+    requires base { IsAtBase propagator.old (all_in clauses.now) }
     requires vars { vars ≤ 2147483647 }
     requires codes { length propagator.old.trail.marks.items ≡ 2 * vars + 2 }
-    ensures settled { IfOk result (λ o. IfNone o (IsSettled propagator.new (all_of clauses.now))) }
+    ensures settled { IfOk result (λ o. IfNone o (IsSettled propagator.new (all_in clauses.now))) }
     ensures valued { IfOk result (λ o. IfNone o (AreValued propagator.new.trail.marks.items vars)) }
     ensures size { OnOk result (length propagator.new.trail.marks.items ≡ length propagator.old.trail.marks.items) }
-    ensures fresh { IfOk result (λ o. IfSome o (λ v. IsFresh (all_of clauses.now) v.items)) }
+    ensures fresh { IfOk result (λ o. IfSome o (λ v. IsFresh (all_in clauses.now) v.items)) }
     ensures room { IfOk result (λ o. IfSome o (λ v. HasMarks propagator.old.trail v.items)) }
-    ensures back { IfOk result (λ o. OnSome o (ComesBack propagator.old propagator.new (all_of clauses.now))) }
+    ensures back { IfOk result (λ o. OnSome o (ComesBack propagator.old propagator.new (all_in clauses.now))) }
 {
     let len = propagator.trail.len;
     let mut decisions = Vec::new(alloc);

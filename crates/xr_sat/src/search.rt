@@ -13,7 +13,7 @@ use crate::outcome::Outcome;
 use crate::round::round;
 use std::alloc::{AllocError, Global};
 use xr_base::Memory;
-use xr_proof::clauses::Clauses;
+use xr_proof::premises::Premises;
 use xr_proof::propagator::Propagator;
 use xr_proof::{Clause, Cnf, Exhausted, Log, Model, Refuted};
 
@@ -55,7 +55,7 @@ fn search(
             let log = close(alloc, log)?;
             return Ok(Outcome::Refuted(Refuted::from_log(cnf, log)));
         }
-        let clauses = Clauses {
+        let clauses = Premises {
             formula: query,
             log: &log,
         };

@@ -1,7 +1,7 @@
 //! Making a clause tight: each literal that can be left out is.
 
 ghost use Rattle.std.specs.Prelude.{◌≡◌, ◌<◌, ◌++◌, ◌∷◌, [], true, false, length, OnOk, IfOk};
-ghost use Rattle.xr_proof.specs.Clauses.{all_of};
+ghost use Rattle.xr_proof.specs.Premises.{all_in};
 ghost use Rattle.xr_proof.specs.Closed.{NoneResists};
 ghost use Rattle.xr_proof.specs.Propagator.{ComesBack, IsAtBase, LeadsBack};
 ghost use Rattle.xr_proof.specs.Status.{literal_at};
@@ -10,7 +10,7 @@ ghost use Rattle.xr_sat.specs.Learn.{IsFound, AreNeeded, IsExtended};
 
 use crate::reach::reach_all;
 use std::alloc::AllocError;
-use xr_proof::clauses::Clauses;
+use xr_proof::premises::Premises;
 use xr_proof::propagator::Propagator;
 
 /// Where the conflict comes: nowhere, with a literal that is kept, or with the rest's literal at a place.
@@ -24,20 +24,20 @@ pub(crate) enum Found {
 /// whether the clause followed. Takes one propagation for each literal that is needed.
 pub(crate) fn tighten(
     propagator: &mut Propagator,
-    clauses: &Clauses<'_>,
+    clauses: &Premises<'_>,
     kept: &mut Vec<i32>,
     rest: &[i32],
 ) -> Result<bool, AllocError>
-    requires base { IsAtBase propagator.old (all_of clauses.now) }
+    requires base { IsAtBase propagator.old (all_in clauses.now) }
     requires room_kept { HasMarks propagator.old.trail kept.old.items }
     requires room_rest { HasMarks propagator.old.trail rest.now }
-    requires needed { AreNeeded (all_of clauses.now) kept.old.items rest.now }
-    ensures no { IfOk result (λ b. b ≡ false → NoneResists (all_of clauses.now) (kept.old.items ++ rest.now) → ⊥) }
-    ensures yes { IfOk result (λ b. b ≡ true → NoneResists (all_of clauses.now) kept.new.items) }
-    ensures needed { IfOk result (λ b. b ≡ true → AreNeeded (all_of clauses.now) kept.new.items []) }
+    requires needed { AreNeeded (all_in clauses.now) kept.old.items rest.now }
+    ensures no { IfOk result (λ b. b ≡ false → NoneResists (all_in clauses.now) (kept.old.items ++ rest.now) → ⊥) }
+    ensures yes { IfOk result (λ b. b ≡ true → NoneResists (all_in clauses.now) kept.new.items) }
+    ensures needed { IfOk result (λ b. b ≡ true → AreNeeded (all_in clauses.now) kept.new.items []) }
     ensures extended { OnOk result (IsExtended kept.old.items rest.now kept.new.items) }
     ensures room_kept { OnOk result (HasMarks propagator.old.trail kept.new.items) }
-    ensures back { OnOk result (ComesBack propagator.old propagator.new (all_of clauses.now)) }
+    ensures back { OnOk result (ComesBack propagator.old propagator.new (all_in clauses.now)) }
 {
     let mut len = rest.len();
     'rounds: loop {
@@ -65,12 +65,12 @@ pub(crate) fn push_at(kept: &mut Vec<i32>, rest: &[i32], k: usize) -> Result<(),
 }
 
 /// Where the conflict comes as the literals of both parts are made false in turn.
-fn probe(propagator: &mut Propagator, clauses: &Clauses<'_>, kept: &[i32], rest: &[i32]) -> Found
-    requires base { IsAtBase propagator.old (all_of clauses.now) }
+fn probe(propagator: &mut Propagator, clauses: &Premises<'_>, kept: &[i32], rest: &[i32]) -> Found
+    requires base { IsAtBase propagator.old (all_in clauses.now) }
     requires room_kept { HasMarks propagator.old.trail kept.now }
     requires room_rest { HasMarks propagator.old.trail rest.now }
-    ensures found { IsFound (all_of clauses.now) kept.now rest.now result }
-    ensures back { ComesBack propagator.old propagator.new (all_of clauses.now) }
+    ensures found { IsFound (all_in clauses.now) kept.now rest.now result }
+    ensures back { ComesBack propagator.old propagator.new (all_in clauses.now) }
 {
     let len = propagator.trail.len;
     let found = seek(propagator, clauses, kept, rest);
@@ -78,12 +78,12 @@ fn probe(propagator: &mut Propagator, clauses: &Clauses<'_>, kept: &[i32], rest:
     found
 }
 
-fn seek(propagator: &mut Propagator, clauses: &Clauses<'_>, kept: &[i32], rest: &[i32]) -> Found
-    requires base { IsAtBase propagator.old (all_of clauses.now) }
+fn seek(propagator: &mut Propagator, clauses: &Premises<'_>, kept: &[i32], rest: &[i32]) -> Found
+    requires base { IsAtBase propagator.old (all_in clauses.now) }
     requires room_kept { HasMarks propagator.old.trail kept.now }
     requires room_rest { HasMarks propagator.old.trail rest.now }
-    ensures found { IsFound (all_of clauses.now) kept.now rest.now result }
-    ensures back { LeadsBack propagator.old propagator.new (all_of clauses.now) }
+    ensures found { IsFound (all_in clauses.now) kept.now rest.now result }
+    ensures back { LeadsBack propagator.old propagator.new (all_in clauses.now) }
 {
     match reach_all(propagator, clauses, kept) {
         Some(_) => Found::Kept,

@@ -1,6 +1,6 @@
 -- The clause that a look finds false is one of the clauses.
 use Rattle.std.proofs.Common.{◌<◌, ◌/◌, ◌∙◌, length, List, ℤ, arith, subst, sym}
-use Rattle.xr_proof.specs.Clauses.{all_of}
+use Rattle.xr_proof.specs.Premises.{all_in}
 use Rattle.xr_proof.specs.Closed.{IsFalse}
 use Rattle.xr_proof.specs.Trail.{held}
 use Rattle.xr_proof.proofs.Trails.{over_sized}
@@ -11,5 +11,5 @@ invariant_of-self c = record { same_size = c.handle.ensures.size ∙ c.args.self
 
 pub returns-clause-conflict : goal.returns-clause-conflict
 returns-clause-conflict c e =
-    let lt : c.args.entry / 2 < length (all_of c.args.clauses.now) = omega (arith, c.requires.entry, c.requires.used) in
+    let lt : c.args.entry / 2 < length (all_in c.args.clauses.now) = omega (arith, c.requires.entry, c.requires.used) in
     (c.args.entry / 2, lt, subst (λ (d : List ℤ). IsFalse (held c.args.self.now.trail) d) c.literals.ensures.value (c.handle.ensures.conflict e))
