@@ -6,12 +6,12 @@ use Rattle.std.proofs.lemmas.List.Elements.{All-contains, All-take, All-weaker, 
 use Rattle.std.specs.Prelude.{ℤ, pos, neg_ℤ}
 use Rattle.std.specs.List.{All}
 use Rattle.xr_proof.specs.Closed.{IsFalse, IsQuiet}
-use Rattle.xr_proof.specs.Code.{code_of, is_false, HasRoom, IsConsistent}
+use Rattle.xr_proof.specs.Code.{code_of, is_false, HasRoom}
 use Rattle.xr_proof.specs.Guard.{IsAwake, AreGuarded, AreSafe, IsSince, IsPropagating, IsTakenIn, Watches, met, forced, watching}
 use Rattle.xr_proof.specs.Log.{before, clause_at}
 use Rattle.xr_proof.specs.Status.{literal_at, Holds, IsOnlyOpen, AreOpen}
 use Rattle.xr_proof.specs.Propagation.{IsGrowth, AreRefuted, IsBase}
-use Rattle.xr_proof.specs.Trail.{IsTrail, IsPush, IsOver, StaysOver}
+use Rattle.xr_proof.specs.Trail.{IsPush, IsOver, StaysOver}
 use Rattle.xr_proof.specs.Watch.{watched, IsChained, IsPair, IsPaired, IsLaced, IsAdded}
 use Rattle.xr_proof.specs.declared.trail.Trail.{Trail}
 use Rattle.xr_proof.specs.declared.watch.Watch.{Watch}
@@ -20,7 +20,7 @@ use Rattle.xr_proof.proofs.Chains.{clause_before, clause_last, length_push}
 use Rattle.xr_proof.proofs.Codes.{room_other, marked_cases, marked_same}
 use Rattle.xr_proof.proofs.Guards.{guarded_map, since_push}
 use Rattle.xr_proof.proofs.Runs.{growth_none, growth_more, growth_step, clause_in}
-use Rattle.xr_proof.proofs.Trails.{trail_push, over_push, code_new, over_none}
+use Rattle.xr_proof.proofs.Trails.{over_push, code_new, over_none}
 
 growth_push : (old new : List Bool) (clauses : List (List ℤ)) (c : List ℤ) → IsGrowth old new clauses → IsGrowth old new (clauses ++ c ∷ [])
 growth_push old new clauses c g = record {
@@ -103,11 +103,10 @@ module _ (old now next : Trail) (x y : Watch) (clauses : List (List ℤ)) (c : L
   ]
 
   -- the clause is true
-  entered_true : (t : Trail) → IsTrail t → IsGrowth old.marks.items t.marks.items (clauses ++ c ∷ []) → from ≤ t.len → StaysOver old t
+  entered_true : (t : Trail) → IsGrowth old.marks.items t.marks.items (clauses ++ c ∷ []) → from ≤ t.len → StaysOver old t
       → (x.on ≡ true → AreGuarded x t.marks.items clauses (Late t x)) → Holds t.marks.items c → (y.on ≡ true → IsAdded x y (pos 0) (pos 0))
       → IsPropagating old t y (clauses ++ c ∷ []) from (λ _. ⊥)
-  entered_true t trail growth low over guarded holds added = record {
-    trail = trail;
+  entered_true t growth low over guarded holds added = record {
     growth = growth;
     low = low;
     over = over;
@@ -116,7 +115,7 @@ module _ (old now next : Trail) (x y : Watch) (clauses : List (List ℤ)) (c : L
   }
 
   entered_met : Holds now.marks.items c → (y.on ≡ true → IsAdded x y (pos 0) (pos 0)) → IsPropagating old now y (clauses ++ c ∷ []) from (λ _. ⊥)
-  entered_met holds added = entered_true now h.trail (growth_push old.marks.items now.marks.items clauses c h.growth) h.low h.over h.guarded holds added
+  entered_met holds added = entered_true now (growth_push old.marks.items now.marks.items clauses c h.growth) h.low h.over h.guarded holds added
 
   entered_forced : (k : ℕ) → IsOnlyOpen now.marks.items c (length c) k → IsPush now next (code_of (neg_ℤ (literal_at c k)))
       → (y.on ≡ true → IsAdded x y (pos 0) (pos 0)) → IsPropagating old next y (clauses ++ c ∷ []) from (λ _. ⊥)
@@ -126,23 +125,22 @@ module _ (old now next : Trail) (x y : Watch) (clauses : List (List ℤ)) (c : L
       let other : HasRoom (length now.marks.items) (neg_ℤ l) = room_other (length now.marks.items) l r in
       let step : IsGrowth now.marks.items next.marks.items (clauses ++ c ∷ []) = subst (λ (ms : List Bool). IsGrowth now.marks.items ms (clauses ++ c ∷ [])) (sym p.marks)
       (growth_step now.marks.items (clauses ++ c ∷ []) c k h.growth.consistent (Contains-push clauses c) only r) in
-      entered_true next (trail_push now next (code_of (neg_ℤ l)) h.trail other.own only.is_open.1 p)
+      entered_true next
       (growth_more old.marks.items now.marks.items next.marks.items (clauses ++ c ∷ []) (growth_push old.marks.items now.marks.items clauses c h.growth) step)
-      (omega (arith, p.len, h.low)) (λ base b o. over_push now next (code_of (neg_ℤ l)) h.trail other.own only.is_open.1 p base b (h.over base b o))
+      (omega (arith, p.len, h.low)) (λ base b o. over_push now next (code_of (neg_ℤ l)) other.own only.is_open.1 p base b (h.over base b o))
       (λ is_on. guarded_map x x now.marks.items next.marks.items clauses (Late now x) (Late next x) refl (λ m on. step.grows m on)
       (λ d d_lt some on late. elim (marked_cases now.marks.items (neg_ℤ l) (watched x d) other.own (subst (λ (ms : List Bool). is_false ms (watched x d) ≡ true) p.marks on)) [
         | inl a ↦ elim (late a) [
-          | inl s ↦ inl (since_push now next (code_of (neg_ℤ l)) from (watched x d) h.trail other.own only.is_open.1 p s)
+          | inl s ↦ inl (since_push now next (code_of (neg_ℤ l)) from (watched x d) other.own only.is_open.1 p s)
           | inr none ↦ absurd none
         ]
-        | inr is ↦ inl (now.len, h.low, omega (arith, p.len), code_new now next (code_of (neg_ℤ l)) h.trail other.own only.is_open.1 p ∙ ap code_of (sym is))
+        | inr is ↦ inl (now.len, h.low, omega (arith, p.len), code_new now next (code_of (neg_ℤ l)) other.own only.is_open.1 p ∙ ap code_of (sym is))
       ]) (h.guarded is_on))
       (l, Contains-get_or c k (pos 0) only.below, subst (λ (ms : List Bool). is_false ms (neg_ℤ l) ≡ true) (sym p.marks) (marked_same now.marks.items (neg_ℤ l) other.own)) added
 
   entered_watching : (j k : ℕ) → AreOpen now.marks.items c j k → (y.on ≡ true → IsAdded x y (literal_at c j) (literal_at c k))
       → IsPropagating old now y (clauses ++ c ∷ []) from (λ _. ⊥)
   entered_watching j k both added = record {
-    trail = h.trail;
     growth = growth_push old.marks.items now.marks.items clauses c h.growth;
     low = h.low;
     over = h.over;
@@ -173,8 +171,7 @@ module _ (old now next : Trail) (x y : Watch) (clauses : List (List ℤ)) (c : L
 -- nothing is late where nothing is assumed
 pub tracing_base : (t : Trail) (x : Watch) (clauses : List (List ℤ)) → IsBase t clauses → (x.on ≡ true → AreSafe x t.marks.items clauses) → IsPropagating t t x clauses t.read (λ _. ⊥)
 tracing_base t x clauses b safe = record {
-  trail = b.trail;
-  growth = growth_none t.marks.items clauses b.consistent;
+  growth = growth_none t.marks.items clauses t.in_step.consistent;
   low = omega (arith, b.read);
   over = λ base k o. o;
   guarded = λ is_on. guarded_map x x t.marks.items t.marks.items clauses (λ _. ⊥) (λ d. IsSince t t.read (watched x d) ⊎ ⊥) refl (λ l on. on)
@@ -182,13 +179,12 @@ tracing_base t x clauses b safe = record {
 }
 
 -- after assumptions only those are late that watch one of them
-pub tracing_assumed : (base now : Trail) (x : Watch) (clauses : List (List ℤ)) → IsBase base clauses → (x.on ≡ true → AreSafe x base.marks.items clauses) → IsTrail now
-    → IsConsistent now.marks.items → StaysOver base now → now.read ≡ base.read → IsPropagating now now x clauses now.read (λ _. ⊥)
-tracing_assumed base now x clauses b safe trail apart over read =
+pub tracing_assumed : (base now : Trail) (x : Watch) (clauses : List (List ℤ)) → IsBase base clauses → (x.on ≡ true → AreSafe x base.marks.items clauses)
+    → StaysOver base now → now.read ≡ base.read → IsPropagating now now x clauses now.read (λ _. ⊥)
+tracing_assumed base now x clauses b safe over read =
     let o : IsOver base.marks.items base.len now = over base.marks.items base.len (over_none base) in
     record {
-      trail = trail;
-      growth = growth_none now.marks.items clauses apart;
+      growth = growth_none now.marks.items clauses now.in_step.consistent;
       low = omega (arith, o.low, b.read);
       over = λ ms k h. h;
       guarded = λ is_on. guarded_map x x base.marks.items now.marks.items clauses (λ _. ⊥) (λ d. IsSince now now.read (watched x d) ⊎ ⊥) refl (λ l on. o.kept (code_of l) on)
@@ -230,10 +226,9 @@ module _ (query : List (List ℤ)) (n : ℕ) (lt : n < length query) (c r : List
     gathered_laced is_on = subst (λ cs. IsLaced y cs 0 0) taken (entered_laced old now next x y (take n query) c from h laced was chained room entry_is is_on)
 
 -- no clause is taken in yet
-pub gathered_none : (t : Trail) (x : Watch) (query : List (List ℤ)) → IsTrail t → IsConsistent t.marks.items → t.read ≤ t.len → IsPropagating t t x (take 0 query) t.read (λ _. ⊥)
-gathered_none t x query trail apart low = record {
-  trail = trail;
-  growth = growth_none t.marks.items (take 0 query) apart;
+pub gathered_none : (t : Trail) (x : Watch) (query : List (List ℤ)) → t.read ≤ t.len → IsPropagating t t x (take 0 query) t.read (λ _. ⊥)
+gathered_none t x query low = record {
+  growth = growth_none t.marks.items (take 0 query) t.in_step.consistent;
   low = low;
   over = λ base b o. o;
   guarded = λ is_on n lt. absurd (omega (arith, lt));

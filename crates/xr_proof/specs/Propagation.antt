@@ -5,7 +5,7 @@ use Rattle.xr_proof.specs.Closed.{IsQuiet, IsFalse}
 use Rattle.xr_proof.specs.Code.{code_of, is_false, IsConsistent, IsWithin}
 use Rattle.xr_proof.specs.Log.{clause_at}
 use Rattle.xr_proof.specs.Status.{IsOnlyOpen, literal_at}
-use Rattle.xr_proof.specs.Trail.{held, IsTrail, HasSince, IsPush, StaysOver}
+use Rattle.xr_proof.specs.Trail.{held, HasSince, IsPush, StaysOver}
 use Rattle.xr_proof.specs.declared.trail.Trail.{Trail}
 
 -- The marks grow, and stay within each quiet set that has the old ones; there no new one is in it together with its complement.
@@ -46,7 +46,6 @@ IsVisit old new clause = ((new ≡ old) × IsQuiet (held old) clause)
 -- Propagation is under way: each clause is quiet unless it still waits to be looked at, or one of its literals came at place
 -- `from` or later.
 pub record IsRunning (old now : Trail) (clauses : List (List ℤ)) (from : ℕ) (Waits : ℕ → Type 0) : Type 0 where
-  pub trail : IsTrail now
   pub growth : IsGrowth old.marks.items now.marks.items clauses
   pub low : from ≤ now.len
   pub over : StaysOver old now
@@ -55,8 +54,6 @@ pub record IsRunning (old now : Trail) (clauses : List (List ℤ)) (from : ℕ) 
 
 -- What the clauses propagate with nothing assumed is on the trail, all of it read.
 pub record IsBase (t : Trail) (clauses : List (List ℤ)) : Type 0 where
-  pub trail : IsTrail t
-  pub consistent : IsConsistent t.marks.items
   pub forced : AreForced t.marks.items clauses
   pub quiet : All (IsQuiet (held t)) clauses
   pub read : t.read ≡ t.len

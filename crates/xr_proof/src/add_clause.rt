@@ -1,47 +1,43 @@
 //! One more clause: its last open literal becomes true, or two open ones are watched. Linear in the clause.
 
-ghost use Rattle.std.specs.Prelude.{◌≡◌, true, false, length};
-ghost use Rattle.std.specs.List.{All};
-ghost use Rattle.xr_proof.specs.Closed.{IsFalse};
-ghost use Rattle.xr_proof.specs.Code.{HasRoom, IsConsistent};
-ghost use Rattle.xr_proof.specs.Guard.{IsTakenIn};
-ghost use Rattle.xr_proof.specs.Trail.{IsTrail, StaysOver, held};
-ghost use Rattle.xr_proof.specs.Watch.{HasSize, IsChained};
+ghost use Rattle.std.specs.Prelude.{◌≡◌, true, false};
 
 use crate::clause_status::{Status, status_of};
-use crate::trail::Trail;
-use crate::watch::Watch;
+use crate::propagator::Propagator;
 
-/// Takes in a clause: makes its last literal true where the others are false, or watches two that are open; whether all are false.
-pub(crate) fn add_clause(trail: &mut Trail, watch: &mut Watch, literals: &[i32]) -> bool
-    requires trail { IsTrail trail.old }
-    requires consistent { IsConsistent trail.old.marks.items }
-    requires room { All (HasRoom (length trail.old.marks.items)) literals.now }
-    requires sized { HasSize watch.old (length trail.old.marks.items) }
-    requires chained { watch.old.on ≡ true → IsChained watch.old 0 0 }
-    ensures conflict { result ≡ true → IsFalse (held trail.old) literals.now }
-    ensures entry { result ≡ false → IsTakenIn trail.old trail.new watch.old watch.new literals.now }
-    ensures trail { IsTrail trail.new }
-    ensures over { StaysOver trail.old trail.new }
-    ensures read { trail.new.read ≡ trail.old.read }
-    ensures sized { HasSize watch.new (length trail.old.marks.items) }
-    ensures chained { watch.new.on ≡ true → IsChained watch.new 0 0 }
-    ensures on { watch.new.on ≡ true → watch.old.on ≡ true }
-{
-    match status_of(&trail.marks, literals) {
-        Status::Met => {
-            watch.skip();
-            false
-        }
-        Status::False => true,
-        Status::Unit(k) => {
-            trail.affirm(literals, k);
-            watch.skip();
-            false
-        }
-        Status::Two(j, k) => {
-            watch.add(literals, j, k);
-            false
+impl Propagator {
+    ghost use Rattle.xr_proof.specs.Closed.{IsFalse};
+    ghost use Rattle.xr_proof.specs.Guard.{IsTakenIn};
+    ghost use Rattle.xr_proof.specs.Trail.{HasMarks, StaysOver, held};
+    ghost use Rattle.xr_proof.specs.Watch.{IsChained};
+
+    /// Takes in a clause: makes its last literal true where the others are false, or watches two that are open; whether all are false.
+    pub(crate) fn add_clause(&mut self, literals: &[i32]) -> bool
+        requires room { HasMarks self.old.trail literals.now }
+        requires chained { self.old.watch.on ≡ true → IsChained self.old.watch 0 0 }
+        ensures conflict { result ≡ true → IsFalse (held self.old.trail) literals.now }
+        ensures entry { result ≡ false →
+            IsTakenIn self.old.trail self.new.trail self.old.watch self.new.watch literals.now }
+        ensures over { StaysOver self.old.trail self.new.trail }
+        ensures read { self.new.trail.read ≡ self.old.trail.read }
+        ensures chained { self.new.watch.on ≡ true → IsChained self.new.watch 0 0 }
+        ensures on { self.new.watch.on ≡ true → self.old.watch.on ≡ true }
+    {
+        match status_of(&self.trail.marks, literals) {
+            Status::Met => {
+                self.watch.skip();
+                false
+            }
+            Status::False => true,
+            Status::Unit(k) => {
+                self.trail.affirm(literals, k);
+                self.watch.skip();
+                false
+            }
+            Status::Two(j, k) => {
+                self.watch.add(literals, j, k);
+                false
+            }
         }
     }
 }

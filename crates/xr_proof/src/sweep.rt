@@ -1,31 +1,28 @@
 //! Unit propagation without watches, by passes over all clauses until one changes nothing: the rounds times all literals.
 
-ghost use Rattle.std.specs.Prelude.{◌≡◌, ◌+◌, ◌++◌, true, false, length};
+ghost use Rattle.std.specs.Prelude.{◌≡◌, true, false};
 ghost use Rattle.std.specs.List.{All};
+ghost use Rattle.xr_proof.specs.Premises.{all_in};
 ghost use Rattle.xr_proof.specs.Closed.{IsQuiet, IsFalse};
-ghost use Rattle.xr_proof.specs.Code.{HasRoom, HaveRoom, IsConsistent};
 ghost use Rattle.xr_proof.specs.Propagation.{IsGrowth, AreRefuted, IsRunning, IsVisit};
-ghost use Rattle.xr_proof.specs.Trail.{IsTrail, StaysOver, held};
+ghost use Rattle.xr_proof.specs.Trail.{HasMarks, HaveMarks, StaysOver, held};
 
-use crate::clause::{Clause, literals_of};
 use crate::clause_status::{Status, status_of};
+use crate::premises::Premises;
 use crate::trail::Trail;
 
 /// Propagates until nothing changes; whether a clause became false.
-pub(crate) fn sweep(trail: &mut Trail, first: &[Clause], second: &[Clause]) -> bool
-    requires trail { IsTrail trail.old }
-    requires consistent { IsConsistent trail.old.marks.items }
-    requires room { HaveRoom (length trail.old.marks.items) (first.now ++ second.now) }
-    ensures conflict { result ≡ true → AreRefuted trail.old.marks.items (first.now ++ second.now) }
-    ensures growth { result ≡ false → IsGrowth trail.old.marks.items trail.new.marks.items (first.now ++ second.now) }
-    ensures quiet { result ≡ false → All (IsQuiet (held trail.new)) (first.now ++ second.now) }
+pub(crate) fn sweep(trail: &mut Trail, clauses: &Premises<'_>) -> bool
+    requires { HaveMarks trail.old (all_in clauses.now) }
+    ensures conflict { result ≡ true → AreRefuted trail.old.marks.items (all_in clauses.now) }
+    ensures growth { result ≡ false → IsGrowth trail.old.marks.items trail.new.marks.items (all_in clauses.now) }
+    ensures quiet { result ≡ false → All (IsQuiet (held trail.new)) (all_in clauses.now) }
     ensures read { result ≡ false → trail.new.read ≡ trail.new.len }
-    ensures trail { IsTrail trail.new }
     ensures over { StaysOver trail.old trail.new }
 {
     'rounds: loop {
         let len = trail.len;
-        if pass_once(trail, first, second) {
+        if pass_once(trail, clauses) {
             return true;
         }
         if trail.len == len {
@@ -36,18 +33,15 @@ pub(crate) fn sweep(trail: &mut Trail, first: &[Clause], second: &[Clause]) -> b
 }
 
 /// Looks at each clause once; whether one is false. Each clause is then quiet unless one of its literals came during the pass.
-pub(crate) fn pass_once(trail: &mut Trail, first: &[Clause], second: &[Clause]) -> bool
-    requires trail { IsTrail trail.old }
-    requires consistent { IsConsistent trail.old.marks.items }
-    requires room { HaveRoom (length trail.old.marks.items) (first.now ++ second.now) }
-    ensures conflict { result ≡ true → AreRefuted trail.old.marks.items (first.now ++ second.now) }
-    ensures running { result ≡ false → IsRunning trail.old trail.new (first.now ++ second.now) trail.old.len (λ _. ⊥) }
-    ensures trail { IsTrail trail.new }
+pub(crate) fn pass_once(trail: &mut Trail, clauses: &Premises<'_>) -> bool
+    requires { HaveMarks trail.old (all_in clauses.now) }
+    ensures conflict { result ≡ true → AreRefuted trail.old.marks.items (all_in clauses.now) }
+    ensures running { result ≡ false → IsRunning trail.old trail.new (all_in clauses.now) trail.old.len (λ _. ⊥) }
     ensures over { StaysOver trail.old trail.new }
     ensures read { trail.new.read ≡ trail.old.read }
 {
-    for n in 0..first.len() + second.len() {
-        if visit(trail, literals_of(first, second, n)) {
+    for n in 0..clauses.len() {
+        if visit(trail, clauses.literals(n)) {
             return true;
         }
     }
@@ -56,12 +50,9 @@ pub(crate) fn pass_once(trail: &mut Trail, first: &[Clause], second: &[Clause]) 
 
 /// Looks at a clause, and makes its last literal true where the others are false; whether all are.
 pub(crate) fn visit(trail: &mut Trail, literals: &[i32]) -> bool
-    requires trail { IsTrail trail.old }
-    requires consistent { IsConsistent trail.old.marks.items }
-    requires room { All (HasRoom (length trail.old.marks.items)) literals.now }
+    requires { HasMarks trail.old literals.now }
     ensures conflict { result ≡ true → IsFalse (held trail.old) literals.now }
     ensures visit { result ≡ false → IsVisit trail.old trail.new literals.now }
-    ensures trail { IsTrail trail.new }
     ensures over { StaysOver trail.old trail.new }
     ensures read { trail.new.read ≡ trail.old.read }
 {

@@ -4,10 +4,10 @@
 ghost use Rattle.std.specs.Prelude.{◌≡◌, ◌<◌, ◌↔◌, true, false, length, IsTrue};
 ghost use Rattle.std.specs.List.{All};
 ghost use Rattle.xr_proof.specs.Closed.{IsFalse};
-ghost use Rattle.xr_proof.specs.Code.{HasRoom, IsConsistent};
+ghost use Rattle.xr_proof.specs.Code.{HasRoom};
 ghost use Rattle.xr_proof.specs.Guard.{IsSought, IsAction, IsHandled};
 ghost use Rattle.xr_proof.specs.Status.{literal_at};
-ghost use Rattle.xr_proof.specs.Trail.{IsTrail, StaysOver, held};
+ghost use Rattle.xr_proof.specs.Trail.{HasMarks, StaysOver, held};
 ghost use Rattle.xr_proof.specs.Watch.{IsPair, watched};
 
 use crate::clause_status::{Value, is_marked, value_at};
@@ -31,17 +31,15 @@ pub(crate) fn handle(
     entry: usize,
     twin: usize,
 ) -> bool
-    requires trail { IsTrail trail.old }
-    requires consistent { IsConsistent trail.old.marks.items }
-    requires room { All (HasRoom (length trail.old.marks.items)) literals.now }
+    requires room { HasMarks trail.old literals.now }
     requires pair { IsPair literals.now (watched watch.old entry) (watched watch.old twin) }
     requires room_twin { HasRoom (length trail.old.marks.items) (watched watch.old twin) }
-    requires entry { entry < length watch.old.literals.items }
-    requires twin { twin < length watch.old.literals.items }
+    requires entry { entry < length watch.old.nexts.items }
+    requires twin { twin < length watch.old.nexts.items }
     ensures conflict { result ≡ true → IsFalse (held trail.old) literals.now }
     ensures same { result ≡ true → watch.new ≡ watch.old }
     ensures turn { result ≡ false → IsHandled trail.old trail.new watch.old watch.new literals.now entry twin }
-    ensures trail { IsTrail trail.new }
+    ensures size { length watch.new.heads.items ≡ length watch.old.heads.items }
     ensures over { StaysOver trail.old trail.new }
     ensures read { trail.new.read ≡ trail.old.read }
 {

@@ -9,6 +9,7 @@ use Rattle.std.specs.List.{All}
 use Rattle.xr_proof.specs.Code.{is_false, code_of, HasRoom, IsWithin}
 use Rattle.xr_proof.specs.Status.{literal_at}
 use Rattle.xr_proof.specs.Trail.{held, code_at, IsOver, StaysOver}
+use Rattle.xr_proof.specs.declared.propagator.Propagator.{Propagator}
 use Rattle.xr_proof.specs.declared.trail.Trail.{Trail}
 use Rattle.xr_proof.proofs.Trails.{over_none}
 use Rattle.xr_sat.specs.Decide.{IsLiteralOf, HasValue, HasNone, AreValued, IsNext}
@@ -94,11 +95,11 @@ open_not_true marks n l is none = elim is [
 ]
 
 -- what the decisions so far came to, if the last one leads to a conflict
-pub candidate_from : (t : Trail) (clauses : List (List ℤ)) (c : List ℤ) → IsSettled t clauses → IsFrom t.marks.items clauses (front_of c) → 0 < length c
-    → is_false t.marks.items (neg_ℤ (last_of c)) ≡ false → IsCandidate clauses c (held t)
-candidate_from t clauses c s from some off = record {
+pub candidate_from : (p : Propagator) (clauses : List (List ℤ)) (c : List ℤ) → IsSettled p clauses → IsFrom p.trail.marks.items clauses (front_of c) → 0 < length c
+    → is_false p.trail.marks.items (neg_ℤ (last_of c)) ≡ false → IsCandidate clauses c (held p.trail)
+candidate_from p clauses c s from some off = record {
   filled = some;
-  asserting = record { quiet = s.quiet; apart = s.consistent; not_true = off; rest_false = from.assumed };
+  asserting = record { quiet = s.quiet; apart = p.trail.in_step.consistent; not_true = off; rest_false = from.assumed };
 }
 
 pub open_not_false : (marks : List Bool) (n : ℕ) (l : ℤ) → IsLiteralOf n l → HasNone marks n → is_false marks l ≡ false

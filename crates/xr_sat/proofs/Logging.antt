@@ -10,14 +10,14 @@ use Rattle.xr_proof.specs.Assignment.{HasNoZero, IsMet, IsModel, assigned, value
 use Rattle.xr_proof.specs.Closed.{IsQuiet, AreContrary}
 use Rattle.xr_proof.specs.Code.{is_false, code_of, HasRoom, HaveRoom}
 use Rattle.xr_proof.specs.Follows.{Follows}
-use Rattle.xr_proof.specs.Guard.{Watches}
+use Rattle.xr_proof.specs.Guard.{GoesOnServing, Watches}
 use Rattle.xr_proof.specs.Lines.{IsReady}
 use Rattle.xr_proof.specs.Log.{before, clause_at, IsFresh, AreFresh, Refutes, DoesFollow, Fit}
-use Rattle.xr_proof.specs.Trail.{IsKept}
-use Rattle.xr_proof.specs.Watch.{HasSize}
-use Rattle.xr_proof.specs.declared.trail.Trail.{Trail}
-use Rattle.xr_proof.specs.declared.watch.Watch.{Watch}
-use Rattle.xr_proof.proofs.Bases.{follows_contrary, ready_kept}
+use Rattle.xr_proof.specs.Propagation.{IsBase}
+use Rattle.xr_proof.specs.Propagator.{ComesBack}
+use Rattle.xr_proof.specs.Trail.{HaveMarks}
+use Rattle.xr_proof.specs.declared.propagator.Propagator.{Propagator}
+use Rattle.xr_proof.proofs.Bases.{follows_contrary}
 use Rattle.xr_proof.proofs.Deciding.{find_or_none}
 use Rattle.xr_proof.proofs.ClosedSets.{all_from}
 use Rattle.xr_sat.specs.Decide.{AreValued}
@@ -114,9 +114,6 @@ pub fit_with_room : (vars n : ℕ) (log : List (List ℤ)) → n ≡ 2 * vars + 
 fit_with_room vars n log e room = All-weaker (All (λ l. (code_of l < n) × (code_of (neg_ℤ l) < n))) (All (λ l. nat_abs l ≤ vars))
     (λ c all. All-weaker (λ l. (code_of l < n) × (code_of (neg_ℤ l) < n)) (λ l. nat_abs l ≤ vars) (λ l r. within vars n l e r.0) c all) log room
 
-pub room_both : (n m : ℕ) (query log : List (List ℤ)) → m ≡ n → HaveRoom n query → HaveRoom n log → HaveRoom m (query ++ log)
-room_both n m query log e a b = subst (λ i. HaveRoom i (query ++ log)) (sym e) (All-append (All (λ l. (code_of l < n) × (code_of (neg_ℤ l) < n))) query log a b)
-
 pub quiet_query : (f : ℤ → Bool) (query log : List (List ℤ)) → All (IsQuiet f) (query ++ log) → All (IsQuiet f) query
 quiet_query f query log quiet = all_from (IsQuiet f) query (λ c here. All-contains (IsQuiet f) (query ++ log) c quiet (Contains-append_left query log c here))
 
@@ -129,7 +126,14 @@ before_last query log new c k is e =
 pub length_logged : (log new : List (List ℤ)) (c : List ℤ) → new ≡ log ++ c ∷ [] → length new ≡ length log + 1
 length_logged log new c is = omega (arith, ap length is, length-append log (c ∷ []))
 
-pub ready_next : (old new : Trail) (x y : Watch) (refuted : Bool) (clauses after : List (List ℤ)) → IsReady old x refuted clauses → refuted ≡ false → IsKept old new
-    → HasSize y (length old.marks.items) → Watches y old.marks.items clauses → clauses ≡ after → IsReady new y false after
-ready_next old new x y refuted clauses after ready e kept sized watches same = subst (IsReady new y false) same
-    (ready_kept old new x y false clauses (subst (λ b. IsReady old x b clauses) e ready) kept sized (λ _. watches))
+-- with wider watches too the propagator is at its base
+pub ready_next : (old mid new : Propagator) (clauses after : List (List ℤ)) → ComesBack old mid clauses → new.trail ≡ mid.trail → GoesOnServing mid.watch new.watch → clauses ≡ after
+    → IsReady new false after
+ready_next old mid new clauses after back trail serving same = subst (IsReady new false) same (record {
+  contrary = λ e. absurd (false≢true e);
+  base = λ _. record {
+    room = subst (λ t. HaveMarks t clauses) (sym trail) back.base.room;
+    base = subst (λ t. IsBase t clauses) (sym trail) back.base.base;
+    watches = subst (λ t. Watches new.watch t.marks.items clauses) (sym trail) (serving mid.trail.marks.items clauses back.base.watches);
+  };
+})

@@ -6,14 +6,15 @@ use Rattle.std.proofs.lemmas.List.Elements.{All-contains, All-weaker, All-append
 use Rattle.std.specs.Prelude.{ℤ, pos, neg_ℤ}
 use Rattle.std.specs.List.{Contains}
 use Rattle.xr_proof.specs.Closed.{IsFalse, NoneResists}
-use Rattle.xr_proof.specs.Code.{is_false, code_of, IsConsistent, IsWithin}
-use Rattle.xr_proof.specs.Guard.{AreSafe, IsSince, IsPropagating}
+use Rattle.xr_proof.specs.Code.{is_false, code_of, HaveRoom, IsWithin}
+use Rattle.xr_proof.specs.Guard.{IsSince, IsPropagating}
 use Rattle.xr_proof.specs.Status.{literal_at}
 use Rattle.xr_proof.specs.Propagation.{IsGrowth, AreRefuted, IsBase}
-use Rattle.xr_proof.specs.Trail.{held, IsTrail, StaysOver, IsOver}
+use Rattle.xr_proof.specs.Propagator.{HasPropagated, IsAtBase, LeadsBack}
+use Rattle.xr_proof.specs.Trail.{held, HaveMarks, StaysOver, IsOver}
 use Rattle.xr_proof.specs.Watch.{watched}
+use Rattle.xr_proof.specs.declared.propagator.Propagator.{Propagator}
 use Rattle.xr_proof.specs.declared.trail.Trail.{Trail}
-use Rattle.xr_proof.specs.declared.watch.Watch.{Watch}
 use Rattle.xr_proof.proofs.Codes.{neg-neg, marked_same, marked_more, marked_cases}
 use Rattle.xr_proof.proofs.Guards.{guarded_map}
 use Rattle.xr_proof.proofs.Assuming.{in_whole}
@@ -22,8 +23,8 @@ use Rattle.xr_proof.proofs.Runs.{growth_none}
 use Rattle.xr_proof.proofs.Trails.{over_none}
 use Rattle.xr_sat.specs.Reach.{IsSettled, IsFrom}
 
-pub settled_base : (t : Trail) (clauses : List (List ℤ)) → IsBase t clauses → IsSettled t clauses
-settled_base t clauses b = record { trail = b.trail; consistent = b.consistent; quiet = b.quiet; read = b.read }
+pub settled_base : (p : Propagator) (clauses : List (List ℤ)) → IsAtBase p clauses → IsSettled p clauses
+settled_base p clauses b = record { room = b.room; quiet = b.base.quiet; read = b.base.read; watches = b.watches }
 
 pub from_base : (t : Trail) (clauses : List (List ℤ)) → IsBase t clauses → IsFrom t.marks.items clauses []
 from_base t clauses b = record {
@@ -98,21 +99,29 @@ module _ (marks : List Bool) (clauses : List (List ℤ)) (c : List ℤ) (h : IsF
   conflict_if_refuted refuted f r = refuted f r.quiet (λ l on. (h.forced f r.quiet r.assumed l on).0)
 
 -- after one more literal only those entries are late that watch it
-pub tracing_push : (base now : Trail) (x : Watch) (clauses : List (List ℤ)) → IsSettled base clauses → (x.on ≡ true → AreSafe x base.marks.items clauses) → IsTrail now
-    → IsConsistent now.marks.items → StaysOver base now → now.read ≡ base.read → IsPropagating now now x clauses now.read (λ _. ⊥)
-tracing_push base now x clauses b safe trail apart over read =
-    let o : IsOver base.marks.items base.len now = over base.marks.items base.len (over_none base) in
+pub tracing_push : (base : Propagator) (now : Trail) (clauses : List (List ℤ)) → IsSettled base clauses → StaysOver base.trail now → now.read ≡ base.trail.read
+    → IsPropagating now now base.watch clauses now.read (λ _. ⊥)
+tracing_push base now clauses b over read =
+    let o : IsOver base.trail.marks.items base.trail.len now = over base.trail.marks.items base.trail.len (over_none base.trail) in
     record {
-      trail = trail;
-      growth = growth_none now.marks.items clauses apart;
+      growth = growth_none now.marks.items clauses now.in_step.consistent;
       low = omega (arith, o.low, b.read);
       over = λ ms k h. h;
-      guarded = λ is_on. guarded_map x x base.marks.items now.marks.items clauses (λ _. ⊥) (λ d. IsSince now now.read (watched x d) ⊎ ⊥) refl (λ l on. o.kept (code_of l) on)
-          (λ d lt some on none. elim (o.traced (code_of (watched x d)) on) [
+      guarded = λ is_on. guarded_map base.watch base.watch base.trail.marks.items now.marks.items clauses (λ _. ⊥) (λ d. IsSince now now.read (watched base.watch d) ⊎ ⊥) refl (λ l on. o.kept (code_of l) on)
+          (λ d lt some on none. elim (o.traced (code_of (watched base.watch d)) on) [
             | inl a ↦ absurd (none a)
             | inr late ↦ let (j, low, high, e) = late in inl (j, omega (arith, b.read), high, e)
-          ]) (safe is_on);
+          ]) (b.watches is_on).safe;
     }
+
+-- propagation after one more literal
+pub settled_push : (mid new : Propagator) (clauses : List (List ℤ)) → HaveMarks mid.trail clauses → HasPropagated mid new clauses → LeadsBack mid new clauses → IsSettled new clauses
+settled_push mid new clauses room done back = record {
+  room = subst (λ n. HaveRoom n clauses) (sym done.growth.sized) room;
+  quiet = done.quiet;
+  read = done.read;
+  watches = λ on. record { laced = back.laced on; safe = done.safe on };
+}
 
 -- what a part of a clause has, the clause has
 pub taken_wider : (clauses : List (List ℤ)) (c : List ℤ) (k : ℕ) → NoneResists clauses (take k c) → NoneResists clauses c

@@ -2,7 +2,10 @@
 use Rattle.std.specs.Prelude.{◌≡◌, ◌≢◌, ℕ, ◌<◌, ◌-◌, Bool, true, false, List, ◌++◌, length, ℤ, neg_ℤ, take}
 use Rattle.std.specs.List.{All, Contains}
 use Rattle.xr_proof.specs.Closed.{IsFalse, IsQuiet, NoneResists}
+use Rattle.xr_proof.specs.Code.{HasRoom, is_false}
 use Rattle.xr_proof.specs.Status.{literal_at}
+use Rattle.xr_proof.specs.Trail.{HasMarks}
+use Rattle.xr_proof.specs.declared.trail.Trail.{Trail}
 use Rattle.xr_sat.specs.Reach.{IsFixed, IsMet}
 use Rattle.xr_sat.specs.declared.tighten.Found.{Found}
 use Rattle.xr_sat.specs.declared.tighten.Found.TheVariants.{Nowhere, Kept, Rest}
@@ -47,3 +50,15 @@ front_of clause = take (length clause - 1) clause
 pub record IsCandidate (clauses : List (List ℤ)) (clause : List ℤ) (f : ℤ → Bool) : Type 0 where
   pub filled : 0 < length clause
   pub asserting : IsAsserting clauses (last_of clause) (front_of clause) f
+
+-- there are marks for a candidate's literals
+pub record CanBeTried (t : Trail) (clauses : List (List ℤ)) (clause : List ℤ) : Type 0 where
+  pub room : HasMarks t clause
+  pub candidate : (f : ℤ → Bool) × IsCandidate clauses clause f
+
+-- under the marks the clause's literals but the last are false, and the last isn't true
+pub record IsAssertingNow (marks : List Bool) (clause : List ℤ) : Type 0 where
+  pub room : All (HasRoom (length marks)) clause
+  pub filled : 0 < length clause
+  pub rest : IsFalse (is_false marks) (front_of clause)
+  pub not_true : is_false marks (neg_ℤ (last_of clause)) ≡ false

@@ -2,14 +2,12 @@
 //! from the false clause. Linear in the trail and in the clauses that watch a literal which it meets. No reasons are kept: the clause
 //! that forced a literal watches it, and its other literals came earlier.
 
+use crate::found_conflict::FoundConflict;
 use crate::reads::{flag_at, number_at, set_flag, set_number};
 use crate::scores::Scores;
 use std::alloc::{AllocError, Global};
-use xr_proof::Clause;
-use xr_proof::clause::literals_of;
 use xr_proof::code::code;
 use xr_proof::trail::Trail;
-use xr_proof::watch::Watch;
 
 /// For each code whether the analysis met it, and its place on the trail; and the clause that the analysis came to.
 #[derive(Drop)]
@@ -36,45 +34,34 @@ impl Analysis {
         self.candidate.as_slice()
     }
 
-    /// Looks for the first unique implication point of the last level, which begins at `top`; leaves the candidate empty where
-    /// there is none.
-    pub(crate) fn find(
-        &mut self,
-        scores: &mut Scores,
-        trail: &Trail,
-        watch: &Watch,
-        first: &[Clause],
-        second: &[Clause],
-        base: usize,
-        top: usize,
-    ) {
+    /// Looks for the first unique implication point of the last level; leaves the candidate empty where there is none.
+    pub(crate) fn find(&mut self, scores: &mut Scores, conflict: &FoundConflict<'_>) {
+        let trail = &conflict.propagator.trail;
         self.start(trail);
         if trail.read == 0 {
             return;
         }
         let last = number_at(&trail.codes, trail.read - 1);
-        let Some(conflict) = self.clause_of(trail, watch, first, second, last, last, trail.len)
-        else {
+        let Some(owner) = self.clause_of(conflict, last, last, trail.len) else {
             return;
         };
-        let mut open = self.meet(scores, trail, first, second, conflict, base, top);
+        let mut open = self.meet(scores, conflict, owner);
         let mut at = trail.len;
-        'points: while at > top {
+        'points: while at > conflict.top {
             at -= 1;
             let here = number_at(&trail.codes, at);
             if !flag_at(&self.seen, here) {
                 continue;
             }
             if open <= 1 {
-                self.write(trail, base, top, here);
+                self.write(conflict, here);
                 return;
             }
             open -= 1;
-            let Some(reason) = self.clause_of(trail, watch, first, second, twin(here), here, at)
-            else {
+            let Some(reason) = self.clause_of(conflict, twin(here), here, at) else {
                 return;
             };
-            open = open.saturating_add(self.meet(scores, trail, first, second, reason, base, top));
+            open = open.saturating_add(self.meet(scores, conflict, reason));
         }
     }
 
@@ -93,22 +80,21 @@ impl Analysis {
     /// of the literal of code `forced`. In a conflict the watched literal is false itself.
     fn clause_of(
         &self,
-        trail: &Trail,
-        watch: &Watch,
-        first: &[Clause],
-        second: &[Clause],
+        conflict: &FoundConflict<'_>,
         watched: usize,
         forced: usize,
         before: usize,
     ) -> Option<usize> {
+        let trail = &conflict.propagator.trail;
+        let watch = &conflict.propagator.watch;
         let mut at = number_at(&watch.heads, watched);
         for _ in 0..number_at(&watch.counts, watched) {
             if at == 0 {
                 return None;
             }
             let owner = (at - 1) / 2;
-            if owner < first.len() + second.len() {
-                let literals = literals_of(first, second, owner);
+            if owner < conflict.clauses.len() {
+                let literals = conflict.clauses.literals(owner);
                 if self.are_before(trail, literals, twin(forced), before) {
                     return Some(owner);
                 }
@@ -134,26 +120,21 @@ impl Analysis {
     }
 
     /// Meets the false literals of a clause; how many are new and of the last level.
-    fn meet(
-        &mut self,
-        scores: &mut Scores,
-        trail: &Trail,
-        first: &[Clause],
-        second: &[Clause],
-        owner: usize,
-        base: usize,
-        top: usize,
-    ) -> usize {
+    fn meet(&mut self, scores: &mut Scores, conflict: &FoundConflict<'_>, owner: usize) -> usize {
+        let trail = &conflict.propagator.trail;
         let mut count: usize = 0;
-        if owner < first.len() + second.len() {
-            for literal in literals_of(first, second, owner) {
+        if owner < conflict.clauses.len() {
+            for literal in conflict.clauses.literals(owner) {
                 if *literal != 0 {
                     let here = code(*literal);
                     let place = number_at(&self.places, here);
-                    if flag_at(&trail.marks, here) && !flag_at(&self.seen, here) && place >= base {
+                    if flag_at(&trail.marks, here)
+                        && !flag_at(&self.seen, here)
+                        && place >= conflict.base
+                    {
                         set_flag(&mut self.seen, here, true);
                         scores.bump((here / 2).saturating_sub(1));
-                        if place >= top {
+                        if place >= conflict.top {
                             count = count.saturating_add(1);
                         }
                     }
@@ -164,8 +145,9 @@ impl Analysis {
     }
 
     /// Writes the candidate: the literals of earlier levels in the order of the trail, and the one of the last level.
-    fn write(&mut self, trail: &Trail, base: usize, top: usize, point: usize) {
-        for j in base..top {
+    fn write(&mut self, conflict: &FoundConflict<'_>, point: usize) {
+        let trail = &conflict.propagator.trail;
+        for j in conflict.base..conflict.top {
             let here = number_at(&trail.codes, j);
             if flag_at(&self.seen, here) {
                 if self.candidate.push(literal_of(here)).is_err() {

@@ -1,62 +1,50 @@
 //! Deciding variables until all have a value or there is a conflict.
 
-ghost use Rattle.std.specs.Prelude.{◌≡◌, ◌≤◌, ◌<◌, ◌+◌, ◌*◌, ◌++◌, ◌∷◌, [], ℕ, ℤ, true, false, length, pos, neg_ℤ, IfOk, IfSome, IfNone, OnOk};
-ghost use Rattle.std.specs.List.{All};
-ghost use Rattle.xr_proof.specs.Code.{HasRoom, HaveRoom, IsWithin, is_false};
-ghost use Rattle.xr_proof.specs.Guard.{Watches};
-ghost use Rattle.xr_proof.specs.Propagation.{IsBase};
-ghost use Rattle.xr_proof.specs.Trail.{IsTrail, StaysOver, held};
-ghost use Rattle.xr_proof.specs.Watch.{HasSize};
+ghost use Rattle.std.specs.Prelude.{◌≡◌, ◌≤◌, ◌<◌, ◌+◌, ◌*◌, ◌++◌, ◌∷◌, [], ℕ, ℤ, true, false, length, neg_ℤ, IfOk, IfSome, IfNone, OnOk};
+ghost use Rattle.xr_proof.specs.Premises.{all_in};
+ghost use Rattle.xr_proof.specs.Code.{is_false};
+ghost use Rattle.xr_proof.specs.Propagator.{IsAtBase, LeadsBack};
+ghost use Rattle.xr_proof.specs.Trail.{HasMarks};
 ghost use Rattle.xr_sat.specs.Decide.{IsLiteralOf, HasValue, HasNone, AreValued, IsNext, IsConflict};
 ghost use Rattle.xr_sat.specs.Learn.{last_of, front_of};
-ghost use Rattle.xr_sat.specs.Reach.{IsSettled, IsFrom, KeepsServing};
+ghost use Rattle.xr_sat.specs.Reach.{IsSettled, IsFrom};
 
+use crate::found_conflict::FoundConflict;
 use crate::hints::Hints;
 use crate::reach::reach;
 use std::alloc::AllocError;
-use xr_proof::Clause;
-use xr_proof::trail::Trail;
-use xr_proof::watch::Watch;
+use xr_proof::premises::Premises;
+use xr_proof::propagator::Propagator;
 
 /// Decides open variables, the lowest first or as the hints say, each to the value that it had last; whether there is a conflict. The trail is
 /// then that before the last decision. A decision is kept as the literal that it makes false.
 pub(crate) fn descend(
-    trail: &mut Trail,
-    watch: &mut Watch,
-    first: &[Clause],
-    second: &[Clause],
+    propagator: &mut Propagator,
+    clauses: &Premises<'_>,
     vars: usize,
     hints: &mut Hints,
     decisions: &mut Vec<i32>,
 ) -> Result<bool, AllocError>
-    requires base { IsBase trail.old (first.now ++ second.now) }
-    requires sized { HasSize watch.old (length trail.old.marks.items) }
-    requires watches { Watches watch.old trail.old.marks.items (first.now ++ second.now) }
-    requires room { HaveRoom (length trail.old.marks.items) (first.now ++ second.now) }
+    requires base { IsAtBase propagator.old (all_in clauses.now) }
     requires vars { vars ≤ 2147483647 }
-    requires codes { length trail.old.marks.items ≡ 2 * vars + 2 }
+    requires codes { length propagator.old.trail.marks.items ≡ 2 * vars + 2 }
     requires none { decisions.old.items ≡ [] }
-    ensures settled { IfOk result (λ b. b ≡ false → IsSettled trail.new (first.now ++ second.now)) }
-    ensures valued { IfOk result (λ b. b ≡ false → AreValued trail.new.marks.items vars) }
+    ensures settled { IfOk result (λ b. b ≡ false → IsSettled propagator.new (all_in clauses.now)) }
+    ensures valued { IfOk result (λ b. b ≡ false → AreValued propagator.new.trail.marks.items vars) }
     ensures conflict { IfOk result (λ b.
-        b ≡ true → IsConflict trail.new (first.now ++ second.now) decisions.new.items) }
-    ensures room_decisions { OnOk result (All (HasRoom (length trail.old.marks.items)) decisions.new.items) }
-
-    // the way back
-    ensures trail { OnOk result (IsTrail trail.new) }
-    ensures over { OnOk result (StaysOver trail.old trail.new) }
-    ensures sized { OnOk result (HasSize watch.new (length trail.old.marks.items)) }
-    ensures stays { OnOk result (KeepsServing watch.old watch.new trail.old.marks.items (first.now ++ second.now)) }
+        b ≡ true → IsConflict propagator.new.trail (all_in clauses.now) decisions.new.items) }
+    ensures room { OnOk result (HasMarks propagator.old.trail decisions.new.items) }
+    ensures back { OnOk result (LeadsBack propagator.old propagator.new (all_in clauses.now)) }
 {
-    let base = trail.len;
+    let base = propagator.trail.len;
     let mut cursor = 0;
     'levels: loop {
-        let hinted = hints.next_variable(trail);
-        match choose(&trail.marks, hinted, &mut cursor, vars) {
+        let hinted = hints.next_variable(&propagator.trail);
+        match choose(&propagator.trail.marks, hinted, &mut cursor, vars) {
             None => return Ok(false),
             Some(n) => {
                 push_decision(decisions, hints, n)?;
-                if attempt(trail, watch, first, second, decisions, base, hints) {
+                if attempt(propagator, clauses, decisions, base, hints) {
                     return Ok(true);
                 }
             }
@@ -66,41 +54,33 @@ pub(crate) fn descend(
 
 /// Makes the last decision; whether it leads to a conflict. The trail is then as it was.
 fn attempt(
-    trail: &mut Trail,
-    watch: &mut Watch,
-    first: &[Clause],
-    second: &[Clause],
+    propagator: &mut Propagator,
+    clauses: &Premises<'_>,
     decisions: &[i32],
     base: usize,
     hints: &mut Hints,
 ) -> bool
-    requires settled { IsSettled trail.old (first.now ++ second.now) }
+    requires settled { IsSettled propagator.old (all_in clauses.now) }
     requires filled { 0 < length decisions.now }
-    requires from { IsFrom trail.old.marks.items (first.now ++ second.now) (front_of decisions.now) }
-    requires not_false { is_false trail.old.marks.items (last_of decisions.now) ≡ false }
-    requires not_true { is_false trail.old.marks.items (neg_ℤ (last_of decisions.now)) ≡ false }
-    requires room { HaveRoom (length trail.old.marks.items) (first.now ++ second.now) }
-    requires room_decisions { All (HasRoom (length trail.old.marks.items)) decisions.now }
-    requires sized { HasSize watch.old (length trail.old.marks.items) }
-    requires watches { Watches watch.old trail.old.marks.items (first.now ++ second.now) }
-    ensures conflict { result ≡ true → IsConflict trail.new (first.now ++ second.now) decisions.now }
-    ensures settled { result ≡ false → IsSettled trail.new (first.now ++ second.now) }
-    ensures from { result ≡ false → IsFrom trail.new.marks.items (first.now ++ second.now) decisions.now }
-    ensures watches { result ≡ false → Watches watch.new trail.new.marks.items (first.now ++ second.now) }
-    ensures longer { result ≡ false → trail.old.len < trail.new.len }
-    ensures grows { IsWithin trail.old.marks.items (held trail.new) }
-
-    // the way back
-    ensures trail { IsTrail trail.new }
-    ensures over { StaysOver trail.old trail.new }
-    ensures sized { HasSize watch.new (length trail.old.marks.items) }
-    ensures stays { KeepsServing watch.old watch.new trail.old.marks.items (first.now ++ second.now) }
+    requires from { IsFrom propagator.old.trail.marks.items (all_in clauses.now) (front_of decisions.now) }
+    requires not_false { is_false propagator.old.trail.marks.items (last_of decisions.now) ≡ false }
+    requires not_true { is_false propagator.old.trail.marks.items (neg_ℤ (last_of decisions.now)) ≡ false }
+    requires room { HasMarks propagator.old.trail decisions.now }
+    ensures conflict { result ≡ true → IsConflict propagator.new.trail (all_in clauses.now) decisions.now }
+    ensures settled { result ≡ false → IsSettled propagator.new (all_in clauses.now) }
+    ensures from { result ≡ false → IsFrom propagator.new.trail.marks.items (all_in clauses.now) decisions.now }
+    ensures longer { result ≡ false → propagator.old.trail.len < propagator.new.trail.len }
+    ensures back { LeadsBack propagator.old propagator.new (all_in clauses.now) }
 {
-    let len = trail.len;
-    if reach(trail, watch, first, second, decisions, decisions.len() - 1) {
-        hints.take_conflict(trail, watch, first, second, base, len);
-        trail.undo(len);
-        trail.read = len;
+    let len = propagator.trail.len;
+    if reach(propagator, clauses, decisions, decisions.len() - 1) {
+        hints.take_conflict(&FoundConflict {
+            propagator,
+            clauses,
+            base,
+            top: len,
+        });
+        propagator.trail.undo(len);
         return true;
     }
     false

@@ -2,12 +2,11 @@
 //! hint says is tested before it counts, so a wrong one costs time alone.
 
 use crate::analysis::Analysis;
+use crate::found_conflict::FoundConflict;
 use crate::phases::Phases;
 use crate::scores::Scores;
 use std::alloc::{AllocError, Global};
-use xr_proof::Clause;
 use xr_proof::trail::Trail;
-use xr_proof::watch::Watch;
 
 /// Decisions take the variable of the highest score in every second round, else the lowest one.
 #[derive(Drop)]
@@ -32,22 +31,14 @@ impl Hints {
         })
     }
 
-    /// Learns from a conflict: the last level begins at `top` on the trail, and what holds with no decision ends at `base`.
-    pub(crate) fn take_conflict(
-        &mut self,
-        trail: &Trail,
-        watch: &Watch,
-        first: &[Clause],
-        second: &[Clause],
-        base: usize,
-        top: usize,
-    ) {
-        self.phases.note(trail);
-        self.scores.put_back(trail, base);
+    /// Learns from a conflict.
+    pub(crate) fn take_conflict(&mut self, conflict: &FoundConflict<'_>) {
+        self.phases.note(&conflict.propagator.trail);
+        self.scores
+            .put_back(&conflict.propagator.trail, conflict.base);
         self.by_score = !self.by_score;
         self.scores.grow();
-        self.analysis
-            .find(&mut self.scores, trail, watch, first, second, base, top);
+        self.analysis.find(&mut self.scores, conflict);
     }
 
     /// The clause that the last conflict suggests, none if it is empty. Its last literal is the one of the last level.

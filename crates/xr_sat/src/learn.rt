@@ -1,87 +1,66 @@
 //! Learning a fresh clause from one that follows.
 
-ghost use Rattle.std.specs.Prelude.{◌≡◌, ◌<◌, ◌+◌, ◌*◌, ◌++◌, ℤ, Bool, true, false, length, neg_ℤ, IfOk, IfSome, IfNone, OnOk};
+ghost use Rattle.std.specs.Prelude.{◌≡◌, ◌<◌, ◌+◌, ◌*◌, true, false, length, neg_ℤ, IfOk, IfSome, IfNone, OnOk};
 ghost use Rattle.std.specs.List.{All};
+ghost use Rattle.xr_proof.specs.Premises.{all_in};
 ghost use Rattle.xr_proof.specs.Closed.{NoneResists, IsFalse};
-ghost use Rattle.xr_proof.specs.Code.{HasRoom, HaveRoom, is_false};
-ghost use Rattle.xr_proof.specs.Guard.{Watches};
+ghost use Rattle.xr_proof.specs.Code.{HasRoom, is_false};
 ghost use Rattle.xr_proof.specs.Log.{IsFresh};
+ghost use Rattle.xr_proof.specs.Propagator.{ComesBack, IsAtBase};
 ghost use Rattle.xr_proof.specs.Status.{literal_at};
-ghost use Rattle.xr_proof.specs.Propagation.{IsBase};
-ghost use Rattle.xr_proof.specs.Trail.{IsKept};
-ghost use Rattle.xr_proof.specs.Watch.{HasSize};
-ghost use Rattle.xr_sat.specs.Learn.{IsCandidate, front_of, last_of};
+ghost use Rattle.xr_proof.specs.Trail.{HasMarks};
+ghost use Rattle.xr_sat.specs.Learn.{CanBeTried, IsAssertingNow};
 
 use crate::tighten::{push_at, tighten};
 use std::alloc::{AllocError, Global};
-use xr_proof::Clause;
 use xr_proof::clause_status::{Value, is_marked, value_at};
-use xr_proof::trail::Trail;
-use xr_proof::watch::Watch;
+use xr_proof::premises::Premises;
+use xr_proof::propagator::Propagator;
 
 /// The tight part of a candidate, which is fresh; or none, where the candidate doesn't follow.
 pub(crate) fn learn_from(
     alloc: Global,
-    trail: &mut Trail,
-    watch: &mut Watch,
-    first: &[Clause],
-    second: &[Clause],
+    propagator: &mut Propagator,
+    clauses: &Premises<'_>,
     candidate: &[i32],
 ) -> Result<Option<Vec<i32>>, AllocError>
-    requires base { IsBase trail.old (first.now ++ second.now) }
-    requires sized { HasSize watch.old (length trail.old.marks.items) }
-    requires watches { Watches watch.old trail.old.marks.items (first.now ++ second.now) }
-    requires room { HaveRoom (length trail.old.marks.items) (first.now ++ second.now) }
-    requires room_candidate { All (HasRoom (length trail.old.marks.items)) candidate.now }
-    requires candidate { (f : ℤ → Bool) × IsCandidate (first.now ++ second.now) candidate.now f }
-    ensures none { IfOk result (λ o. IfNone o (NoneResists (first.now ++ second.now) candidate.now → ⊥)) }
-    ensures fresh { IfOk result (λ o. IfSome o (λ v. IsFresh (first.now ++ second.now) v.items)) }
-    ensures room { IfOk result (λ o. IfSome o (λ v. All (HasRoom (length trail.old.marks.items)) v.items)) }
-    ensures base { OnOk result (IsBase trail.new (first.now ++ second.now)) }
-    ensures kept { OnOk result (IsKept trail.old trail.new) }
-    ensures sized { OnOk result (HasSize watch.new (length trail.old.marks.items)) }
-    ensures watches { OnOk result (Watches watch.new trail.old.marks.items (first.now ++ second.now)) }
+    requires base { IsAtBase propagator.old (all_in clauses.now) }
+    requires candidate { CanBeTried propagator.old.trail (all_in clauses.now) candidate.now }
+    ensures none { IfOk result (λ o. IfNone o (NoneResists (all_in clauses.now) candidate.now → ⊥)) }
+    ensures fresh { IfOk result (λ o. IfSome o (λ v. IsFresh (all_in clauses.now) v.items)) }
+    ensures room { IfOk result (λ o. IfSome o (λ v. HasMarks propagator.old.trail v.items)) }
+    ensures back { OnOk result (ComesBack propagator.old propagator.new (all_in clauses.now)) }
 {
     let last = candidate.len() - 1;
     let mut kept = Vec::new(alloc);
     push_at(&mut kept, candidate, last)?;
-    if tighten(trail, watch, first, second, &mut kept, &candidate[..last])? {
+    if tighten(propagator, clauses, &mut kept, &candidate[..last])? {
         Ok(Some(kept))
     } else {
         Ok(None)
     }
 }
 
-/// A fresh clause: the tight part of the hint, if that is one, else of the decisions.
+/// A fresh clause: the tight part of the hint, if that follows, else of the decisions.
 pub(crate) fn learn(
     alloc: Global,
-    trail: &mut Trail,
-    watch: &mut Watch,
-    first: &[Clause],
-    second: &[Clause],
+    propagator: &mut Propagator,
+    clauses: &Premises<'_>,
     decisions: &[i32],
-    hint: &[i32],
-    hinted: bool,
+    hint: Option<&[i32]>,
 ) -> Result<Vec<i32>, AllocError>
-    requires base { IsBase trail.old (first.now ++ second.now) }
-    requires sized { HasSize watch.old (length trail.old.marks.items) }
-    requires watches { Watches watch.old trail.old.marks.items (first.now ++ second.now) }
-    requires room { HaveRoom (length trail.old.marks.items) (first.now ++ second.now) }
-    requires room_decisions { All (HasRoom (length trail.old.marks.items)) decisions.now }
-    requires room_hint { hinted ≡ true → All (HasRoom (length trail.old.marks.items)) hint.now }
-    requires decisions { (f : ℤ → Bool) × IsCandidate (first.now ++ second.now) decisions.now f }
-    requires follows { NoneResists (first.now ++ second.now) decisions.now }
-    requires hint { hinted ≡ true → (f : ℤ → Bool) × IsCandidate (first.now ++ second.now) hint.now f }
-    ensures fresh { IfOk result (λ v. IsFresh (first.now ++ second.now) v.items) }
-    ensures room { IfOk result (λ v. All (HasRoom (length trail.old.marks.items)) v.items) }
-    ensures kept { OnOk result (IsKept trail.old trail.new) }
-    ensures sized { OnOk result (HasSize watch.new (length trail.old.marks.items)) }
-    ensures watches { OnOk result (Watches watch.new trail.old.marks.items (first.now ++ second.now)) }
+    requires base { IsAtBase propagator.old (all_in clauses.now) }
+    requires decisions { CanBeTried propagator.old.trail (all_in clauses.now) decisions.now }
+    requires follows { NoneResists (all_in clauses.now) decisions.now }
+    requires hint { IfSome hint (λ c. CanBeTried propagator.old.trail (all_in clauses.now) c.now) }
+    ensures fresh { IfOk result (λ v. IsFresh (all_in clauses.now) v.items) }
+    ensures room { IfOk result (λ v. HasMarks propagator.old.trail v.items) }
+    ensures back { OnOk result (ComesBack propagator.old propagator.new (all_in clauses.now)) }
 {
-    if let Some(literals) = learn_hint(alloc, trail, watch, first, second, hint, hinted)? {
+    if let Some(literals) = learn_hint(alloc, propagator, clauses, hint)? {
         return Ok(literals);
     }
-    match learn_from(alloc, trail, watch, first, second, decisions)? {
+    match learn_from(alloc, propagator, clauses, decisions)? {
         Some(literals) => Ok(literals),
         None => unreachable!(),
     }
@@ -89,39 +68,38 @@ pub(crate) fn learn(
 
 fn learn_hint(
     alloc: Global,
-    trail: &mut Trail,
-    watch: &mut Watch,
-    first: &[Clause],
-    second: &[Clause],
-    hint: &[i32],
-    hinted: bool,
+    propagator: &mut Propagator,
+    clauses: &Premises<'_>,
+    hint: Option<&[i32]>,
 ) -> Result<Option<Vec<i32>>, AllocError>
-    requires base { IsBase trail.old (first.now ++ second.now) }
-    requires sized { HasSize watch.old (length trail.old.marks.items) }
-    requires watches { Watches watch.old trail.old.marks.items (first.now ++ second.now) }
-    requires room { HaveRoom (length trail.old.marks.items) (first.now ++ second.now) }
-    requires room_hint { hinted ≡ true → All (HasRoom (length trail.old.marks.items)) hint.now }
-    requires hint { hinted ≡ true → (f : ℤ → Bool) × IsCandidate (first.now ++ second.now) hint.now f }
-    ensures fresh { IfOk result (λ o. IfSome o (λ v. IsFresh (first.now ++ second.now) v.items)) }
-    ensures room { IfOk result (λ o. IfSome o (λ v. All (HasRoom (length trail.old.marks.items)) v.items)) }
-    ensures base { OnOk result (IsBase trail.new (first.now ++ second.now)) }
-    ensures kept { OnOk result (IsKept trail.old trail.new) }
-    ensures sized { OnOk result (HasSize watch.new (length trail.old.marks.items)) }
-    ensures watches { OnOk result (Watches watch.new trail.old.marks.items (first.now ++ second.now)) }
+    requires base { IsAtBase propagator.old (all_in clauses.now) }
+    requires hint { IfSome hint (λ c. CanBeTried propagator.old.trail (all_in clauses.now) c.now) }
+    ensures fresh { IfOk result (λ o. IfSome o (λ v. IsFresh (all_in clauses.now) v.items)) }
+    ensures room { IfOk result (λ o. IfSome o (λ v. HasMarks propagator.old.trail v.items)) }
+    ensures back { OnOk result (ComesBack propagator.old propagator.new (all_in clauses.now)) }
 {
-    if !hinted {
-        return Ok(None);
+    match hint {
+        None => Ok(None),
+        Some(literals) => learn_from(alloc, propagator, clauses, literals),
     }
-    learn_from(alloc, trail, watch, first, second, hint)
+}
+
+/// The candidate, if its literals but the last are false, the last isn't true, and there are marks for all.
+pub(crate) fn tested<'a>(marks: &[bool], vars: usize, candidate: &'a [i32]) -> Option<&'a [i32]>
+    requires { length marks.now ≡ 2 * vars + 2 }
+    ensures { IfSome result (λ c. IsAssertingNow marks.now c.now) }
+{
+    if is_asserting(marks, vars, candidate) {
+        Some(candidate)
+    } else {
+        None
+    }
 }
 
 /// Whether a candidate's literals but the last are false, the last isn't true, and there are marks for all.
-pub(crate) fn is_asserting(marks: &[bool], vars: usize, candidate: &[i32]) -> bool
-    requires codes { length marks.now ≡ 2 * vars + 2 }
-    ensures room { result ≡ true → All (HasRoom (length marks.now)) candidate.now }
-    ensures filled { result ≡ true → 0 < length candidate.now }
-    ensures rest { result ≡ true → IsFalse (is_false marks.now) (front_of candidate.now) }
-    ensures not_true { result ≡ true → is_false marks.now (neg_ℤ (last_of candidate.now)) ≡ false }
+fn is_asserting(marks: &[bool], vars: usize, candidate: &[i32]) -> bool
+    requires { length marks.now ≡ 2 * vars + 2 }
+    ensures { result ≡ true → IsAssertingNow marks.now candidate.now }
 {
     if candidate.len() == 0 {
         return false;

@@ -11,6 +11,7 @@
 
 mod analysis;
 mod decide;
+mod found_conflict;
 mod hints;
 mod learn;
 mod outcome;

@@ -1,60 +1,45 @@
 //! One round: decisions up to a conflict, and what is learnt from it.
 
-ghost use Rattle.std.specs.Prelude.{◌≡◌, ◌≤◌, ◌<◌, ◌+◌, ◌*◌, ◌++◌, true, false, length, IfOk, IfSome, IfNone, OnOk, OnSome};
-ghost use Rattle.std.specs.List.{All};
-ghost use Rattle.xr_proof.specs.Code.{HasRoom, HaveRoom};
-ghost use Rattle.xr_proof.specs.Guard.{Watches};
+ghost use Rattle.std.specs.Prelude.{◌≡◌, ◌≤◌, ◌+◌, ◌*◌, length, IfOk, IfSome, IfNone, OnOk, OnSome};
+ghost use Rattle.xr_proof.specs.Premises.{all_in};
 ghost use Rattle.xr_proof.specs.Log.{IsFresh};
-ghost use Rattle.xr_proof.specs.Propagation.{IsBase};
-ghost use Rattle.xr_proof.specs.Trail.{IsKept};
-ghost use Rattle.xr_proof.specs.Watch.{HasSize};
+ghost use Rattle.xr_proof.specs.Propagator.{ComesBack, IsAtBase};
+ghost use Rattle.xr_proof.specs.Trail.{HasMarks};
 ghost use Rattle.xr_sat.specs.Decide.{AreValued};
 ghost use Rattle.xr_sat.specs.Reach.{IsSettled};
 
 use crate::decide::descend;
 use crate::hints::Hints;
-use crate::learn::{is_asserting, learn};
+use crate::learn::{learn, tested};
 use std::alloc::{AllocError, Global};
-use xr_proof::Clause;
-use xr_proof::trail::Trail;
-use xr_proof::watch::Watch;
+use xr_proof::premises::Premises;
+use xr_proof::propagator::Propagator;
 
 /// A fresh clause, with the trail as it was; or none, where each variable has a value on the trail and no clause is false.
 pub(crate) fn round(
     alloc: Global,
-    trail: &mut Trail,
-    watch: &mut Watch,
-    first: &[Clause],
-    second: &[Clause],
+    propagator: &mut Propagator,
+    clauses: &Premises<'_>,
     vars: usize,
     hints: &mut Hints,
 ) -> Result<Option<Vec<i32>>, AllocError>
-    requires base { IsBase trail.old (first.now ++ second.now) }
-    requires sized { HasSize watch.old (length trail.old.marks.items) }
-    requires watches { Watches watch.old trail.old.marks.items (first.now ++ second.now) }
-    requires room { HaveRoom (length trail.old.marks.items) (first.now ++ second.now) }
+    requires base { IsAtBase propagator.old (all_in clauses.now) }
     requires vars { vars ≤ 2147483647 }
-    requires codes { length trail.old.marks.items ≡ 2 * vars + 2 }
-    ensures settled { IfOk result (λ o. IfNone o (IsSettled trail.new (first.now ++ second.now))) }
-    ensures valued { IfOk result (λ o. IfNone o (AreValued trail.new.marks.items vars)) }
-    ensures size { IfOk result (λ o. IfNone o (length trail.new.marks.items ≡ length trail.old.marks.items)) }
-    ensures fresh { IfOk result (λ o. IfSome o (λ v. IsFresh (first.now ++ second.now) v.items)) }
-    ensures room { IfOk result (λ o. IfSome o (λ v. All (HasRoom (length trail.old.marks.items)) v.items)) }
-    ensures kept { IfOk result (λ o. OnSome o (IsKept trail.old trail.new)) }
-    ensures sized { IfOk result (λ o. OnSome o (HasSize watch.new (length trail.old.marks.items))) }
-    ensures watches { IfOk result (λ o. OnSome o (Watches watch.new trail.old.marks.items (first.now ++ second.now))) }
+    requires codes { length propagator.old.trail.marks.items ≡ 2 * vars + 2 }
+    ensures settled { IfOk result (λ o. IfNone o (IsSettled propagator.new (all_in clauses.now))) }
+    ensures valued { IfOk result (λ o. IfNone o (AreValued propagator.new.trail.marks.items vars)) }
+    ensures size { OnOk result (length propagator.new.trail.marks.items ≡ length propagator.old.trail.marks.items) }
+    ensures fresh { IfOk result (λ o. IfSome o (λ v. IsFresh (all_in clauses.now) v.items)) }
+    ensures room { IfOk result (λ o. IfSome o (λ v. HasMarks propagator.old.trail v.items)) }
+    ensures back { IfOk result (λ o. OnSome o (ComesBack propagator.old propagator.new (all_in clauses.now))) }
 {
-    let len = trail.len;
+    let len = propagator.trail.len;
     let mut decisions = Vec::new(alloc);
-    if !descend(trail, watch, first, second, vars, hints, &mut decisions)? {
+    if !descend(propagator, clauses, vars, hints, &mut decisions)? {
         return Ok(None);
     }
-    let candidate = hints.candidate();
-    let hinted = is_asserting(&trail.marks, vars, candidate);
-    trail.undo(len);
-    trail.read = len;
-    let literals = learn(
-        alloc, trail, watch, first, second, &decisions, candidate, hinted,
-    )?;
+    let hint = tested(&propagator.trail.marks, vars, hints.candidate());
+    propagator.trail.undo(len);
+    let literals = learn(alloc, propagator, clauses, &decisions, hint)?;
     Ok(Some(literals))
 }

@@ -3,8 +3,8 @@
 ghost use Rattle.std.specs.Prelude.{◌≡◌, ◌<◌, ◌+◌, ◌*◌, ◌++◌, ◌∷◌, ◌≢◌, [], true, false, length, IfOk};
 ghost use Rattle.std.specs.List.{All};
 ghost use Rattle.xr_proof.specs.Assignment.{HasNoZero};
-ghost use Rattle.xr_proof.specs.Code.{HaveRoom};
 ghost use Rattle.xr_proof.specs.Lines.{IsReady};
+ghost use Rattle.xr_proof.specs.Trail.{HaveMarks};
 ghost use Rattle.xr_sat.specs.Decide.{AreValues};
 ghost use Rattle.xr_sat.specs.Outcome.{IsOutcome};
 
@@ -13,9 +13,8 @@ use crate::outcome::Outcome;
 use crate::round::round;
 use std::alloc::{AllocError, Global};
 use xr_base::Memory;
-use xr_proof::base::{advance, start};
-use xr_proof::trail::Trail;
-use xr_proof::watch::Watch;
+use xr_proof::premises::Premises;
+use xr_proof::propagator::Propagator;
 use xr_proof::{Clause, Cnf, Exhausted, Log, Model, Refuted};
 
 /// A model of the formula, or a log that refutes it, or a fresh log of `limit` clauses, whichever comes first. A log
@@ -27,54 +26,42 @@ pub fn solve(alloc: Global, cnf: &Cnf, limit: u32) -> Result<Outcome, Memory>
 {
     let codes = 2 * (cnf.vars as usize) + 2;
     let query = cnf.clauses.as_slice();
-    let mut trail = Trail::new(alloc, codes)?;
-    let mut watch = Watch::new(alloc, codes, query.len())?;
-    trail.clear();
-    watch.clear();
-    let log: Vec<Clause> = Vec::new(alloc);
-    let refuted = start(&mut trail, &mut watch, query, &log[..0]);
-    search(
-        alloc, cnf, query, limit, &mut trail, &mut watch, log, refuted,
-    )
+    let mut propagator = Propagator::new(alloc, codes, query.len())?;
+    propagator.clear();
+    let refuted = propagator.start(query, &query[..0]);
+    search(alloc, cnf, limit, &mut propagator, refuted)
 }
 
 /// Makes rounds until there is an answer.
 fn search(
     alloc: Global,
     cnf: &Cnf,
-    query: &[Clause],
     limit: u32,
-    trail: &mut Trail,
-    watch: &mut Watch,
-    mut log: Vec<Clause>,
+    propagator: &mut Propagator,
     mut refuted: bool,
 ) -> Result<Outcome, Memory>
-    requires query { query.now ≡ cnf.now.clauses }
-    requires room { HaveRoom (length trail.old.marks.items) query.now }
-    requires no_zero { refuted ≡ false → All HasNoZero query.now }
+    requires room { HaveMarks propagator.old.trail cnf.now.clauses }
+    requires no_zero { refuted ≡ false → All HasNoZero cnf.now.clauses }
     requires some { 0 < limit }
-    requires codes { length trail.old.marks.items ≡ 2 * cnf.now.vars + 2 }
-    requires log { log.items ≡ [] }
-    requires ready { IsReady trail.old watch.old refuted query.now }
+    requires codes { length propagator.old.trail.marks.items ≡ 2 * cnf.now.vars + 2 }
+    requires ready { IsReady propagator.old refuted cnf.now.clauses }
     ensures { IfOk result (IsOutcome cnf.now.clauses cnf.now.vars limit) }
 {
+    let query = cnf.clauses.as_slice();
+    let mut log: Vec<Clause> = Vec::new(alloc);
     let mut hints = Hints::new(alloc, cnf.vars as usize)?;
     'rounds: loop {
         if refuted {
             let log = close(alloc, log)?;
             return Ok(Outcome::Refuted(Refuted::from_log(cnf, log)));
         }
-        match round(
-            alloc,
-            trail,
-            watch,
-            query,
-            &log,
-            cnf.vars as usize,
-            &mut hints,
-        )? {
+        let clauses = Premises {
+            formula: query,
+            log: &log,
+        };
+        match round(alloc, propagator, &clauses, cnf.vars as usize, &mut hints)? {
             None => {
-                let values = values_of(alloc, &trail.marks, cnf.vars as usize)?;
+                let values = values_of(alloc, &propagator.trail.marks, cnf.vars as usize)?;
                 return Ok(Outcome::Model(Model::from_vec(values)));
             }
             Some(literals) => log.push(Clause::from_vec(literals))?,
@@ -82,8 +69,8 @@ fn search(
         if is_full(&log, limit) {
             return Ok(Outcome::Limit(Exhausted::from_log(cnf, Log::from_vec(log), limit)));
         }
-        watch.widen()?;
-        refuted = advance(trail, watch, false, query, &log, log.len() - 1);
+        propagator.widen()?;
+        refuted = propagator.advance(false, query, &log, log.len() - 1);
     }
 }
 

@@ -1,5 +1,6 @@
 -- A pass that finds nothing leaves each clause quiet, and one that finds a literal leaves fewer unmarked.
-use Rattle.std.proofs.Common.{◌++◌, refl, ◌≡◌}
+use Rattle.std.proofs.Common.{refl, ◌≡◌}
+use Rattle.xr_proof.specs.Premises.{all_in}
 use Rattle.xr_proof.proofs.Runs.{growth_more, running_quiet}
 use Rattle.xr_proof.proofs.Trails.{over_read}
 use Rattle.xr_proof.proofs.sweep.sweep.Goals as goal
@@ -12,12 +13,12 @@ returns-then-pass_once-clause-over c base b over = c.pass_once.ensures.over base
 
 pub returns-then-trail-len-clause-growth : goal.returns-then-trail-len-clause-growth
 returns-then-trail-len-clause-growth c _ = growth_more c.args.trail.now.marks.items c.rounds.trail.marks.items c.pass_once.new.trail.marks.items
-    (c.args.first.now ++ c.args.second.now) c.rounds.invariant.growth (c.if-pass_once.ensures.running refl).growth
+    (all_in c.args.clauses.now) c.rounds.invariant.growth (c.if-pass_once.ensures.running refl).growth
 
 pub returns-then-trail-len-clause-quiet : goal.returns-then-trail-len-clause-quiet
 returns-then-trail-len-clause-quiet c _ =
     let e : c.pass_once.new.trail.len ≡ c.rounds.trail.len = c.if-trail-len.true in
-    running_quiet c.rounds.trail c.pass_once.new.trail (c.args.first.now ++ c.args.second.now) c.rounds.trail.len (c.if-pass_once.ensures.running refl) e
+    running_quiet c.rounds.trail c.pass_once.new.trail (all_in c.args.clauses.now) c.rounds.trail.len (c.if-pass_once.ensures.running refl) e
 
 pub returns-then-trail-len-clause-over : goal.returns-then-trail-len-clause-over
 returns-then-trail-len-clause-over c base b over = over_read base b c.pass_once.new.trail _ refl refl refl
@@ -25,8 +26,7 @@ returns-then-trail-len-clause-over c base b over = over_read base b c.pass_once.
 
 pub rounds-preserved : goal.rounds-preserved
 rounds-preserved c = record {
-  trail = c.pass_once.ensures.trail;
   growth = growth_more c.args.trail.now.marks.items c.rounds.trail.marks.items c.pass_once.new.trail.marks.items
-      (c.args.first.now ++ c.args.second.now) c.rounds.invariant.growth (c.if-pass_once.ensures.running refl).growth;
+      (all_in c.args.clauses.now) c.rounds.invariant.growth (c.if-pass_once.ensures.running refl).growth;
   over = λ base b over. c.pass_once.ensures.over base b (c.rounds.invariant.over base b over);
 }

@@ -1,13 +1,13 @@
 -- Passes only let the marks grow, and each that goes on leaves fewer literals unmarked.
-use Rattle.std.proofs.Common.{◌++◌, ◌-◌, length}
+use Rattle.std.proofs.Common.{◌-◌, length}
+use Rattle.xr_proof.specs.Premises.{all_in}
 use Rattle.xr_proof.specs.Propagation.{IsGrowth}
-use Rattle.xr_proof.specs.Trail.{IsTrail, StaysOver}
+use Rattle.xr_proof.specs.Trail.{StaysOver}
 use Rattle.xr_proof.proofs.sweep.sweep.Given as goal
 
 abbrev pub invariant-rounds : goal.invariant-rounds
 invariant-rounds l = record {
-  trail : IsTrail l.trail;
-  growth : IsGrowth l.initial.trail.marks.items l.trail.marks.items (l.first ++ l.second);
+  growth : IsGrowth l.initial.trail.marks.items l.trail.marks.items (all_in l.clauses);
   over : StaysOver l.initial.trail l.trail;
 }
 

@@ -3,5 +3,5 @@ use Rattle.xr_proof.proofs.Widening.{serves_wider}
 use Rattle.xr_proof.proofs.watch.Watch.widen.Goals as goal
 
 pub returns-clause-serving : goal.returns-clause-serving
-returns-clause-serving c marks clauses serve is_on = serves_wider c.widen_entry.new.self c.widen_entry-2.new.self c.in_ok-widen_entry-2.ensures marks clauses
-    (serves_wider c.args.self.now c.widen_entry.new.self c.in_ok-widen_entry.ensures marks clauses serve) is_on
+returns-clause-serving c marks clauses serve is_on = serves_wider c.widen_entry.new.self c.widen_entry-2.new.self c.in_ok-widen_entry-2.ensures.wider marks clauses
+    (serves_wider c.args.self.now c.widen_entry.new.self c.in_ok-widen_entry.ensures.wider marks clauses serve) is_on
