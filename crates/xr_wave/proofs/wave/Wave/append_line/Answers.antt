@@ -7,7 +7,7 @@ use Rattle.xr_wave_due.specs.Walk.{IsWalkOf}
 use Rattle.xr_wave.proofs.LineGrowth.{line_next}
 use Rattle.xr_wave.proofs.WalkedWaves.{wave_pushed}
 use Rattle.xr_wave.proofs.WaveGrowth.{wave_agrees, wave_grown}
-use Rattle.xr_wave.proofs.wave.Wave.write_line.Goals as goal
+use Rattle.xr_wave.proofs.wave.Wave.append_line.Goals as goal
 
 pub push_line-requires-clause-agrees : goal.push_line-requires-clause-agrees
 push_line-requires-clause-agrees c =
@@ -40,7 +40,7 @@ invariant_of-self c =
     (line_next c.args.self x line right c.requires.class c.requires.line c.requires.written c.requires.agrees)) in
     let parts = c.deref_mut.result.now in
     let new = c.push_line.new.self in
-    let pushed = c.in-Ok.ensures in
+    let pushed = c.in_ok-push_line.ensures in
     wave_pushed (and_one parts.waveform x) new.waveform parts.walk new.walk parts.limits new.limits
     (parts.lines.items ++ line ∷ []) new.lines.items pushed.waveform pushed.history pushed.limits pushed.lines
     (subst (λ p. IsWave (contents_of (and_one p.waveform x) p.walk.replayed.history p.limits (p.lines.items ++ line ∷ [])))
