@@ -1,9 +1,9 @@
 -- The certificate of a wave that went along lines from nothing has a text.
-use Rattle.std.proofs.Common.{ℕ, ◌*◌, ◌^◌, ◌≤◌, true, false, if◌then◌else◌, List, [], ◌∷◌, ◌++◌, length, length-append, refl, sym, subst, arith}
+use Rattle.std.proofs.Common.{◌*◌, ◌^◌, ◌≤◌, true, false, if◌then◌else◌, List, [], ◌∷◌, ◌++◌, length, length-append, refl, sym, subst, arith}
 use Rattle.std.specs.List.{AllByRecursion}
 use Rattle.xr_design.proofs.Numbers.{few_steps}
 use Rattle.xr_design.specs.Fits.{Fits}
-use Rattle.xr_design.specs.Job.{Job, number_of}
+use Rattle.xr_design.specs.Job.{number_of}
 use Rattle.xr_model.specs.declared.line.Line.{Line as ALine}
 use Rattle.xr_model.specs.declared.turn.TurnLine.{TurnLine}
 use Rattle.xr_wave.specs.Contents.{Contents, AreLimits, job}

@@ -6,8 +6,6 @@ use Rattle.xr_model.specs.declared.line.Body.TheVariants as body
 use Rattle.xr_model.specs.declared.line.Line.{Line as ALine}
 use Rattle.xr_wave.specs.Contents.{Contents, job, next_number}
 use Rattle.xr_wave.specs.Token.{HoldsNext, LineAgrees, with_line}
-use Rattle.xr_wave.specs.declared.token.How.{How}
-use Rattle.xr_wave.specs.declared.token.How.TheVariants.{Enumerated, Refuted}
 use Rattle.xr_turns.specs.View.{ConditionView}
 use Rattle.xr_along.specs.Accepted.{AcceptsLine, IsLater, NamesNext}
 use Rattle.xr_cert_text.specs.declared.cert.Cert.{Cert}
@@ -60,25 +58,14 @@ pub data Stops (c : Contents) (number : ℕ) (line : ALine) : CheckErr → Type 
 abbrev pub next_line : Contents → Body → ALine
 next_line c body = record { place = place_at (job c) (next_number c); body = body }
 
-abbrev pub IsSpentBy : Contents → Body → Contents → Type 0
-IsSpentBy c body after = IsSpent c (next_line c body) after
-
-abbrev pub BodyStops : Contents → ℕ → Body → CheckErr → Type 0
-BodyStops c number body e = Stops c number (next_line c body) e
-
 -- A body isn't accepted at the next place.
 abbrev pub Refuses : Contents → Body → Type 0
 Refuses c body = AcceptsLine c (next_line c body) → ⊥
 
--- A token's line is that of a body there, and accepted.
-pub record IsTokenOf (c : Contents) (body : Body) (line : ALine) : Type 0 where
+-- A verdict is of the next place, with a body that is accepted there.
+pub record IsVerdictOf (c : Contents) (body : Body) (line : ALine) : Type 0 where
   pub is : line ≡ next_line c body
   pub accepts : AcceptsLine c line
-
--- A token is that of an enumeration.
-abbrev pub IsEnumeration : How → Type 0
-IsEnumeration (Enumerated bit) = Unit {0}
-IsEnumeration (Refuted bit log) = ⊥
 
 -- A body states two fillings, which give the next place 0 and 1.
 abbrev pub IsTold : Contents → Body → Type 0

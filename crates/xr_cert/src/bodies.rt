@@ -1,150 +1,68 @@
-//! The body of a line, checked at the next place, and spent there.
+//! The body of a line, checked at the next place by its cone.
 
-ghost use Rattle.std.specs.Prelude.{◌≡◌, IfErr, IfOk};
+ghost use Rattle.std.specs.Prelude.{◌≡◌, IfNone, IfOk, IfSome};
 ghost use Rattle.xr_cone_nodes.specs.Traced.{IsNextCone};
 ghost use Rattle.xr_model.specs.declared.line.Body.TheVariants as body;
-ghost use Rattle.xr_wave.specs.Contents.{IsWave};
-ghost use Rattle.xr_wave.specs.Token.{IsLineNext, LineHolds, settled_line};
-ghost use Rattle.xr_cert.specs.Step.{BodyStops, IsEnumeration, IsSpentBy};
+ghost use Rattle.xr_cert.specs.Step.{IsVerdictOf, Refuses};
+ghost use Rattle.xr_cert.specs.Walk.{body_fault};
 
-use crate::logs::{exhausted_token, refuted_token};
-use crate::pairs::pair_token;
-use crate::refusal::{CertFault, CheckErr};
-use crate::spend::{spend_budget, spend_pair, spend_settled};
+use crate::logs::{exhausted_verdict, refuted_verdict};
+use crate::pairs::pair_verdict;
+use crate::refusal::CertFault;
 use std::alloc::Global;
-use xr_design::Filling;
-use xr_enum::{Decided, decide, has_few_sources};
+use xr_base::Memory;
+use xr_enum::{check_bit, has_few_sources};
 use xr_model::Body;
-use xr_proof::Log;
 use xr_turns::Cone;
-use xr_wave::{Settled, Wave};
+use xr_wave::{Verdict, Wave};
 
-/// Checks a body at the next place, and writes that by it. `line` is the number of its line.
-pub fn spend_body<'a>(
+/// The verdict with a body, where that is accepted at the next place.
+pub fn body_verdict(
     alloc: Global,
-    wave: Wave<'a>,
+    wave: &Wave<'_>,
     cone: &Cone,
     body: Body,
-    line: usize,
-) -> Result<Wave<'a>, CheckErr>
-    requires class { IsLineNext wave }
-    requires cone { IsNextCone wave cone.now.nodes }
-    ensures ok { IfOk result (IsSpentBy wave.entry body) }
-    ensures err { IfErr result (BodyStops wave.entry line body) }
+) -> Result<Option<Verdict>, Memory>
+    requires { IsNextCone wave.now cone.now.nodes }
+    ensures verdict { IfOk result (λ found. IfSome found (IsVerdictOf wave.now body)) }
+    ensures none { IfOk result (λ found. IfNone found (Refuses wave.now body)) }
 {
     match body {
-        Body::Enumerated(bit) => spend_enumerated(alloc, wave, cone, bit, line),
-        Body::Refuted(bit, log) => spend_refuted(alloc, wave, cone, bit, log, line),
-        Body::Pair(zero, one) => spend_fillings(alloc, wave, cone, zero, one, line),
-        Body::Undecided(log) => spend_undecided(alloc, wave, cone, log, line),
+        Body::Enumerated(bit) => enumerated_verdict(alloc, wave, cone, bit),
+        Body::Refuted(bit, log) => refuted_verdict(alloc, wave, cone, bit, log),
+        Body::Pair(zero, one) => pair_verdict(alloc, wave, cone, zero, one),
+        Body::Undecided(log) => exhausted_verdict(alloc, wave, cone, log),
     }
 }
 
-/// Every filling of few sources gives the bit.
-fn spend_enumerated<'a>(
+/// The fault of a line with this body, which isn't accepted.
+pub fn fault_of(body: &Body, line: usize) -> CertFault
+    ensures { result ≡ body_fault line body.now }
+{
+    match body {
+        Body::Enumerated(_) => CertFault::BadEnum { line },
+        Body::Refuted(_, _) => CertFault::BadLog { line },
+        Body::Pair(_, _) => CertFault::BadPair { line },
+        Body::Undecided(_) => CertFault::BadLog { line },
+    }
+}
+
+/// The verdict that every filling of few sources gives the bit.
+fn enumerated_verdict(
     alloc: Global,
-    wave: Wave<'a>,
+    wave: &Wave<'_>,
     cone: &Cone,
     bit: bool,
-    line: usize,
-) -> Result<Wave<'a>, CheckErr>
-    requires class { IsLineNext wave }
-    requires cone { IsNextCone wave cone.now.nodes }
-    ensures ok { IfOk result (IsSpentBy wave.entry (body.Enumerated bit)) }
-    ensures err { IfErr result (BodyStops wave.entry line (body.Enumerated bit)) }
+) -> Result<Option<Verdict>, Memory>
+    requires { IsNextCone wave.now cone.now.nodes }
+    ensures verdict { IfOk result (λ found. IfSome found (IsVerdictOf wave.now (body.Enumerated bit))) }
+    ensures none { IfOk result (λ found. IfNone found (Refuses wave.now (body.Enumerated bit))) }
 {
-    if !has_few_sources(&wave, cone) {
-        return Err(CheckErr::Refused(CertFault::BadEnum { line }));
+    if !has_few_sources(wave, cone) {
+        return Ok(None);
     }
-    match decide(alloc, &wave, cone) {
-        Ok(Decided::Same(proof)) => spend_bit(wave, proof, bit, line),
-        Ok(Decided::Both(proof)) => {
-            let _ = wave.abandon_pair(proof);
-            Err(CheckErr::Refused(CertFault::BadEnum { line }))
-        }
-        Err(_) => Err(CheckErr::Memory),
-    }
-}
-
-/// Every filling gives one bit, which may be another.
-fn spend_bit<'a>(
-    wave: Wave<'a>,
-    proof: Settled,
-    bit: bool,
-    line: usize,
-) -> Result<Wave<'a>, CheckErr>
-    requires class { IsLineNext wave }
-    requires wave { IsWave wave }
-    requires holds { LineHolds wave (settled_line proof) }
-    requires enumeration { IsEnumeration proof.how }
-    ensures ok { IfOk result (IsSpentBy wave.entry (body.Enumerated bit)) }
-    ensures err { IfErr result (BodyStops wave.entry line (body.Enumerated bit)) }
-{
-    if proof.value() == bit {
-        return spend_settled(wave, proof);
-    }
-    let _ = wave.abandon_settled(proof);
-    Err(CheckErr::Refused(CertFault::BadEnum { line }))
-}
-
-/// The log refutes the query, which denies the bit.
-fn spend_refuted<'a>(
-    alloc: Global,
-    wave: Wave<'a>,
-    cone: &Cone,
-    bit: bool,
-    log: Log,
-    line: usize,
-) -> Result<Wave<'a>, CheckErr>
-    requires class { IsLineNext wave }
-    requires cone { IsNextCone wave cone.now.nodes }
-    ensures ok { IfOk result (IsSpentBy wave.entry (body.Refuted bit log)) }
-    ensures err { IfErr result (BodyStops wave.entry line (body.Refuted bit log)) }
-{
-    match refuted_token(alloc, &wave, cone, bit, log) {
-        Ok(Some(proof)) => spend_settled(wave, proof),
-        Ok(None) => Err(CheckErr::Refused(CertFault::BadLog { line })),
-        Err(_) => Err(CheckErr::Memory),
-    }
-}
-
-/// The worlds of the fillings give 0 and 1.
-fn spend_fillings<'a>(
-    alloc: Global,
-    wave: Wave<'a>,
-    cone: &Cone,
-    zero: Filling,
-    one: Filling,
-    line: usize,
-) -> Result<Wave<'a>, CheckErr>
-    requires class { IsLineNext wave }
-    requires cone { IsNextCone wave cone.now.nodes }
-    ensures ok { IfOk result (IsSpentBy wave.entry (body.Pair zero one)) }
-    ensures err { IfErr result (BodyStops wave.entry line (body.Pair zero one)) }
-{
-    match pair_token(alloc, &wave, cone, zero, one) {
-        Ok(Some(proof)) => spend_pair(wave, proof),
-        Ok(None) => Err(CheckErr::Refused(CertFault::BadPair { line })),
-        Err(_) => Err(CheckErr::Memory),
-    }
-}
-
-/// There are more sources than are enumerated, and the log is fresh for the query and as long as the limits say.
-fn spend_undecided<'a>(
-    alloc: Global,
-    wave: Wave<'a>,
-    cone: &Cone,
-    log: Log,
-    line: usize,
-) -> Result<Wave<'a>, CheckErr>
-    requires class { IsLineNext wave }
-    requires cone { IsNextCone wave cone.now.nodes }
-    ensures ok { IfOk result (IsSpentBy wave.entry (body.Undecided log)) }
-    ensures err { IfErr result (BodyStops wave.entry line (body.Undecided log)) }
-{
-    match exhausted_token(alloc, &wave, cone, log) {
-        Ok(Some(proof)) => spend_budget(wave, proof),
-        Ok(None) => Err(CheckErr::Refused(CertFault::BadLog { line })),
-        Err(_) => Err(CheckErr::Memory),
+    match check_bit(alloc, wave, cone, bit)? {
+        Some(verdict) => Ok(Some(verdict)),
+        None => Ok(None),
     }
 }

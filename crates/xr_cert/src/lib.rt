@@ -14,7 +14,6 @@ mod lines;
 mod logs;
 mod pairs;
 mod refusal;
-mod spend;
 mod text;
 mod told;
 mod turned;

@@ -1,22 +1,22 @@
 //! One line of a Line place, taken where no turn is due.
 
-ghost use Rattle.std.specs.Prelude.{◌≡◌, ◌↔◌, IfErr, IfNone, IfOk, IfSome, IsTrue, OnOk, None as ANone, true};
+ghost use Rattle.std.specs.Prelude.{◌≡◌, ◌↔◌, ℕ, IfErr, IfNone, IfOk, IfSome, IsTrue, OnOk, None as ANone, true};
 ghost use Rattle.xr_turns.specs.OfCone.{AreRightOf};
 ghost use Rattle.xr_cone_nodes.specs.Traced.{IsNextCone};
 ghost use Rattle.xr_wave.specs.Advance.{IsAdvanced, IsObjected, IsPlain};
 ghost use Rattle.xr_wave.specs.Contents.{IsWave, next_seen};
 ghost use Rattle.xr_wave.specs.Token.{IsLineNext};
-ghost use Rattle.xr_along.specs.Accepted.{NamesNext};
+ghost use Rattle.xr_along.specs.Accepted.{AcceptsLine, NamesNext};
 ghost use Rattle.xr_turns.specs.Conditions as turns;
 ghost use Rattle.xr_cert_text.specs.declared.cert.Entry.TheVariants.{Line as ALine};
 ghost use Rattle.xr_cert_text.specs.declared.cert.Form.TheVariants.{Turns};
 ghost use Rattle.xr_cert.specs.Standing.{ComesFrom, EndsFrom, IsWaiting, StaysRight, StopsAt, Takes};
-ghost use Rattle.xr_cert.specs.Step.{IsSpent, IsTold, Stops};
+ghost use Rattle.xr_cert.specs.Step.{IsSpent, IsTold, IsVerdictOf, Refuses, Stops};
 
-use crate::bodies::spend_body;
+use crate::bodies::{body_verdict, fault_of};
 use crate::due::{Due, due_of};
 use crate::refusal::{CertFault, CheckErr};
-use crate::told::{do_tell, spend_told};
+use crate::told::do_tell;
 use crate::turned::begin_turns;
 use crate::walk::missing;
 use crate::walked::Walked;
@@ -26,7 +26,7 @@ use xr_cert_text::Form;
 use xr_design::count_places;
 use xr_model::{Body, Line};
 use xr_turns::{Condition, Cone, Cones};
-use xr_wave::Wave;
+use xr_wave::{Verdict, Wave};
 
 /// Takes a line where the walk waits for one.
 pub fn take_line<'a>(
@@ -126,7 +126,7 @@ pub fn walk_on<'a>(wave: Wave<'a>, conditions: Vec<Condition>) -> Result<Walked<
     })
 }
 
-/// Writes the next place by its line: by lanes, where they tell that its fillings are a pair, or else by its cone.
+/// Writes the next place by its line.
 pub fn spend_line<'a>(
     alloc: Global,
     wave: Wave<'a>,
@@ -142,10 +142,42 @@ pub fn spend_line<'a>(
     ensures right { IfOk result (λ next. AreRightOf next cones.new) }
     ensures err { IfErr result (Stops wave.entry number line) }
 {
-    match cone_for(alloc, &wave, cones, &line.body) {
-        Ok(Some(cone)) => spend_body(alloc, wave, &cone, line.body, number),
-        Ok(None) => spend_told(wave, line.body),
+    let fault = fault_of(&line.body, number);
+    match line_verdict(alloc, &wave, cones, line.body) {
+        Ok(Some(verdict)) => spend(wave, verdict),
+        Ok(None) => Err(CheckErr::Refused(fault)),
         Err(_) => Err(CheckErr::Memory),
+    }
+}
+
+/// Writes the next place by a verdict, or gives the wave up where the history knows it otherwise.
+fn spend<'a>(wave: Wave<'a>, verdict: Verdict) -> Result<Wave<'a>, CheckErr>
+    requires class { IsLineNext wave }
+    requires accepts { AcceptsLine wave verdict }
+    ensures ok { IfOk result (IsSpent wave.entry verdict) }
+    ensures err { (number : ℕ) → IfErr result (Stops wave.entry number verdict) }
+{
+    let next = wave.write(verdict)?;
+    Ok(next)
+}
+
+/// The verdict with a body, where that is accepted at the next place: by lanes, where they tell that two fillings are a
+/// pair, or else by its cone.
+fn line_verdict(
+    alloc: Global,
+    wave: &Wave<'_>,
+    cones: &mut Cones,
+    body: Body,
+) -> Result<Option<Verdict>, Memory>
+    requires class { IsLineNext wave.now }
+    requires right { AreRightOf wave.now cones.old }
+    ensures right { OnOk result (AreRightOf wave.now cones.new) }
+    ensures verdict { IfOk result (λ found. IfSome found (IsVerdictOf wave.now body)) }
+    ensures none { IfOk result (λ found. IfNone found (Refuses wave.now body)) }
+{
+    match cone_for(alloc, wave, cones, &body)? {
+        Some(cone) => body_verdict(alloc, wave, &cone, body),
+        None => Ok(Some(Verdict::from_law(wave, body))),
     }
 }
 

@@ -6,8 +6,7 @@ ghost use Rattle.xr_cnf.specs.Query.{IsQueryOfNodes};
 ghost use Rattle.xr_cone_nodes.specs.Nodes.{nothing, root_bit, sources_of};
 ghost use Rattle.xr_model.specs.declared.line.Body.TheVariants as body;
 ghost use Rattle.xr_proof.specs.Log.{Fit};
-ghost use Rattle.xr_wave.specs.Token.{budget_line, settled_line};
-ghost use Rattle.xr_cert.specs.Step.{IsTokenOf, Refuses};
+ghost use Rattle.xr_cert.specs.Step.{IsVerdictOf, Refuses};
 
 use std::alloc::Global;
 use xr_base::Memory;
@@ -16,19 +15,18 @@ use xr_enum::has_few_sources;
 use xr_proof::{Cnf, Log};
 use xr_turns::Cone;
 use xr_turns::logs::{checker_for, fits};
-use xr_wave::{Budget, Settled, Wave};
+use xr_wave::{Verdict, Wave};
 
-/// The token of a log that refutes the query of the next place, which denies the bit, where that body is accepted.
-pub fn refuted_token(
+/// The verdict of a log that refutes the query of the next place, which denies the bit, where that body is accepted.
+pub fn refuted_verdict(
     alloc: Global,
     wave: &Wave<'_>,
     cone: &Cone,
     bit: bool,
     log: Log,
-) -> Result<Option<Settled>, Memory>
+) -> Result<Option<Verdict>, Memory>
     requires { IsNextCone wave.now cone.now.nodes }
-    ensures token { IfOk result
-        (λ found. IfSome found (λ t. IsTokenOf wave.now (body.Refuted bit log) (settled_line t))) }
+    ensures verdict { IfOk result (λ found. IfSome found (IsVerdictOf wave.now (body.Refuted bit log))) }
     ensures none { IfOk result (λ found. IfNone found (Refuses wave.now (body.Refuted bit log))) }
 {
     if !are_same(cone.base(), bit) {
@@ -36,7 +34,7 @@ pub fn refuted_token(
     }
     let query = clauses(alloc, cone)?;
     if fits(&log, query.vars) {
-        refuting_token(alloc, wave, cone, &query, log)
+        refuting_verdict(alloc, wave, cone, &query, log)
     } else {
         Ok(None)
     }
@@ -49,19 +47,19 @@ fn are_same(a: bool, b: bool) -> bool
 }
 
 /// The same of the bit that the query denies, where the log names its variables alone.
-fn refuting_token(
+fn refuting_verdict(
     alloc: Global,
     wave: &Wave<'_>,
     cone: &Cone,
     query: &Cnf,
     log: Log,
-) -> Result<Option<Settled>, Memory>
+) -> Result<Option<Verdict>, Memory>
     requires cone { IsNextCone wave.now cone.now.nodes }
     requires query { IsQueryOfNodes cone.now.nodes query.now }
     requires few { query.now.vars ≤ 2 ^ 27 }
     requires fit { Fit query.now.vars log }
-    ensures token { IfOk result (λ found. IfSome found
-        (λ t. IsTokenOf wave.now (body.Refuted (root_bit nothing cone.now.nodes) log) (settled_line t))) }
+    ensures verdict { IfOk result (λ found. IfSome found
+        (IsVerdictOf wave.now (body.Refuted (root_bit nothing cone.now.nodes) log))) }
     ensures none { IfOk result (λ found. IfNone found
         (Refuses wave.now (body.Refuted (root_bit nothing cone.now.nodes) log))) }
 {
@@ -72,15 +70,15 @@ fn refuting_token(
     }
 }
 
-/// The token of a log that leaves the next place undecided, where that body is accepted.
-pub fn exhausted_token(
+/// The verdict of a log that leaves the next place undecided, where that body is accepted.
+pub fn exhausted_verdict(
     alloc: Global,
     wave: &Wave<'_>,
     cone: &Cone,
     log: Log,
-) -> Result<Option<Budget>, Memory>
+) -> Result<Option<Verdict>, Memory>
     requires { IsNextCone wave.now cone.now.nodes }
-    ensures token { IfOk result (λ found. IfSome found (λ t. IsTokenOf wave.now (body.Undecided log) (budget_line t))) }
+    ensures verdict { IfOk result (λ found. IfSome found (IsVerdictOf wave.now (body.Undecided log))) }
     ensures none { IfOk result (λ found. IfNone found (Refuses wave.now (body.Undecided log))) }
 {
     if has_few_sources(wave, cone) {
@@ -88,26 +86,26 @@ pub fn exhausted_token(
     }
     let query = clauses(alloc, cone)?;
     if fits(&log, query.vars) {
-        fresh_token(alloc, wave, cone, &query, log)
+        fresh_verdict(alloc, wave, cone, &query, log)
     } else {
         Ok(None)
     }
 }
 
 /// The same where there are more sources than are enumerated, and the log names the query's variables alone.
-fn fresh_token(
+fn fresh_verdict(
     alloc: Global,
     wave: &Wave<'_>,
     cone: &Cone,
     query: &Cnf,
     log: Log,
-) -> Result<Option<Budget>, Memory>
+) -> Result<Option<Verdict>, Memory>
     requires cone { IsNextCone wave.now cone.now.nodes }
     requires many { wave.now.limits.enumerated < length (sources_of cone.now.nodes) }
     requires query { IsQueryOfNodes cone.now.nodes query.now }
     requires few { query.now.vars ≤ 2 ^ 27 }
     requires fit { Fit query.now.vars log }
-    ensures token { IfOk result (λ found. IfSome found (λ t. IsTokenOf wave.now (body.Undecided log) (budget_line t))) }
+    ensures verdict { IfOk result (λ found. IfSome found (IsVerdictOf wave.now (body.Undecided log))) }
     ensures none { IfOk result (λ found. IfNone found (Refuses wave.now (body.Undecided log))) }
 {
     let mut checker = checker_for(alloc, query, &log)?;

@@ -6,30 +6,29 @@ ghost use Rattle.xr_design.specs.Circuit.{job_in};
 ghost use Rattle.xr_design.specs.Filling.{IsFilling};
 ghost use Rattle.xr_model.specs.declared.line.Body.TheVariants as body;
 ghost use Rattle.xr_wave.specs.Contents.{job};
-ghost use Rattle.xr_wave.specs.Token.{pair_line};
-ghost use Rattle.xr_cert.specs.Step.{IsTokenOf, Refuses};
+ghost use Rattle.xr_cert.specs.Step.{IsVerdictOf, Refuses};
 
 use std::alloc::Global;
 use xr_base::Memory;
 use xr_design::{Circuit, Filling, is_filling};
 use xr_pair::{BadPair, check_pair};
 use xr_turns::Cone;
-use xr_wave::{Pair, Wave};
+use xr_wave::{Verdict, Wave};
 
-/// The token of two fillings, where the body that states them is accepted. Takes 32 bytes a node of the cone.
-pub fn pair_token(
+/// The verdict of two fillings, where the body that states them is accepted. Takes 32 bytes a node of the cone.
+pub fn pair_verdict(
     alloc: Global,
     wave: &Wave<'_>,
     cone: &Cone,
     zero: Filling,
     one: Filling,
-) -> Result<Option<Pair>, Memory>
+) -> Result<Option<Verdict>, Memory>
     requires { IsNextCone wave.now cone.now.nodes }
-    ensures token { IfOk result (λ found. IfSome found (λ t. IsTokenOf wave.now (body.Pair zero one) (pair_line t))) }
+    ensures verdict { IfOk result (λ found. IfSome found (IsVerdictOf wave.now (body.Pair zero one))) }
     ensures none { IfOk result (λ found. IfNone found (Refuses wave.now (body.Pair zero one))) }
 {
     if are_fillings(&wave.circuit(), &zero, &one) {
-        filled_token(alloc, wave, cone, zero, one)
+        filled_verdict(alloc, wave, cone, zero, one)
     } else {
         Ok(None)
     }
@@ -42,21 +41,21 @@ pub fn are_fillings(circuit: &Circuit<'_>, zero: &Filling, one: &Filling) -> boo
     is_filling(circuit, zero.as_slice()) && is_filling(circuit, one.as_slice())
 }
 
-fn filled_token(
+fn filled_verdict(
     alloc: Global,
     wave: &Wave<'_>,
     cone: &Cone,
     zero: Filling,
     one: Filling,
-) -> Result<Option<Pair>, Memory>
+) -> Result<Option<Verdict>, Memory>
     requires cone { IsNextCone wave.now cone.now.nodes }
     requires zero { IsFilling (job wave.now) zero }
     requires one { IsFilling (job wave.now) one }
-    ensures token { IfOk result (λ found. IfSome found (λ t. IsTokenOf wave.now (body.Pair zero one) (pair_line t))) }
+    ensures verdict { IfOk result (λ found. IfSome found (IsVerdictOf wave.now (body.Pair zero one))) }
     ensures none { IfOk result (λ found. IfNone found (Refuses wave.now (body.Pair zero one))) }
 {
     match check_pair(alloc, wave, cone, zero, one) {
-        Ok(proof) => Ok(Some(proof)),
+        Ok(verdict) => Ok(Some(verdict)),
         Err(BadPair::NotZero) => Ok(None),
         Err(BadPair::NotOne) => Ok(None),
         Err(BadPair::Memory) => Err(Memory),

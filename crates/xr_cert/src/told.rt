@@ -1,20 +1,18 @@
 //! Bodies that lanes tell to hold at the next place, without its cone.
 
-ghost use Rattle.std.specs.Prelude.{ℕ, IfErr, IfOk, IsTrue};
+ghost use Rattle.std.specs.Prelude.{IfOk, IsTrue};
 ghost use Rattle.xr_turns.specs.OfCone.{IsLookedAt, IsRightOf};
 ghost use Rattle.xr_model.specs.declared.line.Body.TheVariants as body;
-ghost use Rattle.xr_wave.specs.Token.{HoldsNext, IsLineNext};
-ghost use Rattle.xr_cert.specs.Step.{BodyStops, IsSpentBy, IsTold};
+ghost use Rattle.xr_wave.specs.Token.{HoldsNext};
+ghost use Rattle.xr_cert.specs.Step.{IsTold};
 
 use crate::pairs::are_fillings;
-use crate::refusal::CheckErr;
-use crate::spend::spend_pair;
 use std::alloc::Global;
 use xr_base::Memory;
 use xr_design::Filling;
 use xr_model::Body;
 use xr_turns::Lanes;
-use xr_wave::{Pair, Wave};
+use xr_wave::Wave;
 
 /// Whether lanes tell that a body holds at the next place, which was looked at: where it states two fillings that lanes
 /// have of its sources, and these give it 0 and 1.
@@ -48,20 +46,4 @@ fn are_told(
         lanes.bit(alloc, wave, zero.as_slice())? == Some(false)
             && lanes.bit(alloc, wave, one.as_slice())? == Some(true),
     )
-}
-
-/// Writes the next place by a body that lanes tell to hold there.
-pub fn spend_told<'a>(wave: Wave<'a>, body: Body) -> Result<Wave<'a>, CheckErr>
-    requires class { IsLineNext wave }
-    requires told { IsTold wave body }
-    ensures ok { IfOk result (IsSpentBy wave.entry body) }
-    ensures err { (number : ℕ) → IfErr result (BodyStops wave.entry number body) }
-{
-    match body {
-        Body::Pair(zero, one) => {
-            let proof = Pair::from_law(&wave, zero, one);
-            spend_pair(wave, proof)
-        }
-        Body::Enumerated(_) | Body::Refuted(..) | Body::Undecided(_) => unreachable!(),
-    }
 }

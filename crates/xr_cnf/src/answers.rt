@@ -4,37 +4,37 @@ ghost use Rattle.std.specs.Prelude.{◌≡◌, ◌<◌, length};
 ghost use Rattle.std.specs.List.{All};
 ghost use Rattle.xr_proof.specs.Assignment.{HasNoZero};
 ghost use Rattle.xr_cone_nodes.specs.Nodes.{nothing, root_bit, sources_of};
-ghost use Rattle.xr_wave.specs.Token.{LineHolds, bit_of, budget_line, settled_line};
-ghost use Rattle.xr_wave.specs.declared.token.How.TheVariants.{Refuted as RefutedHow};
+ghost use Rattle.xr_model.specs.declared.line.Body.TheVariants as body;
+ghost use Rattle.xr_wave.specs.Token.{LineHolds};
 ghost use Rattle.xr_cnf.specs.Answers.{IsFreshNext, RefutesNext};
 ghost use Rattle.xr_cone_nodes.specs.Traced.{IsNextCone};
 
 use xr_cone_nodes::Cone;
+use xr_model::Body;
 use xr_proof::{Exhausted, Refuted};
-use xr_wave::{Budget, How, Settled, Wave};
+use xr_wave::{Verdict, Wave};
 
 /// A log that refutes the query of the next place shows that every filling gives the bit that the query denies.
-pub fn conclude(wave: &Wave<'_>, cone: &Cone, proof: Refuted) -> Settled
+pub fn conclude(wave: &Wave<'_>, cone: &Cone, proof: Refuted) -> Verdict
     requires cone { IsNextCone wave.now cone.now.nodes }
     requires refutes { RefutesNext wave.now proof }
-    ensures holds { LineHolds wave.now (settled_line result) }
-    ensures how { result.how ≡ RefutedHow (root_bit nothing cone.now.nodes) proof }
-    ensures bit { bit_of result.how ≡ root_bit nothing cone.now.nodes }
+    ensures holds { LineHolds wave.now result }
+    ensures body { result.body ≡ body.Refuted (root_bit nothing cone.now.nodes) proof }
     ensures no_zero { All HasNoZero proof }
 {
-    Settled::from_law(wave, How::Refuted(cone.base(), proof.into_log()))
+    Verdict::from_law(wave, Body::Refuted(cone.base(), proof.into_log()))
 }
 
 /// A fresh log as long as the wave's limits say lets the next place be undecided where it has more sources than are
 /// enumerated.
-pub fn give_up(wave: &Wave<'_>, cone: &Cone, proof: Exhausted) -> Budget
+pub fn give_up(wave: &Wave<'_>, cone: &Cone, proof: Exhausted) -> Verdict
     requires cone { IsNextCone wave.now cone.now.nodes }
     requires many { wave.now.limits.enumerated < length (sources_of cone.now.nodes) }
     requires fresh { IsFreshNext wave.now proof }
     requires long { length proof ≡ wave.now.limits.conflicts }
-    ensures log { result.log ≡ proof }
+    ensures holds { LineHolds wave.now result }
+    ensures body { result.body ≡ body.Undecided proof }
     ensures no_zero { All HasNoZero proof }
-    ensures holds { LineHolds wave.now (budget_line result) }
 {
-    Budget::from_law(wave, proof.into_log())
+    Verdict::from_law(wave, Body::Undecided(proof.into_log()))
 }

@@ -24,4 +24,4 @@ pub use laws::{
 pub use node::{Node, NodeBody};
 pub use positions::Positions;
 pub use values::Values;
-pub use xr_wave::{Pair, Wave};
+pub use xr_wave::{Verdict, Wave};

@@ -1,21 +1,22 @@
 -- The numbers of the fillings that are tried.
-use Rattle.std.proofs.Common.{◌≡◌, ℕ, ◌+◌, ◌-◌, ◌*◌, ◌/◌, ◌%◌, ◌^◌, ◌<◌, ◌≤◌, ◌==◌, List, [], length, sym, ap, ◌∙◌, arith, ⊎_elim}
+use Rattle.std.proofs.Common.{◌≡◌, ℕ, ◌+◌, ◌-◌, ◌*◌, ◌/◌, ◌%◌, ◌^◌, ◌<◌, ◌≤◌, ◌==◌, not, Bool, true, false, Some, None, List, [], length, sym, ap, ◌∙◌, arith, ⊎_elim}
 use Rattle.std.proofs.Math.ListN.{get_or-eq_default}
 use Rattle.std.proofs.Math.Path.{fun_ext}
 use Rattle.std.proofs.lemmas.Bool.{cases_lt}
 use Rattle.std.proofs.lemmas.Nat.Bits.{bit_at_above}
+use mathlib.Core.Bool.{beq}
 use Rattle.xr_model.specs.declared.line.Body.TheVariants.{Enumerated}
 use Rattle.xr_wave.specs.Contents.{Contents, next_number}
 use Rattle.xr_wave.specs.Token.{HoldsNext}
-use Rattle.xr_cone_nodes.proofs.ConeLaws.{enumerated_law}
+use Rattle.xr_cone_nodes.proofs.ConeLaws.{chosen_law, enumerated_law}
 use Rattle.xr_cone_nodes.proofs.EachLane.{lane_none}
 use Rattle.xr_cone_nodes.specs.declared.node.Node.{Node}
 use Rattle.xr_cone_nodes.specs.Lanes.{in_lane, lane_of, root_in_lane}
-use Rattle.xr_cone_nodes.specs.Nodes.{by_sources, nothing, number_bits, root_bit, sources_of}
+use Rattle.xr_cone_nodes.specs.Nodes.{by_sources, chosen, nothing, number_bits, root_bit, sources_of}
 use Rattle.xr_pair.specs.Pairs.{AllAgree, Differs, IsLeastOther}
 use Rattle.xr_cone_nodes.specs.Traced.{IsNextCone}
 use Rattle.xr_enum.specs.Blocks.{IsBlock}
-use Rattle.xr_enum.specs.Found.{AgreeIn, IsLeastIn, bit_by}
+use Rattle.xr_enum.specs.Found.{AgreeIn, IsFoundOfAll, IsLeastIn, bit_by}
 use Rattle.xr_enum.proofs.FoundNumbers.{more_ones}
 
 -- In a lane the lanes of a block are the bits of its number.
@@ -71,3 +72,37 @@ pub all_settle : (c : Contents) (nodes : List Node) (n : ℕ) → IsNextCone c n
 all_settle c nodes n is few enough agree =
     enumerated_law c (next_number c) nodes (root_bit nothing nodes) is few
     (λ number small. agree number (omega arith) (omega (arith, small, enough)))
+
+pub all_found : (c : Contents) (nodes : List Node) → IsNextCone c nodes → length (sources_of nodes) ≤ c.limits.enumerated
+    → IsFoundOfAll nodes None → HoldsNext c (Enumerated (root_bit nothing nodes))
+all_found c nodes is few found = all_settle c nodes found.end is few found.enough found.found_is
+
+-- Every filling gives a bit, so the empty one does, and that of each number.
+bit_given : (c : Contents) (nodes : List Node) (bit : Bool) (bits : ℕ → Bool) → IsNextCone c nodes
+    → HoldsNext c (Enumerated bit) → root_bit (by_sources nodes bits) nodes ≡ bit
+bit_given c nodes bit bits is holds =
+    let law = chosen_law c (next_number c) nodes bits is in
+    sym law.world ∙ holds.each (chosen (sources_of nodes) bits) law.filling law.alone
+
+differ_by : (a b : Bool) → beq a b ≡ false → a ≡ b → ⊥
+differ_by true true is same = absurd cc
+differ_by true false is same = absurd cc
+differ_by false true is same = absurd cc
+differ_by false false is same = absurd cc
+
+-- So it is no bit that the empty filling doesn't give, and none where a number gives the other.
+pub other_base : (c : Contents) (nodes : List Node) (bit base : Bool) → IsNextCone c nodes → base ≡ root_bit nothing nodes
+    → beq base bit ≡ false → HoldsNext c (Enumerated bit) → ⊥
+other_base c nodes bit base is base_is differ holds =
+    differ_by base bit differ (base_is ∙ bit_given c nodes bit nothing is holds)
+
+not_same : (a : Bool) → a ≡ not a → ⊥
+not_same true is = absurd cc
+not_same false is = absurd cc
+
+pub other_found : (c : Contents) (nodes : List Node) (bit : Bool) (number : ℕ) → IsNextCone c nodes
+    → IsFoundOfAll nodes (Some number) → HoldsNext c (Enumerated bit) → ⊥
+other_found c nodes bit number is found holds =
+    not_same (root_bit nothing nodes)
+    (bit_given c nodes bit nothing is holds ∙ sym (bit_given c nodes bit (number_bits number) is holds)
+    ∙ found.found_is.other)

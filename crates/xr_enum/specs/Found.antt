@@ -1,10 +1,9 @@
 -- Fillings by number that give the root another bit than the empty one, and those of them with the least ones.
 use Rattle.std.specs.Prelude.{◌≡◌, ℕ, ◌<◌, ◌≤◌, ◌^◌, Bool, false, Option, None, Some, List, MatchOption, count_ones, length, nat_le, nat_lt, not, if◌then◌else◌}
-use Rattle.xr_wave.specs.Contents.{Contents}
-use Rattle.xr_wave.specs.Token.{LineHolds, PairToken, pair_line}
+use Rattle.xr_model.specs.declared.line.Body.{Body}
 use Rattle.xr_cone_nodes.specs.declared.node.Node.{Node}
 use Rattle.xr_cone_nodes.specs.Nodes.{by_sources, chosen, nothing, number_bits, root_bit, sources_of}
-use Rattle.xr_pair.specs.Pairs.{other_of}
+use Rattle.xr_pair.specs.Pairs.{pair_with}
 
 -- The bit that the filling of a number gives the root.
 abbrev pub bit_by : List Node → ℕ → Bool
@@ -28,6 +27,13 @@ pub record IsLeastIn (nodes : List Node) (first end number : ℕ) : Type 0 where
 abbrev pub IsFoundIn : List Node → ℕ → ℕ → Option ℕ → Type 0
 IsFoundIn nodes first end found = MatchOption found (AgreeIn nodes first end) (IsLeastIn nodes first end)
 
+-- The same of all numbers below one that is at least 2 to the number of sources, and at most 2^16.
+pub record IsFoundOfAll (nodes : List Node) (found : Option ℕ) : Type 0 where
+  pub end : ℕ
+  pub enough : 2 ^ length (sources_of nodes) ≤ end
+  pub few : end ≤ 2 ^ 16
+  pub found_is : IsFoundIn nodes 0 end found
+
 -- All numbers of a block have as many ones as the one that is found.
 abbrev pub has_no_fewer : ℕ → Option ℕ → Bool
 has_no_fewer block None = false
@@ -44,8 +50,7 @@ fewer (Some number) second = Some (fewer_of number second)
 
 -- A pair of the empty filling and that of a number, with as few ones as any number below 2 to the number of sources
 -- that gives the other bit.
-pub record IsLeastPair (c : Contents) (nodes : List Node) (token : PairToken) : Type 0 where
-  pub holds : LineHolds c (pair_line token)
+pub record IsLeastPair (nodes : List Node) (body : Body) : Type 0 where
   pub number : ℕ
-  pub filling : other_of (root_bit nothing nodes) token ≡ chosen (sources_of nodes) (number_bits number)
+  pub fillings : body ≡ pair_with (root_bit nothing nodes) (chosen (sources_of nodes) (number_bits number))
   pub least : (n : ℕ) → n < 2 ^ length (sources_of nodes) → IsOther nodes n → count_ones number ≤ count_ones n

@@ -3,13 +3,12 @@ use Rattle.std.specs.Prelude.{◌≡◌, ℕ, ◌<◌, Bool, List, length, map}
 use Rattle.xr_design.specs.declared.place.Place.{Place}
 use Rattle.xr_design.specs.Filling.{IsFilling}
 use Rattle.xr_wave.specs.Contents.{Contents, job}
-use Rattle.xr_wave.specs.Token.{LineHolds, pair_line, settled_line}
-use Rattle.xr_wave.specs.declared.token.How.TheVariants.{Enumerated}
+use Rattle.xr_wave.specs.Token.{HoldsWithoutLog}
 use Rattle.xr_cone_nodes.specs.declared.node.Node.{Node}
 use Rattle.xr_cone_nodes.specs.Traced.{IsConeOf, IsNextCone, world_in}
 use Rattle.xr_lanes.specs.Pairs.{bit_under}
 use Rattle.xr_lanes.specs.declared.shown.Shown.{Shown}
-use Rattle.xr_lanes.specs.declared.shown.Shown.TheVariants.{Earlier, Nothing, Pair, Settled}
+use Rattle.xr_lanes.specs.declared.shown.Shown.TheVariants.{Earlier, Nothing, Verdict}
 
 -- Every filling gives it a bit.
 abbrev pub GivesNext : Contents → Bool → Type 0
@@ -28,10 +27,9 @@ pub record HasNextCone (c : Contents) (place : ℕ) : Type 0 where
   pub next : IsNextCone c others
   pub same : map (λ (node : Node). node.body) nodes ≡ map (λ (node : Node). node.body) others
 
--- What is shown of it is so: its token holds, that of an enumeration where every filling gives one bit; or the
--- cone of an earlier place is like its own.
+-- What is shown of it is so: a line holds there, an enumeration or a pair; or the cone of an earlier place is like its
+-- own.
 abbrev pub IsShownNext : Contents → Shown → Type 0
-IsShownNext c (Pair token) = LineHolds c (pair_line token)
-IsShownNext c (Settled token) = LineHolds c (settled_line token) × ((bit : Bool) × (token.how ≡ Enumerated bit))
+IsShownNext c (Verdict line) = HoldsWithoutLog c line
 IsShownNext c (Earlier place) = HasNextCone c place
 IsShownNext c Nothing = Unit {0}

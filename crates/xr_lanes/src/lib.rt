@@ -6,7 +6,7 @@
 //! that it is carried from, turned. Only a place whose class is Free or Line makes a node: its bits in the lanes, by
 //! its table from those of its arguments, and the list of its sources, which is shared where an argument has the same.
 //! Literals are kept for the last three steps or more, which is as far back as a place reads. The nodes are those of a
-//! graph (`xr_graph`) too, as long as there is room for it. A walk looks at each Line place, and finds its token where
+//! graph (`xr_graph`) too, as long as there is room for it. A walk looks at each Line place, and finds its verdict where
 //! lanes differ, where an earlier place has an equal node (`equals`), or by the tables that nodes share over at most 16
 //! sources (`xr_tables`); or else it asks for its cone, which is found in the graph. Once a wave is written, lanes that
 //! cover it from its first place on tell the root of each place, and the cone of that. Start at specs/Lanes.antt, then

@@ -5,7 +5,7 @@ ghost use Rattle.std.specs.List.{AllByRecursion};
 ghost use Rattle.xr_design.specs.Circuit.{job_in};
 ghost use Rattle.xr_design.specs.Fits.{place_at};
 ghost use Rattle.xr_design.specs.Job.{places_of};
-ghost use Rattle.xr_wave.specs.Token.{HasNext, LineHolds, pair_line};
+ghost use Rattle.xr_wave.specs.Token.{HasNext, PairHolds};
 ghost use Rattle.xr_cone_nodes.specs.Lanes.{HasLanes, IsOne};
 ghost use Rattle.xr_lane_nodes.specs.Given.{lane_given};
 ghost use Rattle.xr_lane_nodes.specs.InWave.{bit_in_lane};
@@ -19,20 +19,21 @@ use xr_base::{Items, Memory};
 use xr_cone_nodes::LaneBits;
 use xr_design::{Circuit, Filling, Place};
 use xr_lane_nodes::{Nodes, given};
-use xr_wave::{Pair, Wave};
+use xr_model::Body;
+use xr_wave::{Verdict, Wave};
 
 /// The lane of the empty filling.
 pub const EMPTY: u32 = 192;
 
-/// The token of the next place, where two lanes differ there and its sources are kept.
+/// The verdict of the next place, where two lanes differ there and its sources are kept.
 pub fn pair_of(
     alloc: Global,
     wave: &Wave<'_>,
     nodes: &Nodes,
     node: usize,
-) -> Result<Option<Pair>, Memory>
+) -> Result<Option<Verdict>, Memory>
     requires { IsNextNode wave.now nodes.now (length wave.now.written) node }
-    ensures holds { IfOk result (λ found. IfSome found (λ pair. LineHolds wave.now (pair_line pair))) }
+    ensures holds { IfOk result (λ found. IfSome found (PairHolds wave.now)) }
     ensures none { IfOk result (λ found. IsNone found
         → HasNoPair nodes.now node) }
 {
@@ -50,11 +51,11 @@ fn pair_over(
     wave: &Wave<'_>,
     list: &[u32],
     lane_bits: LaneBits,
-) -> Result<Option<Pair>, Memory>
+) -> Result<Option<Verdict>, Memory>
     requires within { HasNext wave.now }
     requires sources { AreSourcesIn wave.now (length wave.now.written) list.now }
     requires bits { HasLanes lane_bits (bit_in_lane wave.now (length wave.now.written)) }
-    ensures holds { IfOk result (λ found. IfSome found (λ pair. LineHolds wave.now (pair_line pair))) }
+    ensures holds { IfOk result (λ found. IfSome found (PairHolds wave.now)) }
     ensures none { IfOk result (λ found. IsNone found → IsSame lane_bits) }
 {
     let circuit = wave.circuit();
@@ -64,9 +65,9 @@ fn pair_over(
             let other = Items::from_vec(ones(alloc, &circuit, list, lane)?);
             let empty = Items::from_vec(Vec::new(alloc));
             if lane_bits.in_lane(EMPTY) {
-                Ok(Some(Pair::from_law(wave, other, empty)))
+                Ok(Some(Verdict::from_law(wave, Body::Pair(other, empty))))
             } else {
-                Ok(Some(Pair::from_law(wave, empty, other)))
+                Ok(Some(Verdict::from_law(wave, Body::Pair(empty, other))))
             }
         }
     }

@@ -8,7 +8,7 @@ ghost use Rattle.xr_design.specs.Circuit.{job_in};
 ghost use Rattle.xr_design.specs.Fits.{place_at};
 ghost use Rattle.xr_design.specs.Job.{places_of};
 ghost use Rattle.xr_wave.specs.Contents.{job, next_number};
-ghost use Rattle.xr_wave.specs.Token.{HasNext, LineHolds, pair_line};
+ghost use Rattle.xr_wave.specs.Token.{HasNext, HoldsWithoutLog};
 ghost use Rattle.xr_lane_nodes.specs.Made.{AreSourcesIn};
 ghost use Rattle.xr_lanes.specs.Shown.{IsShownNext};
 ghost use Rattle.xr_lanes.specs.Shared.{AreListable, ListsAll, IsListIn, IsNextIn, IsOtherNext, IsSharedIn, IsSharedOf, IsSharedOfAny, KeepsShared};
@@ -20,8 +20,9 @@ use xr_base::{Items, Memory};
 use xr_design::{Circuit, Place};
 use xr_graph::Graph;
 use xr_lane_nodes::union;
+use xr_model::Body;
 use xr_tables::{Compared, Other, SourceTables};
-use xr_wave::{Pair, Wave};
+use xr_wave::{Verdict, Wave};
 
 /// How many sources the list has at most.
 const MOST: usize = 16;
@@ -133,7 +134,7 @@ impl Shared {
     {
         wave.recall();
         match self.tables.compare(alloc, graph, node)? {
-            Compared::Other(other) => Ok(Shown::Pair(pair_by(alloc, wave, other))),
+            Compared::Other(other) => Ok(Shown::Verdict(pair_by(alloc, wave, other))),
             Compared::Same(bit) => Ok(settled_if_few(wave, sources, bit)),
             Compared::Nothing => Ok(Shown::Nothing),
         }
@@ -159,16 +160,16 @@ fn places_at(alloc: Global, circuit: &Circuit<'_>, numbers: &[u32]) -> Result<Ve
 }
 
 /// The empty filling and another one are a pair of the next place, in the order that its bit under the empty one says.
-fn pair_by(alloc: Global, wave: &Wave<'_>, other: Other) -> Pair
+fn pair_by(alloc: Global, wave: &Wave<'_>, other: Other) -> Verdict
     requires next { HasNext wave.now }
     requires other { IsOtherNext wave.now other }
-    ensures { LineHolds wave.now (pair_line result) }
+    ensures { HoldsWithoutLog wave.now result }
 {
     let Other { filling, empty } = other;
     let none = Items::from_vec(Vec::new(alloc));
     if empty {
-        Pair::from_law(wave, filling, none)
+        Verdict::from_law(wave, Body::Pair(filling, none))
     } else {
-        Pair::from_law(wave, none, filling)
+        Verdict::from_law(wave, Body::Pair(none, filling))
     }
 }

@@ -10,17 +10,16 @@ use crate::lanes::certain_value;
 use std::alloc::Global;
 use xr_base::Memory;
 use xr_cell::Value;
-use xr_wave::{How, Pair, Settled, Wave};
+use xr_model::Body;
+use xr_wave::{Verdict, Wave};
 
 /// What is shown of the next place. It must be spent.
 #[must_use]
 #[derive(Debug)]
 pub enum Shown {
-    /// Two fillings give it 0 and 1.
-    Pair(Pair),
-    /// Every filling of its sources, of which there are few, gives it one bit.
-    Settled(Settled),
-    /// Neither, but the cone of a written place, by its number, has the same bodies as its own.
+    /// Two fillings give it 0 and 1, or every filling of its sources, of which there are few, gives it one bit.
+    Verdict(Verdict),
+    /// No verdict, but the cone of a written place, by its number, has the same bodies as its own.
     Earlier(usize),
     /// Nothing.
     Nothing,
@@ -36,7 +35,7 @@ pub fn settled_if_few(wave: &Wave<'_>, sources: &[u32], bit: bool) -> Shown
     if sources.len() > wave.limits().enumerated as usize {
         return Shown::Nothing;
     }
-    Shown::Settled(Settled::from_law(wave, How::Enumerated(bit)))
+    Shown::Verdict(Verdict::from_law(wave, Body::Enumerated(bit)))
 }
 
 /// What a written place shows of the next one, which has the bit of that place in every world and a cone of the same
@@ -90,7 +89,7 @@ fn pair_as(alloc: Global, wave: &Wave<'_>, place: usize) -> Result<Shown, Memory
 {
     let circuit = wave.circuit();
     match wave.pair_of(alloc, circuit.place_of(place))? {
-        Some((zero, one)) => Ok(Shown::Pair(Pair::from_law(wave, zero, one))),
+        Some((zero, one)) => Ok(Shown::Verdict(Verdict::from_law(wave, Body::Pair(zero, one)))),
         None => Ok(Shown::Earlier(place)),
     }
 }

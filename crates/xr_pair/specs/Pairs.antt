@@ -1,7 +1,9 @@
 -- When two fillings are no pair, and when 256 fillings of the sources agree.
-use Rattle.std.specs.Prelude.{◌≡◌, ℕ, ◌<◌, ◌≤◌, Bool, true, false, List, count_ones, not}
+use Rattle.std.specs.Prelude.{◌≡◌, ℕ, ◌<◌, ◌≤◌, Bool, true, false, List, [], count_ones, not}
 use Rattle.xr_design.specs.declared.place.Place.{Place}
-use Rattle.xr_cone_nodes.specs.OfWave.{Contents, next_number, PairToken}
+use Rattle.xr_model.specs.declared.line.Body.{Body}
+use Rattle.xr_model.specs.declared.line.Body.TheVariants.{Pair}
+use Rattle.xr_cone_nodes.specs.OfWave.{Contents, next_number}
 use Rattle.xr_cone_nodes.specs.declared.node.Node.{Node}
 use Rattle.xr_cone_nodes.specs.Lanes.{in_lane, root_in_lane}
 use Rattle.xr_cone_nodes.specs.Nodes.{nothing, root_bit}
@@ -33,10 +35,10 @@ pub record IsLeastOther (nodes : List Node) (given : List (List ℕ)) (lane : �
   pub differs : Differs nodes given lane
   pub least : (other : ℕ) → other < 256 → Differs nodes given other → count_ones lane ≤ count_ones other
 
--- Of a pair the filling that gives another bit than some.
-abbrev pub other_of : Bool → PairToken → List Place
-other_of true token = token.zero
-other_of false token = token.one
+-- The empty filling and another one, where the empty one gives a bit and the other gives the other bit.
+abbrev pub pair_with : Bool → List Place → Body
+pair_with true other = Pair other []
+pair_with false other = Pair [] other
 
 -- Lanes have a 1 in a lane whose number is among those with the least ones.
 pub record IsLeast (lane_bits : List ℕ) (lane : ℕ) : Type 0 where

@@ -2,14 +2,16 @@
 
 ghost use Rattle.std.specs.Prelude.{◌≡◌, IfErr, IfOk};
 ghost use Rattle.xr_design.specs.Filling.{IsFilling};
-ghost use Rattle.xr_cone_nodes.specs.OfWave.{job, LineHolds, pair_line};
+ghost use Rattle.xr_cone_nodes.specs.OfWave.{LineHolds, job};
+ghost use Rattle.xr_model.specs.declared.line.Body.TheVariants.{Pair};
 ghost use Rattle.xr_pair.specs.Pairs.{IsRefusal};
 ghost use Rattle.xr_cone_nodes.specs.Traced.{IsNextCone};
 
 use std::alloc::Global;
 use xr_base::Memory;
-use xr_cone_nodes::{Cone, Pair, Wave};
+use xr_cone_nodes::{Cone, Verdict, Wave};
 use xr_design::Filling;
+use xr_model::Body;
 
 /// Why two fillings are no pair.
 #[derive(Clone, Copy, Debug, PartialEq, Eq)]
@@ -32,7 +34,7 @@ impl From<Memory> for BadPair {
     }
 }
 
-/// The token of the next place, where the world of the first filling gives 0 there and that of the second gives 1.
+/// The verdict of the next place, where the world of the first filling gives 0 there and that of the second gives 1.
 /// Takes 32 bytes a node and a source of the cone, and a set of a filling's places.
 pub fn check_pair(
     alloc: Global,
@@ -40,13 +42,12 @@ pub fn check_pair(
     cone: &Cone,
     zero: Filling,
     one: Filling,
-) -> Result<Pair, BadPair>
+) -> Result<Verdict, BadPair>
     requires cone { IsNextCone wave.now cone.now.nodes }
     requires zero { IsFilling (job wave.now) zero }
     requires one { IsFilling (job wave.now) one }
-    ensures holds { IfOk result (λ pair. LineHolds wave.now (pair_line pair)) }
-    ensures zero { IfOk result (λ pair. pair.zero ≡ zero) }
-    ensures one { IfOk result (λ pair. pair.one ≡ one) }
+    ensures holds { IfOk result (LineHolds wave.now) }
+    ensures body { IfOk result (λ verdict. verdict.body ≡ Pair zero one) }
     ensures refusal { IfErr result (IsRefusal wave.now zero one) }
 {
     if cone.value(alloc, &zero)? {
@@ -55,5 +56,5 @@ pub fn check_pair(
     if !cone.value(alloc, &one)? {
         return Err(BadPair::NotOne);
     }
-    Ok(Pair::from_law(wave, zero, one))
+    Ok(Verdict::from_law(wave, Body::Pair(zero, one)))
 }

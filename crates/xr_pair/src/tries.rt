@@ -3,14 +3,15 @@
 ghost use Rattle.std.specs.Prelude.{◌≡◌, ◌<◌, ◌↔◌, IfOk, IfSome, IsNone, MatchOption, length};
 ghost use Rattle.xr_cone_nodes.specs.Lanes.{lane_of};
 ghost use Rattle.xr_cone_nodes.specs.Nodes.{chosen, nothing, root_bit, sources_of};
-ghost use Rattle.xr_cone_nodes.specs.OfWave.{LineHolds, pair_line};
-ghost use Rattle.xr_pair.specs.Pairs.{AllAgree, Differs, IsLeastOther, other_of};
+ghost use Rattle.xr_cone_nodes.specs.OfWave.{PairHolds};
+ghost use Rattle.xr_pair.specs.Pairs.{AllAgree, Differs, IsLeastOther, pair_with};
 ghost use Rattle.xr_cone_nodes.specs.Traced.{IsNextCone};
 
 use crate::lanes::least_lane;
 use std::alloc::Global;
 use xr_base::{Items, Memory};
-use xr_cone_nodes::{Cone, ConeLanes, LaneBits, Pair, Wave};
+use xr_cone_nodes::{Cone, ConeLanes, LaneBits, Verdict, Wave};
+use xr_model::Body;
 
 /// Tries the 256 fillings in which source i has the bits of given[i], or 0 where nothing is given. Where one gives
 /// the place another bit than the empty filling, the two are its pair. Takes 32 bytes a node, and a filling.
@@ -19,9 +20,9 @@ pub fn try_lanes(
     wave: &Wave<'_>,
     cone: &Cone,
     given: &[LaneBits],
-) -> Result<Option<Pair>, Memory>
+) -> Result<Option<Verdict>, Memory>
     requires { IsNextCone wave.now cone.now.nodes }
-    ensures holds { IfOk result (λ found. IfSome found (λ pair. LineHolds wave.now (pair_line pair))) }
+    ensures holds { IfOk result (λ found. IfSome found (PairHolds wave.now)) }
     ensures none { IfOk result (λ found. IsNone found ↔ AllAgree cone.now.nodes given.now) }
 {
     let mut lane_table = ConeLanes::new(alloc, cone)?;
@@ -35,10 +36,10 @@ pub fn try_in(
     cone: &Cone,
     lane_table: &mut ConeLanes,
     given: &[LaneBits],
-) -> Result<Option<Pair>, Memory>
+) -> Result<Option<Verdict>, Memory>
     requires cone { IsNextCone wave.now cone.now.nodes }
     requires room { lane_table.old.nodes ≡ length cone.now.nodes }
-    ensures holds { IfOk result (λ found. IfSome found (λ pair. LineHolds wave.now (pair_line pair))) }
+    ensures holds { IfOk result (λ found. IfSome found (PairHolds wave.now)) }
     ensures none { IfOk result (λ found. IsNone found ↔ AllAgree cone.now.nodes given.now) }
     ensures room { lane_table.new.nodes ≡ lane_table.old.nodes }
 {
@@ -68,19 +69,19 @@ pub fn pair_of_lane(
     cone: &Cone,
     given: &[LaneBits],
     lane: u32,
-) -> Result<Pair, Memory>
+) -> Result<Verdict, Memory>
     requires cone { IsNextCone wave.now cone.now.nodes }
     requires lane { lane < 256 }
     requires differs { Differs cone.now.nodes given.now lane }
-    ensures holds { IfOk result (λ pair. LineHolds wave.now (pair_line pair)) }
-    ensures other { let other = chosen (sources_of cone.now.nodes) (lane_of given.now lane) in
-        IfOk result (λ pair. other_of (root_bit nothing cone.now.nodes) pair ≡ other) }
+    ensures holds { IfOk result (PairHolds wave.now) }
+    ensures body { let other = chosen (sources_of cone.now.nodes) (lane_of given.now lane) in
+        IfOk result (λ verdict. verdict.body ≡ pair_with (root_bit nothing cone.now.nodes) other) }
 {
     let other = cone.chosen(alloc, given, lane)?;
     let empty = Items::from_vec(Vec::new(alloc));
     if cone.base() {
-        Ok(Pair::from_law(wave, other, empty))
+        Ok(Verdict::from_law(wave, Body::Pair(other, empty)))
     } else {
-        Ok(Pair::from_law(wave, empty, other))
+        Ok(Verdict::from_law(wave, Body::Pair(empty, other)))
     }
 }

@@ -1,10 +1,13 @@
 -- What the answers of a search on a query are worth.
-use Rattle.std.proofs.Common.{◌≡◌, List, [], length, sym, subst, ap, ◌∙◌}
-use Rattle.std.specs.Prelude.{ℤ, Bool}
+use Rattle.std.proofs.Common.{◌≡◌, List, [], length, sym, subst, ◌∙◌}
+use Rattle.std.specs.Prelude.{ℤ, Bool, true, false}
 use Rattle.std.specs.List.{All}
 use Rattle.xr_design.specs.Waveform.{GivesBoth}
 use Rattle.xr_design.specs.declared.place.Place.{Place}
 use Rattle.xr_model.specs.Stated.{pair_of, swapped}
+use Rattle.xr_model.specs.declared.line.Body.{Body}
+use Rattle.xr_model.specs.declared.line.Body.TheVariants.{Enumerated, Refuted, Pair, Undecided}
+use Rattle.xr_model.specs.declared.line.Line.{Line as ALine}
 use Rattle.xr_proof.specs.Assignment.{HasNoZero, IsModel}
 use Rattle.xr_proof.specs.Log.{AreFresh, Fit, Refutes}
 use Rattle.xr_proof.specs.declared.clause.Cnf.{Cnf}
@@ -17,9 +20,10 @@ use Rattle.xr_cnf.specs.Models.{GivesPair, HasModel}
 use Rattle.xr_cnf.specs.Query.{IsQueryOfNodes}
 use Rattle.xr_cnf.proofs.ConeLiterals.{variables_counted}
 use Rattle.xr_wave.specs.Contents.{Contents, job, next_number}
-use Rattle.xr_wave.specs.Token.{BudgetToken, LineHolds, PairToken, SettledToken, body_of, budget_line, pair_line, settled_line}
-use Rattle.xr_wave.specs.declared.token.How.TheVariants.{Enumerated as HowEnumerated, Refuted as HowRefuted}
+use Rattle.xr_wave.specs.Token.{HasNoLog, HoldsWithoutLog, LineHolds, PairHolds}
 use Rattle.xr_along.specs.Accepted.{AcceptsLine, BodyFits, LogFits}
+use Rattle.xr_enum.specs.Decision.{IsDecision, both_bits, one_bit}
+use Rattle.xr_pair.specs.Pairs.{pair_with}
 
 -- A log that refutes the query refutes that of the next place, and one that is fresh for it is fresh there.
 pub refutes_next : (c : Contents) (nodes : List Node) (cnf : Cnf) (log : List (List ℤ)) → IsNextCone c nodes
@@ -38,30 +42,44 @@ names_variables : (c : Contents) (nodes : List Node) (cnf : Cnf) (log : List (Li
 names_variables c nodes cnf log cone query fit no_zero =
     record { fit = subst (λ v. Fit v log) (query c (next_number c) cone).vars fit; no_zero = no_zero }
 
-pub refuted_accepted : (c : Contents) (nodes : List Node) (cnf : Cnf) (token : SettledToken) (bit : Bool) (log : List (List ℤ))
+pub refuted_accepted : (c : Contents) (nodes : List Node) (cnf : Cnf) (line : ALine) (bit : Bool) (log : List (List ℤ))
     → IsNextCone c nodes → IsQueryOfNodes nodes cnf → Fit cnf.vars log → All HasNoZero log
-    → token.how ≡ HowRefuted bit log → LineHolds c (settled_line token) → AcceptsLine c (settled_line token)
-refuted_accepted c nodes cnf token bit log cone query fit no_zero how holds = record {
+    → line.body ≡ Refuted bit log → LineHolds c line → AcceptsLine c line
+refuted_accepted c nodes cnf line bit log cone query fit no_zero is holds = record {
   line_holds = holds;
-  fits = subst (BodyFits c) (sym (ap body_of how)) (names_variables c nodes cnf log cone query fit no_zero);
+  fits = subst (BodyFits c) (sym is) (names_variables c nodes cnf log cone query fit no_zero);
 }
 
-pub licence_accepted : (c : Contents) (nodes : List Node) (cnf : Cnf) (token : BudgetToken) (log : List (List ℤ))
-    → IsNextCone c nodes → IsQueryOfNodes nodes cnf → Fit cnf.vars log → All HasNoZero log → token.log ≡ log
-    → LineHolds c (budget_line token) → AcceptsLine c (budget_line token)
-licence_accepted c nodes cnf token log cone query fit no_zero is holds = record {
+pub licence_accepted : (c : Contents) (nodes : List Node) (cnf : Cnf) (line : ALine) (log : List (List ℤ))
+    → IsNextCone c nodes → IsQueryOfNodes nodes cnf → Fit cnf.vars log → All HasNoZero log
+    → line.body ≡ Undecided log → LineHolds c line → AcceptsLine c line
+licence_accepted c nodes cnf line log cone query fit no_zero is holds = record {
   line_holds = holds;
-  fits = subst (LogFits c) (sym is) (names_variables c nodes cnf log cone query fit no_zero);
+  fits = subst (BodyFits c) (sym is) (names_variables c nodes cnf log cone query fit no_zero);
 }
 
 -- A pair and an enumeration have no log.
-pub pair_accepted : (c : Contents) (token : PairToken) → LineHolds c (pair_line token) → AcceptsLine c (pair_line token)
-pair_accepted c token holds = record { line_holds = holds; fits = tt }
+pub pair_accepted : (c : Contents) (line : ALine) → PairHolds c line → AcceptsLine c line
+pair_accepted c line pair = record { line_holds = pair.holds; fits = subst (BodyFits c) (sym pair.body_is) tt }
 
-pub enumerated_accepted : (c : Contents) (token : SettledToken) (bit : Bool) → token.how ≡ HowEnumerated bit
-    → LineHolds c (settled_line token) → AcceptsLine c (settled_line token)
-enumerated_accepted c token bit how holds =
-    record { line_holds = holds; fits = subst (BodyFits c) (sym (ap body_of how)) tt }
+no_log_fits : (c : Contents) (body : Body) → HasNoLog body → BodyFits c body
+no_log_fits c (Enumerated bit) none = tt
+no_log_fits c (Refuted bit log) none = absurd none
+no_log_fits c (Pair zero one) none = tt
+no_log_fits c (Undecided log) none = absurd none
+
+pub simple_accepted : (c : Contents) (line : ALine) → HoldsWithoutLog c line → AcceptsLine c line
+simple_accepted c line simple = record { line_holds = simple.holds; fits = no_log_fits c line.body simple.no_log }
+
+pair_fits : (c : Contents) (base : Bool) (other : List Place) → BodyFits c (pair_with base other)
+pair_fits c true other = tt
+pair_fits c false other = tt
+
+pub decision_accepted : (c : Contents) (nodes : List Node) (line : ALine) → IsDecision c nodes line → AcceptsLine c line
+decision_accepted c nodes line (one_bit bit holds is) =
+    record { line_holds = holds; fits = subst (BodyFits c) (sym is) tt }
+decision_accepted c nodes line (both_bits holds least) =
+    record { line_holds = holds; fits = subst (BodyFits c) (sym least.fillings) (pair_fits c _ _) }
 
 has_model : (c : Contents) (nodes : List Node) (cnf : Cnf) (values : List Bool) → IsNextCone c nodes
     → IsQueryOfNodes nodes cnf → IsModel cnf.vars cnf.clauses values → HasModel c (next_number c) values

@@ -11,18 +11,18 @@ use Rattle.xr_model.specs.declared.class.ClassByNumber.{ClassByNumber}
 use Rattle.xr_model.specs.declared.class.ClassByNumber.TheVariants.{Local, Free, Carried, Line}
 use Rattle.xr_design.proofs.Exact.{one_exact}
 use Rattle.xr_model.proofs.Uniqueness.{sound_exact, unique_certain}
-use Rattle.xr_wave.specs.Advance.{GoesOn, IfObjects, IsAdvanced, IsObjected, IsPlain, more, plain_written, stays}
+use Rattle.xr_wave.specs.Advance.{GoesOn, IfObjects, IsAdvanced, IsObjected, IsPlain, Objects, Reports, more, plain_written, stays}
 use Rattle.xr_wave.specs.Advance.{with_written}
 use Rattle.xr_wave.specs.declared.advance.AdvanceErr.{AdvanceErr}
 use Rattle.xr_wave.specs.declared.advance.AdvanceErr.TheVariants as stopped
 use Rattle.xr_wave.specs.Contents.{Contents, IsFinished, IsWave, class_or_done, job, next_seen, shown_in}
-use Rattle.xr_wave.specs.Token.{HasNext, IsLineNext, LineAgrees, with_line}
+use Rattle.xr_wave.specs.Token.{HasNext, IsLineNext, LineAgrees, LineContradicts, LineHolds, with_line, written_by_line}
 use Rattle.xr_model.specs.declared.line.Line.{Line as ALine}
 use Rattle.xr_along.specs.Accepted.{AcceptsLine}
 use Rattle.xr_along.specs.Along.{GoesAlong, by_line}
 use Rattle.xr_along.specs.Along as walk
 use Rattle.xr_along.proofs.Fitted.{along}
-use Rattle.xr_repair.proofs.Objecting.{job_along, plain_more, refused_along, same_job}
+use Rattle.xr_repair.proofs.Objecting.{job_along, line_objects, plain_more, refused_along, same_job}
 use Rattle.xr_repair.specs.Repaired.{IsOfJob, IsOnlyOne, by_class}
 use Rattle.xr_repair.specs.Step.{IsFurther, IsNextOf, RefusedStep, stopped_by}
 use Rattle.xr_repair.specs.Walk.{AreRightOf}
@@ -135,10 +135,22 @@ pub refused_further : (a b : Contents) (result : Result Contents RepairErr) → 
 refused_further a b (Ok c) same refused = tt
 refused_further a b (Err e) same refused = refused_along a b e same refused
 
-pub never : (b : Bool) → b ≡ true → b ≡ false → ⊥
-never b holds fails = absurd cc
+-- A verdict that isn't written ends the walk.
+pub written_refused : (c : Contents) (line : ALine) (err : AdvanceErr) → IsWave c → IsLineNext c → LineHolds c line
+    → (Objects {A = Contents} (Err err) → LineContradicts c line) → IfObjects (Reports c (written_by_line c line)) err
+    → RefusedStep c (stopped_by err)
+written_refused c line (stopped.Optimistic optimistic) wave next holds contradicts reports =
+    line_objects c line optimistic wave next holds (contradicts tt) reports
+written_refused c line stopped.Memory wave next holds contradicts reports = tt
 
--- A line that is spent goes along.
+-- A place more is written by a verdict, and the wave goes along its line.
+pub next_written : (a b : Contents) (line : ALine) → b ≡ with_line a line → IsNextOf a b
+next_written a b line is = record {
+  same = subst (IsOfJob a) (sym is) (record { design = refl; order = refl; stim = refl; history = refl; limits = refl });
+  written = written_by_line a line;
+  is = ap (λ (c : Contents). c.written) is;
+}
+
 pub spent_along : (a b : Contents) (line : ALine) → IsLineNext a → AcceptsLine a line → LineAgrees a line → b ≡ with_line a line
     → GoesAlong a b
 spent_along a b line next accepts agrees is = subst (GoesAlong a) (sym is) (by_line walk.stays line next accepts agrees)

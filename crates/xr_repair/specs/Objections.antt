@@ -1,5 +1,5 @@
 -- What the objections of a job tell.
-use Rattle.std.specs.Prelude.{◌≡◌, ℕ, length}
+use Rattle.std.specs.Prelude.{◌≡◌, length}
 use Rattle.xr_design.specs.Waveform.{ExactBy}
 use Rattle.xr_laws.specs.Alike.{IsOneFor, IsOneForHistories}
 use Rattle.xr_laws.specs.Objection.{AllDecide, Objects}

@@ -3,13 +3,9 @@ use Rattle.std.specs.Prelude.{◌≡◌, ◌<◌, ◌++◌, ◌∷◌, [], lengt
 use Rattle.xr_design.specs.declared.waveform.Written.{Written}
 use Rattle.xr_wave.specs.Advance.{IsPlain}
 use Rattle.xr_wave.specs.Contents.{Contents, next_seen}
-use Rattle.xr_along.specs.Accepted.{AcceptsLine}
 use Rattle.xr_wave.specs.declared.advance.AdvanceErr.{AdvanceErr}
 use Rattle.xr_wave.specs.declared.advance.AdvanceErr.TheVariants as stopped
-use Rattle.xr_wave.specs.Token.{budget_line, pair_line, settled_line}
 use Rattle.xr_repair.specs.Repaired.{IsObjection, IsOfJob}
-use Rattle.xr_repair.specs.declared.found.Found.{Found}
-use Rattle.xr_repair.specs.declared.found.Found.TheVariants.{Settled, Pair, Budget}
 use Rattle.xr_repair.specs.declared.refusal.RepairErr.{RepairErr}
 use Rattle.xr_repair.specs.declared.refusal.RepairErr.TheVariants.{Optimistic, Memory}
 
@@ -24,12 +20,6 @@ pub record IsFurther (before after : Contents) : Type 0 where
   pub same : IsOfJob before after
   pub more : length before.written < length after.written
   pub stops : IsPlain (next_seen after) → ⊥
-
--- What is found of the next place is accepted there.
-abbrev pub IsShown : Contents → Found → Type 0
-IsShown c (Settled token) = AcceptsLine c (settled_line token)
-IsShown c (Pair token) = AcceptsLine c (pair_line token)
-IsShown c (Budget token) = AcceptsLine c (budget_line token)
 
 -- Why the walk ends where a wave doesn't go on.
 abbrev pub stopped_by : AdvanceErr → RepairErr

@@ -1,166 +1,149 @@
-//! What the next place, a Line place, has under all fillings: by lanes, by an earlier place, by tables over few sources, by
-//! a guess that is tested, or else by its cone.
+//! What the next place, a Line place, has under all fillings: the ways in which its verdict is found, in the order in which
+//! they are tried.
 
-ghost use Rattle.std.specs.Prelude.{◌<◌, ◌≤◌, IfOk, OnOk, length};
+ghost use Rattle.std.specs.Prelude.{IfOk, IfSome, OnOk};
+ghost use Rattle.xr_along.specs.Accepted.{AcceptsLine};
 ghost use Rattle.xr_along.specs.Along.{GoesAlong};
-ghost use Rattle.xr_cone_nodes.specs.Traced.{IsNextCone};
-ghost use Rattle.xr_cone_nodes.specs.Nodes.{sources_of};
 ghost use Rattle.xr_cone.specs.Lanes.{IsLookedAt};
-ghost use Rattle.xr_cone.specs.Shown.{HasNextCone};
-ghost use Rattle.xr_repair.specs.Step.{IsShown};
 ghost use Rattle.xr_repair.specs.Walk.{AreRightOf, start_of};
 ghost use Rattle.xr_wave.specs.Token.{IsLineNext};
 
 use crate::aids::Aids;
 use crate::earlier::find_by_log;
 use crate::fillings::try_fillings;
-use crate::found::Found;
 use crate::guessed::find_guessed;
 use crate::pooled::find_pooled;
 use crate::search::search;
 use std::alloc::Global;
 use xr_base::Memory;
-use xr_cone::{Cone, Shown};
-use xr_enum::{Decided, decide, has_few_sources};
-use xr_wave::Wave;
+use xr_cone::Shown;
+use xr_enum::{decide, has_few_sources};
+use xr_wave::{Verdict, Wave};
 
-/// What is shown of the next place: by two lanes that differ there, or else by an earlier place, by tables or by its cone.
-#[tactic(auto, using(crate::proofs::Searching::pair_accepted))]
-pub fn find(alloc: Global, wave: &Wave<'_>, aids: &mut Aids) -> Result<Found, Memory>
+/// The verdict of the next place. Tables come before a guess, since that reads a node again for each place, and tables once.
+pub fn find(alloc: Global, wave: &Wave<'_>, aids: &mut Aids) -> Result<Verdict, Memory>
     requires class { IsLineNext wave.now }
     requires along { GoesAlong (start_of wave.now) wave.now }
     requires right { AreRightOf wave.now aids.old }
-    ensures shown { IfOk result (IsShown wave.now) }
+    ensures accepts { IfOk result (AcceptsLine wave.now) }
     ensures right { OnOk result (AreRightOf wave.now aids.new) }
 {
     aids.cones.lanes.look(alloc, wave)?;
-    match aids.cones.lanes.find(alloc, wave)? {
-        Some(pair) => Ok(Found::Pair(pair)),
-        None => find_by_equal(alloc, wave, aids),
+    if let Some(verdict) = find_by_lanes(alloc, wave, aids)? {
+        return Ok(verdict);
     }
+    if let Some(verdict) = find_by_equal(alloc, wave, aids)? {
+        return Ok(verdict);
+    }
+    if let Some(verdict) = find_by_tables(alloc, wave, aids)? {
+        return Ok(verdict);
+    }
+    if let Some(verdict) = find_by_pool(alloc, wave, aids)? {
+        return Ok(verdict);
+    }
+    if let Some(verdict) = find_by_guess(alloc, wave, aids)? {
+        return Ok(verdict);
+    }
+    find_by_cone(alloc, wave, aids)
 }
 
-/// The same by an earlier place that rests on the same, or else by tables, by a guess or by its cone.
+/// By two lanes that differ there.
 #[tactic(auto, using(crate::proofs::Searching::pair_accepted))]
-fn find_by_equal(alloc: Global, wave: &Wave<'_>, aids: &mut Aids) -> Result<Found, Memory>
+fn find_by_lanes(alloc: Global, wave: &Wave<'_>, aids: &mut Aids) -> Result<Option<Verdict>, Memory>
+    requires class { IsLineNext wave.now }
+    requires right { AreRightOf wave.now aids.old }
+    requires looked { IsLookedAt wave.now aids.old.cones.lanes }
+    ensures accepts { IfOk result (λ found. IfSome found (AcceptsLine wave.now)) }
+    ensures right { OnOk result (AreRightOf wave.now aids.new) }
+    ensures looked { OnOk result (IsLookedAt wave.now aids.new.cones.lanes) }
+{
+    aids.cones.lanes.find(alloc, wave)
+}
+
+/// By an earlier place that rests on the same: by what it is, or by the log of its line.
+#[tactic(auto, using(crate::proofs::Searching::simple_accepted))]
+fn find_by_equal(alloc: Global, wave: &Wave<'_>, aids: &mut Aids) -> Result<Option<Verdict>, Memory>
     requires class { IsLineNext wave.now }
     requires along { GoesAlong (start_of wave.now) wave.now }
     requires right { AreRightOf wave.now aids.old }
     requires looked { IsLookedAt wave.now aids.old.cones.lanes }
-    ensures shown { IfOk result (IsShown wave.now) }
+    ensures accepts { IfOk result (λ found. IfSome found (AcceptsLine wave.now)) }
     ensures right { OnOk result (AreRightOf wave.now aids.new) }
+    ensures looked { OnOk result (IsLookedAt wave.now aids.new.cones.lanes) }
 {
     match aids.cones.lanes.find_equal(alloc, wave)? {
-        Shown::Pair(pair) => Ok(Found::Pair(pair)),
-        Shown::Settled(settled) => Ok(Found::Settled(settled)),
-        Shown::Earlier(place) => find_by_earlier(alloc, wave, aids, place),
-        Shown::Nothing => find_by_tables(alloc, wave, aids),
+        Shown::Verdict(verdict) => Ok(Some(verdict)),
+        Shown::Earlier(place) => find_by_log(alloc, wave, place),
+        Shown::Nothing => Ok(None),
     }
 }
 
-/// The same by the log of an earlier place that asks the same, or else by tables, by a guess or by its cone.
-#[tactic(auto, using(crate::proofs::Searching::pair_accepted))]
-fn find_by_earlier(
+/// By the tables that nodes share over few sources.
+#[tactic(auto, using(crate::proofs::Searching::simple_accepted))]
+fn find_by_tables(
     alloc: Global,
     wave: &Wave<'_>,
     aids: &mut Aids,
-    place: usize,
-) -> Result<Found, Memory>
-    requires class { IsLineNext wave.now }
-    requires along { GoesAlong (start_of wave.now) wave.now }
-    requires cone { HasNextCone wave.now place }
-    requires right { AreRightOf wave.now aids.old }
-    requires looked { IsLookedAt wave.now aids.old.cones.lanes }
-    ensures shown { IfOk result (IsShown wave.now) }
-    ensures right { OnOk result (AreRightOf wave.now aids.new) }
-{
-    match find_by_log(alloc, wave, place)? {
-        Some(found) => Ok(found),
-        None => find_by_tables(alloc, wave, aids),
-    }
-}
-
-/// The same by the tables that nodes share, or else by the pool, a guess or its cone. They come before it, since a guess
-/// reads a node again for each place, and tables once.
-#[tactic(auto, using(crate::proofs::Searching::pair_accepted))]
-fn find_by_tables(alloc: Global, wave: &Wave<'_>, aids: &mut Aids) -> Result<Found, Memory>
+) -> Result<Option<Verdict>, Memory>
     requires class { IsLineNext wave.now }
     requires right { AreRightOf wave.now aids.old }
     requires looked { IsLookedAt wave.now aids.old.cones.lanes }
-    ensures shown { IfOk result (IsShown wave.now) }
+    ensures accepts { IfOk result (λ found. IfSome found (AcceptsLine wave.now)) }
     ensures right { OnOk result (AreRightOf wave.now aids.new) }
+    ensures looked { OnOk result (IsLookedAt wave.now aids.new.cones.lanes) }
 {
     match aids.cones.lanes.find_shared(alloc, wave)? {
-        Shown::Pair(pair) => Ok(Found::Pair(pair)),
-        Shown::Settled(settled) => Ok(Found::Settled(settled)),
-        Shown::Earlier(_) => find_by_pool(alloc, wave, aids),
-        Shown::Nothing => find_by_pool(alloc, wave, aids),
+        Shown::Verdict(verdict) => Ok(Some(verdict)),
+        Shown::Earlier(_) => Ok(None),
+        Shown::Nothing => Ok(None),
     }
 }
 
-/// The same by a lane of the pool, if a test shows that it is right, or else by a guess or its cone.
-#[tactic(auto, using(crate::proofs::Searching::pair_accepted))]
-fn find_by_pool(alloc: Global, wave: &Wave<'_>, aids: &mut Aids) -> Result<Found, Memory>
+/// By a lane of the pool, if a test shows that it is right.
+fn find_by_pool(alloc: Global, wave: &Wave<'_>, aids: &mut Aids) -> Result<Option<Verdict>, Memory>
     requires class { IsLineNext wave.now }
     requires right { AreRightOf wave.now aids.old }
     requires looked { IsLookedAt wave.now aids.old.cones.lanes }
-    ensures shown { IfOk result (IsShown wave.now) }
+    ensures accepts { IfOk result (λ found. IfSome found (AcceptsLine wave.now)) }
     ensures right { OnOk result (AreRightOf wave.now aids.new) }
+    ensures looked { OnOk result (IsLookedAt wave.now aids.new.cones.lanes) }
 {
-    match find_pooled(alloc, wave, &mut aids.cones, &mut aids.pool)? {
-        Some(found) => Ok(found),
-        None => find_by_guess(alloc, wave, aids),
-    }
+    find_pooled(alloc, wave, &mut aids.cones, &mut aids.pool)
 }
 
-/// The same by a guess, if a test shows that it is right, or else by its cone.
-#[tactic(auto, using(crate::proofs::Searching::pair_accepted))]
-fn find_by_guess(alloc: Global, wave: &Wave<'_>, aids: &mut Aids) -> Result<Found, Memory>
+/// By a guess, if a test shows that it is right.
+fn find_by_guess(alloc: Global, wave: &Wave<'_>, aids: &mut Aids) -> Result<Option<Verdict>, Memory>
     requires class { IsLineNext wave.now }
     requires right { AreRightOf wave.now aids.old }
     requires looked { IsLookedAt wave.now aids.old.cones.lanes }
-    ensures shown { IfOk result (IsShown wave.now) }
+    ensures accepts { IfOk result (λ found. IfSome found (AcceptsLine wave.now)) }
     ensures right { OnOk result (AreRightOf wave.now aids.new) }
+    ensures looked { OnOk result (IsLookedAt wave.now aids.new.cones.lanes) }
 {
-    match find_guessed(
+    find_guessed(
         alloc,
         wave,
         &mut aids.cones,
         &mut aids.pool,
         &mut aids.guesser,
-    )? {
-        Some(found) => Ok(found),
-        None => find_by_cone(alloc, wave, aids),
-    }
+    )
 }
 
-/// The same by its cone.
-#[tactic(auto, using(crate::proofs::Searching::pair_accepted))]
-fn find_by_cone(alloc: Global, wave: &Wave<'_>, aids: &mut Aids) -> Result<Found, Memory>
+/// By its cone: by all fillings of few sources, or else by random ones, or by a search on its query.
+#[tactic(auto, using(crate::proofs::Searching::decision_accepted, crate::proofs::Searching::pair_accepted))]
+fn find_by_cone(alloc: Global, wave: &Wave<'_>, aids: &mut Aids) -> Result<Verdict, Memory>
     requires class { IsLineNext wave.now }
     requires right { AreRightOf wave.now aids.old }
     requires looked { IsLookedAt wave.now aids.old.cones.lanes }
-    ensures shown { IfOk result (IsShown wave.now) }
+    ensures accepts { IfOk result (AcceptsLine wave.now) }
     ensures right { OnOk result (AreRightOf wave.now aids.new) }
 {
     let cone = aids.cones.cone(alloc, wave)?;
     if has_few_sources(wave, &cone) {
-        return enumerate(alloc, wave, &cone);
+        return decide(alloc, wave, &cone);
     }
-    match try_fillings(alloc, wave, &cone)? {
-        Some(pair) => Ok(Found::Pair(pair)),
-        None => search(alloc, wave, &mut aids.answers, &cone),
+    if let Some(verdict) = try_fillings(alloc, wave, &cone)? {
+        return Ok(verdict);
     }
-}
-
-#[tactic(auto, using(crate::proofs::Searching::pair_accepted))]
-fn enumerate(alloc: Global, wave: &Wave<'_>, cone: &Cone) -> Result<Found, Memory>
-    requires cone { IsNextCone wave.now cone.now.nodes }
-    requires few { length (sources_of cone.now.nodes) ≤ wave.now.limits.enumerated }
-    ensures { IfOk result (IsShown wave.now) }
-{
-    match decide(alloc, wave, cone)? {
-        Decided::Same(proof) => Ok(Found::Settled(proof)),
-        Decided::Both(proof) => Ok(Found::Pair(proof)),
-    }
+    search(alloc, wave, &mut aids.answers, &cone)
 }

@@ -1,17 +1,16 @@
 //! What a guess about the next place shows of it, once it is tested: a filling is tried, and a log is checked.
 
 ghost use Rattle.std.specs.Prelude.{◌≡◌, ◌≤◌, ◌^◌, IfOk, IfSome, OnOk};
+ghost use Rattle.xr_along.specs.Accepted.{AcceptsLine};
 ghost use Rattle.xr_cnf.specs.Query.{IsQueryOfNodes};
 ghost use Rattle.xr_cone.specs.Cones.{AreRightOf};
 ghost use Rattle.xr_cone_nodes.specs.Traced.{IsNextCone};
 ghost use Rattle.xr_cone.specs.Lanes.{IsLookedAt};
 ghost use Rattle.xr_proof.specs.Log.{Fit};
-ghost use Rattle.xr_repair.specs.Step.{IsShown};
 ghost use Rattle.xr_wave.specs.Token.{IsLineNext};
 
-use crate::found::Found;
 use crate::pooled::take_filling;
-use crate::search::settled_by;
+use crate::search::refuted_by;
 use std::alloc::Global;
 use xr_base::Memory;
 use xr_cnf::clauses;
@@ -20,7 +19,7 @@ use xr_guess::{Guess, Guesser, NodeBit, given_by, log_of};
 use xr_pair::try_lanes;
 use xr_pool::Pool;
 use xr_proof::{Checker, Cnf, Log};
-use xr_wave::Wave;
+use xr_wave::{Verdict, Wave};
 
 /// A guess ends after so many conflicts, or after a fifth of the clauses that a search may learn, if these are fewer.
 const MOST_CONFLICTS: u32 = 200;
@@ -37,11 +36,11 @@ pub fn find_guessed(
     cones: &mut Cones,
     pool: &mut Pool,
     guesser: &mut Guesser,
-) -> Result<Option<Found>, Memory>
+) -> Result<Option<Verdict>, Memory>
     requires class { IsLineNext wave.now }
     requires right { AreRightOf wave.now cones.old }
     requires looked { IsLookedAt wave.now cones.old.lanes }
-    ensures shown { IfOk result (λ found. IfSome found (IsShown wave.now)) }
+    ensures accepts { IfOk result (λ found. IfSome found (AcceptsLine wave.now)) }
     ensures right { OnOk result (AreRightOf wave.now cones.new) }
     ensures lanes { OnOk result (cones.new.lanes ≡ cones.old.lanes) }
 {
@@ -101,20 +100,17 @@ pub fn find_by_filling(
     wave: &Wave<'_>,
     cones: &mut Cones,
     ones: &[u32],
-) -> Result<Option<Found>, Memory>
+) -> Result<Option<Verdict>, Memory>
     requires class { IsLineNext wave.now }
     requires right { AreRightOf wave.now cones.old }
     requires looked { IsLookedAt wave.now cones.old.lanes }
-    ensures shown { IfOk result (λ found. IfSome found (IsShown wave.now)) }
+    ensures accepts { IfOk result (λ found. IfSome found (AcceptsLine wave.now)) }
     ensures right { OnOk result (AreRightOf wave.now cones.new) }
     ensures lanes { OnOk result (cones.new.lanes ≡ cones.old.lanes) }
 {
     let cone = cones.cone(alloc, wave)?;
     let given = given_by(alloc, &cone, cones.lanes.positions(), ones)?;
-    match try_lanes(alloc, wave, &cone, given.as_slice())? {
-        Some(pair) => Ok(Some(Found::Pair(pair))),
-        None => Ok(None),
-    }
+    try_lanes(alloc, wave, &cone, given.as_slice())
 }
 
 /// What clauses over nodes of the graph show of the next place, with the empty one after them: its bit, if they refute its
@@ -124,35 +120,35 @@ fn find_by_clauses(
     wave: &Wave<'_>,
     cones: &mut Cones,
     learned: &[Vec<NodeBit>],
-) -> Result<Option<Found>, Memory>
+) -> Result<Option<Verdict>, Memory>
     requires class { IsLineNext wave.now }
     requires right { AreRightOf wave.now cones.old }
     requires looked { IsLookedAt wave.now cones.old.lanes }
-    ensures shown { IfOk result (λ found. IfSome found (IsShown wave.now)) }
+    ensures accepts { IfOk result (λ found. IfSome found (AcceptsLine wave.now)) }
     ensures right { OnOk result (AreRightOf wave.now cones.new) }
     ensures lanes { OnOk result (cones.new.lanes ≡ cones.old.lanes) }
 {
     let cone = cones.cone(alloc, wave)?;
     let query = clauses(alloc, &cone)?;
     match log_of(alloc, cones.lanes.positions(), query.vars, learned)? {
-        Some(log) => settled_if(alloc, wave, &cone, &query, log),
+        Some(log) => verdict_if(alloc, wave, &cone, &query, log),
         None => Ok(None),
     }
 }
 
-/// The bit of the next place, if a log refutes its query.
-fn settled_if(
+/// The verdict of a log, if it refutes the query of the next place.
+fn verdict_if(
     alloc: Global,
     wave: &Wave<'_>,
     cone: &Cone,
     query: &Cnf,
     log: Log,
-) -> Result<Option<Found>, Memory>
+) -> Result<Option<Verdict>, Memory>
     requires cone { IsNextCone wave.now cone.now.nodes }
     requires query { IsQueryOfNodes cone.now.nodes query.now }
     requires few { query.now.vars ≤ 2 ^ 27 }
     requires fit { Fit query.now.vars log }
-    ensures { IfOk result (λ found. IfSome found (IsShown wave.now)) }
+    ensures { IfOk result (λ found. IfSome found (AcceptsLine wave.now)) }
 {
     let count = query
         .clauses
@@ -161,7 +157,7 @@ fn settled_if(
         .saturating_add(log.as_slice().len());
     let mut checker = Checker::with_room(alloc, query.vars, count, 0)?;
     match checker.check(query, log) {
-        Ok(proof) => Ok(Some(Found::Settled(settled_by(wave, cone, query, proof)))),
+        Ok(proof) => Ok(Some(refuted_by(wave, cone, query, proof))),
         Err(_) => Ok(None),
     }
 }

@@ -1,18 +1,17 @@
 //! What a pool of lanes shows of the next place, once it is tested, and what comes into the pool.
 
 ghost use Rattle.std.specs.Prelude.{◌≡◌, IfOk, IfSome, OnOk};
+ghost use Rattle.xr_along.specs.Accepted.{AcceptsLine};
 ghost use Rattle.xr_cone.specs.Cones.{AreRightOf};
 ghost use Rattle.xr_cone.specs.Lanes.{IsLookedAt};
-ghost use Rattle.xr_repair.specs.Step.{IsShown};
 ghost use Rattle.xr_wave.specs.Token.{IsLineNext};
 
-use crate::found::Found;
 use crate::guessed::{find_by_filling, wanted};
 use std::alloc::Global;
 use xr_base::Memory;
 use xr_cone::{Cones, Lanes};
 use xr_pool::Pool;
-use xr_wave::Wave;
+use xr_wave::{Verdict, Wave};
 
 /// What a lane of the pool shows of the next place: none where no lane gives it another bit than the empty filling does, or
 /// the lane is wrong.
@@ -21,11 +20,11 @@ pub fn find_pooled(
     wave: &Wave<'_>,
     cones: &mut Cones,
     pool: &mut Pool,
-) -> Result<Option<Found>, Memory>
+) -> Result<Option<Verdict>, Memory>
     requires class { IsLineNext wave.now }
     requires right { AreRightOf wave.now cones.old }
     requires looked { IsLookedAt wave.now cones.old.lanes }
-    ensures shown { IfOk result (λ found. IfSome found (IsShown wave.now)) }
+    ensures accepts { IfOk result (λ found. IfSome found (AcceptsLine wave.now)) }
     ensures right { OnOk result (AreRightOf wave.now cones.new) }
     ensures lanes { OnOk result (cones.new.lanes ≡ cones.old.lanes) }
 {

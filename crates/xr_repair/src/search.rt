@@ -6,38 +6,37 @@ ghost use Rattle.xr_cnf.specs.Query.{IsQueryOfNodes};
 ghost use Rattle.xr_cone_nodes.specs.Nodes.{sources_of};
 ghost use Rattle.xr_proof.specs.Assignment.{IsModel};
 ghost use Rattle.xr_proof.specs.Log.{AreFresh, Fit, Refutes};
-ghost use Rattle.xr_repair.specs.Step.{IsShown};
-ghost use Rattle.xr_wave.specs.Token.{LineHolds, budget_line, pair_line, settled_line};
+ghost use Rattle.xr_wave.specs.Token.{PairHolds};
 ghost use Rattle.xr_along.specs.Accepted.{AcceptsLine};
 
 use crate::answers::Answers;
-use crate::found::Found;
 use std::alloc::Global;
 use xr_base::Memory;
 use xr_cnf::{clauses, conclude, give_up, model_filling};
 use xr_cone::Cone;
 use xr_design::Filling;
+use xr_model::Body;
 use xr_proof::{Cnf, Exhausted, Model, Refuted};
 use xr_sat::Outcome;
-use xr_wave::{Budget, Pair, Settled, Wave};
+use xr_wave::{Verdict, Wave};
 
-/// What a search on the query of the next place, which has more sources than are enumerated, shows of it.
+/// The verdict of the next place, which has more sources than are enumerated, by a search on its query.
 #[tactic(auto, using(crate::proofs::Searching::pair_accepted))]
 pub fn search(
     alloc: Global,
     wave: &Wave<'_>,
     answers: &mut Answers,
     cone: &Cone,
-) -> Result<Found, Memory>
+) -> Result<Verdict, Memory>
     requires cone { IsNextCone wave.now cone.now.nodes }
     requires many { wave.now.limits.enumerated < length (sources_of cone.now.nodes) }
-    ensures { IfOk result (IsShown wave.now) }
+    ensures { IfOk result (AcceptsLine wave.now) }
 {
     let query = clauses(alloc, cone)?;
     match answers.ask(alloc, &query, wave.limits().conflicts)? {
-        Outcome::Model(model) => Ok(Found::Pair(pair_of(alloc, wave, cone, &query, &model)?)),
-        Outcome::Refuted(proof) => Ok(Found::Settled(settled_by(wave, cone, &query, proof))),
-        Outcome::Limit(proof) => Ok(Found::Budget(left_by(wave, cone, &query, proof))),
+        Outcome::Model(model) => pair_of(alloc, wave, cone, &query, &model),
+        Outcome::Refuted(proof) => Ok(refuted_by(wave, cone, &query, proof)),
+        Outcome::Limit(proof) => Ok(left_by(wave, cone, &query, proof)),
     }
 }
 
@@ -48,41 +47,41 @@ fn pair_of(
     cone: &Cone,
     query: &Cnf,
     model: &Model,
-) -> Result<Pair, Memory>
+) -> Result<Verdict, Memory>
     requires cone { IsNextCone wave.now cone.now.nodes }
     requires query { IsQueryOfNodes cone.now.nodes query.now }
     requires model { IsModel query.now.vars query.now.clauses model.now }
-    ensures { IfOk result (λ pair. LineHolds wave.now (pair_line pair)) }
+    ensures { IfOk result (PairHolds wave.now) }
 {
     let filling = model_filling(alloc, cone, model)?;
     let empty = Filling::from_vec(Vec::new(alloc));
     if cone.base() {
-        Ok(Pair::from_law(wave, filling, empty))
+        Ok(Verdict::from_law(wave, Body::Pair(filling, empty)))
     } else {
-        Ok(Pair::from_law(wave, empty, filling))
+        Ok(Verdict::from_law(wave, Body::Pair(empty, filling)))
     }
 }
 
 /// A log that refutes the query shows that every filling gives the next place the bit of the empty one.
-pub fn settled_by(wave: &Wave<'_>, cone: &Cone, query: &Cnf, proof: Refuted) -> Settled
+pub fn refuted_by(wave: &Wave<'_>, cone: &Cone, query: &Cnf, proof: Refuted) -> Verdict
     requires cone { IsNextCone wave.now cone.now.nodes }
     requires query { IsQueryOfNodes cone.now.nodes query.now }
     requires refutes { Refutes query.now.clauses proof }
     requires fit { Fit query.now.vars proof }
-    ensures { AcceptsLine wave.now (settled_line result) }
+    ensures { AcceptsLine wave.now result }
 {
     conclude(wave, cone, proof)
 }
 
 /// A fresh log as long as the limits say lets the next place be undecided.
-fn left_by(wave: &Wave<'_>, cone: &Cone, query: &Cnf, proof: Exhausted) -> Budget
+fn left_by(wave: &Wave<'_>, cone: &Cone, query: &Cnf, proof: Exhausted) -> Verdict
     requires cone { IsNextCone wave.now cone.now.nodes }
     requires query { IsQueryOfNodes cone.now.nodes query.now }
     requires many { wave.now.limits.enumerated < length (sources_of cone.now.nodes) }
     requires fresh { AreFresh query.now.clauses proof }
     requires long { length proof ≡ wave.now.limits.conflicts }
     requires fit { Fit query.now.vars proof }
-    ensures { AcceptsLine wave.now (budget_line result) }
+    ensures { AcceptsLine wave.now result }
 {
     give_up(wave, cone, proof)
 }

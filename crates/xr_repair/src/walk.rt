@@ -14,7 +14,6 @@ ghost use Rattle.xr_wave.specs.Token.{IsLineNext};
 use crate::aids::Aids;
 use crate::finding::find;
 use crate::refusal::RepairErr;
-use crate::spend::spend;
 use std::alloc::Global;
 use std::marker::Model;
 use xr_base::Memory;
@@ -213,6 +212,7 @@ fn decide_next<'a>(alloc: Global, wave: Wave<'a>, aids: &mut Aids) -> Result<Wav
     ensures right { IfOk result (λ next. AreRightOf next aids.new) }
     ensures err { IfErr result (RefusedStep wave.entry) }
 {
-    let found = find(alloc, &wave, aids)?;
-    spend(wave, found)
+    let verdict = find(alloc, &wave, aids)?;
+    let next = wave.write(verdict)?;
+    Ok(next)
 }

@@ -1,8 +1,7 @@
 -- A Line place that is written by its line.
-use Rattle.std.proofs.Common.{◌≡◌, Bool, true, false, Some, None, List, [], ◌∷◌, length, refl, sym, ◌∙◌, ap, subst}
+use Rattle.std.proofs.Common.{◌≡◌, Bool, true, false, Some, None, [], ◌∷◌, length, refl, sym, ◌∙◌, ap, subst}
 use Rattle.std.proofs.Common.{if◌then◌else◌}
-use Rattle.std.specs.Prelude.{nat_lt, ℤ}
-use Rattle.xr_design.specs.declared.place.Place.{Place}
+use Rattle.std.specs.Prelude.{nat_lt}
 use Rattle.xr_design.specs.declared.waveform.Written.{Written}
 use Rattle.xr_design.specs.Job.{Job, number_of, places_of}
 use Rattle.xr_design.specs.Waveform.{written_at}
@@ -14,15 +13,11 @@ use Rattle.xr_model.specs.Yields.{line_of, written_by}
 use Rattle.xr_model.specs.declared.class.Class.TheVariants as seen
 use Rattle.xr_model.specs.declared.class.ClassByNumber.{ClassByNumber}
 use Rattle.xr_model.specs.declared.class.ClassByNumber.TheVariants.{Local, Free, Carried, Line}
-use Rattle.xr_model.specs.declared.line.Body.TheVariants as body
 use Rattle.xr_model.specs.declared.line.Line.{Line as ALine}
 use Rattle.xr_model.proofs.LinesByPlace.{body_one}
 use Rattle.xr_model.proofs.WaveInvariant.{yields_grown}
 use Rattle.xr_wave.specs.Contents.{Contents, IsWave, class_in, class_or_done, job, next_number, shown_in}
-use Rattle.xr_wave.specs.Token.{BudgetToken, IsLineNext, LineAgrees, LineHolds, LineYields, PairToken, SettledToken}
-use Rattle.xr_wave.specs.Token.{body_of, budget_line, pair_line, settled_line, written_by_line}
-use Rattle.xr_wave.specs.declared.token.How.{How}
-use Rattle.xr_wave.specs.declared.token.How.TheVariants.{Enumerated, Refuted}
+use Rattle.xr_wave.specs.Token.{IsLineNext, LineAgrees, LineHolds, LineYields, written_by_line}
 
 line_by : (j : Job) (b : Bool) (class : ClassByNumber)
     → class_or_done j (if b then Some class else None) ≡ seen.Line → class ≡ Line
@@ -68,45 +63,3 @@ pub line_yields : (c : Contents) (line : ALine) → IsWave c → IsLineNext c �
 line_yields c line wave is holds =
     yields_grown (job c) c.limits wave.fits.fits_job (shown_in c) c.written c.lines (written_by_line c line) (line ∷ [])
     wave.holds.yields (line_said c (written_by_line c line) line wave is holds refl)
-
--- Tokens that become the same line are the same.
-how_same : (a b : How) → body_of a ≡ body_of b → a ≡ b
-how_same (Enumerated bit) (Enumerated other) same = cc
-how_same (Enumerated bit) (Refuted other log) same = cc
-how_same (Refuted bit log) (Enumerated other) same = cc
-how_same (Refuted bit log) (Refuted other more) same = cc
-
-pub settled_same : (a b : SettledToken) → settled_line a ≡ settled_line b → a ≡ b
-settled_same a b same =
-    ap (λ (p : Place). token p a.how) (ap (λ (line : ALine). line.place) same)
-    ∙ ap (λ (h : How). token b.place h) (how_same a.how b.how (ap (λ (line : ALine). line.body) same))
-  where
-    token : Place → How → SettledToken
-    token p h = record { place = p; how = h }
-
-zero_same : (a b x y : List Place) → body.Pair a b ≡ body.Pair x y → a ≡ x
-zero_same a b x y same = cc
-
-one_same : (a b x y : List Place) → body.Pair a b ≡ body.Pair x y → b ≡ y
-one_same a b x y same = cc
-
-pub pair_same : (a b : PairToken) → pair_line a ≡ pair_line b → a ≡ b
-pair_same a b same =
-    let bodies : body.Pair a.zero a.one ≡ body.Pair b.zero b.one = ap (λ (line : ALine). line.body) same in
-    ap (λ (p : Place). token p a.zero a.one) (ap (λ (line : ALine). line.place) same)
-    ∙ ap (λ (z : List Place). token b.place z a.one) (zero_same a.zero a.one b.zero b.one bodies)
-    ∙ ap (λ (o : List Place). token b.place b.zero o) (one_same a.zero a.one b.zero b.one bodies)
-  where
-    token : Place → List Place → List Place → PairToken
-    token p z o = record { place = p; zero = z; one = o }
-
-log_same : (a b : List (List ℤ)) → body.Undecided a ≡ body.Undecided b → a ≡ b
-log_same a b same = cc
-
-pub budget_same : (a b : BudgetToken) → budget_line a ≡ budget_line b → a ≡ b
-budget_same a b same =
-    ap (λ (p : Place). token p a.log) (ap (λ (line : ALine). line.place) same)
-    ∙ ap (λ (l : List (List ℤ)). token b.place l) (log_same a.log b.log (ap (λ (line : ALine). line.body) same))
-  where
-    token : Place → List (List ℤ) → BudgetToken
-    token p l = record { place = p; log = l }

@@ -1,5 +1,5 @@
 -- There is one wave.
-use Rattle.std.proofs.Common.{ℕ, List, sym, subst}
+use Rattle.std.proofs.Common.{List, sym, subst}
 use Rattle.xr_design.specs.Handed.{shown_of}
 use Rattle.xr_design.specs.History.{HistoryView}
 use Rattle.xr_design.specs.Job.{Job}

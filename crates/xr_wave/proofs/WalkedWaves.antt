@@ -1,5 +1,5 @@
 -- Waves beside which a walk knows what is due ahead.
-use Rattle.std.proofs.Common.{◌≡◌, ℕ, List, [], sym, subst}
+use Rattle.std.proofs.Common.{◌≡◌, List, [], sym, subst}
 use Rattle.xr_design.specs.Parts.{PartsFit}
 use Rattle.xr_design.specs.Handed.{IsHandedIn}
 use Rattle.xr_design.specs.Job.{job_of}

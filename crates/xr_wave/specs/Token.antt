@@ -1,5 +1,5 @@
--- Tokens: what is shown of the next place, a Line place, and what it gets when one is spent.
-use Rattle.std.specs.Prelude.{◌≡◌, ℤ, ◌<◌, ◌++◌, ◌∷◌, [], Bool, Some, List, length}
+-- What is shown of the next place, a Line place, and what it gets by its line.
+use Rattle.std.specs.Prelude.{◌≡◌, ◌<◌, ◌++◌, ◌∷◌, [], Some, List, length}
 use Rattle.xr_design.specs.declared.place.Place.{Place}
 use Rattle.xr_design.specs.declared.waveform.Written.{Written}
 use Rattle.xr_design.specs.Fits.{place_at}
@@ -8,44 +8,10 @@ use Rattle.xr_model.specs.Line.{BodyHolds}
 use Rattle.xr_model.specs.Yields.{Yields, line_of}
 use Rattle.xr_model.specs.declared.class.Class.TheVariants as seen
 use Rattle.xr_model.specs.declared.line.Body.{Body}
-use Rattle.xr_model.specs.declared.line.Body.TheVariants as body
+use Rattle.xr_model.specs.declared.line.Body.TheVariants.{Enumerated, Refuted, Pair, Undecided}
 use Rattle.xr_model.specs.declared.line.Line.{Line as ALine}
 use Rattle.xr_wave.specs.Advance.{Contradicts}
 use Rattle.xr_wave.specs.Contents.{Contents, job, next_number, next_seen, shown_in}
-use Rattle.xr_wave.specs.declared.token.How.{How}
-use Rattle.xr_wave.specs.declared.token.How.TheVariants.{Enumerated, Refuted}
-
-pub record SettledToken : Type 0 where
-  pub place : Place
-  pub how : How
-
-pub record PairToken : Type 0 where
-  pub place : Place
-  pub zero : List Place
-  pub one : List Place
-
-pub record BudgetToken : Type 0 where
-  pub place : Place
-  pub log : List (List ℤ)
-
--- What a line says where its place is settled, and the bit.
-abbrev pub body_of : How → Body
-body_of (Enumerated bit) = body.Enumerated bit
-body_of (Refuted bit log) = body.Refuted bit log
-
-abbrev pub bit_of : How → Bool
-bit_of (Enumerated bit) = bit
-bit_of (Refuted bit log) = bit
-
--- The line that each token becomes.
-abbrev pub settled_line : SettledToken → ALine
-settled_line token = record { place = token.place; body = body_of token.how }
-
-abbrev pub pair_line : PairToken → ALine
-pair_line token = record { place = token.place; body = body.Pair token.zero token.one }
-
-abbrev pub budget_line : BudgetToken → ALine
-budget_line token = record { place = token.place; body = body.Undecided token.log }
 
 -- There is a next place, and a body holds there.
 abbrev pub HasNext : Contents → Type 0
@@ -59,6 +25,24 @@ pub record LineHolds (c : Contents) (line : ALine) : Type 0 where
   pub within : HasNext c
   pub place_is : line.place ≡ place_at (job c) (next_number c)
   pub holds : HoldsNext c line.body
+
+-- The same of a line that states two fillings,
+pub record PairHolds (c : Contents) (line : ALine) : Type 0 where
+  pub holds : LineHolds c line
+  pub zero : List Place
+  pub one : List Place
+  pub body_is : line.body ≡ Pair zero one
+
+-- or of one without a log: an enumeration or a pair.
+abbrev pub HasNoLog : Body → Type 0
+HasNoLog (Enumerated bit) = Unit {0}
+HasNoLog (Refuted bit log) = ⊥
+HasNoLog (Pair zero one) = Unit {0}
+HasNoLog (Undecided log) = ⊥
+
+pub record HoldsWithoutLog (c : Contents) (line : ALine) : Type 0 where
+  pub holds : LineHolds c line
+  pub no_log : HasNoLog line.body
 
 -- The next place is a Line place.
 abbrev pub IsLineNext : Contents → Type 0
@@ -84,22 +68,3 @@ LineAgrees c line = LineContradicts c line → ⊥
 -- The lines and one more yield the waveform with what that line says.
 abbrev pub LineYields : Contents → ALine → Type 0
 LineYields c line = Yields (job c) c.limits (shown_in c) (with_line c line).written (with_line c line).lines
-
--- The kinds of bodies that tokens become.
-abbrev pub IsSettling : Body → Type 0
-IsSettling (body.Enumerated bit) = Unit {0}
-IsSettling (body.Refuted bit log) = Unit {0}
-IsSettling (body.Pair first second) = ⊥
-IsSettling (body.Undecided log) = ⊥
-
-abbrev pub IsPair : Body → Type 0
-IsPair (body.Enumerated bit) = ⊥
-IsPair (body.Refuted bit log) = ⊥
-IsPair (body.Pair first second) = Unit {0}
-IsPair (body.Undecided log) = ⊥
-
-abbrev pub IsBudget : Body → Type 0
-IsBudget (body.Enumerated bit) = ⊥
-IsBudget (body.Refuted bit log) = ⊥
-IsBudget (body.Pair first second) = ⊥
-IsBudget (body.Undecided log) = Unit {0}

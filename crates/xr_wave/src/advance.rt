@@ -74,7 +74,7 @@ impl<'a> Wave<'a> {
         if is_optimistic(written, shown) {
             return Err(AdvanceErr::Optimistic(optimistic_of(self, written, shown)));
         }
-        Ok(self.write(written)?)
+        Ok(self.append(written)?)
     }
 
     /// Writes each place up to the next Line place, or to the end, as `advance` does. Only those are looked at that may

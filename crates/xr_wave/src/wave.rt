@@ -295,7 +295,7 @@ impl<'a> Wave<'a> {
     }
 
     /// Writes the next place without a line.
-    pub(crate) fn write(mut self, written: Written) -> Result<Wave<'a>, Memory>
+    pub(crate) fn append(mut self, written: Written) -> Result<Wave<'a>, Memory>
         requires next { NextHolds (job self) self.limits (shown_in self) self.written written [] }
         ensures { IfOk result (λ w. w ≡ with_written self.entry written) }
     {
@@ -322,23 +322,16 @@ impl<'a> Wave<'a> {
         (self, many > 0)
     }
 
-    /// Writes the next place, a Line place, and appends its line. Gives both back where there is no memory.
-    pub(crate) fn write_line(
-        mut self,
-        written: Written,
-        line: Line,
-    ) -> Result<Wave<'a>, (Wave<'a>, Line)>
+    /// Writes the next place, a Line place, and appends its line.
+    pub(crate) fn append_line(mut self, written: Written, line: Line) -> Result<Wave<'a>, Memory>
         requires class { IsLineNext self }
         requires line { LineHolds self line }
         requires written { written ≡ written_by_line self line }
         requires agrees { LineAgrees self line }
-        ensures ok { IfOk result (λ w. w ≡ with_line self.entry line) }
-        ensures err { IfErr result (λ e. (e.0 ≡ self.entry) × (e.1 ≡ line)) }
+        ensures { IfOk result (λ w. w ≡ with_line self.entry line) }
     {
-        match self.parts.push_line(written, line) {
-            Ok(()) => Ok(self),
-            Err(line) => Err((self, line)),
-        }
+        self.parts.push_line(written, line)?;
+        Ok(self)
     }
 }
 
@@ -358,8 +351,8 @@ impl<'a> Parts<'a> {
         self.walk.write(&mut self.waveform, written)
     }
 
-    /// Writes the next place, and appends a line; or gives the line back.
-    fn push_line(&mut self, written: Written, line: Line) -> Result<(), Line>
+    /// Writes the next place, and appends a line.
+    fn push_line(&mut self, written: Written, line: Line) -> Result<(), Memory>
         requires next { HasMore self.old.waveform }
         requires agrees { ValuesAgree (view.job self.old.waveform) (self.old.waveform.written ++ written ∷ []) }
         requires walk { IsWalkOf self.old.waveform self.old.walk }
@@ -368,24 +361,10 @@ impl<'a> Parts<'a> {
         ensures history { OnOk result (self.new.walk.replayed.history ≡ self.old.walk.replayed.history) }
         ensures lines { OnOk result (self.new.lines.items ≡ self.old.lines.items ++ line ∷ []) }
         ensures limits { self.new.limits ≡ self.old.limits }
-
-        ensures unwritten { OnErr result (self.new.waveform ≡ self.old.waveform) }
-        ensures still { OnErr result (self.new.walk ≡ self.old.walk) }
-        ensures no_line { OnErr result (self.new.lines.items ≡ self.old.lines.items) }
-        ensures given { IfErr result (λ back. back ≡ line) }
     {
-        if self.lines.reserve(1).is_err() {
-            return Err(line);
-        }
-        match self.walk.write(&mut self.waveform, written) {
-            Ok(()) => {
-                if self.lines.push(line).is_err() {
-                    unreachable!()
-                }
-                Ok(())
-            }
-            Err(Memory) => Err(line),
-        }
+        self.push(written)?;
+        self.lines.push(line)?;
+        Ok(())
     }
 
     /// Writes the places up to the next one that is due in the step, each as its net's place a step before; says how

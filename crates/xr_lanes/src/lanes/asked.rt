@@ -1,7 +1,7 @@
 //! What lanes show of the next place, which was looked at, and of places that they cover.
 
 ghost use Rattle.std.specs.Prelude.{◌≡◌, ◌+◌, ◌-◌, ◌<◌, None, Some, IfOk, IfSome, IsNone, MatchOption, OnOk, length};
-ghost use Rattle.xr_wave.specs.Token.{LineHolds, pair_line};
+ghost use Rattle.xr_wave.specs.Token.{PairHolds};
 ghost use Rattle.xr_cone_nodes.specs.Traced.{IsConeOf, IsNextCone};
 ghost use Rattle.xr_lanes.specs.Equal.{AreEqualIn};
 ghost use Rattle.xr_lanes.specs.Lanes.{IsLookedAt, IsRightOf};
@@ -17,15 +17,15 @@ use std::alloc::Global;
 use xr_base::Memory;
 use xr_cone_nodes::Cone;
 use xr_design::{Filling, Place};
-use xr_wave::{Pair, Wave};
+use xr_wave::{Verdict, Wave};
 
 impl Lanes {
-    /// The token of the next place, which was looked at, where two lanes give it 0 and 1 and its sources are kept: the empty
+    /// The verdict of the next place, which was looked at, where two lanes give it 0 and 1 and its sources are kept: the empty
     /// filling, and what the filling of a lane lists of the sources. Takes 8 bytes for each place that it lists.
-    pub fn find(&self, alloc: Global, wave: &Wave<'_>) -> Result<Option<Pair>, Memory>
+    pub fn find(&self, alloc: Global, wave: &Wave<'_>) -> Result<Option<Verdict>, Memory>
         requires right { IsRightOf wave.now self.now }
         requires looked { IsLookedAt wave.now self.now }
-        ensures holds { IfOk result (λ found. IfSome found (λ pair. LineHolds wave.now (pair_line pair))) }
+        ensures holds { IfOk result (λ found. IfSome found (PairHolds wave.now)) }
         ensures none { IfOk result (λ found. IsNone found → IfSome self.now.next (HasNoPair self.now.nodes)) }
     {
         match self.next {

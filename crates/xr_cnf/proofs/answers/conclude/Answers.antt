@@ -1,4 +1,4 @@
--- The log of the token refutes the query, and no clause of it has the literal 0.
+-- The log of the verdict refutes the query, and no clause of it has the literal 0.
 use Rattle.std.proofs.Common.{sym, subst}
 use Rattle.std.specs.List.{All}
 use Rattle.xr_proof.specs.Assignment.{HasNoZero}

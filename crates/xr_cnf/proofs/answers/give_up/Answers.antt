@@ -1,4 +1,4 @@
--- The log of the token is a licence of the next place.
+-- The log of the verdict is a licence of the next place.
 use Rattle.std.proofs.Common.{sym, subst}
 use Rattle.xr_model.specs.declared.line.Body.TheVariants.{Undecided}
 use Rattle.xr_wave.specs.Token.{HoldsNext}

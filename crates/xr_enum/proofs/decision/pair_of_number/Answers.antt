@@ -7,8 +7,8 @@ pair_of_lane-requires-clause-differs c =
     rw (lane_of_number c.fill_block.new.given c.args.number c.fill_block.ensures.long c.fill_block.ensures.lane_table
     c.requires.small) c.requires.other
 
-pub returns-clause-other : goal.returns-clause-other
-returns-clause-other c =
+pub returns-clause-body : goal.returns-clause-body
+returns-clause-body c =
     let bits = lane_of_number c.fill_block.new.given c.args.number c.fill_block.ensures.long c.fill_block.ensures.lane_table
     c.requires.small in
-    rw bits at c.pair_of_lane.ensures.other
+    rw bits at c.pair_of_lane.ensures.body

@@ -3,8 +3,8 @@ use Rattle.std.proofs.Common.{Some, ap, ◌∙◌}
 use Rattle.xr_repair.proofs.LogsAgain.{left_again, refuted_again}
 use Rattle.xr_repair.proofs.earlier.find_by_log.Goals as goal
 
-pub settled_again-requires-clause-accepted : goal.settled_again-requires-clause-accepted
-settled_again-requires-clause-accepted c =
+pub refuted_again-requires-clause-accepted : goal.refuted_again-requires-clause-accepted
+refuted_again-requires-clause-accepted c =
     refuted_again c.args.wave.now c.args.place c.in-Some-Refuted.bit c.in-Some-Refuted.log c.recall.ensures
     c.requires.along c.requires.cone (c.in-Some-Refuted.ensures ∙ ap Some c.in-Some-Refuted.field-0-is)
 

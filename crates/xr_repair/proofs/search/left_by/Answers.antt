@@ -10,4 +10,4 @@ give_up-requires-clause-fresh c =
 pub returns : goal.returns
 returns c =
     licence_accepted c.args.wave.now c.args.cone.now.nodes c.args.query.now c.give_up.result c.args.proof c.requires.cone
-    c.requires.query c.requires.fit c.give_up.ensures.no_zero c.give_up.ensures.log c.give_up.ensures.holds
+    c.requires.query c.requires.fit c.give_up.ensures.no_zero c.give_up.ensures.body c.give_up.ensures.holds
