@@ -1,7 +1,7 @@
 //! The minimal choices of tables.
 
 ghost use Rattle.std.specs.Prelude.{◌≤◌, ◌<◌, IfSome};
-ghost use Rattle.xr_cone_choices.specs.Choices.{IsTable};
+ghost use Rattle.xr_cone_choices.specs.Choices.{IsValueTable};
 
 use crate::words::{first_word, is_word, text_of};
 use std::alloc::{AllocError, Global};
@@ -85,7 +85,7 @@ fn sorted_words(
     bit: bool,
     count: usize,
 ) -> Result<Vec<String>, Memory>
-    requires { IsTable count values.now }
+    requires { IsValueTable count values.now }
 {
     let choices = minimal_choices(alloc, values, bit)?;
     let mut words = unsorted_words(alloc, choices.as_slice(), count)?;
@@ -109,7 +109,7 @@ fn unsorted_words(
 
 /// How many arguments a table has, at most 3.
 fn arguments_of(values: &[Value]) -> Option<usize>
-    ensures { IfSome result (λ count. IsTable count values.now) }
+    ensures { IfSome result (λ count. IsValueTable count values.now) }
 {
     match values.len() {
         1 => Some(0),

@@ -3,11 +3,11 @@ use Rattle.std.proofs.Common.{◌≡◌, Bool, true, false, List, [], ◌∷◌,
 use Rattle.xr_design.specs.History.{HistoryView}
 use Rattle.xr_design.specs.declared.place.Place.{Place}
 use Rattle.xr_wave.specs.Contents.{Contents}
-use Rattle.xr_audit.specs.Found.{Adds, AreFound, IsFound, listed_if}
+use Rattle.xr_audit.specs.Found.{Adds, AreFound, IsFoundPlace, listed_if}
 use Rattle.xr_audit.specs.declared.found.Found.{Found}
 
 pub one_added : (c : Contents) (replay : HistoryView) (old : List Found) (place : Place) (found : Found)
-    → IsFound c replay place found → Adds c replay old (place ∷ []) (old ++ found ∷ [])
+    → IsFoundPlace c replay place found → Adds c replay old (place ∷ []) (old ++ found ∷ [])
 one_added c replay [] place found is [] are = (is, tt)
 one_added c replay [] place found is (b ∷ before) are = absurd are
 one_added c replay (first ∷ old) place found is [] are = absurd are

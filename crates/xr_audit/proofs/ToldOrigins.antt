@@ -9,7 +9,7 @@ use Rattle.xr_design.specs.History.{HistoryView}
 use Rattle.xr_design.specs.Job.{places_of}
 use Rattle.xr_design.proofs.Numbers.{is_place_at}
 use Rattle.xr_wave.specs.Contents.{Contents, IsWave, job}
-use Rattle.xr_audit.specs.Found.{AreFound, HasPlace, IsDriven, IsFound, listed_below, listed_if}
+use Rattle.xr_audit.specs.Found.{AreFound, HasPlace, IsDriven, IsFoundPlace, listed_below, listed_if}
 use Rattle.xr_audit.specs.Listed.{IsAudit, is_listed, is_suspect, replay_arguments}
 use Rattle.xr_audit.specs.declared.found.Found.{Found}
 use Rattle.xr_audit.proofs.Origins.{origin_driven}
@@ -53,7 +53,7 @@ module _ (c : Contents) (replayed : HistoryView) where
       (places_below wave.fits.fits_job (places_of (job c)) (omega arith)) are
 
   driven_by : IsWave c → IsAudit c replayed → (place : Place) (found : Found) → IsPlace (job c) place
-      → IsFound c replayed place found → IsDriven (job c) found
+      → IsFoundPlace c replayed place found → IsDriven (job c) found
   driven_by wave audit place found is told origin plain =
       let parts = and_parts (is_listed c replayed place)
       (not (list_any (is_suspect c replayed) (replay_arguments (job c) place))) (sym told.origin ∙ origin) in

@@ -15,7 +15,7 @@ use Rattle.xr_audit.specs.declared.found.Found.{Found}
 
 -- A listed place is told with what the replay shows and what is found there, x where it is unknown, and then with two
 -- fillings that give both bits; an origin with its row.
-pub record IsFound (c : Contents) (replay : HistoryView) (place : Place) (found : Found) : Type 0 where
+pub record IsFoundPlace (c : Contents) (replay : HistoryView) (place : Place) (found : Found) : Type 0 where
   pub place_is : found.place ≡ place
   pub replayed_is : found.replayed ≡ replayed_at replay place
   pub found_is : found.found ≡ certain_by (written_of c place).mark (written_of c place).value
@@ -27,7 +27,7 @@ pub record IsFound (c : Contents) (replay : HistoryView) (place : Place) (found 
 -- Each of some places is told, in order, and nothing else is.
 abbrev pub AreFound : Contents → HistoryView → List Place → List Found → Type 0
 AreFound c replay [] [] = Unit {0}
-AreFound c replay (place ∷ places) (found ∷ others) = IsFound c replay place found × AreFound c replay places others
+AreFound c replay (place ∷ places) (found ∷ others) = IsFoundPlace c replay place found × AreFound c replay places others
 AreFound c replay [] (found ∷ others) = ⊥
 AreFound c replay (place ∷ places) [] = ⊥
 

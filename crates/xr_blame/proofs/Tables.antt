@@ -18,7 +18,7 @@ use Rattle.xr_design.specs.Job.{Job, number_of, places_of}
 use Rattle.xr_design.proofs.Handed.{number_within}
 use Rattle.xr_design.proofs.Numbers.{is_place_at, number_of_place_at}
 use Rattle.xr_report.specs.Counts.{one_if}
-use Rattle.xr_blame.specs.Table.{ComesBefore, IsTable, Row, bits_of}
+use Rattle.xr_blame.specs.Table.{ComesBefore, IsBlameTable, Row, bits_of}
 use Rattle.xr_blame.specs.Tally.{Counted, IsTally, count_in, row_at, rows_for}
 use Rattle.xr_blame.specs.declared.bits.Blamed.{Blamed}
 
@@ -176,7 +176,7 @@ module _ (j : Job) (fits : Fits j) (bits : List Blamed) (orig xs : List ℕ) (co
     rows_once n =
         sum_by-IsPermutation (λ (row : Counted). if row.1 == n then 1 else 0) counted rows sorted ∙ tally.once n
 
-    pub table_is : IsSorted compared rows → IsTable j bits (map (row_at j) rows)
+    pub table_is : IsSorted compared rows → IsBlameTable j bits (map (row_at j) rows)
     table_is order = record {
       places = places_there j fits rows rows_within;
       numbers = All-map (λ (row : Row). row.1 ≡ bits_of j bits row.0) (row_at j) rows

@@ -16,11 +16,11 @@ Follows c number other inverted = (filling : List Place) → IsFilling (job c) f
     → bit_in c (bit_of (job c) filling) number ≡ flipped inverted (bit_in c (bit_of (job c) filling) other)
 
 -- What stands with the number of a place is to blame for it.
-abbrev pub IsFound : Contents → ℕ × Cause → Type 0
-IsFound c entry = IsToBlame c entry.0 entry.1.source entry.1.others
+abbrev pub IsFoundCause : Contents → ℕ × Cause → Type 0
+IsFoundCause c entry = IsToBlame c entry.0 entry.1.source entry.1.others
 
 abbrev pub AreFound : Contents → List (ℕ × Cause) → Type 0
-AreFound c entries = AllByRecursion (IsFound c) entries
+AreFound c entries = AllByRecursion (IsFoundCause c) entries
 
 -- Each entry stands so, and what helps to find cones is right of the wave.
 pub record AreCauses (c : Contents) (causes : ACauses) : Type 0 where

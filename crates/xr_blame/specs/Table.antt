@@ -28,7 +28,7 @@ ComesBefore j row other =
 
 -- Each place that is the source of bits has one row, and no other has one. The greatest number comes first, then the
 -- place order decides. The numbers add up to that of all bits.
-pub record IsTable (j : Job) (bits : List Blamed) (table : List Row) : Type 0 where
+pub record IsBlameTable (j : Job) (bits : List Blamed) (table : List Row) : Type 0 where
   pub places : AllByRecursion (λ (row : Row). IsPlace j row.0) table
   pub numbers : All (λ (row : Row). row.1 ≡ bits_of j bits row.0) table
   pub rows : (place : Place) → rows_of j table place ≡ one_if (nat_lt 0 (bits_of j bits place))

@@ -4,7 +4,7 @@ ghost use Rattle.std.specs.Prelude.{IfOk};
 ghost use Rattle.xr_match.specs.Binding.{FitsBinding};
 ghost use Rattle.xr_wave.specs.Contents.{IsFinished, job};
 ghost use Rattle.xr_blame.specs.Blamed.{AreBlamed, unknown_bits};
-ghost use Rattle.xr_blame.specs.Table.{IsTable};
+ghost use Rattle.xr_blame.specs.Table.{IsBlameTable};
 
 use crate::bits::{Blamed, blame_bits};
 use crate::table::table_of;
@@ -36,7 +36,7 @@ pub fn blame_of(alloc: Global, wave: &Wave<'_>, bound: &Binding) -> Result<Blame
     requires finished { IsFinished wave.now }
     requires binding { FitsBinding wave.now.design bound.now }
     ensures bits { IfOk result (λ blame. AreBlamed wave.now (unknown_bits wave.now bound.now.bound) blame.bits.items) }
-    ensures table { IfOk result (λ blame. IsTable (job wave.now) blame.bits.items blame.table.items) }
+    ensures table { IfOk result (λ blame. IsBlameTable (job wave.now) blame.bits.items blame.table.items) }
 {
     let bits = blame_bits(alloc, wave, bound)?;
     let table = table_of(alloc, &wave.circuit(), bits.as_slice())?;

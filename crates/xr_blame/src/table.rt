@@ -6,7 +6,7 @@ ghost use Rattle.xr_design.specs.Circuit.{job_in};
 ghost use Rattle.xr_design.specs.Filling.{IsPlace};
 ghost use Rattle.xr_design.specs.Fits.{place_at};
 ghost use Rattle.xr_design.specs.Job.{number_of, places_of};
-ghost use Rattle.xr_blame.specs.Table.{IsTable, source_numbers};
+ghost use Rattle.xr_blame.specs.Table.{IsBlameTable, source_numbers};
 ghost use Rattle.xr_blame.specs.Tally.{Counted as ACounted, IsRun, IsTally, row_at};
 ghost use Rattle.xr_blame.specs.declared.bits.Blamed.{Blamed as ABlamed};
 
@@ -27,7 +27,7 @@ pub fn table_of(
     bits: &[Blamed],
 ) -> Result<Vec<(Place, u64)>, Memory>
     requires sources { All (λ (b : ABlamed). IsPlace (job_in circuit.now) b.source) bits.now }
-    ensures { IfOk result (λ table. IsTable (job_in circuit.now) bits.now table.items) }
+    ensures { IfOk result (λ table. IsBlameTable (job_in circuit.now) bits.now table.items) }
 {
     let mut numbers = source_numbers(alloc, circuit, bits)?;
     numbers.sort()?;

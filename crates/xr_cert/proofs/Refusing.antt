@@ -29,7 +29,7 @@ use Rattle.xr_wave.specs.declared.advance.AdvanceErr.{AdvanceErr}
 use Rattle.xr_wave.specs.declared.advance.AdvanceErr.TheVariants as stopped
 use Rattle.xr_along.specs.Accepted.{AcceptsLine, BodyFits, LogFits, NamesNext, variables_next}
 use Rattle.xr_cert_text.specs.declared.cert.Entry.TheVariants.{Line}
-use Rattle.xr_cert.specs.Step.{IsSpent, IsTold, IsVerdictOf, Refuses, Stops, faults, next_line, no_memory}
+use Rattle.xr_cert.specs.Step.{IsSpent, IsTold, IsVerdictOf, RefusesBody, Stops, faults, next_line, no_memory}
 use Rattle.xr_cert.specs.Walk.{IsCertFault, body_fault, line_objects, refused}
 use Rattle.xr_cert.specs.Words.{stopped_by}
 use Rattle.xr_cert.specs.declared.refusal.CertFault.{CertFault}
@@ -195,7 +195,7 @@ stops_named c number named made result names verdict stops =
 
 -- and a body that isn't accepted, with the fault of its kind.
 pub refused_named : (c : Contents) (number : ℕ) (named : ALine) (fault : CertFault) → IsLineNext c → NamesNext c named
-    → Refuses c named.body → fault ≡ body_fault number named.body → Stops c number named (Refused fault)
+    → RefusesBody c named.body → fault ≡ body_fault number named.body → Stops c number named (Refused fault)
 refused_named c number named fault next names refuses is = faults (λ rest.
     subst (λ (f : CertFault). IsCertFault c number (Line named ∷ rest) (Refused f)) (sym is)
     (refused named rest next names

@@ -59,8 +59,8 @@ abbrev pub next_line : Contents → Body → ALine
 next_line c body = record { place = place_at (job c) (next_number c); body = body }
 
 -- A body isn't accepted at the next place.
-abbrev pub Refuses : Contents → Body → Type 0
-Refuses c body = AcceptsLine c (next_line c body) → ⊥
+abbrev pub RefusesBody : Contents → Body → Type 0
+RefusesBody c body = AcceptsLine c (next_line c body) → ⊥
 
 -- A verdict is of the next place, with a body that is accepted there.
 pub record IsVerdictOf (c : Contents) (body : Body) (line : ALine) : Type 0 where

@@ -3,7 +3,7 @@
 ghost use Rattle.std.specs.Prelude.{◌≡◌, IfNone, IfOk, IfSome};
 ghost use Rattle.xr_cone_nodes.specs.Traced.{IsNextCone};
 ghost use Rattle.xr_model.specs.declared.line.Body.TheVariants as body;
-ghost use Rattle.xr_cert.specs.Step.{IsVerdictOf, Refuses};
+ghost use Rattle.xr_cert.specs.Step.{IsVerdictOf, RefusesBody};
 ghost use Rattle.xr_cert.specs.Walk.{body_fault};
 
 use crate::logs::{exhausted_verdict, refuted_verdict};
@@ -25,7 +25,7 @@ pub fn body_verdict(
 ) -> Result<Option<Verdict>, Memory>
     requires { IsNextCone wave.now cone.now.nodes }
     ensures verdict { IfOk result (λ found. IfSome found (IsVerdictOf wave.now body)) }
-    ensures none { IfOk result (λ found. IfNone found (Refuses wave.now body)) }
+    ensures none { IfOk result (λ found. IfNone found (RefusesBody wave.now body)) }
 {
     match body {
         Body::Enumerated(bit) => enumerated_verdict(alloc, wave, cone, bit),
@@ -56,7 +56,7 @@ fn enumerated_verdict(
 ) -> Result<Option<Verdict>, Memory>
     requires { IsNextCone wave.now cone.now.nodes }
     ensures verdict { IfOk result (λ found. IfSome found (IsVerdictOf wave.now (body.Enumerated bit))) }
-    ensures none { IfOk result (λ found. IfNone found (Refuses wave.now (body.Enumerated bit))) }
+    ensures none { IfOk result (λ found. IfNone found (RefusesBody wave.now (body.Enumerated bit))) }
 {
     if !has_few_sources(wave, cone) {
         return Ok(None);

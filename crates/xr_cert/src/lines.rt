@@ -11,7 +11,7 @@ ghost use Rattle.xr_turns.specs.Conditions as turns;
 ghost use Rattle.xr_cert_text.specs.declared.cert.Entry.TheVariants.{Line as ALine};
 ghost use Rattle.xr_cert_text.specs.declared.cert.Form.TheVariants.{Turns};
 ghost use Rattle.xr_cert.specs.Standing.{ComesFrom, EndsFrom, IsWaiting, StaysRight, StopsAt, Takes};
-ghost use Rattle.xr_cert.specs.Step.{IsSpent, IsTold, IsVerdictOf, Refuses, Stops};
+ghost use Rattle.xr_cert.specs.Step.{IsSpent, IsTold, IsVerdictOf, RefusesBody, Stops};
 
 use crate::bodies::{body_verdict, fault_of};
 use crate::due::{Due, due_of};
@@ -173,7 +173,7 @@ fn line_verdict(
     requires right { AreRightOf wave.now cones.old }
     ensures right { OnOk result (AreRightOf wave.now cones.new) }
     ensures verdict { IfOk result (λ found. IfSome found (IsVerdictOf wave.now body)) }
-    ensures none { IfOk result (λ found. IfNone found (Refuses wave.now body)) }
+    ensures none { IfOk result (λ found. IfNone found (RefusesBody wave.now body)) }
 {
     match cone_for(alloc, wave, cones, &body)? {
         Some(cone) => body_verdict(alloc, wave, &cone, body),

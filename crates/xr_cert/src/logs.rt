@@ -6,7 +6,7 @@ ghost use Rattle.xr_cnf.specs.Query.{IsQueryOfNodes};
 ghost use Rattle.xr_cone_nodes.specs.Nodes.{nothing, root_bit, sources_of};
 ghost use Rattle.xr_model.specs.declared.line.Body.TheVariants as body;
 ghost use Rattle.xr_proof.specs.Log.{Fit};
-ghost use Rattle.xr_cert.specs.Step.{IsVerdictOf, Refuses};
+ghost use Rattle.xr_cert.specs.Step.{IsVerdictOf, RefusesBody};
 
 use std::alloc::Global;
 use xr_base::Memory;
@@ -27,7 +27,7 @@ pub fn refuted_verdict(
 ) -> Result<Option<Verdict>, Memory>
     requires { IsNextCone wave.now cone.now.nodes }
     ensures verdict { IfOk result (λ found. IfSome found (IsVerdictOf wave.now (body.Refuted bit log))) }
-    ensures none { IfOk result (λ found. IfNone found (Refuses wave.now (body.Refuted bit log))) }
+    ensures none { IfOk result (λ found. IfNone found (RefusesBody wave.now (body.Refuted bit log))) }
 {
     if !are_same(cone.base(), bit) {
         return Ok(None);
@@ -61,7 +61,7 @@ fn refuting_verdict(
     ensures verdict { IfOk result (λ found. IfSome found
         (IsVerdictOf wave.now (body.Refuted (root_bit nothing cone.now.nodes) log))) }
     ensures none { IfOk result (λ found. IfNone found
-        (Refuses wave.now (body.Refuted (root_bit nothing cone.now.nodes) log))) }
+        (RefusesBody wave.now (body.Refuted (root_bit nothing cone.now.nodes) log))) }
 {
     let mut checker = checker_for(alloc, query, &log)?;
     match checker.check(query, log) {
@@ -79,7 +79,7 @@ pub fn exhausted_verdict(
 ) -> Result<Option<Verdict>, Memory>
     requires { IsNextCone wave.now cone.now.nodes }
     ensures verdict { IfOk result (λ found. IfSome found (IsVerdictOf wave.now (body.Undecided log))) }
-    ensures none { IfOk result (λ found. IfNone found (Refuses wave.now (body.Undecided log))) }
+    ensures none { IfOk result (λ found. IfNone found (RefusesBody wave.now (body.Undecided log))) }
 {
     if has_few_sources(wave, cone) {
         return Ok(None);
@@ -106,7 +106,7 @@ fn fresh_verdict(
     requires few { query.now.vars ≤ 2 ^ 27 }
     requires fit { Fit query.now.vars log }
     ensures verdict { IfOk result (λ found. IfSome found (IsVerdictOf wave.now (body.Undecided log))) }
-    ensures none { IfOk result (λ found. IfNone found (Refuses wave.now (body.Undecided log))) }
+    ensures none { IfOk result (λ found. IfNone found (RefusesBody wave.now (body.Undecided log))) }
 {
     let mut checker = checker_for(alloc, query, &log)?;
     match checker.check_fresh(query, log, wave.limits().conflicts) {

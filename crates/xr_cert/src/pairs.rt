@@ -6,7 +6,7 @@ ghost use Rattle.xr_design.specs.Circuit.{job_in};
 ghost use Rattle.xr_design.specs.Filling.{IsFilling};
 ghost use Rattle.xr_model.specs.declared.line.Body.TheVariants as body;
 ghost use Rattle.xr_wave.specs.Contents.{job};
-ghost use Rattle.xr_cert.specs.Step.{IsVerdictOf, Refuses};
+ghost use Rattle.xr_cert.specs.Step.{IsVerdictOf, RefusesBody};
 
 use std::alloc::Global;
 use xr_base::Memory;
@@ -25,7 +25,7 @@ pub fn pair_verdict(
 ) -> Result<Option<Verdict>, Memory>
     requires { IsNextCone wave.now cone.now.nodes }
     ensures verdict { IfOk result (λ found. IfSome found (IsVerdictOf wave.now (body.Pair zero one))) }
-    ensures none { IfOk result (λ found. IfNone found (Refuses wave.now (body.Pair zero one))) }
+    ensures none { IfOk result (λ found. IfNone found (RefusesBody wave.now (body.Pair zero one))) }
 {
     if are_fillings(&wave.circuit(), &zero, &one) {
         filled_verdict(alloc, wave, cone, zero, one)
@@ -52,7 +52,7 @@ fn filled_verdict(
     requires zero { IsFilling (job wave.now) zero }
     requires one { IsFilling (job wave.now) one }
     ensures verdict { IfOk result (λ found. IfSome found (IsVerdictOf wave.now (body.Pair zero one))) }
-    ensures none { IfOk result (λ found. IfNone found (Refuses wave.now (body.Pair zero one))) }
+    ensures none { IfOk result (λ found. IfNone found (RefusesBody wave.now (body.Pair zero one))) }
 {
     match check_pair(alloc, wave, cone, zero, one) {
         Ok(verdict) => Ok(Some(verdict)),

@@ -41,18 +41,18 @@ abbrev pub goes : State → LinesView → Result Cert ℕ
 goes state left = run state left.number left.lines
 
 -- A refusal names the first wrong line.
-abbrev pub Refuses : Result Cert ℕ → TextErr → Type 0
-Refuses comes (Refused wrong) = comes ≡ Err wrong.line
-Refuses comes NoMemory = Unit {0}
+abbrev pub NamesFirstWrong : Result Cert ℕ → TextErr → Type 0
+NamesFirstWrong comes (Refused wrong) = comes ≡ Err wrong.line
+NamesFirstWrong comes NoMemory = Unit {0}
 
 -- A reader of lines: what was to come comes of what is left.
-abbrev pub Reads : {A : Type 0} → State → LinesView → Result A TextErr → (A → State) → LinesView → Type 0
-Reads state old (Ok x) next new = goes state old ≡ goes (next x) new
-Reads state old (Err e) next new = Refuses (goes state old) e
+abbrev pub ReadsLines : {A : Type 0} → State → LinesView → Result A TextErr → (A → State) → LinesView → Type 0
+ReadsLines state old (Ok x) next new = goes state old ≡ goes (next x) new
+ReadsLines state old (Err e) next new = NamesFirstWrong (goes state old) e
 
 abbrev pub Comes : Result Cert ℕ → Result Cert TextErr → Type 0
 Comes comes (Ok cert) = comes ≡ Ok cert
-Comes comes (Err e) = Refuses comes e
+Comes comes (Err e) = NamesFirstWrong comes e
 
 -- The refusal of a line, by its number.
 abbrev pub refusal_at : ℕ → LineErr → TextErr

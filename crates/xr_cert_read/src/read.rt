@@ -5,7 +5,7 @@ ghost use Rattle.xr_cert_text.specs.declared.cert.Cert.{Cert as ACert};
 ghost use Rattle.xr_cert_read.specs.declared.refusal.TextErr.TheVariants.{Memory as OutOfMemory};
 ghost use Rattle.xr_cert_read.specs.Machine.{all, cert_with, entry_lettered, form_of_title, has_turns, is_count, item_of, run, start, titled, within};
 ghost use Rattle.xr_cert_text.specs.Pieces.{lines_in, words_in};
-ghost use Rattle.xr_cert_read.specs.Reading.{Comes, Gives, Reads, goes, next_state};
+ghost use Rattle.xr_cert_read.specs.Reading.{Comes, Gives, ReadsLines, goes, next_state};
 ghost use Rattle.xr_cert_read.specs.Refusal.{IsTextRefusal};
 ghost use Rattle.xr_cert_text.specs.Wrong.{IsTextOf};
 
@@ -48,7 +48,7 @@ fn read_all(alloc: Global, text: &[u8]) -> Result<Cert, TextErr>
 }
 
 fn title(lines: &mut Lines<'_>) -> Result<Form, TextErr>
-    ensures { Reads start lines.old result (λ form. titled form) lines.new }
+    ensures { ReadsLines start lines.old result (λ form. titled form) lines.new }
 {
     let number = lines.number();
     let line = lines.next()?;
@@ -72,7 +72,7 @@ fn form_of_title(line: &[u8]) -> Option<Form>
 }
 
 fn numbers(lines: &mut Lines<'_>, form: Form) -> Result<Head, TextErr>
-    ensures { Reads (titled form) lines.old result (λ head. within form head []) lines.new }
+    ensures { ReadsLines (titled form) lines.old result (λ head. within form head []) lines.new }
 {
     let number = lines.number();
     let line = lines.next()?;
@@ -90,7 +90,7 @@ fn entries(
     form: Form,
     head: Head,
 ) -> Result<Items<Entry>, TextErr>
-    ensures reads { Reads (within form head []) lines.old result (λ entries. all (cert_with form head entries))
+    ensures reads { ReadsLines (within form head []) lines.old result (λ entries. all (cert_with form head entries))
         lines.new }
     ensures count { IfOk result (λ entries. length entries < 2 ^ 64) }
 {
@@ -111,7 +111,7 @@ fn next_item(
     head: Head,
     entries: &Vec<Entry>,
 ) -> Result<Option<Entry>, TextErr>
-    ensures reads { Reads (within form head entries.now.items) lines.old result (next_state form head entries.now.items)
+    ensures reads { ReadsLines (within form head entries.now.items) lines.old result (next_state form head entries.now.items)
         lines.new }
     ensures shortens { OnOk result (length lines.new.lines < length lines.old.lines) }
 {

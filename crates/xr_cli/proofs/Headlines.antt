@@ -55,7 +55,7 @@ use Rattle.xr_cli.specs.Conditions.{cert_by}
 use Rattle.xr_cli.specs.Headline.{Certifies, Headline, IsBit, IsForceCode, RepairedJob, ShowsWaveform, place_of_bit, value_in}
 use Rattle.xr_phases.specs.Certificate.{form_of}
 use Rattle.xr_phases.specs.Phases.{scope_of}
-use Rattle.xr_phases.specs.Repair.{FitsJob, Found, IsFound, beginning}
+use Rattle.xr_phases.specs.Repair.{FitsJob, Found, IsFoundRepair, beginning}
 use Rattle.xr_phases.specs.Texts.{IsJob}
 use Rattle.xr_cli.proofs.Conditioned.{conditions_of, have_conditions, same_cert, same_printed}
 use Rattle.xr_cli.proofs.Needing.{each_needs}
@@ -157,7 +157,7 @@ pub record Made (w : RepairValues) (netlist recording : List ℕ) : Type 0 where
   pub job : IsJob w.job netlist recording n r
   pub faultless : IsFaultless (job_for n r) r.recording r.binding
   pub found : Found
-  pub is : IsFound w.limits n r found
+  pub is : IsFoundRepair w.limits n r found
 
 module _ (w : RepairValues) (netlist recording : List ℕ) (is : Made w netlist recording) where
   abbrev pub TheWave : Contents

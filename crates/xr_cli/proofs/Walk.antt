@@ -26,13 +26,13 @@ use Rattle.xr_phases.specs.Certificate.{CheckComes, CheckShows, ConditionsCome, 
 use Rattle.xr_phases.specs.Code.{ForcedComes, IsForced}
 use Rattle.xr_cli.specs.Prove.{proof_phases, prove_answer}
 use Rattle.xr_phases.specs.Phases.{itself, no_cause, parts, proof_cause, walk_cause}
-use Rattle.xr_phases.specs.Repair.{Found, IsFound, WalkComes}
+use Rattle.xr_phases.specs.Repair.{Found, IsFoundRepair, WalkComes}
 use Rattle.xr_phases.specs.declared.parts.Parts.{Parts}
 use Rattle.xr_model.specs.declared.limits.Limits.{Limits}
 
 -- A wave that is found, with its texts.
 pub walk_found : (w : RepairValues) (n : ANetlist) (r : Recorded) (found : Found) (conditions : List ConditionView) (ready : Ready)
-    → IsFound w.limits n r found → AreConditionsFor (form_of w.form) found.wave conditions → answer_of ready ≡ repair_answer w n r found conditions
+    → IsFoundRepair w.limits n r found → AreConditionsFor (form_of w.form) found.wave conditions → answer_of ready ≡ repair_answer w n r found conditions
     → PreparedAlone (walk_phases w (parts n r)) answer_of (Ok ready)
 walk_found w n r found conditions ready is are same =
     searched_then (WalkComes w.limits n r) walk_cause (texts_phases w n r) itself answer_of found (Ok ready) record { found = is; refused = tt }
@@ -40,7 +40,7 @@ walk_found w n r found conditions ready is are same =
     conditions (Ok ready) record { found = are; refused = tt } (λ told v. found_prepared told answer_of (repair_answer w n r found conditions) v ready same))
 
 -- A wave of a made job that is found, with what is printed of it.
-pub made_found : (w : MakeValues) (recording : List ℕ) (n : ANetlist) (r : Recorded) (found : Found) (ready : Ready) → IsFound made_limits n r found
+pub made_found : (w : MakeValues) (recording : List ℕ) (n : ANetlist) (r : Recorded) (found : Found) (ready : Ready) → IsFoundRepair made_limits n r found
     → answer_of ready ≡ make_answer w recording found.wave → PreparedAlone (walk_made w recording n r) answer_of (Ok ready)
 made_found w recording n r found ready is same =
     searched_then (WalkComes made_limits n r) walk_cause (λ (x : Found). Phases.Finds (make_answer w recording x.wave)) itself answer_of
@@ -79,7 +79,7 @@ upgrade_found w job cert wave conditions found ready is are same =
     found (Ok ready) record { found = are; refused = tt } (λ told v. found_prepared told answer_of (upgrade_answer w job wave found) v ready same))
 
 -- A wave that is found, with what is then found of it.
-pub listed_found : (limits : Limits) (n : ANetlist) (r : Recorded) (Comes : Contents → Result Answer ⊥ → Type 0) (found : Found) (ready : Ready) → IsFound limits n r found
+pub listed_found : (limits : Limits) (n : ANetlist) (r : Recorded) (Comes : Contents → Result Answer ⊥ → Type 0) (found : Found) (ready : Ready) → IsFoundRepair limits n r found
     → Comes found.wave (Ok (answer_of ready)) → PreparedAlone (searches (WalkComes limits n r) walk_cause >>= (λ (x : Found). searches (Comes x.wave) no_cause)) answer_of (Ok ready)
 listed_found limits n r Comes found ready is lists =
     searched_then (WalkComes limits n r) walk_cause (λ (x : Found). searches (Comes x.wave) no_cause) itself answer_of

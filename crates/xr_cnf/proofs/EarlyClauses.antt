@@ -16,7 +16,7 @@ use Rattle.xr_proof.proofs.ClosedSets.{all_from}
 use Rattle.xr_cone_nodes.specs.declared.node.Node.{Node}
 use Rattle.xr_cone_nodes.specs.declared.node.NodeBody.{NodeBody as Body}
 use Rattle.xr_cone_nodes.specs.declared.node.NodeBody.TheVariants.{Carried, Rule}
-use Rattle.xr_cone_nodes.specs.Nodes.{AreNodes, IsTable, StandsAt, body_at, body_of, node_at}
+use Rattle.xr_cone_nodes.specs.Nodes.{AreNodes, IsNodeTable, StandsAt, body_at, body_of, node_at}
 use Rattle.xr_cnf.specs.Clauses.{AreNodeClauses, AreQueryClauses, IsBodyClause, IsNodeClause, IsTableClause, denial_of, node_says}
 use Rattle.xr_cnf.specs.Growth.{AreOnce, IsEarlyClause, IsGrown}
 use Rattle.xr_cnf.specs.Literals.{AreLiterals, IsLiteral, literal_at, says, variables_of}
@@ -93,12 +93,12 @@ says_literal variables (pos (suc n)) false is = record { some = is.some; few = i
 says_literal variables (negsuc n) false is = record { some = is.some; few = is.few }
 
 table_of_body : (position : ℕ) (body : Body) (arguments : List ℕ) (values : List Value) → StandsAt position body
-    → body_of body ≡ ruled arguments values → IsTable position arguments values
+    → body_of body ≡ ruled arguments values → IsNodeTable position arguments values
 table_of_body position (Carried node inverted) arguments values stands same = cc
 table_of_body position (Rule others table) arguments values stands same =
     let names : others ≡ arguments = cc in
     let entries : table ≡ values = cc in
-    subst (λ xs. IsTable position xs values) names (subst (λ vs. IsTable position others vs) entries stands)
+    subst (λ xs. IsNodeTable position xs values) names (subst (λ vs. IsNodeTable position others vs) entries stands)
 
 only_one : (l x : ℤ) → Contains (x ∷ []) l → l ≡ x
 only_one l x (zero, less, is) = sym is
@@ -139,7 +139,7 @@ module _ (nodes : List Node) (literals : List ℤ) (are_nodes : AreNodes nodes) 
       (get_or-append is.arguments (is.position ∷ []) 0 other.0 low) (omega (arith, before, within))))))
       (is.of_table.is_clause.no_other l at)
     where
-      table : IsTable is.position is.arguments is.values
+      table : IsNodeTable is.position is.arguments is.values
       table = table_of_body is.position (node_at nodes is.position).body is.arguments is.values
           (are_nodes.each is.position is.within) is.body
 

@@ -7,7 +7,7 @@ use Rattle.xr_model.specs.Query.{IsChoice, IsClause}
 use Rattle.xr_cone_choices.specs.declared.choice.Choice.{Choice}
 use Rattle.xr_cone_choices.specs.Choices.{bits_in, chosen_in}
 use Rattle.xr_cone_nodes.specs.declared.node.Node.{Node}
-use Rattle.xr_cone_nodes.specs.Nodes.{IsTable}
+use Rattle.xr_cone_nodes.specs.Nodes.{IsNodeTable}
 use Rattle.xr_cnf.specs.Clauses.{IsNodeClause, node_says}
 use Rattle.xr_cnf.specs.Literals.{IsLiteral}
 
@@ -37,7 +37,7 @@ clause_literals says count choice bit = denied says choice count ++ says count b
 
 -- A node with a table, among the literals of nodes.
 pub record IsTableOf (literals : List ℤ) (arguments : List ℕ) (values : List Value) (position : ℕ) : Type 0 where
-  pub table : IsTable position arguments values
+  pub table : IsNodeTable position arguments values
   pub within : position < length literals
   pub fit : All (IsLiteral (2 ^ 27)) literals
 

@@ -14,7 +14,7 @@ use Rattle.xr_code.specs.Grammar.{IsCode, IsMark, IsWord, MayIndex, Names, Path,
 use Rattle.xr_code.specs.Lookup.{below, net_below, net_of}
 use Rattle.xr_code.specs.Machine.{Next, Progress, after_name, begun, bit_by, body, capped, ended_by, ended_release, finish, index_by, name_by, net_named, next, on, refused, release_by, round_on, run, statement_by, step, target, target_by, then_run, time_on, wait_by, waited}
 use Rattle.xr_code.specs.Statements.{forced_now}
-use Rattle.xr_code.specs.Words.{is_mark, is_word, name_of, number_of, value_of}
+use Rattle.xr_code.specs.Words.{is_mark, is_word, token_name, number_of, value_of}
 use Rattle.xr_code.specs.declared.fault.CodeFault.{CodeFault}
 use Rattle.xr_code.specs.declared.fault.CodeFault.TheVariants.{RoundPast, Syntax}
 use Rattle.xr_code.specs.declared.state.State.{State}
@@ -232,7 +232,7 @@ module _ (stop : ℕ) (all : List Event) where
   wait_from p at None t ts fit is h = absurd h
   wait_from p at (Some d) t ts fit is h = waited_from p at d t ts fit is h
 
-  name_back : (forces : Bool) (c : Code) (s : Stage) (texts : Texts) (name : List ℕ) (t : Token) (ts : List Token) → name_of c.text t ≡ Some name → FAfter forces c s (texts ++ name ∷ []) ts → FNames forces c s texts (t ∷ ts)
+  name_back : (forces : Bool) (c : Code) (s : Stage) (texts : Texts) (name : List ℕ) (t : Token) (ts : List Token) → token_name c.text t ≡ Some name → FAfter forces c s (texts ++ name ∷ []) ts → FNames forces c s texts (t ∷ ts)
   name_back forces c s texts name t _ is (inl (ThenMark.then dot n)) = record {
     names = name ∷ n.names;
     rest = n.rest;
@@ -241,7 +241,7 @@ module _ (stop : ℕ) (all : List Event) where
   }
   name_back forces c s texts name t ts is (inr i) = record { names = name ∷ []; rest = ts; parsed = Names.one is; indexed = i }
 
-  name_from : (p : Progress) (name : Option (List ℕ)) (t : Token) (ts : List Token) → Fit p → p.index ≡ None → name_of p.code.text t ≡ name → FromNext (name_by p t name) ts → FNames p.forces p.code (stage_of p) p.texts (t ∷ ts)
+  name_from : (p : Progress) (name : Option (List ℕ)) (t : Token) (ts : List Token) → Fit p → p.index ≡ None → token_name p.code.text t ≡ name → FromNext (name_by p t name) ts → FNames p.forces p.code (stage_of p) p.texts (t ∷ ts)
   name_from p None t ts fit none is h = absurd h
   name_from p (Some name) t ts fit none is h =
       name_back p.forces p.code (stage_of p) p.texts name t ts is (h record { moment = fit.moment; round = fit.round; design = fit.design } none)
@@ -330,7 +330,7 @@ module _ (stop : ℕ) (all : List Event) where
   back Body p t ts h fit = body_back p t ts h fit
   back (Wait at) p t ts h fit = wait_from p at (number_of p.code.text t) t ts fit refl h
   back WaitEnd p t ts h fit = mark_from p.code (codes ";") (FBody p.code (stage_of p)) t ts Body p (λ from. from fit) h
-  back NameNext p t ts h fit = λ none. name_from p (name_of p.code.text t) t ts fit none refl h
+  back NameNext p t ts h fit = λ none. name_from p (token_name p.code.text t) t ts fit none refl h
   back AfterName p t ts h fit = after_back p t ts h fit
   back Index p t ts h fit = index_from p (number_of p.code.text t) t ts fit refl h
   back IndexEnd p t ts h fit = mark_from p.code (codes "]") (FTarget p.forces p.code (stage_of p) p.texts p.index) t ts PathEnd p (λ from. from fit) h

@@ -8,7 +8,7 @@ use Rattle.std.proofs.lemmas.Grind.{get_or-set_at}
 use Rattle.xr_cell.specs.declared.value.Value.{Value}
 use Rattle.xr_design.specs.declared.force.Event.{Event}
 use Rattle.xr_replay.specs.Forced.{AreOrdered, event_at, no_event}
-use Rattle.xr_code.specs.Statements.{IsTable, forced_from, forced_now, taken}
+use Rattle.xr_code.specs.Statements.{IsForcedTable, forced_from, forced_now, taken}
 
 pub length_more : (events : List Event) (event : Event) → length (events ++ event ∷ []) ≡ length events + 1
 length_more events event = simp length-append (omega arith)
@@ -44,7 +44,7 @@ forced_push was (first ∷ events) event net = forced_push (taken first net was)
 pub forced_more : (events : List Event) (event : Event) (net : ℕ) → forced_now (events ++ event ∷ []) net ≡ (if event.net == net then event.value else forced_now events net)
 forced_more events event net = forced_push None events event net
 
-pub table_more : (forced : List (Option Value)) (events more : List Event) (event : Event) → IsTable forced events → more ≡ events ++ event ∷ [] → IsTable (set forced event.net event.value) more
+pub table_more : (forced : List (Option Value)) (events more : List Event) (event : Event) → IsForcedTable forced events → more ≡ events ++ event ∷ [] → IsForcedTable (set forced event.net event.value) more
 table_more forced events more event table is net within = by (event.net == net) (eqb-true _ _) (eqb-false _ _) ∙ sym (ap (λ (l : List Event). forced_now l net) is ∙ forced_more events event net)
   where
     long : length (set forced event.net event.value) ≡ length forced

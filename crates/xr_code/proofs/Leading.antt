@@ -6,7 +6,7 @@ use Rattle.std.proofs.Math.Seq.{drop-append_seam, take-append_seam}
 use Rattle.xr_design.specs.declared.force.Event.{Event}
 use Rattle.xr_text.specs.Byte.{is_white}
 use Rattle.xr_text.specs.Left.{Left, ended, first, token}
-use Rattle.xr_text.specs.Tokens.{Blank, Reads, Skips, Tokens}
+use Rattle.xr_text.specs.Tokens.{Blank, ReadsToken, Skips, Tokens}
 use Rattle.xr_text.specs.declared.token.Kind.{Kind}
 use Rattle.xr_text.specs.declared.token.Token.{Token}
 use Rattle.xr_code.specs.Machine.{Progress, run, step}
@@ -63,7 +63,7 @@ white text state p b bs events is leads at here =
 
 -- A token of this kind and spelling is read there, whatever bytes stand before it.
 abbrev pub IsToken : Kind → List ℕ → List ℕ → Type 0
-IsToken kind word rest = (at : ℕ) → Reads at (word ++ rest) (token kind at (at + length word)) rest
+IsToken kind word rest = (at : ℕ) → ReadsToken at (word ++ rest) (token kind at (at + length word)) rest
 
 -- what comes of a token, and where the rest leads from there
 pub record Goes (text : List ℕ) (state : State) (p : Progress) (t : Token) (rest : List ℕ) (events : List Event) : Type 0 where

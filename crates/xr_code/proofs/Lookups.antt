@@ -12,7 +12,7 @@ use Rattle.xr_design.specs.declared.design.Net.{Net}
 use Rattle.xr_match.specs.Keys.{are_solid}
 use Rattle.xr_match.specs.Naming.{Texts, index_of, named_below, names_eq, nets_of, texts_of}
 use Rattle.xr_match.proofs.NameLemmas.{names-Decides, net_solid}
-use Rattle.xr_code.specs.Found.{IsFound}
+use Rattle.xr_code.specs.Found.{IsFoundNet}
 use Rattle.xr_code.specs.Lookup.{is_name, net_of, same_index}
 use Rattle.xr_code.proofs.Places.{position_is, position_none, position_within}
 
@@ -114,7 +114,7 @@ unnamed design texts index none =
     sym (position_none (λ (n : Net). is_name texts index n.path) design.nets no_net (λ net within. tested_at design texts index net within ∙ none net within))
 
 -- What is found among the nets of a name's texts is the net of the name.
-pub found_is : (design : Design) (texts : Texts) (index : Option ℕ) (nets : List ℕ) (net : Option ℕ) → FitsDesign design → nets ≡ nets_of design texts → IsFound design nets index net → net ≡ net_of design texts index
+pub found_is : (design : Design) (texts : Texts) (index : Option ℕ) (nets : List ℕ) (net : Option ℕ) → FitsDesign design → nets ≡ nets_of design texts → IsFoundNet design nets index net → net ≡ net_of design texts index
 found_is design texts index nets (Some net) fits is found =
     let named = named_so design texts (length design.nets) net (subst (λ (l : List ℕ). Contains l net) is found.0) in
     named_net design texts index net fits named.within (rw (named.named, found.1) refl)

@@ -7,7 +7,7 @@ use Rattle.xr_text.specs.Tokens.{Tokens}
 use Rattle.xr_text.specs.declared.token.Token.{Token}
 use Rattle.xr_code.specs.Code.{Code}
 use Rattle.xr_code.specs.Fault.{fault_in}
-use Rattle.xr_code.specs.Going.{Reads, Refuses}
+use Rattle.xr_code.specs.Going.{ReadsEvents, RefusesCode}
 use Rattle.xr_code.specs.Machine.{Next, Progress, run, step, then_run}
 use Rattle.xr_code.specs.Says.{FirstFault, beginning, reach, reach_on, statements_of, stop_of, stops}
 use Rattle.xr_code.specs.declared.fault.CodeFault.{CodeFault}
@@ -57,10 +57,10 @@ first_fault code left fault tokens is =
     record { left = left; tokens = tokens; front = s.front; rest = s.rest; split = s.split; next = s.next; reached = s.reached; stopped = s.stopped }
 
 -- A refusal of the statements is the text's first fault.
-refused_first : (c : Code) (left : Left) (e : CodeErr) → Tokens 0 c.text left → Refuses (statements_of c left) e → IfSome (fault_in e) (FirstFault c)
+refused_first : (c : Code) (left : Left) (e : CodeErr) → Tokens 0 c.text left → RefusesCode (statements_of c left) e → IfSome (fault_in e) (FirstFault c)
 refused_first c left (Refused fault) tokens is = first_fault c left fault tokens is
 refused_first c left Memory tokens is = tt
 
-pub reads_first : (c : Code) (left : Left) (result : Result (Vec Event Global) CodeErr) → Tokens 0 c.text left → Reads (statements_of c left) result → IfErr result (λ e. IfSome (fault_in e) (FirstFault c))
+pub reads_first : (c : Code) (left : Left) (result : Result (Vec Event Global) CodeErr) → Tokens 0 c.text left → ReadsEvents (statements_of c left) result → IfErr result (λ e. IfSome (fault_in e) (FirstFault c))
 reads_first c left (Ok events) tokens reads = tt
 reads_first c left (Err e) tokens reads = refused_first c left e tokens reads

@@ -5,7 +5,7 @@ use Rattle.std.proofs.lemmas.Bool.Decides.{nat_tests}
 use Rattle.xr_text.specs.Byte.{begins, is_digit, is_letter, is_name_byte, is_number_byte, is_printable, quote}
 use Rattle.xr_text.specs.Ends.{Longest}
 use Rattle.xr_text.specs.Left.{token}
-use Rattle.xr_text.specs.Tokens.{Reads, begins_more}
+use Rattle.xr_text.specs.Tokens.{ReadsToken, begins_more}
 use Rattle.xr_text.specs.declared.token.Kind.TheVariants.{Name, Escaped, Number, Mark}
 use Rattle.xr_scan.specs.Bytes.{all_digits}
 use Rattle.xr_scan.proofs.Digits.{all_digits_decimal}
@@ -39,13 +39,13 @@ name_token [] rest is stops at = absurd cc
 name_token (b ∷ bs) rest is stops at =
     let h = both (is_letter b) (list_all is_name_byte (b ∷ bs)) is in
     let g = both (is_name_byte b) (list_all is_name_byte bs) h.1 in
-    Reads.name h.0 (from_second is_name_byte at b bs rest g.1 stops)
+    ReadsToken.name h.0 (from_second is_name_byte at b bs rest g.1 stops)
 
 -- An escaped name ends before a byte that isn't printable.
 pub escaped_token : (text rest : List ℕ) → (begins is_printable text && list_all is_printable text) ≡ true → begins is_printable rest ≡ false → IsToken Escaped (92 ∷ text) rest
 escaped_token text rest is stops at =
     let h = both (begins is_printable text) (list_all is_printable text) is in
-    Reads.escaped (begins_more_of text h.0) (from_second is_printable at 92 text rest h.1 stops)
+    ReadsToken.escaped (begins_more_of text h.0) (from_second is_printable at 92 text rest h.1 stops)
   where
     begins_more_of : (text : List ℕ) → begins is_printable text ≡ true → begins is_printable (text ++ rest) ≡ true
     begins_more_of [] h = absurd cc
@@ -57,7 +57,7 @@ number_token [] rest is stops at = absurd cc
 number_token (b ∷ bs) rest is stops at =
     let h = both (is_digit b) (list_all is_number_byte (b ∷ bs)) is in
     let g = both (is_number_byte b) (list_all is_number_byte bs) h.1 in
-    Reads.number h.0 (from_second is_number_byte at b bs rest g.1 stops)
+    ReadsToken.number h.0 (from_second is_number_byte at b bs rest g.1 stops)
 
 -- A mark is a byte that begins nothing else.
 abbrev pub is_plain_mark : ℕ → Bool
@@ -70,7 +70,7 @@ pub mark_token : (b : ℕ) (rest : List ℕ) → is_plain_mark b ≡ true → Is
 mark_token b rest is at =
     let h = mark_parts b rest is in
     let there : at + 1 ≡ at + length (b ∷ []) = omega arith in
-    subst (λ n. Reads at (b ∷ rest) (token Mark at n) rest) there (Reads.mark h.0 h.1 h.2)
+    subst (λ n. ReadsToken at (b ∷ rest) (token Mark at n) rest) there (ReadsToken.mark h.0 h.1 h.2)
 
 -- A written number has digits alone, one at least.
 digits_number : (ds : List ℕ) → 0 < length ds → all_digits ds ≡ true → (begins is_digit ds && list_all is_number_byte ds) ≡ true

@@ -20,7 +20,7 @@ use Rattle.xr_code.specs.Lookup.{below, net_below}
 use Rattle.xr_code.specs.Clock.{moment_at, moment_by}
 use Rattle.xr_code.specs.Machine.{Next, Progress, begun, bit_by, body, capped, index_by, name_by, net_named, next, on, refused, release_by, round_on, statement_by, step, target, target_by, time_on, wait_by, with_event, with_name}
 use Rattle.xr_code.specs.Statements.{forced_now}
-use Rattle.xr_code.specs.Words.{is_mark, is_word, name_of, number_of, value_of}
+use Rattle.xr_code.specs.Words.{is_mark, is_word, token_name, number_of, value_of}
 use Rattle.xr_code.specs.declared.fault.CodeFault.{CodeFault}
 use Rattle.xr_code.specs.declared.fault.CodeFault.TheVariants.{RoundPast}
 use Rattle.xr_code.specs.declared.state.State.{State}
@@ -213,7 +213,7 @@ stays Begin p t net is = stays_one p (is_word p.code.text t (codes "begin")) (st
 stays Body p t net is = stays_body p t is
 stays (Wait at) p t net is = stays_wait p at t (number_of p.code.text t) is
 stays WaitEnd p t net is = stays_one p (is_mark p.code.text t (codes ";")) (state_of Body p) t (here Body p tt is)
-stays NameNext p t net is = stays_name p t (name_of p.code.text t) is
+stays NameNext p t net is = stays_name p t (token_name p.code.text t) is
 stays AfterName p t net is =
     stays_on p (is_mark p.code.text t (codes ".")) (next NameNext p) (on (is_mark p.code.text t (codes "[")) (next Index p) (target p t)) (here NameNext p tt is)
     (stays_on p (is_mark p.code.text t (codes "[")) (next Index p) (target p t) (here Index p tt is) (stays_named p t is))

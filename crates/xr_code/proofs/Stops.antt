@@ -1,17 +1,17 @@
 -- A text whose tokens end with a fault has it before its end.
 use Rattle.std.proofs.Common.{◌≡◌, ℕ, ◌+◌, ◌<◌, Option, None, Some, List, length, refl, subst, arith}
 use Rattle.xr_text.specs.Left.{Left, place_of}
-use Rattle.xr_text.specs.Tokens.{Refuses, Tokens}
+use Rattle.xr_text.specs.Tokens.{RefusesToken, Tokens}
 use Rattle.xr_text.specs.declared.token.LexErr.{LexErr}
 use Rattle.xr_text.proofs.Sizes.{reads_goes, skips_goes}
 use Rattle.xr_code.specs.Says.{stop_of}
 
-refused_within : {at : ℕ} {bs : List ℕ} {fault : LexErr} → Refuses at bs fault → place_of fault < at + length bs
-refused_within (Refuses.bad_byte a b) = omega arith
-refused_within (Refuses.open_comment a) = omega arith
-refused_within (Refuses.open_text a) = omega arith
-refused_within (Refuses.no_wire a b) = omega arith
-refused_within (Refuses.unknown a b) = omega arith
+refused_within : {at : ℕ} {bs : List ℕ} {fault : LexErr} → RefusesToken at bs fault → place_of fault < at + length bs
+refused_within (RefusesToken.bad_byte a b) = omega arith
+refused_within (RefusesToken.open_comment a) = omega arith
+refused_within (RefusesToken.open_text a) = omega arith
+refused_within (RefusesToken.no_wire a b) = omega arith
+refused_within (RefusesToken.unknown a b) = omega arith
 
 fault_within : {at : ℕ} {bs : List ℕ} {left : Left} (fault : LexErr) → Tokens at bs left → left.fault ≡ Some fault → place_of fault < at + length bs
 fault_within fault Tokens.ends is = absurd cc

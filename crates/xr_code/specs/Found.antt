@@ -25,6 +25,6 @@ IsKeyOf texts None = are_solid texts ≡ false
 IsKeyOf texts (Some key) = IsKey texts key
 
 -- One of these nets, with this index; or none has it.
-abbrev pub IsFound : Design → List ℕ → Option ℕ → Option ℕ → Type 0
-IsFound design nets index None = (k : ℕ) → k < length nets → same_index (index_of design (slice_index nets k)) index ≡ false
-IsFound design nets index (Some net) = Contains nets net × (same_index (index_of design net) index ≡ true)
+abbrev pub IsFoundNet : Design → List ℕ → Option ℕ → Option ℕ → Type 0
+IsFoundNet design nets index None = (k : ℕ) → k < length nets → same_index (index_of design (slice_index nets k)) index ≡ false
+IsFoundNet design nets index (Some net) = Contains nets net × (same_index (index_of design net) index ≡ true)

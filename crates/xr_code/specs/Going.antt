@@ -17,23 +17,23 @@ use Rattle.xr_code.specs.declared.state.State.{State}
 use Rattle.xr_code.specs.declared.state.State.TheVariants.{Bit}
 
 -- The fault is this one; or there is no memory.
-abbrev pub Refuses : {X : Type 0} → Result X CodeFault → CodeErr → Type 0
-Refuses wanted (Refused fault) = wanted ≡ Err fault
-Refuses wanted Memory = Unit {0}
+abbrev pub RefusesCode : {X : Type 0} → Result X CodeFault → CodeErr → Type 0
+RefusesCode wanted (Refused fault) = wanted ≡ Err fault
+RefusesCode wanted Memory = Unit {0}
 
 -- The code does a step, or refuses, as it should; or there is no memory.
 abbrev pub Steps : Result Next CodeFault → Result State CodeErr → Progress → Type 0
 Steps wanted (Ok state) new = wanted ≡ Ok record { state = state; progress = new }
-Steps wanted (Err e) new = Refuses wanted e
+Steps wanted (Err e) new = RefusesCode wanted e
 
 -- one word, and what may stand behind it
 abbrev pub Goes : Bool → Token → State → Result State CodeErr → Type 0
 Goes is t state result = result ≡ (if is then Ok state else Err (Refused (Syntax t.start)))
 
 -- It answers the events of the statements, or refuses, as it should; or there is no memory.
-abbrev pub Reads : Result (List Event) CodeFault → Result (Vec Event Global) CodeErr → Type 0
-Reads wanted (Ok events) = wanted ≡ Ok events.items
-Reads wanted (Err e) = Refuses wanted e
+abbrev pub ReadsEvents : Result (List Event) CodeFault → Result (Vec Event Global) CodeErr → Type 0
+ReadsEvents wanted (Ok events) = wanted ≡ Ok events.items
+ReadsEvents wanted (Err e) = RefusesCode wanted e
 
 -- The moment is that of the time.
 pub record IsMoment (stim : Stim) (time moment : ℕ) : Type 0 where

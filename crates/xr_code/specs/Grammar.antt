@@ -14,7 +14,7 @@ use Rattle.xr_code.specs.Clock.{clock_of, moment_by, start}
 use Rattle.xr_code.specs.Code.{Code}
 use Rattle.xr_code.specs.Lookup.{net_of}
 use Rattle.xr_code.specs.Statements.{forced_now}
-use Rattle.xr_code.specs.Words.{is_mark, is_word, name_of, number_of, value_of}
+use Rattle.xr_code.specs.Words.{is_mark, is_word, token_name, number_of, value_of}
 use Rattle.xr_code.specs.declared.clock.Clock.{Clock}
 
 -- The token is this word, or this mark.
@@ -26,8 +26,8 @@ IsMark c mark t = is_mark c.text t mark ≡ true
 
 -- name { "." name }
 pub data Names (c : Code) : List Token → List Token → Texts → Type 0 where
-  one : {t : Token} {ts : List Token} {name : List ℕ} → name_of c.text t ≡ Some name → Names c (t ∷ ts) ts (name ∷ [])
-  more : {t dot : Token} {ts rest : List Token} {name : List ℕ} {names : Texts} → name_of c.text t ≡ Some name
+  one : {t : Token} {ts : List Token} {name : List ℕ} → token_name c.text t ≡ Some name → Names c (t ∷ ts) ts (name ∷ [])
+  more : {t dot : Token} {ts rest : List Token} {name : List ℕ} {names : Texts} → token_name c.text t ≡ Some name
       → IsMark c (codes ".") dot → Names c ts rest names → Names c (t ∷ dot ∷ ts) rest (name ∷ names)
 
 -- [ "[" digits "]" ], where an index is below 2^31

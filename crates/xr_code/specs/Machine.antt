@@ -10,7 +10,7 @@ use Rattle.xr_code.specs.Clock.{moment_at, moment_by}
 use Rattle.xr_code.specs.Code.{Code}
 use Rattle.xr_code.specs.Lookup.{below, net_below}
 use Rattle.xr_code.specs.Statements.{forced_now}
-use Rattle.xr_code.specs.Words.{is_mark, is_word, name_of, number_of, value_of}
+use Rattle.xr_code.specs.Words.{is_mark, is_word, token_name, number_of, value_of}
 use Rattle.xr_code.specs.declared.fault.CodeFault.{CodeFault}
 use Rattle.xr_code.specs.declared.fault.CodeFault.TheVariants.{Syntax, NoNet, NoMoment, RoundPast, ReleaseUnforced}
 use Rattle.xr_code.specs.declared.state.State.{State}
@@ -135,7 +135,7 @@ step Begin p t = on (is_word p.code.text t (codes "begin")) (next Body p) (refus
 step Body p t = body p t
 step (Wait at) p t = wait_by p at t (number_of p.code.text t)
 step WaitEnd p t = on (is_mark p.code.text t (codes ";")) (next Body p) (refused t)
-step NameNext p t = name_by p t (name_of p.code.text t)
+step NameNext p t = name_by p t (token_name p.code.text t)
 step AfterName p t = after_name p t
 step Index p t = index_by p t (number_of p.code.text t)
 step IndexEnd p t = on (is_mark p.code.text t (codes "]")) (next PathEnd p) (refused t)

@@ -20,5 +20,5 @@ abbrev pub forced_now : List Event → ℕ → Option Value
 forced_now events net = forced_from None events net
 
 -- A table has for each net to what it is forced now.
-abbrev pub IsTable : List (Option Value) → List Event → Type 0
-IsTable forced events = (net : ℕ) → net < length forced → slice_index_or forced net None ≡ forced_now events net
+abbrev pub IsForcedTable : List (Option Value) → List Event → Type 0
+IsForcedTable forced events = (net : ℕ) → net < length forced → slice_index_or forced net None ≡ forced_now events net

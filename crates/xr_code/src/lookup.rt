@@ -109,7 +109,7 @@ fn is_solid(text: &[u8]) -> bool
 /// The net of these that has this index.
 fn net_with(design: &Design, nets: &[u32], index: Option<u32>) -> Option<u32>
     requires { All (λ net. net < length design.now.nets) nets.now }
-    ensures { found.IsFound design.now nets.now index result }
+    ensures { found.IsFoundNet design.now nets.now index result }
 {
     let guess = guessed_place(design, nets, index);
     if guess < nets.len() && has_index(design, nets[guess], index) {
@@ -137,7 +137,7 @@ fn guessed_place(design: &Design, nets: &[u32], index: Option<u32>) -> usize
 
 fn scanned(design: &Design, nets: &[u32], index: Option<u32>) -> Option<u32>
     requires { All (λ net. net < length design.now.nets) nets.now }
-    ensures { found.IsFound design.now nets.now index result }
+    ensures { found.IsFoundNet design.now nets.now index result }
 {
     'nets: for net in nets {
         if has_index(design, *net, index) {

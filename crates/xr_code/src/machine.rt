@@ -185,7 +185,7 @@ fn later_moment(progress: &Progress<'_>, time: u64) -> Option<usize>
 
 /// A name of a path.
 fn at_name(progress: &mut Progress<'_>, token: Token) -> Result<State, CodeErr>
-    ensures { Steps (spec.name_by progress.old token (words.name_of progress.old.code.text token)) result progress.new }
+    ensures { Steps (spec.name_by progress.old token (words.token_name progress.old.code.text token)) result progress.new }
 {
     match name_of(progress.code.text, token) {
         None => Err(refused(token)),

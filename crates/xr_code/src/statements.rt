@@ -18,13 +18,13 @@ pub struct Statements {
 
 impl Model for Statements {
     ghost use Rattle.std.specs.Prelude.{length};
-    ghost use Rattle.xr_code.specs.Statements.{IsTable, Statements as Stated};
+    ghost use Rattle.xr_code.specs.Statements.{IsForcedTable, Statements as Stated};
 
     ghost Value = { Stated };
 
     ghost view = { λ s. record { nets = length s.forced.items; events = s.events.items } };
 
-    ghost invariant = { λ s. IsTable s.forced.items s.events.items };
+    ghost invariant = { λ s. IsForcedTable s.forced.items s.events.items };
 }
 
 impl Statements {

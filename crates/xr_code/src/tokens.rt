@@ -3,7 +3,7 @@
 ghost use Rattle.std.specs.Prelude.{◌≡◌, ◌<◌, Err, IfErr, IfOk, IfSome, length};
 ghost use Rattle.std.specs.List.Sorted.{IsStrictlyIncreasing};
 ghost use Rattle.xr_design.specs.Design.{FitsDesign};
-ghost use Rattle.xr_code.specs.Going.{AreStatements, IsThere, Reads, Refuses};
+ghost use Rattle.xr_code.specs.Going.{AreStatements, IsThere, ReadsEvents, RefusesCode};
 ghost use Rattle.xr_code.specs.Machine as spec;
 ghost use Rattle.xr_code.specs.Fault.{fault_in};
 ghost use Rattle.xr_code.specs.Says.{FirstFault, statements_of};
@@ -28,7 +28,7 @@ pub fn read_statements(alloc: Global, code: Code<'_>) -> Result<Vec<Event>, Code
     requires times { IsStrictlyIncreasing code.stim.now.times }
     ensures some { (tokens : left) × Tokens 0 code.entry.text.now tokens }
     ensures reads { (tokens : left) → Tokens 0 code.entry.text.now tokens
-        → Reads (statements_of (code_of code.entry) tokens) result }
+        → ReadsEvents (statements_of (code_of code.entry) tokens) result }
     ensures first { IfErr result (λ e. IfSome (fault_in e) (FirstFault (code_of code.entry))) }
     ensures stand { IfOk result (λ events. AreStatements (code_of code.entry) events.items) }
 {
@@ -40,7 +40,7 @@ pub fn read_statements(alloc: Global, code: Code<'_>) -> Result<Vec<Event>, Code
 fn run_tokens(alloc: Global, code: Code<'_>, lexer: &mut Lexer<'_>) -> Result<Vec<Event>, CodeErr>
     requires design { FitsDesign code.design.now }
     requires times { IsStrictlyIncreasing code.stim.now.times }
-    ensures reads { Reads (statements_of (code_of code.entry) lexer.old) result }
+    ensures reads { ReadsEvents (statements_of (code_of code.entry) lexer.old) result }
     ensures stand { IfOk result (λ events. AreStatements (code_of code.entry) events.items) }
 {
     let mut progress = Progress::new(alloc, code)?;
@@ -62,7 +62,7 @@ fn finish(
     stop: usize,
 ) -> Result<Vec<Event>, CodeErr>
     requires { IsThere progress }
-    ensures reads { Reads (spec.finish state progress.entry stop) result }
+    ensures reads { ReadsEvents (spec.finish state progress.entry stop) result }
     ensures stand { IfOk result (λ events. AreStatements progress.entry.code events.items) }
 {
     match state {
@@ -76,7 +76,7 @@ fn finish(
 /// What a text comes to whose tokens end behind the last one of the grammar: at its end, or at a byte that begins none.
 fn whole(progress: Progress<'_>, stop: usize) -> Result<Vec<Event>, CodeErr>
     requires { IsThere progress }
-    ensures reads { Reads (spec.ended_whole progress.entry stop) result }
+    ensures reads { ReadsEvents (spec.ended_whole progress.entry stop) result }
     ensures stand { IfOk result (λ events. AreStatements progress.entry.code events.items) }
 {
     if stop == progress.code.text.len() {
@@ -89,7 +89,7 @@ fn whole(progress: Progress<'_>, stop: usize) -> Result<Vec<Event>, CodeErr>
 /// The fault of a text that ends behind the path of a statement.
 fn ended(alloc: Global, progress: &Progress<'_>, stop: usize) -> CodeErr
     requires { IsThere progress.now }
-    ensures { Refuses (spec.ended_target progress.now stop) result }
+    ensures { RefusesCode (spec.ended_target progress.now stop) result }
 {
     if progress.moment.is_none() {
         return CodeErr::Refused(CodeFault::NoMoment { at: progress.at });

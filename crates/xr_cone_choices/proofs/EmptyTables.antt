@@ -11,12 +11,12 @@ use Rattle.xr_model.specs.Mask.{mask_of}
 use Rattle.xr_model.specs.Node.{upto, table_of}
 use Rattle.xr_model.specs.Places.{among}
 use Rattle.xr_model.specs.Query.{IsChoice}
-use Rattle.xr_cone_choices.specs.Choices.{bit_in, IsAmong, IsMinimalIn, IsTable, AreChoices, nothing_chosen}
+use Rattle.xr_cone_choices.specs.Choices.{bit_in, IsAmong, IsMinimalIn, IsValueTable, AreChoices, nothing_chosen}
 use Rattle.xr_cone_choices.specs.Halves.{value_at}
 use Rattle.xr_cone_choices.proofs.ChoiceBits.{bit_past, upto_small}
 
 -- A table without the bit has no choice.
-pub none_forces : (values : List Value) (count : ℕ) (bit : Bool) → IsTable count values
+pub none_forces : (values : List Value) (count : ℕ) (bit : Bool) → IsValueTable count values
     → (Contains values (bit_value bit) → ⊥) → AreChoices values count bit []
 none_forces values count bit is none = record {
   among = All-nil (IsAmong count);
@@ -34,7 +34,7 @@ none_forces values count bit is none = record {
         (number, within, get_or_default values number (bit_value bit) X within ∙ choice.forces bits (λ k on. refl))
 
 -- The one choice of a table of no arguments that has the bit.
-pub one_forces : (values : List Value) (bit : Bool) → IsTable 0 values → Contains values (bit_value bit)
+pub one_forces : (values : List Value) (bit : Bool) → IsValueTable 0 values → Contains values (bit_value bit)
     → AreChoices values 0 bit (nothing_chosen ∷ [])
 one_forces values bit is at = record {
   among = All-cons (IsAmong 0) nothing_chosen [] among_none (All-nil (IsAmong 0));

@@ -8,7 +8,7 @@ use Rattle.xr_model.specs.Assignment.{with_bit}
 use Rattle.xr_model.specs.Node.{upto, table_of}
 use Rattle.xr_model.specs.Query.{Forces, IsChoice}
 use Rattle.xr_cone_choices.specs.declared.choice.Choice.{Choice}
-use Rattle.xr_cone_choices.specs.Choices.{chosen_in, bits_in, IsMinimalIn, IsAmong, StandsFor, IsFound, AreChoices}
+use Rattle.xr_cone_choices.specs.Choices.{chosen_in, bits_in, IsMinimalIn, IsAmong, StandsFor, IsFoundChoice, AreChoices}
 use Rattle.xr_cone_choices.specs.Halves.{with_argument, AreBoth, IsAlone, AreAdded}
 use Rattle.xr_cone_choices.proofs.ChoiceBits.{among_more, among_with, bits_with, chosen_past, chosen_with, half_of, halves_split}
 use Rattle.xr_cone_choices.proofs.TableHalves.{Splits, with_same, with_other, free_up, free_down, taken_up, taken_down, taken_alone}
@@ -102,7 +102,7 @@ module _ (n : ℕ) (bit : Bool) (values both : List Value) (free zeros ones some
       own_bit k taken (inr e) = with_other n last (bits_in c) k e
           ∙ stands.has_bits k (with_other n false chosen k e ∙ taken)
 
-  found_left : (chosen bits : ℕ → Bool) → IsFound free chosen bits → IsFound choices chosen bits
+  found_left : (chosen bits : ℕ → Bool) → IsFoundChoice free chosen bits → IsFoundChoice choices chosen bits
   found_left chosen bits found = record {
     choice = found.choice;
     inside = are.second.kept found.choice (are.first.kept found.choice found.inside);
@@ -117,14 +117,14 @@ module _ (n : ℕ) (bit : Bool) (values both : List Value) (free zeros ones some
       agree k taken ∙ sym (stands.has_bits k taken)))
 
   found_taken : (last : Bool) (chosen bits : ℕ → Bool) → chosen n ≡ true → bits n ≡ last
-      → IsChoice (upto (suc n)) (table_of values (suc n)) chosen bits bit → IsFound choices chosen bits
+      → IsChoice (upto (suc n)) (table_of values (suc n)) chosen bits bit → IsFoundChoice choices chosen bits
   found_taken false chosen bits on is choice = record {
     choice = with_argument n false found.choice;
     inside = are.second.kept (with_argument n false found.choice) (are.first.added found.choice alone);
     stands = stands_with false found.choice chosen bits (zero_among found.choice found.inside) on is found.stands;
   }
     where
-      found : IsFound zeros (with_bit n false chosen) bits
+      found : IsFoundChoice zeros (with_bit n false chosen) bits
       found = are.are_zeros.all (with_bit n false chosen) bits
           (subst (λ b. IsChoice (upto n) (half_of values n b) (with_bit n false chosen) bits bit) is
           (taken_down n (table_of values (suc n)) (half_of values n)
@@ -144,7 +144,7 @@ module _ (n : ℕ) (bit : Bool) (values both : List Value) (free zeros ones some
     stands = stands_with true found.choice chosen bits (one_among found.choice found.inside) on is found.stands;
   }
     where
-      found : IsFound ones (with_bit n false chosen) bits
+      found : IsFoundChoice ones (with_bit n false chosen) bits
       found = are.are_ones.all (with_bit n false chosen) bits
           (subst (λ b. IsChoice (upto n) (half_of values n b) (with_bit n false chosen) bits bit) is
           (taken_down n (table_of values (suc n)) (half_of values n)
@@ -160,7 +160,7 @@ module _ (n : ℕ) (bit : Bool) (values both : List Value) (free zeros ones some
       }
 
   all_found : (chosen bits : ℕ → Bool) → IsChoice (upto (suc n)) (table_of values (suc n)) chosen bits bit
-      → IsFound choices chosen bits
+      → IsFoundChoice choices chosen bits
   all_found chosen bits is = ⊎_elim
       (λ (on : chosen n ≡ true). found_taken (bits n) chosen bits on refl is)
       (λ (off : chosen n ≡ false). found_left chosen bits (are.are_free.all chosen bits

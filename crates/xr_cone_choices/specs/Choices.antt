@@ -18,12 +18,12 @@ abbrev pub bits_in : Choice → ℕ → Bool
 bits_in choice = bit_in choice.bits
 
 -- A table of values over at most 13 arguments: value i is that of the bits of the number i.
-pub record IsTable (count : ℕ) (values : List Value) : Type 0 where
+pub record IsValueTable (count : ℕ) (values : List Value) : Type 0 where
   pub few : count ≤ 13
   pub long : length values ≡ 2 ^ count
 
 abbrev pub HasTable : List Value → Type 0
-HasTable values = (count : ℕ) × IsTable count values
+HasTable values = (count : ℕ) × IsValueTable count values
 
 -- A choice of some of the first arguments. What isn't chosen has 0.
 pub record IsAmong (count : ℕ) (choice : Choice) : Type 0 where
@@ -49,7 +49,7 @@ pub record StandsFor (choice : Choice) (chosen bits : ℕ → Bool) : Type 0 whe
   pub is_chosen : (k : ℕ) → chosen_in choice k ≡ chosen k
   pub has_bits : (k : ℕ) → chosen k ≡ true → bits_in choice k ≡ bits k
 
-pub record IsFound (choices : List Choice) (chosen bits : ℕ → Bool) : Type 0 where
+pub record IsFoundChoice (choices : List Choice) (chosen bits : ℕ → Bool) : Type 0 where
   pub choice : Choice
   pub inside : Contains choices choice
   pub stands : StandsFor choice chosen bits
@@ -63,7 +63,7 @@ pub record AreChoices (values : List Value) (count : ℕ) (bit : Bool) (choices 
   pub among : All (IsAmong count) choices
   pub each : All (IsMinimalIn values count bit) choices
   pub all : (chosen bits : ℕ → Bool) → IsChoice (upto count) (table_of values count) chosen bits bit
-      → IsFound choices chosen bits
+      → IsFoundChoice choices chosen bits
   pub once : StandOnce choices
 
 abbrev pub AreMinimalChoices : List Value → Bool → List Choice → Type 0

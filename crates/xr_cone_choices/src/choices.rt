@@ -3,7 +3,7 @@
 ghost use Rattle.std.specs.Prelude.{◌≡◌, ◌≤◌, ◌^◌, ◌∷◌, [], ◌↔◌, IfOk, IsTrue};
 ghost use Rattle.std.specs.List.{Contains};
 ghost use Rattle.xr_cell.specs.Value.{bit_value};
-ghost use Rattle.xr_cone_choices.specs.Choices.{AreChoices, AreMinimalChoices, HasTable, IsTable, nothing_chosen};
+ghost use Rattle.xr_cone_choices.specs.Choices.{AreChoices, AreMinimalChoices, HasTable, IsValueTable, nothing_chosen};
 
 use crate::choice::{Choice, Choices};
 use crate::halves::{both_of, split_last};
@@ -28,7 +28,7 @@ pub fn minimal_choices(alloc: Global, values: &[Value], bit: bool) -> Result<Vec
 /// How many arguments a table has.
 fn count_of(values: &[Value]) -> usize
     requires { HasTable values.now }
-    ensures { IsTable result values.now }
+    ensures { IsValueTable result values.now }
 {
     'counts: for count in 0..13 {
         if values.len() == 1 << count {
@@ -40,7 +40,7 @@ fn count_of(values: &[Value]) -> usize
 
 /// The choices that force the bit in both halves, and behind them those of each half alone.
 fn choices_of(alloc: Global, values: &[Value], count: usize, bit: bool) -> Result<Choices, Memory>
-    requires { IsTable count values.now }
+    requires { IsValueTable count values.now }
     ensures { IfOk result (λ choices. AreChoices values.now count bit choices.items) }
 {
     if !has_bit(values, bit) {

@@ -29,7 +29,7 @@ abbrev pub body_at : List Node → ℕ → NodeBody
 body_at nodes position = body_of (node_at nodes position).body
 
 -- At most 13 arguments at positions below a position, and a value for each of their bits.
-pub record IsTable (position : ℕ) (arguments : List ℕ) (values : List Value) : Type 0 where
+pub record IsNodeTable (position : ℕ) (arguments : List ℕ) (values : List Value) : Type 0 where
   pub few : length arguments ≤ 13
   pub before : AllByRecursion (λ argument. argument < position) arguments
   pub long : length values ≡ 2 ^ length arguments
@@ -37,7 +37,7 @@ pub record IsTable (position : ℕ) (arguments : List ℕ) (values : List Value)
 -- A body reads nodes before its position alone.
 abbrev pub StandsAt : ℕ → Body → Type 0
 StandsAt position (Carried node inverted) = node < position
-StandsAt position (Rule arguments values) = IsTable position arguments values
+StandsAt position (Rule arguments values) = IsNodeTable position arguments values
 
 -- Some nodes, each of which reads those before it alone.
 pub record AreNodes (nodes : List Node) : Type 0 where
@@ -113,7 +113,7 @@ pub record ConeView : Type 0 where
 
 -- What is kept beside the nodes: which of them are sources, the sources, and the bit of the root where no source is
 -- given 1.
-pub record IsKept (nodes : List Node) (births : List Bool) (sources : List Place) (base : Bool) : Type 0 where
+pub record IsSummary (nodes : List Node) (births : List Bool) (sources : List Place) (base : Bool) : Type 0 where
   pub are_nodes : AreNodes nodes
   pub are_births : births ≡ map is_source_node nodes
   pub are_sources : sources ≡ sources_of nodes

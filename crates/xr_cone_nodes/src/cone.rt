@@ -25,13 +25,13 @@ pub struct Cone {
 }
 
 impl Model for Cone {
-    ghost use Rattle.xr_cone_nodes.specs.Nodes.{ConeView, IsKept};
+    ghost use Rattle.xr_cone_nodes.specs.Nodes.{ConeView, IsSummary};
 
     ghost Value = { ConeView };
 
     ghost view = { λ cone. record { nodes = cone.nodes.items } };
 
-    ghost invariant = { λ cone. IsKept cone.nodes.items cone.births.items cone.sources.items cone.base };
+    ghost invariant = { λ cone. IsSummary cone.nodes.items cone.births.items cone.sources.items cone.base };
 }
 
 impl Cone {

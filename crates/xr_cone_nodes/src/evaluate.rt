@@ -6,7 +6,7 @@ ghost use Rattle.xr_design.specs.World.{decided};
 ghost use Rattle.xr_model.specs.Mask.{mask_of};
 ghost use Rattle.xr_model.specs.Node.{node_bit};
 ghost use Rattle.xr_cone_nodes.specs.Lanes.{IsLaneTable, HasLanes, in_lane, lane_of, root_in_lane};
-ghost use Rattle.xr_cone_nodes.specs.Nodes.{AreNodes, IsTable, StandsAt, body_of, is_source_node, table_bit};
+ghost use Rattle.xr_cone_nodes.specs.Nodes.{AreNodes, IsNodeTable, StandsAt, body_of, is_source_node, table_bit};
 
 use crate::lane_bits::LaneBits;
 use crate::lanes::lane_bits_at;
@@ -71,7 +71,7 @@ fn rule_lanes(
     lane_table: &[LaneBits],
     own: LaneBits,
 ) -> LaneBits
-    requires { IsTable (length lane_table.now) arguments.now values.now }
+    requires { IsNodeTable (length lane_table.now) arguments.now values.now }
     ensures { HasLanes result
         (λ lane. table_bit arguments.now values.now (lane_of lane_table.now lane) (in_lane own lane)) }
 {

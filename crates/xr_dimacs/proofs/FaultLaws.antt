@@ -18,7 +18,7 @@ use Rattle.xr_dimacs.specs.Laws.{CnfIsRefused, LogIsRefused}
 use Rattle.xr_dimacs.specs.Lines.{Word, lines_in, words_from, words_in}
 use Rattle.xr_dimacs.specs.Machine.{LinesView, State, are_all, are_short, before_lines, finish, formula_after, formula_in, formula_of, header_in, header_of, header_on, is_full, is_nothing, literal_of, log_in, needed, on_ok, reach, start, step, take_number, taken}
 use Rattle.xr_dimacs.specs.Numbers.{IsNumber}
-use Rattle.xr_dimacs.specs.Reading.{Reads}
+use Rattle.xr_dimacs.specs.Reading.{ReadsDimacs}
 use Rattle.xr_dimacs.proofs.AgainLaws.{at_state, front_again}
 use Rattle.xr_dimacs.proofs.HeaderLaws.{header_found, header_in_again, header_with, view_at}
 use Rattle.xr_dimacs.proofs.NumberLaws.{LiteralIs, literal_law, literal_read, no_number, one_number, past_vars}
@@ -179,7 +179,7 @@ log_in_refused text vars fault is =
     ap (λ n. on_ok (reach (start vars None) (words_from OfLog 1 (lines_in text))) (finish n)) end
     ∙ words_refused vars None (words_from OfLog 1 (lines_in text)) (line_after text) fault is
 
-pub log_refused : (text : List ℕ) (vars : ℕ) (result : Result (List (List ℤ)) DimacsErr) → Reads (log_in text vars) result
+pub log_refused : (text : List ℕ) (vars : ℕ) (result : Result (List (List ℤ)) DimacsErr) → ReadsDimacs (log_in text vars) result
     → LogIsRefused text vars result
 log_refused text vars (Ok log) reads fault is = not_both (log_in text vars) log fault reads (log_in_refused text vars fault is)
 log_refused text vars (Err Memory) reads fault is = tt

@@ -4,7 +4,7 @@ use Rattle.xr_dimacs.specs.declared.fault.DimacsFault.{DimacsFault}
 use Rattle.xr_dimacs.specs.declared.kind.Kind.{Kind}
 use Rattle.xr_dimacs.specs.Lines.{Word, words_from, words_of_line}
 use Rattle.xr_dimacs.specs.Machine.{LinesView, State, on_ok, reach, step}
-use Rattle.xr_dimacs.specs.Reading.{Refuses, TakesLine}
+use Rattle.xr_dimacs.specs.Reading.{RefusesDimacs, TakesLine}
 use Rattle.xr_dimacs.specs.declared.refusal.DimacsErr.{DimacsErr}
 use Rattle.xr_dimacs.specs.declared.refusal.DimacsErr.TheVariants.{Refused, Memory}
 
@@ -34,7 +34,7 @@ line_counted old new n line taken before = omega (arith, before, taken.number, a
 -- A line that is refused.
 pub line_refused : (kind : Kind) (s : State) (wanted : Result State DimacsFault) (old new : LinesView) (number : ℕ) (line : List ℕ)
     (e : DimacsErr) → wanted ≡ reach s (words_from kind old.number old.lines) → number ≡ old.number → TakesLine old line new
-    → Refuses (reach s (words_of_line kind number line)) e → Refuses wanted e
+    → RefusesDimacs (reach s (words_of_line kind number line)) e → RefusesDimacs wanted e
 line_refused kind s wanted old new number line (Refused fault) before number_is taken refused =
     before ∙ line_reached kind s old new number line (Err fault) number_is taken refused
 line_refused kind s wanted old new number line Memory before number_is taken refused = tt

@@ -17,7 +17,7 @@ use Rattle.xr_dimacs.specs.Grammar.{AreLiterals, IsCnfText, IsHeader, IsLogText,
 use Rattle.xr_dimacs.specs.Laws.{CnfIsRead, LogIsRead}
 use Rattle.xr_dimacs.specs.Lines.{Word, lines_in, words_from}
 use Rattle.xr_dimacs.specs.Machine.{Formula, LinesView, State, clauses_in, finish, formula_after, formula_in, formula_of, header_in, log_in, on_ok, reach, start}
-use Rattle.xr_dimacs.specs.Reading.{Reads}
+use Rattle.xr_dimacs.specs.Reading.{ReadsDimacs}
 use Rattle.xr_dimacs.proofs.AgainLaws.{words_again}
 use Rattle.xr_dimacs.proofs.PartLaws.{lines_end}
 use Rattle.xr_dimacs.proofs.HeaderLaws.{FoundAt, HeaderIs, all_idle, header_in_again, header_law, header_with, other_line, view_at}
@@ -36,7 +36,7 @@ stand_fit : (vars : ℕ) (words : List Word) (cs : List (List ℤ)) → StandFor
 stand_fit vars words cs stand = All-from_recursion (λ c. All (λ l. nat_abs l ≤ vars) c) cs (all_fit vars cs stand.fit)
 
 pub fit_after : (vars : ℕ) (count : Option ℕ) (s t : State) (words : List Word) (after : ℕ) (result : Result (List (List ℤ)) DimacsErr)
-    → s ≡ start vars count → reach s words ≡ Ok t → Reads (finish after t) result → IfOk result (Fit vars)
+    → s ≡ start vars count → reach s words ≡ Ok t → ReadsDimacs (finish after t) result → IfOk result (Fit vars)
 fit_after vars count s t words after (Ok cs) is reached reads =
     stand_fit vars words cs (subst (RunIs vars count words after) whole (words_law vars count words after)).0
   where
@@ -168,7 +168,7 @@ log_law text vars =
 pub log_again : (text : List ℕ) (vars : ℕ) (log : List (List ℤ)) → IsLogText text vars log → log_in text vars ≡ Ok log
 log_again text vars log is = words_again vars None (words_from OfLog 1 (lines_in text)) log (1 + length (lines_in text)) is tt
 
-pub log_found : (text : List ℕ) (vars : ℕ) (result : Result (List (List ℤ)) DimacsErr) → Reads (log_in text vars) result
+pub log_found : (text : List ℕ) (vars : ℕ) (result : Result (List (List ℤ)) DimacsErr) → ReadsDimacs (log_in text vars) result
     → IfOk result (IsLogText text vars)
 log_found text vars (Ok log) reads = subst (LogIs text vars) reads (log_law text vars)
 log_found text vars (Err e) reads = tt
@@ -182,14 +182,14 @@ same_log l k is = cc
 not_refused : (r : Result (List (List ℤ)) DimacsFault) (log : List (List ℤ)) (fault : DimacsFault) → r ≡ done log → r ≡ Err fault → ⊥
 not_refused r log fault good bad = absurd cc
 
-pub log_only : (text : List ℕ) (vars : ℕ) (result : Result (List (List ℤ)) DimacsErr) → Reads (log_in text vars) result
+pub log_only : (text : List ℕ) (vars : ℕ) (result : Result (List (List ℤ)) DimacsErr) → ReadsDimacs (log_in text vars) result
     → LogIsRead text vars result
 log_only text vars (Ok found) reads log is = same_log found log (sym reads ∙ log_again text vars log is)
 log_only text vars (Err Memory) reads log is = refl
 log_only text vars (Err (Refused fault)) reads log is =
     absurd (not_refused (log_in text vars) log fault (log_again text vars log is) reads)
 
-pub log_first : (text : List ℕ) (vars : ℕ) (result : Result (List (List ℤ)) DimacsErr) → Reads (log_in text vars) result
+pub log_first : (text : List ℕ) (vars : ℕ) (result : Result (List (List ℤ)) DimacsErr) → ReadsDimacs (log_in text vars) result
     → IfErr result (λ e. IfSome (fault_in e) (IsLogFault text vars))
 log_first text vars (Ok log) reads = tt
 log_first text vars (Err Memory) reads = tt

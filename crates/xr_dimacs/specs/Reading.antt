@@ -6,14 +6,14 @@ use Rattle.xr_dimacs.specs.declared.refusal.DimacsErr.TheVariants.{Refused, Memo
 use Rattle.xr_dimacs.specs.Machine.{LinesView}
 
 -- The fault is this one; or there is no memory.
-abbrev pub Refuses : {X : Type 0} → Result X DimacsFault → DimacsErr → Type 0
-Refuses wanted (Refused fault) = wanted ≡ Err fault
-Refuses wanted Memory = Unit {0}
+abbrev pub RefusesDimacs : {X : Type 0} → Result X DimacsFault → DimacsErr → Type 0
+RefusesDimacs wanted (Refused fault) = wanted ≡ Err fault
+RefusesDimacs wanted Memory = Unit {0}
 
 -- It answers what it should, or refuses as it should; or there is no memory.
-abbrev pub Reads : {X : Type 0} → Result X DimacsFault → Result X DimacsErr → Type 0
-Reads wanted (Ok x) = wanted ≡ Ok x
-Reads wanted (Err e) = Refuses wanted e
+abbrev pub ReadsDimacs : {X : Type 0} → Result X DimacsFault → Result X DimacsErr → Type 0
+ReadsDimacs wanted (Ok x) = wanted ≡ Ok x
+ReadsDimacs wanted (Err e) = RefusesDimacs wanted e
 
 -- What stands in front is answered, and what is left; or the fault.
 abbrev pub ReadsFront : {X : Type 0} → Result (X × LinesView) DimacsFault → Result X DimacsFault → LinesView → Type 0

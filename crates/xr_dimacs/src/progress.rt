@@ -2,7 +2,7 @@
 
 ghost use Rattle.std.specs.Prelude.{◌≡◌, ◌≤◌, Ok, false};
 ghost use Rattle.xr_dimacs.specs.Machine as spec;
-ghost use Rattle.xr_dimacs.specs.Reading.{Reads};
+ghost use Rattle.xr_dimacs.specs.Reading.{ReadsDimacs};
 
 use crate::fault::DimacsFault;
 use crate::numbers::literal_of;
@@ -51,7 +51,7 @@ impl Progress {
 
     /// One word more, on this line.
     pub fn step(self, alloc: Global, line: usize, word: &[u8]) -> Result<Progress, DimacsErr>
-        ensures { Reads (spec.step self line word.now) result }
+        ensures { ReadsDimacs (spec.step self line word.now) result }
     {
         let literal = literal_of(self.vars, line, word)?;
         if self.is_full() {
@@ -69,7 +69,7 @@ impl Progress {
 
     /// With one literal more, or with the clause that 0 ends.
     fn taken(self, alloc: Global, literal: i32) -> Result<Progress, DimacsErr>
-        ensures { Reads (Ok (spec.taken self literal)) result }
+        ensures { ReadsDimacs (Ok (spec.taken self literal)) result }
     {
         if is_end(literal) {
             self.ended(alloc)
@@ -79,7 +79,7 @@ impl Progress {
     }
 
     fn ended(self, alloc: Global) -> Result<Progress, DimacsErr>
-        ensures { Reads (Ok (spec.ended self)) result }
+        ensures { ReadsDimacs (Ok (spec.ended self)) result }
     {
         let Progress {
             vars,
@@ -98,7 +98,7 @@ impl Progress {
 
     fn longer(self, literal: i32) -> Result<Progress, DimacsErr>
         requires { spec.is_end literal ≡ false }
-        ensures { Reads (Ok (spec.longer self literal)) result }
+        ensures { ReadsDimacs (Ok (spec.longer self literal)) result }
     {
         let Progress {
             vars,
@@ -117,7 +117,7 @@ impl Progress {
 
     /// The clauses, where the text ends here and `after` is the number of the line after its last.
     pub fn finish(self, after: usize) -> Result<Items<Clause>, DimacsErr>
-        ensures { Reads (spec.finish after self) result }
+        ensures { ReadsDimacs (spec.finish after self) result }
     {
         if !self.literals.is_empty() {
             return Err(DimacsErr::Refused(DimacsFault::Syntax { line: after }));

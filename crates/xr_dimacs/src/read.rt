@@ -10,7 +10,7 @@ ghost use Rattle.xr_dimacs.specs.Laws.{CnfIsRead, CnfIsRefused, LogIsRead, LogIs
 ghost use Rattle.xr_dimacs.specs.Lines.{on_line, words_from, words_in, words_of_line};
 ghost use Rattle.xr_scan.specs.declared.gap.Gap.TheVariants.{White};
 ghost use Rattle.xr_dimacs.specs.Machine as spec;
-ghost use Rattle.xr_dimacs.specs.Reading.{Reads};
+ghost use Rattle.xr_dimacs.specs.Reading.{ReadsDimacs};
 
 use crate::header::{Header, read_header};
 use crate::kind::Kind;
@@ -80,7 +80,7 @@ fn read_formula(alloc: Global, bytes: &[u8]) -> Result<Cnf, DimacsErr>
 
 fn read_clauses_of_log(alloc: Global, bytes: &[u8], vars: u32) -> Result<Log, DimacsErr>
     requires { vars ≤ 2147483647 }
-    ensures reads { Reads (spec.log_in bytes.now vars) result }
+    ensures reads { ReadsDimacs (spec.log_in bytes.now vars) result }
     ensures fit { IfOk result (Fit vars) }
 {
     let mut lines = Lines::new(bytes);
@@ -97,7 +97,7 @@ fn read_clauses(
     lines: &mut Lines<'_>,
 ) -> Result<Items<Clause>, DimacsErr>
     requires { vars ≤ 2147483647 }
-    ensures reads { Reads (spec.clauses_in kind (spec.start vars count) lines.old) result }
+    ensures reads { ReadsDimacs (spec.clauses_in kind (spec.start vars count) lines.old) result }
     ensures fit { IfOk result (Fit vars) }
     ensures no_zero { IfOk result (All HasNoZero) }
 {
@@ -112,7 +112,7 @@ fn read_lines(
     start: Progress,
     lines: &mut Lines<'_>,
 ) -> Result<Progress, DimacsErr>
-    ensures reads { Reads (spec.reach start (words_from kind lines.old.number lines.old.lines)) result }
+    ensures reads { ReadsDimacs (spec.reach start (words_from kind lines.old.number lines.old.lines)) result }
     ensures after { IfOk result (λ _. lines.new.number ≡ lines.old.number + length lines.old.lines) }
 {
     let mut progress = start;
@@ -132,7 +132,7 @@ fn read_line(
     number: usize,
     line: &[u8],
 ) -> Result<Progress, DimacsErr>
-    ensures { Reads (spec.reach progress (words_of_line kind number line.now)) result }
+    ensures { ReadsDimacs (spec.reach progress (words_of_line kind number line.now)) result }
 {
     if kind.passes(line) {
         Ok(progress)
@@ -147,7 +147,7 @@ fn read_words(
     number: usize,
     line: &[u8],
 ) -> Result<Progress, DimacsErr>
-    ensures { Reads (spec.reach start (on_line number (words_in White line.now))) result }
+    ensures { ReadsDimacs (spec.reach start (on_line number (words_in White line.now))) result }
 {
     let mut progress = start;
     let mut words = Words::new(line, Gap::White);

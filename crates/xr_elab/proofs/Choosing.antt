@@ -4,14 +4,14 @@ use Rattle.std.proofs.lemmas.Bool.{and_parts, ltb-true, leb-true}
 use Rattle.xr_netlist_grammar.specs.declared.tree.Item.{Item}
 use Rattle.xr_netlist_grammar.specs.declared.tree.Module.{Module}
 use Rattle.xr_netlist_grammar.specs.declared.tree.Source.{Source}
-use Rattle.xr_elab.specs.Quiet.{IsTable, are_from}
+use Rattle.xr_elab.specs.Quiet.{IsLevelTable, are_from}
 use Rattle.xr_elab_names.specs.Outline.{items_in}
 use Rattle.xr_elab_tree.specs.Library.{no_module}
 use Rattle.xr_elab.specs.Busy.{are_apart, all_idle_from, idle_level, busy_of, busy_of_module, no_busy, is_idle, allows, IsToDo}
 
 -- Depth and path allow that instances below this level are idle.
 pub record Allows (source : Source) (path : List ℕ) (room : ℕ) (levels : List ℕ) (level : ℕ) : Type 0 where
-  pub table : IsTable source levels
+  pub table : IsLevelTable source levels
   pub few : level ≤ 32
   pub fits : level ≤ room
   pub path_ : are_from levels level path ≡ true
@@ -22,7 +22,7 @@ pub data Suffice (source : Source) (path : List ℕ) (room : ℕ) (items : List 
   busy : (levels : List ℕ) (level : ℕ) → Allows source path room levels level → are_apart source [] items ≡ true
       → Suffice source path room items (busy_of source levels level items)
 
-allowed : (source : Source) (path : List ℕ) (room : ℕ) (levels : List ℕ) (level : ℕ) → IsTable source levels → allows levels path room level ≡ true → Allows source path room levels level
+allowed : (source : Source) (path : List ℕ) (room : ℕ) (levels : List ℕ) (level : ℕ) → IsLevelTable source levels → allows levels path room level ≡ true → Allows source path room levels level
 allowed source path room levels level table allowed_now =
     let parts = and_parts _ _ allowed_now in
     let first = and_parts _ _ parts.0 in
@@ -33,7 +33,7 @@ apart_by : (source : Source) (levels : List ℕ) (items : List Item) (b : Bool) 
 apart_by source levels items true is some = is
 apart_by source levels items false is some = absurd (omega arith)
 
-busy_suffice : (source : Source) (path : List ℕ) (room : ℕ) (levels : List ℕ) (items : List Item) → IsTable source levels → allows levels path room (idle_level source levels items) ≡ true
+busy_suffice : (source : Source) (path : List ℕ) (room : ℕ) (levels : List ℕ) (items : List Item) → IsLevelTable source levels → allows levels path room (idle_level source levels items) ≡ true
     → Suffice source path room items (busy_of source levels (idle_level source levels items) items)
 busy_suffice source path room levels items table h =
     let parts = and_parts _ _ h in

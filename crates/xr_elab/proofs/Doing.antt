@@ -18,7 +18,7 @@ use Rattle.xr_elab_prims.specs.Definitions.{definition_of}
 use Rattle.xr_elab_tree.specs.Library.{Library}
 use Rattle.xr_elab_tree.specs.Elaborate.{body, item_with, items_with, instance_item}
 use Rattle.xr_elab.specs.Quiet.{is_below, is_new, with_named, passed, connects_nothing}
-use Rattle.xr_elab.specs.Busy.{state_of, is_idle_instance, busy_of, counted_name, name_of, is_apart, are_apart}
+use Rattle.xr_elab.specs.Busy.{state_of, is_idle_instance, busy_of, counted_name, counted_instance, is_apart, are_apart}
 use Rattle.xr_elab.proofs.Choosing.{Allows, Suffice, all, busy}
 use Rattle.xr_elab.proofs.Bodies.{body_left}
 use Rattle.xr_elab.proofs.Framing.{here_with, through, item_frames, item_names}
@@ -98,8 +98,8 @@ module _ (l : Library) (path : List ℕ) (room : ℕ) (some : 0 < room) (levels 
     pub rest : List Item
     pub names : List (List ℕ)
     pub busy_ : busy_of l.source levels level rest ≡ more
-    pub new : is_apart names (name_of l.source i) ≡ true
-    pub apart : are_apart l.source (with_named names (name_of l.source i)) rest ≡ true
+    pub new : is_apart names (counted_instance l.source i) ≡ true
+    pub apart : are_apart l.source (with_named names (counted_instance l.source i)) rest ≡ true
     pub own : Among here.scope.instances names
     pub is : wanted ≡ state_of (items_with (instance_item l path (room - 1)) (i ∷ rest) (here_with names here))
 
@@ -191,29 +191,29 @@ leads_first l path room items todo here some new (busy levels level allows apart
 })
 
 -- The names that come with an item come to those so far.
-names_more : (l : Library) (path : List ℕ) (room : ℕ) (i : Item) (here next : Here) (names : List (List ℕ)) → Among here.scope.instances names → is_apart names (name_of l.source i) ≡ true
-    → item_with (instance_item l path room) i here ≡ Ok next → Among next.scope.instances (with_named names (name_of l.source i))
+names_more : (l : Library) (path : List ℕ) (room : ℕ) (i : Item) (here next : Here) (names : List (List ℕ)) → Among here.scope.instances names → is_apart names (counted_instance l.source i) ≡ true
+    → item_with (instance_item l path room) i here ≡ Ok next → Among next.scope.instances (with_named names (counted_instance l.source i))
 names_more l path room i here next names own new done =
-    let apart = apart_among here.scope.instances names (name_of l.source i) own new in
-    subst (λ (ns : List (List ℕ)). Among ns (with_named names (name_of l.source i))) (sym (item_names l path room (body l room) i here next apart done))
-    (among_more here.scope.instances names (name_of l.source i) own)
+    let apart = apart_among here.scope.instances names (counted_instance l.source i) own new in
+    subst (λ (ns : List (List ℕ)). Among ns (with_named names (counted_instance l.source i))) (sym (item_names l path room (body l room) i here next apart done))
+    (among_more here.scope.instances names (counted_instance l.source i) own)
 
 leads_after : (l : Library) (path : List ℕ) (room : ℕ) (some : 0 < room) (levels : List ℕ) (level : ℕ) (allows : Allows l.source path room levels level)
     (wanted : Outcome State) (i : Item) (more : List Item) (here next : Here) → Next l path room some levels level allows wanted i more here → item_with (instance_item l path (room - 1)) i here ≡ Ok next
     → Leads l path room wanted more next
 leads_after l path room some levels level allows wanted i more here next n done =
-    let apart = apart_among here.scope.instances n.names (name_of l.source i) n.own n.new in
+    let apart = apart_among here.scope.instances n.names (counted_instance l.source i) n.own n.new in
     let frame = item_frames l path (room - 1) (body l (room - 1)) n.names i here apart n.new in
     others (record {
       levels = levels;
       level = level;
       allows = allows;
       rest = n.rest;
-      names = with_named n.names (name_of l.source i);
+      names = with_named n.names (counted_instance l.source i);
       busy_ = n.busy_;
       apart = n.apart;
       own = names_more l path (room - 1) i here next n.names n.own n.new done;
-      is = n.is ∙ ap (λ (r : Outcome Here). state_of (after r (items_with (instance_item l path (room - 1)) n.rest))) (frame ∙ ap (through (here_with (with_named n.names (name_of l.source i)))) done);
+      is = n.is ∙ ap (λ (r : Outcome Here). state_of (after r (items_with (instance_item l path (room - 1)) n.rest))) (frame ∙ ap (through (here_with (with_named n.names (counted_instance l.source i)))) done);
     })
 
 more_by : (l : Library) (path : List ℕ) (room : ℕ) (wanted : Outcome State) (i : Item) (more : List Item) (here next : Here) → 0 < room → length here.state.names ≤ 2 ^ 20
@@ -233,9 +233,9 @@ refused_after : (l : Library) (path : List ℕ) (room : ℕ) (some : 0 < room) (
     (wanted : Outcome State) (i : Item) (more : List Item) (here : Here) (e : ElabErr) → Next l path room some levels level allows wanted i more here
     → item_with (instance_item l path (room - 1)) i here ≡ Err e → wanted ≡ Err e
 refused_after l path room some levels level allows wanted i more here e n done =
-    let apart = apart_among here.scope.instances n.names (name_of l.source i) n.own n.new in
+    let apart = apart_among here.scope.instances n.names (counted_instance l.source i) n.own n.new in
     let frame = item_frames l path (room - 1) (body l (room - 1)) n.names i here apart n.new in
-    n.is ∙ ap (λ (r : Outcome Here). state_of (after r (items_with (instance_item l path (room - 1)) n.rest))) (frame ∙ ap (through (here_with (with_named n.names (name_of l.source i)))) done)
+    n.is ∙ ap (λ (r : Outcome Here). state_of (after r (items_with (instance_item l path (room - 1)) n.rest))) (frame ∙ ap (through (here_with (with_named n.names (counted_instance l.source i)))) done)
 
 refused_by : (l : Library) (path : List ℕ) (room : ℕ) (wanted : Outcome State) (i : Item) (more : List Item) (here : Here) (e : ElabErr) → 0 < room → length here.state.names ≤ 2 ^ 20
     → Leads l path room wanted (i ∷ more) here → item_with (instance_item l path (room - 1)) i here ≡ Err e → wanted ≡ Err e

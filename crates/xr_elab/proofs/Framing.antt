@@ -54,7 +54,7 @@ use Rattle.xr_elab_tree.specs.Library.{Library, module_of}
 use Rattle.xr_elab_tree.specs.Elaborate.{entered, Body, instance_of, instance_with, item_with}
 use Rattle.xr_elab_tree.proofs.Steps.{also, any_ok}
 use Rattle.xr_elab.specs.Quiet.{with_named}
-use Rattle.xr_elab.specs.Busy.{counted_name, name_of, is_apart}
+use Rattle.xr_elab.specs.Busy.{counted_name, counted_instance, is_apart}
 
 -- ---- other names of instances
 
@@ -292,16 +292,16 @@ module _ (l : Library) (path : List ℕ) (room : ℕ) (b : Body) (ns : List (Lis
       thence (here_with (with_named ns i.name)) (b (path ++ n ∷ []) (module_of l n).items j.1) _ _ (λ done. refl)))
 
   -- An item whose name is new leads to the same, whatever instances came before it.
-  pub item_frames : (i : Item) (here : Here) → is_apart here.scope.instances (name_of l.source i) ≡ true → is_apart ns (name_of l.source i) ≡ true
-      → item_with (instance_with l path room b) i (here_with ns here) ≡ through (here_with (with_named ns (name_of l.source i))) (item_with (instance_with l path room b) i here)
+  pub item_frames : (i : Item) (here : Here) → is_apart here.scope.instances (counted_instance l.source i) ≡ true → is_apart ns (counted_instance l.source i) ≡ true
+      → item_with (instance_with l path room b) i (here_with ns here) ≡ through (here_with (with_named ns (counted_instance l.source i))) (item_with (instance_with l path room b) i here)
   item_frames (item.Declare d) here own other = value_with ns d.name d.value here
   item_frames (item.Gate g) here own other = gate_with ns g.kind g.at g.terminals here
   item_frames (item.Assign left right) here own other = assign_with ns left right here
   item_frames (item.Instance i) here own other = instance_by (definition_of l.source i.definition.text) i here own other
 
 -- The item's name is the one that comes to the instances.
-pub item_names : (l : Library) (path : List ℕ) (room : ℕ) (b : Body) (i : Item) (here next : Here) → is_apart here.scope.instances (name_of l.source i) ≡ true → item_with (instance_with l path room b) i here ≡ Ok next
-    → next.scope.instances ≡ with_named here.scope.instances (name_of l.source i)
+pub item_names : (l : Library) (path : List ℕ) (room : ℕ) (b : Body) (i : Item) (here next : Here) → is_apart here.scope.instances (counted_instance l.source i) ≡ true → item_with (instance_with l path room b) i here ≡ Ok next
+    → next.scope.instances ≡ with_named here.scope.instances (counted_instance l.source i)
 item_names l path room b i here next own is =
-    subst (λ (r : Outcome Here). IfOk r (λ (h : Here). h.scope.instances ≡ with_named here.scope.instances (name_of l.source i))) is
-    (has_them (with_named here.scope.instances (name_of l.source i)) (item_with (instance_with l path room b) i here) (item_frames l path room b here.scope.instances i here own own))
+    subst (λ (r : Outcome Here). IfOk r (λ (h : Here). h.scope.instances ≡ with_named here.scope.instances (counted_instance l.source i))) is
+    (has_them (with_named here.scope.instances (counted_instance l.source i)) (item_with (instance_with l path room b) i here) (item_frames l path room b here.scope.instances i here own own))

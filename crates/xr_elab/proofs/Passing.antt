@@ -29,7 +29,7 @@ use Rattle.xr_elab.proofs.Bodies.{body_more}
 use Rattle.xr_elab.proofs.Found.{module_within}
 use Rattle.xr_elab.proofs.Regs.{AreRegs, none, StandsStill, quiet_is_reg, declares_reg, no_value_item}
 use Rattle.xr_elab.specs.Held.{IsPassing}
-use Rattle.xr_elab.specs.Quiet.{level_at, connects_nothing, is_below, is_new, with_named, is_quiet_instance, are_quiet, IsQuiet, IsTable, are_from, passed, is_passed_over}
+use Rattle.xr_elab.specs.Quiet.{level_at, connects_nothing, is_below, is_new, with_named, is_quiet_instance, are_quiet, IsQuiet, IsLevelTable, are_from, passed, is_passed_over}
 
 -- ---- the path
 
@@ -144,7 +144,7 @@ module _ (source : Source) (levels : List ℕ) where
       let ports = quiet.ports in
       record { prefix = here.scope.prefix ++ part_of w ∷ []; names = inside.names; is = rw (name, taken, ports, inside.is, connections) refl }
 
-module _ (l : Library) (levels : List ℕ) (table : IsTable l.source levels) where
+module _ (l : Library) (levels : List ℕ) (table : IsLevelTable l.source levels) where
   -- the module of a quiet instance
   below_found : (level : ℕ) (i : InstanceItem) (o : Option Definition) → definition_of l.source i.definition.text ≡ o → level ≤ 33 → is_below levels level o ≡ true
       → (k : ℕ) × (definition_of l.source i.definition.text ≡ Some (definition.Module k)) × (level_at levels k < level) × IsQuiet l.source levels (level_at levels k) (module_of l k)

@@ -45,9 +45,9 @@ abbrev pub counted_name : Option Definition → Option Word → Option Word
 counted_name (Some (definition.Module k)) name = name
 counted_name _ name = None
 
-abbrev pub name_of : Source → Item → Option Word
-name_of source (item.Instance i) = counted_name (definition_of source i.definition.text) i.name
-name_of source _ = None
+abbrev pub counted_instance : Source → Item → Option Word
+counted_instance source (item.Instance i) = counted_name (definition_of source i.definition.text) i.name
+counted_instance source _ = None
 
 abbrev pub is_apart : List (List ℕ) → Option Word → Bool
 is_apart names (Some w) = not (has names w.text)
@@ -57,7 +57,7 @@ is_apart names None = true
 abbrev pub are_apart : Source → List (List ℕ) → List Item → Bool
 are_apart source names [] = true
 are_apart source names (i ∷ is) =
-    is_apart names (name_of source i) && are_apart source (with_named names (name_of source i)) is
+    is_apart names (counted_instance source i) && are_apart source (with_named names (counted_instance source i)) is
 
 -- ---- the level below which instances are idle
 

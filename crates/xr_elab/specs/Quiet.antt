@@ -90,7 +90,7 @@ pub record IsQuiet (source : Source) (levels : List ℕ) (level : ℕ) (m : Modu
   pub items : are_quiet source levels level [] m.items ≡ true
 
 -- Each module that has a level is quiet at it.
-pub record IsTable (source : Source) (levels : List ℕ) : Type 0 where
+pub record IsLevelTable (source : Source) (levels : List ℕ) : Type 0 where
   pub right : (k : ℕ) (m : Module) → slice_get source.modules k ≡ Some m → level_at levels k ≤ 32
       → IsQuiet source levels (level_at levels k) m
 
@@ -98,7 +98,7 @@ pub record IsTable (source : Source) (levels : List ℕ) : Type 0 where
 pub record AreLevels (source : Source) (top : ℕ) (levels : List ℕ) : Type 0 where
   pub long : length levels ≡ length source.modules
   pub few : (k : ℕ) → level_at levels k ≢ 33 → level_at levels k ≤ top
-  pub table : IsTable source levels
+  pub table : IsLevelTable source levels
   pub lowest : (k level : ℕ) (m : Module) → slice_get source.modules k ≡ Some m
       → 0 < level → level ≤ top → level < level_at levels k → is_quiet source levels level m ≡ false
 
@@ -110,7 +110,7 @@ LevelsAreOne = (source : Source) (a b : List ℕ) → AreLevels source 32 a → 
 pub record AreRaised (source : Source) (level count : ℕ) (levels : List ℕ) : Type 0 where
   pub long : length levels ≡ length source.modules
   pub few : (k : ℕ) → level_at levels k ≢ 33 → level_at levels k ≤ level
-  pub table : IsTable source levels
+  pub table : IsLevelTable source levels
   pub lowest : (k low : ℕ) (m : Module) → slice_get source.modules k ≡ Some m
       → 0 < low → low < level → low < level_at levels k → is_quiet source levels low m ≡ false
   pub asked : (k : ℕ) (m : Module) → slice_get source.modules k ≡ Some m

@@ -5,7 +5,7 @@ ghost use Rattle.xr_elab_prims.specs.Definitions.{definition_of};
 ghost use Rattle.xr_elab_names.specs.Outline.{items_in};
 ghost use Rattle.xr_elab.specs.Quiet.{OnYes, with_named};
 ghost use Rattle.xr_elab.specs.Busy as spec;
-ghost use Rattle.xr_elab.specs.Busy.{is_apart, name_of as spec_name_of};
+ghost use Rattle.xr_elab.specs.Busy.{is_apart, counted_instance as spec_name_of};
 
 use crate::quiet::{MOST_LEVEL, connects_nothing, is_below, level_at};
 use std::alloc::{AllocError, Global};

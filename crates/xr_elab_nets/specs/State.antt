@@ -42,13 +42,13 @@ abbrev pub part_of : Word → NamePart
 part_of w = record { text = w.text; escaped = w.escaped }
 
 -- the name of a net: the instances that lead to it, the word that declares it, and the index of a bit
-abbrev pub name_of : List NamePart → Word → Option ℕ → Name
-name_of prefix w bit = record { parts = prefix ++ part_of w ∷ []; bit = bit }
+abbrev pub name_under : List NamePart → Word → Option ℕ → Name
+name_under prefix w bit = record { parts = prefix ++ part_of w ∷ []; bit = bit }
 
 -- the nets of a name, from the left index to the right one
 abbrev pub with_nets : List NamePart → NetKind → Range → Word → State → State
 with_nets prefix what range w s = record {
-  names = s.names ++ upto (λ bit. name_of prefix w (bit_at range bit)) (net_count what range);
+  names = s.names ++ upto (λ bit. name_under prefix w (bit_at range bit)) (net_count what range);
   drivers = s.drivers ++ upto (λ _. first_driver prefix what) (net_count what range);
 }
 

@@ -218,7 +218,7 @@ fn name_of(
     word: &Word,
     bit: Option<u32>,
 ) -> Result<Name, AllocError>
-    ensures { IfOk result (λ name. name ≡ spec.name_of prefix.now word.now bit) }
+    ensures { IfOk result (λ name. name ≡ spec.name_under prefix.now word.now bit) }
 {
     let mut parts = Vec::with_capacity(alloc, prefix.len() + 1)?;
     'parts: for part in prefix {

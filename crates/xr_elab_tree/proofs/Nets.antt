@@ -16,7 +16,7 @@ use Rattle.xr_design.specs.declared.design.Driver.TheVariants.{Input, Undriven, 
 use Rattle.xr_design.specs.declared.name.Name.{Name}
 use Rattle.xr_design.specs.declared.name.NamePart.{NamePart}
 use Rattle.xr_elab_nets.specs.Ranges.{upto, width_of, bit_at}
-use Rattle.xr_elab_nets.specs.State.{State, net_count, first_driver, part_of, name_of, with_nets, made, has_driver, with_driver, driven}
+use Rattle.xr_elab_nets.specs.State.{State, net_count, first_driver, part_of, name_under, with_nets, made, has_driver, with_driver, driven}
 use Rattle.xr_elab_tree.specs.Sound.{texts_at, part_texts, Within, DriverFits, MaybeFits, IsSound}
 use Rattle.xr_elab_tree.proofs.Steps.{chosen, Drives}
 use Rattle.xr_elab_tree.proofs.Lists.{all_append, all_upto, all_set, all_more, length_upto, at_upto, AreApart, distinct_append, distinct_upto, bits_apart, bits_fit}
@@ -89,7 +89,7 @@ word_is_part w name = both_true _ true name refl
 pub parts_more : (prefix : List NamePart) (w : Word) → list_all is_part prefix ≡ true → IsName w → list_all is_part (prefix ++ part_of w ∷ []) ≡ true
 parts_more prefix w parts name = list_all-append is_part prefix (part_of w ∷ []) ∙ both_true _ _ parts (word_is_part w name)
 
-pub texts_of_name : (prefix : List NamePart) (w : Word) (bit : Option ℕ) → (spelling_of (name_of prefix w bit)).texts ≡ part_texts prefix ++ w.text ∷ []
+pub texts_of_name : (prefix : List NamePart) (w : Word) (bit : Option ℕ) → (spelling_of (name_under prefix w bit)).texts ≡ part_texts prefix ++ w.text ∷ []
 texts_of_name prefix w bit = map-append (λ (part : NamePart). part.text) prefix (part_of w ∷ [])
 
 count_below : (what : NetKind) (range : Range) (k : ℕ) → k < net_count what range → k < width_of range
@@ -102,7 +102,7 @@ count_below kind.Reg range k within = absurd (omega arith)
 
 -- the names of a word's nets
 abbrev new_names : List NamePart → NetKind → Range → Word → List Name
-new_names prefix what range w = upto (λ bit. name_of prefix w (bit_at range bit)) (net_count what range)
+new_names prefix what range w = upto (λ bit. name_under prefix w (bit_at range bit)) (net_count what range)
 
 new_fit : (prefix : List NamePart) (what : NetKind) (range : Range) (w : Word) → list_all is_part prefix ≡ true → IsName w → IsRange range → AllByRecursion FitsName (new_names prefix what range w)
 new_fit prefix what range w parts name fits = all_upto FitsName _ _
@@ -115,12 +115,12 @@ new_within prefix what range w = all_upto _ _ (net_count what range) (λ k less.
 pub record IsNew (prefix : List NamePart) (w : Word) (names : List Name) : Type 0 where
   pub free : (net : ℕ) → net < length names → texts_at names net ≡ part_texts prefix ++ w.text ∷ [] → ⊥
 
-index_same : (prefix : List NamePart) (w : Word) (a b : Option ℕ) → spelling_of (name_of prefix w a) ≡ spelling_of (name_of prefix w b) → a ≡ b
+index_same : (prefix : List NamePart) (w : Word) (a b : Option ℕ) → spelling_of (name_under prefix w a) ≡ spelling_of (name_under prefix w b) → a ≡ b
 index_same prefix w a b same = ap (λ (s : Spelling). s.index) same
 
 new_apart : (prefix : List NamePart) (what : NetKind) (range : Range) (w : Word) (names : List Name) → IsNew prefix w names → AreApart names (new_names prefix what range w)
 new_apart prefix what range w names new net other net_in other_in same =
-    let other_less : other < net_count what range = let long = length_upto (λ (bit : ℕ). name_of prefix w (bit_at range bit)) (net_count what range) in omega (arith, long, other_in) in
+    let other_less : other < net_count what range = let long = length_upto (λ (bit : ℕ). name_under prefix w (bit_at range bit)) (net_count what range) in omega (arith, long, other_in) in
     new.free net net_in (ap (λ (s : Spelling). s.texts) same ∙ ap (λ (n : Name). (spelling_of n).texts) (at_upto _ (net_count what range) other no_name other_less) ∙ texts_of_name prefix w (bit_at range other))
 
 pub count_made : (prefix : List NamePart) (what : NetKind) (range : Range) (w : Word) (s : State) → length (with_nets prefix what range w s).names ≡ length s.names + net_count what range

@@ -18,7 +18,7 @@ use Rattle.xr_design.specs.declared.design.Table.TheVariants.{Gate as GateTable,
 use Rattle.xr_design.specs.Fits.{Fits, FitsDriver, FitsTable}
 use Rattle.xr_design.specs.Job.{Job}
 use Rattle.xr_design.specs.Order.{arguments_of_driver, net_pins}
-use Rattle.xr_replay_due.specs.Readers.{AreWithin, HasReadings, IsTable, ReadersView, reading_at, readers_of}
+use Rattle.xr_replay_due.specs.Readers.{AreReadersWithin, HasReadings, IsReaderTable, ReadersView, reading_at, readers_of}
 use Rattle.xr_replay_due.specs.declared.readings.Reading.{Reading}
 use Rattle.xr_fans.specs.Readings.{AreReaders, readings_of, readings_to}
 use Rattle.xr_fans.specs.Nets.{driver_on, looked_at}
@@ -141,7 +141,7 @@ within_by j nets_by (suc n) within are =
     (below_all j (nets_by (driver_on j n)) n (omega (arith, within)) (are.within n (omega (arith, within)))))
 
 pub readings_within : (j : Job) (nets_by : Driver → List ℕ) → AreNets j nets_by
-    → AreWithin j.width (readings_to j nets_by j.width)
+    → AreReadersWithin j.width (readings_to j nets_by j.width)
 readings_within j nets_by are =
     let all = within_by j nets_by j.width (omega arith) are in
     record {
@@ -166,7 +166,7 @@ among_by j nets_by readers (suc n) p less all =
     (all_front (IsAmong readers) (readings_to j nets_by n) (readings_of n (nets_by (driver_on j n))) all))
     (cases_eq p n)
 
-pub are_readers : (j : Job) (nets_by : Driver → List ℕ) (readers : ReadersView) → IsTable j.width readers
+pub are_readers : (j : Job) (nets_by : Driver → List ℕ) (readers : ReadersView) → IsReaderTable j.width readers
     → HasReadings (readings_to j nets_by j.width) readers → AreReaders j nets_by readers
 are_readers j nets_by readers table has = record {
   table = table;

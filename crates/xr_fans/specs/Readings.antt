@@ -6,7 +6,7 @@ use Rattle.xr_design.specs.Job.{Job}
 use Rattle.xr_design.specs.declared.circuit.Circuit.{Circuit}
 use Rattle.xr_design.specs.Order.{arguments_of_driver}
 use Rattle.xr_design.specs.declared.design.Driver.{Driver}
-use Rattle.xr_replay_due.specs.Readers.{IsTable, ReadersView, readers_of}
+use Rattle.xr_replay_due.specs.Readers.{IsReaderTable, ReadersView, readers_of}
 use Rattle.xr_replay_due.specs.declared.readings.Reading.{Reading}
 use Rattle.xr_fans.specs.Nets.{driver_on, looked_at}
 use Rattle.xr_fans.specs.declared.fans.Fans.{Fans}
@@ -27,7 +27,7 @@ AppendsReadings old new position nets = new ≡ old ++ readings_of position nets
 
 -- For each net, the positions whose drivers read it are among its readers.
 pub record AreReaders (j : Job) (nets_by : Driver → List ℕ) (readers : ReadersView) : Type 0 where
-  pub table : IsTable j.width readers
+  pub table : IsReaderTable j.width readers
   pub has : (p : ℕ) → p < j.width
       → AllByRecursion (λ net. Contains (readers_of readers net) p) (nets_by (driver_on j p))
 

@@ -7,7 +7,7 @@ ghost use Rattle.xr_fans.specs.Marks.{AreChangesDue, AreInputsDue, OnlyMore};
 ghost use Rattle.xr_fans.specs.Readings.{AreFans};
 ghost use Rattle.xr_ledger.specs.Change.{AreInWidth};
 ghost use Rattle.xr_replay_due.specs.Due.{GainsAll, HasRoomFor, is_due};
-ghost use Rattle.xr_replay_due.specs.Readers.{IsTable, readers_of};
+ghost use Rattle.xr_replay_due.specs.Readers.{IsReaderTable, readers_of};
 
 use crate::fans::Fans;
 use crate::waiting::Waiting;
@@ -73,7 +73,7 @@ pub fn mark_readers(circuit: &Circuit<'_>, fans: &Fans, net: u32, waiting: &mut 
 
 /// The readers of a net, of so many, become due.
 pub fn mark_all(readers: &Readers, net: usize, nets: usize, due: &mut Due)
-    requires table { IsTable nets readers.now }
+    requires table { IsReaderTable nets readers.now }
     requires net { net < nets }
     requires room { HasRoomFor due.old nets }
     ensures long { length due.new ≡ length due.old }

@@ -3,11 +3,11 @@ use Rattle.std.proofs.Common.{◌≡◌, ℕ, List, [], ◌∷◌, ◌++◌, len
 use Rattle.std.proofs.lemmas.List.{map-append}
 use Rattle.xr_cell.specs.declared.value.Value.{Value}
 use Rattle.xr_design.specs.declared.place.Place.{Place}
-use Rattle.xr_graph.specs.Kept.{AreWithin, IsWithin, ruled_node, seen_node, seen_nodes}
+use Rattle.xr_graph.specs.Kept.{AreEntriesWithin, IsEntryWithin, ruled_node, seen_node, seen_nodes}
 use Rattle.xr_graph.specs.declared.kept.Entry.{Entry}
 use Rattle.xr_graph.proofs.Parts.{part_new, part_stays}
 
-entry_stays : (arguments more : List ℕ) (values others : List Value) (entry : Entry) → IsWithin arguments values entry
+entry_stays : (arguments more : List ℕ) (values others : List Value) (entry : Entry) → IsEntryWithin arguments values entry
     → seen_node (arguments ++ more) (values ++ others) entry ≡ seen_node arguments values entry
 entry_stays arguments more values others entry within =
     rw (
@@ -17,14 +17,14 @@ entry_stays arguments more values others entry within =
 
 -- What is seen stays.
 pub seen_stay : (arguments more : List ℕ) (values others : List Value) (entries : List Entry)
-    → AreWithin arguments values entries
+    → AreEntriesWithin arguments values entries
     → seen_nodes (arguments ++ more) (values ++ others) entries ≡ seen_nodes arguments values entries
 seen_stay arguments more values others [] within = refl
 seen_stay arguments more values others (e ∷ es) within =
     rw (entry_stays arguments more values others e within.0, seen_stay arguments more values others es within.1) refl
 
 -- With more to read alone.
-pub seen_apart : (arguments more : List ℕ) (values : List Value) (entries : List Entry) → AreWithin arguments values entries
+pub seen_apart : (arguments more : List ℕ) (values : List Value) (entries : List Entry) → AreEntriesWithin arguments values entries
     → seen_nodes (arguments ++ more) values entries ≡ seen_nodes arguments values entries
 seen_apart arguments more values entries within =
     ap (λ (vs : List Value). seen_nodes (arguments ++ more) vs entries) (sym (append-nil values))
@@ -32,7 +32,7 @@ seen_apart arguments more values entries within =
 
 -- The parts stay within.
 pub within_more : (arguments more : List ℕ) (values others : List Value) (entries : List Entry)
-    → AreWithin arguments values entries → AreWithin (arguments ++ more) (values ++ others) entries
+    → AreEntriesWithin arguments values entries → AreEntriesWithin (arguments ++ more) (values ++ others) entries
 within_more arguments more values others [] within = tt
 within_more arguments more values others (e ∷ es) within =
     let long = length-append arguments more in
@@ -44,7 +44,7 @@ within_more arguments more values others (e ∷ es) within =
     )
 
 within_last : (arguments : List ℕ) (values : List Value) (entries : List Entry) (last : Entry)
-    → AreWithin arguments values entries → IsWithin arguments values last → AreWithin arguments values (entries ++ last ∷ [])
+    → AreEntriesWithin arguments values entries → IsEntryWithin arguments values last → AreEntriesWithin arguments values (entries ++ last ∷ [])
 within_last arguments values [] last within is = (is, tt)
 within_last arguments values (e ∷ es) last within is = (within.0, within_last arguments values es last within.1 is)
 
@@ -59,9 +59,9 @@ next_entry place arguments_start values_start more others = record {
 }
 
 module _ (place : Place) (arguments more : List ℕ) (values others : List Value) (entries : List Entry)
-    (arguments_start values_start : ℕ) (within : AreWithin arguments values entries)
+    (arguments_start values_start : ℕ) (within : AreEntriesWithin arguments values entries)
     (arguments_is : arguments_start ≡ length arguments) (values_is : values_start ≡ length values) where
-  pub within_next : AreWithin (arguments ++ more) (values ++ others)
+  pub within_next : AreEntriesWithin (arguments ++ more) (values ++ others)
       (entries ++ next_entry place arguments_start values_start more others ∷ [])
   within_next =
       let long = length-append arguments more in

@@ -28,9 +28,9 @@ abbrev pub seen_nodes : List ℕ → List Value → List Entry → List Node
 seen_nodes arguments values entries = map (seen_node arguments values) entries
 
 -- The parts of an entry lie within the lists.
-pub record IsWithin (arguments : List ℕ) (values : List Value) (entry : Entry) : Type 0 where
+pub record IsEntryWithin (arguments : List ℕ) (values : List Value) (entry : Entry) : Type 0 where
   pub arguments_end : entry.arguments_start + entry.arguments_count ≤ length arguments
   pub values_end : entry.values_start + entry.values_count ≤ length values
 
-abbrev pub AreWithin : List ℕ → List Value → List Entry → Type 0
-AreWithin arguments values entries = AllByRecursion (IsWithin arguments values) entries
+abbrev pub AreEntriesWithin : List ℕ → List Value → List Entry → Type 0
+AreEntriesWithin arguments values entries = AllByRecursion (IsEntryWithin arguments values) entries

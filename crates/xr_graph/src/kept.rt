@@ -43,13 +43,13 @@ pub struct KeptNodes {
 impl Model for KeptNodes {
     ghost use Rattle.std.specs.Prelude.{List};
     ghost use Rattle.xr_cone_nodes.specs.declared.node.Node.{Node as AnyNode};
-    ghost use Rattle.xr_graph.specs.Kept.{AreWithin, seen_nodes};
+    ghost use Rattle.xr_graph.specs.Kept.{AreEntriesWithin, seen_nodes};
 
     ghost Value = { List AnyNode };
 
     ghost view = { λ kept. seen_nodes kept.arguments.items kept.values.items kept.entries.items };
 
-    ghost invariant = { λ kept. AreWithin kept.arguments.items kept.values.items kept.entries.items };
+    ghost invariant = { λ kept. AreEntriesWithin kept.arguments.items kept.values.items kept.entries.items };
 }
 
 impl KeptNodes {

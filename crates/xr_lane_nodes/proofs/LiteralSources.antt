@@ -21,7 +21,7 @@ use Rattle.xr_cone_nodes.proofs.NodeSources.{values_born}
 use Rattle.xr_rests.specs.Table.{IsTableOver}
 use Rattle.xr_cone_nodes.proofs.RisingNumbers.{Rises, rises, rises_same}
 use Rattle.xr_lane_nodes.specs.InWave.{IsInReach, IsRuleIn, CoversBeforeIn}
-use Rattle.xr_lane_nodes.specs.Joined.{AreListed, IsJoined, IsKept, is_in, keeps_source}
+use Rattle.xr_lane_nodes.specs.Joined.{AreListed, IsJoined, HasSources, is_in, keeps_source}
 use Rattle.xr_lane_nodes.specs.Made.{AreSourcesIn}
 use Rattle.xr_lane_nodes.specs.Covered.{IsCovered, covered_sources}
 use Rattle.xr_lane_nodes.specs.Literal.{AreSources}
@@ -139,7 +139,7 @@ rule_sources c covered place arguments all values wave reach rests before joined
     each k = among_all (λ a. keeps_source covered k a ≡ is_source j known a k) arguments (λ a at.
         (let less = argument_of a at in let within = reach.within in
         covered_source j fits known a k (covered_sources covered a) (omega (arith, less, within))
-        (all_among (IsKept covered) arguments a joined.kept at)
+        (all_among (HasSources covered) arguments a joined.kept at)
         (covered_sources_are c covered place a arguments values wave reach rests before at)))
 
     on : (never carried : Bool) → carried ≡ false → not never ≡ not carried && not never

@@ -19,11 +19,11 @@ abbrev pub keeps_source : Covered → ℕ → ℕ → Bool
 keeps_source covered k place = is_in k (covered_sources covered place)
 
 -- They are kept.
-abbrev pub IsKept : Covered → ℕ → Type 0
-IsKept covered place = IsSome (covered_sources covered place)
+abbrev pub HasSources : Covered → ℕ → Type 0
+HasSources covered place = IsSome (covered_sources covered place)
 
 -- Those of some places, all of which are kept, in place order.
 pub record IsJoined (covered : Covered) (places all : List ℕ) : Type 0 where
   pub rises : IsStrictlyIncreasing all
   pub are : (k : ℕ) → among all k ≡ list_any (keeps_source covered k) places
-  pub kept : AllByRecursion (IsKept covered) places
+  pub kept : AllByRecursion (HasSources covered) places

@@ -11,11 +11,11 @@ abbrev pub seen_lists : List ℕ → List Span → List (List ℕ)
 seen_lists places spans = map (seen_list places) spans
 
 -- They lie within it.
-abbrev pub IsWithin : List ℕ → Span → Type 0
-IsWithin places span = span.start + span.count ≤ length places
+abbrev pub IsSpanWithin : List ℕ → Span → Type 0
+IsSpanWithin places span = span.start + span.count ≤ length places
 
-abbrev pub AreWithin : List ℕ → List Span → Type 0
-AreWithin places spans = AllByRecursion (IsWithin places) spans
+abbrev pub AreSpansWithin : List ℕ → List Span → Type 0
+AreSpansWithin places spans = AllByRecursion (IsSpanWithin places) spans
 
 -- The number of a list, or none, as one number.
 abbrev pub number_of : ℕ → Option ℕ

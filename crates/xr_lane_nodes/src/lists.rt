@@ -25,13 +25,13 @@ pub struct Lists {
 
 impl Model for Lists {
     ghost use Rattle.std.specs.Prelude.{List, ℕ};
-    ghost use Rattle.xr_lane_nodes.specs.Lists.{AreWithin, seen_lists};
+    ghost use Rattle.xr_lane_nodes.specs.Lists.{AreSpansWithin, seen_lists};
 
     ghost Value = { List (List ℕ) };
 
     ghost view = { λ lists. seen_lists lists.places.items lists.spans.items };
 
-    ghost invariant = { λ lists. AreWithin lists.places.items lists.spans.items };
+    ghost invariant = { λ lists. AreSpansWithin lists.places.items lists.spans.items };
 }
 
 impl Lists {

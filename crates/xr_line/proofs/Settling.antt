@@ -19,7 +19,7 @@ use Rattle.xr_line.specs.declared.option.Opt.{Opt}
 use Rattle.xr_line.specs.declared.line.Line.{Line}
 use Rattle.xr_line.specs.Told.{app_for}
 use Rattle.xr_line.specs.Line.{AreOnce, HasFiles, words_of_items, Fits, IsKnown, IsOutside, IsValue, Item, are_apart, are_options, given, name_in, value_in, named}
-use Rattle.xr_line.specs.Read.{HasFitting, HasOnly, IsFitting, Reads, files_in, value_in_matches}
+use Rattle.xr_line.specs.Read.{HasFitting, HasOnly, IsFitting, ReadsLine, files_in, value_in_matches}
 use Rattle.xr_line.proofs.Once.{LacksName, given_lacks, many, turned}
 use Rattle.xr_line.proofs.Rows.{same_text, text_itself}
 use Rattle.xr_line.proofs.Rules.{name_is}
@@ -163,11 +163,11 @@ module _ (title : Text) (os : List Opt) (files : Bool) (are : are_options os ≡
         (record { option = o; is = is; value = fit.0; fits = fit.1 }, item_known items xs first fitting taken.1 own.1)
 
     pub line_reads : (line : Line) → line.matches ≡ m → AreWords words → fault_of (app_for title os files) words ≡ [] → HasFitting os m → AllByRecursion IsValue (files_in m)
-        → Reads os files words line
+        → ReadsLine os files words line
     line_reads line same are_words none fitting plain =
         let shown = back title os files are words are_words none in
         let left = files_at m rows shown.left rows_are shown.all in
-        subst (λ (k : ArgMatches). Reads os files words (record { matches = k })) (sym same) (record {
+        subst (λ (k : ArgMatches). ReadsLine os files words (record { matches = k })) (sym same) (record {
           items = shown.items;
           is = record {
             is = shown.is ∙ ap (λ fs. words_of_items shown.items ++ fs) (sym left);

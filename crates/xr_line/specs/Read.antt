@@ -27,7 +27,7 @@ abbrev pub options_by : (Text → Option Text) → Text → Option Text
 options_by option name = if bytes_eq name (codes "FILE") then None else option name
 
 -- The line is in the set, and these are its values.
-pub record Reads (options : List Opt) (has_files : Bool) (words : List Text) (line : Line) : Type 0 where
+pub record ReadsLine (options : List Opt) (has_files : Bool) (words : List Text) (line : Line) : Type 0 where
   pub items : List Item
   pub is : IsLine options has_files words items (files_of line)
   pub each : (name : Text) → bytes_eq name (codes "FILE") ≡ false → value_of line name ≡ given items name

@@ -5,7 +5,7 @@ ghost use Rattle.std.specs.Prelude.{length, map, option_map, string_bytes, unwra
 ghost use Rattle.std.specs.List.{All, AllByRecursion};
 ghost use Rattle.xr_line.specs.Line.{IsOutside, IsValue, Text, are_options};
 ghost use Rattle.xr_line.specs.Told.{is_word};
-ghost use Rattle.xr_line.specs.Read.{HasFitting, HasOnly, IsFitting, Reads, files_in, files_of, value_of};
+ghost use Rattle.xr_line.specs.Read.{HasFitting, HasOnly, IsFitting, ReadsLine, files_in, files_of, value_of};
 
 use crate::option::Opt;
 use crate::told::command_of;
@@ -64,7 +64,7 @@ pub fn read_line<'a>(
     words: &'a [String],
 ) -> Result<Option<Line<'a>>, Memory>
     requires { are_options options.now ≡ true }
-    ensures set { IfOk result (λ o. IfSome o (Reads options.now files (map string_bytes words.now))) }
+    ensures set { IfOk result (λ o. IfSome o (ReadsLine options.now files (map string_bytes words.now))) }
     ensures only { IfOk result (λ o. IfSome o (HasOnly options.now files (map string_bytes words.now))) }
     ensures none { IfOk result (λ o. IfNone o (IsOutside options.now files (map string_bytes words.now))) }
 {

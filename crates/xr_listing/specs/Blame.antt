@@ -2,7 +2,7 @@
 use Rattle.std.specs.Prelude.{◌≡◌, ℕ, List, ◌++◌, codes, decimal, length}
 use Rattle.std.specs.List.{flat_map}
 use Rattle.xr_blame.specs.Blamed.{AreBlamed, unknown_bits}
-use Rattle.xr_blame.specs.Table.{IsTable, Row}
+use Rattle.xr_blame.specs.Table.{IsBlameTable, Row}
 use Rattle.xr_blame.specs.declared.bits.Blamed.{Blamed}
 use Rattle.xr_design.specs.Filling.{IsPlace}
 use Rattle.xr_match.specs.declared.binding.Bound.{Bound}
@@ -46,5 +46,5 @@ pub record TellsBlame (c : Contents) (bound : List Bound) (text : List ℕ) : Ty
   pub bits : List Blamed
   pub table : List Row
   pub blamed : AreBlamed c (unknown_bits c bound) bits
-  pub sources : IsTable (job c) bits table
+  pub sources : IsBlameTable (job c) bits table
   pub text_is : text ≡ blame_text c bits table

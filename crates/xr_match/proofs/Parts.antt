@@ -9,7 +9,7 @@ use Rattle.xr_vcd.specs.declared.variable.Variable.{Variable}
 use Rattle.xr_match.specs.Bits.{has_index, from_index, ends_at, bits_if, bits_of, matched_by}
 use Rattle.xr_match.specs.Laws.{IsPart, Tells}
 use Rattle.xr_match.specs.Naming.{Texts, nets_of}
-use Rattle.xr_match.specs.Telling.{Standing, Apart, Above, Within, standing_of, bare, tried, as_recorded, or_else, told, matched}
+use Rattle.xr_match.specs.Telling.{Standing, Apart, Above, Within, standing_of, bare, tried, as_recorded, or_else, matched_in, matched}
 use Rattle.xr_match.specs.declared.bits.Matched.{Matched}
 use Rattle.xr_match.specs.declared.bits.Matched.TheVariants.{Nothing, Differs, Bits}
 
@@ -75,7 +75,7 @@ else_by design names v bits Nothing first h =
 else_by design names v bits Differs first h = absurd cc
 else_by design names v bits (Bits own) first h = first h
 
-part_by : (design : Design) (scope : Texts) (recording : Recording) (v : Variable) (bits : List ℕ) (s : Standing) → standing_of scope (path_at recording.scopes v.scope) ≡ s → told design s v ≡ Bits bits → IsPart design scope recording v bits
+part_by : (design : Design) (scope : Texts) (recording : Recording) (v : Variable) (bits : List ℕ) (s : Standing) → standing_of scope (path_at recording.scopes v.scope) ≡ s → matched_in design s v ≡ Bits bits → IsPart design scope recording v bits
 part_by design scope recording v bits Apart is h = absurd cc
 part_by design scope recording v bits (Above names) is h = absurd cc
 part_by design scope recording v bits (Within names) is h =

@@ -13,7 +13,7 @@ use Rattle.xr_match.specs.Bits.{from_index, ends_at, bits_if, bits_of, matched_b
 use Rattle.xr_match.specs.Bounds.{IsOf, bound_of, bound_by, bound_in, bound_below, bounds_of}
 use Rattle.xr_match.specs.Holding.{FitsHeld}
 use Rattle.xr_match.specs.Naming.{Texts, texts_of, names_eq, named_below, nets_of}
-use Rattle.xr_match.specs.Telling.{Standing, Apart, Above, Within, standing_of, bare, tried, as_recorded, or_else, told, matched}
+use Rattle.xr_match.specs.Telling.{Standing, Apart, Above, Within, standing_of, bare, tried, as_recorded, or_else, matched_in, matched}
 use Rattle.xr_match.specs.declared.binding.Bound.{Bound}
 use Rattle.xr_match.specs.declared.bits.Matched.{Matched}
 use Rattle.xr_match.specs.declared.bits.Matched.TheVariants.{Nothing, Differs, Bits}
@@ -73,7 +73,7 @@ if_fit : (design : Design) (width : ℕ) (b : Bool) (m : Matched) → FitsMatche
 if_fit design width true m h = h
 if_fit design width false m h = tt
 
-told_fit : (design : Design) (s : Standing) (v : Variable) → FitsMatched design v.width (told design s v)
+told_fit : (design : Design) (s : Standing) (v : Variable) → FitsMatched design v.width (matched_in design s v)
 told_fit design Apart v = tt
 told_fit design (Above names) v = tt
 told_fit design (Within names) v =

@@ -59,10 +59,10 @@ abbrev pub told_below : Design → Texts → Variable → Matched
 told_below design names v = or_else (as_recorded design names v) (tried design names (without_range v.direct v.reference) v.range v.width)
 
 -- A variable of a scope that isn't at or below the scope path tells nothing.
-abbrev pub told : Design → Standing → Variable → Matched
-told design Apart v = Nothing
-told design (Above names) v = Nothing
-told design (Within names) v = told_below design (map bare names) v
+abbrev pub matched_in : Design → Standing → Variable → Matched
+matched_in design Apart v = Nothing
+matched_in design (Above names) v = Nothing
+matched_in design (Within names) v = told_below design (map bare names) v
 
 abbrev pub matched : Design → Texts → Recording → Variable → Matched
-matched design scope recording v = told design (standing_of scope (path_at recording.scopes v.scope)) v
+matched design scope recording v = matched_in design (standing_of scope (path_at recording.scopes v.scope)) v

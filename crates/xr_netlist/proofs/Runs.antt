@@ -18,7 +18,7 @@ use Rattle.xr_netlist_grammar.specs.declared.tree.GateKind.{GateKind}
 use Rattle.xr_netlist_grammar.specs.declared.tree.NamedConnection.{NamedConnection}
 use Rattle.xr_netlist_grammar.specs.declared.tree.NetKind.{NetKind}
 use Rattle.xr_netlist_grammar.specs.declared.tree.Word.{Word}
-use Rattle.xr_netlist.specs.Reads.{Reads, BeginsNone}
+use Rattle.xr_netlist.specs.Reads.{ReadsTokens, BeginsNone}
 
 alike_of : (s s' : State) (ts : List TokenAt) (stop : TokenAt) → step s (head_of ts stop) ≡ step s' (head_of ts stop)
     → finish s stop ≡ finish s' stop → run s ts stop ≡ run s' ts stop
@@ -31,7 +31,7 @@ alike s s' w h k = alike_of s s' w.tokens w.stop h k
 
 -- a step, then what is read from there
 pub reads_on : {X : Type 0} (s s' : State) (old mid : TokenStream) (r : Result X ParseErr) (next : X → State) (new : TokenStream)
-    → goes s old ≡ goes s' mid → Reads s' mid r next new → Reads s old r next new
+    → goes s old ≡ goes s' mid → ReadsTokens s' mid r next new → ReadsTokens s old r next new
 reads_on s s' old mid (Ok x) next new h k = h ∙ k
 reads_on s s' old mid (Err e) next new h k = λ p. h ∙ k p
 

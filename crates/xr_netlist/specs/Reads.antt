@@ -3,7 +3,7 @@
 use Rattle.std.specs.Prelude.{Vec, ◌≡◌, ◌≢◌, ℕ, ◌<◌, length, List, [], ◌∷◌, Bool, true, false, Option, Some, None, option_to_list, Result, Ok, Err}
 use Rattle.std.specs.Borrow.{Bor}
 use Rattle.xr_netlist_grammar.specs.Lexemes.{Lexeme, quoted, named, ending, TokenAt, token_at, TokenStream, is_fixed}
-use Rattle.xr_netlist_grammar.specs.Lexemes.{name_of, symbols_of, head, before, fault_of}
+use Rattle.xr_netlist_grammar.specs.Lexemes.{named_word, symbols_of, head, before, fault_of}
 use Rattle.std.specs.declared.alloc.Global.{Global}
 use Rattle.xr_netlist_grammar.specs.Machine.State.{head_end, primitive_head_end, after_instance}
 use Rattle.xr_netlist_grammar.specs.Trees.{Under, under, with_item, instance_of, Within, within}
@@ -13,7 +13,7 @@ use Rattle.xr_netlist_grammar.specs.declared.tree.PrimDeclare.{PrimDeclare}
 use Rattle.xr_netlist_grammar.specs.declared.tree.Source.{Source}
 use Rattle.xr_netlist.specs.declared.head.Head.{Head}
 use Rattle.xr_netlist.specs.declared.primitive.Pins.{Pins}
-use Rattle.xr_netlist_grammar.specs.Machine.{State, Next, on_one_byte, on_few_bytes, goes, Refuses}
+use Rattle.xr_netlist_grammar.specs.Machine.{State, Next, on_one_byte, on_few_bytes, goes, RefusesNetlist}
 use Rattle.xr_netlist_grammar.specs.declared.fixed.Fixed.{Fixed}
 use Rattle.xr_netlist_grammar.specs.declared.fixed.Fixed.TheVariants as fixed
 use Rattle.xr_netlist_grammar.specs.declared.refusal.ParseErr.{ParseErr}
@@ -34,16 +34,16 @@ ExpectsFixed f old (Err e) new = (is_fixed f (head old).what ≡ false) × (e �
 
 abbrev pub TakesName : TokenStream → Option Name → TokenStream → Type 0
 TakesName old (Some n) new = old ≡ before (token_at n.at (named n.text.now n.escaped)) new
-TakesName old None new = (new ≡ old) × (name_of (head old) ≡ None)
+TakesName old None new = (new ≡ old) × (named_word (head old) ≡ None)
 
 abbrev pub ExpectsName : TokenStream → Result Name ParseErr → TokenStream → Type 0
 ExpectsName old (Ok n) new = old ≡ before (token_at n.at (named n.text.now n.escaped)) new
-ExpectsName old (Err e) new = (name_of (head old) ≡ None) × (e ≡ fault_of (head old))
+ExpectsName old (Err e) new = (named_word (head old) ≡ None) × (e ≡ fault_of (head old))
 
 -- a name is taken, unless memory runs out
 abbrev pub ExpectsWord : TokenStream → Result Word ParseErr → TokenStream → Type 0
 ExpectsWord old (Ok w) new = old ≡ before (token_at w.at (named w.text w.escaped)) new
-ExpectsWord old (Err e) new = e ≢ Memory → (name_of (head old) ≡ None) × (e ≡ fault_of (head old))
+ExpectsWord old (Err e) new = e ≢ Memory → (named_word (head old) ≡ None) × (e ≡ fault_of (head old))
 
 -- a token that may be read as a value is taken, or nothing
 abbrev pub TakesAs : {X : Type 0} → (TokenAt → Option X) → TokenStream → Option X → TokenStream → Type 0
@@ -88,35 +88,35 @@ Ends w (Err e) = (w.tokens ≡ [] → w.stop.what ≢ ending) × (e ≡ fault_of
 -- ---- runs
 
 -- From a state, what was read leads to the next state.
-abbrev pub Reads : {X : Type 0} → State → TokenStream → Result X ParseErr → (X → State) → TokenStream → Type 0
-Reads s old (Ok x) next new = goes s old ≡ goes (next x) new
-Reads s old (Err e) next new = Refuses (goes s old) e
+abbrev pub ReadsTokens : {X : Type 0} → State → TokenStream → Result X ParseErr → (X → State) → TokenStream → Type 0
+ReadsTokens s old (Ok x) next new = goes s old ≡ goes (next x) new
+ReadsTokens s old (Err e) next new = RefusesNetlist (goes s old) e
 
 -- From a state of a module under way, what was read adds items and leads to the next state, whatever stands before.
 abbrev pub ReadsItems : {X : Type 0} → (Under → State) → Vec Item Global → TokenStream → Result X ParseErr
     → (X → Under → State) → Vec Item Global → TokenStream → Type 0
 ReadsItems from items old result to more new =
-    (b : Source) (n : Word) (ps : List Word) → Reads (from (under b n ps items.items)) old result (λ x. to x (under b n ps more.items)) new
+    (b : Source) (n : Word) (ps : List Word) → ReadsTokens (from (under b n ps items.items)) old result (λ x. to x (under b n ps more.items)) new
 
 -- The same of a primitive under way and its declarations.
 abbrev pub ReadsPins : {X : Type 0} → (Within → State) → Vec PrimDeclare Global → TokenStream → Result X ParseErr
     → (Within → State) → Vec PrimDeclare Global → TokenStream → Type 0
 ReadsPins from pins old result to more new =
-    (b : Source) (n : Word) (ps : List Word) → Reads (from (within b n ps pins.items [])) old result (λ _. to (within b n ps more.items [])) new
+    (b : Source) (n : Word) (ps : List Word) → ReadsTokens (from (within b n ps pins.items [])) old result (λ _. to (within b n ps more.items [])) new
 
 -- From a state after the name of a module, what was read is its head.
 abbrev pub ReadsHead : (Source → Word → State) → TokenStream → Result Head ParseErr → TokenStream → Type 0
-ReadsHead from old result new = (b : Source) (n : Word) → Reads (from b n) old result (λ h. head_end (under b n h.ports.items h.items.items)) new
+ReadsHead from old result new = (b : Source) (n : Word) → ReadsTokens (from b n) old result (λ h. head_end (under b n h.ports.items h.items.items)) new
 
 -- From a state after the name of a primitive, what was read are its ports and what the port list declares.
 abbrev pub ReadsPortList : (Source → Word → State) → TokenStream → Result Pins ParseErr → TokenStream → Type 0
 ReadsPortList from old result new =
-    (b : Source) (n : Word) → Reads (from b n) old result (λ p. primitive_head_end (within b n p.ports.items p.declarations.items [])) new
+    (b : Source) (n : Word) → ReadsTokens (from b n) old result (λ p. primitive_head_end (within b n p.ports.items p.declarations.items [])) new
 
 -- From a state of an instance under way, what was read are its connections.
 abbrev pub ReadsConnections : (Under → Word → Option Word → State) → TokenStream → Result Connections ParseErr → TokenStream → Type 0
 ReadsConnections from old result new =
-    (u : Under) (d : Word) (n : Option Word) → Reads (from u d n) old result (λ cs. after_instance (with_item u (instance_of d n cs)) d) new
+    (u : Under) (d : Word) (n : Option Word) → ReadsTokens (from u d n) old result (λ cs. after_instance (with_item u (instance_of d n cs)) d) new
 
 abbrev pub Shortens : {X : Type 0} → TokenStream → Result X ParseErr → TokenStream → Type 0
 Shortens old (Ok x) new = length new.tokens < length old.tokens

@@ -8,7 +8,7 @@ ghost use Rattle.xr_netlist_grammar.specs.declared.tree.Connections.TheVariants.
 ghost use Rattle.xr_netlist_grammar.specs.declared.tree.GateKind.{GateKind as gate_kinds};
 ghost use Rattle.xr_netlist_grammar.specs.declared.tree.NamedConnection.{NamedConnection as named_kind};
 ghost use Rattle.xr_netlist_grammar.specs.declared.tree.Word.{Word as word};
-ghost use Rattle.xr_netlist.specs.Reads.{Reads, ReadsItems, ReadsConnections, Shortens};
+ghost use Rattle.xr_netlist.specs.Reads.{ReadsTokens, ReadsItems, ReadsConnections, Shortens};
 ghost use Rattle.xr_netlist.specs.Shown.{word_of_name};
 
 use crate::expression::expr;
@@ -66,7 +66,7 @@ fn gate(
 // expr { "," expr } ")"
 fn terminals(alloc: Global, tokens: &mut Reader<'_>) -> Result<Vec<Expr>, ParseErr>
     ensures reads { (u : Under) (kind : gate_kinds) (at : ℕ)
-        → Reads (spec.expr_start (terminal u kind at [])) tokens.old result
+        → ReadsTokens (spec.expr_start (terminal u kind at [])) tokens.old result
         (λ es. spec.after_gate (with_item u (gate_of kind at es.items)) kind at) tokens.new }
     ensures shortens { Shortens tokens.old result tokens.new }
 {
@@ -183,7 +183,7 @@ fn connection(
     list: &mut Vec<Connection>,
 ) -> Result<bool, ParseErr>
     ensures reads { (u : Under) (d : word) (n : Option word)
-        → Reads (spec.connection u d n list.old.items) tokens.old result
+        → ReadsTokens (spec.connection u d n list.old.items) tokens.old result
         (λ more. cond more (spec.connection u d n list.new.items)
         (spec.after_instance (with_item u (instance_of d n (Positional list.new.items))) d)) tokens.new }
     ensures shortens { Shortens tokens.old result tokens.new }
@@ -224,7 +224,7 @@ fn named(alloc: Global, tokens: &mut Reader<'_>) -> Result<Connections, ParseErr
 #[tactic(auto, using(crate::proofs::Runs::named_starts))]
 fn named_connection(alloc: Global, tokens: &mut Reader<'_>) -> Result<NamedConnection, ParseErr>
     ensures reads { (u : Under) (d : word) (n : Option word) (cs : List named_kind)
-        → Reads (spec.connection_port u d n cs)
+        → ReadsTokens (spec.connection_port u d n cs)
         tokens.old result (λ c. spec.after_connection u d n (cs ++ c ∷ [])) tokens.new }
     ensures shortens { Shortens tokens.old result tokens.new }
 {

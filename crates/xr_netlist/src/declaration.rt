@@ -5,7 +5,7 @@ ghost use Rattle.xr_netlist_grammar.specs.Machine.{Ranged, after_range};
 ghost use Rattle.xr_netlist_grammar.specs.Machine.{State as spec};
 ghost use Rattle.xr_netlist_grammar.specs.Trees.{Under, takes_value};
 ghost use Rattle.xr_netlist_grammar.specs.declared.tree.NetKind.{NetKind as net_kinds};
-ghost use Rattle.xr_netlist.specs.Reads.{Reads, ReadsItems, Shortens};
+ghost use Rattle.xr_netlist.specs.Reads.{ReadsTokens, ReadsItems, Shortens};
 
 use crate::expression::expr;
 use crate::reader::Reader;
@@ -16,7 +16,7 @@ use xr_netlist_grammar::{Declare, Fixed, Item, NetKind, ParseErr};
 // range = "[" int ":" int "]", after its "["
 fn range(tokens: &mut Reader<'_>) -> Result<(u32, u32), ParseErr>
     ensures reads { (k : Ranged)
-        → Reads (spec.range_first k) tokens.old result (λ r. after_range k (Some r)) tokens.new }
+        → ReadsTokens (spec.range_first k) tokens.old result (λ r. after_range k (Some r)) tokens.new }
     ensures shortens { Shortens tokens.old result tokens.new }
 {
     let first = tokens.int()?;
@@ -33,9 +33,9 @@ pub fn wire_range(
     had: Option<(u32, u32)>,
 ) -> Result<Option<(u32, u32)>, ParseErr>
     ensures port { (u : Under) (what : net_kinds)
-        → Reads (spec.port_direction u what had) tokens.old result (λ r. spec.port_name u what r) tokens.new }
+        → ReadsTokens (spec.port_direction u what had) tokens.old result (λ r. spec.port_name u what r) tokens.new }
     ensures declared { had ≡ None → (u : Under) (what : net_kinds)
-        → Reads (spec.direction u what) tokens.old result (λ r. spec.declared_name u what r) tokens.new }
+        → ReadsTokens (spec.direction u what) tokens.old result (λ r. spec.declared_name u what r) tokens.new }
     ensures shortens { OnOk result (length tokens.new.tokens ≤ length tokens.old.tokens) }
 {
     let _ = tokens.take(Fixed::Wire);
@@ -108,7 +108,7 @@ pub fn nets(
 #[tactic(auto, using(crate::proofs::Runs::net_no_range))]
 fn net_range(tokens: &mut Reader<'_>) -> Result<Option<(u32, u32)>, ParseErr>
     ensures reads { (u : Under) (what : net_kinds)
-        → Reads (spec.net_kind u what) tokens.old result (λ r. spec.net_name u what r) tokens.new }
+        → ReadsTokens (spec.net_kind u what) tokens.old result (λ r. spec.net_name u what r) tokens.new }
     ensures shortens { OnOk result (length tokens.new.tokens ≤ length tokens.old.tokens) }
 {
     let mut bits = None;

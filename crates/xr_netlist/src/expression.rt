@@ -6,7 +6,7 @@ ghost use Rattle.xr_netlist_grammar.specs.Machine.{Context};
 ghost use Rattle.xr_netlist_grammar.specs.Machine.{State as spec};
 ghost use Rattle.xr_netlist_grammar.specs.declared.fixed.Fixed.TheVariants as fixed;
 ghost use Rattle.xr_netlist_grammar.specs.declared.tree.Part.{Part as part_of};
-ghost use Rattle.xr_netlist.specs.Reads.{Reads, Shortens};
+ghost use Rattle.xr_netlist.specs.Reads.{ReadsTokens, Shortens};
 
 use crate::reader::Reader;
 use std::alloc::Global;
@@ -15,7 +15,7 @@ use xr_netlist_grammar::{Expr, Fixed, ParseErr, Part, PartKind, Word};
 
 // expr = name | name "[" int "]" | name "[" int ":" int "]" | literal | "{" expr { "," expr } "}"
 pub fn expr(alloc: Global, tokens: &mut Reader<'_>) -> Result<Expr, ParseErr>
-    ensures reads { (k : Context) → Reads (spec.expr_start k)
+    ensures reads { (k : Context) → ReadsTokens (spec.expr_start k)
         tokens.old result (λ e. spec.after_part k e.at 0 e.parts) tokens.new }
     ensures shortens { Shortens tokens.old result tokens.new }
 {
@@ -45,7 +45,7 @@ pub fn expr(alloc: Global, tokens: &mut Reader<'_>) -> Result<Expr, ParseErr>
 fn part(alloc: Global, tokens: &mut Reader<'_>) -> Result<Part, ParseErr>
     requires { is_fixed fixed.BraceOpen (head tokens.old).what ≡ false }
     ensures reads { (k : Context) (at d : ℕ) (ps : List part_of)
-        → Reads (spec.expr k at d ps) tokens.old result (λ p. spec.after_part k at d (ps ++ p ∷ [])) tokens.new }
+        → ReadsTokens (spec.expr k at d ps) tokens.old result (λ p. spec.after_part k at d (ps ++ p ∷ [])) tokens.new }
     ensures shortens { Shortens tokens.old result tokens.new }
 {
     let at = tokens.at();
@@ -63,7 +63,7 @@ fn part(alloc: Global, tokens: &mut Reader<'_>) -> Result<Part, ParseErr>
 // [ "[" int [ ":" int ] "]" ]
 fn select(name: Word, tokens: &mut Reader<'_>) -> Result<PartKind, ParseErr>
     ensures reads { (k : Context) (at d : ℕ) (ps : List part_of)
-        → Reads (spec.after_part_name k at d ps name) tokens.old result
+        → ReadsTokens (spec.after_part_name k at d ps name) tokens.old result
         (λ what. spec.after_part k at d (ps ++ record { at = name.at; what = what } ∷ [])) tokens.new }
     ensures shortens { OnOk result (length tokens.new.tokens ≤ length tokens.old.tokens) }
 {

@@ -7,7 +7,7 @@ ghost use Rattle.xr_netlist_grammar.specs.Machine.{State as spec};
 ghost use Rattle.xr_netlist_grammar.specs.Trees.{Under, under};
 ghost use Rattle.xr_netlist_grammar.specs.declared.tree.Source.{Source as source};
 ghost use Rattle.xr_netlist_grammar.specs.declared.tree.Word.{Word as word};
-ghost use Rattle.xr_netlist.specs.Reads.{Reads, ReadsHead, BeginsNoPort, Shortens};
+ghost use Rattle.xr_netlist.specs.Reads.{ReadsTokens, ReadsHead, BeginsNoPort, Shortens};
 
 use crate::declaration::wire_range;
 use crate::reader::Reader;
@@ -97,7 +97,7 @@ fn port(
     items: &mut Vec<Item>,
 ) -> Result<(), ParseErr>
     ensures reads { (b : source) (n : word)
-        → Reads (spec.port_name (under b n ports.old.items items.old.items) direction.what direction.range)
+        → ReadsTokens (spec.port_name (under b n ports.old.items items.old.items) direction.what direction.range)
         tokens.old result
         (λ _. spec.after_declared_port (under b n ports.new.items items.new.items) direction.what
         direction.range) tokens.new }

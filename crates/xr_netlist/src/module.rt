@@ -7,7 +7,7 @@ ghost use Rattle.xr_netlist_grammar.specs.Machine.{State as spec};
 ghost use Rattle.xr_netlist_grammar.specs.Trees.{Under, closed, joined, one_module};
 ghost use Rattle.xr_netlist_grammar.specs.declared.fixed.Fixed.TheVariants as fixed;
 ghost use Rattle.xr_netlist_grammar.specs.declared.tree.Source.{Source as source};
-ghost use Rattle.xr_netlist.specs.Reads.{Reads, ReadsItems, Shortens, BeginsNone, BeginsNoDirection, BeginsNoNet};
+ghost use Rattle.xr_netlist.specs.Reads.{ReadsTokens, ReadsItems, Shortens, BeginsNone, BeginsNoDirection, BeginsNoNet};
 
 use crate::cell::{assigns, gates, instances};
 use crate::declaration::{directed, names, nets};
@@ -20,7 +20,7 @@ use xr_netlist_grammar::{Fixed, Item, Module, NetKind, ParseErr};
 
 // module = "module" name head ";" { item } "endmodule", after its keyword
 pub fn module(alloc: Global, tokens: &mut Reader<'_>) -> Result<Module, ParseErr>
-    ensures reads { (b : source) → Reads (spec.module_name b)
+    ensures reads { (b : source) → ReadsTokens (spec.module_name b)
         tokens.old result (λ m. spec.top (joined b (one_module m))) tokens.new }
     ensures shortens { Shortens tokens.old result tokens.new }
 {

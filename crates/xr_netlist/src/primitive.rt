@@ -9,7 +9,7 @@ ghost use Rattle.xr_netlist_grammar.specs.Trees.{joined, one_primitive};
 ghost use Rattle.xr_netlist_grammar.specs.declared.fixed.Fixed.TheVariants as fixed;
 ghost use Rattle.xr_netlist_grammar.specs.declared.tree.Source.{Source as source};
 ghost use Rattle.xr_netlist_grammar.specs.declared.tree.Word.{Word as word};
-ghost use Rattle.xr_netlist.specs.Reads.{Reads, ReadsPins, ReadsPortList, Shortens};
+ghost use Rattle.xr_netlist.specs.Reads.{ReadsTokens, ReadsPins, ReadsPortList, Shortens};
 ghost use Rattle.xr_netlist.specs.Shown.{word_of_name};
 
 use crate::lexeme::Name;
@@ -28,7 +28,7 @@ struct Pins {
 
 // primitive = "primitive" name "(" pins ")" ";" { declaration } "table" rows "endprimitive", after its keyword
 pub fn primitive(alloc: Global, tokens: &mut Reader<'_>) -> Result<Primitive, ParseErr>
-    ensures reads { (b : source) → Reads (spec.primitive_name b)
+    ensures reads { (b : source) → ReadsTokens (spec.primitive_name b)
         tokens.old result (λ p. spec.top (joined b (one_primitive p))) tokens.new }
     ensures shortens { Shortens tokens.old result tokens.new }
 {
@@ -127,7 +127,7 @@ fn output_pin(
 ) -> Result<Vec<Word>, ParseErr>
     requires { declarations.old.items ≡ [] }
     ensures reads { (b : source) (n : word)
-        → Reads (spec.output_pin b n) tokens.old result
+        → ReadsTokens (spec.output_pin b n) tokens.old result
         (λ ps. spec.first_input (within b n ps.items declarations.new.items [])) tokens.new }
     ensures shortens { Shortens tokens.old result tokens.new }
 {
@@ -146,7 +146,7 @@ fn input_pins(
     declarations: &mut Vec<PrimDeclare>,
 ) -> Result<(), ParseErr>
     ensures reads { (b : source) (n : word)
-        → Reads (spec.first_input (within b n ports.old.items declarations.old.items [])) tokens.old result
+        → ReadsTokens (spec.first_input (within b n ports.old.items declarations.old.items [])) tokens.old result
         (λ _. spec.primitive_head_end (within b n ports.new.items declarations.new.items [])) tokens.new }
     ensures shortens { Shortens tokens.old result tokens.new }
 {
@@ -178,7 +178,7 @@ fn output<'a>(
     declarations: &mut Vec<PrimDeclare>,
 ) -> Result<Name<'a>, ParseErr>
     ensures pin { declarations.old.items ≡ [] → (b : source) (n : word)
-        → Reads (spec.output_pin b n) tokens.old result
+        → ReadsTokens (spec.output_pin b n) tokens.old result
         (λ w. spec.after_output (within b n (word_of_name w ∷ []) declarations.new.items [])
         (word_of_name w)) tokens.new }
     ensures declared { ReadsPins spec.output_declared declarations.old

@@ -8,7 +8,7 @@ ghost use Rattle.xr_netlist_grammar.specs.Trees.{Range, Under};
 ghost use Rattle.xr_netlist_grammar.specs.declared.tree.GateKind.{GateKind as gate_kinds};
 ghost use Rattle.xr_netlist_grammar.specs.declared.tree.NetKind.{NetKind as net_kinds};
 ghost use Rattle.xr_netlist_grammar.specs.declared.tree.Word.{Word as word};
-ghost use Rattle.xr_netlist.specs.Reads.{Reads, Shortens};
+ghost use Rattle.xr_netlist.specs.Reads.{ReadsTokens, Shortens};
 
 use crate::reader::Reader;
 use xr_netlist_grammar::{Fixed, ParseErr};
@@ -16,7 +16,7 @@ use xr_netlist_grammar::{Fixed, ParseErr};
 // attribute = "(" "*" tokens "*" ")", after its "("
 #[tactic(auto, using(crate::proofs::Runs::star_goes_on))]
 pub fn attribute(tokens: &mut Reader<'_>) -> Result<(), ParseErr>
-    ensures reads { (k : Place) → Reads (spec.attr_open k) tokens.old result (λ _. after_attr k) tokens.new }
+    ensures reads { (k : Place) → ReadsTokens (spec.attr_open k) tokens.old result (λ _. after_attr k) tokens.new }
     ensures shortens { Shortens tokens.old result tokens.new }
 {
     tokens.expect(Fixed::Star)?;
@@ -29,7 +29,7 @@ pub fn attribute(tokens: &mut Reader<'_>) -> Result<(), ParseErr>
 
 /// Reads up to a star, and after it.
 fn star(tokens: &mut Reader<'_>) -> Result<(), ParseErr>
-    ensures reads { (k : Place) → Reads (spec.in_attr k) tokens.old result (λ _. spec.attr_star k) tokens.new }
+    ensures reads { (k : Place) → ReadsTokens (spec.in_attr k) tokens.old result (λ _. spec.attr_star k) tokens.new }
     ensures shortens { Shortens tokens.old result tokens.new }
 {
     'tokens: while !tokens.take(Fixed::Star) {
@@ -40,7 +40,7 @@ fn star(tokens: &mut Reader<'_>) -> Result<(), ParseErr>
 
 // specify = "specify" tokens "endspecify", after its keyword
 pub fn specify(tokens: &mut Reader<'_>) -> Result<(), ParseErr>
-    ensures reads { (u : Under) → Reads (spec.in_specify u) tokens.old result (λ _. spec.in_items u) tokens.new }
+    ensures reads { (u : Under) → ReadsTokens (spec.in_specify u) tokens.old result (λ _. spec.in_items u) tokens.new }
     ensures shortens { Shortens tokens.old result tokens.new }
 {
     'tokens: while !tokens.take(Fixed::Endspecify) {
@@ -53,12 +53,12 @@ pub fn specify(tokens: &mut Reader<'_>) -> Result<(), ParseErr>
 #[tactic(auto, using(crate::proofs::Runs::reads_on, crate::proofs::Runs::no_delay))]
 pub fn may_delay(tokens: &mut Reader<'_>) -> Result<(), ParseErr>
     ensures net { (u : Under) (what : net_kinds) (r : Range)
-        → Reads (spec.net_ranged u what r) tokens.old result (λ _. spec.net_name u what r) tokens.new }
+        → ReadsTokens (spec.net_ranged u what r) tokens.old result (λ _. spec.net_name u what r) tokens.new }
     ensures gate { (u : Under) (kind : gate_kinds) (at : ℕ)
-        → Reads (spec.gate_kind u kind at) tokens.old result (λ _. spec.gate_name u kind at) tokens.new }
+        → ReadsTokens (spec.gate_kind u kind at) tokens.old result (λ _. spec.gate_name u kind at) tokens.new }
     ensures instance { (u : Under) (d : word)
-        → Reads (spec.definition u d) tokens.old result (λ _. spec.instance_name u d) tokens.new }
-    ensures assign { (u : Under) → Reads (spec.assign u) tokens.old result (λ _. spec.expr_start (left u)) tokens.new }
+        → ReadsTokens (spec.definition u d) tokens.old result (λ _. spec.instance_name u d) tokens.new }
+    ensures assign { (u : Under) → ReadsTokens (spec.assign u) tokens.old result (λ _. spec.expr_start (left u)) tokens.new }
     ensures shortens { OnOk result (length tokens.new.tokens ≤ length tokens.old.tokens) }
 {
     if tokens.take(Fixed::Hash) {
@@ -70,7 +70,7 @@ pub fn may_delay(tokens: &mut Reader<'_>) -> Result<(), ParseErr>
 // delay = "#" int [ "." int ] | "#" "(" tokens ")", after its "#"
 #[tactic(auto, using(crate::proofs::Runs::reads_on, crate::proofs::Runs::no_fraction))]
 fn delay(tokens: &mut Reader<'_>) -> Result<(), ParseErr>
-    ensures reads { (k : Delayed) → Reads (spec.delay k) tokens.old result (λ _. after_delay k) tokens.new }
+    ensures reads { (k : Delayed) → ReadsTokens (spec.delay k) tokens.old result (λ _. after_delay k) tokens.new }
     ensures shortens { Shortens tokens.old result tokens.new }
 {
     if tokens.take(Fixed::Open) {
@@ -85,7 +85,7 @@ fn delay(tokens: &mut Reader<'_>) -> Result<(), ParseErr>
 
 /// Reads up to the parenthesis that closes one before.
 fn parenthesized(tokens: &mut Reader<'_>) -> Result<(), ParseErr>
-    ensures reads { (k : Delayed) → Reads (spec.in_delay k 0) tokens.old result (λ _. after_delay k) tokens.new }
+    ensures reads { (k : Delayed) → ReadsTokens (spec.in_delay k 0) tokens.old result (λ _. after_delay k) tokens.new }
     ensures shortens { Shortens tokens.old result tokens.new }
 {
     let _ = tokens.at();

@@ -10,7 +10,7 @@ ghost use Rattle.xr_netlist_grammar.specs.declared.fixed.Fixed.TheVariants as fi
 ghost use Rattle.xr_netlist_grammar.specs.declared.tree.PrimDeclare.{PrimDeclare as declares};
 ghost use Rattle.xr_netlist_grammar.specs.declared.tree.Source.{Source as source};
 ghost use Rattle.xr_netlist_grammar.specs.declared.tree.Word.{Word as word};
-ghost use Rattle.xr_netlist.specs.Reads.{Reads, Shortens};
+ghost use Rattle.xr_netlist.specs.Reads.{ReadsTokens, Shortens};
 
 use crate::reader::Reader;
 use std::alloc::{AllocError, Global};
@@ -26,7 +26,7 @@ pub fn rows(
     tokens: &mut Reader<'_>,
 ) -> Result<Vec<RawRow>, ParseErr>
     ensures reads { (b : source) (n : word) (ps : List word) (ds : List declares) → is_sequential ds ≡ sequential
-        → Reads (spec.first_row (within b n ps ds [])) tokens.old result
+        → ReadsTokens (spec.first_row (within b n ps ds [])) tokens.old result
         (λ rs. spec.primitive_end (within b n ps ds rs.items)) tokens.new }
     ensures shortens { Shortens tokens.old result tokens.new }
 {
@@ -42,7 +42,7 @@ pub fn rows(
 // row = entry { entry } ":" [ symbol ":" ] symbol ";"
 fn row(alloc: Global, sequential: bool, tokens: &mut Reader<'_>) -> Result<RawRow, ParseErr>
     ensures reads { (p : Within) → is_sequential p.declarations ≡ sequential
-        → Reads (spec.first_row p) tokens.old result (λ r. spec.in_rows (with_row p r)) tokens.new }
+        → ReadsTokens (spec.first_row p) tokens.old result (λ r. spec.in_rows (with_row p r)) tokens.new }
     ensures shortens { Shortens tokens.old result tokens.new }
 {
     let entries = entries(alloc, tokens)?;
@@ -58,7 +58,7 @@ fn row(alloc: Global, sequential: bool, tokens: &mut Reader<'_>) -> Result<RawRo
 
 // entry { entry } ":"
 fn entries(alloc: Global, tokens: &mut Reader<'_>) -> Result<Vec<Symbol>, ParseErr>
-    ensures reads { (p : Within) → Reads (spec.first_row p)
+    ensures reads { (p : Within) → ReadsTokens (spec.first_row p)
         tokens.old result (λ es. after_entries p es.items) tokens.new }
     ensures shortens { Shortens tokens.old result tokens.new }
 {
@@ -73,9 +73,9 @@ fn entries(alloc: Global, tokens: &mut Reader<'_>) -> Result<Vec<Symbol>, ParseE
 /// The symbols of one token, or a change.
 fn entry(tokens: &mut Reader<'_>, entries: &mut Vec<Symbol>) -> Result<(), ParseErr>
     ensures first { entries.old.items ≡ [] → (p : Within)
-        → Reads (spec.first_row p) tokens.old result (λ _. spec.in_row p entries.new.items) tokens.new }
+        → ReadsTokens (spec.first_row p) tokens.old result (λ _. spec.in_row p entries.new.items) tokens.new }
     ensures next { is_fixed fixed.Colon (head tokens.old).what ≡ false → (p : Within)
-        → Reads (spec.in_row p entries.old.items) tokens.old result (λ _. spec.in_row p entries.new.items) tokens.new }
+        → ReadsTokens (spec.in_row p entries.old.items) tokens.old result (λ _. spec.in_row p entries.new.items) tokens.new }
     ensures shortens { Shortens tokens.old result tokens.new }
 {
     if let Some((first, more)) = tokens.take_symbols() {
@@ -102,7 +102,7 @@ fn push_singles(entries: &mut Vec<Symbol>, first: u8, more: &[u8]) -> Result<(),
 // [ symbol ":" ], in a sequential primitive alone
 fn state(sequential: bool, tokens: &mut Reader<'_>) -> Result<Option<Symbol>, ParseErr>
     ensures reads { (p : Within) (es : List symbol) → is_sequential p.declarations ≡ sequential
-        → Reads (after_entries p es) tokens.old result (λ st. spec.row_output p es st) tokens.new }
+        → ReadsTokens (after_entries p es) tokens.old result (λ st. spec.row_output p es st) tokens.new }
     ensures shortens { OnOk result (length tokens.new.tokens ≤ length tokens.old.tokens) }
 {
     if !sequential {
@@ -117,9 +117,9 @@ fn state(sequential: bool, tokens: &mut Reader<'_>) -> Result<Option<Symbol>, Pa
 #[tactic(auto, using(crate::proofs::Runs::reads_on))]
 fn column(tokens: &mut Reader<'_>) -> Result<Symbol, ParseErr>
     ensures state { (p : Within) (es : List symbol)
-        → Reads (spec.row_state p es) tokens.old result (λ s. spec.after_state p es s) tokens.new }
+        → ReadsTokens (spec.row_state p es) tokens.old result (λ s. spec.after_state p es s) tokens.new }
     ensures output { (p : Within) (es : List symbol) (st : Option symbol)
-        → Reads (spec.row_output p es st) tokens.old result (λ s. spec.after_output_symbol p es st s) tokens.new }
+        → ReadsTokens (spec.row_output p es st) tokens.old result (λ s. spec.after_output_symbol p es st s) tokens.new }
     ensures shortens { Shortens tokens.old result tokens.new }
 {
     if let Some(byte) = tokens.take_symbol() {
@@ -131,7 +131,7 @@ fn column(tokens: &mut Reader<'_>) -> Result<Symbol, ParseErr>
 
 // change = "(" byte byte ")", after its "("
 fn change(tokens: &mut Reader<'_>) -> Result<Symbol, ParseErr>
-    ensures reads { (k : Column) → Reads (spec.change_first k) tokens.old result (λ s. after_symbol k s) tokens.new }
+    ensures reads { (k : Column) → ReadsTokens (spec.change_first k) tokens.old result (λ s. after_symbol k s) tokens.new }
     ensures shortens { Shortens tokens.old result tokens.new }
 {
     let (first, second) = two_symbols(tokens)?;
@@ -141,7 +141,7 @@ fn change(tokens: &mut Reader<'_>) -> Result<Symbol, ParseErr>
 
 /// Two bytes, in one token or two.
 fn two_symbols(tokens: &mut Reader<'_>) -> Result<(u8, u8), ParseErr>
-    ensures reads { (k : Column) → Reads (spec.change_first k)
+    ensures reads { (k : Column) → ReadsTokens (spec.change_first k)
         tokens.old result (λ p. spec.change_close k p.0 p.1) tokens.new }
     ensures shortens { Shortens tokens.old result tokens.new }
 {

@@ -9,7 +9,7 @@ use Rattle.xr_cell.specs.declared.symbol.Symbol.TheVariants.{Change}
 use Rattle.xr_cell.specs.declared.value.Value.{Value}
 use Rattle.xr_netlist_grammar.specs.Numbers.{int_of, bit_of, literal_of}
 use Rattle.xr_netlist_grammar.specs.Lexemes.{Lexeme, gate, named, TokenAt, token_at, ending, is_fixed, gate_kind_of}
-use Rattle.xr_netlist_grammar.specs.Lexemes.{name_of, int_at, bit_at, literal_at, symbols_of, is_left_out}
+use Rattle.xr_netlist_grammar.specs.Lexemes.{named_word, int_at, bit_at, literal_at, symbols_of, is_left_out}
 use Rattle.xr_netlist_grammar.specs.Trees.{Range, whole_part, bit_part, slice_part, expr_of, declares, declare_of}
 use Rattle.xr_netlist_grammar.specs.Trees.{gate_of, instance_of, connection_of, named_of, nothing, joined, one_module}
 use Rattle.xr_netlist_grammar.specs.Trees.{one_primitive, prim_declare, is_sequential, row_of, takes_value, Under}
@@ -513,24 +513,24 @@ module _ (tree : Source) where
       → (quote t.at f ≡ t → From s ts → G) → (FromNext other ts → G) → FromNext (on f t s other) ts → G
   on_from_g f t s other ts G x y h = on_else_at (λ u. u ≡ t → G) f t s other ts (λ z e. x e z) (λ e z r. y z) (is_fixed f t.what) refl h refl
 
-  name_is : (t : TokenAt) (w : Word) → name_of t ≡ Some w → name w ≡ t
+  name_is : (t : TokenAt) (w : Word) → named_word t ≡ Some w → name w ≡ t
   name_is t w e = let f = found_name t.at t.what w e in rw (f.1, f.0) refl
 
   name_at_from : (G : TokenAt → Type 0) (t : TokenAt) (f : Word → State) (other : Next) (ts : List TokenAt)
       → ((w : Word) → name w ≡ t → From (f w) ts → G (name w)) → (FromNext other ts → G t)
-      → (o : Option Word) → name_of t ≡ o → FromNext (on_some o f other) ts → G t
+      → (o : Option Word) → named_word t ≡ o → FromNext (on_some o f other) ts → G t
   name_at_from G t f other ts x y (Some w) e h = subst G (name_is t w e) (x w (name_is t w e) h)
   name_at_from G t f other ts x y None e h = y h
 
   name_from_is : (G : TokenAt → Type 0) (t : TokenAt) (f : Word → State) (other : Next) (ts : List TokenAt)
       → ((w : Word) → name w ≡ t → From (f w) ts → G (name w)) → (FromNext other ts → G t)
-      → FromNext (on_some (name_of t) f other) ts → G t
-  name_from_is G t f other ts x y h = name_at_from G t f other ts x y (name_of t) refl h
+      → FromNext (on_some (named_word t) f other) ts → G t
+  name_from_is G t f other ts x y h = name_at_from G t f other ts x y (named_word t) refl h
 
   name_from : (G : TokenAt → Type 0) (t : TokenAt) (f : Word → State) (other : Next) (ts : List TokenAt)
       → ((w : Word) → From (f w) ts → G (name w)) → (FromNext other ts → G t)
-      → FromNext (on_some (name_of t) f other) ts → G t
-  name_from G t f other ts x y h = name_at_from G t f other ts (λ w e. x w) y (name_of t) refl h
+      → FromNext (on_some (named_word t) f other) ts → G t
+  name_from G t f other ts x y h = name_at_from G t f other ts (λ w e. x w) y (named_word t) refl h
 
   number_at_from : {X : Type 0} (of : List ℕ → Option X) (reads : Lexeme → Option X)
       → ((l : Lexeme) (x : X) → reads l ≡ Some x → Digits of l x)

@@ -21,7 +21,7 @@ use Rattle.xr_netlist_grammar.specs.declared.tree.PrimDeclare.{PrimDeclare}
 use Rattle.xr_netlist_grammar.specs.declared.tree.Source.{Source}
 use Rattle.xr_cell.specs.declared.value.Value.TheVariants.{Zero}
 use Rattle.std.proofs.lemmas.List.{append-nil}
-use Rattle.xr_netlist_grammar.specs.Lexemes.{Lexeme, TokenAt, token_at, ending, is_fixed, gate_kind_of, name_of, int_at}
+use Rattle.xr_netlist_grammar.specs.Lexemes.{Lexeme, TokenAt, token_at, ending, is_fixed, gate_kind_of, named_word, int_at}
 use Rattle.xr_netlist_grammar.specs.Lexemes.{bit_at, literal_at, symbols_of, is_left_out, fault_of, word_at}
 use Rattle.xr_netlist_grammar.specs.Trees.{Range, whole_part, prim_declare, is_sequential, takes_value, nothing, Under, Within, within, with_declare, with_pin}
 use Rattle.xr_netlist_grammar.specs.Machine.{State, State as at, Place, Ranged, Delayed, Context, Column, Next, on}
@@ -464,19 +464,19 @@ few_bytes t (b ∷ c ∷ []) f g other h = tt
 few_bytes t (b ∷ c ∷ d ∷ bs) f g other h = h
 
 only_port : (u : Under) (what : NetKind) (r : Range) (t : TokenAt) → OnlyOf t (port_step u what r t)
-only_port u what r t = test fixed.Wire t _ _ (test fixed.SquareOpen t _ _ (found t (name_of t) _ _ refl))
+only_port u what r t = test fixed.Wire t _ _ (test fixed.SquareOpen t _ _ (found t (named_word t) _ _ refl))
 
 only_gate : (u : Under) (kind : GateKind) (p : ℕ) (t : TokenAt) → OnlyOf t (gate_name_step u kind p t)
-only_gate u kind p t = test fixed.Open t _ _ (found t (name_of t) _ _ refl)
+only_gate u kind p t = test fixed.Open t _ _ (found t (named_word t) _ _ refl)
 
 only_instance : (u : Under) (d : Word) (t : TokenAt) → OnlyOf t (instance_name_step u d t)
-only_instance u d t = test fixed.Open t _ _ (found t (name_of t) _ _ refl)
+only_instance u d t = test fixed.Open t _ _ (found t (named_word t) _ _ refl)
 
 only_expr : (k : Context) (p d : ℕ) (ps : List Part) (t : TokenAt) → OnlyOf t (expr_step k p d ps t)
-only_expr k p d ps t = test fixed.BraceOpen t _ _ (found t (name_of t) _ _ (found t (literal_at t.what) _ _ refl))
+only_expr k p d ps t = test fixed.BraceOpen t _ _ (found t (named_word t) _ _ (found t (literal_at t.what) _ _ refl))
 
 only_after_delay : (k : Delayed) (t : TokenAt) → OnlyOf t (after_delay_step k t)
-only_after_delay (net_delay u what r) t = found t (name_of t) _ _ refl
+only_after_delay (net_delay u what r) t = found t (named_word t) _ _ refl
 only_after_delay (gate_delay u kind p) t = only_gate u kind p t
 only_after_delay (instance_delay u d) t = only_instance u d t
 only_after_delay (assign_delay u) t = only_expr (left u) t.at 0 [] t
@@ -492,9 +492,9 @@ only_after (connected_to u d n cs w) p zero ps t = test fixed.Close t _ _ refl
 
 -- at the start of an item, where the token isn't left out
 items_at : (t : TokenAt) (u : Under) (b : Bool) → b ≡ false
-    → OnlyOf t (cond b (Err (OutOfProfile t.at)) (on_some (name_of t) (λ w. at.definition u w) (Err (fault_of t))))
+    → OnlyOf t (cond b (Err (OutOfProfile t.at)) (on_some (named_word t) (λ w. at.definition u w) (Err (fault_of t))))
 items_at t u true e = absurd cc
-items_at t u false e = found t (name_of t) _ _ refl
+items_at t u false e = found t (named_word t) _ _ refl
 
 only_items : (u : Under) (t : TokenAt) → is_left_out t.what ≡ false → OnlyOf t (step (at.in_items u) t)
 only_items u t e =
@@ -524,14 +524,14 @@ only (at.top b) t = test fixed.Module t _ _ (test fixed.Primitive t _ _ (test fi
 only (at.attr_open k) t = test fixed.Star t _ _ (refl)
 only (at.in_attr k) t = test fixed.Star t _ _ (tt)
 only (at.attr_star k) t = test fixed.Close t _ _ (test fixed.Star t _ _ (tt))
-only (at.module_name b) t = found t (name_of t) _ _ (refl)
+only (at.module_name b) t = found t (named_word t) _ _ (refl)
 only (at.after_name b n) t = test fixed.Open t _ _ (test fixed.Semi t _ _ (refl))
-only (at.first_port b n) t = test fixed.Close t _ _ (test fixed.Input t _ _ (test fixed.Output t _ _ (found t (name_of t) _ _ (refl))))
-only (at.port b n ps) t = found t (name_of t) _ _ (refl)
+only (at.first_port b n) t = test fixed.Close t _ _ (test fixed.Input t _ _ (test fixed.Output t _ _ (found t (named_word t) _ _ (refl))))
+only (at.port b n ps) t = found t (named_word t) _ _ (refl)
 only (at.after_port b n ps) t = test fixed.Comma t _ _ (test fixed.Close t _ _ (refl))
 only (at.port_direction u what r) t = only_port u what r t
-only (at.port_wire u what r) t = test fixed.SquareOpen t _ _ (found t (name_of t) _ _ (refl))
-only (at.port_name u what r) t = found t (name_of t) _ _ (refl)
+only (at.port_wire u what r) t = test fixed.SquareOpen t _ _ (found t (named_word t) _ _ (refl))
+only (at.port_name u what r) t = found t (named_word t) _ _ (refl)
 only (at.after_declared_port u what r) t = test fixed.Comma t _ _ (test fixed.Close t _ _ (refl))
 only (at.declared_port u what r) t = test fixed.Input t _ _ (test fixed.Output t _ _ (only_port u what r t))
 only (at.head_end u) t = test fixed.Semi t _ _ (refl)
@@ -544,13 +544,13 @@ only (at.delay k) t = test fixed.Open t _ _ (found t (int_at t.what) _ _ (refl))
 only (at.delay_number k) t = test fixed.Dot t _ _ (only_after_delay k t)
 only (at.delay_fraction k) t = found t (int_at t.what) _ _ (refl)
 only (at.in_delay k d) t = test fixed.Close t _ _ (test fixed.Open t _ _ (tt))
-only (at.direction u what) t = test fixed.Wire t _ _ (test fixed.SquareOpen t _ _ (found t (name_of t) _ _ (refl)))
-only (at.direction_wire u what) t = test fixed.SquareOpen t _ _ (found t (name_of t) _ _ (refl))
-only (at.declared_name u what r) t = found t (name_of t) _ _ (refl)
+only (at.direction u what) t = test fixed.Wire t _ _ (test fixed.SquareOpen t _ _ (found t (named_word t) _ _ (refl)))
+only (at.direction_wire u what) t = test fixed.SquareOpen t _ _ (found t (named_word t) _ _ (refl))
+only (at.declared_name u what r) t = found t (named_word t) _ _ (refl)
 only (at.after_declared u what r) t = test fixed.Comma t _ _ (test fixed.Semi t _ _ (refl))
-only (at.net_kind u what) t = test fixed.SquareOpen t _ _ (test fixed.Hash t _ _ (found t (name_of t) _ _ (refl)))
-only (at.net_ranged u what r) t = test fixed.Hash t _ _ (found t (name_of t) _ _ (refl))
-only (at.net_name u what r) t = found t (name_of t) _ _ (refl)
+only (at.net_kind u what) t = test fixed.SquareOpen t _ _ (test fixed.Hash t _ _ (found t (named_word t) _ _ (refl)))
+only (at.net_ranged u what r) t = test fixed.Hash t _ _ (found t (named_word t) _ _ (refl))
+only (at.net_name u what r) t = found t (named_word t) _ _ (refl)
 only (at.after_net u what r w) t = test fixed.Comma t _ _ (test fixed.Semi t _ _ (when t (takes_value what) _ _ (test fixed.Equals t _ _ refl) (refl)))
 only (at.gate_kind u kind p) t = test fixed.Hash t _ _ (only_gate u kind p t)
 only (at.gate_name u kind p) t = only_gate u kind p t
@@ -562,7 +562,7 @@ only (at.instance_open u d n) t = test fixed.Open t _ _ (refl)
 only (at.connections u d n) t = test fixed.Close t _ _ (test fixed.Comma t _ _ (test fixed.Dot t _ _ (only_expr (connected u d n []) t.at 0 [] t)))
 only (at.connection u d n cs) t = test fixed.Close t _ _ (test fixed.Comma t _ _ (only_expr (connected u d n cs) t.at 0 [] t))
 only (at.connection_dot u d n cs) t = test fixed.Dot t _ _ (refl)
-only (at.connection_port u d n cs) t = found t (name_of t) _ _ (refl)
+only (at.connection_port u d n cs) t = found t (named_word t) _ _ (refl)
 only (at.connection_open u d n cs p) t = test fixed.Open t _ _ (refl)
 only (at.connection_value u d n cs p) t = test fixed.Close t _ _ (only_expr (connected_to u d n cs p) t.at 0 [] t)
 only (at.after_connection u d n cs) t = test fixed.Comma t _ _ (test fixed.Close t _ _ (refl))
@@ -577,28 +577,28 @@ only (at.select_end k p d ps w n) t = found t (int_at t.what) _ _ (refl)
 only (at.select_close k p d ps w n m) t = test fixed.SquareClose t _ _ (refl)
 only (at.after_part k p d ps) t = only_after k p d ps t
 only (at.in_specify u) t = test fixed.Endspecify t _ _ (tt)
-only (at.primitive_name b) t = found t (name_of t) _ _ (refl)
+only (at.primitive_name b) t = found t (named_word t) _ _ (refl)
 only (at.primitive_open b n) t = test fixed.Open t _ _ (refl)
-only (at.first_pin b n) t = test fixed.Output t _ _ (found t (name_of t) _ _ (refl))
-only (at.pin b n ps) t = found t (name_of t) _ _ (refl)
+only (at.first_pin b n) t = test fixed.Output t _ _ (found t (named_word t) _ _ (refl))
+only (at.pin b n ps) t = found t (named_word t) _ _ (refl)
 only (at.after_pin b n ps) t = test fixed.Comma t _ _ (test fixed.Close t _ _ (refl))
-only (at.output_pin b n) t = test fixed.Reg t _ _ (found t (name_of t) _ _ (refl))
-only (at.output_name b n) t = found t (name_of t) _ _ (refl)
+only (at.output_pin b n) t = test fixed.Reg t _ _ (found t (named_word t) _ _ (refl))
+only (at.output_name b n) t = found t (named_word t) _ _ (refl)
 only (at.after_output p w) t = test fixed.Equals t _ _ (test fixed.Comma t _ _ (refl))
 only (at.output_bit p w) t = found t (bit_at t.what) _ _ (refl)
 only (at.output_comma p) t = test fixed.Comma t _ _ (refl)
 only (at.first_input p) t = test fixed.Input t _ _ (refl)
-only (at.input_name p) t = found t (name_of t) _ _ (refl)
-only (at.input_pin p) t = test fixed.Input t _ _ (found t (name_of t) _ _ (refl))
+only (at.input_name p) t = found t (named_word t) _ _ (refl)
+only (at.input_pin p) t = test fixed.Input t _ _ (found t (named_word t) _ _ (refl))
 only (at.after_input p) t = test fixed.Comma t _ _ (test fixed.Close t _ _ (refl))
 only (at.primitive_head_end p) t = test fixed.Semi t _ _ (refl)
 only (at.in_primitive p) t = test fixed.Output t _ _ (test fixed.Reg t _ _ (test fixed.Input t _ _ (test fixed.Initial t _ _ (test fixed.Table t _ _ (refl)))))
-only (at.output_declared p) t = test fixed.Reg t _ _ (found t (name_of t) _ _ (refl))
-only (at.output_reg p) t = found t (name_of t) _ _ (refl)
-only (at.reg_declared p) t = found t (name_of t) _ _ (refl)
-only (at.input_declared p) t = found t (name_of t) _ _ (refl)
+only (at.output_declared p) t = test fixed.Reg t _ _ (found t (named_word t) _ _ (refl))
+only (at.output_reg p) t = found t (named_word t) _ _ (refl)
+only (at.reg_declared p) t = found t (named_word t) _ _ (refl)
+only (at.input_declared p) t = found t (named_word t) _ _ (refl)
 only (at.after_input_declared p) t = test fixed.Comma t _ _ (test fixed.Semi t _ _ (refl))
-only (at.initial_declared p) t = found t (name_of t) _ _ (refl)
+only (at.initial_declared p) t = found t (named_word t) _ _ (refl)
 only (at.initial_equals p w) t = test fixed.Equals t _ _ (refl)
 only (at.initial_bit p w) t = found t (bit_at t.what) _ _ (refl)
 only (at.declared_semi p) t = test fixed.Semi t _ _ (refl)

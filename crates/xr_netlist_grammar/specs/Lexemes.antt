@@ -179,8 +179,8 @@ abbrev pub name_at : ℕ → Lexeme → Option Word
 name_at at (named text escaped) = Some (word_at at text escaped)
 name_at at _ = None
 
-abbrev pub name_of : TokenAt → Option Word
-name_of t = name_at t.at t.what
+abbrev pub named_word : TokenAt → Option Word
+named_word t = name_at t.at t.what
 
 abbrev pub int_at : Lexeme → Option ℕ
 int_at (number text) = int_of text

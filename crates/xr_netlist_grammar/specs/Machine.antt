@@ -3,7 +3,7 @@ use Rattle.std.specs.Prelude.{◌≡◌, ◌≢◌, ℕ, zero, suc, List, [], �
 use Rattle.xr_cell.specs.declared.value.Value.{Value}
 use Rattle.xr_cell.specs.declared.symbol.Symbol.{Symbol}
 use Rattle.xr_cell.specs.declared.symbol.Symbol.TheVariants.{Single, Change}
-use Rattle.xr_netlist_grammar.specs.Lexemes.{Lexeme, ending, TokenAt, TokenStream, is_fixed, gate_kind_of, name_of}
+use Rattle.xr_netlist_grammar.specs.Lexemes.{Lexeme, ending, TokenAt, TokenStream, is_fixed, gate_kind_of, named_word}
 use Rattle.xr_netlist_grammar.specs.Lexemes.{int_at, bit_at, literal_at, symbols_of, is_left_out, fault_of}
 use Rattle.xr_netlist_grammar.specs.Trees.{Range, whole_part, bit_part, slice_part, literal_part, expr_of, declares}
 use Rattle.xr_netlist_grammar.specs.Trees.{declare_of, gate_of, instance_of, connection_of, no_connection, named_of}
@@ -181,7 +181,7 @@ on_some (Some x) f otherwise = Ok (f x)
 on_some None f otherwise = otherwise
 
 abbrev pub on_name : TokenAt → (Word → State) → Next → Next
-on_name t f otherwise = on_some (name_of t) f otherwise
+on_name t f otherwise = on_some (named_word t) f otherwise
 
 abbrev pub on_int : TokenAt → (ℕ → State) → Next → Next
 on_int t f otherwise = on_some (int_at t.what) f otherwise
@@ -525,10 +525,10 @@ abbrev pub parse_of : TokenStream → Result Source ParseErr
 parse_of w = goes (top nothing) w
 
 -- the refusal, unless there was no memory
-abbrev pub Refuses : Result Source ParseErr → ParseErr → Type 0
-Refuses r e = e ≢ Memory → r ≡ Err e
+abbrev pub RefusesNetlist : Result Source ParseErr → ParseErr → Type 0
+RefusesNetlist r e = e ≢ Memory → r ≡ Err e
 
 -- what a reader answers, by the run
 abbrev pub Answers : Result Source ParseErr → TokenStream → Type 0
 Answers (Ok s) w = parse_of w ≡ Ok s
-Answers (Err e) w = Refuses (parse_of w) e
+Answers (Err e) w = RefusesNetlist (parse_of w) e

@@ -20,7 +20,7 @@ use Rattle.xr_order.specs.declared.readers.Link.{Link}
 use Rattle.xr_order.specs.declared.readers.Readers.{Readers}
 use Rattle.xr_order.specs.Progress.{flag_at, first_open, open_pin, can_come, Offers}
 use Rattle.xr_order.specs.Pending.{Pending, rest_of}
-use Rattle.xr_order.specs.Readers.{no_link, link_at, head_at, InChain, here, there, IsTable, AreReaders, Adds, AddsTo}
+use Rattle.xr_order.specs.Readers.{no_link, link_at, head_at, InChain, here, there, IsReaderLinks, AreReaders, Adds, AddsTo}
 use Rattle.xr_order.proofs.Finds.{contains_cases, contains_none}
 
 link_before : (links : List Link) (l : Link) (e : ℕ) → e < length links → link_at (links ++ l ∷ []) e ≡ link_at links e
@@ -49,7 +49,7 @@ head_same heads a v lt = get_or-set_same heads a v None lt
 head_other : (heads : List (Option ℕ)) (a q : ℕ) (v : Option ℕ) → q ≢ a → head_at (slice_set heads a v) q ≡ head_at heads q
 head_other heads a q v ne = get_or-set_other heads a q v None ne
 
-pub adds_one : (heads : List (Option ℕ)) (links : List Link) (a n : ℕ) → IsTable (length heads) heads links → n < length heads → a < length heads → Adds heads links (slice_set heads a (Some (length links))) (links ++ (record { reader = n; next = head_at heads a }) ∷ []) (a ∷ []) n
+pub adds_one : (heads : List (Option ℕ)) (links : List Link) (a n : ℕ) → IsReaderLinks (length heads) heads links → n < length heads → a < length heads → Adds heads links (slice_set heads a (Some (length links))) (links ++ (record { reader = n; next = head_at heads a }) ∷ []) (a ∷ []) n
 adds_one heads links a n table n_in a_in =
     let l : Link = record { reader = n; next = head_at heads a } in
     let long : length (links ++ l ∷ []) ≡ length links + 1 = longer links l in
@@ -83,12 +83,12 @@ adds_one heads links a n table n_in a_in =
           subst (λ o. InChain (links ++ l ∷ []) o n) (sym top ∙ ap (head_at (slice_set heads a (Some (length links)))) same) first;
     }
 
-pub adds_none : (heads : List (Option ℕ)) (links : List Link) (n : ℕ) → IsTable (length heads) heads links → Adds heads links heads links [] n
+pub adds_none : (heads : List (Option ℕ)) (links : List Link) (n : ℕ) → IsReaderLinks (length heads) heads links → Adds heads links heads links [] n
 adds_none heads links n table = record { table = table; keeps = λ a m h. h; added = λ a c. absurd (contains_none a c) }
 
 pub adds_then : (h0 : List (Option ℕ)) (l0 : List Link) (h1 : List (Option ℕ)) (l1 : List Link) (h2 : List (Option ℕ)) (l2 : List Link) (xs ys : List ℕ) (n : ℕ) → Adds h0 l0 h1 l1 xs n → Adds h1 l1 h2 l2 ys n → Adds h0 l0 h2 l2 (xs ++ ys) n
 adds_then h0 l0 h1 l1 h2 l2 xs ys n first second = record {
-  table = subst (λ w. IsTable w h2 l2) first.table.long second.table;
+  table = subst (λ w. IsReaderLinks w h2 l2) first.table.long second.table;
   keeps = λ a m chain. second.keeps a m (first.keeps a m chain);
   added = λ a c. elim (Contains-append_cases xs ys a c) as (λ _. InChain l2 (head_at h2 a) n) [
     | inl d ↦ second.keeps a n (first.added a d)
@@ -120,14 +120,14 @@ readers_more driver old new n before adds net argument within c = elim (last_or 
   | inr e ↦ subst (λ k. InChain new.links.items (head_at new.heads.items argument) k) (sym e) (adds.added argument (subst (λ k. Contains (arguments_of_driver (driver k)) argument) e c))
 ]
 
-pub adds_by : (heads new_heads : List (Option ℕ)) (links new_links : List Link) (a n k : ℕ) (next : Option ℕ) → IsTable (length heads) heads links → n < length heads → a < length heads → k ≡ length links → next ≡ head_at heads a → new_heads ≡ slice_set heads a (Some k) → new_links ≡ links ++ (record { reader = n; next = next }) ∷ [] → Adds heads links new_heads new_links (a ∷ []) n
+pub adds_by : (heads new_heads : List (Option ℕ)) (links new_links : List Link) (a n k : ℕ) (next : Option ℕ) → IsReaderLinks (length heads) heads links → n < length heads → a < length heads → k ≡ length links → next ≡ head_at heads a → new_heads ≡ slice_set heads a (Some k) → new_links ≡ links ++ (record { reader = n; next = next }) ∷ [] → Adds heads links new_heads new_links (a ∷ []) n
 adds_by heads new_heads links new_links a n k next table n_in a_in k_is next_is heads_are links_are =
     let h = heads_are ∙ ap (λ i. slice_set heads a (Some i)) k_is in
     let l = links_are ∙ ap (λ (o : Option ℕ). links ++ (let link : Link = record { reader = n; next = o } in link) ∷ []) next_is in
     subst (λ hs. Adds heads links hs new_links (a ∷ []) n) (sym h) (subst (λ ls. Adds heads links (slice_set heads a (Some (length links))) ls (a ∷ []) n) (sym l) (adds_one heads links a n table n_in a_in))
 
-pub adds_table : (heads new_heads : List (Option ℕ)) (links new_links : List Link) (arguments : List ℕ) (n : ℕ) → Adds heads links new_heads new_links arguments n → IsTable (length new_heads) new_heads new_links
-adds_table heads new_heads links new_links arguments n adds = subst (λ w. IsTable w new_heads new_links) (sym adds.table.long) adds.table
+pub adds_table : (heads new_heads : List (Option ℕ)) (links new_links : List Link) (arguments : List ℕ) (n : ℕ) → Adds heads links new_heads new_links arguments n → IsReaderLinks (length new_heads) new_heads new_links
+adds_table heads new_heads links new_links arguments n adds = subst (λ w. IsReaderLinks w new_heads new_links) (sym adds.table.long) adds.table
 
 pub pins_from : (pins : List Pin) (i : ℕ) (d : Pin) → i < length pins → net_pins (drop i pins) ≡ open_pin (slice_index_or pins i d) ++ net_pins (drop (i + 1) pins)
 pins_from [] i d lt = absurd (omega arith)
@@ -160,7 +160,7 @@ new_table n net e h = elim (cases_lt net n) as (λ _. ⊥) [
   | inr ge ↦ (let f = sym (get_or_past (replicate n None) net None (omega (arith, length-replicate {A = Option ℕ} n None))) ∙ h in let no : None ≡ Some e = f in cc)
 ]
 
-pub no_readers : (driver : ℕ → Driver) (n : ℕ) (readers : Readers) → readers.heads.items ≡ replicate n None → readers.links.items ≡ [] → IsTable n readers.heads.items readers.links.items
+pub no_readers : (driver : ℕ → Driver) (n : ℕ) (readers : Readers) → readers.heads.items ≡ replicate n None → readers.links.items ≡ [] → IsReaderLinks n readers.heads.items readers.links.items
 no_readers driver n readers heads_are links_are = record {
   long = ap length heads_are ∙ length-replicate {A = Option ℕ} n None;
   head = λ net e h. absurd (new_table n net e (sym (ap (λ hs. head_at hs net) heads_are) ∙ h));

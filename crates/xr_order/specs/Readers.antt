@@ -20,14 +20,14 @@ pub data InChain (links : List Link) : Option ℕ → ℕ → Type 0 where
   there : (e net : ℕ) → e < length links → InChain links (link_at links e).next net → InChain links (Some e) net
 
 -- Links lead back, and each has a net as reader.
-pub record IsTable (width : ℕ) (heads : List (Option ℕ)) (links : List Link) : Type 0 where
+pub record IsReaderLinks (width : ℕ) (heads : List (Option ℕ)) (links : List Link) : Type 0 where
   pub long : length heads ≡ width
   pub head : (net e : ℕ) → head_at heads net ≡ Some e → e < length links
   pub back : (e f : ℕ) → e < length links → (link_at links e).next ≡ Some f → f < e
   pub reader : (e : ℕ) → e < length links → (link_at links e).reader < width
 
 abbrev pub IsTableOf : ℕ → Readers → Type 0
-IsTableOf width readers = IsTable width readers.heads.items readers.links.items
+IsTableOf width readers = IsReaderLinks width readers.heads.items readers.links.items
 
 -- Each of the first nets stands among the readers of each of its arguments.
 abbrev pub AreReaders : (ℕ → Driver) → ℕ → Readers → Type 0
@@ -36,7 +36,7 @@ AreReaders driver end readers =
 
 -- A net is a reader of some nets more, and who read before reads still.
 pub record Adds (heads : List (Option ℕ)) (links : List Link) (new_heads : List (Option ℕ)) (new_links : List Link) (arguments : List ℕ) (net : ℕ) : Type 0 where
-  pub table : IsTable (length heads) new_heads new_links
+  pub table : IsReaderLinks (length heads) new_heads new_links
   pub keeps : (argument reader : ℕ) → InChain links (head_at heads argument) reader → InChain new_links (head_at new_heads argument) reader
   pub added : (argument : ℕ) → Contains arguments argument → InChain new_links (head_at new_heads argument) net
 

@@ -43,11 +43,11 @@ range_text None = []
 range_text (Some range) = codes " [" ++ decimal range.0 ++ (if range.0 == range.1 then [] else codes ":" ++ decimal range.1) ++ codes "]"
 
 -- a variable has the own name of the net of its first bit
-abbrev pub name_of : Design → Bound → List ℕ
-name_of design b = own_name (name_in design (slice_index b.bits 0)).parts
+abbrev pub bound_name : Design → Bound → List ℕ
+bound_name design b = own_name (name_in design (slice_index b.bits 0)).parts
 
 abbrev pub variable_line : Design → ℕ → Bound → List ℕ
-variable_line design number b = line (codes "$var wire " ++ decimal (length b.bits) ++ codes " " ++ code_of number ++ codes " " ++ name_of design b ++ range_text b.range ++ codes " $end")
+variable_line design number b = line (codes "$var wire " ++ decimal (length b.bits) ++ codes " " ++ code_of number ++ codes " " ++ bound_name design b ++ range_text b.range ++ codes " $end")
 
 -- The variables from one on, each behind the way to its scope from the present one; at the end every scope is left.
 abbrev pub declaration_lines : Design → Path → ℕ → List Bound → List ℕ

@@ -7,7 +7,7 @@ use Rattle.xr_match.specs.declared.binding.Bound.{Bound}
 use Rattle.xr_replay.specs.Fault.{no_variable}
 use Rattle.xr_replay.specs.Watched.{AreBitReaders}
 use Rattle.xr_replay_due.specs.Due.{is_due}
-use Rattle.xr_replay_due.specs.Readers.{IsTable, ReadersView, readers_of}
+use Rattle.xr_replay_due.specs.Readers.{IsReaderTable, ReadersView, readers_of}
 use Rattle.xr_out.specs.Moments.{are_same, letter_at}
 use Rattle.xr_out.specs.declared.readers.BitReaders.{BitReaders}
 
@@ -15,7 +15,7 @@ use Rattle.xr_out.specs.declared.readers.BitReaders.{BitReaders}
 pub record FitsReaders (nets : ℕ) (readers : BitReaders) : Type 0 where
   pub small : readers.room ≤ 2 ^ 20
   pub inside : nets ≤ readers.room
-  pub table : IsTable readers.room readers.table
+  pub table : IsReaderTable readers.room readers.table
 
 -- They have each bit of a binding.
 pub record AreReadersOf (nets : ℕ) (binding : Binding) (readers : BitReaders) : Type 0 where

@@ -132,7 +132,7 @@ pub record Found : Type 0 where
   pub wave : Contents
   pub shown : HistoryView
 
-pub record IsFound (limits : Limits) (n : ANetlist) (r : Recorded) (found : Found) : Type 0 where
+pub record IsFoundRepair (limits : Limits) (n : ANetlist) (r : Recorded) (found : Found) : Type 0 where
   pub fits : FitsJob n r
   pub times : HasSmallTimes r.stim
   pub replay : IsReplay (job_for n r) found.history
@@ -179,5 +179,5 @@ CompareComes n r (Err e) = IsRefusedReplay n r e
 
 -- The search comes to a wave, or to an objection.
 abbrev pub WalkComes : Limits → ANetlist → Recorded → Result Found Objection → Type 0
-WalkComes limits n r (Ok found) = IsFound limits n r found
+WalkComes limits n r (Ok found) = IsFoundRepair limits n r found
 WalkComes limits n r (Err objection) = IsObjectionIn limits n r.stim objection

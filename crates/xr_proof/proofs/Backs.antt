@@ -1,7 +1,7 @@
 -- What leads back, step by step.
 use Rattle.std.proofs.Common.{◌≡◌, Bool, true, List, ap, sym, ◌∙◌, refl, subst}
 use Rattle.std.specs.Prelude.{ℤ}
-use Rattle.xr_proof.specs.Code.{code_of, is_false, IsWithin}
+use Rattle.xr_proof.specs.Code.{code_of, is_false, IsMarkedWithin}
 use Rattle.xr_proof.specs.Guard.{AreSafe, Watches}
 use Rattle.xr_proof.specs.Propagator.{LeadsBack}
 use Rattle.xr_proof.specs.Trail.{StaysOver}
@@ -11,7 +11,7 @@ use Rattle.xr_proof.specs.declared.trail.Trail.{Trail}
 use Rattle.xr_proof.proofs.Trails.{over_none}
 
 -- watches that served marks serve them still
-pub serves_back : (old new : Propagator) (clauses : List (List ℤ)) → LeadsBack old new clauses → (base : List Bool) → IsWithin base (is_false old.trail.marks.items)
+pub serves_back : (old new : Propagator) (clauses : List (List ℤ)) → LeadsBack old new clauses → (base : List Bool) → IsMarkedWithin base (is_false old.trail.marks.items)
     → Watches old.watch base clauses → Watches new.watch base clauses
 serves_back old new clauses back base within serve on = record {
   laced = back.laced on;
@@ -19,7 +19,7 @@ serves_back old new clauses back base within serve on = record {
 }
 
 -- marks that the trail was over are still on it
-pub marks_stay : (old new : Trail) → StaysOver old new → IsWithin old.marks.items (is_false new.marks.items)
+pub marks_stay : (old new : Trail) → StaysOver old new → IsMarkedWithin old.marks.items (is_false new.marks.items)
 marks_stay old new over l on = (over old.marks.items old.len (over_none old)).kept (code_of l) on
 
 pub leads_none : (p : Propagator) (clauses : List (List ℤ)) → (p.watch.on ≡ true → IsLaced p.watch clauses 0 0) → LeadsBack p p clauses

@@ -2,7 +2,7 @@
 use Rattle.std.specs.Prelude.{◌≡◌, ◌≤◌, ◌<◌, ◌⊎◌, ℕ, Bool, true, false, List, length, ℤ, neg_ℤ}
 use Rattle.std.specs.List.{All, Contains}
 use Rattle.xr_proof.specs.Closed.{IsQuiet, IsFalse}
-use Rattle.xr_proof.specs.Code.{code_of, is_false, IsConsistent, IsWithin}
+use Rattle.xr_proof.specs.Code.{code_of, is_false, IsConsistent, IsMarkedWithin}
 use Rattle.xr_proof.specs.Log.{clause_at}
 use Rattle.xr_proof.specs.Status.{IsOnlyOpen, literal_at}
 use Rattle.xr_proof.specs.Trail.{held, HasSince, IsPush, StaysOver}
@@ -12,14 +12,14 @@ use Rattle.xr_proof.specs.declared.trail.Trail.{Trail}
 pub record IsGrowth (old new : List Bool) (clauses : List (List ℤ)) : Type 0 where
   pub sized : length new ≡ length old
   pub consistent : IsConsistent new
-  pub grows : IsWithin old (is_false new)
-  pub within : (f : ℤ → Bool) → All (IsQuiet f) clauses → IsWithin old f → IsWithin new f
-  pub forced : (f : ℤ → Bool) → All (IsQuiet f) clauses → IsWithin old f → (l : ℤ) → is_false new l ≡ true → is_false old l ≡ false
+  pub grows : IsMarkedWithin old (is_false new)
+  pub within : (f : ℤ → Bool) → All (IsQuiet f) clauses → IsMarkedWithin old f → IsMarkedWithin new f
+  pub forced : (f : ℤ → Bool) → All (IsQuiet f) clauses → IsMarkedWithin old f → (l : ℤ) → is_false new l ≡ true → is_false old l ≡ false
       → f (neg_ℤ l) ≡ true → ⊥
 
 -- no quiet set has the marks
 abbrev pub AreRefuted : List Bool → List (List ℤ) → Type 0
-AreRefuted marks clauses = (f : ℤ → Bool) → All (IsQuiet f) clauses → IsWithin marks f → ⊥
+AreRefuted marks clauses = (f : ℤ → Bool) → All (IsQuiet f) clauses → IsMarkedWithin marks f → ⊥
 
 -- each quiet set has the marks, and none of their complements
 abbrev pub AreForced : List Bool → List (List ℤ) → Type 0
@@ -30,7 +30,7 @@ AreForced marks clauses = (f : ℤ → Bool) → All (IsQuiet f) clauses → (l 
 pub record AreAssumed (old new : List Bool) (literals : List ℤ) : Type 0 where
   pub sized : length new ≡ length old
   pub consistent : IsConsistent new
-  pub grows : IsWithin old (is_false new)
+  pub grows : IsMarkedWithin old (is_false new)
   pub exact : (l : ℤ) → is_false new l ≡ true → (is_false old l ≡ true) ⊎ Contains literals l
   pub all : IsFalse (is_false new) literals
 

@@ -4,7 +4,7 @@ use Rattle.std.specs.List.{All}
 use Rattle.xr_proof.specs.Closed.{IsQuiet}
 use Rattle.xr_proof.specs.Guard.{AreSafeIfOn, IsPropagatingBut, IsPropagatingFrom, StaysSafe, Watches}
 use Rattle.xr_proof.specs.Propagation.{IsBase, IsGrowth}
-use Rattle.xr_proof.specs.Trail.{held, HaveMarks, IsEmpty, IsKept, StaysOver}
+use Rattle.xr_proof.specs.Trail.{held, HaveMarks, IsEmpty, IsSameTrail, StaysOver}
 use Rattle.xr_proof.specs.Watch.{IsLaced}
 use Rattle.xr_proof.specs.declared.propagator.Propagator.{Propagator}
 
@@ -46,4 +46,4 @@ pub record IsAtBase (p : Propagator) (clauses : List (List ℤ)) : Type 0 where
 -- a question was asked, and the trail is as it was
 pub record ComesBack (old new : Propagator) (clauses : List (List ℤ)) : Type 0 where
   pub base : IsAtBase new clauses
-  pub kept : IsKept old.trail new.trail
+  pub kept : IsSameTrail old.trail new.trail

@@ -26,7 +26,7 @@ use Rattle.xr_laws.proofs.Objections.{objection_law, one_objection}
 use Rattle.xr_wave.specs.Advance.{IsPlain}
 use Rattle.xr_wave.specs.Contents.{Contents, IsWave, class_or_done, job, shown_in}
 use Rattle.xr_wave.specs.declared.advance.Optimistic.{Optimistic}
-use Rattle.xr_repair.specs.Repaired.{IsFound, IsObjection, IsOfJob, by_class, by_line}
+use Rattle.xr_repair.specs.Repaired.{IsFoundNext, IsObjection, IsOfJob, by_class, by_line}
 use Rattle.xr_repair.specs.Objections.{ObjectionsObject, ObjectionsAreExact, ObjectionsAreOne, WavesAreAlike, with_limits}
 
 -- ---- what is found is said
@@ -53,11 +53,11 @@ line_class j true Line is = refl
 line_class j false class is = cc
 
 -- The new lines of what is found.
-found_lines : (c : Contents) (written : Written) → IsFound c written → List ALine
+found_lines : (c : Contents) (written : Written) → IsFoundNext c written → List ALine
 found_lines c written (by_class plain) = []
 found_lines c written (by_line line next holds) = line ∷ []
 
-found_said : (c : Contents) (written : Written) (found : IsFound c written) → IsWave c
+found_said : (c : Contents) (written : Written) (found : IsFoundNext c written) → IsWave c
     → NextSaid (job c) c.limits (shown_in c) c.written written (found_lines c written found)
 unfolding found_lines
 found_said c written (by_class plain) wave =

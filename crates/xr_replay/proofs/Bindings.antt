@@ -8,7 +8,7 @@ use Rattle.xr_design.specs.declared.design.Design.{Design}
 use Rattle.xr_match.specs.Binding.{FitsBinding}
 use Rattle.xr_match.specs.declared.binding.Binding.{Binding}
 use Rattle.xr_vcd.specs.Recording.{Recording}
-use Rattle.xr_replay_due.specs.Readers.{AreWithin, HasReadings, ReadersView, readers_of}
+use Rattle.xr_replay_due.specs.Readers.{AreReadersWithin, HasReadings, ReadersView, readers_of}
 use Rattle.xr_replay_due.specs.declared.readings.Reading.{Reading}
 use Rattle.xr_fans.specs.Readings.{readings_of}
 use Rattle.xr_fans.proofs.ReadingLemmas.{all_back, all_each, all_front, all_join, all_of, each_all, IsAmong, IsWithin, of_all, readings_append}
@@ -44,7 +44,7 @@ within_to binding room (suc n) few long within =
     all_join (IsWithin room) (bit_readings binding n) (readings_of n (bound_at binding n).bits) (within_to binding room n (omega (arith, few)) long within)
     (all_of (IsWithin room) n (bound_at binding n).bits (each_net (λ net. (net < room) × (n < room)) (bound_at binding n).bits (λ bit inside. (within n bit (omega (arith, few)) inside, omega (arith, few, long)))))
 
-pub readings_in : (binding : Binding) (room : ℕ) → length binding.bound ≤ room → AreBitsWithin room binding → AreWithin room (bit_readings binding (length binding.bound))
+pub readings_in : (binding : Binding) (room : ℕ) → length binding.bound ≤ room → AreBitsWithin room binding → AreReadersWithin room (bit_readings binding (length binding.bound))
 readings_in binding room long within =
     let all = within_to binding room (length binding.bound) (omega arith) long within in
     record {

@@ -6,7 +6,7 @@ use Rattle.xr_ledger.specs.declared.change.Change.{Change}
 use Rattle.xr_match.specs.declared.binding.Binding.{Binding}
 use Rattle.xr_vcd.specs.Recording.{Recording, value_at}
 use Rattle.xr_replay_due.specs.Due.{is_due}
-use Rattle.xr_replay_due.specs.Readers.{IsTable, ReadersView, readers_of}
+use Rattle.xr_replay_due.specs.Readers.{IsReaderTable, ReadersView, readers_of}
 use Rattle.xr_replay_due.specs.declared.readings.Reading.{Reading}
 use Rattle.xr_fans.specs.Nets.{looked_at}
 use Rattle.xr_fans.specs.Readings.{AreReaders, readings_of}
@@ -45,7 +45,7 @@ pub record FitsWatchers (sides : Sides) (watchers : Watchers) : Type 0 where
   pub small : watchers.room ≤ 2 ^ 20
   pub nets : (job_beside sides).width ≤ watchers.room
   pub registers : AreReaders (job_beside sides) looked_at watchers.registers
-  pub table : IsTable watchers.room watchers.variables
+  pub table : IsReaderTable watchers.room watchers.variables
   pub changes : watchers.changes ≡ sides.recording.now
   pub long : length watchers.numbers.items ≡ length sides.recording.now.variables
   pub below : (variable number : ℕ) → slice_index_or watchers.numbers.items variable None ≡ Some number → number < watchers.room

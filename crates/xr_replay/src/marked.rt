@@ -7,7 +7,7 @@ ghost use Rattle.xr_replay.specs.Follower.{IsUpTo};
 ghost use Rattle.xr_replay.specs.Sides.{AreSides, job_beside};
 ghost use Rattle.xr_replay.specs.Watched.{AreAtRest, AreDueTo, AreRecordedAsBefore, FitsWatchers, IsNumberDue, ShowSame, ShowSameIn};
 ghost use Rattle.xr_replay_due.specs.Due.{HasRoom, HasRoomFor};
-ghost use Rattle.xr_replay_due.specs.Readers.{IsTable};
+ghost use Rattle.xr_replay_due.specs.Readers.{IsReaderTable};
 
 use crate::follower::Follower;
 use crate::sides::{Sides, last_step_of};
@@ -83,7 +83,7 @@ impl<'a> Marked<'a> {
 /// tell.
 fn mark_shown(sides: &Sides<'_>, watchers: &Watchers<'_>, moment: u32, due: &mut Due) -> bool
     requires sides { AreSides sides.now }
-    requires table { IsTable watchers.now.room watchers.now.variables }
+    requires table { IsReaderTable watchers.now.room watchers.now.variables }
     requires nets { (job_beside sides.now).width ≤ watchers.now.room }
     requires later { 0 < moment }
     requires moment { moment < (job_beside sides.now).moments }
@@ -106,7 +106,7 @@ fn mark_shown(sides: &Sides<'_>, watchers: &Watchers<'_>, moment: u32, due: &mut
 /// history doesn't tell.
 fn mark_written(sides: &Sides<'_>, readers: &Readers, room: usize, step: u32, due: &mut Due) -> bool
     requires sides { AreSides sides.now }
-    requires table { IsTable room readers.now }
+    requires table { IsReaderTable room readers.now }
     requires nets { (job_beside sides.now).width ≤ room }
     requires later { 0 < step }
     requires step { step < (job_beside sides.now).moments * (job_beside sides.now).rounds }
@@ -126,7 +126,7 @@ fn mark_written(sides: &Sides<'_>, readers: &Readers, room: usize, step: u32, du
 
 /// The readers of the net of each change become due, with nets and readers below a number.
 pub fn mark_changes(readers: &Readers, room: usize, changes: &[Change], due: &mut Due)
-    requires table { IsTable room readers.now }
+    requires table { IsReaderTable room readers.now }
     requires within { AreInWidth room changes.now }
     requires room { HasRoomFor due.old room }
     ensures long { length due.new ≡ length due.old }

@@ -6,7 +6,7 @@ ghost use Rattle.xr_match.specs.Binding.{FitsBinding};
 ghost use Rattle.xr_match.specs.Bounds.{IsOf};
 ghost use Rattle.xr_replay.specs.Sides.{AreSides};
 ghost use Rattle.xr_replay.specs.Watched.{AreBitReaders, AreBitsWithin, AreNumbers, AreWatchers};
-ghost use Rattle.xr_replay_due.specs.Readers.{IsTable};
+ghost use Rattle.xr_replay_due.specs.Readers.{IsReaderTable};
 
 use crate::sides::Sides;
 use std::alloc::Global;
@@ -98,7 +98,7 @@ pub fn bit_readers(alloc: Global, room: usize, bound: &Binding) -> Result<Reader
     requires small { room ≤ 2 ^ 20 }
     requires few { length bound.now.bound ≤ room }
     requires within { AreBitsWithin room bound.now }
-    ensures table { IfOk result (IsTable room) }
+    ensures table { IfOk result (IsReaderTable room) }
     ensures has { IfOk result (AreBitReaders bound.now) }
 {
     let mut readings = Vec::new(alloc);

@@ -5,7 +5,7 @@ use Rattle.std.proofs.lemmas.List.Elements.{All-append, All-nil}
 use Rattle.xr_design.specs.declared.design.Design.{Design}
 use Rattle.xr_match.specs.Binding.{FitsBound}
 use Rattle.xr_match.specs.declared.binding.Bound.{Bound}
-use Rattle.xr_replay_due.specs.Readers.{AreWithin, HasReadings, ReadersView, readers_of, reading_at}
+use Rattle.xr_replay_due.specs.Readers.{AreReadersWithin, HasReadings, ReadersView, readers_of, reading_at}
 use Rattle.xr_replay_due.specs.declared.readings.Reading.{Reading}
 use Rattle.xr_report.specs.Marked.{AreReadingsOf, bit_nets}
 
@@ -19,7 +19,7 @@ nets_low design (b ∷ bound) fits =
 
 -- Their readings are below a number that is as great as each of both counts.
 pub readings_within : (nets : List ℕ) (readings : List Reading) (width room : ℕ) → width ≤ room → length nets ≤ room
-    → All (λ net. net < width) nets → AreReadingsOf nets readings → AreWithin room readings
+    → All (λ net. net < width) nets → AreReadingsOf nets readings → AreReadersWithin room readings
 readings_within nets readings width room wide long low are =
     let count = are.long in
     record {

@@ -8,7 +8,7 @@ use Rattle.xr_match.specs.declared.bound_bits.BoundBit.{BoundBit}
 use Rattle.xr_design.specs.Waveform.{written_at}
 use Rattle.xr_replay.specs.Watched.{AreReadersDue}
 use Rattle.xr_replay_due.specs.Due.{is_due}
-use Rattle.xr_replay_due.specs.Readers.{IsTable, reading_at, readers_of}
+use Rattle.xr_replay_due.specs.Readers.{IsReaderTable, reading_at, readers_of}
 use Rattle.xr_replay_due.specs.declared.readings.Reading.{Reading}
 use Rattle.xr_report.specs.Bits.{bound_line, recorded_in}
 use Rattle.xr_report.specs.declared.lines.ReportLines.{ReportLines}
@@ -87,7 +87,7 @@ pub record AreBitNets (nets : ℕ) (bits : BitNets) : Type 0 where
   pub inside : nets ≤ bits.room
   pub few : length bits.nets.items ≤ bits.room
   pub low : All (λ net. net < nets) bits.nets.items
-  pub table : IsTable bits.room bits.readers
+  pub table : IsReaderTable bits.room bits.readers
   pub has : (number : ℕ) → number < length bits.nets.items
       → Contains (readers_of bits.readers (slice_index bits.nets.items number)) number
 

@@ -3,7 +3,7 @@ use Rattle.std.proofs.Common.{◌≡◌, ◌∙◌, ℕ, List, length, Result, O
 use Rattle.std.specs.Prelude.{◌⊎◌, string_bytes}
 use Rattle.xr_shelf.specs.Shelf.{View, Later, Nothing, SameCounts}
 use Rattle.xr_shelf.specs.Sink.{SinkView}
-use Rattle.xr_run.specs.Ends.{Delivers, LinePrinted, Ran, Refuses, Reporting, ReportedAs}
+use Rattle.xr_run.specs.Ends.{Delivers, LinePrinted, Ran, ReportsRefusal, Reporting, ReportedAs}
 use Rattle.xr_run.specs.Lines.{report_name}
 use Rattle.xr_run.specs.Outputs.{Delivered, DeliveredTo, DeliveryEnds, IsClosed, LeavesUpTo, StopsAt, StopsPrinting}
 use Rattle.xr_run.specs.Phases.{Answer, Phases, LeavesClosed}
@@ -20,7 +20,7 @@ use Rattle.xr_run.proofs.Then.{long_comes}
 module _ {C : Type 0} (p : Phases Answer C) (t : Reporting C) (s : Start) (new : View) (sink : SinkView) (status : ℕ) where
   -- what is refused before the first output
   pub refused_row : (e : Refusal C) → new.files ≡ s.shelf.files → Refused s.shelf_told p s.shelf new e
-      → Refuses t.status_of t.text_of s.sink_told e s.sink sink status → Ran p t s new sink status
+      → ReportsRefusal t.status_of t.text_of s.sink_told e s.sink sink status → Ran p t s new sink status
   refused_row (Read file) files is reported = Ran.ends_unread (string_bytes file) record { next = is.next; cause = is.rose; files = files; closed = is.closed } reported
   refused_row (Long cause) files is reported = Ran.ends_refused cause record {
     comes = long_comes s.shelf_told s.shelf.files p cause is.long;

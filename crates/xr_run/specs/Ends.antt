@@ -51,14 +51,14 @@ abbrev pub reporting_of : {C : Type 0} → (C → ℕ) → (C → List ℕ) → 
 reporting_of status_of text_of = record { status_of = status_of; text_of = text_of }
 
 -- A refusal before the first output, reported.
-abbrev pub Refuses : {C : Type 0} → (C → ℕ) → (C → List ℕ) → Bool → Refusal C → SinkView → SinkView → ℕ → Type 0
-Refuses status_of text_of told (Read file) old new status =
+abbrev pub ReportsRefusal : {C : Type 0} → (C → ℕ) → (C → List ℕ) → Bool → Refusal C → SinkView → SinkView → ℕ → Type 0
+ReportsRefusal status_of text_of told (Read file) old new status =
     LineMade told (read_line (string_bytes file)) 3 old new status
-Refuses status_of text_of told (Long cause) old new status =
+ReportsRefusal status_of text_of told (Long cause) old new status =
     LineMade told (line (text_of cause)) (status_of cause) old new status
-Refuses status_of text_of told (Text cause) old new status =
+ReportsRefusal status_of text_of told (Text cause) old new status =
     LineMade told (line (text_of cause)) (status_of cause) old new status
-Refuses status_of text_of told Memory old new status = MemoryPrinted told old new status
+ReportsRefusal status_of text_of told Memory old new status = MemoryPrinted told old new status
 
 -- What was delivered, and how it was reported where it wasn't all.
 abbrev pub ReportedAs : Bool → Result Unit Undelivered → SinkView → SinkView → ℕ → Type 0

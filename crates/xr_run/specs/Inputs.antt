@@ -8,15 +8,15 @@ use Rattle.xr_run.specs.declared.refusal.Refusal.{Refusal}
 use Rattle.xr_run.specs.declared.refusal.Refusal.TheVariants.{Read, Long, Text, Memory}
 
 -- A text, or none where it is longer than that.
-abbrev pub IsKept : ℕ → Option (Vec ℕ Global) → List ℕ → Type 0
-IsKept limit (Some v) text = (v.items ≡ text) × (length v.items ≤ limit)
-IsKept limit None text = limit < length text
+abbrev pub IsTextWithin : ℕ → Option (Vec ℕ Global) → List ℕ → Type 0
+IsTextWithin limit (Some v) text = (v.items ≡ text) × (length v.items ≤ limit)
+IsTextWithin limit None text = limit < length text
 
 -- A text and the next one, each kept or too long, are kept or too long as one text.
 abbrev pub Joins : ℕ → ℕ → Option (Vec ℕ Global) → Option (Vec ℕ Global) → Option (Vec ℕ Global) → Type 0
 Joins limit position text part whole =
     (before : List (List ℕ)) (so_far more : List ℕ) → length before ≡ position → (position ≡ 0 → so_far ≡ [])
-    → IsKept limit text so_far → IsKept limit part more → IsKept limit whole (put_after before so_far more)
+    → IsTextWithin limit text so_far → IsTextWithin limit part more → IsTextWithin limit whole (put_after before so_far more)
 
 -- A call on one of the files failed, its count rose, and no file is in hand.
 pub record InputFails (names : List (List ℕ)) (old new : View) (name : List ℕ) : Type 0 where
@@ -37,7 +37,7 @@ module _ {C : Type 0} (told : Bool) where
     pub later : Later old new
     pub files : new.files ≡ old.files
     pub written : new.written ≡ old.written
-    pub text : IfOk result (λ part. IsTrue told → IsKept limit part (held old name))
+    pub text : IfOk result (λ part. IsTrue told → IsTextWithin limit part (held old name))
     pub there : IfOk result (λ part. IsSome part → IsTrue told → IsSome (old.files name))
     pub fits : IfOk result (λ part. IfSome part (λ v. length v.items ≤ limit))
     pub kept : OnOk result (SameCounts old new)

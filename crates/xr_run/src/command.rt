@@ -1,7 +1,7 @@
 //! A command, run to its end.
 
 ghost use Rattle.std.specs.Prelude.{◌≡◌, List, ℕ, IfOk};
-ghost use Rattle.xr_run.specs.Ends.{Delivers, LineMade, LinePrinted, MemoryPrinted, Ran, Refuses, reporting_of};
+ghost use Rattle.xr_run.specs.Ends.{Delivers, LineMade, LinePrinted, MemoryPrinted, Ran, ReportsRefusal, reporting_of};
 ghost use Rattle.xr_base.specs.Text.{line};
 ghost use Rattle.xr_run.specs.Lines.{read_line, usage_line};
 ghost use Rattle.xr_run.specs.Phases.{Answer, Phases};
@@ -74,7 +74,7 @@ fn deliver_ready<S: Shelf, O: Sink>(shelf: &mut S, out: &mut O, ready: &Ready<'_
 
 /// Reports a refusal. A fault of the sink doesn't change its status.
 fn refuse<C: Cause, O: Sink>(alloc: Global, refusal: Refusal<C>, out: &mut O) -> u8
-    ensures { Refuses C.status_of C.text_of O.told refusal (O.view out.old) (O.view out.new) result }
+    ensures { ReportsRefusal C.status_of C.text_of O.told refusal (O.view out.old) (O.view out.new) result }
 {
     match refusal {
         Refusal::Read { name } => match read_line_of(alloc, name.as_str()) {

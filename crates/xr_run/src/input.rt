@@ -1,7 +1,7 @@
 //! The texts that a command reads.
 
 ghost use Rattle.std.specs.Prelude.{◌≡◌, ◌<◌, ◌≤◌, [], ◌∷◌, length, map, string_bytes, IfOk, IfSome, IsSome};
-ghost use Rattle.xr_run.specs.Inputs.{FileRead, IsKept, Joins, TextRead};
+ghost use Rattle.xr_run.specs.Inputs.{FileRead, IsTextWithin, Joins, TextRead};
 ghost use Rattle.xr_shelf.specs.Shelf.{Nothing, Later};
 
 use crate::refusal::Refusal;
@@ -107,7 +107,7 @@ fn join(
 
 /// A text, none where there are more than `limit` bytes.
 fn within(text: Vec<u8>, limit: usize) -> Option<Vec<u8>>
-    ensures kept { IsKept limit result text.items }
+    ensures kept { IsTextWithin limit result text.items }
     ensures fits { IfSome result (λ v. length v.items ≤ limit) }
 {
     if text.len() > limit {

@@ -6,7 +6,7 @@ use Rattle.std.proofs.lemmas.List.Elements.{All-append, All-cons, All-nil}
 use Rattle.std.proofs.Math.Seq.{get_or-append_seam, take-append_seam}
 use Rattle.std.specs.Prelude.{ℤ, pos, negsuc, neg_ℤ}
 use Rattle.std.specs.List.{All}
-use Rattle.xr_proof.specs.Code.{is_false, code_of, HasRoom, IsWithin}
+use Rattle.xr_proof.specs.Code.{is_false, code_of, HasRoom, IsMarkedWithin}
 use Rattle.xr_proof.specs.Status.{literal_at}
 use Rattle.xr_proof.specs.Trail.{held, code_at, IsOver, StaysOver}
 use Rattle.xr_proof.specs.declared.propagator.Propagator.{Propagator}
@@ -75,7 +75,7 @@ second_code marks n = let e : 2 * (n + 1) + 1 ≡ 2 * n + 3 = omega arith in ap 
 other_is : (n : ℕ) → neg_ℤ (pos (n + 1)) ≡ negsuc n
 other_is n = ap (λ m. neg_ℤ (pos m)) (add-one n)
 
-pub value_kept : (old new : List Bool) (n : ℕ) → IsWithin old (is_false new) → HasValue old n → HasValue new n
+pub value_kept : (old new : List Bool) (n : ℕ) → IsMarkedWithin old (is_false new) → HasValue old n → HasValue new n
 value_kept old new n grows has = elim has [
   | inl a ↦ inl (sym (first_code new n) ∙ grows (pos (n + 1)) (first_code old n ∙ a))
   | inr b ↦ inr (sym (second_code new n) ∙ grows (negsuc n) (second_code old n ∙ b))
@@ -109,7 +109,7 @@ open_not_false marks n l is none = elim is [
 ]
 
 -- the variables before the cursor keep their values
-pub valued_kept : (old new : List Bool) (cursor : ℕ) → IsWithin old (is_false new) → AreValued old cursor → AreValued new cursor
+pub valued_kept : (old new : List Bool) (cursor : ℕ) → IsMarkedWithin old (is_false new) → AreValued old cursor → AreValued new cursor
 valued_kept old new cursor grows valued n lt = value_kept old new n grows (valued n lt)
 
 -- those up to the first one without

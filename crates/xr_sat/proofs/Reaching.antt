@@ -6,7 +6,7 @@ use Rattle.std.proofs.lemmas.List.Elements.{All-contains, All-weaker, All-append
 use Rattle.std.specs.Prelude.{ℤ, pos, neg_ℤ}
 use Rattle.std.specs.List.{Contains}
 use Rattle.xr_proof.specs.Closed.{IsFalse, NoneResists}
-use Rattle.xr_proof.specs.Code.{is_false, code_of, HaveRoom, IsWithin}
+use Rattle.xr_proof.specs.Code.{is_false, code_of, HaveRoom, IsMarkedWithin}
 use Rattle.xr_proof.specs.Guard.{IsSince, IsPropagating}
 use Rattle.xr_proof.specs.Status.{literal_at}
 use Rattle.xr_proof.specs.Propagation.{IsGrowth, AreRefuted, IsBase}
@@ -86,7 +86,7 @@ module _ (marks : List Bool) (clauses : List (List ℤ)) (c : List ℤ) (h : IsF
   from_growth new g = record {
     assumed = All-weaker (λ m. is_false marks m ≡ true) (λ m. is_false new m ≡ true) (λ m on. g.grows m on) c h.assumed;
     forced = λ f quiet bad l on.
-        let within : IsWithin marks f = λ m m_on. (h.forced f quiet bad m m_on).0 in (
+        let within : IsMarkedWithin marks f = λ m m_on. (h.forced f quiet bad m m_on).0 in (
           g.within f quiet within l on,
           elim (cases_Bool (is_false marks l)) [
             | inl was ↦ (h.forced f quiet bad l was).1

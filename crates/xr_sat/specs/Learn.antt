@@ -22,10 +22,10 @@ abbrev pub AreNeeded : List (List ℤ) → List ℤ → List ℤ → Type 0
 AreNeeded clauses kept rest = (j : ℕ) → j < length kept → (f : ℤ → Bool) × IsSparing clauses kept rest j f
 
 -- where the conflict comes: nowhere, with a literal that is kept, or with the rest's literal at k
-abbrev pub IsFound : List (List ℤ) → List ℤ → List ℤ → Found → Type 0
-IsFound clauses kept rest Nowhere = (f : ℤ → Bool) × IsFixed clauses (kept ++ rest) f
-IsFound clauses kept rest Kept = NoneResists clauses kept
-IsFound clauses kept rest (Rest k) = (k < length rest) × IsMet clauses kept rest k
+abbrev pub IsFoundConflict : List (List ℤ) → List ℤ → List ℤ → Found → Type 0
+IsFoundConflict clauses kept rest Nowhere = (f : ℤ → Bool) × IsFixed clauses (kept ++ rest) f
+IsFoundConflict clauses kept rest Kept = NoneResists clauses kept
+IsFoundConflict clauses kept rest (Rest k) = (k < length rest) × IsMet clauses kept rest k
 
 -- some of the rest joined those that are kept
 abbrev pub IsExtended : List ℤ → List ℤ → List ℤ → Type 0

@@ -6,7 +6,7 @@ ghost use Rattle.xr_proof.specs.Closed.{NoneResists};
 ghost use Rattle.xr_proof.specs.Propagator.{ComesBack, IsAtBase, LeadsBack};
 ghost use Rattle.xr_proof.specs.Status.{literal_at};
 ghost use Rattle.xr_proof.specs.Trail.{HasMarks};
-ghost use Rattle.xr_sat.specs.Learn.{IsFound, AreNeeded, IsExtended};
+ghost use Rattle.xr_sat.specs.Learn.{IsFoundConflict, AreNeeded, IsExtended};
 
 use crate::reach::reach_all;
 use std::alloc::AllocError;
@@ -69,7 +69,7 @@ fn probe(propagator: &mut Propagator, clauses: &Premises<'_>, kept: &[i32], rest
     requires base { IsAtBase propagator.old (all_in clauses.now) }
     requires room_kept { HasMarks propagator.old.trail kept.now }
     requires room_rest { HasMarks propagator.old.trail rest.now }
-    ensures found { IsFound (all_in clauses.now) kept.now rest.now result }
+    ensures found { IsFoundConflict (all_in clauses.now) kept.now rest.now result }
     ensures back { ComesBack propagator.old propagator.new (all_in clauses.now) }
 {
     let len = propagator.trail.len;
@@ -82,7 +82,7 @@ fn seek(propagator: &mut Propagator, clauses: &Premises<'_>, kept: &[i32], rest:
     requires base { IsAtBase propagator.old (all_in clauses.now) }
     requires room_kept { HasMarks propagator.old.trail kept.now }
     requires room_rest { HasMarks propagator.old.trail rest.now }
-    ensures found { IsFound (all_in clauses.now) kept.now rest.now result }
+    ensures found { IsFoundConflict (all_in clauses.now) kept.now rest.now result }
     ensures back { LeadsBack propagator.old propagator.new (all_in clauses.now) }
 {
     match reach_all(propagator, clauses, kept) {

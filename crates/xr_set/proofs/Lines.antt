@@ -4,7 +4,7 @@ use Rattle.std.specs.Prelude.{IfNone, Option, Some, None}
 use Rattle.xr_line.specs.declared.line.Line.{Line}
 use Rattle.xr_line.specs.declared.option.Opt.{Opt}
 use Rattle.xr_line.specs.Line.{HasFiles, IsLine, IsOutside, Text, given, words_of_items}
-use Rattle.xr_line.specs.Read.{HasOnly, Reads, files_of, options_by, value_of}
+use Rattle.xr_line.specs.Read.{HasOnly, ReadsLine, files_of, options_by, value_of}
 use Rattle.xr_line.specs.Tables.{plain}
 use Rattle.xr_line.proofs.Alike.{line_alike}
 use Rattle.xr_line.proofs.SameOptions.{same_options}
@@ -20,13 +20,13 @@ module _ {C : Type 0} (c : Command C) (rest : List Text) (options : List Opt) (t
 
   module _ (line : Line) where
     -- The FILEs stand last, and are there where the command has them.
-    pub files_last : Reads options c.has_files rest line → (before : List Text) × (rest ≡ before ++ files_of line)
+    pub files_last : ReadsLine options c.has_files rest line → (before : List Text) × (rest ≡ before ++ files_of line)
     files_last r = (words_of_items r.items, r.is.is)
 
-    pub some_files : Reads options c.has_files rest line → (files : List Text) → files ≡ files_of line → HasFiles c.has_files files
+    pub some_files : ReadsLine options c.has_files rest line → (files : List Text) → files ≡ files_of line → HasFiles c.has_files files
     some_files r files is = subst (HasFiles c.has_files) (sym is) r.is.some
 
-    pub gives_line : Reads options c.has_files rest line → (v : c.Values) (files : List Text) → c.files v ≡ files → files ≡ files_of line → c.Gives (options_by (value_of line)) v → IsLineOf c rest v
+    pub gives_line : ReadsLine options c.has_files rest line → (v : c.Values) (files : List Text) → c.files v ≡ files → files ≡ files_of line → c.Gives (options_by (value_of line)) v → IsLineOf c rest v
     gives_line r v files of is gives = record {
       items = r.items;
       options = options;

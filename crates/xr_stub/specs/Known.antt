@@ -6,7 +6,7 @@ use Rattle.std.specs.Map.{lookup}
 use Rattle.std.specs.Option.{option_and_then}
 use Rattle.std.specs.Borrow.{Bor}
 use Rattle.xr_trim.specs.Shown.{Shown}
-use Rattle.xr_trim.specs.Definition.{is, name_of}
+use Rattle.xr_trim.specs.Definition.{is, spelled_name}
 use Rattle.xr_trim.specs.Library.{with_number}
 use Rattle.xr_stub_read.specs.Parts.{Part}
 use Rattle.xr_stub.specs.Sums.{Values, begun, value_of, with_token}
@@ -71,7 +71,7 @@ with_name t l = record { names = l.names ++ t ∷ []; numbers = l.numbers; decla
 abbrev pub with_declared : Shown → Declared → Listed → Listed
 with_declared t d l = record {
   names = l.names;
-  numbers = with_number (name_of t) (length l.declared) l.numbers;
+  numbers = with_number (spelled_name t) (length l.declared) l.numbers;
   declared = l.declared ++ d ∷ [];
 }
 
@@ -82,7 +82,7 @@ declares (Some direction) width t l = with_declared t (record { direction = dire
 
 -- The first declaration of a name.
 abbrev pub declaration_of : Listed → Shown → Option Declared
-declaration_of l t = option_and_then (slice_get l.declared) (lookup (bytes_eq (name_of t)) l.numbers)
+declaration_of l t = option_and_then (slice_get l.declared) (lookup (bytes_eq (spelled_name t)) l.numbers)
 
 -- ---- all of it
 
@@ -195,7 +195,7 @@ more role.Middle t k = middle k
 more role.Close t k = close k
 more role.Keyword t k = typed false k
 more role.Typed t k = typed true k
-more role.Parameter t k = with_parameter (name_of t) k
+more role.Parameter t k = with_parameter (spelled_name t) k
 more role.Begin t k = begin k
 more role.Term t k = term t k
 more role.End t k = value k
@@ -213,7 +213,7 @@ abbrev pub is_open : List (List ℕ) → Option Direction → Shown → Bool
 is_open supplies None t = false
 is_open supplies (Some Input) t = false
 is_open supplies (Some Output) t = false
-is_open supplies (Some Inout) t = not (is_among supplies (name_of t))
+is_open supplies (Some Inout) t = not (is_among supplies (spelled_name t))
 
 -- A range that isn't worked out.
 abbrev pub width_fault : Width → Option StubFault

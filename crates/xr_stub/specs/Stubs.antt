@@ -8,7 +8,7 @@ use Rattle.std.specs.declared.alloc.Global.{Global}
 use Rattle.xr_text.specs.declared.token.Kind.{Kind}
 use Rattle.xr_text.specs.declared.token.Kind.TheVariants as kind
 use Rattle.xr_trim.specs.Shown.{Shown}
-use Rattle.xr_trim.specs.Definition.{name_of}
+use Rattle.xr_trim.specs.Definition.{spelled_name}
 use Rattle.xr_trim.specs.Trims.{IsUndefined}
 use Rattle.xr_trim.specs.declared.fault.TrimErr.{TrimErr}
 use Rattle.xr_trim.specs.declared.fault.TrimErr.TheVariants as trim
@@ -90,7 +90,7 @@ stub_of supplies m = stub_of_known m.name (known_of supplies nothing m.parts)
 
 -- A definition is of a module that has one of these names.
 abbrev pub is_stubbed : List (List ℕ) → Module → Bool
-is_stubbed names m = m.is_module && is_among names (name_of m.name)
+is_stubbed names m = m.is_module && is_among names (spelled_name m.name)
 
 abbrev pub with_front : List ℕ → Result (List ℕ) StubFault → Result (List ℕ) StubFault
 with_front front (Ok rest) = Ok (front ++ rest)

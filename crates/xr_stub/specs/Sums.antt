@@ -8,7 +8,7 @@ use Rattle.std.specs.Option.{option_and_then}
 use Rattle.xr_text.specs.declared.token.Kind.{Kind}
 use Rattle.xr_text.specs.declared.token.Kind.TheVariants.{Name, Escaped, Number, Text, Mark}
 use Rattle.xr_trim.specs.Shown.{Shown}
-use Rattle.xr_trim.specs.Definition.{is, name_of}
+use Rattle.xr_trim.specs.Definition.{is, spelled_name}
 use Rattle.xr_stub.specs.declared.sum.Frame.{Frame}
 
 abbrev pub within : ℕ → Option ℕ
@@ -28,8 +28,8 @@ abbrev pub Values : Type 0
 Values = List (List ℕ × ℕ)
 
 abbrev pub operand_in : Values → Kind → Shown → Option ℕ
-operand_in values Name t = lookup (bytes_eq (name_of t)) values
-operand_in values Escaped t = lookup (bytes_eq (name_of t)) values
+operand_in values Name t = lookup (bytes_eq (spelled_name t)) values
+operand_in values Escaped t = lookup (bytes_eq (spelled_name t)) values
 operand_in values Number t = number_from 0 t.bytes
 operand_in values Text t = None
 operand_in values Mark t = None

@@ -3,7 +3,7 @@ use Rattle.std.specs.Prelude.{Vec, ◌≡◌, ℕ, List, [], ◌∷◌, ◌++◌
 use Rattle.std.specs.Prelude.{Ok, Err}
 use Rattle.std.specs.declared.alloc.Global.{Global}
 use Rattle.xr_trim.specs.Shown.{Shown, Stream, IsStream}
-use Rattle.xr_trim.specs.Definition.{closes, from_first, is, name_of, opens, up_to_first}
+use Rattle.xr_trim.specs.Definition.{closes, from_first, is, spelled_name, opens, up_to_first}
 use Rattle.xr_trim.specs.Definition.{Unclosed}
 use Rattle.xr_trim.specs.Reads.{IsUnended, Stays}
 use Rattle.xr_trim.specs.declared.fault.TrimErr.{TrimErr}
@@ -31,7 +31,7 @@ module_of opening name within close = record {
 
 -- It is of a module of this name.
 abbrev pub is_named : List ℕ → Module → Bool
-is_named name m = m.is_module && bytes_eq name (name_of m.name)
+is_named name m = m.is_module && bytes_eq name (spelled_name m.name)
 
 -- Tokens define these, in order, each from the first word that opens one to the first that closes it.
 pub data Holds : List Shown → List Module → Type 0 where

@@ -12,8 +12,8 @@ abbrev pub seen_tables : List (List ℕ) → List Entry → List NodeTable
 seen_tables blocks entries = map (seen_table blocks) entries
 
 -- They lie within it.
-abbrev pub IsWithin : List (List ℕ) → Entry → Type 0
-IsWithin blocks entry = entry.start + entry.count ≤ length blocks
+abbrev pub IsTableWithin : List (List ℕ) → Entry → Type 0
+IsTableWithin blocks entry = entry.start + entry.count ≤ length blocks
 
-abbrev pub AreWithin : List (List ℕ) → List Entry → Type 0
-AreWithin blocks entries = AllByRecursion (IsWithin blocks) entries
+abbrev pub AreTablesWithin : List (List ℕ) → List Entry → Type 0
+AreTablesWithin blocks entries = AllByRecursion (IsTableWithin blocks) entries

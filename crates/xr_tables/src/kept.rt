@@ -31,14 +31,14 @@ pub struct KeptTables {
 
 impl Model for KeptTables {
     ghost use Rattle.std.specs.Prelude.{List};
-    ghost use Rattle.xr_tables.specs.Kept.{AreWithin, seen_tables};
+    ghost use Rattle.xr_tables.specs.Kept.{AreTablesWithin, seen_tables};
     ghost use Rattle.xr_tables.specs.Tables.{NodeTable};
 
     ghost Value = { List NodeTable };
 
     ghost view = { λ kept. seen_tables kept.blocks.items kept.entries.items };
 
-    ghost invariant = { λ kept. AreWithin kept.blocks.items kept.entries.items };
+    ghost invariant = { λ kept. AreTablesWithin kept.blocks.items kept.entries.items };
 }
 
 impl KeptTables {

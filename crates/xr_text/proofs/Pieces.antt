@@ -4,7 +4,7 @@ use Rattle.std.specs.List.{list_all}
 use Rattle.std.proofs.lemmas.Bool.{true≢false}
 use Rattle.xr_text.specs.Byte.{quote, star, slash, is_letter, is_name_byte, is_printable, begins}
 use Rattle.xr_text.specs.Ends.{Longest, Closes, Unquotes, IsName}
-use Rattle.xr_text.specs.Tokens.{Blank, Wire, Skips, Reads}
+use Rattle.xr_text.specs.Tokens.{Blank, Wire, Skips, ReadsToken}
 use Rattle.xr_text.specs.declared.token.Token.{Token}
 use Rattle.xr_text.specs.declared.token.Kind.{Kind}
 use Rattle.xr_text.specs.declared.token.Kind.TheVariants as kind
@@ -83,9 +83,9 @@ begins_run Longest.ended h = absurd cc
 begins_run (Longest.stopped fails) h = absurd (true≢false (sym h ∙ fails))
 begins_run (Longest.more passes d) h = let r = longest_run d in (record { piece = further r.piece; all = rw passes r.all }, passes)
 
-pub reads_spelled : {at : ℕ} {bs rest : List ℕ} {t : Token} → Reads at bs t rest → Spelled at bs t rest
-reads_spelled (Reads.name {b = b} h d) = let r = longest_run d in record { piece = further r.piece; spelled = rw (h, r.all) refl }
-reads_spelled (Reads.number h d) = record { piece = further (longest_run d).piece; spelled = refl }
-reads_spelled (Reads.escaped h d) = let r = begins_run d h in record { piece = further r.0.piece; spelled = rw (r.1, r.0.all) refl }
-reads_spelled (Reads.text d) = record { piece = further (unquotes_piece d); spelled = refl }
-reads_spelled (Reads.mark {b = b} h i j) = record { piece = record { bytes = b ∷ []; is = refl; long = omega arith }; spelled = refl }
+pub reads_spelled : {at : ℕ} {bs rest : List ℕ} {t : Token} → ReadsToken at bs t rest → Spelled at bs t rest
+reads_spelled (ReadsToken.name {b = b} h d) = let r = longest_run d in record { piece = further r.piece; spelled = rw (h, r.all) refl }
+reads_spelled (ReadsToken.number h d) = record { piece = further (longest_run d).piece; spelled = refl }
+reads_spelled (ReadsToken.escaped h d) = let r = begins_run d h in record { piece = further r.0.piece; spelled = rw (r.1, r.0.all) refl }
+reads_spelled (ReadsToken.text d) = record { piece = further (unquotes_piece d); spelled = refl }
+reads_spelled (ReadsToken.mark {b = b} h i j) = record { piece = record { bytes = b ∷ []; is = refl; long = omega arith }; spelled = refl }

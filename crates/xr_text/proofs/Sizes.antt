@@ -3,7 +3,7 @@ use Rattle.std.proofs.Common.{◌≡◌, ℕ, ◌+◌, ◌-◌, ◌<◌, ◌≤�
 use Rattle.std.proofs.Math.Seq.{take-append_seam}
 use Rattle.xr_text.specs.declared.token.Token.{Token}
 use Rattle.xr_text.specs.Ends.{Longest, Closes, Unquotes, IsName}
-use Rattle.xr_text.specs.Tokens.{Blank, Wire, Skips, Reads}
+use Rattle.xr_text.specs.Tokens.{Blank, Wire, Skips, ReadsToken}
 
 -- the second place is after the first, and by as many bytes as are gone
 pub record Goes (at : ℕ) (bs : List ℕ) (to : ℕ) (rest : List ℕ) : Type 0 where
@@ -55,12 +55,12 @@ skips_goes (Skips.nettype n w) =
     let h = wire_goes w in
     record { fits = omega (arith, g.fits, h.fits); onward = omega (arith, g.onward, h.onward) }
 
-pub reads_goes : {at : ℕ} {bs rest : List ℕ} {t : Token} → Reads at bs t rest → (t.start ≡ at) × GoesOn at bs t.«end» rest
-reads_goes (Reads.name h d) = let g = longest_goes d in (refl, record { fits = omega (arith, g.fits); onward = omega (arith, g.onward) })
-reads_goes (Reads.number h d) = let g = longest_goes d in (refl, record { fits = omega (arith, g.fits); onward = omega (arith, g.onward) })
-reads_goes (Reads.escaped h d) = let g = longest_goes d in (refl, record { fits = omega (arith, g.fits); onward = omega (arith, g.onward) })
-reads_goes (Reads.text d) = let g = unquotes_goes d in (refl, record { fits = omega (arith, g.fits); onward = omega (arith, g.onward) })
-reads_goes (Reads.mark h i j) = (refl, record { fits = omega arith; onward = omega arith })
+pub reads_goes : {at : ℕ} {bs rest : List ℕ} {t : Token} → ReadsToken at bs t rest → (t.start ≡ at) × GoesOn at bs t.«end» rest
+reads_goes (ReadsToken.name h d) = let g = longest_goes d in (refl, record { fits = omega (arith, g.fits); onward = omega (arith, g.onward) })
+reads_goes (ReadsToken.number h d) = let g = longest_goes d in (refl, record { fits = omega (arith, g.fits); onward = omega (arith, g.onward) })
+reads_goes (ReadsToken.escaped h d) = let g = longest_goes d in (refl, record { fits = omega (arith, g.fits); onward = omega (arith, g.onward) })
+reads_goes (ReadsToken.text d) = let g = unquotes_goes d in (refl, record { fits = omega (arith, g.fits); onward = omega (arith, g.onward) })
+reads_goes (ReadsToken.mark h i j) = (refl, record { fits = omega arith; onward = omega arith })
 
 -- the bytes of a name are those between its places
 pub name_bytes : {word : List ℕ} {at to : ℕ} {bs rest : List ℕ} → IsName word at bs to rest → take (to - at) bs ≡ word

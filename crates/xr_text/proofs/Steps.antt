@@ -12,7 +12,7 @@ use Rattle.xr_text.specs.Byte.{quote, star, slash, backslash, backquote, is_whit
 use Rattle.xr_text.specs.Ends.{IsName, Nowhere}
 use Rattle.xr_text.specs.Left.{token}
 use Rattle.xr_text.specs.Scan.{Rest, rest, after, after_close, after_quote, comment, blank, wire, directive, directive_of, Step, done, skip, tell, refuse, tell_run, skip_or, text_or, read, begin, step}
-use Rattle.xr_text.specs.Tokens.{Skips, Reads, Refuses, takes_line, stands_alone}
+use Rattle.xr_text.specs.Tokens.{Skips, ReadsToken, RefusesToken, takes_line, stands_alone}
 use Rattle.xr_text.proofs.Sizes.{name_bytes}
 use Rattle.xr_text.proofs.Follows.{two, longest_follows, closes_follows, unquotes_follows, blank_follows}
 use Rattle.xr_text.proofs.Sound.{By, longest_sound, closes_sound, unquotes_sound, blank_sound}
@@ -68,21 +68,21 @@ star_none false bs h = refl
 star_none true [] h = refl
 star_none true (c ∷ cs) h = (or_parts (c == slash) (c == star) h).1
 
-pub reads_follows : {at : ℕ} {bs more : List ℕ} {t : Token} → Reads at bs t more → step at bs ≡ tell t more
-reads_follows (Reads.name {at = at} {to = to} {b = b} {bs = bs} h d) =
+pub reads_follows : {at : ℕ} {bs more : List ℕ} {t : Token} → ReadsToken at bs t more → step at bs ≡ tell t more
+reads_follows (ReadsToken.name {at = at} {to = to} {b = b} {bs = bs} h d) =
     let white : is_white b ≡ false = grind (arith, nat_tests) in
     let no_slash : (b == slash) ≡ false = grind (arith, nat_tests) in
     let no_quote : (b == backquote) ≡ false = grind (arith, nat_tests) in
     rw (white, no_slash, no_quote, h, longest_follows d) refl
-reads_follows (Reads.number {b = b} h d) =
+reads_follows (ReadsToken.number {b = b} h d) =
     let white : is_white b ≡ false = grind (arith, nat_tests) in
     let no_slash : (b == slash) ≡ false = grind (arith, nat_tests) in
     let no_quote : (b == backquote) ≡ false = grind (arith, nat_tests) in
     let no_letter : is_letter b ≡ false = grind (arith, nat_tests) in
     rw (white, no_slash, no_quote, no_letter, h, longest_follows d) refl
-reads_follows (Reads.escaped h d) = rw (h, longest_follows d) refl
-reads_follows (Reads.text d) = rw (unquotes_follows d) refl
-reads_follows (Reads.mark {at = at} {b = b} {bs = bs} h i j) =
+reads_follows (ReadsToken.escaped h d) = rw (h, longest_follows d) refl
+reads_follows (ReadsToken.text d) = rw (unquotes_follows d) refl
+reads_follows (ReadsToken.mark {at = at} {b = b} {bs = bs} h i j) =
     let white : is_white b ≡ false = grind (arith, nat_tests) in
     let kinds = or_parts (is_letter b || is_digit b) (b == quote) i in
     let words = or_parts (is_letter b) (is_digit b) kinds.0 in
@@ -91,8 +91,8 @@ reads_follows (Reads.mark {at = at} {b = b} {bs = bs} h i j) =
     let ends = or_parts comment_or ((b == backslash) && begins is_printable bs) pairs.0 in
     rw (white, comment_none (b == slash) (at + 1) bs ends.0, pairs.1, words.0, words.1, kinds.1, star_none (b == slash) bs ends.0, ends.1, h) refl
 
-pub refuses_follows : {at : ℕ} {bs : List ℕ} {e : LexErr} → Refuses at bs e → step at bs ≡ refuse e
-refuses_follows (Refuses.bad_byte {b = b} h i) =
+pub refuses_follows : {at : ℕ} {bs : List ℕ} {e : LexErr} → RefusesToken at bs e → step at bs ≡ refuse e
+refuses_follows (RefusesToken.bad_byte {b = b} h i) =
     let no_slash : (b == slash) ≡ false = grind (arith, nat_tests) in
     let no_backquote : (b == backquote) ≡ false = grind (arith, nat_tests) in
     let no_letter : is_letter b ≡ false = grind (arith, nat_tests) in
@@ -100,11 +100,11 @@ refuses_follows (Refuses.bad_byte {b = b} h i) =
     let no_quote : (b == quote) ≡ false = grind (arith, nat_tests) in
     let no_backslash : (b == backslash) ≡ false = grind (arith, nat_tests) in
     rw (h, no_slash, no_backquote, no_letter, no_digit, no_quote, no_backslash, i) refl
-refuses_follows (Refuses.open_comment {at = at} {bs = bs} nothing) = rw (two, nowhere_none _ _ (closes_sound (at + 2) bs) nothing) refl
-refuses_follows (Refuses.open_text {at = at} {bs = bs} nothing) = rw (nowhere_none _ _ (unquotes_sound quote (at + 1) bs) nothing) refl
-refuses_follows (Refuses.no_wire {at = at} {mid = mid} {bs = bs} {more = more} n nothing) =
+refuses_follows (RefusesToken.open_comment {at = at} {bs = bs} nothing) = rw (two, nowhere_none _ _ (closes_sound (at + 2) bs) nothing) refl
+refuses_follows (RefusesToken.open_text {at = at} {bs = bs} nothing) = rw (nowhere_none _ _ (unquotes_sound quote (at + 1) bs) nothing) refl
+refuses_follows (RefusesToken.no_wire {at = at} {mid = mid} {bs = bs} {more = more} n nothing) =
     step_directive at bs n.begin ∙ rw (directive_follows n, nowhere_none _ _ (wire_sound mid more) nothing) refl
-refuses_follows (Refuses.unknown {at = at} {bs = bs} {word = word} n u) =
+refuses_follows (RefusesToken.unknown {at = at} {bs = bs} {word = word} n u) =
     let known = or_parts (takes_line word || stands_alone word) (bytes_eq word (codes "default_nettype")) (not-true _ u) in
     let first = or_parts (takes_line word) (stands_alone word) known.0 in
     step_directive at bs n.begin ∙ rw (directive_follows n, first.0, first.1, known.1) refl
@@ -113,8 +113,8 @@ refuses_follows (Refuses.unknown {at = at} {bs = bs} {word = word} n u) =
 abbrev pub Explains : ℕ → List ℕ → Step → Type 0
 Explains at bs done = bs ≡ []
 Explains at bs (skip r) = Skips at bs r.at r.bytes
-Explains at bs (tell t more) = Reads at bs t more
-Explains at bs (refuse e) = Refuses at bs e
+Explains at bs (tell t more) = ReadsToken at bs t more
+Explains at bs (refuse e) = RefusesToken at bs e
 
 -- a skip that is found, or what else is told
 skip_sound : (at : ℕ) (bs : List ℕ) (o : Option Rest) (s : Step) → By (Skips at bs) o → (o ≡ None → Explains at bs s) → Explains at bs (skip_or o s)
@@ -136,26 +136,26 @@ directive_sound at bs h =
     (λ e. let m = same_word (codes "default_nettype") word (at + 1) bs r.at r.bytes e n in
     skip_sound at text (wire r.at r.bytes) (refuse (Directive at))
     (λ s found. Skips.nettype m (wire_sound r.at r.bytes s found))
-    (λ none. Refuses.no_wire m (λ to more w. let f : ◌≡◌ {A = Option Rest} None (Some (rest to more)) = sym none ∙ wire_follows w in cc)))
-    (λ no_wire. Refuses.unknown n (rw (no_line, no_alone, no_wire) refl))))
+    (λ none. RefusesToken.no_wire m (λ to more w. let f : ◌≡◌ {A = Option Rest} None (Some (rest to more)) = sym none ∙ wire_follows w in cc)))
+    (λ no_wire. RefusesToken.unknown n (rw (no_line, no_alone, no_wire) refl))))
 
 text_sound : (at : ℕ) (bs : List ℕ) → Explains at (quote ∷ bs) (text_or at (after_quote quote (at + 1) bs))
 text_sound at bs =
     let by : (o : Option Rest) → after_quote quote (at + 1) bs ≡ o → Explains at (quote ∷ bs) (text_or at o) = λ o.
     elim o as (λ o. after_quote quote (at + 1) bs ≡ o → Explains at (quote ∷ bs) (text_or at o)) [
-      | None ↦ λ none. Refuses.open_text (λ to more w. let f : ◌≡◌ {A = Option Rest} None (Some (rest to more)) = sym none ∙ unquotes_follows w in cc)
-      | Some r ↦ λ found. Reads.text (unquotes_sound quote (at + 1) bs r found)
+      | None ↦ λ none. RefusesToken.open_text (λ to more w. let f : ◌≡◌ {A = Option Rest} None (Some (rest to more)) = sym none ∙ unquotes_follows w in cc)
+      | Some r ↦ λ found. ReadsToken.text (unquotes_sound quote (at + 1) bs r found)
     ] in
     by (after_quote quote (at + 1) bs) refl
 
 -- an open comment is one that nothing closes
-open_sound : (at : ℕ) (bs : List ℕ) → begins (λ c. c == star) bs ≡ true → comment (at + 1) bs ≡ None → Refuses at (slash ∷ bs) (OpenComment at)
+open_sound : (at : ℕ) (bs : List ℕ) → begins (λ c. c == star) bs ≡ true → comment (at + 1) bs ≡ None → RefusesToken at (slash ∷ bs) (OpenComment at)
 open_sound at [] h none = absurd (true≢false (sym h))
 open_sound at (c ∷ cs) h none =
     let e : star ≡ c = sym (eqb-true c star h) in
     let computed : comment (at + 1) (star ∷ cs) ≡ None = ap (λ x. comment (at + 1) (x ∷ cs)) e ∙ none in
-    subst (λ x. Refuses at (slash ∷ x ∷ cs) (OpenComment at)) e
-    (Refuses.open_comment (λ to more w.
+    subst (λ x. RefusesToken at (slash ∷ x ∷ cs) (OpenComment at)) e
+    (RefusesToken.open_comment (λ to more w.
     let f : after_close false (at + 2) cs ≡ Some (rest to more) = closes_follows w in
     let g : after_close false (at + 1 + 1) cs ≡ Some (rest to more) = rw two f in
     let i : ◌≡◌ {A = Option Rest} None (Some (rest to more)) = sym computed ∙ g in cc))
@@ -184,12 +184,12 @@ white_absent at b bs none =
     ] in
     by (is_white b) none
 
-mark_sound : (at b : ℕ) (bs : List ℕ) → blank at (b ∷ bs) ≡ None → ((b == backquote) && begins is_letter bs) ≡ false → (is_letter b || is_digit b || (b == quote)) ≡ false → ((b == slash) && begins (λ c. c == star) bs) ≡ false → ((b == backslash) && begins is_printable bs) ≡ false → is_printable b ≡ true → Reads at (b ∷ bs) (token Mark at (at + 1)) bs
+mark_sound : (at b : ℕ) (bs : List ℕ) → blank at (b ∷ bs) ≡ None → ((b == backquote) && begins is_letter bs) ≡ false → (is_letter b || is_digit b || (b == quote)) ≡ false → ((b == slash) && begins (λ c. c == star) bs) ≡ false → ((b == backslash) && begins is_printable bs) ≡ false → is_printable b ≡ true → ReadsToken at (b ∷ bs) (token Mark at (at + 1)) bs
 mark_sound at b bs none no_directive kinds no_open no_escape h =
     let white = white_absent at b bs none in
     let stands : (if b == slash then comment (at + 1) bs else None) ≡ None = rw white at none in
     let no_comment = comment_absent (b == slash) (at + 1) bs stands no_open in
-    Reads.mark h kinds (rw (no_comment, no_escape, no_directive) refl)
+    ReadsToken.mark h kinds (rw (no_comment, no_escape, no_directive) refl)
 
 rest_sound : (at b : ℕ) (bs : List ℕ) → blank at (b ∷ bs) ≡ None → ((b == backquote) && begins is_letter bs) ≡ false → (is_letter b || is_digit b || (b == quote)) ≡ false → Explains at (b ∷ bs) (if (b == slash) && begins (λ c. c == star) bs then refuse (OpenComment at) else if (b == backslash) && begins is_printable bs then tell_run Escaped at (after is_printable (at + 1) bs) else if is_printable b then tell (token Mark at (at + 1)) bs else refuse (BadByte at))
 rest_sound at b bs none no_directive kinds =
@@ -197,21 +197,21 @@ rest_sound at b bs none no_directive kinds =
     (λ h. let both = and_parts (b == slash) (begins (λ c. c == star) bs) h in
     let e : b ≡ slash = eqb-true b slash both.0 in
     let stands : blank at (slash ∷ bs) ≡ None = ap (λ x. blank at (x ∷ bs)) (sym e) ∙ none in
-    subst (λ x. Refuses at (x ∷ bs) (OpenComment at)) (sym e) (open_sound at bs both.1 stands))
+    subst (λ x. RefusesToken at (x ∷ bs) (OpenComment at)) (sym e) (open_sound at bs both.1 stands))
     (λ no_open. cond_both ((b == backslash) && begins is_printable bs) _ _ (Explains at (b ∷ bs))
     (λ h. let both = and_parts (b == backslash) (begins is_printable bs) h in
     let r = after is_printable (at + 1) bs in
-    subst (λ x. Reads at (x ∷ bs) (token Escaped at r.at) r.bytes) (sym (eqb-true b backslash both.0)) (Reads.escaped both.1 (longest_sound is_printable (at + 1) bs)))
+    subst (λ x. ReadsToken at (x ∷ bs) (token Escaped at r.at) r.bytes) (sym (eqb-true b backslash both.0)) (ReadsToken.escaped both.1 (longest_sound is_printable (at + 1) bs)))
     (λ no_escape. cond_both (is_printable b) _ _ (Explains at (b ∷ bs))
     (λ h. mark_sound at b bs none no_directive kinds no_open no_escape h)
-    (λ h. Refuses.bad_byte (white_absent at b bs none) h)))
+    (λ h. RefusesToken.bad_byte (white_absent at b bs none) h)))
 
 read_sound : (at b : ℕ) (bs : List ℕ) → blank at (b ∷ bs) ≡ None → ((b == backquote) && begins is_letter bs) ≡ false → Explains at (b ∷ bs) (read at b bs)
 read_sound at b bs none no_directive =
     cond_both (is_letter b) _ _ (Explains at (b ∷ bs))
-    (λ h. Reads.name h (longest_sound is_name_byte (at + 1) bs))
+    (λ h. ReadsToken.name h (longest_sound is_name_byte (at + 1) bs))
     (λ no_letter. cond_both (is_digit b) _ _ (Explains at (b ∷ bs))
-    (λ h. Reads.number h (longest_sound is_number_byte (at + 1) bs))
+    (λ h. ReadsToken.number h (longest_sound is_number_byte (at + 1) bs))
     (λ no_digit. cond_both (b == quote) _ _ (Explains at (b ∷ bs))
     (λ h. subst (λ x. Explains at (x ∷ bs) (text_or at (after_quote quote (at + 1) bs))) (sym (eqb-true b quote h)) (text_sound at bs))
     (λ no_quote. rest_sound at b bs none no_directive (rw (no_letter, no_digit, no_quote) refl))))

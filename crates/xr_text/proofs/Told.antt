@@ -7,13 +7,13 @@ use Rattle.xr_text.specs.declared.token.LexErr.{LexErr}
 use Rattle.xr_text.specs.declared.token.LexErr.TheVariants.{Directive}
 use Rattle.xr_text.specs.Byte.{backquote, is_letter, begins}
 use Rattle.xr_text.specs.Left.{Left, ended, refused, first, Ascend}
-use Rattle.xr_text.specs.Scan.{Rest, rest, blank, directive, Step, done, skip, tell, refuse, skip_or, begins_directive, read, begin, step, told, scan, left}
+use Rattle.xr_text.specs.Scan.{Rest, rest, blank, directive, Step, done, skip, tell, refuse, skip_or, begins_directive, read, begin, step, told_by_step, scan, left}
 use Rattle.xr_text.specs.Tokens.{Tokens}
 use Rattle.xr_text.proofs.Sizes.{skips_goes, reads_goes}
 use Rattle.xr_text.proofs.Steps.{Explains, step_sound, blank_step, skips_follows, reads_follows, refuses_follows}
 
 -- what a step leaves is shorter, so that two that agree on what is shorter tell the same
-told_same : (at : ℕ) (bs : List ℕ) (s : Step) → Explains at bs s → (go also : Rest → Left) → ((r : Rest) → length r.bytes + 1 ≤ length bs → go r ≡ also r) → told s go ≡ told s also
+told_same : (at : ℕ) (bs : List ℕ) (s : Step) → Explains at bs s → (go also : Rest → Left) → ((r : Rest) → length r.bytes + 1 ≤ length bs → go r ≡ also r) → told_by_step s go ≡ told_by_step s also
 told_same at bs done e go also same = refl
 told_same at bs (skip r) e go also same = let g = skips_goes e in same r (omega (arith, g.fits, g.onward))
 told_same at bs (tell t more) e go also same = let g = (reads_goes e).1 in ap (first t) (same (rest t.«end» more) (omega (arith, g.fits, g.onward)))
@@ -32,14 +32,14 @@ enough (suc n) (suc m) at (b ∷ bs) h i =
     told_same at (b ∷ bs) (step at (b ∷ bs)) (step_sound at (b ∷ bs)) (scan n) (scan m) (λ r k. enough n m r.at r.bytes (omega arith) (omega arith))
 
 -- what is told is told by the step, and then from where it leads
-left_step : (at : ℕ) (bs : List ℕ) → left at bs ≡ told (step at bs) (λ r. left r.at r.bytes)
+left_step : (at : ℕ) (bs : List ℕ) → left at bs ≡ told_by_step (step at bs) (λ r. left r.at r.bytes)
 unfolding left
 left_step at [] = refl
 left_step at (b ∷ bs) =
     told_same at (b ∷ bs) (step at (b ∷ bs)) (step_sound at (b ∷ bs)) (scan (length bs)) (λ r. scan (length r.bytes) r) (λ r k. enough (length bs) (length r.bytes) r.at r.bytes (omega arith) (omega arith))
 
-left_by : (at : ℕ) (bs : List ℕ) (s : Step) → step at bs ≡ s → left at bs ≡ told s (λ r. left r.at r.bytes)
-left_by at bs s e = left_step at bs ∙ ap (λ x. told x (λ r. left r.at r.bytes)) e
+left_by : (at : ℕ) (bs : List ℕ) (s : Step) → step at bs ≡ s → left at bs ≡ told_by_step s (λ r. left r.at r.bytes)
+left_by at bs s e = left_step at bs ∙ ap (λ x. told_by_step x (λ r. left r.at r.bytes)) e
 
 pub left_ends : (at : ℕ) → left at [] ≡ ended
 left_ends at = left_step at []
@@ -100,7 +100,7 @@ left_follows (Tokens.skips {at = at} {to = to} {bs = bs} {rest = more} s d) = le
 left_follows (Tokens.reads {at = at} {bs = bs} {rest = more} {t = t} s d) = left_tell at bs t more (reads_follows s) ∙ ap (first t) (left_follows d)
 left_follows (Tokens.refuses {at = at} {bs = bs} {e = e} s) = left_refuse at bs e (refuses_follows s)
 
-told_sound : (at : ℕ) (bs : List ℕ) (s : Step) → Explains at bs s → ((r : Rest) → length r.bytes + 1 ≤ length bs → Tokens r.at r.bytes (left r.at r.bytes)) → Tokens at bs (told s (λ r. left r.at r.bytes))
+told_sound : (at : ℕ) (bs : List ℕ) (s : Step) → Explains at bs s → ((r : Rest) → length r.bytes + 1 ≤ length bs → Tokens r.at r.bytes (left r.at r.bytes)) → Tokens at bs (told_by_step s (λ r. left r.at r.bytes))
 told_sound at bs done e below = subst (λ xs. Tokens at xs ended) (sym e) Tokens.ends
 told_sound at bs (skip r) e below = let g = skips_goes e in Tokens.skips e (below r (omega (arith, g.fits, g.onward)))
 told_sound at bs (tell t more) e below = let g = (reads_goes e).1 in Tokens.reads e (below (rest t.«end» more) (omega (arith, g.fits, g.onward)))

@@ -142,15 +142,15 @@ abbrev pub step : ℕ → List ℕ → Step
 step at [] = done
 step at (b ∷ bs) = skip_or (blank at (b ∷ bs)) (begin at b bs)
 
-abbrev pub told : Step → (Rest → Left) → Left
-told done go = ended
-told (skip r) go = go r
-told (tell t bs) go = first t (go (rest t.«end» bs))
-told (refuse e) go = refused e
+abbrev pub told_by_step : Step → (Rest → Left) → Left
+told_by_step done go = ended
+told_by_step (skip r) go = go r
+told_by_step (tell t bs) go = first t (go (rest t.«end» bs))
+told_by_step (refuse e) go = refused e
 
 abbrev pub scan : ℕ → Rest → Left
 scan zero r = ended
-scan (suc n) r = told (step r.at r.bytes) (scan n)
+scan (suc n) r = told_by_step (step r.at r.bytes) (scan n)
 
 -- all that is told of the bytes from a place on
 unfoldable pub left : ℕ → List ℕ → Left

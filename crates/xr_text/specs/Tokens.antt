@@ -53,34 +53,34 @@ begins_more b bs =
     (b == slash) && begins (λ c. (c == slash) || (c == star)) bs || (b == backslash) && begins is_printable bs || (b == backquote) && begins is_letter bs
 
 -- a token, and the bytes after it
-pub data Reads : ℕ → List ℕ → Token → List ℕ → Type 0 where
+pub data ReadsToken : ℕ → List ℕ → Token → List ℕ → Type 0 where
   -- a letter or `_`, then letters, digits, `_`, `$`
-  name : {at to b : ℕ} {bs rest : List ℕ} → is_letter b ≡ true → Longest is_name_byte (at + 1) bs to rest → Reads at (b ∷ bs) (token Name at to) rest
+  name : {at to b : ℕ} {bs rest : List ℕ} → is_letter b ≡ true → Longest is_name_byte (at + 1) bs to rest → ReadsToken at (b ∷ bs) (token Name at to) rest
   -- a digit, then digits, letters, `_`, `'`
-  number : {at to b : ℕ} {bs rest : List ℕ} → is_digit b ≡ true → Longest is_number_byte (at + 1) bs to rest → Reads at (b ∷ bs) (token Number at to) rest
+  number : {at to b : ℕ} {bs rest : List ℕ} → is_digit b ≡ true → Longest is_number_byte (at + 1) bs to rest → ReadsToken at (b ∷ bs) (token Number at to) rest
   -- a backslash, then bytes 33 to 126, one at least
-  escaped : {at to : ℕ} {bs rest : List ℕ} → begins is_printable bs ≡ true → Longest is_printable (at + 1) bs to rest → Reads at (backslash ∷ bs) (token Escaped at to) rest
+  escaped : {at to : ℕ} {bs rest : List ℕ} → begins is_printable bs ≡ true → Longest is_printable (at + 1) bs to rest → ReadsToken at (backslash ∷ bs) (token Escaped at to) rest
   -- a `"` to the next on its line that has no backslash directly before it
-  text : {at to : ℕ} {bs rest : List ℕ} → Unquotes quote (at + 1) bs to rest → Reads at (quote ∷ bs) (token Text at to) rest
+  text : {at to : ℕ} {bs rest : List ℕ} → Unquotes quote (at + 1) bs to rest → ReadsToken at (quote ∷ bs) (token Text at to) rest
   -- any other byte 33 to 126
-  mark : {at b : ℕ} {bs : List ℕ} → is_printable b ≡ true → (is_letter b || is_digit b || (b == quote)) ≡ false → begins_more b bs ≡ false → Reads at (b ∷ bs) (token Mark at (at + 1)) bs
+  mark : {at b : ℕ} {bs : List ℕ} → is_printable b ≡ true → (is_letter b || is_digit b || (b == quote)) ≡ false → begins_more b bs ≡ false → ReadsToken at (b ∷ bs) (token Mark at (at + 1)) bs
 
 -- a refusal
-pub data Refuses : ℕ → List ℕ → LexErr → Type 0 where
+pub data RefusesToken : ℕ → List ℕ → LexErr → Type 0 where
   -- a byte that is neither white space nor one of 33 to 126
-  bad_byte : {at b : ℕ} {bs : List ℕ} → is_white b ≡ false → is_printable b ≡ false → Refuses at (b ∷ bs) (BadByte at)
+  bad_byte : {at b : ℕ} {bs : List ℕ} → is_white b ≡ false → is_printable b ≡ false → RefusesToken at (b ∷ bs) (BadByte at)
   -- a `/*` that nothing closes
-  open_comment : {at : ℕ} {bs : List ℕ} → Nowhere (Closes (at + 2) bs) → Refuses at (slash ∷ star ∷ bs) (OpenComment at)
+  open_comment : {at : ℕ} {bs : List ℕ} → Nowhere (Closes (at + 2) bs) → RefusesToken at (slash ∷ star ∷ bs) (OpenComment at)
   -- a `"` that nothing closes on its line
-  open_text : {at : ℕ} {bs : List ℕ} → Nowhere (Unquotes quote (at + 1) bs) → Refuses at (quote ∷ bs) (OpenText at)
+  open_text : {at : ℕ} {bs : List ℕ} → Nowhere (Unquotes quote (at + 1) bs) → RefusesToken at (quote ∷ bs) (OpenText at)
   -- `default_nettype with no `wire`
-  no_wire : {at mid : ℕ} {bs more : List ℕ} → IsName (codes "default_nettype") (at + 1) bs mid more → Nowhere (Wire mid more) → Refuses at (backquote ∷ bs) (Directive at)
+  no_wire : {at mid : ℕ} {bs more : List ℕ} → IsName (codes "default_nettype") (at + 1) bs mid more → Nowhere (Wire mid more) → RefusesToken at (backquote ∷ bs) (Directive at)
   -- a directive that is unknown
-  unknown : {at mid : ℕ} {bs more word : List ℕ} → IsName word (at + 1) bs mid more → is_unknown word ≡ true → Refuses at (backquote ∷ bs) (Directive at)
+  unknown : {at mid : ℕ} {bs more word : List ℕ} → IsName word (at + 1) bs mid more → is_unknown word ≡ true → RefusesToken at (backquote ∷ bs) (Directive at)
 
 -- the bytes from a place on, and all that is told of them
 pub data Tokens : ℕ → List ℕ → Left → Type 0 where
   ends : {at : ℕ} → Tokens at [] ended
   skips : {at to : ℕ} {bs rest : List ℕ} {l : Left} → Skips at bs to rest → Tokens to rest l → Tokens at bs l
-  reads : {at : ℕ} {bs rest : List ℕ} {t : Token} {l : Left} → Reads at bs t rest → Tokens t.«end» rest l → Tokens at bs (first t l)
-  refuses : {at : ℕ} {bs : List ℕ} {e : LexErr} → Refuses at bs e → Tokens at bs (refused e)
+  reads : {at : ℕ} {bs rest : List ℕ} {t : Token} {l : Left} → ReadsToken at bs t rest → Tokens t.«end» rest l → Tokens at bs (first t l)
+  refuses : {at : ℕ} {bs : List ℕ} {e : LexErr} → RefusesToken at bs e → Tokens at bs (refused e)

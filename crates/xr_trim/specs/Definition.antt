@@ -30,8 +30,8 @@ name_in Mark bytes = bytes
 abbrev pub is_name : Shown → Bool
 is_name t = is_name_kind t.token.kind
 
-abbrev pub name_of : Shown → List ℕ
-name_of t = name_in t.token.kind t.bytes
+abbrev pub spelled_name : Shown → List ℕ
+spelled_name t = name_in t.token.kind t.bytes
 
 -- ---- a definition
 
@@ -61,12 +61,12 @@ ends_item a b = is (codes ";") b || is (codes "endspecify") b || (is (codes "*")
 -- After two tokens, each name that an item begins with is mentioned.
 abbrev pub mentions : Shown → Shown → List Shown → List (List ℕ)
 mentions a b [] = []
-mentions a b (t ∷ ts) = if ends_item a b && is_name t then name_of t ∷ mentions b t ts else mentions b t ts
+mentions a b (t ∷ ts) = if ends_item a b && is_name t then spelled_name t ∷ mentions b t ts else mentions b t ts
 
 -- The definition of the word that opens it, its name, what stands within, and the word that closes it.
 abbrev pub definition_of : Shown → Shown → List Shown → Shown → Defined
 definition_of opening name within close = record {
-  name = name_of name;
+  name = spelled_name name;
   start = opening.token.start;
   «end» = close.token.«end»;
   mentions = mentions opening name within;

@@ -16,7 +16,7 @@ pub struct Spelled<'t> {
 impl<'t> Spelled<'t> {
     ghost use Rattle.std.specs.Prelude.{◌≡◌, List, ℕ};
     ghost use Rattle.xr_trim.specs.Shown.{seen};
-    ghost use Rattle.xr_trim.specs.Definition.{closes, ends_item, is, is_name, name_of, opens};
+    ghost use Rattle.xr_trim.specs.Definition.{closes, ends_item, is, is_name, spelled_name, opens};
 
     /// Its first byte in the text.
     pub fn start(self) -> usize
@@ -41,7 +41,7 @@ impl<'t> Spelled<'t> {
 
     /// The name that it is.
     pub fn name(self) -> &'t [u8]
-        ensures { result.now ≡ name_of (seen self.entry) }
+        ensures { result.now ≡ spelled_name (seen self.entry) }
     {
         name_in(self.token.kind, self.bytes)
     }

@@ -13,7 +13,7 @@ use Rattle.xr_trim.proofs.OneWay.{one_outcome}
 use Rattle.xr_stub.proofs.OneWay.{one_stubbed}
 use Rattle.xr_trim_cli.specs.Cause.{status_of}
 use Rattle.xr_trim_cli.specs.Commands.{commands}
-use Rattle.xr_trim_cli.specs.Done.{Done, IsKept, IsKeptOf, IsRefusedFor, RefusesText}
+use Rattle.xr_trim_cli.specs.Done.{Done, WritesKept, IsKeptOf, IsRefusedFor, RefusesText}
 use Rattle.xr_trim_cli.specs.Phases.{StubsCome, trim_answer, trim_phases}
 use Rattle.xr_trim_cli.specs.Words.{TrimValues}
 use Rattle.xr_trim_cli.specs.declared.cause.Refused.{Refused}
@@ -60,7 +60,7 @@ answered told files w answer (inr (text, read, inr (stubbed, stubs, inr (out, fo
 }
 
 kept_of : (told : Bool) (old new : Files) (w : TrimValues) (answer : Answer) → IsTrue told → Answered told old w answer
-    → WrittenTo told (length answer.files) answer.files old new → IsKept w old new
+    → WrittenTo told (length answer.files) answer.files old new → WritesKept w old new
 kept_of told old new w answer t a written =
     let one : WrittenTo told 1 (record { name = w.to; bytes = a.out } ∷ []) old new = subst (λ (x : Answer). WrittenTo told (length x.files) x.files old new) a.is written in
     let file : File = record { name = w.to; bytes = a.out } in

@@ -20,7 +20,7 @@ pub record IsKeptOf (w : TrimValues) (text out : List ℕ) : Type 0 where
   pub trimmed : IsTrimmed stubbed w.top out
 
 -- The file that is written has what is kept of the files that are read, joined; no other file changed.
-pub record IsKept (w : TrimValues) (old new : Files) : Type 0 where
+pub record WritesKept (w : TrimValues) (old new : Files) : Type 0 where
   pub out : List ℕ
   pub kept : IsKeptOf w (text_held old w.files) out
   pub written : new w.to ≡ Some out
@@ -30,7 +30,7 @@ pub record IsKept (w : TrimValues) (old new : Files) : Type 0 where
 pub record Done (s : Start) (shelf : View) : Type 0 where
   pub words : TrimValues
   pub means : Means s.line words
-  pub kept : IsTrue s.shelf_told → IsKept words s.shelf.files shelf.files
+  pub kept : IsTrue s.shelf_told → WritesKept words s.shelf.files shelf.files
 
 -- The joined text is too long; or it has no stubs; or with them it can't be trimmed.
 abbrev pub IsRefusedFor : TrimValues → List ℕ → Refused → Type 0

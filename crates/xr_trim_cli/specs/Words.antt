@@ -8,7 +8,7 @@ use Rattle.xr_line.specs.declared.option.Opt.{Opt}
 use Rattle.xr_line.specs.Apart.{AreApart}
 use Rattle.xr_line.specs.Tables.{Plain, Module, Writes, needs, plain, takes}
 use Rattle.xr_line.specs.Line.{IsLine, Item, Text, given, pieces_of}
-use Rattle.xr_line.specs.Read.{HasOnly, Reads}
+use Rattle.xr_line.specs.Read.{HasOnly, ReadsLine}
 use Rattle.xr_line.specs.declared.line.Line.{Line}
 use Rattle.xr_trim_cli.specs.declared.trim_words.TrimWords.{TrimWords}
 
@@ -85,5 +85,5 @@ MeansOnly words v = (other : TrimValues) → Means words other → other ≡ v
 pub record IsTrimLine (words : List Text) (line : Line) : Type 0 where
   pub options : List Opt
   pub declared : map plain options ≡ table
-  pub reads : Reads options true words line
+  pub reads : ReadsLine options true words line
   pub only : HasOnly options true words line

@@ -5,7 +5,7 @@ use Rattle.std.specs.Prelude.{◌==◌, bytes_eq, codes, is_some}
 use Rattle.xr_vcd.specs.Bytes.{is_code, is_end, is_power, is_scale, is_skipped, is_unit, range_of}
 use Rattle.xr_scan.specs.Numbers.{number_from}
 use Rattle.xr_scan.specs.Bytes.{are_digits}
-use Rattle.xr_vcd.specs.Declarations.{Declarations, RecordedName, name, name_of, with_scale, with_scope, with_variable}
+use Rattle.xr_vcd.specs.Declarations.{Declarations, RecordedName, name, recorded_name, with_scale, with_scope, with_variable}
 use Rattle.xr_vcd.specs.Machine.{State, Next, code_on, finish, is_width, range_on, run, step, then_run}
 use Rattle.xr_vcd.specs.Machine.State.{declaring, note, scale, scale_unit, scale_end, scope_kind, scope_name, scope_end, var_kind, var_width, var_code, var_reference, var_range, var_end}
 use Rattle.xr_vcd.specs.Recording.{Recording}
@@ -149,10 +149,10 @@ named_range (Some range) h skipped number width reference t ts next stop r is e 
       goes = a.goes;
     }
 
-pub named_on : (b : Bool) (h : Declarations) (skipped : Bool) (number width : ℕ) (reference : List ℕ) (t : Word) (ts : List Word) (next : State) (stop : ℕ) (r : Recording) → is_end t.text ≡ b → (let n : Next = cond b (Ok (declaring (with_variable h skipped number width (name_of reference)))) (range_on (range_of t.text) h skipped number width reference t.at) in n) ≡ Ok next → run next ts stop ≡ Ok r → Named h skipped number width (t ∷ ts) stop r
+pub named_on : (b : Bool) (h : Declarations) (skipped : Bool) (number width : ℕ) (reference : List ℕ) (t : Word) (ts : List Word) (next : State) (stop : ℕ) (r : Recording) → is_end t.text ≡ b → (let n : Next = cond b (Ok (declaring (with_variable h skipped number width (recorded_name reference)))) (range_on (range_of t.text) h skipped number width reference t.at) in n) ≡ Ok next → run next ts stop ≡ Ok r → Named h skipped number width (t ∷ ts) stop r
 named_on true h skipped number width reference t ts next stop r is e g =
-    let s : State = declaring (with_variable h skipped number width (name_of reference)) in
-    record { rest = ts; ended = RangeEnd.none is; shorter = omega arith; called = name_of reference; goes = goes_from s next ts stop r (same_state s next e) g }
+    let s : State = declaring (with_variable h skipped number width (recorded_name reference)) in
+    record { rest = ts; ended = RangeEnd.none is; shorter = omega arith; called = recorded_name reference; goes = goes_from s next ts stop r (same_state s next e) g }
 named_on false h skipped number width reference t ts next stop r is e g = named_range (range_of t.text) h skipped number width reference t ts next stop r refl e g
 
 pub named : (h : Declarations) (skipped : Bool) (number width : ℕ) (reference : List ℕ) (ts : List Word) (stop : ℕ) (r : Recording) → run (var_range h skipped number width reference) ts stop ≡ Ok r → Named h skipped number width ts stop r

@@ -5,7 +5,7 @@ use Rattle.xr_vcd.specs.declared.refusal.VcdErr.TheVariants.{Syntax, UnknownCode
 use Rattle.xr_vcd.specs.Words.{Word, words_of}
 use Rattle.xr_vcd.specs.Machine.{State, Next, step, run, then_run}
 use Rattle.xr_vcd.specs.Faults.{Says, FirstFault, beginning, reach, reach_on, stops}
-use Rattle.xr_vcd.specs.Reading.{Answers, Refuses}
+use Rattle.xr_vcd.specs.Reading.{Answers, RefusesRecording}
 use Rattle.xr_vcd.specs.Recording.{Recording}
 
 same_error : (a b : VcdErr) → then_run (Err a) (λ next. run next [] 0) ≡ Err b → a ≡ b
@@ -42,7 +42,7 @@ first_fault text stop e is h =
     record { front = f.front; rest = f.rest; split = f.split; state = f.state; reached = f.reached; stopped = f.stopped }
 
 -- It has no fault.
-ok_or_memory : (e : VcdErr) (r : Recording) (said : Result Recording VcdErr) → said ≡ Ok r → Refuses said e → e ≡ Memory
+ok_or_memory : (e : VcdErr) (r : Recording) (said : Result Recording VcdErr) → said ≡ Ok r → RefusesRecording said e → e ≡ Memory
 ok_or_memory (Syntax at) r said is h = let e : said ≡ Err (Syntax at) = h (λ x. cc) in cc
 ok_or_memory (UnknownCode at) r said is h = let e : said ≡ Err (UnknownCode at) = h (λ x. cc) in cc
 ok_or_memory (TimeBack at) r said is h = let e : said ≡ Err (TimeBack at) = h (λ x. cc) in cc

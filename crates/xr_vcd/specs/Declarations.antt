@@ -74,8 +74,8 @@ name_at None k t = name t None false
 name_at (Some range) k t = cond (k == 0) (name t None false) (name t (Some range) true)
 
 -- The name that one word gives.
-abbrev pub name_of : List ℕ → RecordedName
-name_of t = name_at (range_of (drop (last_bracket t) t)) (last_bracket t) t
+abbrev pub recorded_name : List ℕ → RecordedName
+recorded_name t = name_at (range_of (drop (last_bracket t) t)) (last_bracket t) t
 
 abbrev pub variable : ℕ → RecordedName → ℕ → Variable
 variable scope n width = record { scope = scope; reference = n.reference; range = n.range; direct = n.direct; width = width }

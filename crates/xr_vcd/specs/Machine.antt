@@ -7,7 +7,7 @@ use Rattle.xr_scan.specs.Numbers.{number_from}
 use Rattle.xr_scan.specs.Bytes.{are_digits}
 use Rattle.xr_vcd.specs.Changes.{Body, start, time_on, scalar_in, vector_in, real_in, recording_of}
 use Rattle.xr_vcd_codes.specs.Code.{find}
-use Rattle.xr_vcd.specs.Declarations.{Declarations, name, name_of, with_scale, with_scope, left_scope, with_code, with_kind, with_variable}
+use Rattle.xr_vcd.specs.Declarations.{Declarations, name, recorded_name, with_scale, with_scope, left_scope, with_code, with_kind, with_variable}
 use Rattle.xr_vcd.specs.Kinds.{kind_of}
 use Rattle.xr_vcd.specs.Recording.{Recording}
 use Rattle.xr_vcd.specs.Words.{Word}
@@ -94,7 +94,7 @@ range_on (Some range) h skipped number width reference at = Ok (var_end h skippe
 -- After the reference: `$end`, or a range in a word of its own.
 abbrev pub behind_on : Declarations → Bool → ℕ → ℕ → List ℕ → Word → Next
 behind_on h skipped number width reference t =
-    cond (is_end t.text) (Ok (declaring (with_variable h skipped number width (name_of reference))))
+    cond (is_end t.text) (Ok (declaring (with_variable h skipped number width (recorded_name reference))))
     (range_on (range_of t.text) h skipped number width reference t.at)
 
 abbrev pub to_body : Bool → Result Body VcdErr → Next

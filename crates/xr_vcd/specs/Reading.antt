@@ -35,52 +35,52 @@ abbrev pub goes_on : Next → Left → Result Recording VcdErr
 goes_on next left = then_run next (λ s. goes s left)
 
 -- A fault other than out of memory is that of the words.
-abbrev pub Refuses : Result Recording VcdErr → VcdErr → Type 0
-Refuses r e = e ≢ Memory → r ≡ Err e
+abbrev pub RefusesRecording : Result Recording VcdErr → VcdErr → Type 0
+RefusesRecording r e = e ≢ Memory → r ≡ Err e
 
 -- From this state the words were read up to the next one, or refused.
-abbrev pub Reads : {X : Type 0} → State → Left → Result X VcdErr → (X → State) → Left → Type 0
-Reads s old (Ok x) next new = goes s old ≡ goes (next x) new
-Reads s old (Err e) next new = Refuses (goes s old) e
+abbrev pub ReadsWords : {X : Type 0} → State → Left → Result X VcdErr → (X → State) → Left → Type 0
+ReadsWords s old (Ok x) next new = goes s old ≡ goes (next x) new
+ReadsWords s old (Err e) next new = RefusesRecording (goes s old) e
 
 -- the same from where a word led
 abbrev pub ReadsOn : {X : Type 0} → Next → Left → Result X VcdErr → (X → State) → Left → Type 0
 ReadsOn s old (Ok x) next new = goes_on s old ≡ goes (next x) new
-ReadsOn s old (Err e) next new = Refuses (goes_on s old) e
+ReadsOn s old (Err e) next new = RefusesRecording (goes_on s old) e
 
 -- A declaration was read, after which this is declared.
 abbrev pub ReadsOne : State → Left → Result Unit VcdErr → Declarations → Left → Type 0
-ReadsOne s old result after new = Reads s old result (λ _. declaring after) new
+ReadsOne s old result after new = ReadsWords s old result (λ _. declaring after) new
 
 -- A code was read, after which this is declared.
 abbrev pub ReadsCode : Declarations → ℕ → Bool → ℕ → Left → Result ℕ VcdErr → Declarations → Left → Type 0
 ReadsCode before var skipped width old result after new =
-    Reads (var_code before var skipped width) old result (λ number. var_reference after skipped number width) new
+    ReadsWords (var_code before var skipped width) old result (λ number. var_reference after skipped number width) new
 
 -- In any declarations, their end is read, or refused.
 abbrev pub ReadsEnd : Left → Result Unit VcdErr → Left → Type 0
-ReadsEnd old result new = (h : Declarations) → Reads (definitions_end h) old result (λ _. body (start h) false) new
+ReadsEnd old result new = (h : Declarations) → ReadsWords (definitions_end h) old result (λ _. body (start h) false) new
 
 -- In any declarations, the width of a variable is read, or refused.
 abbrev pub ReadsWidth : Left → Result ℕ VcdErr → Left → Type 0
 ReadsWidth old result new =
-    (h : Declarations) (var : ℕ) (skipped : Bool) → Reads (var_width h var skipped) old result (λ width. var_code h var skipped width) new
+    (h : Declarations) (var : ℕ) (skipped : Bool) → ReadsWords (var_width h var skipped) old result (λ width. var_code h var skipped width) new
 
 -- So is its name, with which the variable is declared.
 abbrev pub ReadsName : Left → Result RecordedName VcdErr → Left → Type 0
 ReadsName old result new =
-    (h : Declarations) (skipped : Bool) (number width : ℕ) → Reads (var_reference h skipped number width) old result (λ n. declaring (with_variable h skipped number width (shown_name n))) new
+    (h : Declarations) (skipped : Bool) (number width : ℕ) → ReadsWords (var_reference h skipped number width) old result (λ n. declaring (with_variable h skipped number width (shown_name n))) new
 
 -- In its name, the reference is read, or refused.
 abbrev pub ReadsReference : Left → Result (Bor (List ℕ)) VcdErr → Left → Type 0
 ReadsReference old result new =
-    (h : Declarations) (skipped : Bool) (number width : ℕ) → Reads (var_reference h skipped number width) old result (λ t. var_range h skipped number width t.now) new
+    (h : Declarations) (skipped : Bool) (number width : ℕ) → ReadsWords (var_reference h skipped number width) old result (λ t. var_range h skipped number width t.now) new
 
 -- After a range in a word of its own, the end of the variable is read, or refused.
 abbrev pub ReadsVariableEnd : Left → Result Unit VcdErr → Left → Type 0
 ReadsVariableEnd old result new =
     (h : Declarations) (skipped : Bool) (number width : ℕ) (reference : List ℕ) (range : ℕ × ℕ)
-    → Reads (var_end h skipped number width reference range) old result (λ _. declaring (with_variable h skipped number width (name reference (Some range) false))) new
+    → ReadsWords (var_end h skipped number width reference range) old result (λ _. declaring (with_variable h skipped number width (name reference (Some range) false))) new
 
 -- Digits were read, whose word this is, and with the code in the next one they changed the body, in a dump or outside.
 abbrev pub ReadsVector : Word → Body → Left → Result Unit VcdErr → Body → Left → Type 0
@@ -100,7 +100,7 @@ Does (Err e) p = e ≡ Memory
 -- The answer is what the words say, or out of memory.
 abbrev pub Answers : Result Recording VcdErr → Result Recording VcdErr → Type 0
 Answers (Ok r) said = said ≡ Ok r
-Answers (Err e) said = Refuses said e
+Answers (Err e) said = RefusesRecording said e
 
 -- A change of the body gave this one, or its fault.
 abbrev pub Gives : {X : Type 0} → Result X VcdErr → Body → Result Body VcdErr → Type 0

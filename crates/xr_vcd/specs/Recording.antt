@@ -80,5 +80,5 @@ abbrev pub last_name : Path → List ℕ
 last_name path = slice_index_or path (length path - 1) []
 
 -- A scope's path is that of the scope that it is in, and its own name.
-abbrev pub IsWithin : List Path → ℕ → ℕ → Type 0
-IsWithin paths scope parent = path_at paths scope ≡ path_at paths parent ++ last_name (path_at paths scope) ∷ []
+abbrev pub IsScopeWithin : List Path → ℕ → ℕ → Type 0
+IsScopeWithin paths scope parent = path_at paths scope ≡ path_at paths parent ++ last_name (path_at paths scope) ∷ []

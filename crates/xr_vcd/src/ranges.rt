@@ -2,7 +2,7 @@
 
 ghost use Rattle.std.specs.Prelude.{◌≡◌, ◌<◌, ◌==◌, IfSome, length, option_map, position};
 ghost use Rattle.xr_vcd.specs.Bytes.{index_of, both_of, bounds_of, is_bracketed, range_of, last_bracket};
-ghost use Rattle.xr_vcd.specs.Declarations.{name_of};
+ghost use Rattle.xr_vcd.specs.Declarations.{recorded_name};
 ghost use Rattle.xr_vcd.specs.Naming.{shown_name};
 
 use crate::bytes::{drop, take};
@@ -19,7 +19,7 @@ pub struct RecordedName<'a> {
 
 /// The name that one word gives: a range directly after the reference begins at the last `[`.
 pub fn name_of(text: &[u8]) -> RecordedName<'_>
-    ensures { shown_name result ≡ name_of text.now }
+    ensures { shown_name result ≡ recorded_name text.now }
 {
     let place = last_bracket(text);
     match range_of(drop(text, place)) {

@@ -4,7 +4,7 @@ ghost use Rattle.std.specs.Prelude.{◌≡◌, ◌≢◌, false, ◌<◌, ◌≤
 ghost use Rattle.xr_vcd.specs.Changes.{recorded_so_far, start};
 ghost use Rattle.xr_vcd.specs.Faults.{Says, FirstFault, IsRead, beginning};
 ghost use Rattle.xr_vcd.specs.Machine.State.{body as in_body};
-ghost use Rattle.xr_vcd.specs.Reading.{Answers, Refuses, goes};
+ghost use Rattle.xr_vcd.specs.Reading.{Answers, RefusesRecording, goes};
 ghost use Rattle.xr_vcd.specs.Scopes.{StandInScopes};
 ghost use Rattle.xr_vcd.specs.Words.{left_of};
 ghost use Rattle.xr_vcd.specs.declared.refusal.VcdErr.TheVariants.{Memory as OutOfMemory};
@@ -53,7 +53,7 @@ fn read_body<'a>(words: &mut Words<'a>, declared: Declarations<'a>) -> Result<Re
 /// Reads the changes, after which there is a moment.
 fn read_moments<'a>(words: &mut Words<'a>, body: &mut Body<'a>) -> Result<(), VcdErr>
     ensures says { OnOk result (goes (in_body body.old false) words.old ≡ Ok (recorded_so_far body.new)) }
-    ensures refuses { IfErr result (λ refusal. Refuses (goes (in_body body.old false) words.old) refusal) }
+    ensures refuses { IfErr result (λ refusal. RefusesRecording (goes (in_body body.old false) words.old) refusal) }
     ensures some { OnOk result (0 < length body.new.times) }
 {
     read_changes(words, body)?;

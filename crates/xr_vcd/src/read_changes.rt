@@ -4,7 +4,7 @@ ghost use Rattle.std.specs.Prelude.{◌≡◌, ◌<◌, ◌≤◌, Bool, false, 
 ghost use Rattle.xr_vcd.specs.Kinds.{kind_of};
 ghost use Rattle.xr_vcd.specs.Machine.{body_on};
 ghost use Rattle.xr_vcd.specs.Machine.State.{body, real};
-ghost use Rattle.xr_vcd.specs.Reading.{Reads, ReadsOn, ReadsVector};
+ghost use Rattle.xr_vcd.specs.Reading.{ReadsWords, ReadsOn, ReadsVector};
 ghost use Rattle.xr_vcd.specs.Words.{word};
 
 use crate::body::Body;
@@ -16,7 +16,7 @@ use crate::words::Words;
 
 /// Reads the changes up to the end of the text.
 pub fn read_changes<'a>(words: &mut Words<'a>, changed: &mut Body<'a>) -> Result<(), VcdErr>
-    ensures reads { Reads (body changed.old false) words.old result (λ _. body changed.new false) words.new }
+    ensures reads { ReadsWords (body changed.old false) words.old result (λ _. body changed.new false) words.new }
     ensures ends { OnOk result (words.new.words ≡ []) }
 {
     let mut dump = false;
@@ -75,7 +75,7 @@ fn read_vector(
 
 // real = ( "r" | "R" ) number white code, after its first word
 fn read_real(at: usize, words: &mut Words<'_>, changed: &Body<'_>) -> Result<(), VcdErr>
-    ensures reads { (dump : Bool) → Reads (real changed.now dump at)
+    ensures reads { (dump : Bool) → ReadsWords (real changed.now dump at)
         words.old result (λ _. body changed.now dump) words.new }
     ensures few { OnOk result (length words.new.words < length words.old.words) }
 {

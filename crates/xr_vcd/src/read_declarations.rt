@@ -5,7 +5,7 @@ ghost use Rattle.xr_vcd.specs.Changes.{Body, start};
 ghost use Rattle.xr_vcd.specs.Declarations.{Declarations, with_scale, with_scope};
 ghost use Rattle.xr_vcd.specs.Machine.{upscope_on};
 ghost use Rattle.xr_vcd.specs.Machine.State.{note, scale, scope_kind, scope_name, scope_end, scale_end, upscope_end, var_kind, body, body_note, declaring};
-ghost use Rattle.xr_vcd.specs.Reading.{Reads, ReadsCode, ReadsEnd, ReadsName, ReadsOn, ReadsOne, ReadsReference, ReadsVariableEnd, ReadsWidth, Shortens};
+ghost use Rattle.xr_vcd.specs.Reading.{ReadsWords, ReadsCode, ReadsEnd, ReadsName, ReadsOn, ReadsOne, ReadsReference, ReadsVariableEnd, ReadsWidth, Shortens};
 
 use crate::bytes::{is_code, is_end, is_power, is_scale, is_skipped, is_unit};
 use crate::declarations::Declarations;
@@ -20,7 +20,7 @@ pub fn read_declarations<'a>(
     words: &mut Words<'a>,
     declared: &mut Declarations<'a>,
 ) -> Result<(), VcdErr>
-    ensures reads { Reads (declaring declared.old) words.old result (λ _. body (start declared.new) false) words.new }
+    ensures reads { ReadsWords (declaring declared.old) words.old result (λ _. body (start declared.new) false) words.new }
     ensures shortens { Shortens words.old result words.new }
 {
     'declarations: loop {
@@ -45,10 +45,10 @@ pub fn read_declarations<'a>(
 fn read_end(words: &mut Words<'_>) -> Result<(), VcdErr>
     ensures definitions { ReadsEnd words.old result words.new }
     ensures scale { (h : Declarations) (text : List ℕ)
-        → Reads (scale_end h text) words.old result (λ _. declaring (with_scale h text)) words.new }
+        → ReadsWords (scale_end h text) words.old result (λ _. declaring (with_scale h text)) words.new }
     ensures scope { (h : Declarations) (name : List ℕ)
-        → Reads (scope_end h name) words.old result (λ _. declaring (with_scope h name)) words.new }
-    ensures upscope { (h : Declarations) → Reads (upscope_end h) words.old result (λ _. declaring h) words.new }
+        → ReadsWords (scope_end h name) words.old result (λ _. declaring (with_scope h name)) words.new }
+    ensures upscope { (h : Declarations) → ReadsWords (upscope_end h) words.old result (λ _. declaring h) words.new }
     ensures variable { ReadsVariableEnd words.old result words.new }
     ensures shortens { Shortens words.old result words.new }
 {
@@ -62,8 +62,8 @@ fn read_end(words: &mut Words<'_>) -> Result<(), VcdErr>
 
 // note = ( "$date" | "$version" | "$comment" ) { word } "$end"
 pub fn skip_note(words: &mut Words<'_>) -> Result<(), VcdErr>
-    ensures reads { (h : Declarations) → Reads (note h) words.old result (λ _. declaring h) words.new }
-    ensures in_body { (b : Body) → Reads (body_note b) words.old result (λ _. body b false) words.new }
+    ensures reads { (h : Declarations) → ReadsWords (note h) words.old result (λ _. declaring h) words.new }
+    ensures in_body { (b : Body) → ReadsWords (body_note b) words.old result (λ _. body b false) words.new }
     ensures shortens { Shortens words.old result words.new }
 {
     'words: loop {
@@ -119,7 +119,7 @@ fn read_scope(words: &mut Words<'_>, declared: &mut Declarations<'_>) -> Result<
 
 /// Reads a word that may be any but `$end`.
 fn read_plain<'a>(words: &mut Words<'a>) -> Result<&'a [u8], VcdErr>
-    ensures scope { (h : Declarations) → Reads (scope_name h) words.old result (λ t. scope_end h t.now) words.new }
+    ensures scope { (h : Declarations) → ReadsWords (scope_name h) words.old result (λ t. scope_end h t.now) words.new }
     ensures variable { ReadsReference words.old result words.new }
     ensures shortens { Shortens words.old result words.new }
 {

@@ -36,7 +36,7 @@ impl Recording {
     ghost use Rattle.std.specs.Prelude.{◌≡◌, ◌+◌, ◌<◌, ◌≤◌, ◌^◌, [], ◌∷◌, ◌++◌, length, option_map, slice_index, slice_index_or};
     ghost use Rattle.xr_vcd_changes.specs.Held.{moments_of};
     ghost use Rattle.xr_vcd.specs.Changes.{recorded};
-    ghost use Rattle.xr_vcd.specs.Recording.{IsRecording, IsValueAt, IsWithin, path_at, last_name, value_at, width_at};
+    ghost use Rattle.xr_vcd.specs.Recording.{IsRecording, IsValueAt, IsScopeWithin, path_at, last_name, value_at, width_at};
     ghost use Rattle.xr_vcd.specs.Trees.{AreTimes};
 
     /// The recording of these declarations, times and changes.
@@ -88,7 +88,7 @@ impl Recording {
         requires some { 0 < scope }
         requires known { scope < length self.now.scopes }
         ensures before { result < scope }
-        ensures path { IsWithin self.now.scopes scope result }
+        ensures path { IsScopeWithin self.now.scopes scope result }
     {
         self.scopes[scope as usize - 1].parent
     }

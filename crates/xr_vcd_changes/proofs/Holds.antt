@@ -4,7 +4,7 @@ use Rattle.std.proofs.lemmas.Bool.{cases_lt}
 use Rattle.std.proofs.lemmas.List.{length-map, get_or-map, get_or_past}
 use Rattle.xr_vcd_changes.specs.declared.track.Entry.{Entry}
 use Rattle.xr_vcd_changes.specs.Held.{Change, held, moments_of, track_of}
-use Rattle.xr_vcd_changes.specs.Stored.{IsKept, IsTrack, change_of, changes_of}
+use Rattle.xr_vcd_changes.specs.Stored.{IsTrackEntry, IsTrack, change_of, changes_of}
 
 held_none : (m : ℕ) (texts : List (List ℕ)) (es : List Entry) (had : List ℕ) → ((k : ℕ) (d : Entry) → 0 ≤ k → k < length es → nat_le (slice_index_or es k d).moment m ≡ false) → held m (changes_of texts es) had ≡ had
 held_none m texts [] had h = refl
@@ -41,7 +41,7 @@ held_of_some m texts ts now code t n had e view lt is le some tr fa at =
 pub is_track_at : {texts m : ℕ} (ts : List (List Entry)) (code : ℕ) (t : List Entry) → code < length ts → t ≡ get_or ts code t → All (IsTrack texts m) ts → IsTrack texts m t
 is_track_at ts code t lt is h = rw is (h code t lt)
 
-pub kept_at : {texts m : ℕ} (ts : List (List Entry)) (code : ℕ) (t : List Entry) (n : ℕ) (e : Entry) → code < length ts → t ≡ get_or ts code t → All (IsTrack texts m) ts → n ≤ length t → ¬ (n ≡ 0) → ((d : Entry) → e ≡ get_or t (n - 1) d) → IsKept texts m e
+pub kept_at : {texts m : ℕ} (ts : List (List Entry)) (code : ℕ) (t : List Entry) (n : ℕ) (e : Entry) → code < length ts → t ≡ get_or ts code t → All (IsTrack texts m) ts → n ≤ length t → ¬ (n ≡ 0) → ((d : Entry) → e ≡ get_or t (n - 1) d) → IsTrackEntry texts m e
 kept_at ts code t n e lt is h le some at = rw (at e) ((is_track_at ts code t lt is h).kept (n - 1) e (omega (arith, le, some)))
 
 pub count_of : (texts : List (List ℕ)) (ts : List (List Entry)) (now : List (List Change)) (code : ℕ) (t : List Entry) → map (changes_of texts) ts ≡ now → code < length ts → t ≡ get_or ts code t → length t ≡ length (track_of now code)

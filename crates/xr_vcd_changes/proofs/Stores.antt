@@ -5,7 +5,7 @@ use Rattle.std.proofs.lemmas.List.Elements.{All-push, All-tail, All-head, All-se
 use Rattle.std.proofs.lemmas.List.Sorted.{IsNonDecreasingBy-push}
 use Rattle.xr_vcd_changes.specs.declared.track.Entry.{Entry}
 use Rattle.xr_vcd_changes.specs.Held.{Change, change, with_change}
-use Rattle.xr_vcd_changes.specs.Stored.{IsKept, IsTrack, change_of, changes_of, shown}
+use Rattle.xr_vcd_changes.specs.Stored.{IsTrackEntry, IsTrack, change_of, changes_of, shown}
 use Rattle.xr_vcd_changes.specs.Texts.{Grows}
 
 pub later : {texts texts' m m' : ℕ} (es : List Entry) → texts ≤ texts' → m ≤ m' → IsTrack texts m es → IsTrack texts' m' es
@@ -17,17 +17,17 @@ later es s l h = record {
 pub later_all : {texts texts' m m' : ℕ} (ts : List (List Entry)) → texts ≤ texts' → m ≤ m' → All (IsTrack texts m) ts → All (IsTrack texts' m') ts
 later_all ts s l h = λ k d lt. later _ s l (h k d lt)
 
-pushed : {texts m : ℕ} (es : List Entry) (e : Entry) → IsTrack texts m es → IsKept texts m e → e.moment ≡ m → IsTrack texts m (es ++ e ∷ [])
+pushed : {texts m : ℕ} (es : List Entry) (e : Entry) → IsTrack texts m es → IsTrackEntry texts m e → e.moment ≡ m → IsTrack texts m (es ++ e ∷ [])
 pushed {texts = texts} {m = m} es e h k is = record {
   ordered = IsNonDecreasingBy-push (λ (e : Entry). e.moment) es e h.ordered (λ d lt. rw is ((h.kept (length es - 1) d (omega (arith, lt))).before));
-  kept = All-push (IsKept texts m) es e h.kept k;
+  kept = All-push (IsTrackEntry texts m) es e h.kept k;
 }
 
-changes_stay : (old new : List (List ℕ)) {m : ℕ} (es : List Entry) → Grows old new → All (IsKept (length old) m) es → changes_of new es ≡ changes_of old es
+changes_stay : (old new : List (List ℕ)) {m : ℕ} (es : List Entry) → Grows old new → All (IsTrackEntry (length old) m) es → changes_of new es ≡ changes_of old es
 changes_stay old new [] g h = refl
 changes_stay old new {m = m} (e ∷ es) g h =
-    let one : IsKept (length old) m e = All-head (IsKept (length old) m) e es h in
-    let rest : changes_of new es ≡ changes_of old es = changes_stay old new {m = m} es g (All-tail (IsKept (length old) m) e es h) in
+    let one : IsTrackEntry (length old) m e = All-head (IsTrackEntry (length old) m) e es h in
+    let rest : changes_of new es ≡ changes_of old es = changes_stay old new {m = m} es g (All-tail (IsTrackEntry (length old) m) e es h) in
     rw (g.kept e.text one.text, rest) refl
 
 tracks_stay : (old new : List (List ℕ)) {m : ℕ} (ts : List (List Entry)) → Grows old new → All (IsTrack (length old) m) ts → map (changes_of new) ts ≡ map (changes_of old) ts

@@ -11,14 +11,14 @@ change_of texts entry = change entry.moment (slice_index_or texts entry.text [])
 abbrev pub changes_of : List (List ℕ) → List Entry → List Change
 changes_of texts entries = map (change_of texts) entries
 
-pub record IsKept (texts moment : ℕ) (entry : Entry) : Type 0 where
+pub record IsTrackEntry (texts moment : ℕ) (entry : Entry) : Type 0 where
   pub text : entry.text < texts
   pub before : entry.moment ≤ moment
 
 -- The moments don't fall, none comes after the last one, and each text is there.
 pub record IsTrack (texts moment : ℕ) (entries : List Entry) : Type 0 where
   pub ordered : IsNonDecreasingBy (λ (entry : Entry). entry.moment) entries
-  pub kept : All (IsKept texts moment) entries
+  pub kept : All (IsTrackEntry texts moment) entries
 
 abbrev pub shown : ℕ → List (List ℕ) → List (List Entry) → History
 shown moment texts tracks = record { moment = moment; tracks = map (changes_of texts) tracks }

@@ -8,7 +8,7 @@ use Rattle.std.proofs.lemmas.List.Edits.{get_or-between, length-between}
 use Rattle.xr_vcd_changes.specs.Held.{Change, digit_value, extended, held, moments_of, unknown}
 use Rattle.xr_vcd.specs.Recording.{Recording, width_at}
 use Rattle.xr_vcd_moments.specs.Changed.{AreChanged, IsQuiet, moments_at}
-use Rattle.xr_vcd_moments.specs.Tables.{AreBounds, IsTable, changes_before, part_at}
+use Rattle.xr_vcd_moments.specs.Tables.{AreBounds, IsMomentTable, changes_before, part_at}
 use Rattle.xr_vcd_moments.proofs.Adding.{is_counted}
 use Rattle.xr_vcd_moments.proofs.Placing.{rises}
 
@@ -36,7 +36,7 @@ is_quiet r variable moment none = record {
   same = λ bit some. ap (λ (ds : List ℕ). digit_value (slice_index (extended (width_at r variable) ds) bit)) (held_stays moment (slice_index_or r.changes variable []) unknown some none);
 }
 
-pub bounds_are : (r : Recording) (moments : ℕ) (starts vars : List ℕ) (m : ℕ) → IsTable r moments starts vars → m < moments → AreBounds (length vars) starts m
+pub bounds_are : (r : Recording) (moments : ℕ) (starts vars : List ℕ) (m : ℕ) → IsMomentTable r moments starts vars → m < moments → AreBounds (length vars) starts m
 bounds_are r moments starts vars m table low =
     let long = table.starts_.long in
     let part = table.starts_.part m low in
@@ -44,7 +44,7 @@ bounds_are r moments starts vars m table low =
     let whole = table.whole in
     record { next = omega (arith, long, low); rising = omega (arith, part); within = omega (arith, rise, whole) }
 
-pub are_changed : (r : Recording) (starts vars : List ℕ) (m : ℕ) (part : List ℕ) → IsTable r (length r.times) starts vars → m < length r.times → part ≡ part_at vars starts m → AreChanged r m part
+pub are_changed : (r : Recording) (starts vars : List ℕ) (m : ℕ) (part : List ℕ) → IsMomentTable r (length r.times) starts vars → m < length r.times → part ≡ part_at vars starts m → AreChanged r m part
 are_changed r starts vars m part table low is = record {
   known = λ k d less. (let same = get_or_default part k d 0 less in let at = place_of k less in let known = table.known (slice_index starts m + k) (some k less) in omega (arith, same, at, known));
   has = has;

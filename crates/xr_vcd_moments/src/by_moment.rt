@@ -22,13 +22,13 @@ pub struct ChangesByMoment<'a> {
 impl<'a> Model for ChangesByMoment<'a> {
     ghost use Rattle.std.specs.Prelude.{length};
     ghost use Rattle.xr_vcd.specs.Recording.{Recording};
-    ghost use Rattle.xr_vcd_moments.specs.Tables.{IsTable};
+    ghost use Rattle.xr_vcd_moments.specs.Tables.{IsMomentTable};
 
     ghost Value = { Recording };
 
     ghost view = { λ c. c.recording.now };
 
-    ghost invariant = { λ c. IsTable c.recording.now (length c.recording.now.times) c.starts.items c.variables.items };
+    ghost invariant = { λ c. IsMomentTable c.recording.now (length c.recording.now.times) c.starts.items c.variables.items };
 }
 
 impl<'a> ChangesByMoment<'a> {

@@ -30,7 +30,7 @@ use Rattle.xr_quiet.specs.Runs.{repeated}
 use Rattle.xr_quiet.proofs.QuietClasses.{at_itself}
 use Rattle.xr_quiet.proofs.StretchedRuns.{stretch_law}
 use Rattle.xr_wave_bytes.specs.Byte.{facts_in, facts_of_byte, is_uncertain, repeated_byte, written_of_byte}
-use Rattle.xr_wave_bytes.specs.Kept.{BytesTell, IsKept, StepKeeps, ValuesAgree}
+use Rattle.xr_wave_bytes.specs.Kept.{BytesTell, AreTrueBytes, StepKeeps, ValuesAgree}
 use Rattle.xr_wave_bytes.specs.View.{keeps_there}
 use Rattle.xr_wave_bytes.specs.Repeat.{AreRepeated, AreSteadyFrom, IsStretch, row_before}
 use Rattle.xr_wave_bytes.proofs.ByteDigits.{repeated_says, repeated_written}
@@ -185,10 +185,10 @@ keep_repeated j fits old new many position next stretch is next_is keep = λ k f
 
 -- So the bytes are kept.
 pub repeated_kept : (circuit : Circuit) (old new : List ℕ) (many : ℕ)
-    → IsStretch (job_in circuit) (length old) many → IsKept circuit old → AreRepeated (job_in circuit) old new many
+    → IsStretch (job_in circuit) (length old) many → AreTrueBytes circuit old → AreRepeated (job_in circuit) old new many
     → ValuesAgree (job_in circuit) (repeated (job_in circuit) (map written_of_byte old) many)
     → AreSteadyFrom (job_in circuit) (repeated (job_in circuit) (map written_of_byte old) many)
-    (length (map written_of_byte old)) → IsKept circuit new
+    (length (map written_of_byte old)) → AreTrueBytes circuit new
 repeated_kept circuit old new many stretch kept are agrees steady =
     let j : Job = job_in circuit in
     let view = repeated_view j circuit.fits.fits_job old new many stretch are in

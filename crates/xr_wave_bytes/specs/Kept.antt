@@ -36,7 +36,7 @@ abbrev pub StepKeeps : List ℕ → ℕ → ℕ → Type 0
 StepKeeps bytes position end = AllKeep (facts_in bytes) (length bytes - position) end
 
 -- The bytes of a waveform do both.
-pub record IsKept (circuit : Circuit) (bytes : List ℕ) : Type 0 where
+pub record AreTrueBytes (circuit : Circuit) (bytes : List ℕ) : Type 0 where
   pub told : BytesTell (job_in circuit) bytes
   pub agrees : ValuesAgree (job_in circuit) (map written_of_byte bytes)
 

@@ -13,7 +13,7 @@ ghost use Rattle.xr_quiet.specs.OfClass.{is_plain, AreWiresOf};
 ghost use Rattle.xr_wave_bytes.specs.Byte.{facts_in, facts_of_byte, written_of_byte};
 ghost use Rattle.xr_wave_bytes.specs.View.{next_class};
 ghost use Rattle.xr_wave_bytes.specs.Front.{StandsAt};
-ghost use Rattle.xr_wave_bytes.specs.Kept.{AreRowsOf, BytesTell, IsKept, IsNextClass, IsWrittenBehind, StepKeeps};
+ghost use Rattle.xr_wave_bytes.specs.Kept.{AreRowsOf, BytesTell, AreTrueBytes, IsNextClass, IsWrittenBehind, StepKeeps};
 ghost use Rattle.xr_wave_bytes.specs.Kept.{ValuesAgree, facts_next};
 
 use crate::byte::{byte_of, is_carried_on, is_line, is_plain, keeps, written_in};
@@ -134,7 +134,7 @@ pub fn push_place(
 ) -> Result<(), Memory>
     requires within { length rows.old.bytes < places_of (job_in circuit.now) }
     requires rows { AreRowsOf (job_in circuit.now) rows.old }
-    requires kept { IsKept circuit.now rows.old.bytes }
+    requires kept { AreTrueBytes circuit.now rows.old.bytes }
     requires next { IsNextClass circuit.now rows.old.bytes next }
     requires agrees { ValuesAgree (job_in circuit.now) (map written_of_byte rows.old.bytes ++ written ∷ []) }
     ensures ok { OnOk result (IsWrittenBehind (job_in circuit.now) rows.old.bytes rows.new.bytes written) }

@@ -52,7 +52,7 @@ impl<'a> Model for Waveform<'a> {
     ghost use Rattle.xr_quiet.specs.OfClass.{AreWiresOf};
     ghost use Rattle.xr_wave_bytes.specs.Byte.{written_of_byte};
     ghost use Rattle.xr_wave_bytes.specs.Front.{StandsAt};
-    ghost use Rattle.xr_wave_bytes.specs.Kept.{AreRowsOf, IsKept, IsNextClass, StepKeeps};
+    ghost use Rattle.xr_wave_bytes.specs.Kept.{AreRowsOf, AreTrueBytes, IsNextClass, StepKeeps};
     ghost use Rattle.xr_wave_bytes.specs.View.{WaveformView, waveform_of};
 
     ghost Value = { WaveformView };
@@ -63,7 +63,7 @@ impl<'a> Model for Waveform<'a> {
       wired : AreWiresOf w.circuit w.wiring;
       within : length w.rows.bytes ≤ places_of (job_in w.circuit);
       rows : AreRowsOf (job_in w.circuit) w.rows;
-      kept : IsKept w.circuit w.rows.bytes;
+      kept : AreTrueBytes w.circuit w.rows.bytes;
       next : OnTrue w.found (IsNextClass w.circuit w.rows.bytes w.next);
       front : StandsAt (job_in w.circuit) (length w.rows.bytes) w.front;
       keep : OnTrue w.all_keep (StepKeeps w.rows.bytes w.front.position (length w.rows.bytes));

@@ -5,7 +5,7 @@ use Rattle.std.proofs.lemmas.List.{drop-append-le, drop_at, map-append, map_more
 use Rattle.xr_design.specs.declared.design.Design.{Design}
 use Rattle.xr_design.specs.declared.design.Pin.{Pin}
 use Rattle.xr_wiring.specs.declared.wiring.Head.{Head}
-use Rattle.xr_wiring.specs.Flat.{AreWithin, IsWithin, wire_in, wires_in}
+use Rattle.xr_wiring.specs.Flat.{AreHeadsWithin, IsHeadWithin, wire_in, wires_in}
 use Rattle.xr_wiring.specs.Wired.{IsWirable, Wire}
 
 -- What holds of all nets of an order holds of the one at a position.
@@ -27,7 +27,7 @@ between_more pins more start end some within =
     ap (take (end - start)) (drop-append-le start pins more (omega (arith, some, within)))
     ∙ take-append-le (end - start) (drop start pins) more (omega (arith, rest, some, within))
 
-pub wires_more : (pins more : List Pin) (heads : List Head) → AreWithin pins heads
+pub wires_more : (pins more : List Pin) (heads : List Head) → AreHeadsWithin pins heads
     → wires_in (pins ++ more) heads ≡ wires_in pins heads
 wires_more pins more [] within = refl
 wires_more pins more (head ∷ heads) within =
@@ -45,7 +45,7 @@ appended pins more start end start_is end_is =
     ap (take (end - start)) (drop_at pins more start (sym start_is))
     ∙ take_all (end - start) more (omega (arith, count))
 
-within_more : (pins more : List Pin) (heads : List Head) → AreWithin pins heads → AreWithin (pins ++ more) heads
+within_more : (pins more : List Pin) (heads : List Head) → AreHeadsWithin pins heads → AreHeadsWithin (pins ++ more) heads
 within_more pins more [] within = tt
 within_more pins more (head ∷ heads) within =
     let long = length-append pins more in
@@ -54,21 +54,21 @@ within_more pins more (head ∷ heads) within =
       within_more pins more heads within.1,
     )
 
-within_added : (pins : List Pin) (heads : List Head) (head : Head) → AreWithin pins heads → IsWithin pins head
-    → AreWithin pins (heads ++ head ∷ [])
+within_added : (pins : List Pin) (heads : List Head) (head : Head) → AreHeadsWithin pins heads → IsHeadWithin pins head
+    → AreHeadsWithin pins (heads ++ head ∷ [])
 within_added pins [] head within last = (last, tt)
 within_added pins (first ∷ heads) head within last = (within.0, within_added pins heads head within.1 last)
 
 -- A head more.
-pub all_within : (pins more : List Pin) (heads : List Head) (head : Head) → AreWithin pins heads
-    → head.start ≡ length pins → head.end ≡ length (pins ++ more) → AreWithin (pins ++ more) (heads ++ head ∷ [])
+pub all_within : (pins more : List Pin) (heads : List Head) (head : Head) → AreHeadsWithin pins heads
+    → head.start ≡ length pins → head.end ≡ length (pins ++ more) → AreHeadsWithin (pins ++ more) (heads ++ head ∷ [])
 all_within pins more heads head within start_is end_is =
     let long = length-append pins more in
     within_added (pins ++ more) heads head (within_more pins more heads within)
     (record { some = omega (arith, start_is, end_is, long); within = omega (arith, end_is) })
 
 pub wire_added : (wire : ℕ → Wire) (order : List ℕ) (pins more : List Pin) (heads : List Head) (head : Head) (p : ℕ)
-    → AreWithin pins heads → head.start ≡ length pins → head.end ≡ length (pins ++ more) → p < length order
+    → AreHeadsWithin pins heads → head.start ≡ length pins → head.end ≡ length (pins ++ more) → p < length order
     → wires_in pins heads ≡ map wire (take p order)
     → wire (get_or order p 0) ≡ record { kind = head.kind; pins = more }
     → wires_in (pins ++ more) (heads ++ head ∷ []) ≡ map wire (take (p + 1) order)

@@ -13,9 +13,9 @@ abbrev pub wires_in : List Pin → List Head → List Wire
 wires_in pins heads = map (wire_in pins) heads
 
 -- Its pins are there.
-pub record IsWithin (pins : List Pin) (head : Head) : Type 0 where
+pub record IsHeadWithin (pins : List Pin) (head : Head) : Type 0 where
   pub some : head.start ≤ head.end
   pub within : head.end ≤ length pins
 
-abbrev pub AreWithin : List Pin → List Head → Type 0
-AreWithin pins heads = AllByRecursion (IsWithin pins) heads
+abbrev pub AreHeadsWithin : List Pin → List Head → Type 0
+AreHeadsWithin pins heads = AllByRecursion (IsHeadWithin pins) heads

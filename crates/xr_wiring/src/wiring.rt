@@ -49,13 +49,13 @@ pub struct Wiring {
 impl Model for Wiring {
     ghost use Rattle.std.specs.Prelude.{List};
     ghost use Rattle.xr_wiring.specs.Wired.{Wire};
-    ghost use Rattle.xr_wiring.specs.Flat.{AreWithin, wires_in};
+    ghost use Rattle.xr_wiring.specs.Flat.{AreHeadsWithin, wires_in};
 
     ghost Value = { List Wire };
 
     ghost view = { λ wiring. wires_in wiring.pins.items wiring.heads.items };
 
-    ghost invariant = { λ wiring. AreWithin wiring.pins.items wiring.heads.items };
+    ghost invariant = { λ wiring. AreHeadsWithin wiring.pins.items wiring.heads.items };
 }
 
 impl Wiring {

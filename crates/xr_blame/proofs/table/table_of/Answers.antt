@@ -5,7 +5,7 @@ use Rattle.std.proofs.lemmas.List.Sorted.{IsNonDecreasingBy-from_sort}
 use Rattle.std.proofs.lemmas.Result.{IfOk-weaker}
 use Rattle.xr_design.specs.Circuit.{job_in}
 use Rattle.xr_design.specs.Job.{places_of}
-use Rattle.xr_blame.specs.Table.{IsTable}
+use Rattle.xr_blame.specs.Table.{IsBlameTable}
 use Rattle.xr_blame.specs.Tally.{Counted, IsTally, row_at}
 use Rattle.xr_blame.proofs.Tables.{rows_within, table_is}
 use Rattle.xr_blame.proofs.table.table_of.Goals as goal
@@ -34,5 +34,5 @@ returns c =
     let is = table_is j c.args.circuit.now.fits.fits_job c.args.bits.now c.in_ok-numbers.numbers.items c.sort.new.self.items
     c.in_ok-rows.rows.items c.sort-2.new.self.items c.requires.sources c.in_ok-numbers.ensures
     c.in_ok-sort.ensures.permutation tally c.in_ok-sort-2.ensures.permutation c.in_ok-sort-2.ensures.sorted in
-    IfOk-weaker c.rows_at.result _ _ (λ table same. subst (IsTable j c.args.bits.now)
+    IfOk-weaker c.rows_at.result _ _ (λ table same. subst (IsBlameTable j c.args.bits.now)
     (sym (same ∙ ap (map (row_at j)) c.as_slice-2.ensures.value)) is) c.rows_at.ensures

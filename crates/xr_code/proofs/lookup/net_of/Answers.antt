@@ -2,7 +2,7 @@
 use Rattle.std.proofs.Common.{subst, sym}
 use Rattle.xr_design.specs.declared.design.Design.{Design}
 use Rattle.xr_match.specs.Keys.{IsKey}
-use Rattle.xr_code.specs.Found.{IsFound, IsKeyOf, items_in, texts_in}
+use Rattle.xr_code.specs.Found.{IsFoundNet, IsKeyOf, items_in, texts_in}
 use Rattle.xr_code.proofs.Lookups.{found_is, unsolid_is}
 use Rattle.xr_code.proofs.lookup.net_of.Goals as goal
 
@@ -13,7 +13,7 @@ returns-in-Some-clause-named c =
     let key : IsKey texts c.in-Some.key.items = subst (λ k. IsKeyOf texts (items_in k)) c.in-Some.is c.in_ok-key.ensures in
     let nets = c.nets.ensures.named texts (subst (IsKey texts) (sym c.as_slice.ensures.value) key) in
     let fits = c.design-design.ensures.fits in
-    let found = subst (λ (d : Design). IsFound d c.nets.result.now c.args.index c.net_with.result) c.design-design.ensures.is c.net_with.ensures in
+    let found = subst (λ (d : Design). IsFoundNet d c.nets.result.now c.args.index c.net_with.result) c.design-design.ensures.is c.net_with.ensures in
     found_is design texts c.args.index c.nets.result.now c.net_with.result fits nets found
 
 pub returns-in-None-clause-named : goal.returns-in-None-clause-named

@@ -1,6 +1,6 @@
 use Rattle.std.proofs.Common.{◌≡◌, ◌-◌, ◌∷◌, [], false, true, sym, ◌∙◌, arith, subst}
 use Rattle.std.proofs.lemmas.Result.{IfOk-weaker}
-use Rattle.xr_cone_choices.specs.Choices.{AreChoices, IsTable, nothing_chosen}
+use Rattle.xr_cone_choices.specs.Choices.{AreChoices, IsValueTable, nothing_chosen}
 use Rattle.xr_cone_choices.specs.Halves.{AreAdded}
 use Rattle.xr_cone_choices.proofs.EmptyTables.{none_forces, one_forces}
 use Rattle.xr_cone_choices.proofs.JoinedChoices.{halves_joined}
@@ -17,7 +17,7 @@ returns-then-count-eq0 t c = IfOk-weaker c.of_nothing.result (λ choices. choice
     (λ choices is. subst (AreChoices c.args.values.now c.args.count c.args.bit) (sym is)
     (subst (λ n. AreChoices c.args.values.now n c.args.bit (nothing_chosen ∷ [])) (sym c.if-count-eq0.true)
     (one_forces c.args.values.now c.args.bit
-    (subst (λ n. IsTable n c.args.values.now) c.if-count-eq0.true c.requires)
+    (subst (λ n. IsValueTable n c.args.values.now) c.if-count-eq0.true c.requires)
     (c.has_bit.ensures.0 c.if-not-has_bit.false)))) c.of_nothing.ensures
 
 pub returns : goal.returns

@@ -2,7 +2,7 @@
 use Rattle.std.proofs.Common.{◌≡◌, ◌++◌, ◌∙◌, List, ℕ, ap, arith, length, subst, sym}
 use Rattle.xr_design.specs.Circuit.{job_in}
 use Rattle.xr_design.specs.Order.{arguments_of_driver}
-use Rattle.xr_replay_due.specs.Readers.{AreWithin, HasReadings, IsTable}
+use Rattle.xr_replay_due.specs.Readers.{AreReadersWithin, HasReadings, IsReaderTable}
 use Rattle.xr_replay_due.specs.declared.readings.Reading.{Reading}
 use Rattle.xr_fans.specs.Readings.{readings_of, readings_to}
 use Rattle.xr_fans.specs.Nets.{driver_on}
@@ -46,8 +46,8 @@ new-requires-clause-within c =
     let whole : c.as_slice.result.now ≡ readings_to (job_in c.args.circuit.now) arguments_of_driver
     (job_in c.args.circuit.now).width = c.as_slice.ensures.value ∙ c.positions.invariant
     ∙ ap (readings_to (job_in c.args.circuit.now) arguments_of_driver) all in
-    let P = λ (rs : List Reading). AreWithin (job_in c.args.circuit.now).width rs in
-    let Q = λ (n : ℕ). AreWithin n c.as_slice.result.now in
+    let P = λ (rs : List Reading). AreReadersWithin (job_in c.args.circuit.now).width rs in
+    let Q = λ (n : ℕ). AreReadersWithin n c.as_slice.result.now in
     subst Q (sym count) (subst P (sym whole)
     (readings_within j arguments_of_driver (arguments_nets j fits (arguments_within j fits))))
 
@@ -62,6 +62,6 @@ returns c =
     (job_in c.args.circuit.now).width = c.as_slice.ensures.value ∙ c.positions.invariant
     ∙ ap (readings_to (job_in c.args.circuit.now) arguments_of_driver) all in
     let P = λ (rs : List Reading). HasReadings rs c.in_ok-new.field-0 in
-    let Q = λ (n : ℕ). IsTable n c.in_ok-new.field-0 in
+    let Q = λ (n : ℕ). IsReaderTable n c.in_ok-new.field-0 in
     are_readers j arguments_of_driver c.in_ok-new.field-0 (subst Q count c.in_ok-new.ensures.table)
     (subst P whole c.in_ok-new.ensures.has)

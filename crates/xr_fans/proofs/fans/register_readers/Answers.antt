@@ -2,7 +2,7 @@
 use Rattle.std.proofs.Common.{◌≡◌, ◌++◌, ◌∙◌, List, ℕ, ap, arith, length, subst, sym}
 use Rattle.xr_design.specs.Circuit.{job_in}
 use Rattle.xr_fans.specs.Nets.{looked_at}
-use Rattle.xr_replay_due.specs.Readers.{AreWithin, HasReadings, IsTable}
+use Rattle.xr_replay_due.specs.Readers.{AreReadersWithin, HasReadings, IsReaderTable}
 use Rattle.xr_replay_due.specs.declared.readings.Reading.{Reading}
 use Rattle.xr_fans.specs.Readings.{readings_of, readings_to}
 use Rattle.xr_fans.specs.Nets.{driver_on}
@@ -45,8 +45,8 @@ new-requires-clause-within c =
     let whole : c.as_slice.result.now ≡ readings_to (job_in c.args.circuit.now) looked_at
     (job_in c.args.circuit.now).width = c.as_slice.ensures.value ∙ c.positions.invariant
     ∙ ap (readings_to (job_in c.args.circuit.now) looked_at) all in
-    let P = λ (rs : List Reading). AreWithin (job_in c.args.circuit.now).width rs in
-    let Q = λ (n : ℕ). AreWithin n c.as_slice.result.now in
+    let P = λ (rs : List Reading). AreReadersWithin (job_in c.args.circuit.now).width rs in
+    let Q = λ (n : ℕ). AreReadersWithin n c.as_slice.result.now in
     subst Q (sym count) (subst P (sym whole) (readings_within j looked_at (looked_nets j fits (looked_within j fits))))
 
 pub returns : goal.returns
@@ -60,6 +60,6 @@ returns c =
     (job_in c.args.circuit.now).width = c.as_slice.ensures.value ∙ c.positions.invariant
     ∙ ap (readings_to (job_in c.args.circuit.now) looked_at) all in
     let P = λ (rs : List Reading). HasReadings rs c.in_ok-new.field-0 in
-    let Q = λ (n : ℕ). IsTable n c.in_ok-new.field-0 in
+    let Q = λ (n : ℕ). IsReaderTable n c.in_ok-new.field-0 in
     are_readers j looked_at c.in_ok-new.field-0 (subst Q count c.in_ok-new.ensures.table)
     (subst P whole c.in_ok-new.ensures.has)

@@ -3,7 +3,7 @@ use Rattle.std.proofs.Common.{◌<◌, ◌∙◌, sym, ap, length, subst, slice_
 use Rattle.std.specs.List.{AllByRecursion}
 use Rattle.xr_design.specs.Order.{arguments_of_driver}
 use Rattle.xr_design.specs.Job.{driver_in}
-use Rattle.xr_order.specs.Readers.{IsTable, AddsTo}
+use Rattle.xr_order.specs.Readers.{IsReaderLinks, AddsTo}
 use Rattle.xr_order.proofs.Chains.{driver_is, readers_more}
 use Rattle.xr_order.proofs.readers.readers_of.Goals as goal
 
@@ -22,6 +22,6 @@ loop-net-preserved c =
     let inside = subst (λ ns. c.loop-net.net < length ns) c.as_slice-nets.ensures c.loop-net-test.true in
     let e = driver_is c.args.design.now net c.index-nets-net.result inside (c.index-nets-net.is ∙ ap (λ ns. slice_index_or ns net c.index-nets-net.result) c.as_slice-nets.ensures) in
     record {
-      table = subst (λ w. IsTable w c.add_arguments.new.self.heads.items c.add_arguments.new.self.links.items) c.loop-net.invariant.table.long (c.in_ok-add_arguments.ensures).table;
+      table = subst (λ w. IsReaderLinks w c.add_arguments.new.self.heads.items c.add_arguments.new.self.links.items) c.loop-net.invariant.table.long (c.in_ok-add_arguments.ensures).table;
       readers = readers_more (driver_in c.args.design.now) c.loop-net.readers c.add_arguments.new.self net c.loop-net.invariant.readers (subst (λ d. AddsTo c.loop-net.readers c.add_arguments.new.self (arguments_of_driver d) net) e c.in_ok-add_arguments.ensures);
     }

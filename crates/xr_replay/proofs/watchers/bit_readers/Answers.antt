@@ -2,7 +2,7 @@
 use Rattle.std.proofs.Common.{◌≡◌, ◌<◌, ◌++◌, ◌∙◌, List, ℕ, ap, arith, length, subst, sym}
 use Rattle.std.proofs.lemmas.List.{get_or_default}
 use Rattle.xr_match.specs.declared.binding.Bound.{Bound}
-use Rattle.xr_replay_due.specs.Readers.{AreWithin, HasReadings}
+use Rattle.xr_replay_due.specs.Readers.{AreReadersWithin, HasReadings}
 use Rattle.xr_replay_due.specs.declared.readings.Reading.{Reading}
 use Rattle.xr_fans.specs.Readings.{readings_of}
 use Rattle.xr_replay.specs.Fault.{bound_at, no_variable}
@@ -27,7 +27,7 @@ new-requires-clause-within c =
     let last = c.variables.auto.number-end in
     let all : c.variables.number ≡ length c.args.bound.now.bound = omega (arith, test, last, same) in
     let whole : c.as_slice.result.now ≡ bit_readings c.args.bound.now (length c.args.bound.now.bound) = c.as_slice.ensures.value ∙ c.variables.invariant ∙ ap (bit_readings c.args.bound.now) all in
-    let P = λ (rs : List Reading). AreWithin c.args.room rs in
+    let P = λ (rs : List Reading). AreReadersWithin c.args.room rs in
     subst P (sym whole) (readings_in binding c.args.room c.requires.few c.requires.within)
 
 pub returns-clause-has : goal.returns-clause-has

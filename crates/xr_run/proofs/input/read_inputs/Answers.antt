@@ -4,7 +4,7 @@ use Rattle.std.specs.Prelude.{Contains, IsSome, IsTrue, string_bytes}
 use Rattle.std.proofs.lemmas.List.{length-map, length-take, get_or-map}
 use Rattle.std.proofs.lemmas.List.Elements.{Contains-get_or}
 use Rattle.xr_shelf.specs.Shelf.{Files, held}
-use Rattle.xr_run.specs.Inputs.{IsKept}
+use Rattle.xr_run.specs.Inputs.{IsTextWithin}
 use Rattle.xr_run.specs.Phases.{joined}
 use Rattle.xr_run.proofs.Joins.{joined_more, closed_next, held_same, held_more, as_many, there_next}
 use Rattle.xr_run.proofs.Steps.{later_twice, same_twice, unread_after}
@@ -28,7 +28,7 @@ files-preserved g c =
       later_twice old mid new inv.0 step.later,
       step.files ∙ inv.1,
       λ told. (
-          let part : IsKept c.args.limit c.in_ok-part.part (held old (string_bytes (get_or names i item))) = rw (← name, ← held_same old mid c.deref.result.now inv.1) (search rules) in
+          let part : IsTextWithin c.args.limit c.in_ok-part.part (held old (string_bytes (get_or names i item))) = rw (← name, ← held_same old mid c.deref.result.now inv.1) (search rules) in
           let kept = c.in_ok-text.ensures.joined before (joined before) (held old (string_bytes (get_or names i item))) many (λ z. rw z refl) (inv.2 told) part in
           rw (held_more old string_bytes names i item within, joined_more before (held old (string_bytes (get_or names i item)))) kept),
       c.in_ok-text.ensures.fits,

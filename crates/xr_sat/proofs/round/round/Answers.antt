@@ -6,7 +6,7 @@ use Rattle.std.proofs.lemmas.Option.{IfSome_then}
 use Rattle.xr_proof.specs.Premises.{all_in}
 use Rattle.xr_proof.specs.Closed.{IsQuiet, NoneResists}
 use Rattle.xr_proof.specs.Code.{HasRoom, IsConsistent, is_false}
-use Rattle.xr_proof.specs.Trail.{held, IsKept}
+use Rattle.xr_proof.specs.Trail.{held, IsSameTrail}
 use Rattle.xr_proof.proofs.Bases.{at_base, kept_more}
 use Rattle.xr_proof.proofs.Trails.{kept_by_undo, low_to_undo, over_none, over_sized}
 use Rattle.xr_sat.specs.Decide.{IsConflict}
@@ -24,7 +24,7 @@ undo-requires c = low_to_undo c.args.propagator.now.trail c.descend.new.propagat
 
 pub learn-requires-clause-base : goal.learn-requires-clause-base
 learn-requires-clause-base c =
-    let kept : IsKept c.args.propagator.now.trail c.undo.new.self = kept_by_undo c.args.propagator.now.trail c.descend.new.propagator.trail c.undo.new.self
+    let kept : IsSameTrail c.args.propagator.now.trail c.undo.new.self = kept_by_undo c.args.propagator.now.trail c.descend.new.propagator.trail c.undo.new.self
     c.in_ok-descend.ensures.back.over c.undo.ensures.marks c.undo.ensures.len (c.undo.ensures.read ∙ sym c.requires.base.base.read) in
     at_base c.args.propagator.now c.descend.new.propagator _ (all_in c.args.clauses.now) c.requires.base c.in_ok-descend.ensures.back kept refl
 
@@ -83,6 +83,6 @@ returns-clause-room c =
 
 pub returns-clause-back : goal.returns-clause-back
 returns-clause-back c =
-    let kept : IsKept c.args.propagator.now.trail c.undo.new.self = kept_by_undo c.args.propagator.now.trail c.descend.new.propagator.trail c.undo.new.self
+    let kept : IsSameTrail c.args.propagator.now.trail c.undo.new.self = kept_by_undo c.args.propagator.now.trail c.descend.new.propagator.trail c.undo.new.self
     c.in_ok-descend.ensures.back.over c.undo.ensures.marks c.undo.ensures.len (c.undo.ensures.read ∙ sym c.requires.base.base.read) in
     record { base = c.in_ok-literals.ensures.back.base; kept = kept_more c.args.propagator.now.trail c.undo.new.self c.learn.new.propagator.trail kept c.in_ok-literals.ensures.back.kept }

@@ -1,7 +1,7 @@
 -- A clause follows exactly where propagation refutes its denial, and the undo leaves the trail as before.
 use Rattle.std.proofs.Common.{◌++◌, ◌∙◌, refl, sym}
 use Rattle.xr_proof.specs.Premises.{all_in}
-use Rattle.xr_proof.specs.Trail.{IsKept}
+use Rattle.xr_proof.specs.Trail.{IsSameTrail}
 use Rattle.xr_proof.proofs.Bases.{at_base}
 use Rattle.xr_proof.proofs.Deciding.{follows_if_none}
 use Rattle.xr_proof.proofs.ClosedSets.{none_resists}
@@ -19,6 +19,6 @@ returns-clause-no c e follows = c.is_refuted-conflict.ensures.no e (none_resists
 
 pub returns-clause-back : goal.returns-clause-back
 returns-clause-back c =
-    let kept : IsKept c.args.self.now.trail c.undo.new.self = kept_by_undo c.args.self.now.trail c.is_refuted-conflict.new.self.trail c.undo.new.self
+    let kept : IsSameTrail c.args.self.now.trail c.undo.new.self = kept_by_undo c.args.self.now.trail c.is_refuted-conflict.new.self.trail c.undo.new.self
     c.is_refuted-conflict.ensures.back.over c.undo.ensures.marks c.undo.ensures.len (c.undo.ensures.read ∙ sym c.requires.base.base.read) in
     record { base = at_base c.args.self.now c.is_refuted-conflict.new.self _ (all_in c.args.clauses.now) c.requires.base c.is_refuted-conflict.ensures.back kept refl; kept = kept }

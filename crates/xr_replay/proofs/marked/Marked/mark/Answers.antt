@@ -1,7 +1,7 @@
 -- What isn't written or recorded is as it was.
 use Rattle.std.proofs.Common.{◌≡◌, ◌<◌, ◌-◌, true, rules, arith, ℕ, subst, sym}
 use Rattle.xr_design.specs.Settled.{last_step}
-use Rattle.xr_replay_due.specs.Readers.{IsTable}
+use Rattle.xr_replay_due.specs.Readers.{IsReaderTable}
 use Rattle.xr_replay.specs.Sides.{job_beside}
 use Rattle.xr_replay.specs.Watched.{ShowSame}
 use Rattle.xr_replay.proofs.Compares.{last_within}
@@ -10,7 +10,7 @@ use Rattle.xr_replay.proofs.marked.Marked.mark.Goals as goal
 
 pub mark_written-requires-clause-table : goal.mark_written-requires-clause-table
 mark_written-requires-clause-table c =
-    let P : ℕ → Type 0 = λ n. IsTable n c.args.watchers.now.registers in
+    let P : ℕ → Type 0 = λ n. IsReaderTable n c.args.watchers.now.registers in
     subst P (sym c.width_of-nets.ensures) c.requires.watchers.registers.table
 
 pub mark_written-requires-clause-later : goal.mark_written-requires-clause-later

@@ -1,6 +1,6 @@
 -- The nets of the bits are the design's, and each bit reads its own.
 use Rattle.std.proofs.Common.{◌≡◌, ◌<◌, ◌≤◌, ◌^◌, ◌∙◌, ℕ, List, All, ap, length, rules, subst, sym}
-use Rattle.xr_replay_due.specs.Readers.{AreWithin, HasReadings}
+use Rattle.xr_replay_due.specs.Readers.{AreReadersWithin, HasReadings}
 use Rattle.xr_replay_due.specs.declared.readings.Reading.{Reading}
 use Rattle.xr_report.specs.Marked.{AreReadingsOf, bit_nets}
 use Rattle.xr_report.proofs.BitNets.{bits_among, nets_low, readings_within}
@@ -18,7 +18,7 @@ new-requires-clause-within c =
     let wide : length design.nets ≤ c.max-room.result = search rules in
     let long : length nets ≤ c.max-room.result = search rules in
     let are = subst (λ (l : List ℕ). AreReadingsOf l readings) c.as_slice-3.ensures.value c.in_ok-readings.ensures in
-    subst (λ (l : List Reading). AreWithin c.max-room.result l) (sym c.as_slice-4.ensures.value)
+    subst (λ (l : List Reading). AreReadersWithin c.max-room.result l) (sym c.as_slice-4.ensures.value)
     (readings_within nets readings (length design.nets) c.max-room.result wide long low are)
 
 pub returns-clause-are : goal.returns-clause-are

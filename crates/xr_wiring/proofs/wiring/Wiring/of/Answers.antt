@@ -6,7 +6,7 @@ use Rattle.xr_design.specs.declared.design.Pin.{Pin}
 use Rattle.xr_design.specs.Job.{driver_in}
 use Rattle.xr_wiring.specs.declared.wiring.Head.{Head}
 use Rattle.xr_wiring.specs.declared.wiring.Kind.{Kind}
-use Rattle.xr_wiring.specs.Flat.{AreWithin, wires_in}
+use Rattle.xr_wiring.specs.Flat.{AreHeadsWithin, wires_in}
 use Rattle.xr_wiring.specs.Wired.{Wire, kind_of, pins_of, placed, wire_of}
 use Rattle.xr_wiring.proofs.Tables.{all_within, wirable_at, wire_added}
 use Rattle.xr_wiring.proofs.wiring.Wiring.of.Goals as goal
@@ -42,8 +42,8 @@ positions-preserved c =
           ∙ ap (wires_in (c.positions.pins.items ++ more)) c.in_ok-push.ensures.items
           ∙ wire_added wire order c.positions.pins.items more c.positions.heads.items head p c.positions.invariant.inside
           start_is end_is less c.positions.invariant.wires same;
-      inside = subst (λ (ps : List Pin). AreWithin ps c.push.new.self.items) (sym pins)
-          (subst (AreWithin (c.positions.pins.items ++ more)) (sym c.in_ok-push.ensures.items)
+      inside = subst (λ (ps : List Pin). AreHeadsWithin ps c.push.new.self.items) (sym pins)
+          (subst (AreHeadsWithin (c.positions.pins.items ++ more)) (sym c.in_ok-push.ensures.items)
           (all_within c.positions.pins.items more c.positions.heads.items head c.positions.invariant.inside
           start_is end_is));
       few = omega (arith, few, long, count, total, so_far);

@@ -1,13 +1,13 @@
 -- The wires of the positions so far are made.
 use Rattle.std.proofs.Common.{◌≡◌, ◌*◌, ◌≤◌, length, map, take}
 use Rattle.xr_design.specs.Job.{driver_in}
-use Rattle.xr_wiring.specs.Flat.{AreWithin, wires_in}
+use Rattle.xr_wiring.specs.Flat.{AreHeadsWithin, wires_in}
 use Rattle.xr_wiring.specs.Wired.{wire_of}
 use Rattle.xr_wiring.proofs.wiring.Wiring.of.Given as goal
 
 abbrev pub invariant-positions : goal.invariant-positions
 invariant-positions l = record {
   wires : wires_in l.pins.items l.heads.items ≡ map (λ net. wire_of l.order (driver_in l.design net)) (take l.position l.order);
-  inside : AreWithin l.pins.items l.heads.items;
+  inside : AreHeadsWithin l.pins.items l.heads.items;
   few : length l.pins.items ≤ 10 * l.position;
 }
