@@ -39,7 +39,7 @@ pub struct Lines<'a> {
 impl<'a> Lines<'a> {
     ghost use Rattle.test_cases.specs.Left.{lines_left};
 
-    /// All lines of a text. Takes no memory.
+    /// All lines of a text.
     pub fn new(text: &'a [u8]) -> Lines<'a>
         ensures { lines_left result ≡ length text.now }
     {

@@ -46,14 +46,14 @@ pub struct Parts<'a> {
     lines: Lines<'a>,
 }
 
-/// The cases of a file of sections: each begins with a line `= TITLE`. Takes no memory.
+/// The cases of a file of sections: each begins with a line `= TITLE`.
 pub fn section_cases(text: &[u8]) -> Sections<'_> {
     Sections {
         lines: Lines::new(text),
     }
 }
 
-/// What stands before the first title, as a case without one. Takes no memory.
+/// What stands before the first title, as a case without one.
 pub fn shared(text: &[u8]) -> Section<'_> {
     let title = Line {
         number: 0,
@@ -92,7 +92,7 @@ fn ends_content(line: &Line<'_>) -> bool {
 }
 
 impl<'a> Section<'a> {
-    /// Its parts in order. Takes no memory.
+    /// Its parts in order.
     pub fn parts(&self) -> Parts<'a> {
         Parts { lines: self.lines }
     }

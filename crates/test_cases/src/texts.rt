@@ -28,7 +28,7 @@ pub struct TextCases<'a> {
     lines: Lines<'a>,
 }
 
-/// The cases of a file of texts. Takes no memory.
+/// The cases of a file of texts.
 ///
 /// Lines that begin with `# ` don't count, and empty ones don't before the first line of a text.
 pub fn text_cases(text: &[u8]) -> TextCases<'_> {

@@ -55,14 +55,14 @@ impl Inputs {
         writer.finish(alloc)
     }
 
-    /// How many moments there are. Takes no memory.
+    /// How many moments there are.
     pub fn len(&self) -> usize
         ensures { result ≡ length self.now }
     {
         self.rows.steps()
     }
 
-    /// The value of a net in a moment, looked for among the changes of the net. Takes no memory.
+    /// The value of a net in a moment, looked for among the changes of the net.
     pub fn value(&self, moment: usize, net: usize) -> Value
         requires moment { moment < length self.now }
         requires net { net < length (moment_row self.now moment) }
@@ -72,7 +72,7 @@ impl Inputs {
     }
 
     /// The changes of a moment, with each net that has another value than in the moment before. A net may have several,
-    /// and one that has the same value may have some. Takes no memory.
+    /// and one that has the same value may have some.
     pub fn changed(&self, moment: usize) -> &[Change]
         requires later { 0 < moment }
         requires moment { moment < length self.now }

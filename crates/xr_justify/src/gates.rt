@@ -15,7 +15,7 @@ pub(crate) struct Gate {
 }
 
 impl Gate {
-    /// One that wasn't read. Takes no memory.
+    /// One that wasn't read.
     pub(crate) fn unread() -> Gate {
         Gate {
             arguments: Span::empty(),
@@ -34,7 +34,7 @@ pub(crate) struct Gates {
 }
 
 impl Gates {
-    /// No variables. Takes no memory.
+    /// No variables.
     pub(crate) fn new(alloc: Global) -> Gates {
         Gates {
             gates: Vec::new(alloc),
@@ -42,7 +42,7 @@ impl Gates {
         }
     }
 
-    /// No variables any more. Takes no memory.
+    /// No variables any more.
     pub(crate) fn clear(&mut self) {
         self.gates.clear();
         self.arguments.clear();
@@ -54,17 +54,17 @@ impl Gates {
         Ok(())
     }
 
-    /// The gate of a variable. Takes no memory.
+    /// The gate of a variable.
     pub(crate) fn gate(&self, variable: Variable) -> Gate {
         item_at(&self.gates, variable.index(), Gate::unread())
     }
 
-    /// The gate of a variable is this now. Takes no memory.
+    /// The gate of a variable is this now.
     pub(crate) fn set(&mut self, variable: Variable, gate: Gate) {
         set_item(&mut self.gates, variable.index(), gate);
     }
 
-    /// Argument k of a gate. Takes no memory.
+    /// Argument k of a gate.
     pub(crate) fn argument(&self, gate: Gate, k: usize) -> Variable {
         item_at(
             &self.arguments,
@@ -73,7 +73,7 @@ impl Gates {
         )
     }
 
-    /// How many arguments there are of all gates. Takes no memory.
+    /// How many arguments there are of all gates.
     pub(crate) fn arguments(&self) -> u32 {
         narrow(self.arguments.len())
     }

@@ -29,7 +29,7 @@ pub(crate) struct Known {
 }
 
 impl Known {
-    /// No argument. Takes no memory.
+    /// No argument.
     pub(crate) fn none() -> Known {
         Known {
             care: 0,
@@ -38,7 +38,7 @@ impl Known {
         }
     }
 
-    /// With one more argument, by its mark and its bit, if that is known. Takes no memory.
+    /// With one more argument, by its mark and its bit, if that is known.
     pub(crate) fn with(self, mark: u16, value: Option<bool>) -> Known {
         let all = self.all | mark;
         match value {
@@ -56,14 +56,14 @@ impl Known {
         }
     }
 
-    /// Whether the bit of each argument is known. Takes no memory.
+    /// Whether the bit of each argument is known.
     pub(crate) fn is_full(self) -> bool {
         self.care == self.all
     }
 }
 
 impl Implication {
-    /// One that is never used: it chooses 16 arguments. Takes no memory.
+    /// One that is never used: it chooses 16 arguments.
     pub(crate) fn none() -> Implication {
         Implication {
             care: 0xffff,
@@ -72,17 +72,17 @@ impl Implication {
         }
     }
 
-    /// Whether an argument that is chosen has another bit. Takes no memory.
+    /// Whether an argument that is chosen has another bit.
     pub(crate) fn is_off(self, known: Known) -> bool {
         (self.bits ^ known.bits) & self.care & known.care != 0
     }
 
-    /// The marks of the arguments that are chosen and not known. Takes no memory.
+    /// The marks of the arguments that are chosen and not known.
     pub(crate) fn open(self, known: Known) -> u16 {
         self.care & !known.care
     }
 
-    /// Whether the argument of a mark is chosen, and its bit. Takes no memory.
+    /// Whether the argument of a mark is chosen, and its bit.
     pub(crate) fn chosen(self, mark: u16) -> Option<bool> {
         if self.care & mark == 0 {
             None
@@ -91,7 +91,7 @@ impl Implication {
         }
     }
 
-    /// What follows from the known bits of the arguments and from the node's own. Takes no memory.
+    /// What follows from the known bits of the arguments and from the node's own.
     pub(crate) fn force(self, known: Known, own: Option<bool>) -> Force {
         if self.is_off(known) {
             return Force::Nothing;

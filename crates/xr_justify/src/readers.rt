@@ -19,7 +19,7 @@ pub(crate) struct Readers {
 }
 
 impl Readers {
-    /// No variables. Takes no memory.
+    /// No variables.
     pub(crate) fn new(alloc: Global) -> Readers {
         Readers {
             first: Vec::new(alloc),
@@ -27,7 +27,7 @@ impl Readers {
         }
     }
 
-    /// No variables any more. Takes no memory.
+    /// No variables any more.
     pub(crate) fn clear(&mut self) {
         self.first.clear();
         self.entries.clear();
@@ -48,17 +48,17 @@ impl Readers {
         Ok(())
     }
 
-    /// How many entries there are. Takes no memory.
+    /// How many entries there are.
     pub(crate) fn len(&self) -> usize {
         self.entries.len()
     }
 
-    /// The first entry of a variable. Takes no memory.
+    /// The first entry of a variable.
     pub(crate) fn first(&self, variable: Variable) -> Option<u32> {
         item_at(&self.first, variable.index(), None)
     }
 
-    /// The reader of an entry. Takes no memory.
+    /// The reader of an entry.
     pub(crate) fn reader(&self, entry: u32) -> Reader {
         let none = Reader {
             gate: Variable { number: 0 },

@@ -28,7 +28,7 @@ pub struct Search {
 }
 
 impl Search {
-    /// No search. Takes no memory.
+    /// No search.
     pub fn new(alloc: Global) -> Search
         ensures { clauses_allowed result ≡ 0 }
     {

@@ -32,7 +32,7 @@ pub(crate) struct Solver {
 }
 
 impl Solver {
-    /// No search. Takes no memory.
+    /// No search.
     pub(crate) fn new(alloc: Global) -> Solver {
         Solver {
             tables: Tables::new(alloc),

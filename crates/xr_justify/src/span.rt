@@ -8,17 +8,17 @@ pub(crate) struct Span {
 }
 
 impl Span {
-    /// No items. Takes no memory.
+    /// No items.
     pub(crate) fn empty() -> Span {
         Span { start: 0, count: 0 }
     }
 
-    /// How many items. Takes no memory.
+    /// How many items.
     pub(crate) fn len(self) -> usize {
         self.count as usize
     }
 
-    /// Where item k stands in the list. Takes no memory.
+    /// Where item k stands in the list.
     pub(crate) fn place(self, k: usize) -> usize {
         (self.start as usize).saturating_add(k)
     }

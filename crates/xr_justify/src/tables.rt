@@ -23,7 +23,7 @@ pub(crate) struct Tables {
 }
 
 impl Tables {
-    /// No tables. Takes no memory.
+    /// No tables.
     pub(crate) fn new(alloc: Global) -> Tables {
         Tables {
             implications: Vec::new(alloc),
@@ -45,12 +45,12 @@ impl Tables {
         Ok(Table { number })
     }
 
-    /// Where the implications of a table stand. Takes no memory.
+    /// Where the implications of a table stand.
     pub(crate) fn span(&self, table: Table) -> Span {
         item_at(&self.spans, table.number as usize, Span::empty())
     }
 
-    /// The implication that stands at a place. Takes no memory.
+    /// The implication that stands at a place.
     pub(crate) fn implication(&self, place: usize) -> Implication {
         item_at(&self.implications, place, Implication::none())
     }

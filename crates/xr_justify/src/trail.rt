@@ -12,17 +12,17 @@ pub(crate) struct Level {
 }
 
 impl Level {
-    /// No decision. Takes no memory.
+    /// No decision.
     pub(crate) fn base() -> Level {
         Level { decisions: 0 }
     }
 
-    /// Whether it is the base level. Takes no memory.
+    /// Whether it is the base level.
     pub(crate) fn is_base(self) -> bool {
         self.decisions == 0
     }
 
-    /// Whether more decisions came before. Takes no memory.
+    /// Whether more decisions came before.
     pub(crate) fn is_above(self, other: Level) -> bool {
         self.decisions > other.decisions
     }
@@ -37,7 +37,7 @@ pub(crate) struct Assigned {
 }
 
 impl Assigned {
-    /// No bit. Takes no memory.
+    /// No bit.
     pub(crate) fn nothing() -> Assigned {
         Assigned {
             value: None,
@@ -66,7 +66,7 @@ pub(crate) struct Trail {
 }
 
 impl Trail {
-    /// No variables. Takes no memory.
+    /// No variables.
     pub(crate) fn new(alloc: Global) -> Trail {
         Trail {
             assigned: Vec::new(alloc),
@@ -77,7 +77,7 @@ impl Trail {
         }
     }
 
-    /// No variables any more. Takes no memory.
+    /// No variables any more.
     pub(crate) fn clear(&mut self) {
         self.assigned.clear();
         self.literals.clear();
@@ -92,17 +92,17 @@ impl Trail {
         Ok(())
     }
 
-    /// What a variable has. Takes no memory.
+    /// What a variable has.
     pub(crate) fn assigned(&self, variable: Variable) -> Assigned {
         item_at(&self.assigned, variable.index(), Assigned::nothing())
     }
 
-    /// The bit of a variable, if it has one. Takes no memory.
+    /// The bit of a variable, if it has one.
     pub(crate) fn value(&self, variable: Variable) -> Option<bool> {
         self.assigned(variable).value
     }
 
-    /// Whether the variable has the bit. Takes no memory.
+    /// Whether the variable has the bit.
     pub(crate) fn is_true(&self, literal: Literal) -> bool {
         match self.value(literal.variable()) {
             None => false,
@@ -110,7 +110,7 @@ impl Trail {
         }
     }
 
-    /// Whether the variable has the other bit. Takes no memory.
+    /// Whether the variable has the other bit.
     pub(crate) fn is_false(&self, literal: Literal) -> bool {
         self.is_true(literal.turned())
     }
@@ -137,25 +137,25 @@ impl Trail {
         Ok(())
     }
 
-    /// The level of what comes next. Takes no memory.
+    /// The level of what comes next.
     pub(crate) fn level(&self) -> Level {
         Level {
             decisions: narrow(self.starts.len()),
         }
     }
 
-    /// How many literals there are. Takes no memory.
+    /// How many literals there are.
     pub(crate) fn len(&self) -> usize {
         self.literals.len()
     }
 
-    /// The literal of a place on the trail. Takes no memory.
+    /// The literal of a place on the trail.
     pub(crate) fn literal(&self, place: usize) -> Literal {
         let other = Literal::none();
         item_at(&self.literals, place, other)
     }
 
-    /// The first literal that isn't read. Takes no memory.
+    /// The first literal that isn't read.
     pub(crate) fn unread(&self) -> Option<Literal> {
         if self.read < self.literals.len() {
             Some(self.literal(self.read))
@@ -164,17 +164,17 @@ impl Trail {
         }
     }
 
-    /// One more is read. Takes no memory.
+    /// One more is read.
     pub(crate) fn advance(&mut self) {
         self.read = self.read.saturating_add(1);
     }
 
-    /// Where the search for a decision stands. Takes no memory.
+    /// Where the search for a decision stands.
     pub(crate) fn cursor(&self) -> usize {
         self.cursor
     }
 
-    /// It stands there now. Takes no memory.
+    /// It stands there now.
     pub(crate) fn set_cursor(&mut self, place: usize) {
         self.cursor = place;
     }
@@ -200,7 +200,7 @@ impl Trail {
         }
     }
 
-    /// The last literal goes, if it is past the start of a level. Takes no memory.
+    /// The last literal goes, if it is past the start of a level.
     pub(crate) fn pop_past(&mut self, start: Start) -> Option<Literal> {
         if self.literals.len() <= start.len as usize {
             return None;
@@ -214,7 +214,7 @@ impl Trail {
         Some(literal)
     }
 
-    /// Only the levels up to one stay, whose literals are those that are left. Takes no memory.
+    /// Only the levels up to one stay, whose literals are those that are left.
     pub(crate) fn close_levels(&mut self, level: Level, start: Start) {
         self.starts.truncate(level.decisions as usize);
         self.read = self.literals.len();

@@ -13,7 +13,7 @@ pub(crate) struct Variables {
 }
 
 impl Variables {
-    /// No node is met. Takes no memory.
+    /// No node is met.
     pub(crate) fn new(alloc: Global) -> Variables {
         Variables {
             nodes: Vec::new(alloc),
@@ -21,7 +21,7 @@ impl Variables {
         }
     }
 
-    /// No node is met any more. Takes no memory.
+    /// No node is met any more.
     pub(crate) fn clear(&mut self) {
         'nodes: for k in 0..self.nodes.len() {
             let node = item_at(&self.nodes, k, 0);
@@ -30,7 +30,7 @@ impl Variables {
         self.nodes.clear();
     }
 
-    /// The variable of a node, if the search met it. Takes no memory.
+    /// The variable of a node, if the search met it.
     pub(crate) fn find(&self, node: u32) -> Option<Variable> {
         match item_at(&self.by_node, node as usize, 0) {
             0 => None,
@@ -50,7 +50,7 @@ impl Variables {
         Ok(Variable { number })
     }
 
-    /// The node of a variable. Takes no memory.
+    /// The node of a variable.
     pub(crate) fn node(&self, variable: Variable) -> u32 {
         item_at(&self.nodes, variable.index(), 0)
     }

@@ -61,14 +61,14 @@ impl LedgerIndex {
         })
     }
 
-    /// How many steps there are. Takes no memory.
+    /// How many steps there are.
     pub fn steps(&self) -> usize
         ensures { result ≡ length self.now.steps }
     {
         self.starts.as_slice().len().saturating_sub(1)
     }
 
-    /// What a position has at a step. Takes no memory.
+    /// What a position has at a step.
     pub fn at(&self, position: usize, step: usize) -> u8
         requires step { step < length self.now.steps }
         requires position { position < self.now.width }
@@ -82,7 +82,7 @@ impl LedgerIndex {
         self.changes[part[count - 1] as usize].payload()
     }
 
-    /// What was put at a step, in order. Takes no memory.
+    /// What was put at a step, in order.
     pub fn changes_of(&self, step: usize) -> &[Change]
         requires { step < length self.now.steps }
         ensures changes { result.now ≡ step_changes self.now.steps step }

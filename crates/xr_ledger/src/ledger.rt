@@ -84,14 +84,14 @@ impl Ledger {
         Ok(())
     }
 
-    /// The number of the step under way. Takes no memory.
+    /// The number of the step under way.
     pub fn step(&self) -> usize
         ensures { result ≡ length self.now.before }
     {
         self.starts.as_slice().len() - 1
     }
 
-    /// What the position has at the step under way. Takes no memory.
+    /// What the position has at the step under way.
     pub fn now(&self, position: usize) -> u8
         requires { position < self.now.width }
         ensures { result ≡ slice_index self.now.last.row position }
@@ -99,7 +99,7 @@ impl Ledger {
         self.row[position]
     }
 
-    /// What it has one step before. Takes no memory.
+    /// What it has one step before.
     pub fn one_back(&self, position: usize) -> u8
         requires position { position < self.now.width }
         requires step { 1 ≤ length self.now.before }
@@ -108,7 +108,7 @@ impl Ledger {
         self.one[position]
     }
 
-    /// What it has two steps before. Takes no memory.
+    /// What it has two steps before.
     pub fn two_back(&self, position: usize) -> u8
         requires position { position < self.now.width }
         requires step { 2 ≤ length self.now.before }
@@ -118,7 +118,6 @@ impl Ledger {
     }
 
     /// What it has at any step so far. One that lies more than two steps back is looked for in the log, from its end.
-    /// Takes no memory.
     pub fn at(&self, position: usize, step: usize) -> u8
         requires position { position < self.now.width }
         requires step { step ≤ length self.now.before }
@@ -137,7 +136,7 @@ impl Ledger {
         }
     }
 
-    /// What was put at the step under way, in order. Takes no memory.
+    /// What was put at the step under way, in order.
     pub fn changes(&self) -> &[Change]
         ensures { result.now ≡ self.now.last.changes }
     {
@@ -145,7 +144,7 @@ impl Ledger {
         &self.changes[start..]
     }
 
-    /// What was put at a step before, in order. Takes no memory.
+    /// What was put at a step before, in order.
     pub fn changes_of(&self, step: usize) -> &[Change]
         requires { step < length self.now.before }
         ensures changes { result.now ≡ step_changes self.now.before step }

@@ -10,7 +10,7 @@ use crate::output::{Output, Report};
 use crate::undelivered::Undelivered;
 use xr_shelf::{IoErr, Shelf, Sink, WriteErr, print_all, write_all};
 
-/// Writes all outputs in their order, then puts each under its name, then prints the report. Takes no memory.
+/// Writes all outputs in their order, then puts each under its name, then prints the report.
 ///
 /// So a disk that fills while they are written changes no file.
 pub fn deliver<'a, S: Shelf, O: Sink>(

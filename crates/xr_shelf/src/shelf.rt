@@ -84,7 +84,7 @@ pub fn read_all<S: Shelf>(
     Ok(text)
 }
 
-/// Makes a file anew and writes all the bytes to it, for `put_file` to put it under its name. Takes no memory.
+/// Makes a file anew and writes all the bytes to it, for `put_file` to put it under its name.
 ///
 /// After an `Err` the file may still be in hand; the next file opened or created takes its place.
 pub fn write_all<S: Shelf>(shelf: &mut S, name: &str, bytes: &[u8]) -> Result<(), WriteErr>

@@ -9,7 +9,7 @@ use crate::token::{LexErr, Token};
 use std::marker::Model;
 
 /// A text, read token by token. Contracts see what is left to tell: the tokens in order, then the fault that ends them,
-/// or none. Takes no memory.
+/// or none.
 #[derive(Drop)]
 pub struct Lexer<'a> {
     rest: &'a [u8],

@@ -68,7 +68,7 @@ impl Changes {
         Ok(())
     }
 
-    /// How many changes the code has. Takes no memory.
+    /// How many changes the code has.
     pub fn count(&self, code: usize) -> usize
         ensures { result ≡ length (track_of self.now.tracks code) }
     {
@@ -79,7 +79,7 @@ impl Changes {
         track.len()
     }
 
-    /// The moment of a change of the code, by its number among them. Takes no memory.
+    /// The moment of a change of the code, by its number among them.
     pub fn moment_of(&self, code: usize, number: usize) -> u32
         requires { number < length (track_of self.now.tracks code) }
         ensures { result ≡ slice_index (moments_of (track_of self.now.tracks code)) number }

@@ -25,7 +25,7 @@ impl Model for Texts {
 }
 
 impl Texts {
-    /// No texts. Takes no memory.
+    /// No texts.
     pub fn new(alloc: Global) -> Texts
         ensures { result ≡ [] }
     {
@@ -62,7 +62,7 @@ impl Texts {
         }
     }
 
-    /// The text with this number. Takes no memory.
+    /// The text with this number.
     pub fn get(&self, number: usize) -> &[u8]
         requires { number < length self.now }
         ensures { result.now ≡ slice_index_or self.now number [] }

@@ -47,7 +47,7 @@ impl<'a> Codes<'a> {
     ghost use Rattle.xr_vcd_codes.specs.Code.{find, code, with_kind_at};
     ghost use Rattle.xr_vcd_codes.specs.Slots.{is_short};
 
-    /// No codes. Takes no memory.
+    /// No codes.
     pub fn new(alloc: Global) -> Codes<'a>
         ensures { result ≡ [] }
     {
@@ -58,14 +58,14 @@ impl<'a> Codes<'a> {
         }
     }
 
-    /// How many there are. Takes no memory.
+    /// How many there are.
     pub fn len(&self) -> usize
         ensures { result ≡ length self.now }
     {
         self.columns.len()
     }
 
-    /// The code with this text. Takes no memory.
+    /// The code with this text.
     pub fn find(&self, text: &[u8]) -> Option<Found>
         ensures { result ≡ find self.now text.now }
     {

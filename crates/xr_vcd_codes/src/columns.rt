@@ -39,7 +39,7 @@ impl<'a> Columns<'a> {
     ghost use Rattle.std.specs.Prelude.{◌≡◌, ◌<◌, [], ◌∷◌, ◌++◌, OnOk, OnErr, length, take, slice_index_or};
     ghost use Rattle.xr_vcd_codes.specs.Code.{Code, code, with_kind_at};
 
-    /// No codes. Takes no memory.
+    /// No codes.
     pub fn new(alloc: Global) -> Columns<'a>
         ensures { result ≡ [] }
     {
