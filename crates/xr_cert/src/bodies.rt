@@ -11,7 +11,7 @@ use crate::pairs::pair_verdict;
 use crate::refusal::CertFault;
 use std::alloc::Global;
 use xr_base::Memory;
-use xr_enum::{check_bit, has_few_sources};
+use xr_pair::{check_bit, has_few_sources};
 use xr_model::Body;
 use xr_turns::Cone;
 use xr_wave::{Verdict, Wave};

@@ -11,7 +11,7 @@ ghost use Rattle.xr_cert.specs.Step.{IsVerdictOf, RefusesBody};
 use std::alloc::Global;
 use xr_base::Memory;
 use xr_cnf::{clauses, conclude, give_up};
-use xr_enum::has_few_sources;
+use xr_pair::has_few_sources;
 use xr_proof::{Cnf, Log};
 use xr_turns::Cone;
 use xr_turns::logs::{checker_for, fits};

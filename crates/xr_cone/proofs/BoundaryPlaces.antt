@@ -24,16 +24,16 @@ use Rattle.xr_model.specs.Places.{among}
 use Rattle.xr_model.proofs.Cones.{cone_within}
 use Rattle.xr_model.proofs.PlacesWhere.{all_among, among_all, in_picked, or_left, picked_rises}
 use Rattle.xr_wave.specs.Contents.{Contents, job}
-use Rattle.xr_reached.specs.Reached.{AddsAll, AreTaken, IsFalling, TakesGreatest}
-use Rattle.xr_reached.proofs.FallingPlaces.{among_push, falling_is, falls_push, in_push}
+use Rattle.xr_graph.specs.Reached.{AddsAll, AreTaken, IsFalling, TakesGreatest}
+use Rattle.xr_graph.proofs.FallingPlaces.{among_push, falling_is, falls_push, in_push}
 use Rattle.xr_cone_nodes.specs.declared.node.Node.{Node}
 use Rattle.xr_cone_nodes.specs.declared.node.NodeBody.{NodeBody as Body}
 use Rattle.xr_cone_nodes.specs.declared.node.NodeBody.TheVariants.{Carried, Rule}
 use Rattle.xr_cone_nodes.specs.Nodes.{body_at, body_of, node_at, place_of_node}
 use Rattle.xr_cone_nodes.specs.Traced.{IsWholeCone, cone_in}
 use Rattle.xr_cone.specs.Boundary.{IsBoundary, IsCertainBoundary, IsFallingBoundary, IsPlaceIn, is_certain_in, boundary_in, is_boundary, is_outside, number_in, read_in, reads}
-use Rattle.xr_rests.specs.InWave.{IsInReach}
-use Rattle.xr_rests.proofs.NumberBits.{index_among}
+use Rattle.xr_graph.specs.InWave.{IsInReach}
+use Rattle.xr_graph.proofs.NumberBits.{index_among}
 
 or_nothing : (b : Bool) → b || false ≡ b
 or_nothing true = refl

@@ -27,10 +27,10 @@ use Rattle.xr_cone_nodes.specs.declared.node.Node.{Node}
 use Rattle.xr_cone_nodes.specs.declared.node.NodeBody.{NodeBody as Body}
 use Rattle.xr_cone_nodes.specs.declared.node.NodeBody.TheVariants as node
 use Rattle.xr_cone.specs.Placed.{IsPlaced}
-use Rattle.xr_rests.specs.Traced.{AreTraced, IsBodyOf, supports_in}
-use Rattle.xr_rests.specs.declared.traced.TracedBody.{TracedBody}
-use Rattle.xr_rests.specs.declared.traced.TracedBody.TheVariants.{Carried, Rule}
-use Rattle.xr_rests.proofs.RisingLists.{front_increases, stands_before}
+use Rattle.xr_graph.specs.Traced.{AreTraced, IsBodyOf, supports_in}
+use Rattle.xr_graph.specs.declared.traced.TracedBody.{TracedBody}
+use Rattle.xr_graph.specs.declared.traced.TracedBody.TheVariants.{Carried, Rule}
+use Rattle.xr_graph.proofs.RisingLists.{front_increases, stands_before}
 use Rattle.xr_cone.proofs.TracedBodies.{supports_are}
 
 -- What is made so far of a cone: its first places, with their nodes, and those that are left, the greatest first.

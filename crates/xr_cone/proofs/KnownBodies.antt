@@ -18,13 +18,13 @@ use Rattle.xr_model.proofs.ClassesBefore.{class_local}
 use Rattle.xr_model.proofs.ConesBefore.{essentials_local}
 use Rattle.xr_model.proofs.FactsBefore.{certain_grown}
 use Rattle.xr_wave.specs.Contents.{Contents, job}
-use Rattle.xr_rests.specs.InWave.{IsBodyIn}
+use Rattle.xr_graph.specs.InWave.{IsBodyIn}
 use Rattle.xr_cone.specs.Known.{IsKnown, IsRightOf, IsSameKnown, Keeps, TracerView, TracersStay, known_in, known_of, slot_of, body_for}
-use Rattle.xr_rests.specs.Table.{value_on}
-use Rattle.xr_rests.specs.Traced.{IsBodyOf}
+use Rattle.xr_graph.specs.Table.{value_on}
+use Rattle.xr_graph.specs.Traced.{IsBodyOf}
 use Rattle.xr_cone.specs.declared.traced.Traced.{Traced}
-use Rattle.xr_rests.specs.declared.traced.TracedBody.{TracedBody}
-use Rattle.xr_rests.specs.declared.traced.TracedBody.TheVariants.{Carried, Rule}
+use Rattle.xr_graph.specs.declared.traced.TracedBody.{TracedBody}
+use Rattle.xr_graph.specs.declared.traced.TracedBody.TheVariants.{Carried, Rule}
 
 value_stays : (j : Job) → Fits j → (c d : ℕ → Value) (place : ℕ) (places : List ℕ) (number : ℕ)
     → place < places_of j → AgreeBelow c d place → value_on j c place places number ≡ value_on j d place places number

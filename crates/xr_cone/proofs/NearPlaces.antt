@@ -9,8 +9,8 @@ use Rattle.xr_model.specs.Cone.{in_cone}
 use Rattle.xr_model.specs.Places.{among, places_where}
 use Rattle.xr_model.proofs.PlacesWhere.{among_all, in_picked, or_left, or_right, picked_in}
 use Rattle.xr_wave.specs.Contents.{Contents, job}
-use Rattle.xr_reached.specs.Reached.{AddsAll, AreTaken}
-use Rattle.xr_reached.proofs.FallingPlaces.{falling_is}
+use Rattle.xr_graph.specs.Reached.{AddsAll, AreTaken}
+use Rattle.xr_graph.proofs.FallingPlaces.{falling_is}
 use Rattle.xr_cone_nodes.specs.declared.node.Node.{Node}
 use Rattle.xr_cone_nodes.specs.Traced.{IsWholeCone, cone_in}
 use Rattle.xr_cone.specs.Boundary.{IsFallingBoundary, boundary_in, is_boundary, is_near, is_outside, near_in, reads}

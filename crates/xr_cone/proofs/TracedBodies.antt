@@ -6,9 +6,9 @@ use Rattle.xr_model.specs.Class.{class_of}
 use Rattle.xr_model.specs.Cone.{essentials, is_carried, supports, supports_by}
 use Rattle.xr_model.specs.declared.class.ClassByNumber.{ClassByNumber}
 use Rattle.xr_model.specs.declared.class.ClassByNumber.TheVariants as class
-use Rattle.xr_rests.specs.Traced.{IsBodyOf, supports_in}
-use Rattle.xr_rests.specs.declared.traced.TracedBody.{TracedBody}
-use Rattle.xr_rests.specs.declared.traced.TracedBody.TheVariants.{Carried, Rule}
+use Rattle.xr_graph.specs.Traced.{IsBodyOf, supports_in}
+use Rattle.xr_graph.specs.declared.traced.TracedBody.{TracedBody}
+use Rattle.xr_graph.specs.declared.traced.TracedBody.TheVariants.{Carried, Rule}
 
 free_supports : (xs : List ℕ) (cl : ClassByNumber) → is_carried cl ≡ false → supports_by xs cl ≡ xs
 free_supports xs (class.Local bit) free = refl

@@ -8,8 +8,8 @@ use Rattle.xr_model.specs.Cone.{Reaches, cone, further, in_cone, itself, support
 use Rattle.xr_model.specs.Places.{among}
 use Rattle.xr_model.proofs.Cones.{cone_closed, cone_reaches, cone_self, cone_within, supports_below}
 use Rattle.xr_model.proofs.PlacesWhere.{all_among, among_all, or_left, or_right}
-use Rattle.xr_reached.specs.Reached.{AddsAll, IsFalling, TakesGreatest}
-use Rattle.xr_reached.proofs.FallingPlaces.{falling_is, falls_push, in_push, push_new, push_old}
+use Rattle.xr_graph.specs.Reached.{AddsAll, IsFalling, TakesGreatest}
+use Rattle.xr_graph.proofs.FallingPlaces.{falling_is, falls_push, in_push, push_new, push_old}
 
 -- A place is found: it is taken or it waits.
 abbrev is_found : List ℕ → List ℕ → ℕ → Bool

@@ -2,9 +2,9 @@
 use Rattle.std.specs.Prelude.{◌≡◌, ◌⊎◌, ◌%◌, ◌==◌, ◌++◌, ℕ, List, Option, None, Some, slice_index_or, if◌then◌else◌}
 use Rattle.xr_design.specs.declared.waveform.Written.{Written}
 use Rattle.xr_wave.specs.Contents.{Contents, IsWave, job}
-use Rattle.xr_rests.specs.InWave.{IsBodyIn, IsInReach}
+use Rattle.xr_graph.specs.InWave.{IsBodyIn, IsInReach}
 use Rattle.xr_cone.specs.declared.traced.Traced.{Traced}
-use Rattle.xr_rests.specs.declared.traced.TracedBody.{TracedBody}
+use Rattle.xr_graph.specs.declared.traced.TracedBody.{TracedBody}
 
 -- What callers see of a tracer: slots, in which places may stand, each with what it rests on.
 pub record TracerView : Type 0 where

@@ -4,8 +4,8 @@ use Rattle.std.specs.List.{AllByRecursion}
 use Rattle.xr_cell.specs.declared.value.Value.{Value}
 use Rattle.xr_cone_nodes.specs.declared.node.NodeBody.{NodeBody as Body}
 use Rattle.xr_cone_nodes.specs.declared.node.NodeBody.TheVariants as node
-use Rattle.xr_rests.specs.declared.traced.TracedBody.{TracedBody}
-use Rattle.xr_rests.specs.declared.traced.TracedBody.TheVariants.{Carried, Rule}
+use Rattle.xr_graph.specs.declared.traced.TracedBody.{TracedBody}
+use Rattle.xr_graph.specs.declared.traced.TracedBody.TheVariants.{Carried, Rule}
 
 pub record IsPlacedCarry (places : List ℕ) (from : ℕ) (inverted : Bool) (position : ℕ) (flips : Bool) : Type 0 where
   pub within : position < length places

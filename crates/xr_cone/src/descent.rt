@@ -1,17 +1,17 @@
 //! The places of a cone, from its root downwards.
 
 ghost use Rattle.std.specs.Prelude.{◌≤◌, ◌^◌, IfOk, OnOk, length};
-ghost use Rattle.xr_reached.specs.Reached.{AddsAll};
-ghost use Rattle.xr_rests.specs.InWave.{AreTracedIn, IsInReach};
+ghost use Rattle.xr_graph.specs.Reached.{AddsAll};
+ghost use Rattle.xr_graph.specs.InWave.{AreTracedIn, IsInReach};
 ghost use Rattle.xr_cone.specs.Known.{IsRightOf};
-ghost use Rattle.xr_rests.specs.Traced.{supports_in};
+ghost use Rattle.xr_graph.specs.Traced.{supports_in};
 
 use crate::positions::check_few;
 use crate::tracer::Tracer;
 use std::alloc::Global;
 use xr_base::Memory;
-use xr_reached::Reached;
-use xr_rests::TracedBody;
+use xr_graph::Reached;
+use xr_graph::TracedBody;
 use xr_wave::Wave;
 
 /// The places of a cone, the greatest first: all that reach a place stand behind it, so once it is the greatest that is

@@ -12,7 +12,7 @@ use crate::positions::{check_few, position_of, positions_of};
 use std::alloc::Global;
 use xr_base::Memory;
 use xr_cone_nodes::{Cone, Positions};
-use xr_reached::Reached;
+use xr_graph::Reached;
 use xr_wave::Wave;
 
 /// The numbers of the places of a cone and of its boundary, in place order, where they are at most 2^27. Takes memory as

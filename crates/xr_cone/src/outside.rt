@@ -8,16 +8,16 @@ ghost use Rattle.xr_design.specs.Filling.{IsPlace};
 ghost use Rattle.xr_design.specs.Fits.{place_at};
 ghost use Rattle.xr_design.specs.Job.{places_of};
 ghost use Rattle.xr_model.specs.Places.{among};
-ghost use Rattle.xr_reached.specs.Reached.{AddsAll, AreTaken};
+ghost use Rattle.xr_graph.specs.Reached.{AddsAll, AreTaken};
 ghost use Rattle.xr_cone.specs.Boundary.{IsBoundary, IsCertainBoundary, IsFallingBoundary, IsPlaceIn, IsSomeCone, is_certain_in, is_outside, number_in, read_in};
-ghost use Rattle.xr_rests.specs.InWave.{IsInReach};
+ghost use Rattle.xr_graph.specs.InWave.{IsInReach};
 
 use std::alloc::Global;
 use xr_base::Memory;
 use xr_class::argument_places;
 use xr_cone_nodes::{Cone, Node, NodeBody};
 use xr_design::{Circuit, Place, Source};
-use xr_reached::Reached;
+use xr_graph::Reached;
 use xr_wave::Wave;
 
 /// The boundary places of a cone, in place order: the argument places of those of its places that aren't carried, which

@@ -5,13 +5,13 @@ ghost use Rattle.std.specs.List.{AllByRecursion};
 ghost use Rattle.std.specs.List.Sorted.{IsStrictlyIncreasing};
 ghost use Rattle.xr_model.specs.Places.{among};
 ghost use Rattle.xr_cone.specs.Placed.{IsPlaced};
-ghost use Rattle.xr_rests.specs.Traced.{supports_in};
+ghost use Rattle.xr_graph.specs.Traced.{supports_in};
 
 use crate::tracer::slot_of;
 use std::alloc::Global;
 use xr_base::Memory;
 use xr_cone_nodes::{NodeBody, Positions, Values};
-use xr_rests::TracedBody;
+use xr_graph::TracedBody;
 
 /// How many nodes a cone has at most.
 const MOST_NODES: usize = 134_217_728;

@@ -1,6 +1,6 @@
 //! A place of a cone, and what it rests on.
 
-use xr_rests::TracedBody;
+use xr_graph::TracedBody;
 
 /// A place of a cone by number, and what it rests on.
 #[derive(Debug, Drop)]

@@ -5,11 +5,11 @@ ghost use Rattle.std.specs.List.{AllByRecursion};
 ghost use Rattle.std.specs.List.Sorted.{IsStrictlyIncreasing};
 ghost use Rattle.xr_model.specs.Places.{among};
 ghost use Rattle.xr_wave.specs.Contents.{Contents};
-ghost use Rattle.xr_reached.specs.Reached.{AddsAll};
-ghost use Rattle.xr_rests.specs.InWave.{IsInReach};
+ghost use Rattle.xr_graph.specs.Reached.{AddsAll};
+ghost use Rattle.xr_graph.specs.InWave.{IsInReach};
 ghost use Rattle.xr_cone.specs.Known.{IsRightOf, IsSameKnown, Keeps, KnowsNothing, known_of, slot_of, body_for};
 ghost use Rattle.xr_cone.specs.Placed.{IsPlaced};
-ghost use Rattle.xr_rests.specs.Traced.{supports_in};
+ghost use Rattle.xr_graph.specs.Traced.{supports_in};
 
 use crate::descent::insert_supports;
 use crate::positions::place_body;
@@ -19,8 +19,8 @@ use std::marker::Model;
 use xr_base::Memory;
 use xr_cell::Value;
 use xr_cone_nodes::NodeBody;
-use xr_reached::Reached;
-use xr_rests::{TracedBody, trace_place};
+use xr_graph::Reached;
+use xr_graph::{TracedBody, trace_place};
 use xr_wave::Wave;
 
 /// How many slots there are at most.

@@ -6,7 +6,7 @@ ghost use Rattle.xr_model.specs.declared.class.ClassByNumber.TheVariants as clas
 ghost use Rattle.xr_wave.specs.Contents.{IsReached, class_in, job, next_number};
 ghost use Rattle.xr_wave.specs.Token.{IsLineNext};
 ghost use Rattle.xr_cone_nodes.specs.Traced.{IsConeOf, IsWholeCone};
-ghost use Rattle.xr_rests.specs.InWave.{IsInReach};
+ghost use Rattle.xr_graph.specs.InWave.{IsInReach};
 ghost use Rattle.xr_cone.specs.Known.{IsRightOf};
 
 use crate::descent::trace_places;

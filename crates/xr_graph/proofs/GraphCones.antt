@@ -22,7 +22,7 @@ use Rattle.xr_model.proofs.ConeWorlds.{free_supports}
 use Rattle.xr_model.proofs.PlacesWhere.{among_all, among_contains, among_itself, contains_among, in_picked}
 use Rattle.xr_model.proofs.Roots.{carried_below, root_carried, root_own}
 use Rattle.xr_cone_nodes.specs.OfWave.{Contents, IsWave, job}
-use Rattle.xr_reached.proofs.FallingPlaces.{falling_is}
+use Rattle.xr_graph.proofs.FallingPlaces.{falling_is}
 use Rattle.xr_cone_nodes.specs.declared.node.Node.{Node}
 use Rattle.xr_cone_nodes.specs.declared.node.NodeBody.{NodeBody as Body}
 use Rattle.xr_cone_nodes.specs.declared.node.NodeBody.TheVariants.{Carried, Rule}

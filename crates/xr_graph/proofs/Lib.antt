@@ -1,4 +1,10 @@
--- Lemmas on graphs.
+-- Lemmas on essential arguments, tables, sets of places and graphs.
+pub mod FallingPlaces
+mod HeapPlaces
+mod NotedPlaces
+pub mod EssentialBits
+pub mod NumberBits
+pub mod RisingLists
 pub mod GraphBits
 pub mod GraphCones
 pub mod GrownGraphs

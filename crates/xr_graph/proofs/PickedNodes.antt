@@ -8,8 +8,8 @@ use Rattle.std.proofs.lemmas.Grind.{get_or-set_at}
 use Rattle.std.proofs.lemmas.List.Folds.{list_any-append}
 use Rattle.xr_model.specs.Places.{among, places_where}
 use Rattle.xr_model.proofs.PlacesWhere.{all_among, among_all, or_left, or_right, picked_rises}
-use Rattle.xr_reached.specs.Reached.{IsFalling}
-use Rattle.xr_reached.proofs.FallingPlaces.{falling_is}
+use Rattle.xr_graph.specs.Reached.{IsFalling}
+use Rattle.xr_graph.proofs.FallingPlaces.{falling_is}
 use Rattle.xr_cone_nodes.specs.declared.node.Node.{Node}
 use Rattle.xr_cone_nodes.specs.declared.node.NodeBody.{NodeBody as Body}
 use Rattle.xr_cone_nodes.specs.declared.node.NodeBody.TheVariants.{Carried, Rule}

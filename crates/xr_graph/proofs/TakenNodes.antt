@@ -3,8 +3,8 @@ use Rattle.std.proofs.Common.{◌≡◌, ℕ, ◌+◌, ◌<◌, ◌≤◌, ◌==
 use Rattle.std.proofs.lemmas.Bool.{eq-eqb, eqb-true, or_cases}
 use Rattle.xr_model.specs.Places.{among}
 use Rattle.xr_model.proofs.PlacesWhere.{all_among, among_all, or_left, or_right}
-use Rattle.xr_reached.specs.Reached.{AddsAll, IsFalling, TakesGreatest}
-use Rattle.xr_reached.proofs.FallingPlaces.{falls_push, in_push, push_new, push_old}
+use Rattle.xr_graph.specs.Reached.{AddsAll, IsFalling, TakesGreatest}
+use Rattle.xr_graph.proofs.FallingPlaces.{falls_push, in_push, push_new, push_old}
 use Rattle.xr_cone_nodes.specs.declared.node.Node.{Node}
 use Rattle.xr_cone_nodes.specs.Nodes.{node_at}
 use Rattle.xr_graph.specs.Graph.{AreOrdered}

@@ -2,7 +2,7 @@
 use Rattle.std.specs.Prelude.{◌≡◌, ℕ, ◌+◌, ◌<◌, Bool, true, List, [], ◌∷◌, length}
 use Rattle.std.specs.List.{AllByRecursion}
 use Rattle.xr_model.specs.Places.{among}
-use Rattle.xr_reached.specs.Reached.{IsFalling}
+use Rattle.xr_graph.specs.Reached.{IsFalling}
 use Rattle.xr_cone_nodes.specs.declared.node.Node.{Node}
 use Rattle.xr_cone_nodes.specs.declared.node.NodeBody.{NodeBody as Body}
 use Rattle.xr_cone_nodes.specs.declared.node.NodeBody.TheVariants.{Carried, Rule}

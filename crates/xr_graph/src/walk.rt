@@ -1,14 +1,14 @@
 //! The nodes that are reached from one, downwards.
 
 ghost use Rattle.std.specs.Prelude.{◌<◌, IfOk, OnOk, length};
-ghost use Rattle.xr_reached.specs.Reached.{AddsAll};
+ghost use Rattle.xr_graph.specs.Reached.{AddsAll};
 ghost use Rattle.xr_graph.specs.Graph.{AreOrdered};
 ghost use Rattle.xr_graph.specs.Walk.{AreTakenFrom};
 
 use crate::kept::KeptNodes;
 use std::alloc::Global;
 use xr_base::Memory;
-use xr_reached::Reached;
+use crate::reached::Reached;
 
 /// The nodes that are reached from one, the greatest first: all that read a node stand after it, so once it is the
 /// greatest that is still to be looked at, nothing more will reach it.

@@ -17,7 +17,7 @@ use Rattle.xr_model.proofs.CarryLaw.{carry}
 use Rattle.xr_class.proofs.StepBefore.{before_later, first_step}
 use Rattle.xr_wave.specs.Contents.{Contents, IsWave, job}
 use Rattle.xr_wave.specs.Kept.{keeps_there}
-use Rattle.xr_sources.proofs.GivenWorlds.{given_certain, given_world}
+use Rattle.xr_laws.proofs.GivenWorlds.{given_certain, given_world}
 use Rattle.xr_lane_nodes.specs.Given.{lane_bit, lane_given}
 use Rattle.xr_lane_nodes.specs.InWave.{IsLiteralIn}
 use Rattle.xr_lane_nodes.specs.Literal.{LiteralView}

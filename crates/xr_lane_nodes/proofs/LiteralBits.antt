@@ -22,8 +22,8 @@ use Rattle.xr_model.proofs.PlacesWhere.{all_among, among_all}
 use Rattle.xr_model.proofs.Roots.{root_carried}
 use Rattle.xr_model.proofs.TracedCones.{sound_carries, values_are}
 use Rattle.xr_wave.specs.Contents.{Contents, IsWave, job}
-use Rattle.xr_sources.proofs.GivenWorlds.{given_certain, given_world}
-use Rattle.xr_sources.proofs.SourceUnions.{carried_law}
+use Rattle.xr_laws.proofs.GivenWorlds.{given_certain, given_world}
+use Rattle.xr_laws.proofs.SourceUnions.{carried_law}
 use Rattle.xr_cone_nodes.specs.Lanes.{HasLanes, in_lane}
 use Rattle.xr_cone_nodes.proofs.EachLane.{lane_zeros}
 use Rattle.xr_lane_nodes.specs.Given.{given_lanes, lane_bit, lane_given}

@@ -16,9 +16,9 @@ use Rattle.xr_model.proofs.Cones.{cone_within}
 use Rattle.xr_model.proofs.PlacesWhere.{all_among, among_all, in_any, in_picked, picked_in, picked_rises}
 use Rattle.xr_model.proofs.TracedCones.{values_are}
 use Rattle.xr_wave.specs.Contents.{Contents, IsWave, job}
-use Rattle.xr_sources.proofs.SourceUnions.{union_law}
+use Rattle.xr_laws.proofs.SourceUnions.{union_law}
 use Rattle.xr_cone_nodes.proofs.NodeSources.{values_born}
-use Rattle.xr_rests.specs.Table.{IsTableOver}
+use Rattle.xr_graph.specs.Table.{IsTableOver}
 use Rattle.xr_cone_nodes.proofs.RisingNumbers.{Rises, rises, rises_same}
 use Rattle.xr_lane_nodes.specs.InWave.{IsInReach, IsRuleIn, CoversBeforeIn}
 use Rattle.xr_lane_nodes.specs.Joined.{AreListed, IsJoined, HasSources, is_in, keeps_source}

@@ -23,7 +23,7 @@ use Rattle.xr_model.specs.declared.class.ClassByNumber.{ClassByNumber}
 use Rattle.xr_model.specs.declared.class.ClassByNumber.TheVariants.{Carried}
 use Rattle.xr_model.proofs.Classes.{ClassSays, all_at, class_rule, class_says}
 use Rattle.xr_model.proofs.PlacesWhere.{all_among, in_picked, or_left, or_right}
-use Rattle.xr_rests.proofs.EssentialBits.{essentials_filter}
+use Rattle.xr_graph.proofs.EssentialBits.{essentials_filter}
 
 -- A step of some width is at most three before a place of another step.
 abbrev Near : ℕ → ℕ → ℕ → Type 0

@@ -4,7 +4,7 @@ use Rattle.xr_cell.specs.declared.value.Value.{Value}
 use Rattle.xr_design.specs.Waveform.{certain}
 use Rattle.xr_model.specs.Laws.{InReach}
 use Rattle.xr_wave.specs.Contents.{Contents, job}
-use Rattle.xr_rests.specs.Traced.{IsRule}
+use Rattle.xr_graph.specs.Traced.{IsRule}
 use Rattle.xr_lane_nodes.specs.Given.{lane_bit}
 use Rattle.xr_lane_nodes.specs.Nodes.{NodeView}
 use Rattle.xr_lane_nodes.specs.Covered.{CoversBefore}

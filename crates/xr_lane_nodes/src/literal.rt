@@ -19,7 +19,7 @@ pub struct Literal {
 
 impl Model for Literal {
     ghost use Rattle.xr_lane_nodes.specs.Literal.{LiteralView, packed, unpacked};
-    ghost use Rattle.xr_rests.proofs.NumberBits.{half_back};
+    ghost use Rattle.xr_graph.proofs.NumberBits.{half_back};
 
     ghost Value = { LiteralView };
 

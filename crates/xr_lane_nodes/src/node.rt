@@ -20,7 +20,7 @@ use xr_base::Memory;
 use xr_cell::Value;
 use xr_cone_nodes::{LaneBits, Values};
 use xr_graph::NodeRoot;
-use xr_rests::{TracedBody, trace_place};
+use xr_graph::{TracedBody, trace_place};
 use xr_wave::Wave;
 
 /// A node that is to come in: its place, its bits in the lanes, its sources, where they are kept, or a node that has the same

@@ -21,7 +21,7 @@ use Rattle.xr_model.proofs.PlacesWhere.{among_all, in_picked}
 use Rattle.xr_model.proofs.SourceFillings.{source_filling_is}
 use Rattle.xr_wave.specs.Contents.{Contents, IsWave, job}
 use Rattle.xr_wave.specs.Token.{HasNext}
-use Rattle.xr_sources.proofs.GivenWorlds.{given_cut}
+use Rattle.xr_laws.proofs.GivenWorlds.{given_cut}
 use Rattle.xr_cone_nodes.specs.Lanes.{HasLanes, in_lane}
 use Rattle.xr_cone_nodes.proofs.PickedLists.{places_both}
 use Rattle.xr_lane_nodes.specs.Given.{empty_lane, given_by, lane_given}

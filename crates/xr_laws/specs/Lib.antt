@@ -1,4 +1,5 @@
--- Definitions of laws that compare waveforms.
+-- Definitions of the laws of sources, and of laws that compare waveforms.
+pub mod Sources
 pub mod Prefix
 pub mod Objection
 pub mod Reshown

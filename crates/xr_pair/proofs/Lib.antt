@@ -1,3 +1,6 @@
--- Lemmas on pairs.
+-- Lemmas on fillings that are tried.
 pub mod LeastLanes
 pub mod NextPairs
+pub mod BlockLanes
+pub mod FoundNumbers
+pub mod TriedNumbers

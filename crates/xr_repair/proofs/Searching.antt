@@ -22,7 +22,7 @@ use Rattle.xr_cnf.proofs.ConeLiterals.{variables_counted}
 use Rattle.xr_wave.specs.Contents.{Contents, job, next_number}
 use Rattle.xr_wave.specs.Token.{HasNoLog, HoldsWithoutLog, LineHolds, PairHolds}
 use Rattle.xr_along.specs.Accepted.{AcceptsLine, BodyFits, LogFits}
-use Rattle.xr_enum.specs.Decision.{IsDecision, both_bits, one_bit}
+use Rattle.xr_pair.specs.Decision.{IsDecision, both_bits, one_bit}
 use Rattle.xr_pair.specs.Pairs.{pair_with}
 
 -- A log that refutes the query refutes that of the next place, and one that is fresh for it is fresh there.

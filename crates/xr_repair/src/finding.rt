@@ -17,7 +17,7 @@ use crate::search::search;
 use std::alloc::Global;
 use xr_base::Memory;
 use xr_cone::Shown;
-use xr_enum::{decide, has_few_sources};
+use xr_pair::{decide, has_few_sources};
 use xr_wave::{Verdict, Wave};
 
 /// The verdict of the next place. Tables come before a guess, since that reads a node again for each place, and tables once.

@@ -8,10 +8,10 @@ use Rattle.xr_design.specs.declared.place.Place.{Place}
 use Rattle.xr_model.specs.Class.{flipped}
 use Rattle.xr_cone_nodes.specs.declared.node.Node.{Node}
 use Rattle.xr_cone_nodes.specs.Lanes.{HasLanes, HasNone, in_lane}
-use Rattle.xr_enum.specs.Found.{fewer}
-use Rattle.xr_enum.proofs.FoundNumbers.{more_ones}
+use Rattle.xr_pair.specs.Found.{fewer}
+use Rattle.xr_pair.proofs.FoundNumbers.{more_ones}
 use Rattle.xr_graph.specs.Bits.{graph_bit}
-use Rattle.xr_enum.specs.OfPair.{IsLeast}
+use Rattle.xr_pair.specs.Pairs.{IsLeast}
 use Rattle.xr_tables.specs.Other.{AreAll, IsAll, IsCompared, IsLeastOtherAt, IsLeastOtherBelow, IsOther, IsOtherIn, IsSame, IsSameIn, IsShownBy, NoneFewer}
 use Rattle.xr_tables.specs.Tables.{IsTableOf, filling_by}
 use Rattle.xr_tables.specs.declared.other.Compared.{Compared}

@@ -4,7 +4,7 @@ use Rattle.std.proofs.lemmas.Bool.{eq-eqb, eqb-true, or_cases}
 use Rattle.std.specs.List.{AllByRecursion}
 use Rattle.xr_model.proofs.PlacesWhere.{all_among, among_all, or_left}
 use Rattle.xr_model.specs.Places.{among}
-use Rattle.xr_reached.specs.Reached.{Adds, TakesGreatest}
+use Rattle.xr_graph.specs.Reached.{Adds, TakesGreatest}
 
 -- The number after the greatest.
 abbrev pub end_of : List ℕ → ℕ

@@ -12,7 +12,7 @@ use std::alloc::Global;
 use xr_base::Memory;
 use xr_cone_nodes::LaneBits;
 use xr_design::Place;
-use xr_enum::{number_blocks, source_lanes};
+use xr_pair::{number_blocks, source_lanes};
 use xr_graph::{Graph, KeptNode};
 
 /// The blocks of a node over a list, or none where those of a node that it reads aren't found. Takes 32 bytes a block.

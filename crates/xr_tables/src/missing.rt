@@ -7,7 +7,7 @@ use crate::kept::KeptTables;
 use std::alloc::Global;
 use xr_base::Memory;
 use xr_graph::Graph;
-use xr_reached::Reached;
+use xr_graph::Reached;
 
 /// The nodes that are reached from one, the greatest first, down to nodes that have tables; those whose table is aged
 /// are among them. None where they are more than a number says.

@@ -9,7 +9,7 @@ use std::alloc::Global;
 use xr_base::{Items, Memory};
 use xr_cone_nodes::LaneBits;
 use xr_design::{Filling, Place};
-use xr_enum::{fewer, least_lane, number_blocks};
+use xr_pair::{fewer, least_lane, number_blocks};
 
 /// A filling under which a node has another bit than under the empty one, and its bit under that.
 #[derive(Debug)]

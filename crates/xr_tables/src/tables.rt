@@ -14,7 +14,7 @@ use std::marker::Model;
 use std::mem;
 use xr_base::Memory;
 use xr_design::Place;
-use xr_enum::number_blocks;
+use xr_pair::number_blocks;
 use xr_graph::Graph;
 
 /// How many blocks may be made for a question at most, and how many each question earns: so questions that come to

@@ -3,8 +3,8 @@ use Rattle.std.proofs.Common.{ℕ, List, subst, sym, arith}
 use Rattle.xr_design.specs.Fits.{Fits}
 use Rattle.xr_design.specs.Waveform.{certain}
 use Rattle.xr_wave.specs.Contents.{job}
-use Rattle.xr_reached.specs.Reached.{Adds, AddsAll}
-use Rattle.xr_rests.specs.Traced.{supports_in}
+use Rattle.xr_graph.specs.Reached.{Adds, AddsAll}
+use Rattle.xr_graph.specs.Traced.{supports_in}
 use Rattle.xr_cone.proofs.KnownBodies.{known_body}
 use Rattle.xr_cone.proofs.TracedBodies.{supports_are}
 use Rattle.xr_cone.proofs.TracedPlaces.{IsDescent, descent_begins, descent_ends, descent_more, descent_within}

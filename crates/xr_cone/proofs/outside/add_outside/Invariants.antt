@@ -1,6 +1,6 @@
 -- Those of the places so far are in.
 use Rattle.std.proofs.Common.{filter, take}
-use Rattle.xr_reached.specs.Reached.{AddsAll}
+use Rattle.xr_graph.specs.Reached.{AddsAll}
 use Rattle.xr_cone.specs.Boundary.{is_outside}
 use Rattle.xr_cone.proofs.outside.add_outside.Given as goal
 

@@ -6,12 +6,12 @@ use Rattle.std.proofs.lemmas.List.{get_or_default, length-map}
 use Rattle.xr_design.specs.Circuit.{job_in}
 use Rattle.xr_design.specs.Job.{Job}
 use Rattle.xr_wave.specs.Contents.{job}
-use Rattle.xr_reached.specs.Reached.{AddsAll}
+use Rattle.xr_graph.specs.Reached.{AddsAll}
 use Rattle.xr_cone_nodes.specs.declared.node.Node.{Node}
 use Rattle.xr_cone_nodes.specs.Nodes.{no_node, node_at}
 use Rattle.xr_cone_nodes.specs.Traced.{cone_in}
 use Rattle.xr_cone.specs.Boundary.{IsPlaceIn, number_in, read_in}
-use Rattle.xr_rests.specs.InWave.{IsInReach}
+use Rattle.xr_graph.specs.InWave.{IsInReach}
 use Rattle.xr_cone.proofs.BoundaryPlaces.{as_many, cone_rising, falling, nodes_placed, nodes_read, numbers_are, position_reach}
 use Rattle.xr_cone.proofs.outside.falling_boundary.Goals as goal
 

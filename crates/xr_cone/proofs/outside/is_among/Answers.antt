@@ -1,7 +1,7 @@
 -- A place that isn't found isn't there.
 use Rattle.xr_model.specs.Places.{among}
 use Rattle.xr_cone.proofs.BoundaryPlaces.{not_true}
-use Rattle.xr_rests.proofs.RisingLists.{found_there}
+use Rattle.xr_graph.proofs.RisingLists.{found_there}
 use Rattle.xr_cone.proofs.outside.is_among.Goals as goal
 
 pub returns-in-Err : goal.returns-in-Err

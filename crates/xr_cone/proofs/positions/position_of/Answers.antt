@@ -1,5 +1,5 @@
 -- A place that is there is found.
-use Rattle.xr_rests.proofs.RisingLists.{found_there}
+use Rattle.xr_graph.proofs.RisingLists.{found_there}
 use Rattle.xr_cone.proofs.positions.position_of.Goals as goal
 
 pub unreachable-requires : goal.unreachable-requires

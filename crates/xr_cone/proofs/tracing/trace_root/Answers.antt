@@ -10,7 +10,7 @@ use Rattle.xr_cone_nodes.specs.Traced.{IsConeOf, IsWholeCone}
 use Rattle.xr_cone_nodes.proofs.NodeWorlds.{whole_law}
 use Rattle.xr_cone.specs.Known.{IsRightOf}
 use Rattle.xr_cone.specs.Placed.{IsPlaced}
-use Rattle.xr_rests.specs.Traced.{supports_in}
+use Rattle.xr_graph.specs.Traced.{supports_in}
 use Rattle.xr_cone.proofs.ConeNodes.{ends_ok, few_traced, made_begins, made_ends, made_more, made_next, next_few, next_reach, next_rises, next_supports, next_within, none_left}
 use Rattle.xr_cone.proofs.KnownBodies.{if_known, known_body}
 use Rattle.xr_cone.proofs.tracing.trace_root.Goals as goal

@@ -1,6 +1,6 @@
 -- The greatest of the nodes that wait is taken, and what it reads comes in.
 use Rattle.std.proofs.Common.{◌≡◌, List, ℕ, ap, arith, subst, sym}
-use Rattle.xr_reached.specs.Reached.{Adds, AddsAll}
+use Rattle.xr_graph.specs.Reached.{Adds, AddsAll}
 use Rattle.xr_cone_nodes.specs.declared.node.Node.{Node}
 use Rattle.xr_cone_nodes.specs.Nodes.{node_at}
 use Rattle.xr_graph.specs.Walk.{read_nodes}

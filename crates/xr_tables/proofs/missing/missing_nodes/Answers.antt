@@ -1,7 +1,7 @@
 -- The greatest of the nodes that wait is taken out, and what it reads stands below it.
 use Rattle.std.proofs.Common.{◌<◌, List, ℕ, [], length, arith, subst, sym}
 use Rattle.std.specs.List.{AllByRecursion}
-use Rattle.xr_reached.specs.Reached.{Adds}
+use Rattle.xr_graph.specs.Reached.{Adds}
 use Rattle.xr_tables.proofs.ReachedNodes.{added_below, end_up, push_all, taken_below_end, taken_low, wider}
 use Rattle.xr_tables.proofs.missing.missing_nodes.Goals as goal
 

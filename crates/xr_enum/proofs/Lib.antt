@@ -1,4 +1,0 @@
--- Lemmas on decisions by enumeration.
-pub mod BlockLanes
-pub mod FoundNumbers
-pub mod TriedNumbers

@@ -1,5 +1,0 @@
--- Definitions of decisions by enumeration.
-pub mod Blocks
-pub mod Decision
-pub mod Found
-pub mod OfPair

@@ -1,4 +1,0 @@
--- Lemmas on sets of places.
-pub mod FallingPlaces
-mod HeapPlaces
-mod NotedPlaces

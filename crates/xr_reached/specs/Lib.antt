@@ -1,3 +1,0 @@
--- Definitions of sets of places that are reached.
-pub mod Noted
-pub mod Reached
