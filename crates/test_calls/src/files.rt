@@ -1,15 +1,15 @@
 //! Real files.
 
+use base_files::{Fetched, FileShelf};
+use base_shelf::{ReadErr, Shelf, read_all, write_all};
 use std::test::Fail;
 use std::{env, fs, process};
-use xr_files::{Fetched, FileShelf};
-use xr_shelf::{ReadErr, Shelf, read_all, write_all};
 
 #[test]
 fn a_file_is_written_and_read(rt: HostRuntime) -> Result<(), Fail> {
     let folder = env::temp_dir(&rt)?;
     let id = process::id(rt.process());
-    let name = format!(in rt.alloc(); "{}/xr_files-{id}.vcd", folder.as_path().display())?;
+    let name = format!(in rt.alloc(); "{}/base_files-{id}.vcd", folder.as_path().display())?;
     let mut none = Fetched::new(rt.alloc(), 100);
     assert!(rt; none.fetch(&rt, name.as_str()).is_ok());
     let mut shelf = FileShelf::new(&rt, rt.alloc(), &none);
@@ -33,9 +33,9 @@ fn a_file_is_written_and_read(rt: HostRuntime) -> Result<(), Fail> {
 fn no_part_is_left(rt: HostRuntime) -> Result<(), Fail> {
     let folder = env::temp_dir(&rt)?;
     let id = process::id(rt.process());
-    let name = format!(in rt.alloc(); "{}/xr_files-{id}.code", folder.as_path().display())?;
+    let name = format!(in rt.alloc(); "{}/base_files-{id}.code", folder.as_path().display())?;
     let part = format!(in rt.alloc(); "{}.part", name)?;
-    let other = format!(in rt.alloc(); "{}/none/xr_files-{id}.code", folder.as_path().display())?;
+    let other = format!(in rt.alloc(); "{}/none/base_files-{id}.code", folder.as_path().display())?;
     fs::write(&rt, name.as_str(), b"old")?;
     let none = Fetched::new(rt.alloc(), 100);
     let mut shelf = FileShelf::new(&rt, rt.alloc(), &none);

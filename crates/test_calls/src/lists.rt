@@ -1,7 +1,7 @@
 //! Lists that a model sees.
 
+use base_lists::Items;
 use std::test::Fail;
-use xr_base::Items;
 
 #[test]
 fn items_stay_in_order(rt: HostRuntime) -> Result<(), Fail> {

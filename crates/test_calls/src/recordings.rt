@@ -1,10 +1,10 @@
 //! Changes, codes and recordings.
 
+use design_cell::Value;
+use recording_changes::Changes;
+use recording_codes::Codes;
+use recording_reader::{Cursor, read_vcd};
 use std::test::Fail;
-use xr_cell::Value;
-use xr_vcd::{Cursor, read_vcd};
-use xr_vcd_changes::Changes;
-use xr_vcd_codes::Codes;
 
 #[test]
 fn a_change_is_kept(rt: HostRuntime) -> Result<(), Fail> {

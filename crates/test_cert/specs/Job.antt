@@ -1,9 +1,9 @@
 -- When a job fits.
-use Rattle.xr_design.specs.Handed.{IsReplay}
-use Rattle.xr_job.specs.Compared.{job_for}
-use Rattle.xr_job.specs.Netlist.{FitsNetlist}
-use Rattle.xr_job.specs.Recorded.{FitsRecorded}
-use Rattle.xr_wave.specs.Contents.{AreLimits}
+use Rattle.design_circuit.specs.Handed.{IsReplay}
+use Rattle.cmd_job.specs.Compared.{job_for}
+use Rattle.cmd_job.specs.Netlist.{FitsNetlist}
+use Rattle.cmd_job.specs.Recorded.{FitsRecorded}
+use Rattle.wave_proved.specs.Contents.{AreLimits}
 use Rattle.test_cert.specs.declared.job.Job.{Job}
 
 -- Its netlist and its recording fit, its history is the replay, and its limits may be such.

@@ -3,10 +3,10 @@
 use crate::checked::put_read;
 use crate::job::{Task, put_job};
 use crate::words::{text_of, word_and_number};
+use base_lists::Memory;
+use cert_check::Form;
 use std::alloc::{AllocError, Global};
 use test_cases::{Part, PartKind, Parts, Report, Section};
-use xr_base::Memory;
-use xr_cert::Form;
 
 /// The texts of a job and of a certificate, if there is one; how many rounds a moment has, and how many clauses the log
 /// of a search; and whether a certificate is without its last byte.

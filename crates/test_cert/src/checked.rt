@@ -6,14 +6,14 @@ use crate::case::Texts;
 use crate::job::Job;
 use crate::refusal::{put_fault, put_objection, put_words};
 use crate::words::put_count;
+use base_lists::{Memory, put};
+use cert_check::{Cert, CertErr, CheckErr, Checked, Entry, Form, read_cert, write_cert};
+use cert_turns::conditions_of;
+use cert_writer::{put_beginning, put_end, put_line, put_turn};
+use decide_repair::RepairErr;
+use report_bits::counts_of;
 use std::alloc::Global;
-use xr_base::{Memory, put};
-use xr_cert::{Cert, CertErr, CheckErr, Checked, Entry, Form, read_cert, write_cert};
-use xr_cert_text::{put_beginning, put_end, put_line, put_turn};
-use xr_repair::RepairErr;
-use xr_report::counts_of;
-use xr_turns::conditions_of;
-use xr_wave::Wave;
+use wave_proved::Wave;
 
 /// Puts what the reading of a certificate comes to, and whether its text is the same when it is written again.
 pub fn put_read(alloc: Global, out: &mut Vec<u8>, texts: &Texts) -> Result<(), Memory> {

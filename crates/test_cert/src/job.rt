@@ -1,24 +1,24 @@
 //! The job of a case: its netlist, its recording, and the replay.
 
 ghost use Rattle.std.specs.Prelude.{IfOk, IfSome};
-ghost use Rattle.xr_job.specs.Netlist.{FitsNetlist};
-ghost use Rattle.xr_job.specs.Recorded.{FitsRecorded};
+ghost use Rattle.cmd_job.specs.Netlist.{FitsNetlist};
+ghost use Rattle.cmd_job.specs.Recorded.{FitsRecorded};
 ghost use Rattle.test_cert.specs.Job.{FitsJob};
 
 use crate::case::Texts;
 use crate::checked::{put_checked, put_own};
-use std::alloc::Global;
-use std::slice;
-use xr_base::{Memory, put};
-use xr_cert::{Cert, CheckErr, Checked, Form, check_cert};
-use xr_design::{Bytes, History, Levels, RegisterRules, StartRule};
-use xr_job::{
+use base_lists::{Memory, put};
+use cert_check::{Cert, CheckErr, Checked, Form, check_cert};
+use cmd_job::{
     Netlist, PLACES, Recorded, Rules, circuit_of, read_netlist, read_recording, replay_and_compare,
 };
-use xr_match::UndrivenRule;
-use xr_model::Limits;
-use xr_repair::{RepairErr, repair};
-use xr_wave::Wave;
+use decide_repair::{RepairErr, repair};
+use design_circuit::{Bytes, History, Levels, RegisterRules, StartRule};
+use law_model::Limits;
+use recording_binding::UndrivenRule;
+use std::alloc::Global;
+use std::slice;
+use wave_proved::Wave;
 
 /// A job with its replay, and the limits of its decisions.
 #[derive(Clone, Copy)]

@@ -2,13 +2,13 @@
 
 use crate::job::Job;
 use crate::words::put_count;
+use base_lists::{Memory, put};
+use cert_check::CertFault;
+use design_circuit::{Design, Place, Stim};
+use law_model::Body;
 use std::alloc::Global;
 use std::fmt::Write;
-use xr_base::{Memory, put};
-use xr_cert::CertFault;
-use xr_design::{Design, Place, Stim};
-use xr_model::Body;
-use xr_wave::Optimistic;
+use wave_proved::Optimistic;
 
 /// Puts why a certificate is refused, in a line.
 pub fn put_fault(out: &mut Vec<u8>, job: &Job<'_>, fault: CertFault) -> Result<(), Memory> {

@@ -1,7 +1,7 @@
 //! Words of a line.
 
+use base_lists::{Memory, put, put_number};
 use std::str;
-use xr_base::{Memory, put, put_number};
 
 /// The text of some bytes; those that are none are empty.
 pub fn text_of(bytes: &[u8]) -> &str {

@@ -2,9 +2,9 @@
 
 use crate::job::compare_job;
 use crate::words::{first_word, text_of};
+use base_lists::Memory;
 use std::alloc::{AllocError, Global};
 use test_cases::{Part, PartKind, Report, Section};
-use xr_base::Memory;
 
 /// A code text, or events that one is written for.
 #[derive(Drop)]

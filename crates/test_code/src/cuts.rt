@@ -2,9 +2,9 @@
 
 use crate::scoped::Scoped;
 use crate::texts::verdict_of;
+use base_lists::Memory;
 use std::alloc::Global;
 use std::fmt::Write;
-use xr_base::Memory;
 
 /// A line for each run of cuts that come to the same.
 pub fn cuts_of(alloc: Global, scoped: &Scoped<'_>, text: &[u8]) -> Result<String, Memory> {

@@ -2,11 +2,11 @@
 
 use crate::scoped::Scoped;
 use crate::words::{first_word, last_word, text_of};
+use base_lists::{Memory, put, put_number};
+use design_cell::Value;
+use design_circuit::{Event, Forces};
 use std::alloc::Global;
 use test_cases::Lines;
-use xr_base::{Memory, put, put_number};
-use xr_cell::Value;
-use xr_design::{Event, Forces};
 
 /// The events of lines; those that name no net are left out.
 pub fn events_of(alloc: Global, scoped: &Scoped<'_>, lines: &[u8]) -> Result<Forces, Memory> {

@@ -1,8 +1,8 @@
 //! The job of a case, and what of it is compared.
 
 ghost use Rattle.std.specs.Prelude.{IfOk, IfSome};
-ghost use Rattle.xr_job.specs.Netlist.{FitsNetlist};
-ghost use Rattle.xr_job.specs.Recorded.{FitsRecorded};
+ghost use Rattle.cmd_job.specs.Netlist.{FitsNetlist};
+ghost use Rattle.cmd_job.specs.Recorded.{FitsRecorded};
 
 use crate::case::{Given, Texts, compare};
 use crate::cuts::cuts_of;
@@ -11,12 +11,12 @@ use crate::moments::recording_of;
 use crate::scoped::Scoped;
 use crate::texts::{compare_texts, read_lines};
 use crate::words::{names_of, text_of};
+use base_lists::Memory;
+use cmd_job::{Netlist, PLACES, Recorded, Rules, read_netlist, read_recording};
+use design_circuit::{Bytes, Levels, RegisterRules, StartRule};
+use recording_binding::UndrivenRule;
 use std::alloc::Global;
 use test_cases::{Part, Report};
-use xr_base::Memory;
-use xr_design::{Bytes, Levels, RegisterRules, StartRule};
-use xr_job::{Netlist, PLACES, Recorded, Rules, read_netlist, read_recording};
-use xr_match::UndrivenRule;
 
 /// Compares what a part says with what comes.
 pub fn compare_job(

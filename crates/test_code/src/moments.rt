@@ -1,8 +1,8 @@
 //! Recordings in which every input is x in every moment.
 
+use base_lists::{Memory, put, put_number};
+use design_circuit::{Design, Driver, Name};
 use std::alloc::Global;
-use xr_base::{Memory, put, put_number};
-use xr_design::{Design, Driver, Name};
 
 /// The recording of a design with moments at these times, in the scope `dut`.
 pub fn recording_of(alloc: Global, design: &Design, times: &str) -> Result<Vec<u8>, Memory> {

@@ -1,16 +1,16 @@
 //! A circuit with the scope of its names: what code is read and written by.
 
 ghost use Rattle.std.specs.Bool.{OnTrue};
-ghost use Rattle.xr_code.specs.Steps.{CanWrite, HasEvents};
-ghost use Rattle.xr_job.specs.Netlist.{FitsNetlist};
-ghost use Rattle.xr_job.specs.Recorded.{FitsRecorded};
+ghost use Rattle.replay_code.specs.Steps.{CanWrite, HasEvents};
+ghost use Rattle.cmd_job.specs.Netlist.{FitsNetlist};
+ghost use Rattle.cmd_job.specs.Recorded.{FitsRecorded};
 
+use base_lists::Memory;
+use cmd_job::{Netlist, Recorded, circuit_of};
+use design_circuit::{Bytes, Circuit, Event, Forces};
+use replay_code::{CodeErr, read_code, write_code};
 use std::alloc::Global;
 use std::marker::Model;
-use xr_base::Memory;
-use xr_code::{CodeErr, read_code, write_code};
-use xr_design::{Bytes, Circuit, Event, Forces};
-use xr_job::{Netlist, Recorded, circuit_of};
 
 /// A circuit, and the names in front of those of its nets. Contracts see the design.
 #[derive(Drop)]
@@ -20,8 +20,8 @@ pub struct Scoped<'a> {
 }
 
 impl<'a> Model for Scoped<'a> {
-    ghost use Rattle.xr_design.specs.Design.{FitsDesign};
-    ghost use Rattle.xr_design.specs.declared.design.Design.{Design};
+    ghost use Rattle.design_circuit.specs.Design.{FitsDesign};
+    ghost use Rattle.design_circuit.specs.declared.design.Design.{Design};
 
     ghost Value = { Design };
 

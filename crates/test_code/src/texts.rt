@@ -3,10 +3,10 @@
 use crate::case::compare;
 use crate::events::lines_of;
 use crate::scoped::Scoped;
+use base_lists::Memory;
+use replay_code::{CodeErr, CodeFault};
 use std::alloc::{AllocError, Global};
 use test_cases::{Part, Report, text_cases};
-use xr_base::Memory;
-use xr_code::{CodeErr, CodeFault};
 
 /// The forces that a text says, as lines, or its refusal as one.
 pub fn read_lines(alloc: Global, scoped: &Scoped<'_>, text: &[u8]) -> Result<Vec<u8>, Memory> {

@@ -1,8 +1,8 @@
 //! Words of a line.
 
+use design_circuit::Bytes;
 use std::alloc::{AllocError, Global};
 use std::str;
-use xr_design::Bytes;
 
 /// The text of some bytes; those that are none are empty.
 pub fn text_of(bytes: &[u8]) -> &str {

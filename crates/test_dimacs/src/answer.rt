@@ -1,8 +1,8 @@
 //! What a text comes to, in words.
 
+use base_lists::{Memory, put};
+use sat_dimacs::{DimacsErr, DimacsFault, read_cnf, read_log, write_cnf, write_log};
 use std::alloc::{AllocError, Global};
-use xr_base::{Memory, put};
-use xr_dimacs::{DimacsErr, DimacsFault, read_cnf, read_log, write_cnf, write_log};
 
 /// How many variables the logs are over.
 const VARS: u32 = 2;

@@ -1,11 +1,11 @@
 //! Formulas that are drawn, read in texts of all kinds, and written.
 
 use crate::answer::rewritten;
+use base_lists::{Memory, put, put_number};
+use sat_dimacs::DimacsErr;
 use std::alloc::Global;
 use std::str;
 use test_cases::{Line, Report};
-use xr_base::{Memory, put, put_number};
-use xr_dimacs::DimacsErr;
 
 /// Runs a line `drawn COUNT CLAUSES VARIABLES -> COUNT`.
 pub(crate) fn run_line(alloc: Global, report: &mut Report, line: Line<'_>) -> Result<(), Memory> {

@@ -28,12 +28,12 @@ mod drawn;
 mod proved;
 
 use answer::{formula_words, log_words};
+use base_lists::Memory;
 use drawn::run_line;
 use proved::run_section;
 use std::alloc::{AllocError, Global};
 use std::{env, fs, io};
 use test_cases::{Lines, Report, section_cases, text_cases};
-use xr_base::Memory;
 
 fn main(rt: HostRuntime) -> io::Result<()> {
     for name in env::args(&rt)?.skip(1) {

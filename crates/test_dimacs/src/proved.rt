@@ -1,13 +1,13 @@
 //! A formula and a log, and what the log is worth.
 
-ghost use Rattle.xr_proof.specs.Log.{Fit};
+ghost use Rattle.sat_proof.specs.Log.{Fit};
 
 use crate::answer::fault_words;
+use base_lists::Memory;
+use sat_dimacs::{DimacsErr, read_cnf, read_log};
+use sat_proof::{Bad, Checker, Cnf, Log};
 use std::alloc::Global;
 use test_cases::{PartKind, Report, Section};
-use xr_base::Memory;
-use xr_dimacs::{DimacsErr, read_cnf, read_log};
-use xr_proof::{Bad, Checker, Cnf, Log};
 
 /// Compares what the log of a section is worth with what must come.
 pub(crate) fn run_section(

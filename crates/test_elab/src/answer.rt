@@ -1,12 +1,12 @@
 //! What a netlist comes to, in words.
 
 use crate::printed::printed;
+use design_circuit::Design;
+use elab_design::elaborate;
+use elab_nets::{ElabErr, ElabFault};
+use netlist_reader::parse;
 use std::alloc::{AllocError, Global};
 use std::fmt::Write;
-use xr_design::Design;
-use xr_elab::elaborate;
-use xr_elab_nets::{ElabErr, ElabFault};
-use xr_netlist::parse;
 
 /// The module that is elaborated.
 const TOP: &str = "top";

@@ -1,9 +1,9 @@
 //! Designs as short texts: a line a net.
 
+use design_cell::{Gate, Value};
+use design_circuit::{Design, Driver, Latching, NamePart, Pin, Table};
 use std::alloc::{AllocError, Global};
 use std::fmt::Write;
-use xr_cell::{Gate, Value};
-use xr_design::{Design, Driver, Latching, NamePart, Pin, Table};
 
 pub fn printed(alloc: Global, design: &Design) -> Result<String, AllocError> {
     let mut out = String::new(alloc);

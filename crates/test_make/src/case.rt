@@ -1,10 +1,10 @@
 //! A case: what is made, and what must come.
 
 use crate::made::{Task, made_text};
+use base_lists::Memory;
 use std::alloc::Global;
 use std::str;
 use test_cases::{Part, PartKind, Report, Section};
-use xr_base::Memory;
 
 /// Goes over the parts of a case: each that says what must come is compared with what came.
 pub fn run_case(alloc: Global, report: &mut Report, section: Section<'_>) -> Result<(), Memory> {

@@ -1,9 +1,9 @@
 //! The texts of a made job.
 
+use base_lists::Memory;
+use cmd_job::read_netlist;
+use cmd_make::{made_netlist, made_recording};
 use std::alloc::Global;
-use xr_base::Memory;
-use xr_job::read_netlist;
-use xr_make::{made_netlist, made_recording};
 
 /// The most gates of a made netlist.
 const MOST_GATES: u32 = 100_000;

@@ -19,11 +19,11 @@
 mod case;
 mod made;
 
+use base_lists::Memory;
 use case::run_case;
 use std::alloc::{AllocError, Global};
 use std::{env, fs, io};
 use test_cases::{Report, section_cases};
-use xr_base::Memory;
 
 fn main(rt: HostRuntime) -> io::Result<()> {
     for name in env::args(&rt)?.skip(1) {

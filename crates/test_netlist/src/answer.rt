@@ -1,10 +1,10 @@
 //! What a text comes to, in words.
 
 use crate::printed::printed;
+use netlist_reader::{ParseErr, parse};
+use netlist_tokens::{Kind, LexErr, Lexer, Token};
 use std::alloc::{AllocError, Global};
 use std::fmt::Write;
-use xr_netlist::{ParseErr, parse};
-use xr_text::{Kind, LexErr, Lexer, Token};
 
 /// What a text comes to that stands in a file of this name: its tokens, its tree, or whether it is of the grammar.
 pub fn answer_of(alloc: Global, name: &str, text: &[u8]) -> Result<String, AllocError> {

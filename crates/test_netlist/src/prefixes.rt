@@ -1,10 +1,10 @@
 //! Each prefix of a text, with marks of what it comes to.
 
 use crate::answer::parsed;
+use netlist_reader::{NetlistFault, parse};
+use netlist_tokens::LexErr;
 use std::alloc::{AllocError, Global};
 use test_cases::{Part, PartKind, Report, Section, section_cases};
-use xr_netlist::{NetlistFault, parse};
-use xr_text::LexErr;
 
 /// Which mark a prefix gets: how far before its end it is refused, or the first letter of the words.
 #[derive(Clone, Copy)]

@@ -1,12 +1,12 @@
 //! Trees as short texts.
 
-use std::alloc::{AllocError, Global};
-use std::fmt::Write;
-use xr_cell::{RawRow, Symbol};
-use xr_netlist_grammar::{
+use design_cell::{RawRow, Symbol};
+use netlist_grammar::{
     Connection, Connections, Declare, Expr, GateItem, InstanceItem, Item, Module, NamedConnection,
     Part, PartKind, PrimDeclare, Primitive, Source, Word,
 };
+use std::alloc::{AllocError, Global};
+use std::fmt::Write;
 
 pub fn printed(alloc: Global, tree: &Source) -> Result<String, AllocError> {
     let mut out = String::new(alloc);

@@ -5,12 +5,12 @@ use crate::dimacs::{formula_of, numbers_of};
 use crate::families::Family;
 use crate::logs::{ROOMS, fresh, refuting};
 use crate::searches::{log_of, solved};
+use base_lists::Memory;
+use sat_proof::Cnf;
 use std::alloc::{AllocError, Global};
 use std::rt::Files;
 use std::{fs, io, str};
 use test_cases::{Line, Report};
-use xr_base::Memory;
-use xr_proof::Cnf;
 
 /// Does what a line says, and compares what it answered.
 pub(crate) fn run_case<R: Files + AllocGlobal>(

@@ -3,13 +3,13 @@
 
 ghost use Rattle.std.specs.Prelude.{IfOk, IfSome};
 ghost use Rattle.std.specs.List.{All};
-ghost use Rattle.xr_proof.specs.Assignment.{HasNoZero};
-ghost use Rattle.xr_proof.specs.Log.{Fit};
+ghost use Rattle.sat_proof.specs.Assignment.{HasNoZero};
+ghost use Rattle.sat_proof.specs.Log.{Fit};
 
+use base_lists::Items;
+use sat_proof::{Clause, Cnf, Log};
 use std::alloc::{AllocError, Global};
 use std::mem;
-use xr_base::Items;
-use xr_proof::{Clause, Cnf, Log};
 
 /// The numbers of a text; none where a word is none.
 pub(crate) fn numbers_of(alloc: Global, text: &str) -> Result<Option<Vec<i32>>, AllocError> {

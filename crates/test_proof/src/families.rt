@@ -3,8 +3,8 @@
 use crate::answer::{Answer, Tally};
 use crate::dimacs::formula_over;
 use crate::searches::solved;
+use base_lists::Memory;
 use std::alloc::{AllocError, Global};
-use xr_base::Memory;
 
 /// No family has more variables.
 const VARS: u32 = 12;

@@ -4,9 +4,9 @@ ghost use Rattle.std.specs.Prelude.{◌≡◌, IfOk};
 
 use crate::answer::Answer;
 use crate::dimacs::log_of;
+use base_lists::Memory;
+use sat_proof::{Checker, Cnf, Log};
 use std::alloc::Global;
-use xr_base::Memory;
-use xr_proof::{Checker, Cnf, Log};
 
 /// Room for clauses that are watched and literals that are listed; none is a checker without.
 pub(crate) const ROOMS: [Option<(usize, usize)>; 5] = [

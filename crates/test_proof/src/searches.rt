@@ -3,10 +3,10 @@
 ghost use Rattle.std.specs.Prelude.{◌≡◌, IfOk};
 
 use crate::answer::Answer;
+use base_lists::Memory;
+use sat_proof::{Checker, Clause, Cnf};
+use sat_search::{Outcome, solve};
 use std::alloc::Global;
-use xr_base::Memory;
-use xr_proof::{Checker, Clause, Cnf};
-use xr_sat::{Outcome, solve};
 
 /// The outcome within the limit; a log that the checker refuses has its line.
 pub(crate) fn solved(alloc: Global, formula: &Cnf, limit: u32) -> Result<Answer, Memory> {

@@ -2,14 +2,14 @@
 use Rattle.std.proofs.Common.{◌≡◌, ℕ, suc, ◌+◌, ◌<◌, ◌≤◌, Bool, true, false, List, [], ◌∷◌, ◌++◌, if◌then◌else◌, length, map, refl, sym, ap, ◌∙◌, subst, arith}
 use Rattle.std.proofs.lemmas.List.{map-append}
 use Rattle.std.specs.List.{AllByRecursion}
-use Rattle.xr_design.specs.declared.place.Place.{Place}
-use Rattle.xr_design.specs.Filling.{IsFilling}
-use Rattle.xr_design.specs.Fits.{place_at}
-use Rattle.xr_design.specs.Job.{Job, places_of}
-use Rattle.xr_design.proofs.Numbers.{filling_at}
-use Rattle.xr_model.specs.Places.{places_where}
-use Rattle.xr_model.proofs.PlacesWhere.{picked_below, picked_rises}
-use Rattle.xr_wave.specs.Contents.{Contents, IsWave, job}
+use Rattle.design_circuit.specs.declared.place.Place.{Place}
+use Rattle.design_circuit.specs.Filling.{IsFilling}
+use Rattle.design_circuit.specs.Fits.{place_at}
+use Rattle.design_circuit.specs.Job.{Job, places_of}
+use Rattle.design_circuit.proofs.Numbers.{filling_at}
+use Rattle.law_model.specs.Places.{places_where}
+use Rattle.law_model.proofs.PlacesWhere.{picked_below, picked_rises}
+use Rattle.wave_proved.specs.Contents.{Contents, IsWave, job}
 
 -- The places of the first numbers at which a test holds.
 abbrev pub chosen_places : Job → (ℕ → Bool) → ℕ → List Place

@@ -1,16 +1,16 @@
 -- Places of a wave by their numbers, their cones, and what was handed in.
 use Rattle.std.proofs.Common.{◌≡◌, ℕ, ◌<◌, List, length, sym, subst, arith}
-use Rattle.xr_design.specs.declared.spot.Spot.{Spot}
-use Rattle.xr_design.specs.Circuit.{IsSpot}
-use Rattle.xr_design.specs.Fits.{place_at}
-use Rattle.xr_design.specs.Handed.{IsHandedIn}
-use Rattle.xr_design.specs.History.{HistoryView}
-use Rattle.xr_design.specs.Job.{Job, places_of}
-use Rattle.xr_design.proofs.Numbers.{is_place_at, number_of_place_at}
-use Rattle.xr_wave.specs.Contents.{Contents, IsWave, IsWritten, job}
-use Rattle.xr_cone_nodes.specs.declared.node.Node.{Node}
-use Rattle.xr_cone_nodes.specs.Traced.{IsWholeCone}
-use Rattle.xr_cone.specs.Boundary.{IsSomeCone}
+use Rattle.design_circuit.specs.declared.spot.Spot.{Spot}
+use Rattle.design_circuit.specs.Circuit.{IsSpot}
+use Rattle.design_circuit.specs.Fits.{place_at}
+use Rattle.design_circuit.specs.Handed.{IsHandedIn}
+use Rattle.design_circuit.specs.History.{HistoryView}
+use Rattle.design_circuit.specs.Job.{Job, places_of}
+use Rattle.design_circuit.proofs.Numbers.{is_place_at, number_of_place_at}
+use Rattle.wave_proved.specs.Contents.{Contents, IsWave, IsWritten, job}
+use Rattle.decide_nodes.specs.declared.node.Node.{Node}
+use Rattle.decide_nodes.specs.Traced.{IsWholeCone}
+use Rattle.decide_cone.specs.Boundary.{IsSomeCone}
 
 place_written : (c : Contents) → IsWave c → (number : ℕ) → number < length c.written
     → IsWritten c (place_at (job c) number)

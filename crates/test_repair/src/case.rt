@@ -5,10 +5,10 @@ use crate::drawn::put_drawn;
 use crate::job::compare_part;
 use crate::recording::put_vcd;
 use crate::words::{first_word, number_of, text_of};
+use base_lists::Memory;
+use design_circuit::{Levels, RegisterRules, StartRule};
 use std::alloc::{AllocError, Global};
 use test_cases::{Part, PartKind, Parts, Report, Section};
-use xr_base::Memory;
-use xr_design::{Levels, RegisterRules, StartRule};
 
 /// The texts of a job, the lines of its forces, how many rounds a moment has, how many clauses a log, and by which
 /// rules registers go.

@@ -1,15 +1,15 @@
 //! The minimal choices of tables.
 
 ghost use Rattle.std.specs.Prelude.{◌≤◌, ◌<◌, IfSome};
-ghost use Rattle.xr_cone_choices.specs.Choices.{IsValueTable};
+ghost use Rattle.decide_choices.specs.Choices.{IsValueTable};
 
 use crate::words::{first_word, is_word, text_of};
+use base_lists::Memory;
+use decide_choices::{Choice, minimal_choices};
+use design_cell::Value;
 use std::alloc::{AllocError, Global};
 use std::fmt::Write;
 use test_cases::{Line, Lines, Report};
-use xr_base::Memory;
-use xr_cell::Value;
-use xr_cone_choices::{Choice, minimal_choices};
 
 /// Compares each line, `TABLE BIT = CHOICES`, with what comes.
 pub fn run_choices(alloc: Global, report: &mut Report, text: &[u8]) -> Result<(), Memory> {

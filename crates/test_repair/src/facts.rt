@@ -1,20 +1,20 @@
 //! What is found of a place: its class, its mark, its line, its sources, what its cone reads.
 
 ghost use Rattle.std.specs.Prelude.{IfOk, IfSome};
-ghost use Rattle.xr_cone.specs.Boundary.{IsSomeCone};
-ghost use Rattle.xr_wave.specs.Contents.{IsWritten};
+ghost use Rattle.decide_cone.specs.Boundary.{IsSomeCone};
+ghost use Rattle.wave_proved.specs.Contents.{IsWritten};
 
 use crate::pairs::{put_checked, put_pair};
 use crate::places::{named_place, put_place, put_places};
 use crate::words::{first_word, put, put_number};
 use crate::worlds::put_agreement;
+use base_lists::Memory;
+use decide_cone::{Cone, boundary, certain_boundary, trace_at};
+use design_circuit::{Mark, Place};
+use law_model::{Body, Class};
+use report_bits::counts_of;
 use std::alloc::Global;
-use xr_base::Memory;
-use xr_cone::{Cone, boundary, certain_boundary, trace_at};
-use xr_design::{Mark, Place};
-use xr_model::{Body, Class};
-use xr_report::counts_of;
-use xr_wave::Wave;
+use wave_proved::Wave;
 
 /// What a line asks for.
 #[derive(Clone, Copy)]

@@ -1,14 +1,14 @@
 //! Fillings, from a bit for each place.
 
 ghost use Rattle.std.specs.Prelude.{◌≡◌, IfOk, false, slice_index_or};
-ghost use Rattle.xr_design.specs.Filling.{IsFilling};
-ghost use Rattle.xr_wave.specs.Contents.{job};
+ghost use Rattle.design_circuit.specs.Filling.{IsFilling};
+ghost use Rattle.wave_proved.specs.Contents.{job};
 
 use crate::places::place_of;
+use base_lists::{Items, Memory};
+use design_circuit::Filling;
 use std::alloc::Global;
-use xr_base::{Items, Memory};
-use xr_design::Filling;
-use xr_wave::Wave;
+use wave_proved::Wave;
 
 /// The filling that gives each place its bit, and 0 past the last.
 pub fn filling_of(alloc: Global, wave: &Wave<'_>, bits: &[bool]) -> Result<Filling, Memory>

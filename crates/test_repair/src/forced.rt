@@ -2,18 +2,18 @@
 
 ghost use Rattle.std.specs.Prelude.{◌≡◌, IfOk};
 ghost use Rattle.std.specs.Bool.{OnTrue};
-ghost use Rattle.xr_design.specs.Circuit.{job_in};
-ghost use Rattle.xr_design.specs.Filling.{IsPlace};
-ghost use Rattle.xr_design.specs.Force.{AreEvents, place_of};
-ghost use Rattle.xr_design.specs.Job.{number_of};
+ghost use Rattle.design_circuit.specs.Circuit.{job_in};
+ghost use Rattle.design_circuit.specs.Filling.{IsPlace};
+ghost use Rattle.design_circuit.specs.Force.{AreEvents, place_of};
+ghost use Rattle.design_circuit.specs.Job.{number_of};
 
 use crate::places::step_of;
 use crate::replayed::net_named;
 use crate::words::{first_word, is_word};
+use base_lists::Memory;
+use design_cell::Value;
+use design_circuit::{Circuit, Event, Forces, Place, width_of};
 use std::alloc::Global;
-use xr_base::Memory;
-use xr_cell::Value;
-use xr_design::{Circuit, Event, Forces, Place, width_of};
 
 /// The forces of two lines, `force #TIME round ROUND NET VALUE` and `release #TIME round ROUND NET`, the first at a
 /// place before that of the other; none where that isn't so.

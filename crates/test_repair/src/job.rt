@@ -1,20 +1,20 @@
 //! The job of a case: its netlist and its recording, which a part repairs or replays.
 
 ghost use Rattle.std.specs.Prelude.{IfOk, IfSome};
-ghost use Rattle.xr_job.specs.Netlist.{FitsNetlist};
-ghost use Rattle.xr_job.specs.Recorded.{FitsRecorded};
+ghost use Rattle.cmd_job.specs.Netlist.{FitsNetlist};
+ghost use Rattle.cmd_job.specs.Recorded.{FitsRecorded};
 
 use crate::case::Texts;
 use crate::repaired::compare_facts;
 use crate::replayed::compare_rows;
 use crate::words::{is_word, text_of};
+use base_lists::Memory;
+use cmd_job::{Netlist, PLACES, Recorded, Rules, read_netlist, read_recording};
+use design_circuit::Bytes;
+use recording_binding::UndrivenRule;
 use std::alloc::Global;
 use std::slice;
 use test_cases::{Part, Report};
-use xr_base::Memory;
-use xr_design::Bytes;
-use xr_job::{Netlist, PLACES, Recorded, Rules, read_netlist, read_recording};
-use xr_match::UndrivenRule;
 
 /// Repairs or replays the job of a case, and compares what is found of it with the lines of a part.
 pub fn compare_part(

@@ -59,12 +59,12 @@ mod replayed;
 mod words;
 mod worlds;
 
+use base_lists::Memory;
 use case::run_case;
 use choices::run_choices;
 use std::alloc::{AllocError, Global};
 use std::{env, fs, io};
 use test_cases::{Report, section_cases, shared};
-use xr_base::Memory;
 
 fn main(rt: HostRuntime) -> io::Result<()> {
     for name in env::args(&rt)?.skip(1) {

@@ -1,19 +1,19 @@
 //! The fillings that show a place unknown.
 
-ghost use Rattle.xr_cone_nodes.specs.Traced.{IsNextCone};
-ghost use Rattle.xr_wave.specs.Contents.{IsWritten};
-ghost use Rattle.xr_wave.specs.Token.{IsLineNext};
+ghost use Rattle.decide_nodes.specs.Traced.{IsNextCone};
+ghost use Rattle.wave_proved.specs.Contents.{IsWritten};
+ghost use Rattle.wave_proved.specs.Token.{IsLineNext};
 ghost use Rattle.std.specs.Bool.{OnTrue};
 
 use crate::places::put_places;
 use crate::words::put;
+use base_lists::{Items, Memory};
+use decide_cone::{Cone, trace};
+use decide_pair::{BadPair, check_pair};
+use design_circuit::Place;
+use law_model::{Class, Limits};
 use std::alloc::Global;
-use xr_base::{Items, Memory};
-use xr_cone::{Cone, trace};
-use xr_design::Place;
-use xr_model::{Class, Limits};
-use xr_pair::{BadPair, check_pair};
-use xr_wave::{Pair, Wave};
+use wave_proved::{Pair, Wave};
 
 /// Puts the two fillings of a place.
 pub fn put_pair(

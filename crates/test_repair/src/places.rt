@@ -1,15 +1,15 @@
 //! Places of a wave, as words.
 
 ghost use Rattle.std.specs.Prelude.{◌≡◌, ◌<◌, IfOk, IfSome, length};
-ghost use Rattle.xr_design.specs.Fits.{place_at};
-ghost use Rattle.xr_wave.specs.Contents.{IsWritten, job};
+ghost use Rattle.design_circuit.specs.Fits.{place_at};
+ghost use Rattle.wave_proved.specs.Contents.{IsWritten, job};
 
 use crate::words::{first_word, number_of, put};
+use base_lists::Memory;
+use design_circuit::{Design, Place, Stim, spot_of};
 use std::alloc::Global;
 use std::fmt::Write;
-use xr_base::Memory;
-use xr_design::{Design, Place, Stim, spot_of};
-use xr_wave::Wave;
+use wave_proved::Wave;
 
 /// The written place of a number.
 pub fn place_of(wave: &Wave<'_>, number: usize) -> Place

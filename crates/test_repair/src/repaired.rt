@@ -1,22 +1,22 @@
 //! The repair of a job, and the facts that are compared with it.
 
-ghost use Rattle.xr_design.specs.Handed.{IsReplay};
-ghost use Rattle.xr_job.specs.Compared.{job_for};
-ghost use Rattle.xr_job.specs.Netlist.{FitsNetlist};
-ghost use Rattle.xr_job.specs.Recorded.{FitsRecorded};
-ghost use Rattle.xr_wave.specs.Contents.{AreLimits};
+ghost use Rattle.design_circuit.specs.Handed.{IsReplay};
+ghost use Rattle.cmd_job.specs.Compared.{job_for};
+ghost use Rattle.cmd_job.specs.Netlist.{FitsNetlist};
+ghost use Rattle.cmd_job.specs.Recorded.{FitsRecorded};
+ghost use Rattle.wave_proved.specs.Contents.{AreLimits};
 
 use crate::case::Texts;
 use crate::facts::answer;
 use crate::words::text_of;
+use base_lists::Memory;
+use cmd_job::{Netlist, Recorded, circuit_of, replay_and_compare};
+use decide_repair::{RepairErr, repair};
+use design_circuit::History;
+use law_model::Limits;
 use std::alloc::Global;
 use test_cases::{Line, Lines, Part, Report};
-use xr_base::Memory;
-use xr_design::History;
-use xr_job::{Netlist, Recorded, circuit_of, replay_and_compare};
-use xr_model::Limits;
-use xr_repair::{RepairErr, repair};
-use xr_wave::Wave;
+use wave_proved::Wave;
 
 /// Repairs a job, and compares what is found of it with the lines of a part; how far the job comes.
 pub fn compare_facts(

@@ -1,23 +1,23 @@
 //! The replay of a job under forces, and what nets show and keep in it.
 
 ghost use Rattle.std.specs.Prelude.{◌≡◌, ◌<◌, IfOk};
-ghost use Rattle.xr_design.specs.Circuit.{job_in};
-ghost use Rattle.xr_design.specs.Filling.{IsPlace};
-ghost use Rattle.xr_design.specs.Handed.{HasPlaces};
-ghost use Rattle.xr_job.specs.Compared.{job_for as job_of_texts};
-ghost use Rattle.xr_job.specs.Netlist.{FitsNetlist};
-ghost use Rattle.xr_job.specs.Recorded.{FitsRecorded};
+ghost use Rattle.design_circuit.specs.Circuit.{job_in};
+ghost use Rattle.design_circuit.specs.Filling.{IsPlace};
+ghost use Rattle.design_circuit.specs.Handed.{HasPlaces};
+ghost use Rattle.cmd_job.specs.Compared.{job_for as job_of_texts};
+ghost use Rattle.cmd_job.specs.Netlist.{FitsNetlist};
+ghost use Rattle.cmd_job.specs.Recorded.{FitsRecorded};
 
 use crate::case::Texts;
 use crate::forced::{forces_of, is_place};
 use crate::words::{first_word, is_word, text_of};
+use base_lists::{Memory, put};
+use cmd_job::{CompareErr, Netlist, Recorded, circuit_of, put_compare_line, replay_and_compare};
+use design_cell::Value;
+use design_circuit::{Circuit, History, Place, width_of};
+use replay_history::replay;
 use std::alloc::Global;
 use test_cases::{Lines, Part, Report};
-use xr_base::{Memory, put};
-use xr_cell::Value;
-use xr_design::{Circuit, History, Place, width_of};
-use xr_job::{CompareErr, Netlist, Recorded, circuit_of, put_compare_line, replay_and_compare};
-use xr_replay::replay;
 
 /// Replays a job under its forces, and compares what is found with the lines of a part; how far the job comes.
 pub fn compare_rows(

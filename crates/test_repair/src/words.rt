@@ -1,8 +1,8 @@
 //! Words of a line.
 
+use base_lists::Memory;
 use std::fmt::Write;
 use std::str;
-use xr_base::Memory;
 
 /// The text of some bytes; those that are none are empty.
 pub fn text_of(bytes: &[u8]) -> &str {

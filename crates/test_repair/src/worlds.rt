@@ -1,22 +1,22 @@
 //! Places against the worlds of all fillings of their sources.
 
 ghost use Rattle.std.specs.Prelude.{◌<◌, IfOk, length};
-ghost use Rattle.xr_design.specs.Filling.{IsFilling};
-ghost use Rattle.xr_wave.specs.Contents.{IsWritten, job};
-ghost use Rattle.xr_world.specs.View.{HasWritten};
+ghost use Rattle.design_circuit.specs.Filling.{IsFilling};
+ghost use Rattle.wave_proved.specs.Contents.{IsWritten, job};
+ghost use Rattle.wave_world.specs.View.{HasWritten};
 
 use crate::facts::cone_of;
 use crate::fillings::{bits_of, filling_of};
 use crate::places::{place_of, put_place};
 use crate::words::{put, put_number};
+use base_lists::Memory;
+use decide_cone::Cone;
+use design_cell::Value;
+use design_circuit::{Filling, Mark, Place};
+use law_model::Class;
 use std::alloc::{AllocError, Global};
-use xr_base::Memory;
-use xr_cell::Value;
-use xr_cone::Cone;
-use xr_design::{Filling, Mark, Place};
-use xr_model::Class;
-use xr_wave::Wave;
-use xr_world::{World, fill};
+use wave_proved::Wave;
+use wave_world::{World, fill};
 
 /// More sources are too many to try.
 const SOURCES: usize = 10;

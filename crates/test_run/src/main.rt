@@ -2,11 +2,11 @@
 //! requests for memory.
 #![tactic(auto)]
 
+use base_shelf::{Shelf, Sink};
+use cmd_program::run;
 use std::alloc::Global;
 use std::io;
 use test_runs::{Program, run_named};
-use xr_cli::run;
-use xr_shelf::{Shelf, Sink};
 
 /// The program.
 struct Xrepair;

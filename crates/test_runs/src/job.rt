@@ -2,10 +2,10 @@
 
 use crate::program::Program;
 use crate::words::put_words;
+use base_lists::Memory;
+use base_shelf::{PlainShelf, PlainSink};
 use std::alloc::Global;
 use std::{fs, io};
-use xr_base::Memory;
-use xr_shelf::{PlainShelf, PlainSink};
 
 /// The files that a repair writes, in their order.
 const OUTPUTS: [&str; 3] = ["o.vcd", "o.v", "o.xc"];

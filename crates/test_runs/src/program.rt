@@ -1,7 +1,7 @@
 //! A program as one call.
 
+use base_shelf::{Shelf, Sink};
 use std::alloc::Global;
-use xr_shelf::{Shelf, Sink};
 
 /// A program as one call.
 pub trait Program {

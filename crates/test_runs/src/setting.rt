@@ -7,10 +7,10 @@
 use crate::given::{Case, text_of};
 use crate::program::Program;
 use crate::words::put_words;
+use base_lists::Memory;
+use base_shelf::{MemShelf, MemSink};
 use std::alloc::{AllocError, Global};
 use test_cases::{Part, PartKind, Parts};
-use xr_base::Memory;
-use xr_shelf::{MemShelf, MemSink};
 
 /// A run: the files before it and after it, what it printed, and its status.
 #[derive(Drop)]

@@ -1,8 +1,8 @@
 //! Answers of calls in words.
 
+use base_lists::Memory;
+use base_shelf::{IoErr, ReadErr, WriteErr};
 use std::alloc::{AllocError, Global};
-use xr_base::Memory;
-use xr_shelf::{IoErr, ReadErr, WriteErr};
 
 /// What a call answered.
 #[derive(Drop)]

@@ -2,8 +2,8 @@
 
 use crate::answer::{Answer, done, quoted};
 use crate::delivered::deliver_two;
+use base_shelf::{MemShelf, MemSink, Shelf, print_all, read_all, write_all};
 use std::alloc::{AllocError, Global};
-use xr_shelf::{MemShelf, MemSink, Shelf, print_all, read_all, write_all};
 
 /// A shelf and a sink in memory.
 #[derive(Drop)]

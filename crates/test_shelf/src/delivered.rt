@@ -1,13 +1,13 @@
 //! Two outputs and a report, delivered.
 
 ghost use Rattle.std.specs.Prelude.{◌≡◌, [], ◌∷◌, IfOk, codes, map};
-ghost use Rattle.xr_run.specs.Outputs.{AreApart, file_of};
+ghost use Rattle.base_run.specs.Outputs.{AreApart, file_of};
 
 use crate::answer::{Answer, quoted};
+use base_lists::Memory;
+use base_run::{Output, Report, Undelivered, deliver};
+use base_shelf::{MemShelf, MemSink};
 use std::alloc::{AllocError, Global};
-use xr_base::Memory;
-use xr_run::{Output, Report, Undelivered, deliver};
-use xr_shelf::{MemShelf, MemSink};
 
 /// What is delivered.
 #[derive(Drop)]

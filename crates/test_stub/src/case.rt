@@ -1,9 +1,9 @@
 //! A case: a line with the names of modules and those of supplies, a text, and what it comes to: `> stubbed` with the
 //! text, or `> refused` with a word and the byte.
 
+use netlist_stub::{StubErr, StubFault, stub};
 use std::alloc::{AllocError, Global};
 use test_cases::{Part, PartKind, Report, Section};
-use xr_stub::{StubErr, StubFault, stub};
 
 /// Runs a case, and compares what it comes to.
 pub fn run_case(

@@ -1,11 +1,11 @@
 //! Runs of `xrtrim` on files in memory, with what each must leave.
 #![tactic(auto)]
 
+use base_shelf::{Shelf, Sink};
+use cmd_trim::run;
 use std::alloc::Global;
 use std::io;
 use test_runs::{Program, run_files};
-use xr_shelf::{Shelf, Sink};
-use xr_trim_cli::run;
 
 /// The program.
 struct Xrtrim;

@@ -1,7 +1,7 @@
 //! The refusal of a text in words.
 
+use recording_reader::{Recording, VcdErr, read_vcd};
 use std::alloc::{AllocError, Global};
-use xr_vcd::{Recording, VcdErr, read_vcd};
 
 /// The declarations in front of each text of `changes.txt`.
 const DECLARATIONS: &str =

@@ -1,11 +1,11 @@
 //! What a recording says, as lines.
 
 ghost use Rattle.std.specs.Prelude.{◌<◌, length};
-ghost use Rattle.xr_vcd.specs.Recording.{width_at};
+ghost use Rattle.recording_reader.specs.Recording.{width_at};
 
+use recording_reader::{Cursor, Recording};
 use std::alloc::{AllocError, Global};
 use std::str;
-use xr_vcd::{Cursor, Recording};
 
 /// A line a variable: its reference, then `@TIME BITS` for each moment.
 pub fn values(alloc: Global, recording: &Recording) -> Result<Vec<u8>, AllocError> {

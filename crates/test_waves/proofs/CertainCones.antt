@@ -1,15 +1,15 @@
 -- Cones of places that are certainly 0.
 use Rattle.std.proofs.Common.{◌≡◌, ℕ, List, refl}
-use Rattle.xr_cell.specs.declared.value.Value.TheVariants.{Zero}
-use Rattle.xr_design.specs.declared.place.Place.{Place}
-use Rattle.xr_design.specs.declared.waveform.Mark.TheVariants.{Certain}
-use Rattle.xr_design.specs.declared.waveform.Written.{Written}
-use Rattle.xr_design.specs.Job.{number_of}
-use Rattle.xr_design.specs.Waveform.{certain, written_at}
-use Rattle.xr_wave.specs.Contents.{Contents, IsWritten, job, written_of}
-use Rattle.xr_cone_nodes.specs.declared.node.Node.{Node}
-use Rattle.xr_cone_nodes.specs.Traced.{IsWholeCone}
-use Rattle.xr_cond.specs.First.{IsCertainCone}
+use Rattle.design_cell.specs.declared.value.Value.TheVariants.{Zero}
+use Rattle.design_circuit.specs.declared.place.Place.{Place}
+use Rattle.design_circuit.specs.declared.waveform.Mark.TheVariants.{Certain}
+use Rattle.design_circuit.specs.declared.waveform.Written.{Written}
+use Rattle.design_circuit.specs.Job.{number_of}
+use Rattle.design_circuit.specs.Waveform.{certain, written_at}
+use Rattle.wave_proved.specs.Contents.{Contents, IsWritten, job, written_of}
+use Rattle.decide_nodes.specs.declared.node.Node.{Node}
+use Rattle.decide_nodes.specs.Traced.{IsWholeCone}
+use Rattle.cert_condition.specs.First.{IsCertainCone}
 
 certainly_zero : (waveform : List Written) (k : ℕ) → (written_at waveform k).mark ≡ Certain
     → (written_at waveform k).value ≡ Zero → certain waveform k ≡ Zero

@@ -1,6 +1,6 @@
 -- The order of two nets in which the second comes first.
 use Rattle.std.proofs.Common.{◌≡◌, ℕ, zero, suc, ◌<◌, List, [], ◌∷◌, get_or, refl, arith}
-use Rattle.xr_design.specs.Order.{IsOrdering}
+use Rattle.design_circuit.specs.Order.{IsOrdering}
 
 abbrev pub swapped_nets : List ℕ
 swapped_nets = 1 ∷ 0 ∷ []

@@ -1,11 +1,11 @@
 -- Places of a wave by their numbers.
 use Rattle.std.proofs.Common.{◌≡◌, ℕ, ◌<◌, length, arith}
-use Rattle.xr_design.specs.declared.spot.Spot.{Spot}
-use Rattle.xr_design.specs.Circuit.{IsSpot}
-use Rattle.xr_design.specs.Fits.{place_at}
-use Rattle.xr_design.specs.Job.{Job, places_of}
-use Rattle.xr_design.proofs.Numbers.{is_place_at, number_of_place_at}
-use Rattle.xr_wave.specs.Contents.{Contents, IsWave, IsWritten, job}
+use Rattle.design_circuit.specs.declared.spot.Spot.{Spot}
+use Rattle.design_circuit.specs.Circuit.{IsSpot}
+use Rattle.design_circuit.specs.Fits.{place_at}
+use Rattle.design_circuit.specs.Job.{Job, places_of}
+use Rattle.design_circuit.proofs.Numbers.{is_place_at, number_of_place_at}
+use Rattle.wave_proved.specs.Contents.{Contents, IsWave, IsWritten, job}
 
 place_written : (c : Contents) → IsWave c → (number : ℕ) → number < length c.written
     → IsWritten c (place_at (job c) number)

@@ -1,11 +1,11 @@
 -- A job with its replay.
-use Rattle.xr_design.specs.Handed.{IsReplay}
-use Rattle.xr_design.specs.History.{HistoryView}
-use Rattle.xr_job.specs.Compared.{job_for}
-use Rattle.xr_job.specs.Netlist.{FitsNetlist}
-use Rattle.xr_job.specs.Recorded.{FitsRecorded}
-use Rattle.xr_job.specs.declared.netlist.Netlist.{Netlist}
-use Rattle.xr_job.specs.declared.recorded.Recorded.{Recorded}
+use Rattle.design_circuit.specs.Handed.{IsReplay}
+use Rattle.design_circuit.specs.History.{HistoryView}
+use Rattle.cmd_job.specs.Compared.{job_for}
+use Rattle.cmd_job.specs.Netlist.{FitsNetlist}
+use Rattle.cmd_job.specs.Recorded.{FitsRecorded}
+use Rattle.cmd_job.specs.declared.netlist.Netlist.{Netlist}
+use Rattle.cmd_job.specs.declared.recorded.Recorded.{Recorded}
 
 -- The netlist fits, what was recorded fits it, and the history is their replay.
 pub record IsReplayed (netlist : Netlist) (recorded : Recorded) (history : HistoryView) : Type 0 where

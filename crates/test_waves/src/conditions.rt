@@ -2,20 +2,20 @@
 
 ghost use Rattle.std.specs.Prelude.{IfOk};
 ghost use Rattle.test_waves.specs.Replayed.{IsReplayed};
-ghost use Rattle.xr_cond.specs.First.{IsCertainCone};
+ghost use Rattle.cert_condition.specs.First.{IsCertainCone};
 
 use crate::job::Job;
 use crate::waves::place_of;
+use cert_condition::{Condition, condition_of};
+use decide_cone::{Cone, trace_at};
+use design_cell::Value;
+use design_circuit::{Mark, Place};
+use law_model::Class;
+use sat_proof::Cnf;
 use std::alloc::Global;
 use std::process::Abort;
 use std::test::Fail;
-use xr_cell::Value;
-use xr_cond::{Condition, condition_of};
-use xr_cone::{Cone, trace_at};
-use xr_design::{Mark, Place};
-use xr_model::Class;
-use xr_proof::Cnf;
-use xr_wave::Wave;
+use wave_proved::Wave;
 
 /// The output is the exclusive or of `a`, `a` and `c`.
 const NEEDS_C: &[u8] =

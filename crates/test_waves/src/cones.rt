@@ -4,18 +4,18 @@ ghost use Rattle.test_waves.specs.Replayed.{IsReplayed};
 
 use crate::job::{Job, UNKNOWN};
 use crate::waves::place_of;
+use base_lists::Items;
+use decide_choices::{Choice, minimal_choices};
+use decide_cnf::clauses;
+use decide_cone::{Cone, trace, trace_at};
+use decide_nodes::{ConeLanes, LaneBits, NodeBody};
+use design_cell::Value;
+use design_circuit::{Filling, Place};
+use law_model::Class;
 use std::alloc::Global;
 use std::process::Abort;
 use std::test::Fail;
-use xr_base::Items;
-use xr_cell::Value;
-use xr_cnf::clauses;
-use xr_cone::{Cone, trace, trace_at};
-use xr_cone_choices::{Choice, minimal_choices};
-use xr_cone_nodes::{ConeLanes, LaneBits, NodeBody};
-use xr_design::{Filling, Place};
-use xr_model::Class;
-use xr_wave::Wave;
+use wave_proved::Wave;
 
 /// The exclusive or of two inputs.
 const XOR: &[u8] = b"module m(a, b, y); input a, b; output y; xor (y, a, b); endmodule";

@@ -2,24 +2,24 @@
 
 ghost use Rattle.std.specs.Prelude.{◌≡◌, ◌≤◌, ◌^◌, IfOk, length};
 ghost use Rattle.test_waves.specs.Replayed.{IsReplayed};
-ghost use Rattle.xr_job.specs.Netlist.{FitsNetlist};
-ghost use Rattle.xr_job.specs.Recorded.{FitsRecorded};
-ghost use Rattle.xr_wave.specs.Contents.{IsFinished};
+ghost use Rattle.cmd_job.specs.Netlist.{FitsNetlist};
+ghost use Rattle.cmd_job.specs.Recorded.{FitsRecorded};
+ghost use Rattle.wave_proved.specs.Contents.{IsFinished};
 
-use std::alloc::Global;
-use std::test::Fail;
-use xr_base::Items;
-use xr_cell::Value;
-use xr_design::{Bytes, Forces, History, Levels, RegisterRules, StartRule};
-use xr_job::{
+use base_lists::Items;
+use cmd_job::{
     CompareRefusal, Netlist, PLACES, Recorded, Rules, circuit_of, put_compare_line, read_netlist,
     read_recording, replay_and_compare,
 };
-use xr_match::UndrivenRule;
-use xr_model::Limits;
-use xr_repair::repair;
-use xr_replay::replay;
-use xr_wave::Wave;
+use decide_repair::repair;
+use design_cell::Value;
+use design_circuit::{Bytes, Forces, History, Levels, RegisterRules, StartRule};
+use law_model::Limits;
+use recording_binding::UndrivenRule;
+use replay_history::replay;
+use std::alloc::Global;
+use std::test::Fail;
+use wave_proved::Wave;
 
 /// An input `a`.
 pub const ONE_INPUT: &[u8] = b"module m(a); input a; endmodule";

@@ -2,19 +2,19 @@
 
 ghost use Rattle.std.specs.Prelude.{◌≡◌, ◌<◌, false, IfOk};
 ghost use Rattle.test_waves.specs.Replayed.{IsReplayed};
-ghost use Rattle.xr_lanes.specs.Lanes.{IsLookedAt, IsRightOf};
-ghost use Rattle.xr_model.specs.Cone.{is_carried};
-ghost use Rattle.xr_wave.specs.Contents.{class_in, next_number};
-ghost use Rattle.xr_wave.specs.Token.{HasNext};
+ghost use Rattle.decide_lanes.specs.Lanes.{IsLookedAt, IsRightOf};
+ghost use Rattle.law_model.specs.Cone.{is_carried};
+ghost use Rattle.wave_proved.specs.Contents.{class_in, next_number};
+ghost use Rattle.wave_proved.specs.Token.{HasNext};
 
 use crate::job::{Job, ONE_INPUT, UNKNOWN};
+use decide_lanes::Lanes;
+use design_circuit::{Filling, Place};
+use law_model::Class;
 use std::alloc::Global;
 use std::process::Abort;
 use std::test::Fail;
-use xr_design::{Filling, Place};
-use xr_lanes::Lanes;
-use xr_model::Class;
-use xr_wave::Wave;
+use wave_proved::Wave;
 
 /// The bits of net 0 at step 0 in the first 64 lanes.
 const WORD: u64 = 0x5851_f42d_14c4_8b00;

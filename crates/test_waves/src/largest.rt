@@ -1,15 +1,15 @@
 //! Jobs at the bound of 2^27 places.
 
-ghost use Rattle.xr_design.specs.Design.{FitsDesign};
+ghost use Rattle.design_circuit.specs.Design.{FitsDesign};
 
+use base_lists::{put, put_number};
+use cmd_job::{PLACES, read_netlist};
+use design_circuit::{Bytes, Design};
+use recording_binding::{BindErr, Binding, bind};
+use recording_reader::{Recording, read_vcd};
 use std::alloc::Global;
 use std::process::Abort;
 use std::test::Fail;
-use xr_base::{put, put_number};
-use xr_design::{Bytes, Design};
-use xr_job::{PLACES, read_netlist};
-use xr_match::{BindErr, Binding, bind};
-use xr_vcd::{Recording, read_vcd};
 
 /// 2^10 nets, all inputs, which have 2^14 places a moment.
 const NETS: &[u8] = b"module m(a); input [1023:0] a; endmodule";

@@ -2,21 +2,21 @@
 
 ghost use Rattle.std.specs.Prelude.{◌≡◌, ◌<◌, length};
 ghost use Rattle.test_waves.specs.Replayed.{IsReplayed};
-ghost use Rattle.xr_design.specs.Fits.{place_at};
-ghost use Rattle.xr_match.specs.Binding.{FitsBinding};
-ghost use Rattle.xr_wave.specs.Contents.{IsFinished, IsWritten, job};
+ghost use Rattle.design_circuit.specs.Fits.{place_at};
+ghost use Rattle.recording_binding.specs.Binding.{FitsBinding};
+ghost use Rattle.wave_proved.specs.Contents.{IsFinished, IsWritten, job};
 
 use crate::job::{Job, ONE_INPUT, UNKNOWN};
+use base_lists::Items;
+use design_cell::Value;
+use design_circuit::{Place, spot_of};
+use recording_binding::Binding;
+use report_bits::{ReportLines, bit_lines, head_lines};
 use std::alloc::Global;
 use std::process::Abort;
 use std::test::Fail;
-use xr_base::Items;
-use xr_cell::Value;
-use xr_design::{Place, spot_of};
-use xr_match::Binding;
-use xr_report::{ReportLines, bit_lines, head_lines};
-use xr_wave::Wave;
-use xr_world::fill;
+use wave_proved::Wave;
+use wave_world::fill;
 
 /// An input and its complement, which are never both 1.
 const NEVER_BOTH: &[u8] =

@@ -1,9 +1,9 @@
 -- Texts that come in of one name, if there is any, and then of others.
 use Rattle.std.proofs.Common.{ℕ, zero, suc, List, [], Option, Some, None, arith}
 use Rattle.std.specs.Prelude.{Contains}
-use Rattle.xr_files.specs.Fetched.{AddsAmong}
-use Rattle.xr_files.specs.declared.fetched.Fetched.{Fetched}
-use Rattle.xr_set.specs.Command.{put_name}
+use Rattle.base_files.specs.Fetched.{AddsAmong}
+use Rattle.base_files.specs.declared.fetched.Fetched.{Fetched}
+use Rattle.cmd_set.specs.Command.{put_name}
 
 in_first : (name : Option (List ℕ)) (rest : List (List ℕ)) (other : List ℕ) → Contains (put_name name []) other → Contains (put_name name rest) other
 in_first None rest other (k, less, is) = absurd (omega (arith, less))

@@ -2,17 +2,17 @@
 use Rattle.std.proofs.Common.{ℕ, zero, suc, ◌+◌, List, [], ◌∷◌, ◌++◌, Option, Some, None, refl, sym, subst, inl, inr, ℤ, codes, decimal, arith}
 use Rattle.std.specs.Prelude.{Contains}
 use Rattle.std.specs.List.{All, AllByRecursion}
-use Rattle.xr_export.specs.Export.{AreFiles, AreFilesOf, Exports, cert_name, file, line_name, log_files, log_of}
-use Rattle.xr_cert_text.specs.Text.{cert_text}
-use Rattle.xr_cert.specs.Step.{cert_of}
-use Rattle.xr_files.proofs.Others.{IsOther, all_cons, none_written}
-use Rattle.xr_files.specs.Shipped.{WritesOthers}
-use Rattle.xr_line.specs.Line.{Text}
-use Rattle.xr_model.specs.declared.line.Line.{Line as ALine}
-use Rattle.xr_run.specs.Outputs.{File}
-use Rattle.xr_run.specs.Phases.{Answer}
-use Rattle.xr_wave.specs.Contents.{Contents}
-use Rattle.xr_cli.specs.Free.{AreFree, BeginsWith}
+use Rattle.cert_export.specs.Export.{AreFiles, AreFilesOf, Exports, cert_name, file, line_name, log_files, log_of}
+use Rattle.cert_writer.specs.Text.{cert_text}
+use Rattle.cert_check.specs.Step.{cert_of}
+use Rattle.base_files.proofs.Others.{IsOther, all_cons, none_written}
+use Rattle.base_files.specs.Shipped.{WritesOthers}
+use Rattle.base_line.specs.Line.{Text}
+use Rattle.law_model.specs.declared.line.Line.{Line as ALine}
+use Rattle.base_run.specs.Outputs.{File}
+use Rattle.base_run.specs.Phases.{Answer}
+use Rattle.wave_proved.specs.Contents.{Contents}
+use Rattle.cmd_program.specs.Free.{AreFree, BeginsWith}
 
 pub all_others : (inputs : List Text) (files : List File) → AllByRecursion (IsOther inputs) files → All (IsOther inputs) files
 all_others inputs [] others = none_written inputs

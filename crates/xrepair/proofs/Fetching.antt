@@ -1,15 +1,15 @@
 -- What was fetched for words that mean one thing.
 use Rattle.std.proofs.Common.{◌≡◌, ◌∙◌, ap, sym, subst, ℕ, List, []}
-use Rattle.xr_cli.specs.Commands.{command_of, reporting}
-use Rattle.xr_files.proofs.Others.{none_among}
-use Rattle.xr_files.specs.Fetched.{AddsAmong, HasAmong, IsFetched}
-use Rattle.xr_files.specs.Shipped.{IsFetchedFor}
-use Rattle.xr_files.specs.declared.fetched.Fetched.{Fetched}
-use Rattle.xr_line.specs.Line.{Text}
-use Rattle.xr_run.specs.Reading.{ReadsSurely}
-use Rattle.xr_set.specs.Command.{names_of}
-use Rattle.xr_set.specs.Set.{AreOutside, ReadsInputs, Values, commands, phases_of}
-use Rattle.xr_set.specs.declared.inputs.Inputs.{Inputs}
+use Rattle.cmd_program.specs.Commands.{command_of, reporting}
+use Rattle.base_files.proofs.Others.{none_among}
+use Rattle.base_files.specs.Fetched.{AddsAmong, HasAmong, IsFetched}
+use Rattle.base_files.specs.Shipped.{IsFetchedFor}
+use Rattle.base_files.specs.declared.fetched.Fetched.{Fetched}
+use Rattle.base_line.specs.Line.{Text}
+use Rattle.base_run.specs.Reading.{ReadsSurely}
+use Rattle.cmd_set.specs.Command.{names_of}
+use Rattle.cmd_set.specs.Set.{AreOutside, ReadsInputs, Values, commands, phases_of}
+use Rattle.cmd_set.specs.declared.inputs.Inputs.{Inputs}
 use Rattle.xrepair.proofs.Listing.{as_listed}
 use Rattle.xrepair.specs.Reads.{read_by}
 

@@ -1,31 +1,31 @@
 -- The files that each command reads are listed, and it writes none of them.
 use Rattle.std.proofs.Common.{◌≡◌, List, [], ◌∷◌, sym, subst}
 use Rattle.std.specs.List.{All}
-use Rattle.xr_cli.specs.Audit.{walk_audited}
-use Rattle.xr_cli.specs.Blame.{walk_blamed}
-use Rattle.xr_cli.specs.Check.{certified_phases}
-use Rattle.xr_cli.specs.Commands.{command_of, reporting}
-use Rattle.xr_cli.specs.Export.{walk_exported}
-use Rattle.xr_cli.specs.Fix.{set_phases}
-use Rattle.xr_cli.specs.Make.{make_answer}
-use Rattle.xr_cli.specs.Repair.{repair_answer, walk_phases}
-use Rattle.xr_cli.specs.Replay.{coded_phases}
-use Rattle.xr_cli.specs.Upgrade.{certified_upgrade}
-use Rattle.xr_cli.specs.declared.commands.Name.{Name}
-use Rattle.xr_cli.specs.declared.commands.Name.TheVariants.{Audit, Blame, Check, Export, Fix, Make, Prove, Repair, Replay, Upgrade}
-use Rattle.xr_cli.proofs.Lawful.{lawful_of}
-use Rattle.xr_files.proofs.Others.{IsOther, none_written, not_among, one_more}
-use Rattle.xr_files.specs.Shipped.{AreKept, WritesOthers}
-use Rattle.xr_line.specs.Line.{Text}
-use Rattle.xr_phases.specs.Phases.{compared_then, job_parts, job_phases}
-use Rattle.xr_phases.specs.declared.cause.Refused.{Refused}
-use Rattle.xr_phases.specs.declared.parts.Parts.{Parts}
-use Rattle.xr_run.specs.Outputs.{File}
-use Rattle.xr_run.specs.Phases.{Answer, Phases, ◌>>=◌}
-use Rattle.xr_run.specs.Reading.{FindsOnly}
-use Rattle.xr_set.specs.Command.{IsLineOf}
-use Rattle.xr_set.specs.Set.{Values, commands}
-use Rattle.xr_words.specs.Words.{JobValues, job_reads}
+use Rattle.cmd_program.specs.Audit.{walk_audited}
+use Rattle.cmd_program.specs.Blame.{walk_blamed}
+use Rattle.cmd_program.specs.Check.{certified_phases}
+use Rattle.cmd_program.specs.Commands.{command_of, reporting}
+use Rattle.cmd_program.specs.Export.{walk_exported}
+use Rattle.cmd_program.specs.Fix.{set_phases}
+use Rattle.cmd_program.specs.Make.{make_answer}
+use Rattle.cmd_program.specs.Repair.{repair_answer, walk_phases}
+use Rattle.cmd_program.specs.Replay.{coded_phases}
+use Rattle.cmd_program.specs.Upgrade.{certified_upgrade}
+use Rattle.cmd_program.specs.declared.commands.Name.{Name}
+use Rattle.cmd_program.specs.declared.commands.Name.TheVariants.{Audit, Blame, Check, Export, Fix, Make, Prove, Repair, Replay, Upgrade}
+use Rattle.cmd_program.proofs.Lawful.{lawful_of}
+use Rattle.base_files.proofs.Others.{IsOther, none_written, not_among, one_more}
+use Rattle.base_files.specs.Shipped.{AreKept, WritesOthers}
+use Rattle.base_line.specs.Line.{Text}
+use Rattle.cmd_phases.specs.Phases.{compared_then, job_parts, job_phases}
+use Rattle.cmd_phases.specs.declared.cause.Refused.{Refused}
+use Rattle.cmd_phases.specs.declared.parts.Parts.{Parts}
+use Rattle.base_run.specs.Outputs.{File}
+use Rattle.base_run.specs.Phases.{Answer, Phases, ◌>>=◌}
+use Rattle.base_run.specs.Reading.{FindsOnly}
+use Rattle.cmd_set.specs.Command.{IsLineOf}
+use Rattle.cmd_set.specs.Set.{Values, commands}
+use Rattle.cmd_words.specs.Words.{JobValues, job_reads}
 use Rattle.xrepair.proofs.Exported.{all_others, exports_others}
 use Rattle.xrepair.specs.Reads.{ReadsAsListed, read_by}
 

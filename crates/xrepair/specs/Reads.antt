@@ -1,9 +1,9 @@
 -- The files that each command reads.
 use Rattle.std.specs.Prelude.{List, Contains}
-use Rattle.xr_cli.specs.Commands.{command_of}
-use Rattle.xr_line.specs.Line.{Text}
-use Rattle.xr_run.specs.Reading.{ReadsAmong, ReadsSurely}
-use Rattle.xr_set.specs.Set.{Values, inputs_of, phases_of}
+use Rattle.cmd_program.specs.Commands.{command_of}
+use Rattle.base_line.specs.Line.{Text}
+use Rattle.base_run.specs.Reading.{ReadsAmong, ReadsSurely}
+use Rattle.cmd_set.specs.Set.{Values, inputs_of, phases_of}
 
 abbrev pub read_by : Values command_of → List Text
 read_by w = inputs_of command_of w

@@ -1,14 +1,14 @@
 //! The files that a command reads.
 
 ghost use Rattle.std.specs.Prelude.{◌≡◌, [], map, option_map, string_bytes};
-ghost use Rattle.xr_files.specs.Fetched.{AddsAmong, IsFetched};
-ghost use Rattle.xr_set.specs.Command.{names_of, put_name};
+ghost use Rattle.base_files.specs.Fetched.{AddsAmong, IsFetched};
+ghost use Rattle.cmd_set.specs.Command.{names_of, put_name};
 
+use base_files::Fetched;
+use base_lists::Memory;
+use cmd_set::Inputs;
 use std::fs::File;
 use std::rt::Files;
-use xr_base::Memory;
-use xr_files::Fetched;
-use xr_set::Inputs;
 
 /// Reads each of the files once.
 #[tactic(auto, using(crate::proofs::Adding::adds_first))]

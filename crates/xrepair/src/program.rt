@@ -1,23 +1,23 @@
 //! The program as one call over real files.
 
 ghost use Rattle.std.specs.Prelude.{◌≡◌, ◌≤◌, IfOk, map, string_bytes};
-ghost use Rattle.xr_cli.specs.Commands.{command_of, reporting};
-ghost use Rattle.xr_files.specs.Seen.{shelf_seen};
-ghost use Rattle.xr_files.specs.Shipped.{IsFetchedFor, Shipped, start_over};
-ghost use Rattle.xr_files.specs.Sink.{sink_seen};
-ghost use Rattle.xr_run.specs.Ends.{Comes};
-ghost use Rattle.xr_set.specs.Set.{Done, EndsInOrder, RefusesTexts, commands};
+ghost use Rattle.cmd_program.specs.Commands.{command_of, reporting};
+ghost use Rattle.base_files.specs.Seen.{shelf_seen};
+ghost use Rattle.base_files.specs.Shipped.{IsFetchedFor, Shipped, start_over};
+ghost use Rattle.base_files.specs.Sink.{sink_seen};
+ghost use Rattle.base_run.specs.Ends.{Comes};
+ghost use Rattle.cmd_set.specs.Set.{Done, EndsInOrder, RefusesTexts, commands};
 ghost use Rattle.xrepair.specs.Reads.{read_by};
 
 use crate::inputs::fetch_inputs;
+use base_files::{Fetched, FileShelf, OutSink};
+use base_lists::Memory;
+use cmd_program::{inputs_of, run};
 use std::alloc::Global;
 use std::fs::File;
 use std::io::{Eprint, Write};
 use std::rt::Files;
 use std::time::Clock;
-use xr_base::Memory;
-use xr_cli::{inputs_of, run};
-use xr_files::{Fetched, FileShelf, OutSink};
 
 /// Reads the files that the words name as inputs, each once. One that can't be read has no text, and a run that opens
 /// it reports that.

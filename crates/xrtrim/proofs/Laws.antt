@@ -1,15 +1,15 @@
 -- The files that are read, and the one that is written.
 use Rattle.std.proofs.Common.{◌≡◌, ℕ, List, [], inl, subst, sym, arith}
 use Rattle.std.specs.Prelude.{Contains}
-use Rattle.xr_line.specs.Line.{Text}
-use Rattle.xr_run.specs.Reading.{ReadsSurely}
-use Rattle.xr_files.specs.Fetched.{AddsAmong, HasAmong, IsFetched}
-use Rattle.xr_files.specs.Shipped.{AreKept, IsFetchedFor}
-use Rattle.xr_files.specs.declared.fetched.Fetched.{Fetched}
-use Rattle.xr_files.proofs.Others.{none_among, none_written, one_more}
-use Rattle.xr_trim_cli.specs.Commands.{commands}
-use Rattle.xr_trim_cli.specs.Phases.{trim_phases}
-use Rattle.xr_trim_cli.specs.Words.{AreOutside, MeansOnly, TrimValues}
+use Rattle.base_line.specs.Line.{Text}
+use Rattle.base_run.specs.Reading.{ReadsSurely}
+use Rattle.base_files.specs.Fetched.{AddsAmong, HasAmong, IsFetched}
+use Rattle.base_files.specs.Shipped.{AreKept, IsFetchedFor}
+use Rattle.base_files.specs.declared.fetched.Fetched.{Fetched}
+use Rattle.base_files.proofs.Others.{none_among, none_written, one_more}
+use Rattle.cmd_trim.specs.Commands.{commands}
+use Rattle.cmd_trim.specs.Phases.{trim_phases}
+use Rattle.cmd_trim.specs.Words.{AreOutside, MeansOnly, TrimValues}
 use Rattle.xrtrim.specs.Reads.{read_by}
 
 -- The file that is written is none that is read.

@@ -3,13 +3,13 @@
 
 mod ship;
 
+use base_files::{OutSink, Progress, refuse, words_of};
+use base_run::refuse_memory;
+use cmd_trim::usage;
 use ship::{fetch, ship};
 use std::io;
 use std::io::Eprint;
 use std::process::ExitCode;
-use xr_files::{OutSink, Progress, refuse, words_of};
-use xr_run::refuse_memory;
-use xr_trim_cli::usage;
 
 /// The exit status of words that aren't in the set.
 const USAGE: u8 = 2;

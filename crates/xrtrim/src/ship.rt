@@ -1,22 +1,22 @@
 //! The program over real files, as one call, with its theorem.
 
 ghost use Rattle.std.specs.Prelude.{◌≡◌, ◌≤◌, IfOk, map, string_bytes};
-ghost use Rattle.xr_files.specs.Seen.{shelf_seen};
-ghost use Rattle.xr_files.specs.Shipped.{IsFetchedFor, Shipped, start_over};
-ghost use Rattle.xr_files.specs.Sink.{sink_seen};
-ghost use Rattle.xr_run.specs.Ends.{Comes};
-ghost use Rattle.xr_trim_cli.specs.Commands.{commands};
-ghost use Rattle.xr_trim_cli.specs.Done.{Done, RefusesText};
+ghost use Rattle.base_files.specs.Seen.{shelf_seen};
+ghost use Rattle.base_files.specs.Shipped.{IsFetchedFor, Shipped, start_over};
+ghost use Rattle.base_files.specs.Sink.{sink_seen};
+ghost use Rattle.base_run.specs.Ends.{Comes};
+ghost use Rattle.cmd_trim.specs.Commands.{commands};
+ghost use Rattle.cmd_trim.specs.Done.{Done, RefusesText};
 ghost use Rattle.xrtrim.specs.Reads.{read_by};
 
+use base_files::{Fetched, FileShelf, OutSink};
+use base_lists::Memory;
+use cmd_trim::{read_trim_words, run};
 use std::alloc::Global;
 use std::fs::File;
 use std::io::{Eprint, Write};
 use std::rt::Files;
 use std::time::Clock;
-use xr_base::Memory;
-use xr_files::{Fetched, FileShelf, OutSink};
-use xr_trim_cli::{read_trim_words, run};
 
 /// Of a file no more is read than this, and the next bytes; a run refuses one that is longer.
 const TEXT_BYTES: usize = 1_073_741_824;

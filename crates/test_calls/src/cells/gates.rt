@@ -1,9 +1,9 @@
 //! The tables of gates, by hand from IEEE 1364-2005, clause 7.
 
-ghost use Rattle.xr_cell.specs.Gate.{FitsGate};
+ghost use Rattle.design_cell.specs.Gate.{FitsGate};
 
+use design_cell::{Gate, Value, gate_value};
 use std::process::Abort;
-use xr_cell::{Gate, Value, gate_value};
 
 /// The value at each pair of 0, 1, x and z, the first input's row by row.
 fn check_pairs(rt: &impl Abort, kind: Gate, want: [[u8; 4]; 4])

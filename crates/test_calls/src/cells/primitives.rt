@@ -1,10 +1,10 @@
 //! Primitives by their tables, with answers by hand.
 
 use crate::cells::tables::{dff, dffp, latch, mux, row, rows_of, scan_dff};
+use design_cell::{RawRow, Udp, UdpErr, Value};
 use std::alloc::Global;
 use std::process::Abort;
 use std::test::Fail;
-use xr_cell::{RawRow, Udp, UdpErr, Value};
 
 fn check_refusal(
     rt: &impl Abort,

@@ -3,10 +3,10 @@
 ghost use Rattle.std.specs.Prelude.{◌<◌};
 
 use crate::cells::tables::row_of;
+use design_cell::{Symbol, Udp, Value};
 use std::alloc::Global;
 use std::process::Abort;
 use std::test::Fail;
-use xr_cell::{Symbol, Udp, Value};
 
 /// Whether a row of the symbol matches the steps 00 01 0x 10 11 1x x0 x1 xx, a `1` for each that it matches. z is as good
 /// as x.

@@ -1,8 +1,8 @@
 //! The primitives of the tests.
 
+use base_lists::Items;
+use design_cell::{RawRow, Symbol};
 use std::alloc::{AllocError, Global};
-use xr_base::Items;
-use xr_cell::{RawRow, Symbol};
 
 /// A row whose entries are letters.
 pub fn row(

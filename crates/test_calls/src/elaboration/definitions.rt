@@ -1,18 +1,18 @@
 //! Definitions by name, and the table and the clock pins of a flip-flop.
 
 ghost use Rattle.std.specs.Prelude.{◌≡◌, length, true};
-ghost use Rattle.xr_design.specs.Job.{primitive_of};
+ghost use Rattle.design_circuit.specs.Job.{primitive_of};
 
 use crate::cells::tables::dff;
 use crate::elaboration::items::word;
+use base_lists::Items;
+use design_cell::Udp;
+use design_circuit::Pin;
+use elab_prims::{Clocks, Definition, Definitions, build_primitives};
+use netlist_grammar::{PrimDeclare, PrimKind, Primitive, Source, Word};
 use std::alloc::{AllocError, Global};
 use std::process::Abort;
 use std::test::Fail;
-use xr_base::Items;
-use xr_cell::Udp;
-use xr_design::Pin;
-use xr_elab_prims::{Clocks, Definition, Definitions, build_primitives};
-use xr_netlist_grammar::{PrimDeclare, PrimKind, Primitive, Source, Word};
 
 /// Ports by their names.
 fn ports(alloc: Global, names: &[&[u8]]) -> Result<Items<Word>, AllocError> {

@@ -1,17 +1,17 @@
 //! What gates, assignments and instances of primitives drive.
 
 use crate::elaboration::items::{net_a, top, word, zero};
+use base_lists::Items;
+use design_cell::{Udp, Value};
+use elab_gates::{add_assign, add_gate, add_udp, add_value};
+use elab_names::Here;
+use elab_prims::Clocks;
+use netlist_grammar::{
+    Connection, Connections, Declare, GateItem, GateKind, InstanceItem, Item, NetKind,
+};
 use std::alloc::{AllocError, Global};
 use std::process::Abort;
 use std::test::Fail;
-use xr_base::Items;
-use xr_cell::{Udp, Value};
-use xr_elab_gates::{add_assign, add_gate, add_udp, add_value};
-use xr_elab_names::Here;
-use xr_elab_prims::Clocks;
-use xr_netlist_grammar::{
-    Connection, Connections, Declare, GateItem, GateKind, InstanceItem, Item, NetKind,
-};
 
 /// Adds an instance of a primitive of one input.
 fn add_instance<'t>(here: &mut Here<'t>, item: &'t InstanceItem) -> Result<(), Fail> {

@@ -1,12 +1,12 @@
 //! The bits of expressions.
 
 use crate::elaboration::items::{expr, top, word};
+use elab_bits::{Role, Runs, bits_of, name_bits};
+use elab_names::Here;
+use netlist_grammar::{Expr, PartKind, Word};
 use std::alloc::Global;
 use std::process::Abort;
 use std::test::Fail;
-use xr_elab_bits::{Role, Runs, bits_of, name_bits};
-use xr_elab_names::Here;
-use xr_netlist_grammar::{Expr, PartKind, Word};
 
 /// What has bits.
 #[derive(Drop)]

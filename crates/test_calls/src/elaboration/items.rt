@@ -1,10 +1,10 @@
 //! Names and expressions of a module.
 
+use base_lists::Items;
+use elab_names::{Here, Scope};
+use elab_nets::Nets;
+use netlist_grammar::{Expr, Part, PartKind, Word};
 use std::alloc::{AllocError, Global};
-use xr_base::Items;
-use xr_elab_names::{Here, Scope};
-use xr_elab_nets::Nets;
-use xr_netlist_grammar::{Expr, Part, PartKind, Word};
 
 /// A plain name, at byte 7.
 pub fn word(alloc: Global, text: &[u8]) -> Result<Word, AllocError> {

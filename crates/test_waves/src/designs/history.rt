@@ -3,12 +3,12 @@
 ghost use Rattle.std.specs.Prelude.{◌≡◌, IfOk, length};
 
 use crate::designs::nets::{net, two_moments};
+use base_lists::Items;
+use design_cell::Value;
+use design_circuit::{Design, Driver, HistoryWriter, Place, Stim};
 use std::alloc::{AllocError, Global};
 use std::process::Abort;
 use std::test::Fail;
-use xr_base::Items;
-use xr_cell::Value;
-use xr_design::{Design, Driver, HistoryWriter, Place, Stim};
 
 fn two_nets(alloc: Global) -> Result<Design, AllocError>
     ensures { IfOk result (λ design. length design.nets ≡ 2) }

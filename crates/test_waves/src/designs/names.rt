@@ -3,9 +3,9 @@
 ghost use Rattle.std.specs.Prelude.{◌≡◌, IfOk, length};
 
 use crate::designs::nets::{one_net, part};
+use design_circuit::{Design, NamePart};
 use std::alloc::{AllocError, Global};
 use std::test::Fail;
-use xr_design::{Design, NamePart};
 
 fn parts(alloc: Global) -> Result<Vec<NamePart>, AllocError> {
     let mut parts = Vec::new(alloc);

@@ -2,13 +2,13 @@
 
 ghost use Rattle.std.specs.Prelude.{◌≡◌, [], ◌∷◌, IfOk, length};
 
-use std::alloc::{AllocError, Global};
-use std::test::Fail;
-use xr_base::{Items, Memory};
-use xr_design::{
+use base_lists::{Items, Memory};
+use design_circuit::{
     Design, Driver, Levels, Name, NamePart, Net, Order, RegisterRules, StartRule, Stim,
 };
-use xr_inputs::InputsWriter;
+use design_inputs::InputsWriter;
+use std::alloc::{AllocError, Global};
+use std::test::Fail;
 
 pub fn part(alloc: Global, text: &[u8], escaped: bool) -> Result<NamePart, AllocError> {
     Ok(NamePart {

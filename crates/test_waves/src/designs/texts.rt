@@ -1,18 +1,18 @@
 //! The text of one net at two moments.
 
 ghost use Rattle.std.specs.Prelude.{◌≡◌, ◌∷◌, [], IfOk, length};
-ghost use Rattle.xr_design.specs.declared.design.Design.{Design as a_design};
-ghost use Rattle.xr_match.specs.Binding.{FitsBinding};
+ghost use Rattle.design_circuit.specs.declared.design.Design.{Design as a_design};
+ghost use Rattle.recording_binding.specs.Binding.{FitsBinding};
 
 use crate::designs::nets::{one_net, part, two_moments};
+use base_lists::Items;
+use design_cell::Value;
+use design_circuit::{Bytes, Design, HistoryWriter, Place, Stim};
+use recording_binding::{Binding, Bound};
+use recording_writer::vcd_text;
 use std::alloc::{AllocError, Global};
 use std::process::Abort;
 use std::test::Fail;
-use xr_base::Items;
-use xr_cell::Value;
-use xr_design::{Bytes, Design, HistoryWriter, Place, Stim};
-use xr_match::{Binding, Bound};
-use xr_out::vcd_text;
 
 /// The variable of the first net, in the scope `top`.
 fn variable(alloc: Global) -> Result<Bound, AllocError>

@@ -1,10 +1,10 @@
 //! What a cell and a register of a design give.
 
+use cmd_job::read_netlist;
+use design_cell::{Gate, Value};
+use design_circuit::{Design, Driver, Table};
 use std::process::Abort;
 use std::test::Fail;
-use xr_cell::{Gate, Value};
-use xr_design::{Design, Driver, Table};
-use xr_job::read_netlist;
 
 /// A flip-flop, and an `and` of its data and its clock.
 const FLIP_FLOP: &[u8] = b"primitive dff(q, d, ck); output q; reg q; input d, ck; table

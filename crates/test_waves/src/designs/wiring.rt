@@ -1,20 +1,20 @@
 //! A gate whose net stands behind the net that it reads.
 
 ghost use Rattle.std.specs.Prelude.{◌≡◌, [], ◌∷◌, IfOk, map};
-ghost use Rattle.xr_design.specs.declared.design.Driver.TheVariants as drivers;
-ghost use Rattle.xr_design.specs.declared.design.Net.{Net as AnyNet};
-ghost use Rattle.xr_design.specs.declared.design.Pin.TheVariants as pin;
-ghost use Rattle.xr_design.specs.declared.design.Table.TheVariants as table;
-ghost use Rattle.xr_cell.specs.declared.gate.Gate.TheVariants as gate;
+ghost use Rattle.design_circuit.specs.declared.design.Driver.TheVariants as drivers;
+ghost use Rattle.design_circuit.specs.declared.design.Net.{Net as AnyNet};
+ghost use Rattle.design_circuit.specs.declared.design.Pin.TheVariants as pin;
+ghost use Rattle.design_circuit.specs.declared.design.Table.TheVariants as table;
+ghost use Rattle.design_cell.specs.declared.gate.Gate.TheVariants as gate;
 
 use crate::designs::nets::{net, swapped};
+use base_lists::Items;
+use design_cell::Gate;
+use design_circuit::{Design, Driver, Order, Pin, Table};
+use design_wiring::{Kind, Wiring};
 use std::alloc::{AllocError, Global};
 use std::process::Abort;
 use std::test::Fail;
-use xr_base::Items;
-use xr_cell::Gate;
-use xr_design::{Design, Driver, Order, Pin, Table};
-use xr_wiring::{Kind, Wiring};
 
 /// An `and` of the second net, which nothing drives, and of a dead pin.
 fn design(alloc: Global) -> Result<Design, AllocError>

@@ -3,8 +3,8 @@ use Rattle.std.proofs.Common.{◌≡◌, ◌∙◌, ℕ, Bool, Vec, Global, ap, 
 use Rattle.test_repair.proofs.ChosenPlaces.{chosen_filling, chosen_more, chosen_same}
 use Rattle.test_repair.proofs.fillings.filling_of.Goals as goal
 use Rattle.test_repair.proofs.fillings.filling_of.Goals.{then-bit_at+in_ok-push, else-bit_at}
-use Rattle.xr_design.specs.declared.place.Place.{Place}
-use Rattle.xr_wave.specs.Contents.{job}
+use Rattle.design_circuit.specs.declared.place.Place.{Place}
+use Rattle.wave_proved.specs.Contents.{job}
 
 pub places-preserved : goal.places-preserved
 places-preserved c =

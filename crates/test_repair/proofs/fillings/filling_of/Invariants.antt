@@ -1,6 +1,6 @@
 -- The places so far are those that have the bit.
 use Rattle.std.proofs.Common.{◌≡◌, false, slice_index_or}
-use Rattle.xr_wave.specs.Contents.{job}
+use Rattle.wave_proved.specs.Contents.{job}
 use Rattle.test_repair.proofs.ChosenPlaces.{chosen_places}
 use Rattle.test_repair.proofs.fillings.filling_of.Given as goal
 

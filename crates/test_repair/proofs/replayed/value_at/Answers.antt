@@ -1,6 +1,6 @@
 -- The history has each place of the job.
-use Rattle.xr_design.specs.Circuit.{job_in}
-use Rattle.xr_design.proofs.Handed.{has_place}
+use Rattle.design_circuit.specs.Circuit.{job_in}
+use Rattle.design_circuit.proofs.Handed.{has_place}
 use Rattle.test_repair.proofs.replayed.value_at.Goals as goal
 
 pub kept-requires : goal.kept-requires

@@ -1,7 +1,7 @@
 -- The first comes in, and then the others.
 use Rattle.std.proofs.Common.{map, string_bytes}
 use Rattle.std.specs.Prelude.{option_map}
-use Rattle.xr_set.specs.Command.{put_name}
+use Rattle.cmd_set.specs.Command.{put_name}
 use Rattle.xrepair.proofs.Adding.{adds_then}
 use Rattle.xrepair.proofs.inputs.fetch_inputs.Goals as goal
 

@@ -1,6 +1,6 @@
 -- The files of the words were fetched; and none, where they mean nothing.
 use Rattle.std.proofs.Common.{◌∙◌, map, string_bytes}
-use Rattle.xr_files.proofs.Others.{none_fetched}
+use Rattle.base_files.proofs.Others.{none_fetched}
 use Rattle.xrepair.proofs.Fetching.{fetched_for, fetched_none}
 use Rattle.xrepair.proofs.program.fetch.Goals as goal
 

@@ -1,12 +1,12 @@
 -- A job in order ends so; and what status 0 says of the calls that were noted.
 use Rattle.std.proofs.Common.{map, string_bytes, subst}
-use Rattle.xr_files.proofs.Shipped.{shipped, started}
-use Rattle.xr_files.specs.Seen.{shelf_seen}
-use Rattle.xr_files.specs.Sink.{sink_seen}
-use Rattle.xr_run.specs.Ends.{Comes}
-use Rattle.xr_run.specs.Rows.{Start}
-use Rattle.xr_cli.specs.Commands.{command_of, reporting}
-use Rattle.xr_set.specs.Set.{EndsInOrder, RefusesTexts, commands}
+use Rattle.base_files.proofs.Shipped.{shipped, started}
+use Rattle.base_files.specs.Seen.{shelf_seen}
+use Rattle.base_files.specs.Sink.{sink_seen}
+use Rattle.base_run.specs.Ends.{Comes}
+use Rattle.base_run.specs.Rows.{Start}
+use Rattle.cmd_program.specs.Commands.{command_of, reporting}
+use Rattle.cmd_set.specs.Set.{EndsInOrder, RefusesTexts, commands}
 use Rattle.xrepair.proofs.Listing.{kept}
 use Rattle.xrepair.specs.Reads.{read_by}
 use Rattle.xrepair.proofs.program.ship.Goals as goal

@@ -1,6 +1,6 @@
 -- The files of the words were fetched.
 use Rattle.std.proofs.Common.{◌∙◌, map, string_bytes}
-use Rattle.xr_trim_cli.specs.Words.{trim_values}
+use Rattle.cmd_trim.specs.Words.{trim_values}
 use Rattle.xrtrim.proofs.Laws.{fetched_for}
 use Rattle.xrtrim.proofs.ship.fetch.Goals as goal
 

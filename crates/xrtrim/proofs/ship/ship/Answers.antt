@@ -1,11 +1,11 @@
 -- What status 0 says of the calls that were noted.
 use Rattle.std.proofs.Common.{map, string_bytes, subst}
-use Rattle.xr_files.proofs.Shipped.{shipped, started}
-use Rattle.xr_files.specs.Seen.{shelf_seen}
-use Rattle.xr_files.specs.Sink.{sink_seen}
-use Rattle.xr_run.specs.Ends.{Comes}
-use Rattle.xr_run.specs.Rows.{Start}
-use Rattle.xr_trim_cli.specs.Commands.{commands}
+use Rattle.base_files.proofs.Shipped.{shipped, started}
+use Rattle.base_files.specs.Seen.{shelf_seen}
+use Rattle.base_files.specs.Sink.{sink_seen}
+use Rattle.base_run.specs.Ends.{Comes}
+use Rattle.base_run.specs.Rows.{Start}
+use Rattle.cmd_trim.specs.Commands.{commands}
 use Rattle.xrtrim.proofs.Laws.{kept}
 use Rattle.xrtrim.specs.Reads.{read_by}
 use Rattle.xrtrim.proofs.ship.ship.Goals as goal

@@ -1,7 +1,7 @@
 -- The history of a job is the replay of its circuit.
 use Rattle.std.proofs.Common.{inl, subst, sym}
-use Rattle.xr_design.specs.Handed.{IsReplay}
-use Rattle.xr_design.specs.Job.{Job}
+use Rattle.design_circuit.specs.Handed.{IsReplay}
+use Rattle.design_circuit.specs.Job.{Job}
 use Rattle.test_cert.proofs.job.Job.checked.Goals as goal
 
 pub check_cert-requires-clause-handed : goal.check_cert-requires-clause-handed

@@ -1,6 +1,6 @@
 -- The design of a job fits.
-use Rattle.xr_design.specs.Design.{FitsDesign}
-use Rattle.xr_design.specs.declared.design.Design.{Design}
+use Rattle.design_circuit.specs.Design.{FitsDesign}
+use Rattle.design_circuit.specs.declared.design.Design.{Design}
 use Rattle.std.proofs.Common.{subst, sym}
 use Rattle.test_code.proofs.scoped.Scoped.new.Goals as goal
 

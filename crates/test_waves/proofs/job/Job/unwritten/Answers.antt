@@ -1,7 +1,7 @@
 -- The history of a job is the replay of its circuit.
 use Rattle.std.proofs.Common.{inl, subst, sym}
-use Rattle.xr_design.specs.Handed.{IsReplay}
-use Rattle.xr_design.specs.Job.{Job}
+use Rattle.design_circuit.specs.Handed.{IsReplay}
+use Rattle.design_circuit.specs.Job.{Job}
 use Rattle.test_waves.proofs.job.Job.unwritten.Goals as goal
 
 pub new-requires-clause-handed : goal.new-requires-clause-handed

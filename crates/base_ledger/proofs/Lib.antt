@@ -1,0 +1,6 @@
+-- Lemmas of base_ledger.
+pub mod Rows
+pub mod Steps
+pub mod Kept
+pub mod Placing
+pub mod Lookups

@@ -1,0 +1,2 @@
+-- Definitions of base_lists.
+pub mod Text

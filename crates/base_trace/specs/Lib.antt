@@ -1,0 +1,2 @@
+-- Definitions of base_trace.
+pub mod Record

@@ -1,0 +1,22 @@
+-- Lemmas of checked certificates, and those of the turns that they state.
+pub mod Accepting
+pub mod AllLines
+pub mod Dues
+pub mod Faultless
+pub mod Fitted
+pub mod Going
+pub mod NamedPlaces
+pub mod OneFault
+pub mod OneText
+pub mod OwnEntries
+pub mod OwnLines
+pub mod OwnText
+pub mod OwnTurns
+pub mod PutEntries
+pub mod Reasons
+pub mod Refusing
+pub mod Standing
+pub mod Taking
+pub mod TurnCounts
+pub mod Ways
+pub use Rattle.cert_turns.proofs.StatedTurns

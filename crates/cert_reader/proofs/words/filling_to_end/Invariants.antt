@@ -1,0 +1,10 @@
+-- What was to come comes after the places so far.
+use Rattle.std.proofs.Common.{◌≡◌, [], length}
+use Rattle.cert_reader.specs.Machine.{places_to_end}
+use Rattle.cert_reader.proofs.words.filling_to_end.Given as goal
+
+abbrev pub invariant-places : goal.invariant-places
+invariant-places l = places_to_end [] l.fn.words ≡ places_to_end l.places.items l.words
+
+abbrev pub decreases-places : goal.decreases-places
+decreases-places l = length l.words

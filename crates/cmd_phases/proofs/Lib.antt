@@ -1,0 +1,24 @@
+-- Lemmas on the phases of commands, and those on objections that commands cite.
+pub mod CheckedPlaces
+pub mod Faults
+pub mod CutTexts
+pub mod FoundPlaces
+pub mod JobTexts
+pub mod Jobs
+pub mod Lines
+pub mod ListedOnce
+pub mod ObjectingOnce
+pub mod OneCheck
+pub mod OneCode
+pub mod OneHistory
+pub mod OneJob
+pub mod OneStart
+pub mod OneStimulus
+pub mod ReplaysExist
+pub mod SetTexts
+pub mod Statuses
+pub mod Unrefused
+pub mod Walks
+pub use Rattle.decide_repair.proofs.AgreeingObjections
+pub mod LawsOfCert
+pub mod LawsOfCond

@@ -1,0 +1,16 @@
+-- The certificate is read, then upgraded.
+use Rattle.base_run.specs.Prepared.{answer_of}
+use Rattle.base_run.proofs.Then.{prepared_then}
+use Rattle.cmd_program.specs.Upgrade.{upgrade_values, formed_upgrade}
+use Rattle.cmd_phases.specs.Phases.{certificate_phases, itself}
+use Rattle.cmd_program.proofs.upgraded.upgrade_agreed.Goals as goal
+
+pub returns : goal.returns
+returns g c =
+    let told = g.S.Shelf.told in
+    let w = upgrade_values c.args.words.now in
+    let old = g.S.Shelf.view c.args.shelf.now in
+    let new = g.S.Shelf.view c.certificate_of.new.shelf in
+    let job = c.args.job.now in
+    prepared_then told (certificate_phases w.cert) (formed_upgrade w job) itself answer_of old new new c.in_ok-cert.cert c.upgraded.result
+    c.in_ok-cert.ensures (c.upgraded.ensures told new)

@@ -1,0 +1,6 @@
+-- The loop of `copy_rows`.
+use Rattle.std.proofs.Common.{◌≡◌, take}
+use Rattle.design_cell.proofs.udp.copy_rows.Given as goal
+
+abbrev pub invariant-loop-row : goal.invariant-loop-row
+invariant-loop-row l = l.copies.items ≡ take l.row-index l.rows

@@ -1,0 +1,23 @@
+-- Definitions of design_cell: values and gates, symbols, rows and tables of primitives, and what their calls give.
+pub mod Below
+pub mod Clock
+pub mod Conflict
+pub mod Deciding
+pub mod Digits
+pub mod Gate
+pub mod Hold
+pub mod Index
+pub mod Marks
+pub mod Meeting
+pub mod Next
+pub mod Pass
+pub mod Probe
+pub mod Refusal
+pub mod Row
+pub mod Seen
+pub mod Sweep
+pub mod Symbol
+pub mod Table
+pub mod Taken
+pub mod Value
+pub mod WorkedHolds

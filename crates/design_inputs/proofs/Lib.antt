@@ -1,0 +1,2 @@
+-- Lemmas of design_inputs.
+pub mod RowLemmas

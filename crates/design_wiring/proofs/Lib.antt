@@ -1,0 +1,3 @@
+-- Lemmas of design_wiring.
+pub mod Jobs
+pub mod Tables

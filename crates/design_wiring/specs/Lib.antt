@@ -1,0 +1,3 @@
+-- Definitions of design_wiring.
+pub mod Flat
+pub mod Wired

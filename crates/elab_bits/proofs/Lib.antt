@@ -1,0 +1,2 @@
+-- Lemmas of elab_bits.
+pub mod Running

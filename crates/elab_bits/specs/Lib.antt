@@ -1,0 +1,5 @@
+-- Definitions of elab_bits.
+pub mod Lanes
+pub mod Runs
+pub mod Bits
+pub mod Drive

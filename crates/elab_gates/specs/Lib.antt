@@ -1,0 +1,5 @@
+-- Definitions of elab_gates.
+pub mod Terminals
+pub mod Gates
+pub mod Assigns
+pub mod Primitives

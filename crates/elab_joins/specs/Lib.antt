@@ -1,0 +1,3 @@
+-- Definitions of elab_joins.
+pub mod Connect
+pub mod Joined

@@ -1,0 +1,4 @@
+-- Lemmas of elab_names.
+pub mod SetLemmas
+pub mod Naming
+pub mod Outlining

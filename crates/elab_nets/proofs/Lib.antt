@@ -1,0 +1,3 @@
+-- Lemmas of elab_nets.
+pub mod Making
+pub mod BoardLemmas

@@ -1,0 +1,21 @@
+-- Lemmas of elab_tree.
+pub mod Steps
+pub mod Lists
+pub mod Knowing
+pub mod Nets
+pub mod Naming
+pub mod Names
+pub mod Bits
+pub mod Driving
+pub mod Terminals
+pub mod Gates
+pub mod Tables
+pub mod Primitives
+pub mod Joining
+pub mod Items
+pub mod Fitting
+pub mod Relating
+pub mod Outcomes
+pub mod Staying
+pub mod Keeping
+pub mod WorkedTexts

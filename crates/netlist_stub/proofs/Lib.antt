@@ -1,0 +1,4 @@
+-- Lemmas of netlist_stub.
+pub mod Stack
+pub mod Pieces
+pub mod OneWay

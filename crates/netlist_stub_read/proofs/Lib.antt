@@ -1,0 +1,2 @@
+-- Lemmas of netlist_stub_read.
+pub mod Reading

@@ -1,0 +1,11 @@
+-- What the nets so far start with.
+use Rattle.std.proofs.Common.{◌≡◌, ℕ, ◌<◌, length, slice_index_or}
+use Rattle.design_cell.specs.declared.value.Value.TheVariants.{X}
+use Rattle.recording_binding.specs.StimOf as spec
+use Rattle.recording_binding.proofs.stimulus.starts_of.Given as goal
+
+abbrev pub invariant-nets : goal.invariant-nets
+invariant-nets l = record {
+  long : length l.starts.items ≡ l.net;
+  values : (net : ℕ) → net < l.net → slice_index_or l.starts.items net X ≡ spec.start_in l.design l.recording l.holders l.rule net;
+}

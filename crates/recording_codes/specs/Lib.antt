@@ -1,0 +1,4 @@
+-- Definitions of recording_codes: codes in the order of their declaration, and how they are stored.
+pub mod Code
+pub mod Columns
+pub mod Slots

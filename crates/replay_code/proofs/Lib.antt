@@ -1,0 +1,29 @@
+-- Lemmas of replay_code.
+pub mod Accepts
+pub mod Awaited
+pub mod Canonical
+pub mod Events
+pub mod Follows
+pub mod Forcing
+pub mod GrammarRead
+pub mod Indexes
+pub mod Leading
+pub mod Lookups
+pub mod Moments
+pub mod OneCode
+pub mod OwnCode
+pub mod Paths
+pub mod Places
+pub mod Runs
+pub mod Scoped
+pub mod Scopes
+pub mod Spelling
+pub mod Staying
+pub mod Stepping
+pub mod Steps
+pub mod Stops
+pub mod Tests
+pub mod Waiting
+pub mod Waits
+mod Worked
+pub mod Writing

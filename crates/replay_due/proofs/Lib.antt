@@ -1,0 +1,3 @@
+-- Lemmas of replay_due.
+pub mod Words
+pub mod Placing

@@ -1,0 +1,20 @@
+-- Lemmas of sat_proof.
+pub mod Assuming
+pub mod Backs
+pub mod Bases
+pub mod Chains
+pub mod ClosedSets
+pub mod Codes
+pub mod Deciding
+pub mod Adding
+pub mod Guards
+pub mod Links
+pub mod NamedVariables
+pub mod News
+pub mod Quiet
+pub mod Runs
+pub mod Sound
+pub mod Stages
+pub mod Trails
+pub mod Walks
+pub mod Widening

@@ -1,0 +1,6 @@
+-- The entries so far are 0.
+use Rattle.std.proofs.Common.{◌≡◌, ℕ, ◌<◌, slice_index}
+use Rattle.sat_proof.proofs.index.zero.Given as goal
+
+abbrev pub invariant-loop-number : goal.invariant-loop-number
+invariant-loop-number l = (k : ℕ) → k < l.number-index → slice_index l.numbers k ≡ 0

@@ -1,0 +1,3 @@
+-- Words of law_quiet that this crate passes on.
+pub use Rattle.wave_bytes.specs.OfQuiet.{IsRepeated, IsRun, before_next}
+unfoldable pub use Rattle.wave_bytes.specs.OfQuiet.{repeated}

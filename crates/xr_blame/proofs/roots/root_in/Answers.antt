@@ -1,9 +1,0 @@
--- An unknown place isn't certain.
-use Rattle.xr_design.specs.Job.{number_of}
-use Rattle.xr_wave.specs.Contents.{job}
-use Rattle.xr_blame.proofs.RootCauses.{unknown_open}
-use Rattle.xr_blame.proofs.roots.root_in.Goals as goal
-
-pub root_at-requires-clause-uncertain : goal.root_at-requires-clause-uncertain
-root_at-requires-clause-uncertain c =
-    unknown_open c.args.wave.now.written (number_of (job c.args.wave.now) c.args.place) c.requires.unknown

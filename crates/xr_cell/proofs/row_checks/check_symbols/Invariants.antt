@@ -1,8 +1,0 @@
--- The loop of `check_symbols`.
-use Rattle.std.proofs.Common.{◌≡◌, ◌<◌, ℕ, true}
-use Rattle.xr_cell.specs.Row.{row_at}
-use Rattle.xr_cell.specs.Refusal.{has_symbols}
-use Rattle.xr_cell.proofs.row_checks.check_symbols.Given as goal
-
-abbrev pub invariant-loop-i : goal.invariant-loop-i
-invariant-loop-i l = (k : ℕ) → k < l.i → (has_symbols l.sequential) (row_at l.rows k) ≡ true

@@ -1,7 +1,0 @@
--- The loop of `first`.
-use Rattle.std.proofs.Common.{◌-◌, length}
-use Rattle.xr_cell.specs.Seen.{IsSwept}
-use Rattle.xr_cell.proofs.sweep.Sweep.first.Given as goal
-
-abbrev pub invariant-loop-back : goal.invariant-loop-back
-invariant-loop-back l = IsSwept l.inputs l.self l.rows (length l.rows - l.back) l.seen l.first

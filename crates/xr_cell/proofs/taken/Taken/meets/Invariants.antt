@@ -1,8 +1,0 @@
--- The loop of `meets`.
-use Rattle.std.proofs.Common.{◌≡◌}
-use Rattle.xr_cell.specs.Below.{any_below}
-use Rattle.xr_cell.specs.Marks.{meets_high}
-use Rattle.xr_cell.proofs.taken.Taken.meets.Given as goal
-
-abbrev pub invariant-loop-high : goal.invariant-loop-high
-invariant-loop-high l = l.any ≡ any_below l.high (meets_high l.self l.seen)

@@ -1,8 +1,0 @@
--- The loop of `meets_middles`.
-use Rattle.std.proofs.Common.{◌≡◌}
-use Rattle.xr_cell.specs.Below.{any_below}
-use Rattle.xr_cell.specs.Marks.{meets_middle}
-use Rattle.xr_cell.proofs.taken.Taken.meets_middles.Given as goal
-
-abbrev pub invariant-loop-middle : goal.invariant-loop-middle
-invariant-loop-middle l = l.any ≡ any_below l.middle (meets_middle l.self l.seen l.high)

@@ -1,8 +1,0 @@
--- A turn where a line is due.
-use Rattle.xr_cert.proofs.Taking.{turn_stops}
-use Rattle.xr_cert.proofs.walk.take_unturned.Goals as goal
-
-pub returns-clause-err : goal.returns-clause-err
-returns-clause-err c =
-    turn_stops c.args.form c.args.number c.args.wave c.args.conditions.items c.in-Turn.field-0 c.args.entry
-    c.requires.stops c.in-Turn.is

@@ -1,6 +1,0 @@
--- The words of both puts.
-use Rattle.xr_cert_text.proofs.Puts.{two_put}
-use Rattle.xr_cert_text.proofs.put_words.put_clause.Goals as goal
-
-pub returns : goal.returns
-returns c = two_put _ _ _ _ _ c.in_ok-put_literals.ensures c.in_ok-put_word.ensures

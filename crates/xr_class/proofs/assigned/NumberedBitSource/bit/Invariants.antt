@@ -1,8 +1,0 @@
--- The places that are left decide.
-use Rattle.std.proofs.Common.{◌≡◌, drop}
-use Rattle.xr_model.specs.Mask.{masked}
-use Rattle.xr_class.proofs.assigned.NumberedBitSource.bit.Given as goal
-
-abbrev pub invariant-places : goal.invariant-places
-invariant-places l = masked l.self.places.now l.self.number l.place ≡ masked (drop l.k-index l.self.places.now) l.rest
-    l.place

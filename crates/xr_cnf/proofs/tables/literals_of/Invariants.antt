@@ -1,9 +1,0 @@
--- The literals that deny the bits of the arguments so far.
-use Rattle.std.proofs.Common.{◌≡◌}
-use Rattle.xr_cnf.specs.Clauses.{node_says}
-use Rattle.xr_cnf.specs.Growth.{denied}
-use Rattle.xr_cnf.proofs.tables.literals_of.Given as goal
-
-abbrev pub invariant-arguments : goal.invariant-arguments
-invariant-arguments l =
-    l.wanted.items ≡ denied (node_says l.table.literals.now l.table.arguments.now l.table.position) l.choice l.argument

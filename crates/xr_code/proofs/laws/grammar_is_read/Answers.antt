@@ -1,6 +1,0 @@
--- The grammar and the machine say the same.
-use Rattle.xr_code.proofs.GrammarRead.{grammar_is_read}
-use Rattle.xr_code.proofs.laws.grammar_is_read.Goals as goal
-
-pub returns : goal.returns
-returns c = grammar_is_read

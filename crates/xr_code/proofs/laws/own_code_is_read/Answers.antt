@@ -1,6 +1,0 @@
--- The round trip.
-use Rattle.xr_code.proofs.OwnCode.{own_says}
-use Rattle.xr_code.proofs.laws.own_code_is_read.Goals as goal
-
-pub returns : goal.returns
-returns c = own_says

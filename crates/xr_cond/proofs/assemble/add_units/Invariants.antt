@@ -1,6 +1,0 @@
--- The first units are added.
-use Rattle.std.proofs.Common.{◌≡◌, ◌++◌, ◌∷◌, [], map, take}
-use Rattle.xr_cond.proofs.assemble.add_units.Given as goal
-
-abbrev pub invariant-units : goal.invariant-units
-invariant-units l = l.clauses.items ≡ l.initial.clauses.items ++ map (λ u. u ∷ []) (take l.unit-index l.units)

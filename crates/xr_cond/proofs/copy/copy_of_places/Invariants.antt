@@ -1,6 +1,0 @@
--- The first places are copied.
-use Rattle.std.proofs.Common.{◌≡◌, take}
-use Rattle.xr_cond.proofs.copy.copy_of_places.Given as goal
-
-abbrev pub invariant-places : goal.invariant-places
-invariant-places l = l.copies.items ≡ take l.place-index l.places

@@ -1,9 +1,0 @@
-use Rattle.xr_cond.specs.View.{IsUnderWay}
-use Rattle.xr_cond.proofs.made.finish.Given as goal
-
--- The turns so far are made, and the next ones are fewer.
-abbrev pub invariant-turns : goal.invariant-turns
-invariant-turns l = IsUnderWay l.initial.now l.now
-
-abbrev pub decreases-turns : goal.decreases-turns
-decreases-turns l = l.now.due

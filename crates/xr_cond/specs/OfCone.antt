@@ -1,6 +1,0 @@
--- Words of xr_cone that this crate passes on.
-pub use Rattle.xr_cone.specs.Boundary.{certain_boundary, certain_boundary_in, is_boundary}
-pub use Rattle.xr_cone.specs.Cones.{AreRightOf}
-pub use Rattle.xr_cone.specs.Known.{IsGrown}
-pub use Rattle.xr_cone.specs.Lanes.{IsLookedAt, IsRightOf}
-pub use Rattle.xr_cone.specs.declared.cones.Cones.{Cones}

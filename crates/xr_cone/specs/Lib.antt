@@ -1,8 +1,0 @@
--- Definitions of what code finds of a cone, and of the lanes that its calls take.
-pub mod Boundary
-pub mod Cones
-pub mod Known
-pub mod Placed
-pub use Rattle.xr_lanes.specs.Lanes
-pub use Rattle.xr_lanes.specs.Roots
-pub use Rattle.xr_lanes.specs.Shown

@@ -1,5 +1,0 @@
-use Rattle.std.proofs.Common.{◌≢◌, ◌<◌, ◌^◌, ℕ, length}
-use Rattle.xr_cone_choices.proofs.choices.count_of.Given as goal
-
-abbrev pub invariant-counts : goal.invariant-counts
-invariant-counts l = (k : ℕ) → k < l.count → length l.values ≢ 2 ^ k

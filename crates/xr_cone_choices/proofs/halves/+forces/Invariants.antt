@@ -1,4 +1,0 @@
-use Rattle.xr_cone_choices.proofs.halves.+forces.Given as goal
-
-abbrev pub decreases-forces : goal.decreases-forces
-decreases-forces l = l.count

@@ -1,7 +1,0 @@
-use Rattle.std.proofs.Common.{take}
-use Rattle.xr_cone_choices.specs.Halves.{AreAdded}
-use Rattle.xr_cone_choices.proofs.joined.add_alone.Given as goal
-
-abbrev pub invariant-found : goal.invariant-found
-invariant-found l = AreAdded l.other l.count l.bit l.last l.initial.choices.items
-    (take l.choice-index l.found) l.choices.items

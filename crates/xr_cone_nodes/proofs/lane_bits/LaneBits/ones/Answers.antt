@@ -1,6 +1,0 @@
--- All bits of each part are 1.
-use Rattle.xr_cone_nodes.proofs.EachLane.{lane_ones}
-use Rattle.xr_cone_nodes.proofs.lane_bits.LaneBits.ones.Goals as goal
-
-pub returns : goal.returns
-returns c = lane_ones

@@ -1,6 +1,0 @@
--- No bit of a part is 1.
-use Rattle.xr_cone_nodes.proofs.EachLane.{lane_zeros}
-use Rattle.xr_cone_nodes.proofs.lane_bits.LaneBits.zeros.Goals as goal
-
-pub returns : goal.returns
-returns c = lane_zeros

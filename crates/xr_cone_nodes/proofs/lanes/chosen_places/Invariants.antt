@@ -1,8 +1,0 @@
--- The places so far are those that are chosen of the sources so far.
-use Rattle.std.proofs.Common.{◌≡◌, take}
-use Rattle.xr_cone_nodes.specs.Lanes.{lane_of}
-use Rattle.xr_cone_nodes.specs.Nodes.{chosen}
-use Rattle.xr_cone_nodes.proofs.lanes.chosen_places.Given as goal
-
-abbrev pub invariant-sources : goal.invariant-sources
-invariant-sources l = l.places.items ≡ chosen (take l.source l.sources) (lane_of l.given l.lane)

@@ -1,6 +1,0 @@
--- The law stands in its lemma.
-use Rattle.xr_cone_nodes.proofs.ConeLaws.{enumerated_law}
-use Rattle.xr_cone_nodes.proofs.laws.numbers_make_fillings.Goals as goal
-
-pub returns : goal.returns
-returns c = enumerated_law

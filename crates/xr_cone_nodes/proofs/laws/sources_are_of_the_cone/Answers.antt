@@ -1,6 +1,0 @@
--- The law stands in its lemma.
-use Rattle.xr_cone_nodes.proofs.ConeLaws.{sources_law}
-use Rattle.xr_cone_nodes.proofs.laws.sources_are_of_the_cone.Goals as goal
-
-pub returns : goal.returns
-returns c = sources_law

@@ -1,7 +1,0 @@
--- A step has room for all nets.
-use Rattle.xr_design.specs.Circuit.{job_in}
-use Rattle.xr_design.proofs.Reaching.{step_room}
-use Rattle.xr_design.proofs.driven.driven_value.Goals as goal
-
-pub net_value-requires-clause-small : goal.net_value-requires-clause-small
-net_value-requires-clause-small g c = step_room (job_in c.args.circuit.now) c.args.circuit.now.fits.fits_job c.args.place c.args.spot c.requires.spot

@@ -1,6 +1,0 @@
--- The law, for every job.
-use Rattle.xr_design.proofs.Rules.{arguments_below}
-use Rattle.xr_design.proofs.laws.arguments_stand_before.Goals as goal
-
-pub returns : goal.returns
-returns c = λ j fits c place within. arguments_below j fits c place within

@@ -1,6 +1,0 @@
--- What a driver keeps, by what it gives.
-use Rattle.xr_design.proofs.DrivenLemmas.{kept_driven}
-use Rattle.xr_design.proofs.laws.keeps_what_it_gives.Goals as goal
-
-pub returns : goal.returns
-returns c = kept_driven

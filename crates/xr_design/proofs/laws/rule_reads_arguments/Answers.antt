@@ -1,6 +1,0 @@
--- The law, for every job.
-use Rattle.xr_design.proofs.Rules.{rule_reads}
-use Rattle.xr_design.proofs.laws.rule_reads_arguments.Goals as goal
-
-pub returns : goal.returns
-returns c = λ j c f g place agree. rule_reads j c f g place agree

@@ -1,7 +1,0 @@
--- What is left to put leads to the whole.
-use Rattle.std.proofs.Common.{◌≡◌, ◌++◌, drop}
-use Rattle.xr_design.specs.Name.{dotted_parts}
-use Rattle.xr_design.proofs.name.put_dotted.Given as goal
-
-abbrev pub invariant-parts : goal.invariant-parts
-invariant-parts l = l.text.items ++ dotted_parts (drop l.part-index l.parts) ≡ l.fn.text.items ++ dotted_parts l.parts

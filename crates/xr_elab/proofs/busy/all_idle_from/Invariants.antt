@@ -1,8 +1,0 @@
--- The highest level so far, or of what is left.
-use Rattle.std.proofs.Common.{◌≡◌, max, drop}
-use Rattle.xr_elab_names.specs.Outline.{items_in}
-use Rattle.xr_elab.specs.Busy.{all_idle_from}
-use Rattle.xr_elab.proofs.busy.all_idle_from.Given as goal
-
-abbrev pub invariant-items : goal.invariant-items
-invariant-items l = all_idle_from l.definitions l.levels (items_in l.items) ≡ max l.level (all_idle_from l.definitions l.levels (items_in (drop l.item-index l.items)))

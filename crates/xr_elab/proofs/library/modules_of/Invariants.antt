@@ -1,6 +1,0 @@
--- The modules so far.
-use Rattle.std.proofs.Common.{◌≡◌, take}
-use Rattle.xr_elab.proofs.library.modules_of.Given as goal
-
-abbrev pub invariant-modules : goal.invariant-modules
-invariant-modules l = l.all.items ≡ take l.unit-index l.modules

@@ -1,7 +1,0 @@
--- What is left decides.
-use Rattle.std.proofs.Common.{◌≡◌, drop}
-use Rattle.xr_elab.specs.Quiet.{are_from}
-use Rattle.xr_elab.proofs.quiet.are_from.Given as goal
-
-abbrev pub invariant-path : goal.invariant-path
-invariant-path l = are_from l.levels l.level l.path ≡ are_from l.levels l.level (drop l.k-index l.path)

@@ -1,4 +1,0 @@
--- Definitions of xr_elab.
-pub mod Quiet
-pub mod Busy
-pub mod Held

@@ -1,8 +1,0 @@
-//! The law of levels, the contract of a function that does nothing.
-
-ghost use Rattle.xr_elab.specs.Quiet.{LevelsAreOne};
-
-/// A text has one table of levels.
-pub fn levels_are_one()
-    ensures { LevelsAreOne }
-{}

@@ -1,2 +1,0 @@
--- Lemmas of xr_elab_bits.
-pub mod Running

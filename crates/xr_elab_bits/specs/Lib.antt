@@ -1,5 +1,0 @@
--- Definitions of xr_elab_bits.
-pub mod Lanes
-pub mod Runs
-pub mod Bits
-pub mod Drive

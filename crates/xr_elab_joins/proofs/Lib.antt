@@ -1,1 +1,0 @@
--- Lemmas of xr_elab_joins.

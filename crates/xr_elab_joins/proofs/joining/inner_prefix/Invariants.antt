@@ -1,6 +1,0 @@
--- The parts so far.
-use Rattle.std.proofs.Common.{◌≡◌, take}
-use Rattle.xr_elab_joins.proofs.joining.inner_prefix.Given as goal
-
-abbrev pub invariant-parts : goal.invariant-parts
-invariant-parts l = l.parts.items ≡ take l.part-index l.prefix

@@ -1,4 +1,0 @@
--- Lemmas of xr_elab_names.
-pub mod SetLemmas
-pub mod Naming
-pub mod Outlining

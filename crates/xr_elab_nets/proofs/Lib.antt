@@ -1,3 +1,0 @@
--- Lemmas of xr_elab_nets.
-pub mod Making
-pub mod BoardLemmas

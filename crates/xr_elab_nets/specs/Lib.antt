@@ -1,6 +1,0 @@
--- Definitions of xr_elab_nets.
-pub mod Outcome
-pub mod Ranges
-pub mod State
-pub mod Board
-pub mod Fault

@@ -1,7 +1,0 @@
--- What is left decides.
-use Rattle.std.proofs.Common.{◌≡◌, drop}
-use Rattle.xr_elab_prims.specs.Built.{start_in}
-use Rattle.xr_elab_prims.proofs.built.start_in.Given as goal
-
-abbrev pub invariant-declarations : goal.invariant-declarations
-invariant-declarations l = start_in l.declarations ≡ start_in (drop l.declaration-index l.declarations)

@@ -1,7 +1,0 @@
--- The names so far.
-use Rattle.std.proofs.Common.{take}
-use Rattle.xr_elab_prims.specs.Names.{texts, HasAll}
-use Rattle.xr_elab_prims.proofs.names.set_of.Given as goal
-
-abbrev pub invariant-names : goal.invariant-names
-invariant-names l = HasAll l.set (texts (take l.name-index l.names))

@@ -1,7 +1,0 @@
--- The declarations so far.
-use Rattle.std.proofs.Common.{◌≡◌, take}
-use Rattle.xr_elab_prims.specs.Ports.{declared}
-use Rattle.xr_elab_prims.proofs.ports.sort_out.Given as goal
-
-abbrev pub invariant-declarations : goal.invariant-declarations
-invariant-declarations l = l.declared ≡ declared (take l.declaration-index l.declarations)

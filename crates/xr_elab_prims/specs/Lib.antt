@@ -1,6 +1,0 @@
--- Definitions of xr_elab_prims.
-pub mod Definitions
-pub mod Names
-pub mod Ports
-pub mod Built
-pub mod Pins

@@ -1,8 +1,0 @@
--- The law, for every text.
-use Rattle.xr_elab_tree.proofs.Fitting.{library_fits}
-use Rattle.xr_elab_tree.proofs.Items.{items_well}
-use Rattle.xr_elab_tree.specs.Library.{library_of}
-use Rattle.xr_elab_tree.proofs.laws.items_stand_well.Goals as goal
-
-pub returns : goal.returns
-returns c = λ source tables path room is here done well all whole built at. items_well (library_of source tables) path room is here done (library_fits source tables whole built) all well at

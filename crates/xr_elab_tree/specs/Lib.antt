@@ -1,9 +1,0 @@
--- Definitions of xr_elab_tree.
-pub mod Library
-pub mod Elaborate
-pub mod Text
-pub mod Relation
-pub mod Sound
-pub mod Staying
-pub mod Laws
-pub mod Worked

@@ -1,5 +1,0 @@
--- Lemmas of xr_fans.
-pub mod Positions
-pub mod Moments
-pub mod Marking
-pub mod ReadingLemmas

@@ -1,9 +1,0 @@
--- The readings of the positions so far.
-use Rattle.std.proofs.Common.{◌≡◌}
-use Rattle.xr_design.specs.Circuit.{job_in}
-use Rattle.xr_fans.specs.Nets.{looked_at}
-use Rattle.xr_fans.specs.Readings.{readings_to}
-use Rattle.xr_fans.proofs.fans.register_readers.Given as goal
-
-abbrev pub invariant-positions : goal.invariant-positions
-invariant-positions l = l.readings.items ≡ readings_to (job_in l.circuit) looked_at l.position

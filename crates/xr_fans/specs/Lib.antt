@@ -1,4 +1,0 @@
--- Definitions of xr_fans: which drivers read which nets, and what becomes due.
-pub mod Nets
-pub mod Readings
-pub mod Marks

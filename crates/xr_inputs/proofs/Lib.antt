@@ -1,2 +1,0 @@
--- Lemmas of xr_inputs.
-pub mod RowLemmas

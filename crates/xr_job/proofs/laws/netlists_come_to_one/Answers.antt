@@ -1,6 +1,0 @@
--- The law, for every text.
-use Rattle.xr_job.proofs.OneNetlist.{one_outcome}
-use Rattle.xr_job.proofs.laws.netlists_come_to_one.Goals as goal
-
-pub returns : goal.returns
-returns c = one_outcome

@@ -1,6 +1,0 @@
--- The law, for every text.
-use Rattle.xr_job.proofs.OneRecording.{one_recording}
-use Rattle.xr_job.proofs.laws.recordings_come_to_one.Goals as goal
-
-pub returns : goal.returns
-returns c = one_recording

@@ -1,6 +1,0 @@
--- The law stands in its lemma.
-use Rattle.xr_lanes.proofs.EqualNodes.{equal_law}
-use Rattle.xr_lanes.proofs.laws.equal_nodes_agree.Goals as goal
-
-pub returns : goal.returns
-returns c = equal_law

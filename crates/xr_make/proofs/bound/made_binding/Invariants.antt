@@ -1,7 +1,0 @@
--- The nets so far.
-use Rattle.std.proofs.Common.{◌≡◌}
-use Rattle.xr_make.specs.Recording.{nets_bound}
-use Rattle.xr_make.proofs.bound.made_binding.Given as goal
-
-abbrev pub invariant-nets : goal.invariant-nets
-invariant-nets l = l.bound.items ≡ nets_bound l.design l.net

@@ -1,6 +1,0 @@
--- The law.
-use Rattle.xr_make.proofs.OneRecording.{one_recording}
-use Rattle.xr_make.proofs.laws.recordings_are_one.Goals as goal
-
-pub returns : goal.returns
-returns c = one_recording

@@ -1,7 +1,0 @@
--- The state after the gates so far.
-use Rattle.std.proofs.Common.{◌≡◌}
-use Rattle.xr_make.specs.Netlist.{after_gates}
-use Rattle.xr_make.proofs.stimulus.pass_gates.Given as goal
-
-abbrev pub invariant-gates : goal.invariant-gates
-invariant-gates l = l.draws.state ≡ after_gates l.fn.draws.state l.counter

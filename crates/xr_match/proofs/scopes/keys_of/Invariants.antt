@@ -1,6 +1,0 @@
--- What is kept of the scopes so far.
-use Rattle.xr_match.specs.Scopes.{KeepsAll}
-use Rattle.xr_match.proofs.scopes.keys_of.Given as goal
-
-abbrev pub invariant-scopes : goal.invariant-scopes
-invariant-scopes l = KeepsAll l.names l.scope l.recording.scopes l.keys.items l.number

@@ -1,6 +1,0 @@
--- One chosen bit alone tells two argument places apart.
-use Rattle.xr_model.proofs.Carriers.{carrier_law}
-use Rattle.xr_model.proofs.laws.carriers_are_one.Goals as goal
-
-pub returns : goal.returns
-returns c = carrier_law

@@ -1,6 +1,0 @@
--- The law stands in the lemma.
-use Rattle.xr_model.proofs.LawProofs.{few_sources_law}
-use Rattle.xr_model.proofs.laws.few_sources_are_decided.Goals as goal
-
-pub returns : goal.returns
-returns c = few_sources_law

@@ -1,6 +1,0 @@
--- What the definitions compute stands in the lemmas.
-use Rattle.xr_model.proofs.WorkedClasses.{each_kind}
-use Rattle.xr_model.proofs.worked.classes_by_hand.Goals as goal
-
-pub returns : goal.returns
-returns c = each_kind

@@ -1,8 +1,0 @@
--- Lemmas of xr_order.
-pub mod Chains
-pub mod Finds
-pub mod Listings
-pub mod Loops
-pub mod Orders
-pub mod Sets
-pub mod Walks

@@ -1,8 +1,0 @@
--- The loop of `add_pins`.
-use Rattle.std.proofs.Common.{take}
-use Rattle.xr_design.specs.Order.{net_pins}
-use Rattle.xr_order.specs.Readers.{AddsTo}
-use Rattle.xr_order.proofs.readers.Readers.add_pins.Given as goal
-
-abbrev pub invariant-loop-pin : goal.invariant-loop-pin
-invariant-loop-pin l = AddsTo l.initial.self l.self (net_pins (take l.pin-index l.pins)) l.net

@@ -1,6 +1,0 @@
--- The law, for all histories.
-use Rattle.xr_out.proofs.OneText.{text_same}
-use Rattle.xr_out.proofs.laws.texts_are_one.Goals as goal
-
-pub returns : goal.returns
-returns c = λ design binding stim first second fits same. text_same design binding stim first second fits same

@@ -1,9 +1,0 @@
--- Definitions of xr_out: the text of the repaired recording.
-pub mod Code
-pub mod Declarations
-pub mod Laws
-pub mod Moments
-pub mod Readers
-pub mod Rows
-pub mod Steps
-pub mod Text

@@ -1,6 +1,0 @@
--- The law of fresh logs, by its lemma.
-use Rattle.xr_proof.proofs.NamedVariables.{fresh_fit}
-use Rattle.xr_proof.proofs.laws.fresh_logs_fit.Goals as goal
-
-pub returns : goal.returns
-returns c = fresh_fit

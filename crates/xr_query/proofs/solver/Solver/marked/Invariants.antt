@@ -1,7 +1,0 @@
--- No clause so far has the literal 0.
-use Rattle.std.specs.List.{All}
-use Rattle.xr_proof.specs.Assignment.{HasNoZero}
-use Rattle.xr_query.proofs.solver.Solver.marked.Given as goal
-
-abbrev pub invariant-clauses : goal.invariant-clauses
-invariant-clauses l = All HasNoZero l.log.items

@@ -1,2 +1,0 @@
--- Laws of xr_class that this crate passes on.
-pub use Rattle.xr_class.proofs.StepBefore.{before_first, before_later, first_step, keeps_at}

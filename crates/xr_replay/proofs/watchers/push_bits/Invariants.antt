@@ -1,7 +1,0 @@
--- The readings of the bits so far.
-use Rattle.std.proofs.Common.{◌≡◌, ◌++◌, take}
-use Rattle.xr_fans.specs.Readings.{readings_of}
-use Rattle.xr_replay.proofs.watchers.push_bits.Given as goal
-
-abbrev pub invariant-nets : goal.invariant-nets
-invariant-nets l = l.readings.items ≡ l.initial.readings.items ++ readings_of l.number (take l.net-index l.variable.bits)

@@ -1,8 +1,0 @@
--- The whole steps are counted, then the places that are left.
-use Rattle.std.proofs.Common.{◌∙◌, ap}
-use Rattle.xr_report.specs.Counts.{total}
-use Rattle.xr_report.proofs.Counting.{total_below}
-use Rattle.xr_report.proofs.counts.counts_of.Goals as goal
-
-pub returns-clause-all : goal.returns-clause-all
-returns-clause-all c = ap total c.count_rest.ensures ∙ total_below c.args.wave.now _

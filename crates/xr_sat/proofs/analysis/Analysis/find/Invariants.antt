@@ -1,5 +1,0 @@
--- Each turn looks at an earlier place of the trail.
-use Rattle.xr_sat.proofs.analysis.Analysis.find.Given as goal
-
-abbrev pub decreases-points : goal.decreases-points
-decreases-points l = l.at

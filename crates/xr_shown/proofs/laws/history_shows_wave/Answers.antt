@@ -1,6 +1,0 @@
--- The law, for all waves.
-use Rattle.xr_shown.proofs.Showing.{shows_wave}
-use Rattle.xr_shown.proofs.laws.history_shows_wave.Goals as goal
-
-pub returns : goal.returns
-returns c = λ wave. shows_wave wave

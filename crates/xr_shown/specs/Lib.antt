@@ -1,2 +1,0 @@
--- Definitions of xr_shown: the history of what a finished wave shows.
-pub mod History

@@ -1,6 +1,0 @@
--- One outcome.
-use Rattle.xr_stub.proofs.OneWay.{one_stubbed}
-use Rattle.xr_stub.proofs.laws.texts_have_stubs_one_way.Goals as goal
-
-pub returns : goal.returns
-returns c = one_stubbed

@@ -1,2 +1,0 @@
--- Lemmas of xr_stub_read.
-pub mod Reading

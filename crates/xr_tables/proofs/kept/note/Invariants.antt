@@ -1,6 +1,0 @@
--- Less is wanting.
-use Rattle.std.proofs.Common.{◌+◌, ◌-◌, length}
-use Rattle.xr_tables.proofs.kept.note.Given as goal
-
-abbrev pub decreases-more : goal.decreases-more
-decreases-more l = l.node + 1 - length l.slots.items

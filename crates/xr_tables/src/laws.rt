@@ -1,8 +1,0 @@
-//! The law of tables. This function does nothing: what it ensures is a law, proved here once.
-
-ghost use Rattle.xr_tables.specs.Tables.{StayLaw};
-
-/// Tables of a graph are tables of the graph with more nodes.
-pub fn tables_stay()
-    ensures { StayLaw }
-{}

@@ -1,8 +1,0 @@
--- Lemmas of xr_text.
-pub mod Follows
-pub mod Sizes
-pub mod Sound
-pub mod Steps
-pub mod Told
-pub mod Pieces
-pub mod Wires

@@ -1,7 +1,0 @@
--- Definitions of xr_text: bytes, the places where things end, the tokens of a text, and what a byte by byte scan makes
--- of it.
-pub mod Byte
-pub mod Ends
-pub mod Left
-pub mod Scan
-pub mod Tokens

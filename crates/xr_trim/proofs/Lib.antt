@@ -1,7 +1,0 @@
--- Lemmas of xr_trim.
-pub mod Fronts
-pub mod Reading
-pub mod Numbering
-pub mod Growing
-pub mod Kept
-pub mod OneWay

@@ -1,7 +1,0 @@
--- The command of the line ran.
-use Rattle.xr_run.specs.Ends.{RanWords}
-use Rattle.xr_trim_cli.specs.Words.{trim_values}
-use Rattle.xr_trim_cli.proofs.program.run_words.Goals as goal
-
-pub returns : goal.returns
-returns g c = λ line means. RanWords.ends_within (trim_values c.args.words) means (c.run_command.ensures line)

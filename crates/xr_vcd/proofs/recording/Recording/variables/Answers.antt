@@ -1,8 +1,0 @@
--- What is stored is a recording.
-use Rattle.std.proofs.Common.{subst}
-use Rattle.xr_vcd.specs.Recording.{IsRecording}
-use Rattle.xr_vcd.proofs.Kept.{is_recording}
-use Rattle.xr_vcd.proofs.recording.Recording.variables.Goals as goal
-
-pub returns-clause-recording : goal.returns-clause-recording
-returns-clause-recording c = subst IsRecording c.self.view_is (is_recording _ _ _ _ _ c.self.inside.changes.tracks c.self.invariant.0 c.self.invariant.1)

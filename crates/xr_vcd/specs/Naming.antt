@@ -1,6 +1,0 @@
--- A name as code holds it.
-use Rattle.xr_vcd.specs.Declarations.{RecordedName, name}
-use Rattle.xr_vcd.specs.declared.ranges.RecordedName.{RecordedName as Held}
-
-abbrev pub shown_name : Held → RecordedName
-shown_name n = name n.reference.now n.range n.direct

@@ -1,7 +1,0 @@
--- There are as many codes as marks.
-use Rattle.std.proofs.Common.{◌∙◌}
-use Rattle.xr_vcd_codes.proofs.Rows.{count_is}
-use Rattle.xr_vcd_codes.proofs.columns.Columns.len.Goals as goal
-
-pub returns : goal.returns
-returns c = c.len.ensures ∙ c.self.inside.marks.ok.0 ∙ count_is _ _ _ c.self.view_is c.self.invariant

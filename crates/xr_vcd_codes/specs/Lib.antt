@@ -1,4 +1,0 @@
--- Definitions of xr_vcd_codes: codes in the order of their declaration, and how they are stored.
-pub mod Code
-pub mod Columns
-pub mod Slots

@@ -1,5 +1,0 @@
--- Definitions of xr_vcd_laws: what a recording's text says of times and values.
-pub mod Body
-pub mod Codes
-pub mod Laws
-pub mod Moments

@@ -1,5 +1,0 @@
--- Lemmas of xr_vcd_moments.
-pub mod Adding
-pub mod Writing
-pub mod Placing
-pub mod Quiet

@@ -1,3 +1,0 @@
--- Definitions of xr_vcd_moments: which variables change in a moment, and the tables of them.
-pub mod Changed
-pub mod Tables

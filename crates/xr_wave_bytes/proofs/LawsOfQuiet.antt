@@ -1,7 +1,0 @@
--- Laws of xr_quiet that this crate passes on.
-pub use Rattle.xr_quiet.proofs.QuietRuns.{run_law}
-pub use Rattle.xr_quiet.proofs.QuietTests.{quiet_later}
-pub use Rattle.xr_quiet.proofs.SoundQuiet.{agrees_before, sound_agrees}
-pub use Rattle.xr_quiet.proofs.Sweeps.{before_on, begins_law, net_is, none_due_law, repeated_long, skip_law}
-pub use Rattle.xr_quiet.proofs.Sweeps.{start_law, step_on, visit_law}
-pub use Rattle.xr_quiet.proofs.ToldCalm.{told_law}

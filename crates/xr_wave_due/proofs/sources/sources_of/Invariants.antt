@@ -1,7 +1,0 @@
--- Those of the positions so far.
-use Rattle.xr_design.specs.Circuit.{job_in}
-use Rattle.xr_wave_due.specs.Sources.{AreSources}
-use Rattle.xr_wave_due.proofs.sources.sources_of.Given as goal
-
-abbrev pub invariant-positions : goal.invariant-positions
-invariant-positions l = AreSources (job_in l.circuit) l.position l.sources.items

@@ -1,3 +1,0 @@
--- Lemmas of xr_wiring.
-pub mod Jobs
-pub mod Tables

@@ -1,3 +1,0 @@
--- Definitions of xr_wiring.
-pub mod Flat
-pub mod Wired
