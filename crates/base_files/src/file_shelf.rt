@@ -18,9 +18,9 @@ use std::rt::Files;
 /// Real files, which report their bytes: of a file that is read the text that was fetched, of one that is written what
 /// its writes took. Once a file was made none is read, and no file that has a text is made.
 ///
-/// The bytes of a file lie in `NAME.part`, which is made new, until the file is put: then it is renamed to `NAME`. A run
-/// that gives up its files removes them instead. A device, a pipe or a link is written itself, and takes its bytes as they
-/// are written.
+/// The bytes of a file lie in `NAME.part`, which is made new, until the file is put: then it is renamed to `NAME`. A
+/// run that gives up its files removes them instead. A device, a pipe or a link is written itself, and takes its bytes
+/// as they are written.
 #[derive(Drop)]
 pub struct FileShelf<'a, R: Files<File = File>> {
     files: &'a R,

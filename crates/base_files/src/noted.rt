@@ -82,8 +82,8 @@ pub fn write_noted<W: Write>(
     }
 }
 
-/// Puts a file under its name, and notes that what its writes took stands there. A device, a pipe or a link took it as it
-/// was written.
+/// Puts a file under its name, and notes that what its writes took stands there. A device, a pipe or a link took it as
+/// it was written.
 #[tactic(auto)]
 pub fn put_noted<R: Files<File = File>>(
     files: &R,

@@ -10,7 +10,8 @@ use std::fs::File;
 use std::io::ErrorKind;
 use std::rt::Files;
 
-/// A file beside the name, which is put under the name once all files are written; or what stands under the name itself.
+/// A file beside the name, which is put under the name once all files are written; or what stands under the name
+/// itself.
 #[derive(Drop)]
 pub enum Target {
     Part(String),

@@ -1,5 +1,6 @@
 -- Rows of values by steps, and the changes that give them.
-use Rattle.std.specs.Prelude.{◌≡◌, ℕ, ◌+◌, ◌-◌, ◌<◌, ◌≤◌, ◌^◌, List, [], ◌∷◌, ◌++◌, length, map, replicate, slice_index, slice_index_or, slice_range, slice_set, take}
+use Rattle.std.specs.Prelude.{◌≡◌, ℕ, ◌+◌, ◌-◌, ◌<◌, ◌≤◌, ◌^◌, List, [], ◌∷◌, ◌++◌, length, map, replicate, slice_index}
+use Rattle.std.specs.Prelude.{slice_index_or, slice_range, slice_set, take}
 use Rattle.std.specs.List.{range_with_len}
 use Rattle.base_ledger.specs.Change.{AreInWidth, packed_change, change_payload, change_position}
 use Rattle.base_ledger.specs.declared.change.Change.{Change}

@@ -2,7 +2,8 @@
 
 ghost use Rattle.std.specs.Prelude.{◌≡◌, ℕ, ◌-◌, ◌<◌, ◌≤◌, ◌^◌, All, IfOk, OnOk, OnErr, length, slice_index};
 ghost use Rattle.base_ledger.specs.Change.{AreInWidth};
-ghost use Rattle.base_ledger.specs.Ledger.{IsValueAfter, RowFollows, after_turn, finished_ledger, new_ledger, row_back, row_with, step_changes, step_row, steps_of, with_put};
+ghost use Rattle.base_ledger.specs.Ledger.{IsValueAfter, RowFollows, after_turn, finished_ledger, new_ledger, row_back};
+ghost use Rattle.base_ledger.specs.Ledger.{row_with, step_changes, step_row, steps_of, with_put};
 
 use crate::between::changes_between;
 use crate::change::Change;
@@ -153,8 +154,8 @@ impl Ledger {
         changes_between(self.changes.as_slice(), self.starts.as_slice(), step)
     }
 
-    /// The finished ledger, to look up any place. Takes eight bytes for each position and four for each change; with 2^32
-    /// changes or more it answers `Memory`.
+    /// The finished ledger, to look up any place. Takes eight bytes for each position and four for each change; with
+    /// 2^32 changes or more it answers `Memory`.
     pub fn index(self, alloc: Global) -> Result<LedgerIndex, Memory>
         ensures { IfOk result (λ index. index ≡ finished_ledger self) }
     {

@@ -200,9 +200,9 @@ module _ (k : Commands) (s : Start) where
   abbrev pub IsRefusal : List ℕ → Type 0
   IsRefusal text = (text ≡ []) ⊎ ((status : ℕ) × IsLineOf status text)
 
-  -- What the sink gained: at 0 the report; at 4 for the sink a part of the report, then of the line; at 20 a part of the
-  -- report, then of another refusal's line, then of that of want of memory; else the line alone, whole unless the sink's
-  -- count rose.
+  -- What the sink gained: at 0 the report; at 4 for the sink a part of the report, then of the line; at 20 a part of
+  -- the report, then of another refusal's line, then of that of want of memory; else the line alone, whole unless the
+  -- sink's count rose.
   pub data Gains (sink : SinkView) (status : ℕ) : Type 0 where
     gains_report : status ≡ 0 → (text : List ℕ) → IsReport text → sink.bytes ≡ s.sink.bytes ++ text → Gains sink status
     gains_part : status ≡ 4 → (text : List ℕ) → IsReport text → Rose s.sink.faults sink.faults

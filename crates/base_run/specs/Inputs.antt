@@ -16,7 +16,8 @@ IsTextWithin limit None text = limit < length text
 abbrev pub Joins : ℕ → ℕ → Option (Vec ℕ Global) → Option (Vec ℕ Global) → Option (Vec ℕ Global) → Type 0
 Joins limit position text part whole =
     (before : List (List ℕ)) (so_far more : List ℕ) → length before ≡ position → (position ≡ 0 → so_far ≡ [])
-    → IsTextWithin limit text so_far → IsTextWithin limit part more → IsTextWithin limit whole (put_after before so_far more)
+    → IsTextWithin limit text so_far → IsTextWithin limit part more
+    → IsTextWithin limit whole (put_after before so_far more)
 
 -- A call on one of the files failed, its count rose, and no file is in hand.
 pub record InputFails (names : List (List ℕ)) (old new : View) (name : List ℕ) : Type 0 where

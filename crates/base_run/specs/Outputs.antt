@@ -37,14 +37,15 @@ pub record WrittenTo (told : Bool) (k : ℕ) (files : List File) (old new : File
   pub whole : All (IsWhole told new) (take k files)
   pub rest : (name : List ℕ) → (Contains (map name_in (take k files)) name → ⊥) → new name ≡ old name
 
--- All files were written, and no other was; the first k of them stand whole under their names, and every other name holds
--- what it held.
+-- All files were written, and no other was; the first k of them stand whole under their names, and every other name
+-- holds what it held.
 pub record DeliveredTo (told : Bool) (k : ℕ) (files : List File) (old new : View) : Type 0 where
   pub written : WrittenTo told (length files) files old.written new.written
   pub put : WrittenTo told k files old.files new.files
 
 -- What is left where the file of number i couldn't be delivered: every name holds what it held; or all files were
--- written, those before it stand whole under their names, it does so or doesn't, and every other name holds what it held.
+-- written, those before it stand whole under their names, it does so or doesn't, and every other name holds what it
+-- held.
 abbrev pub LeavesUpTo : Bool → List File → ℕ → View → View → Type 0
 LeavesUpTo told files i old new =
     (new.files ≡ old.files) ⊎ ((k : ℕ) × ((k ≡ i) ⊎ (k ≡ i + 1)) × DeliveredTo told k files old new)

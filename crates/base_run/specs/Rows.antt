@@ -88,8 +88,8 @@ pub record WriteRow {C : Type 0} (p : Phases Answer C) (s : Start) (shelf : View
   pub stands : Stands p s answer
   pub fails : OutputFails s answer shelf sink name ⊎ ReportFails p s answer shelf sink name
 
--- No file changed, and nothing was printed; or the answer stood, all outputs were written and the first k are whole, and
--- the sink gained a prefix of the report once they all were.
+-- No file changed, and nothing was printed; or the answer stood, all outputs were written and the first k are whole,
+-- and the sink gained a prefix of the report once they all were.
 pub record NothingDone (s : Start) (shelf : View) (sink : SinkView) : Type 0 where
   pub files : shelf.files ≡ s.shelf.files
   pub unprinted : sink ≡ s.sink

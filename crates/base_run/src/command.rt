@@ -1,7 +1,8 @@
 //! A command, run to its end.
 
 ghost use Rattle.std.specs.Prelude.{◌≡◌, List, ℕ, IfOk};
-ghost use Rattle.base_run.specs.Ends.{Delivers, LineMade, LinePrinted, MemoryPrinted, Ran, ReportsRefusal, reporting_of};
+ghost use Rattle.base_run.specs.Ends.{Delivers, LineMade, LinePrinted, MemoryPrinted, Ran, ReportsRefusal};
+ghost use Rattle.base_run.specs.Ends.{reporting_of};
 ghost use Rattle.base_lists.specs.Text.{line};
 ghost use Rattle.base_run.specs.Lines.{read_line, usage_line};
 ghost use Rattle.base_run.specs.Phases.{Answer, Phases};

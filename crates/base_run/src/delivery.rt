@@ -2,7 +2,8 @@
 
 ghost use Rattle.std.specs.Prelude.{◌≡◌, map, OnErr};
 ghost use Rattle.std.specs.List.{All};
-ghost use Rattle.base_run.specs.Outputs.{AreApart, Delivery, FilePut, FileWritten, FilesDelivered, FilesPut, FilesWritten};
+ghost use Rattle.base_run.specs.Outputs.{AreApart, Delivery, FilePut, FileWritten, FilesDelivered, FilesPut};
+ghost use Rattle.base_run.specs.Outputs.{FilesWritten};
 ghost use Rattle.base_run.specs.Outputs.{IsWhole, Printed, file_of};
 ghost use Rattle.base_shelf.specs.Shelf.{Nothing};
 

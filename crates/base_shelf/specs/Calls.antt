@@ -1,5 +1,6 @@
 -- What it means to read a whole file, to write a whole file and to print a whole text.
-use Rattle.std.specs.Prelude.{◌≡◌, ◌⊎◌, ℕ, ◌<◌, ◌≤◌, List, ◌++◌, length, Some, Result, IsErrOf, OnOk, OnErr, IfOk, IsTrue, IsSome, Bool, Vec}
+use Rattle.std.specs.Prelude.{◌≡◌, ◌⊎◌, ℕ, ◌<◌, ◌≤◌, List, ◌++◌, length, Some, Result, IsErrOf, OnOk, OnErr, IfOk}
+use Rattle.std.specs.Prelude.{IsTrue, IsSome, Bool, Vec}
 use Rattle.std.specs.declared.alloc.Global.{Global}
 use Rattle.base_shelf.specs.Shelf.{View, Files, Nothing, Later, SameCounts, Rose, OthersKept, Prefix, held}
 use Rattle.base_shelf.specs.Sink.{SinkView}
@@ -10,7 +11,8 @@ use Rattle.base_shelf.specs.declared.fault.WriteErr.TheVariants.{Fault as WriteF
 
 -- A whole file read, which was there: its text, or a fault with a risen count of that very name. Where any count of
 -- faults rose in the call, the answer is Fault; so TooLong comes before any fault.
-pub record ReadAll (told : Bool) (name : List ℕ) (limit : ℕ) (old new : View) (result : Result (Vec ℕ Global) ReadErr) : Type 0 where
+pub record ReadAll (told : Bool) (name : List ℕ) (limit : ℕ) (old new : View)
+    (result : Result (Vec ℕ Global) ReadErr) : Type 0 where
   pub later : Later old new
   pub files : new.files ≡ old.files
   pub written : new.written ≡ old.written
@@ -27,8 +29,8 @@ abbrev pub HoldsPart : List ℕ → List ℕ → Files → Files → Type 0
 HoldsPart name bytes old new = (new name ≡ old name) ⊎ ((part : List ℕ) × (new name ≡ Some part) × Prefix part bytes)
 
 -- A whole file written, and not put under its name yet: whatever the answer, every name holds what it held. Of a file
--- that was created a prefix of the bytes is written; of one that wasn't, what was, or nothing. Where any count rose in the
--- call, the answer is Fault.
+-- that was created a prefix of the bytes is written; of one that wasn't, what was, or nothing. Where any count rose in
+-- the call, the answer is Fault.
 pub record WriteAll (told : Bool) (name bytes : List ℕ) (old new : View) (result : Result Unit WriteErr) : Type 0 where
   pub later : Later old new
   pub files : new.files ≡ old.files

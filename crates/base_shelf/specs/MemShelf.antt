@@ -1,5 +1,6 @@
 -- What is seen of a shelf in memory, and what each of its calls does to that.
-use Rattle.std.specs.Prelude.{◌≡◌, ◌⊎◌, ◌↔◌, ℕ, List, [], ◌++◌, length, take, drop, min, None, Result, IsErrOf, IfOk, OnErr, Bool, true, false, if◌then◌else◌, IsTrue}
+use Rattle.std.specs.Prelude.{◌≡◌, ◌⊎◌, ◌↔◌, ℕ, List, [], ◌++◌, length, take, drop, min, None, Result, IsErrOf, IfOk}
+use Rattle.std.specs.Prelude.{OnErr, Bool, true, false, if◌then◌else◌, IsTrue}
 use Rattle.base_shelf.specs.Shelf.{View, Hand, Nothing, Opened, Created}
 use Rattle.base_shelf.specs.NamedFiles.{File, files_of, SetsFile}
 use Rattle.base_shelf.specs.Plan.{PlanView, no_calls, FailsNext, called, counted, has_failed}
@@ -129,7 +130,8 @@ pub record MemClose (old new : MemShelfView) (result : Result Unit IoErr) : Type
   pub fails : IsErrOf result Failed ↔ (HasFile old.hand × FailsNext old.plan)
   pub memory : IsErrOf result Memory → ⊥
   pub files : new.files ≡ old.files
-  pub counts : Counts old new (if is_opened old.hand then has_failed result else false) (if is_created old.hand then has_failed result else false)
+  pub counts : Counts old new (if is_opened old.hand then has_failed result else false)
+      (if is_created old.hand then has_failed result else false)
 
 -- `put_file` fails exactly where it is set to; an error leaves all files.
 pub record MemPut (old new : MemShelfView) (result : Result Unit IoErr) : Type 0 where

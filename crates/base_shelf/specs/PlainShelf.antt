@@ -7,7 +7,8 @@ use Rattle.base_shelf.specs.declared.in_hand.InHand.{InHand}
 use Rattle.base_shelf.specs.declared.fault.IoErr.{IoErr}
 use Rattle.base_shelf.specs.declared.fault.IoErr.TheVariants.{Failed}
 
--- A shelf in memory without faults: its files, what was written of each, and the file in hand with what isn't read of it.
+-- A shelf in memory without faults: its files, what was written of each, and the file in hand with what isn't read of
+-- it.
 pub record PlainShelfView : Type 0 where
   pub files : List File
   pub written : List File

@@ -1,5 +1,6 @@
 -- The calls made on a file store or a sink in memory, and those that are set to fail.
-use Rattle.std.specs.Prelude.{ℕ, ◌+◌, ◌-◌, ◌^◌, min, List, [], ◌∷◌, ◌++◌, Contains, Bool, if◌then◌else◌, Result, Ok, Err, true, false}
+use Rattle.std.specs.Prelude.{ℕ, ◌+◌, ◌-◌, ◌^◌, min, List, [], ◌∷◌, ◌++◌, Contains, Bool, if◌then◌else◌, Result, Ok}
+use Rattle.std.specs.Prelude.{Err, true, false}
 use Rattle.base_shelf.specs.declared.fault.IoErr.{IoErr}
 use Rattle.base_shelf.specs.declared.fault.IoErr.TheVariants.{Failed, Memory}
 

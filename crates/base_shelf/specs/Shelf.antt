@@ -1,5 +1,6 @@
 -- What is seen of a shelf of named files, and what each of its calls does to that.
-use Rattle.std.specs.Prelude.{◌≡◌, ◌⊎◌, ℕ, ◌+◌, ◌^◌, ◌-◌, ◌<◌, ◌≤◌, min, List, [], ◌++◌, length, take, Option, Some, None, Result, Ok, Err, IsErrOf, OnErr, OnOk, IfOk, IsTrue, IsSome, Bool}
+use Rattle.std.specs.Prelude.{◌≡◌, ◌⊎◌, ℕ, ◌+◌, ◌^◌, ◌-◌, ◌<◌, ◌≤◌, min, List, [], ◌++◌, length, take, Option, Some}
+use Rattle.std.specs.Prelude.{None, Result, Ok, Err, IsErrOf, OnErr, OnOk, IfOk, IsTrue, IsSome, Bool}
 use Rattle.base_shelf.specs.declared.fault.IoErr.{IoErr}
 use Rattle.base_shelf.specs.declared.fault.IoErr.TheVariants.{Failed, Memory}
 
@@ -92,11 +93,14 @@ pub record ReadStep (told : Bool) (old new : View) (buffer : List ℕ) (result :
   pub written : new.written ≡ old.written
   pub hand : new.hand ≡ old.hand
   pub bound : IfOk result (λ n. n ≤ length buffer)
-  pub bytes : (name : List ℕ) → old.hand ≡ Opened name → IfOk result (λ n. IsTrue told → old.unread ≡ take n buffer ++ new.unread)
-  pub end : (name : List ℕ) → old.hand ≡ Opened name → IfOk result (λ n. n ≡ 0 → 0 < length buffer → IsTrue told → old.unread ≡ [])
+  pub bytes : (name : List ℕ) → old.hand ≡ Opened name
+      → IfOk result (λ n. IsTrue told → old.unread ≡ take n buffer ++ new.unread)
+  pub end : (name : List ℕ) → old.hand ≡ Opened name
+      → IfOk result (λ n. n ≡ 0 → 0 < length buffer → IsTrue told → old.unread ≡ [])
   pub idle : ((name : List ℕ) → old.hand ≡ Opened name → ⊥) → IfOk result (λ n. n ≡ 0)
   pub err : OnErr result (IsTrue told → new.unread ≡ old.unread)
-  pub fault : IsErrOf result Failed → (name : List ℕ) × (old.hand ≡ Opened name) × Rose (old.reads name) (new.reads name)
+  pub fault : IsErrOf result Failed → (name : List ℕ) × (old.hand ≡ Opened name)
+      × Rose (old.reads name) (new.reads name)
 
 -- `create_file`: nothing is written of the name, whose file is in hand; or none is in hand, and what was written of the
 -- name may be gone. What stands under the names stays.
@@ -113,7 +117,8 @@ pub record CreateStep (told : Bool) (name : List ℕ) (old new : View) (result :
 
 -- `write`: the file in hand gains the first of the bytes, at least one where there are any. What stands under the names
 -- stays.
-pub record WriteStep (told : Bool) (name : List ℕ) (old new : View) (bytes : List ℕ) (result : Result ℕ IoErr) : Type 0 where
+pub record WriteStep (told : Bool) (name : List ℕ) (old new : View) (bytes : List ℕ)
+    (result : Result ℕ IoErr) : Type 0 where
   pub later : Later old new
   pub counts : KeepsCounts old new result
   pub hand : new.hand ≡ old.hand
@@ -136,7 +141,9 @@ pub record CloseStep (old new : View) (result : Result Unit IoErr) : Type 0 wher
   pub files : new.files ≡ old.files
   pub written : new.written ≡ old.written
   pub hand : new.hand ≡ Nothing
-  pub fault : IsErrOf result Failed → ((name : List ℕ) × (old.hand ≡ Opened name) × Rose (old.reads name) (new.reads name)) ⊎ ((name : List ℕ) × (old.hand ≡ Created name) × Rose (old.writes name) (new.writes name))
+  pub fault : IsErrOf result Failed → ((name : List ℕ) × (old.hand ≡ Opened name)
+      × Rose (old.reads name) (new.reads name))
+      ⊎ ((name : List ℕ) × (old.hand ≡ Created name) × Rose (old.writes name) (new.writes name))
 
 -- `put_file`: what was written of the name stands under it. After an error it does too, or what stood there stays.
 pub record PutStep (told : Bool) (name : List ℕ) (old new : View) (result : Result Unit IoErr) : Type 0 where

@@ -1,5 +1,6 @@
 -- What is seen of a sink, and what a write does to that.
-use Rattle.std.specs.Prelude.{◌≡◌, ℕ, ◌<◌, ◌≤◌, List, ◌++◌, length, take, Result, Ok, Err, IsErrOf, OnErr, IfOk, IsTrue, Bool}
+use Rattle.std.specs.Prelude.{◌≡◌, ℕ, ◌<◌, ◌≤◌, List, ◌++◌, length, take, Result, Ok, Err, IsErrOf, OnErr, IfOk, IsTrue}
+use Rattle.std.specs.Prelude.{Bool}
 use Rattle.base_shelf.specs.Shelf.{Rose, KeptUnless}
 use Rattle.base_shelf.specs.declared.fault.IoErr.{IoErr}
 use Rattle.base_shelf.specs.declared.fault.IoErr.TheVariants.{Failed}

@@ -1,6 +1,6 @@
 //! Named files and a sink as values: what a program reads, writes and prints, with a count of the faults on the way.
-//! Start at `Shelf`, `Sink` and `read_all`; `MemShelf` and `MemSink` keep all in memory, and `PlainShelf` and `PlainSink` do
-//! so without a fault.
+//! Start at `Shelf`, `Sink` and `read_all`; `MemShelf` and `MemSink` keep all in memory, and `PlainShelf` and
+//! `PlainSink` do so without a fault.
 #![tactic(auto)]
 
 mod fault;

@@ -1,10 +1,12 @@
 //! A shelf in memory, whose calls can be set to fail.
 
 ghost use Rattle.std.specs.Prelude.{◌≡◌, ◌≤◌, ℕ, List, true, OnOk, OnErr, option_copied};
-ghost use Rattle.base_shelf.specs.Shelf.{Created as CreatedFile, OpenStep, ReadStep, CreateStep, Writes, CloseStep, PutStep, DiscardStep};
+ghost use Rattle.base_shelf.specs.Shelf.{Created as CreatedFile, OpenStep, ReadStep, CreateStep, Writes, CloseStep};
+ghost use Rattle.base_shelf.specs.Shelf.{PutStep, DiscardStep};
 ghost use Rattle.base_shelf.specs.NamedFiles.{files_of};
 ghost use Rattle.base_shelf.specs.Plan.{with_fault};
-ghost use Rattle.base_shelf.specs.MemShelf.{empty_shelf, with_plan, shelf_of, PutsFile, MemOpen, MemRead, MemCreate, MemWrite, MemClose, MemPut};
+ghost use Rattle.base_shelf.specs.MemShelf.{empty_shelf, with_plan, shelf_of, PutsFile, MemOpen, MemRead, MemCreate};
+ghost use Rattle.base_shelf.specs.MemShelf.{MemWrite, MemClose, MemPut};
 
 use crate::fault::IoErr;
 use crate::fault_count::FaultCount;

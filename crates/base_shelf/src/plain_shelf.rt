@@ -1,7 +1,8 @@
 //! A shelf in memory without faults.
 
 ghost use Rattle.std.specs.Prelude.{◌≡◌, ℕ, List, length, true, OnOk, OnErr, IfOk, option_copied};
-ghost use Rattle.base_shelf.specs.Shelf.{Created as CreatedFile, OpenStep, ReadStep, CreateStep, Writes, CloseStep, PutStep, DiscardStep};
+ghost use Rattle.base_shelf.specs.Shelf.{Created as CreatedFile, OpenStep, ReadStep, CreateStep, Writes, CloseStep};
+ghost use Rattle.base_shelf.specs.Shelf.{PutStep, DiscardStep};
 ghost use Rattle.base_shelf.specs.NamedFiles.{files_of};
 ghost use Rattle.base_shelf.specs.PlainShelf.{empty_plain_shelf, plain_shelf_of, NeverFails, PlainRead, PutsPlainFile};
 

@@ -1,7 +1,8 @@
 //! A shelf of named files, and whole files read from it and written to it.
 
 ghost use Rattle.std.specs.Prelude.{◌≡◌, List, ℕ, Bool};
-ghost use Rattle.base_shelf.specs.Shelf.{View, Created, OpenStep, ReadStep, CreateStep, Writes, CloseStep, PutStep, DiscardStep};
+ghost use Rattle.base_shelf.specs.Shelf.{View, Created, OpenStep, ReadStep, CreateStep, Writes, CloseStep, PutStep};
+ghost use Rattle.base_shelf.specs.Shelf.{DiscardStep};
 ghost use Rattle.base_shelf.specs.Calls.{ReadAll, WriteAll};
 
 use crate::fault::{IoErr, ReadErr, WriteErr};

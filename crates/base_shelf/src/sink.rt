@@ -18,8 +18,8 @@ pub trait Sink {
     fn write(&mut self, bytes: &[u8]) -> Result<usize, IoErr>
         ensures { SinkStep told (view self.old) (view self.new) bytes.now result };
 
-    /// Is told how far a long run has come: so many steps of all. A sink may show it to a person; what is seen of the sink
-    /// stays as it was.
+    /// Is told how far a long run has come: so many steps of all. A sink may show it to a person; what is seen of the
+    /// sink stays as it was.
     fn progress(&mut self, done: usize, all: usize)
         ensures { view self.new ≡ view self.old };
 }

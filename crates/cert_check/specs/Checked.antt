@@ -17,7 +17,8 @@ use Rattle.law_waveforms.specs.Alike.{IsOneFor, IsOneForHistories}
 use Rattle.cert_writer.specs.Wrong.{IsFirstWrong}
 use Rattle.cert_check.specs.Entries.{AreConditionsFor, AreTurned, AreTurnedIn, entries_of, lines_in}
 use Rattle.cert_check.specs.Walk.{IsFirstCertFault}
-use Rattle.cert_check.specs.declared.refusal.CertFault.TheVariants.{BadEnum, BadLog, BadPair, BadTurn, Header, Missing, Stray, Syntax}
+use Rattle.cert_check.specs.declared.refusal.CertFault.TheVariants.{BadEnum, BadLog, BadPair, BadTurn, Header, Missing}
+use Rattle.cert_check.specs.declared.refusal.CertFault.TheVariants.{Stray, Syntax}
 use Rattle.cert_check.specs.declared.refusal.CertErr.{CertErr}
 use Rattle.cert_check.specs.declared.refusal.CertErr.TheVariants.{Refused as Unread, Memory}
 use Rattle.cert_check.specs.declared.refusal.CertFault.{CertFault}

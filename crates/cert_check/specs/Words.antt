@@ -3,7 +3,8 @@ use Rattle.std.specs.Prelude.{ℕ, List, ◌++◌, codes, decimal}
 use Rattle.wave_proved.specs.declared.advance.AdvanceErr.{AdvanceErr}
 use Rattle.wave_proved.specs.declared.advance.AdvanceErr.TheVariants as stopped
 use Rattle.cert_check.specs.declared.refusal.CertFault.{CertFault}
-use Rattle.cert_check.specs.declared.refusal.CertFault.TheVariants.{Syntax, Header, Missing, Stray, BadLog, BadPair, BadEnum, BadTurn}
+use Rattle.cert_check.specs.declared.refusal.CertFault.TheVariants.{Syntax, Header, Missing, Stray, BadLog, BadPair}
+use Rattle.cert_check.specs.declared.refusal.CertFault.TheVariants.{BadEnum, BadTurn}
 use Rattle.cert_check.specs.declared.refusal.CheckErr.{CheckErr}
 use Rattle.cert_check.specs.declared.refusal.CheckErr.TheVariants.{Memory, Optimistic}
 

@@ -4,7 +4,8 @@ ghost use Rattle.std.specs.Prelude.{◌≡◌, ◌<◌, [], IfErr, IfOk, Some as
 ghost use Rattle.cert_turns.specs.OfCone.{AreRightOf};
 ghost use Rattle.cert_turns.specs.Conditions.{IsCertainLine};
 ghost use Rattle.cert_writer.specs.declared.cert.Form.{Form as AForm};
-ghost use Rattle.cert_check.specs.Standing.{ComesAmid, ComesBehind, EndsAmid, EndsBehind, IsWaiting, StaysRight, StopsAt, Takes};
+ghost use Rattle.cert_check.specs.Standing.{ComesAmid, ComesBehind, EndsAmid, EndsBehind, IsWaiting, StaysRight};
+ghost use Rattle.cert_check.specs.Standing.{StopsAt, Takes};
 
 use crate::lines::walk_on;
 use crate::refusal::{CertFault, CheckErr};

@@ -8,7 +8,8 @@ ghost use Rattle.wave_proved.specs.Contents.{Contents, job, next_number, next_se
 ghost use Rattle.wave_proved.specs.Token.{HasNext};
 ghost use Rattle.cert_check.specs.declared.refusal.CertFault.TheVariants.{Missing};
 ghost use Rattle.cert_check.specs.declared.refusal.CheckErr.TheVariants.{Refused};
-ghost use Rattle.cert_check.specs.Standing.{EndsShort, EndsWell, Finishes, IsDone, IsWaiting, Lacks, Stands, StopsAt, Takes};
+ghost use Rattle.cert_check.specs.Standing.{EndsShort, EndsWell, Finishes, IsDone, IsWaiting, Lacks, Stands, StopsAt};
+ghost use Rattle.cert_check.specs.Standing.{Takes};
 ghost use Rattle.cert_check.specs.Walk.{IsFirstCertFault};
 
 use crate::check::Checked;

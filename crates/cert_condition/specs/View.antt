@@ -1,5 +1,6 @@
 -- What is seen of a condition under way, and when it is that of a place of a wave.
-use Rattle.std.specs.Prelude.{◌≡◌, ℕ, ◌+◌, ◌<◌, Bool, false, List, [], ◌∷◌, ◌++◌, if◌then◌else◌, length, map, nat_lt, slice_index_or, ℤ}
+use Rattle.std.specs.Prelude.{◌≡◌, ℕ, ◌+◌, ◌<◌, Bool, false, List, [], ◌∷◌, ◌++◌, if◌then◌else◌, length, map, nat_lt}
+use Rattle.std.specs.Prelude.{slice_index_or, ℤ}
 use Rattle.design_circuit.specs.declared.place.Place.{Place}
 use Rattle.design_circuit.specs.Fits.{place_at}
 use Rattle.design_circuit.specs.Waveform.{certain}
@@ -10,7 +11,8 @@ use Rattle.decide_cone.specs.Known.{IsGrown}
 use Rattle.wave_proved.specs.Contents.{Contents, IsWave, job}
 use Rattle.cert_condition.specs.Condition.{IsCondition}
 use Rattle.cert_condition.specs.Laws.{HasCertainBit}
-use Rattle.cert_condition.specs.TurnQuery.{AreWholeClauses, IsTurnQuery, turn_denial, turn_variables, unit_clause, unit_clauses}
+use Rattle.cert_condition.specs.TurnQuery.{AreWholeClauses, IsTurnQuery, turn_denial, turn_variables, unit_clause}
+use Rattle.cert_condition.specs.TurnQuery.{unit_clauses}
 use Rattle.cert_condition.specs.Turns.{AreTurnsOf, IsTurn, due_by, kept_by, listed_by, next_listed}
 use Rattle.cert_condition.specs.declared.next.NextQuery.{NextQuery}
 use Rattle.law_model.specs.declared.turn.Turn.{Turn}

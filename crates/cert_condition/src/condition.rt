@@ -4,7 +4,8 @@ ghost use Rattle.std.specs.Prelude.{◌≡◌, ◌<◌, ◌≤◌, ◌+◌, ◌+
 ghost use Rattle.std.specs.Vec.{vec_capacity, vec_len};
 ghost use Rattle.sat_proof.specs.Assignment.{IsModel};
 ghost use Rattle.sat_proof.specs.Log.{AreFresh, Fit, Refutes};
-ghost use Rattle.cert_condition.specs.View.{FindsNext, IsBegun, IsKeeping, IsNextPlace, IsNextQuery, IsNextTurn, IsTurned, due_count, first_count};
+ghost use Rattle.cert_condition.specs.View.{FindsNext, IsBegun, IsKeeping, IsNextPlace, IsNextQuery, IsNextTurn};
+ghost use Rattle.cert_condition.specs.View.{IsTurned, due_count, first_count};
 ghost use Rattle.law_model.specs.declared.turn.Turn.TheVariants as turn;
 
 use crate::change::{next_exchanged, next_taken};

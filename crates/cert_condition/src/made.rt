@@ -29,8 +29,8 @@ pub fn condition_of(
     finish(alloc, condition, limit)
 }
 
-/// Makes all turns that are due, each by a guess, or by a search of at most as many clauses as the limit of a fresh log. What
-/// guesses find of a variable is kept for the next turn.
+/// Makes all turns that are due, each by a guess, or by a search of at most as many clauses as the limit of a fresh
+/// log. What guesses find of a variable is kept for the next turn.
 pub fn finish(alloc: Global, condition: Condition, limit: u32) -> Result<Condition, Memory>
     requires limit { limit ≡ condition.limit }
     requires some { 0 < limit }

@@ -1,5 +1,6 @@
 -- What a line stands for, word by word, and what a text stands for, line by line.
-use Rattle.std.specs.Prelude.{ℕ, ℤ, pos, ◌+◌, ◌++◌, List, [], ◌∷◌, length, map, Bool, true, false, cond, ◌&&◌, ◌||◌, bytes_eq, codes, ◌==◌, nat_lt, Option, Some, None, option_map, Result, Ok, Err}
+use Rattle.std.specs.Prelude.{ℕ, ℤ, pos, ◌+◌, ◌++◌, List, [], ◌∷◌, length, map, Bool, true, false, cond, ◌&&◌, ◌||◌}
+use Rattle.std.specs.Prelude.{bytes_eq, codes, ◌==◌, nat_lt, Option, Some, None, option_map, Result, Ok, Err}
 use Rattle.std.specs.List.{list_all}
 use Rattle.std.specs.Ordering.{int_eq}
 use Rattle.design_circuit.specs.declared.place.Place.{Place}

@@ -1,5 +1,6 @@
 -- Numbers and literals by their words.
-use Rattle.std.specs.Prelude.{ℕ, ℤ, pos, neg_ℤ, ◌==◌, List, [], ◌∷◌, length, Bool, cond, ◌||◌, ◌&&◌, not, Option, Some, None, option_map, slice_index}
+use Rattle.std.specs.Prelude.{ℕ, ℤ, pos, neg_ℤ, ◌==◌, List, [], ◌∷◌, length, Bool, cond, ◌||◌, ◌&&◌, not, Option, Some}
+use Rattle.std.specs.Prelude.{None, option_map, slice_index}
 use Rattle.base_scan.specs.Bytes.{are_digits}
 use Rattle.base_scan.specs.Numbers.{at_most, number_from}
 

@@ -9,7 +9,8 @@ use Rattle.cert_reader.specs.declared.refusal.LineErr.{LineErr}
 use Rattle.cert_reader.specs.declared.refusal.LineErr.TheVariants.{Wrong, Memory}
 use Rattle.cert_reader.specs.declared.refusal.TextErr.{TextErr}
 use Rattle.cert_reader.specs.declared.refusal.TextErr.TheVariants.{Refused, Memory as NoMemory}
-use Rattle.cert_reader.specs.Machine.{State, all, cert_with, is_end, log_end, log_from, places_before, places_to_end, run, within}
+use Rattle.cert_reader.specs.Machine.{State, all, cert_with, is_end, log_end, log_from, places_before, places_to_end}
+use Rattle.cert_reader.specs.Machine.{run, within}
 
 -- A reader refuses where nothing is read.
 abbrev pub Fails : {A : Type 0} → LineErr → Option A → Type 0

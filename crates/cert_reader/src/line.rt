@@ -1,7 +1,8 @@
 //! A line of a certificate, by its words.
 
 ghost use Rattle.std.specs.Prelude.{◌≡◌, ◌≢◌, [], IfErr, OnOk};
-ghost use Rattle.cert_reader.specs.Machine.{enumerated_of_words, field_in_front, head_of_words, lettered, pair_of_words, refuted_of_words, undecided_of_words};
+ghost use Rattle.cert_reader.specs.Machine.{enumerated_of_words, field_in_front, head_of_words, lettered};
+ghost use Rattle.cert_reader.specs.Machine.{pair_of_words, refuted_of_words, undecided_of_words};
 ghost use Rattle.cert_reader.specs.Reading.{Gives, Takes};
 
 use crate::logs::log;

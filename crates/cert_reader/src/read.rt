@@ -3,7 +3,8 @@
 ghost use Rattle.std.specs.Prelude.{◌≡◌, ◌<◌, ◌^◌, [], cond, length, IfErr, IfOk, MatchResult, OnOk};
 ghost use Rattle.cert_writer.specs.declared.cert.Cert.{Cert as ACert};
 ghost use Rattle.cert_reader.specs.declared.refusal.TextErr.TheVariants.{Memory as OutOfMemory};
-ghost use Rattle.cert_reader.specs.Machine.{all, cert_with, entry_lettered, form_of_title, has_turns, is_count, item_of, run, start, titled, within};
+ghost use Rattle.cert_reader.specs.Machine.{all, cert_with, entry_lettered, form_of_title, has_turns, is_count};
+ghost use Rattle.cert_reader.specs.Machine.{item_of, run, start, titled, within};
 ghost use Rattle.cert_writer.specs.Pieces.{lines_in, words_in};
 ghost use Rattle.cert_reader.specs.Reading.{Comes, Gives, ReadsLines, goes, next_state};
 ghost use Rattle.cert_reader.specs.Refusal.{IsTextRefusal};

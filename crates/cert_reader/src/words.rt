@@ -2,7 +2,8 @@
 
 ghost use Rattle.std.specs.Prelude.{◌≡◌, ◌<◌, List, [], ◌∷◌, bytes_eq, length, IfOk, IfSome};
 ghost use Rattle.design_circuit.specs.declared.place.Place.{Place as APlace};
-ghost use Rattle.cert_reader.specs.Machine.{bit_in_front, number_in_front, place_in_front, place_of_step, places_before, places_to_end};
+ghost use Rattle.cert_reader.specs.Machine.{bit_in_front, number_in_front, place_in_front, place_of_step};
+ghost use Rattle.cert_reader.specs.Machine.{places_before, places_to_end};
 ghost use Rattle.base_scan.specs.Fronts.{word_in_front};
 ghost use Rattle.cert_reader.specs.Reading.{Gives, IsNextBefore, IsNextToEnd, Skips, Takes};
 

@@ -1,4 +1,5 @@
--- Definitions of turns that are stated and of the conditions of a wave, and those of one condition that their clauses cite.
+-- Definitions of turns that are stated and of the conditions of a wave, and those of one condition that their clauses
+-- cite.
 pub mod TurnLines
 pub mod Conditions
 pub mod Laws

@@ -1,7 +1,7 @@
 //! Turns as texts state them, and the conditions of all certain Line places of a wave.
 //!
-//! Start at specs/TurnLines.antt and specs/Conditions.antt, then at `take_turn` and `conditions_of`. The module `logs` is
-//! for any log that a text states.
+//! Start at specs/TurnLines.antt and specs/Conditions.antt, then at `take_turn` and `conditions_of`. The module `logs`
+//! is for any log that a text states.
 #![tactic(auto)]
 
 mod all;

@@ -29,9 +29,9 @@ pub struct Recorded {
     pub stim: Stim,
 }
 
-/// What a text records of a netlist's design in a scope, for a replay of a given number of rounds and of at most so many
-/// places, by some rules; or why there is none. Where there is one, the netlist becomes the job's: nets without a driver
-/// that the recording holds are inputs where the rules say so.
+/// What a text records of a netlist's design in a scope, for a replay of a given number of rounds and of at most so
+/// many places, by some rules; or why there is none. Where there is one, the netlist becomes the job's: nets without a
+/// driver that the recording holds are inputs where the rules say so.
 pub fn read_recording(
     alloc: Global,
     netlist: &mut Netlist,

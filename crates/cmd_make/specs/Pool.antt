@@ -1,5 +1,6 @@
 -- The pool: the names that the pins of gates and registers are drawn from.
-use Rattle.std.specs.Prelude.{ℕ, zero, suc, ◌-◌, List, [], ◌∷◌, ◌++◌, codes, decimal, length, nat_lt, slice_index_or, if◌then◌else◌}
+use Rattle.std.specs.Prelude.{ℕ, zero, suc, ◌-◌, List, [], ◌∷◌, ◌++◌, codes, decimal, length, nat_lt, slice_index_or}
+use Rattle.std.specs.Prelude.{if◌then◌else◌}
 use Rattle.cmd_make.specs.Draw.{draw}
 
 abbrev pub input_name : ℕ → List ℕ

@@ -11,7 +11,8 @@ use Rattle.cmd_phases.specs.declared.cause.Lack.{Lack}
 use Rattle.cmd_phases.specs.declared.cause.Objection.{Objection}
 use Rattle.cmd_phases.specs.declared.cause.Refused.{Refused}
 use Rattle.cmd_phases.specs.declared.cause.Refused.TheVariants.{LongNetlist, Netlist, LongRecording, Recording, Compare}
-use Rattle.cmd_phases.specs.declared.cause.Refused.TheVariants.{Optimistic, LongCode, Code, LongCertificate, Certificate}
+use Rattle.cmd_phases.specs.declared.cause.Refused.TheVariants.{Optimistic, LongCode, Code, LongCertificate}
+use Rattle.cmd_phases.specs.declared.cause.Refused.TheVariants.{Certificate}
 use Rattle.cmd_phases.specs.declared.cause.Refused.TheVariants.{LongCnf, LongLog, Proof, Start}
 use Rattle.cmd_phases.specs.declared.cause.Uncertified.{Uncertified}
 use Rattle.cmd_phases.specs.declared.cause.Uncertified.TheVariants.{Lacks, Line}

@@ -21,7 +21,8 @@ use Rattle.cmd_phases.specs.Repair.{CompareComes, netlist_limit, recording_limit
 use Rattle.cmd_phases.specs.declared.cause.Objection.{Objection}
 use Rattle.cmd_phases.specs.declared.cause.Refused.{Refused}
 use Rattle.cmd_phases.specs.declared.cause.Refused.TheVariants.{LongNetlist, Netlist, LongRecording, Recording, Compare}
-use Rattle.cmd_phases.specs.declared.cause.Refused.TheVariants.{Certificate, Code, LongCertificate, LongCode, Optimistic}
+use Rattle.cmd_phases.specs.declared.cause.Refused.TheVariants.{Certificate, Code, LongCertificate, LongCode}
+use Rattle.cmd_phases.specs.declared.cause.Refused.TheVariants.{Optimistic}
 use Rattle.cmd_phases.specs.declared.cause.Refused.TheVariants.{Proof, Start}
 use Rattle.cmd_phases.specs.declared.cause.Uncertified.{Uncertified}
 use Rattle.cmd_phases.specs.declared.parts.Agreed.{Agreed}

@@ -4,7 +4,8 @@
 //! A job goes by these files: `job.rt` and `judged.rt` (files to a design and a recording of it, in `parts.rt`),
 //! `agreed.rt` (the comparison, and then a command's own part), `walked.rt` (the walk over all places), `sets.rt`
 //! (starts that are set), `forced.rt` (the forces of a code), `certified.rt` (a certificate, and its check), `forms.rt`
-//! (the forms of a certificate, and the conditions that it goes with), `objection.rt` (a place that is found otherwise),
+//! (the forms of a certificate, and the conditions that it goes with), `objection.rt` (a place that is found
+//! otherwise),
 //! `cause.rt` and `line.rt` (what texts are refused for, and its line). Start at `job_of`.
 #![tactic(auto)]
 

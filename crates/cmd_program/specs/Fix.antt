@@ -19,7 +19,8 @@ use Rattle.law_model.specs.declared.limits.Limits.{Limits}
 use Rattle.cmd_phases.specs.Phases.{agreed_then, start_cause, walk_cause}
 use Rattle.cmd_phases.specs.Repair.{AgreesThroughout, IsObjectionIn, ReplayWalkComes, recording_limit}
 use Rattle.cmd_phases.specs.Sets.{StartsCome, piece_text, sets_of}
-use Rattle.cmd_phases.specs.Texts.{AreRefused, FixFails, IfOptimistic, IsJob, IsOneOfWalks, netlist_held, recording_held}
+use Rattle.cmd_phases.specs.Texts.{AreRefused, FixFails, IfOptimistic, IsJob, IsOneOfWalks, netlist_held}
+use Rattle.cmd_phases.specs.Texts.{recording_held}
 use Rattle.cmd_phases.specs.declared.cause.Objection.{Objection}
 use Rattle.cmd_phases.specs.declared.cause.Refused.{Refused}
 use Rattle.cmd_phases.specs.declared.parts.Parts.{Parts}

@@ -8,8 +8,8 @@ use Rattle.cmd_phases.specs.Repair.{FitsParts}
 use Rattle.cmd_phases.specs.Sets.{sets_of}
 use Rattle.cmd_program.specs.declared.restarted.Restarted.{Restarted}
 
--- The job fits, the history is its replay, the stimulus fits the design and differs from the job's in the starts alone, and
--- so many registers are set as the words have pieces.
+-- The job fits, the history is its replay, the stimulus fits the design and differs from the job's in the starts alone,
+-- and so many registers are set as the words have pieces.
 pub record IsRestarted (set : Restarted) : Type 0 where
   pub fits : FitsParts set.job.now
   pub replay : IsReplay (job_for set.job.now.netlist set.job.now.recorded) set.history.now

@@ -3,7 +3,8 @@
 //!
 //! A run goes by these files: `program.rt` (words to a command), `words.rt` (the set of lines), `names.rt` (lists of
 //! names), `command.rt` (its phases, as in `specs/Phases.antt`), `cause.rt` and `line.rt` (what a text is refused for,
-//! and its line). Stubs are netlist_stub's, what is kept of a text is netlist_trim's, how files are read and written base_run's.
+//! and its line). Stubs are netlist_stub's, what is kept of a text is netlist_trim's, how files are read and written
+//! base_run's.
 #![tactic(auto)]
 
 mod cause;

@@ -1,5 +1,6 @@
 -- Clauses over nodes: those of the minimal choices of their tables.
-use Rattle.std.specs.Prelude.{◌≡◌, ◌≢◌, ℕ, ◌-◌, ◌<◌, ◌⊎◌, Bool, List, [], ◌∷◌, ◌++◌, length, not, slice_index, ℤ, Contains}
+use Rattle.std.specs.Prelude.{◌≡◌, ◌≢◌, ℕ, ◌-◌, ◌<◌, ◌⊎◌, Bool, List, [], ◌∷◌, ◌++◌, length, not, slice_index, ℤ}
+use Rattle.std.specs.Prelude.{Contains}
 use Rattle.std.specs.List.{AllPairs}
 use Rattle.design_cell.specs.declared.value.Value.{Value}
 use Rattle.law_model.specs.Node.{ruled, table_of, upto}

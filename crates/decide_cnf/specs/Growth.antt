@@ -1,5 +1,6 @@
 -- Lists of clauses that grow, and lists in which each clause stands once.
-use Rattle.std.specs.Prelude.{◌≢◌, ℕ, zero, suc, ◌<◌, ◌^◌, ◌⊎◌, Bool, List, [], ◌∷◌, ◌++◌, length, not, ℤ, if◌then◌else◌, Contains}
+use Rattle.std.specs.Prelude.{◌≢◌, ℕ, zero, suc, ◌<◌, ◌^◌, ◌⊎◌, Bool, List, [], ◌∷◌, ◌++◌, length, not, ℤ}
+use Rattle.std.specs.Prelude.{if◌then◌else◌, Contains}
 use Rattle.std.specs.List.{All, AllPairs}
 use Rattle.design_cell.specs.declared.value.Value.{Value}
 use Rattle.law_model.specs.Node.{table_of, upto}

@@ -1,5 +1,6 @@
 -- Nodes as literals: a node that isn't carried is a variable, a carried one the literal that it is carried from.
-use Rattle.std.specs.Prelude.{◌≡◌, ℕ, ◌+◌, ◌<◌, ◌≤◌, Bool, true, false, List, filter, length, not, slice_index_or, take, ℤ, pos, nat_abs, neg_ℤ}
+use Rattle.std.specs.Prelude.{◌≡◌, ℕ, ◌+◌, ◌<◌, ◌≤◌, Bool, true, false, List, filter, length, not, slice_index_or, take}
+use Rattle.std.specs.Prelude.{ℤ, pos, nat_abs, neg_ℤ}
 use Rattle.decide_nodes.specs.declared.node.Node.{Node}
 use Rattle.decide_nodes.specs.declared.node.NodeBody.{NodeBody as Body}
 use Rattle.decide_nodes.specs.declared.node.NodeBody.TheVariants.{Carried, Rule}

@@ -3,7 +3,8 @@
 ghost use Rattle.std.specs.Prelude.{◌≡◌, ◌+◌, ◌<◌, ◌≤◌, ◌^◌, IfOk, length, nat_abs};
 ghost use Rattle.std.specs.List.{All};
 ghost use Rattle.decide_nodes.specs.Nodes.{AreNodes, StandsAt};
-ghost use Rattle.decide_cnf.specs.Literals.{AreLiterals, IsLiteral, is_ruled_node, literal_by, says, variables_of, variables_with};
+ghost use Rattle.decide_cnf.specs.Literals.{AreLiterals, IsLiteral, is_ruled_node, literal_by, says, variables_of};
+ghost use Rattle.decide_cnf.specs.Literals.{variables_with};
 
 use base_lists::Memory;
 use decide_nodes::{Node, NodeBody};

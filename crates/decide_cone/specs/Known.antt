@@ -55,4 +55,5 @@ IsSameKnown old new = (place : ℕ) → known_in new place ≡ known_in old plac
 -- One more place is known, and nothing else that wasn't.
 pub record Keeps (old : TracerView) (place : ℕ) (body : TracedBody) (new : TracerView) : Type 0 where
   pub here : known_of new place ≡ Some body
-  pub others : (k : ℕ) (b : TracedBody) → known_of new k ≡ Some b → ((place ≡ k) × (body ≡ b)) ⊎ (known_of old k ≡ Some b)
+  pub others : (k : ℕ) (b : TracedBody) → known_of new k ≡ Some b → ((place ≡ k) × (body ≡ b))
+      ⊎ (known_of old k ≡ Some b)

@@ -32,8 +32,8 @@ impl Cones {
         })
     }
 
-    /// The cone of the next place, a Line place that the lanes have looked at: from their graph, or where that isn't kept,
-    /// traced. Takes the memory of the cone, and of the search in the graph or of a trace.
+    /// The cone of the next place, a Line place that the lanes have looked at: from their graph, or where that isn't
+    /// kept, traced. Takes the memory of the cone, and of the search in the graph or of a trace.
     pub fn cone(&mut self, alloc: Global, wave: &Wave<'_>) -> Result<Cone, Memory>
         requires class { IsLineNext wave.now }
         requires right { AreRightOf wave.now self.old }

@@ -15,7 +15,8 @@ use decide_nodes::{Cone, Positions};
 use std::alloc::Global;
 use wave_proved::Wave;
 
-/// The numbers of the places of a cone and of its boundary, in place order, where they are at most 2^27. Takes memory as
+/// The numbers of the places of a cone and of its boundary, in place order, where they are at most 2^27. Takes memory
+/// as
 /// `boundary` does.
 pub fn near_places(alloc: Global, wave: &Wave<'_>, cone: &Cone) -> Result<Vec<usize>, Memory>
     requires { IsSomeCone wave.now cone.now.nodes }

@@ -1,6 +1,7 @@
 //! The boundary of a cone: the places that the rules of its places read and that aren't in it, certain or not.
 
-ghost use Rattle.std.specs.Prelude.{◌≡◌, ℕ, ◌<◌, ◌≤◌, [], ◌∷◌, length, map, reverse, slice_index, filter, IfOk, OnOk, if◌then◌else◌};
+ghost use Rattle.std.specs.Prelude.{◌≡◌, ℕ, ◌<◌, ◌≤◌, [], ◌∷◌, length, map, reverse, slice_index, filter, IfOk, OnOk};
+ghost use Rattle.std.specs.Prelude.{if◌then◌else◌};
 ghost use Rattle.std.specs.List.{AllByRecursion};
 ghost use Rattle.std.specs.List.Sorted.{IsStrictlyIncreasing};
 ghost use Rattle.design_circuit.specs.Circuit.{job_in};
@@ -9,7 +10,8 @@ ghost use Rattle.design_circuit.specs.Fits.{place_at};
 ghost use Rattle.design_circuit.specs.Job.{places_of};
 ghost use Rattle.law_model.specs.Places.{among};
 ghost use Rattle.decide_graph.specs.Reached.{AddsAll, AreTaken};
-ghost use Rattle.decide_cone.specs.Boundary.{IsBoundary, IsCertainBoundary, IsFallingBoundary, IsPlaceIn, IsSomeCone, is_certain_in, is_outside, number_in, read_in};
+ghost use Rattle.decide_cone.specs.Boundary.{IsBoundary, IsCertainBoundary, IsFallingBoundary, IsPlaceIn, IsSomeCone};
+ghost use Rattle.decide_cone.specs.Boundary.{is_certain_in, is_outside, number_in, read_in};
 ghost use Rattle.decide_graph.specs.InWave.{IsInReach};
 
 use base_lists::Memory;

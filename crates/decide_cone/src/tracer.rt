@@ -1,6 +1,7 @@
 //! What the places of cones rest on, kept between traces of a wave that grows.
 
-ghost use Rattle.std.specs.Prelude.{◌≡◌, ◌<◌, ◌^◌, true, length, slice_index_or, option_copied, IfOk, IfSome, IsSome, OnOk};
+ghost use Rattle.std.specs.Prelude.{◌≡◌, ◌<◌, ◌^◌, true, length, slice_index_or, option_copied, IfOk, IfSome, IsSome};
+ghost use Rattle.std.specs.Prelude.{OnOk};
 ghost use Rattle.std.specs.List.{AllByRecursion};
 ghost use Rattle.std.specs.List.Sorted.{IsStrictlyIncreasing};
 ghost use Rattle.law_model.specs.Places.{among};
@@ -25,9 +26,9 @@ use wave_proved::Wave;
 /// How many slots there are at most.
 const SLOTS: usize = 262_144;
 
-/// What places rest on, as earlier traces found it: it stays so while the wave grows (`tracers_stay_right`). Each place has a slot by its
-/// number, in which the one that came last is kept. Contracts see the slots. Takes some 200 bytes for each of at most
-/// 262,144 slots, and the tables of more than 16 values.
+/// What places rest on, as earlier traces found it: it stays so while the wave grows (`tracers_stay_right`). Each place
+/// has a slot by its number, in which the one that came last is kept. Contracts see the slots. Takes some 200 bytes for
+/// each of at most 262,144 slots, and the tables of more than 16 values.
 #[derive(Drop)]
 pub struct Tracer {
     slots: Vec<Option<Traced>>,

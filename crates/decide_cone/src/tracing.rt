@@ -38,8 +38,8 @@ pub fn trace_at(alloc: Global, wave: &Wave<'_>, place: Place) -> Result<Cone, Me
 }
 
 impl Tracer {
-    /// The cone of the next place, a Line place, of a wave of which all that is known is right. What is found on the way
-    /// is kept.
+    /// The cone of the next place, a Line place, of a wave of which all that is known is right. What is found on the
+    /// way is kept.
     pub fn trace(&mut self, alloc: Global, wave: &Wave<'_>) -> Result<Cone, Memory>
         requires right { IsRightOf wave.now self.old }
         requires line { IsLineNext wave.now }

@@ -16,8 +16,8 @@ pub record AreOrdered (nodes : List Node) : Type 0 where
   pub few : length nodes ≤ 2 ^ 27
   pub each : (node : ℕ) → node < length nodes → StandsAt node (node_at nodes node).body
 
--- Nodes are those of places of a wave, by their numbers, which ascend: of places that aren't carried, and that are written
--- or are the next one. Each reads the nodes at the roots of what its place rests on.
+-- Nodes are those of places of a wave, by their numbers, which ascend: of places that aren't carried, and that are
+-- written or are the next one. Each reads the nodes at the roots of what its place rests on.
 pub record IsGraphOf (c : Contents) (nodes : List Node) (numbers : List ℕ) : Type 0 where
   pub rises : IsStrictlyIncreasing numbers
   pub places : map place_of_node nodes ≡ map (place_at (job c)) numbers

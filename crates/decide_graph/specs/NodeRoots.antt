@@ -1,5 +1,6 @@
 -- Nodes that come in, and what they read.
-use Rattle.std.specs.Prelude.{◌≡◌, ℕ, ◌+◌, ◌*◌, ◌/◌, ◌%◌, ◌<◌, ◌≤◌, ◌^◌, ◌==◌, cond, Bool, false, List, [], ◌∷◌, ◌++◌, length, map, slice_index, slice_index_or}
+use Rattle.std.specs.Prelude.{◌≡◌, ℕ, ◌+◌, ◌*◌, ◌/◌, ◌%◌, ◌<◌, ◌≤◌, ◌^◌, ◌==◌, cond, Bool, false, List, [], ◌∷◌, ◌++◌}
+use Rattle.std.specs.Prelude.{length, map, slice_index, slice_index_or}
 use Rattle.std.specs.List.{AllByRecursion}
 use Rattle.design_cell.specs.declared.value.Value.{Value}
 use Rattle.design_cell.specs.declared.value.Value.TheVariants.{X}
@@ -50,8 +51,8 @@ pub record AddsNode (old : List Node) (place : Place) (roots : List NodeRoot) (v
   pub is_turned : IsTurnedTable roots values turned
   pub nodes : new ≡ old ++ record { place = place; body = Rule (map node_in roots) turned } ∷ []
 
--- A place after those of the nodes, which isn't carried: some roots are those of its essential arguments, in their order,
--- and a table is over these arguments.
+-- A place after those of the nodes, which isn't carried: some roots are those of its essential arguments, in their
+-- order, and a table is over these arguments.
 pub record IsRooted (c : Contents) (numbers : List ℕ) (place : ℕ) (roots : List NodeRoot)
     (values : List Value) : Type 0 where
   pub reach : InReach (job c) c.written place

@@ -52,8 +52,8 @@ impl Graph {
         self.nodes.len()
     }
 
-    /// The node of a place comes in that isn't carried, from the roots of its essential arguments and its table over these
-    /// arguments. Takes 24 bytes, 4 a root and 1 a value.
+    /// The node of a place comes in that isn't carried, from the roots of its essential arguments and its table over
+    /// these arguments. Takes 24 bytes, 4 a root and 1 a value.
     pub fn add(
         &mut self,
         alloc: Global,
@@ -82,9 +82,9 @@ impl Graph {
         self.nodes.node(number)
     }
 
-    /// The cone of the place of a node: the nodes that are reached from it, by a heap of them in O(m log m) for m nodes.
-    /// Works in a room that is lent, of 4 bytes for each node of the graph; takes 120 bytes for each node of the cone, and
-    /// for a table past 16 values a byte a value.
+    /// The cone of the place of a node: the nodes that are reached from it, by a heap of them in O(m log m) for m
+    /// nodes. Works in a room that is lent, of 4 bytes for each node of the graph; takes 120 bytes for each node of the
+    /// cone, and for a table past 16 values a byte a value.
     pub fn cone(&self, alloc: Global, node: usize, room: &mut Vec<u32>) -> Result<Cone, Memory>
         requires { node < length self.now }
         ensures { IfOk result (λ cone. IsConeOfNode self.now node cone.nodes) }

@@ -31,8 +31,8 @@ pub struct KeptNode<'a> {
     pub values: &'a [Value],
 }
 
-/// Nodes by number, none of a carried place. Contracts see them in order. Takes 24 bytes a node, 4 for each node that it
-/// reads, and 1 a value.
+/// Nodes by number, none of a carried place. Contracts see them in order. Takes 24 bytes a node, 4 for each node that
+/// it reads, and 1 a value.
 #[derive(Debug, Drop)]
 pub struct KeptNodes {
     entries: Vec<Entry>,

@@ -28,8 +28,8 @@ pub fn nodes_of(roots: &[NodeRoot]) -> Positions
     nodes
 }
 
-/// A table over places by the bits of their roots' nodes: at each number the value where the inverted ones have the other
-/// bit.
+/// A table over places by the bits of their roots' nodes: at each number the value where the inverted ones have the
+/// other bit.
 pub fn turned_values(
     alloc: Global,
     roots: &[NodeRoot],

@@ -1,5 +1,6 @@
 -- What is said of nodes of a graph, by their positions in a cone: the list has the position of each node at its number.
-use Rattle.std.specs.Prelude.{◌≡◌, ℕ, ◌+◌, ◌<◌, ◌==◌, ◌&&◌, Bool, List, [], ◌∷◌, ◌++◌, Vec, length, map, nat_lt, slice_index, ℤ, pos, neg_ℤ, if◌then◌else◌}
+use Rattle.std.specs.Prelude.{◌≡◌, ℕ, ◌+◌, ◌<◌, ◌==◌, ◌&&◌, Bool, List, [], ◌∷◌, ◌++◌, Vec, length, map, nat_lt}
+use Rattle.std.specs.Prelude.{slice_index, ℤ, pos, neg_ℤ, if◌then◌else◌}
 use Rattle.std.specs.declared.alloc.Global.{Global}
 use Rattle.std.specs.List.{list_all, list_any}
 use Rattle.law_model.specs.Places.{places_where}

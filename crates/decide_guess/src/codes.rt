@@ -47,7 +47,8 @@ pub(crate) fn has_x(values: &[Value]) -> bool
         .any(|value| matches!(*value, Value::X | Value::Z))
 }
 
-/// The minimal choices of a table, and the bits that they force. Takes 6 bytes for each, and what these take to be found.
+/// The minimal choices of a table, and the bits that they force. Takes 6 bytes for each, and what these take to be
+/// found.
 pub(crate) fn implications_of(alloc: Global, values: &[Value]) -> Result<Vec<Implication>, Memory>
     requires { HasTable values.now }
     ensures { IfOk result (λ implications. AreImplications values.now implications.items) }

@@ -20,9 +20,9 @@ use std::collections::HashMap;
 /// So many tables are kept, at most: then all are forgotten.
 const MOST_TABLES: usize = 65_536;
 
-/// A search on graphs, with the tables that it met, by their codes. It is to be used on one graph that grows: it keeps the
-/// bits that nodes had last. Takes 5 bytes for each node of the graph, some 40 for each table and 6 for each of its minimal
-/// choices, and what a search takes.
+/// A search on graphs, with the tables that it met, by their codes. It is to be used on one graph that grows: it keeps
+/// the bits that nodes had last. Takes 5 bytes for each node of the graph, some 40 for each table and 6 for each of its
+/// minimal choices, and what a search takes.
 #[derive(Drop)]
 pub struct Guesser {
     search: Search,
@@ -40,8 +40,8 @@ impl Guesser {
         }
     }
 
-    /// A guess about what gives a node a bit, by a search that ends after a number of conflicts. The guess takes 4 bytes for
-    /// each source and 8 for each literal that it lists.
+    /// A guess about what gives a node a bit, by a search that ends after a number of conflicts. The guess takes 4
+    /// bytes for each source and 8 for each literal that it lists.
     pub fn guess(
         &mut self,
         alloc: Global,

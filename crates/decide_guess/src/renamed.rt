@@ -1,10 +1,12 @@
-//! What is said of nodes of a graph, said of the nodes of a cone, by a list of the positions that the graph's nodes have
-//! there. Nothing is asked of that list: a wrong one makes another filling, or another log.
+//! What is said of nodes of a graph, said of the nodes of a cone, by a list of the positions that the graph's nodes
+//! have there. Nothing is asked of that list: a wrong one makes another filling, or another log.
 
-ghost use Rattle.std.specs.Prelude.{◌≡◌, ◌≢◌, ℕ, ◌<◌, ◌≤◌, ◌==◌, ◌||◌, false, pos, IfOk, IfSome, is_some, length, map, nat_abs, slice_index_or};
+ghost use Rattle.std.specs.Prelude.{◌≡◌, ◌≢◌, ℕ, ◌<◌, ◌≤◌, ◌==◌, ◌||◌, false, pos, IfOk, IfSome, is_some, length, map};
+ghost use Rattle.std.specs.Prelude.{nat_abs, slice_index_or};
 ghost use Rattle.std.specs.List.{All, list_all};
 ghost use Rattle.decide_nodes.specs.Lanes.{HasLanes};
-ghost use Rattle.decide_guess.specs.Renamed.{GivesSources, has_one, has_variable, have_variables, literal_by, log_by, stands_at};
+ghost use Rattle.decide_guess.specs.Renamed.{GivesSources, has_one, has_variable, have_variables, literal_by, log_by};
+ghost use Rattle.decide_guess.specs.Renamed.{stands_at};
 ghost use Rattle.sat_proof.specs.Assignment.{HasNoZero};
 ghost use Rattle.sat_proof.specs.Log.{Fit};
 
@@ -14,8 +16,8 @@ use decide_nodes::{Cone, LaneBits};
 use sat_proof::{Clause, Log};
 use std::alloc::Global;
 
-/// The same bits in all lanes for each source of a cone: 1 for the sources among some nodes of the graph. Takes a byte a
-/// node of the cone, and 32 a source.
+/// The same bits in all lanes for each source of a cone: 1 for the sources among some nodes of the graph. Takes a byte
+/// a node of the cone, and 32 a source.
 pub fn given_by(
     alloc: Global,
     cone: &Cone,

@@ -1,5 +1,5 @@
-//! The analysis of a conflict: the first unique implication point, from the reasons of the literals of the last level, back
-//! from those of the conflict; then local minimisation. Linear in the trail and in the reasons that it meets.
+//! The analysis of a conflict: the first unique implication point, from the reasons of the literals of the last level,
+//! back from those of the conflict; then local minimisation. Linear in the trail and in the reasons that it meets.
 
 use crate::gates::Gate;
 use crate::implication::Implication;
@@ -39,8 +39,8 @@ impl Solver {
     }
 
     /// Puts the first unique implication point of the last level in the first place of the clause, and the literals of
-    /// earlier levels after it; how many reasons were met on the way, if there is one. With none the clause is what is false
-    /// in the conflict, so a table says it.
+    /// earlier levels after it; how many reasons were met on the way, if there is one. With none the clause is what is
+    /// false in the conflict, so a table says it.
     fn find_point(&mut self, conflict: Reason) -> Result<Option<usize>, Memory> {
         let mut steps: usize = 0;
         let mut open = self.meet_reason(conflict)?;
@@ -100,8 +100,8 @@ impl Solver {
         }
     }
 
-    /// Literal k of it, if there is one: an implication has one for each argument, if that is chosen, and after these the
-    /// node's own.
+    /// Literal k of it, if there is one: an implication has one for each argument, if that is chosen, and after these
+    /// the node's own.
     fn literal_of(&self, reason: Reason, k: usize) -> Option<Literal> {
         match reason {
             Reason::Decision => None,
@@ -189,7 +189,8 @@ impl Solver {
         self.trail.close_levels(level, start);
     }
 
-    /// The literals from the start of a level on go; each node whose bit goes is noted with it. Linear in those that go.
+    /// The literals from the start of a level on go; each node whose bit goes is noted with it. Linear in those that
+    /// go.
     fn take_back(&mut self, start: Start) {
         'places: for _ in 0..self.trail.len() {
             let Some(literal) = self.trail.pop_past(start) else {
@@ -205,8 +206,8 @@ impl Solver {
         self.go_back(Level::base());
     }
 
-    /// The clause of a number, which was learned last, gets its watches, and its first literal is true; whether that wasn't
-    /// false.
+    /// The clause of a number, which was learned last, gets its watches, and its first literal is true; whether that
+    /// wasn't false.
     fn force_first(&mut self, clause: u32) -> Result<bool, Memory> {
         self.watches.add_clause()?;
         let first = self.seen.literal(0);

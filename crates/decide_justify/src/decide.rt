@@ -82,8 +82,8 @@ impl Solver {
         best
     }
 
-    /// The better of a candidate and a variable with a bit, if the variable has none yet. It is favoured where it had that
-    /// bit last.
+    /// The better of a candidate and a variable with a bit, if the variable has none yet. It is favoured where it had
+    /// that bit last.
     fn better(
         &self,
         variable: Variable,

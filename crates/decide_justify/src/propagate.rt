@@ -8,8 +8,8 @@ use crate::solver::Solver;
 use base_lists::Memory;
 use sat_watches::{Literal, Variable, Watch, narrow};
 
-/// How propagation ends: nothing more follows, a node isn't read in yet, or there is a conflict: all literals of a reason
-/// are false.
+/// How propagation ends: nothing more follows, a node isn't read in yet, or there is a conflict: all literals of a
+/// reason are false.
 #[derive(Clone, Copy, Debug)]
 pub(crate) enum Propagated {
     All,
@@ -124,7 +124,8 @@ impl Solver {
         known
     }
 
-    /// Visits the clauses that watch a literal which is false. Once there is a conflict, the others stay where they are.
+    /// Visits the clauses that watch a literal which is false. Once there is a conflict, the others stay where they
+    /// are.
     fn visit_watches(&mut self, falsified: Literal) -> Result<Option<Reason>, Memory> {
         let mut conflict = None;
         let mut next = self.watches.take(falsified);

@@ -15,12 +15,13 @@ use crate::tables::Table;
 use base_lists::Memory;
 use std::alloc::Global;
 
-/// A search. What it finds isn't promised. Tables that were added and the bits that nodes had last stay from one search to
-/// the next.
+/// A search. What it finds isn't promised. Tables that were added and the bits that nodes had last stay from one search
+/// to the next.
 #[derive(Drop)]
 pub struct Search {
     solver: Solver,
-    /// The numbers of the clauses of the log: of those that were learned and that no table says. Takes 4 bytes for each.
+    /// The numbers of the clauses of the log: of those that were learned and that no table says. Takes 4 bytes for
+    /// each.
     log: Vec<u32>,
     /// So many conflicts are left.
     left: u32,
@@ -40,8 +41,8 @@ impl Search {
         }
     }
 
-    /// A table comes in, by the minimal choices of bits for a node's arguments and the bits that they force: of at most 16
-    /// arguments. Takes 8 bytes, and 6 for each implication.
+    /// A table comes in, by the minimal choices of bits for a node's arguments and the bits that they force: of at most
+    /// 16 arguments. Takes 8 bytes, and 6 for each implication.
     pub fn add_table(&mut self, implications: &[Implication]) -> Result<Table, Memory>
         ensures ok { TablesFit self.new → IfOk result (λ table. implications_in self.new table ≡ implications.now) }
         ensures allowed { clauses_allowed self.new ≡ clauses_allowed self.old }
@@ -49,7 +50,8 @@ impl Search {
         self.solver.tables.add(implications)
     }
 
-    /// Begins a search for what gives a node a bit, which ends after a number of conflicts. Any earlier one is forgotten.
+    /// Begins a search for what gives a node a bit, which ends after a number of conflicts. Any earlier one is
+    /// forgotten.
     pub fn start(&mut self, wanted: NodeBit, conflicts: u32) -> Result<(), Memory>
         ensures { clauses_allowed self.new ≡ conflicts }
     {
@@ -59,8 +61,8 @@ impl Search {
         self.solver.start(wanted)
     }
 
-    /// A node that was wanted comes in: what it reads, its table, and whether its table has x, so that it is a source. Takes
-    /// 16 bytes for each node that it reads, and some 100 for each of these that the search hasn't met.
+    /// A node that was wanted comes in: what it reads, its table, and whether its table has x, so that it is a source.
+    /// Takes 16 bytes for each node that it reads, and some 100 for each of these that the search hasn't met.
     pub fn give(
         &mut self,
         node: u32,
@@ -73,8 +75,8 @@ impl Search {
         self.solver.give(node, arguments, table, has_x)
     }
 
-    /// Goes on until a node is wanted or the search has ended. Takes 4 bytes for each source with 1, or 8 for each literal of
-    /// the log.
+    /// Goes on until a node is wanted or the search has ended. Takes 4 bytes for each source with 1, or 8 for each
+    /// literal of the log.
     #[tactic(auto, using(crate::proofs::StepLemmas::at_most_more))]
     pub fn go_on(&mut self, alloc: Global) -> Result<Step, Memory>
         ensures ends { IfOk result (HasAtMost (clauses_allowed self.old)) }

@@ -9,8 +9,8 @@ pub enum Step {
     Wanted(u32),
     /// The node has its bit where these sources, by their nodes, have 1 and all others 0.
     Filling(Vec<u32>),
-    /// Nothing gives the node its bit: these clauses, and after them the empty one, follow by unit propagation from what the
-    /// tables say and from that bit. In each one of some nodes has a bit.
+    /// Nothing gives the node its bit: these clauses, and after them the empty one, follow by unit propagation from
+    /// what the tables say and from that bit. In each one of some nodes has a bit.
     Log(Vec<Vec<NodeBit>>),
     /// Neither was found in as many conflicts as were allowed.
     Nothing,

@@ -54,8 +54,8 @@ pub(crate) struct Start {
     cursor: u32,
 }
 
-/// The trail: literals in order, of which the first ones are read. All before the cursor are justified, or can't be. Takes
-/// 28 bytes a variable, and 8 a level.
+/// The trail: literals in order, of which the first ones are read. All before the cursor are justified, or can't be.
+/// Takes 28 bytes a variable, and 8 a level.
 #[derive(Drop)]
 pub(crate) struct Trail {
     assigned: Vec<Assigned>,
@@ -189,8 +189,8 @@ impl Trail {
         Ok(())
     }
 
-    /// Where the level after one begins, if there is one: to go back to that level, what comes from there on goes. Takes no
-    /// memory.
+    /// Where the level after one begins, if there is one: to go back to that level, what comes from there on goes.
+    /// Takes no memory.
     pub(crate) fn end_of(&self, level: Level) -> Option<Start> {
         let place = level.decisions as usize;
         if place < self.starts.len() {

@@ -24,7 +24,8 @@ shifted_in number shift = bit_xor number (number / 2 ^ shift)
 
 unfoldable pub mixed : ℕ → ℕ
 mixed number =
-    shifted_in ((shifted_in ((shifted_in ((number + 11400714819323198485) % 2 ^ 64) 30 * 13787848793156543929) % 2 ^ 64) 27
+    shifted_in
+    ((shifted_in ((shifted_in ((number + 11400714819323198485) % 2 ^ 64) 30 * 13787848793156543929) % 2 ^ 64) 27
     * 10723151780598845931) % 2 ^ 64) 31
 
 -- The bits of a place in the fillings of all lanes, in four parts of 64: in the first part about half of them are 1, in

@@ -1,5 +1,6 @@
 -- Literals: a node, as it is or inverted, which stands for a place.
-use Rattle.std.specs.Prelude.{◌≡◌, ℕ, ◌+◌, ◌-◌, ◌*◌, ◌/◌, ◌%◌, ◌<◌, ◌≤◌, ◌==◌, Bool, true, false, List, length, Option, None, Some, slice_index_or, if◌then◌else◌}
+use Rattle.std.specs.Prelude.{◌≡◌, ℕ, ◌+◌, ◌-◌, ◌*◌, ◌/◌, ◌%◌, ◌<◌, ◌≤◌, ◌==◌, Bool, true, false, List, length, Option}
+use Rattle.std.specs.Prelude.{None, Some, slice_index_or, if◌then◌else◌}
 use Rattle.design_cell.specs.declared.value.Value.{Value}
 use Rattle.design_cell.specs.Value.{is_unknown}
 use Rattle.design_circuit.specs.Job.{Job}
@@ -61,8 +62,8 @@ abbrev pub IsRoot : Job → (ℕ → Value) → List NodeView → LiteralView �
 IsRoot j certain nodes literal place =
     root_of j certain place ≡ record { place = (node_at nodes literal.node).place; inverted = literal.inverted }
 
--- A literal is that of a place: it has its bits in the lanes, and where the place is uncertain, its root and its sources;
--- the first node then isn't its one.
+-- A literal is that of a place: it has its bits in the lanes, and where the place is uncertain, its root and its
+-- sources; the first node then isn't its one.
 pub record IsLiteralOf (j : Job) (certain : ℕ → Value) (nodes : List NodeView) (literal : LiteralView)
     (place : ℕ) : Type 0 where
   pub within : literal.node < length nodes

@@ -1,5 +1,6 @@
 -- The nodes of places that aren't carried.
-use Rattle.std.specs.Prelude.{◌≡◌, ℕ, ◌<◌, ◌≤◌, List, [], ◌∷◌, ◌++◌, Option, None, Some, IfSome, drop, length, map, slice_index_or}
+use Rattle.std.specs.Prelude.{◌≡◌, ℕ, ◌<◌, ◌≤◌, List, [], ◌∷◌, ◌++◌, Option, None, Some, IfSome, drop, length, map}
+use Rattle.std.specs.Prelude.{slice_index_or}
 use Rattle.std.specs.List.{AllByRecursion}
 use Rattle.decide_lane_nodes.specs.declared.nodes.Node.{Node}
 
@@ -28,7 +29,8 @@ numbers_of nodes = map place_of_node (drop 1 nodes)
 
 -- One node more.
 abbrev pub with_node : List NodeView → ℕ → List ℕ → Option (List ℕ) → List NodeView
-with_node nodes place lane_bits sources = nodes ++ record { place = place; lane_bits = lane_bits; sources = sources } ∷ []
+with_node nodes place lane_bits sources =
+    nodes ++ record { place = place; lane_bits = lane_bits; sources = sources } ∷ []
 
 -- More nodes, and those that were.
 pub record Extends (old new : List NodeView) : Type 0 where

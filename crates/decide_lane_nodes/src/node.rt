@@ -22,8 +22,8 @@ use design_cell::Value;
 use std::alloc::Global;
 use wave_proved::Wave;
 
-/// A node that is to come in: its place, its bits in the lanes, its sources, where they are kept, or a node that has the same
-/// ones, and for the graph the roots of its essential arguments and its table over these.
+/// A node that is to come in: its place, its bits in the lanes, its sources, where they are kept, or a node that has
+/// the same ones, and for the graph the roots of its essential arguments and its table over these.
 #[derive(Debug, Drop)]
 pub struct Made {
     pub place: usize,
@@ -34,9 +34,9 @@ pub struct Made {
     pub values: Values,
 }
 
-/// The node of a place that is written, or of the next one, and that isn't carried, from the literals of the places before
-/// it. Works in a room that is lent. Takes 4 bytes a source, 8 an argument, and a byte for each value of the table where
-/// they are more than 16.
+/// The node of a place that is written, or of the next one, and that isn't carried, from the literals of the places
+/// before it. Works in a room that is lent. Takes 4 bytes a source, 8 an argument, and a byte for each value of the
+/// table where they are more than 16.
 pub fn make_node(
     alloc: Global,
     wave: &Wave<'_>,

@@ -1,6 +1,7 @@
 //! The nodes of places that aren't carried: their bits in the lanes, and their sources where these are few.
 
-ghost use Rattle.std.specs.Prelude.{◌≡◌, ℕ, ◌<◌, ◌≤◌, ◌^◌, ◌++◌, ◌∷◌, [], None, Some, MatchOption, OnErr, OnOk, IfOk, length};
+ghost use Rattle.std.specs.Prelude.{◌≡◌, ℕ, ◌<◌, ◌≤◌, ◌^◌, ◌++◌, ◌∷◌, [], None, Some, MatchOption, OnErr, OnOk, IfOk};
+ghost use Rattle.std.specs.Prelude.{length};
 ghost use Rattle.decide_lane_nodes.specs.Nodes.{NodeView, node_at, with_node, zero_node, zeros};
 
 use crate::lists::{ListNumber, Lists};

@@ -28,8 +28,8 @@ pub fn table_lanes(
     part_lanes(covered, arguments, values, own, 0, 1)
 }
 
-/// The same of the values whose numbers are a base and multiples of a weight: in each lane the bit of the first argument
-/// chooses between those where it is 1 and those where it is 0.
+/// The same of the values whose numbers are a base and multiples of a weight: in each lane the bit of the first
+/// argument chooses between those where it is 1 and those where it is 0.
 fn part_lanes(
     covered: Covered<'_>,
     arguments: &[usize],

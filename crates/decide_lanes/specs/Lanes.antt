@@ -10,8 +10,9 @@ use Rattle.decide_lane_nodes.specs.Nodes.{Extends, NodeView, node_at, numbers_of
 use Rattle.decide_lanes.specs.Graphs.{IsGraphIn}
 use Rattle.decide_lanes.specs.Shared.{IsSharedIn, SharedView}
 
--- The nodes, the literals of the last places that are covered, from a first one on, the node of the place after them, if it
--- was looked at, the graph of the nodes, if it is kept, the tables that its nodes share, and how wide a row of literals is.
+-- The nodes, the literals of the last places that are covered, from a first one on, the node of the place after them,
+-- if it was looked at, the graph of the nodes, if it is kept, the tables that its nodes share, and how wide a row of
+-- literals is.
 pub record LanesView : Type 0 where
   pub nodes : List NodeView
   pub first : ℕ
@@ -38,9 +39,9 @@ pub record IsNextNode (c : Contents) (nodes : List NodeView) (place node : ℕ) 
   pub within : place < places_of (job c)
   pub holds : IsNodeOf (job c) (certain c.written) nodes node place
 
--- All literals are right of a wave, whose places they cover, and so are the node of the place after these, and the graph,
--- if it is kept, with the tables that its nodes share; what later places may read is covered, each node after the first is
--- of a place that is covered or looked at, and the rows are those of the job.
+-- All literals are right of a wave, whose places they cover, and so are the node of the place after these, and the
+-- graph, if it is kept, with the tables that its nodes share; what later places may read is covered, each node after
+-- the first is of a place that is covered or looked at, and the rows are those of the job.
 pub record IsRightOf (c : Contents) (lanes : LanesView) : Type 0 where
   pub some : 0 < length lanes.nodes
   pub zero : node_at lanes.nodes 0 ≡ zero_node

@@ -20,7 +20,8 @@ abbrev pub place_of : LanesView → ℕ → ℕ
 place_of lanes node = (node_at lanes.nodes node).place
 
 -- A node is that of the root of a written place, and the others are that root.
-pub record IsRootAt (c : Contents) (lanes : LanesView) (written_place : Place) (found : ℕ × (Place × Bool)) : Type 0 where
+pub record IsRootAt (c : Contents) (lanes : LanesView) (written_place : Place)
+    (found : ℕ × (Place × Bool)) : Type 0 where
   pub node : HasNode lanes found.0
   pub root : IsRootOf c written_place found.1
   pub own : place_of lanes found.0 ≡ number_of (job c) found.1.0

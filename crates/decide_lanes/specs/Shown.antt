@@ -16,7 +16,8 @@ GivesNext c bit = (filling : List Place) → IsFilling (job c) filling → bit_u
 
 -- A place has its bit in the world of every filling.
 abbrev pub HasNextBits : Contents → ℕ → Type 0
-HasNextBits c place = (filling : List Place) → IsFilling (job c) filling → bit_under c filling ≡ world_in c filling place
+HasNextBits c place =
+    (filling : List Place) → IsFilling (job c) filling → bit_under c filling ≡ world_in c filling place
 
 -- A written place and the next one have cones whose nodes have the same bodies in the same order.
 pub record HasNextCone (c : Contents) (place : ℕ) : Type 0 where

@@ -1,5 +1,5 @@
-//! Ones counted in all lanes at once, in binary. No contract says what the counts are: they choose among lanes that serve
-//! equally, so that lines are short.
+//! Ones counted in all lanes at once, in binary. No contract says what the counts are: they choose among lanes that
+//! serve equally, so that lines are short.
 
 ghost use Rattle.decide_lanes.specs.Pairs.{AreAmong};
 

@@ -14,8 +14,8 @@ use std::alloc::Global;
 /// How many nodes a graph has at most, since a cone has no more.
 const MOST_NODES: usize = 134_217_728;
 
-/// The graph with the node of a place more, from the roots of its essential arguments and its table over these; none from
-/// the time on that there is no memory for it: then what the graph took is free again.
+/// The graph with the node of a place more, from the roots of its essential arguments and its table over these; none
+/// from the time on that there is no memory for it: then what the graph took is free again.
 pub fn grown(
     alloc: Global,
     graph: Option<Graph>,

@@ -90,9 +90,9 @@ impl Lanes {
         self.first + self.literals.len()
     }
 
-    /// Covers every written place of a wave, those that were covered before it at no cost, and a run of places that keep at
-    /// that of one. Takes 16 bytes for each net, 4 for each literal that moves in one of the last three steps, and for each
-    /// Free and each Line place the memory of a node, here and in the graph.
+    /// Covers every written place of a wave, those that were covered before it at no cost, and a run of places that
+    /// keep at that of one. Takes 16 bytes for each net, 4 for each literal that moves in one of the last three steps,
+    /// and for each Free and each Line place the memory of a node, here and in the graph.
     pub fn follow(&mut self, alloc: Global, wave: &Wave<'_>) -> Result<(), Memory>
         requires { IsRightOf wave.now self.old }
         ensures right { OnOk result (IsRightOf wave.now self.new) }
@@ -255,8 +255,8 @@ impl Lanes {
         Ok(Literal::new(node, false))
     }
 
-    /// The node of the first place that isn't covered, where that isn't carried: the one that was made when it was looked at,
-    /// or a new one. So that place is looked at.
+    /// The node of the first place that isn't covered, where that isn't carried: the one that was made when it was
+    /// looked at, or a new one. So that place is looked at.
     fn node_of(&mut self, alloc: Global, wave: &Wave<'_>, place: usize) -> Result<usize, Memory>
         requires right { IsRightOf wave.now self.old }
         requires place { place ≡ count_of self.old }

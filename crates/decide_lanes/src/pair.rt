@@ -1,6 +1,8 @@
-//! Pairs by lanes: two lanes that differ at the next place, and the fillings that they stand for, cut down to its sources.
+//! Pairs by lanes: two lanes that differ at the next place, and the fillings that they stand for, cut down to its
+//! sources.
 
-ghost use Rattle.std.specs.Prelude.{◌≡◌, ◌<◌, ◌++◌, ◌∷◌, [], IfOk, IfSome, IsNone, MatchOption, OnOk, filter, length, map, if◌then◌else◌};
+ghost use Rattle.std.specs.Prelude.{◌≡◌, ◌<◌, ◌++◌, ◌∷◌, [], IfOk, IfSome, IsNone, MatchOption, OnOk, filter, length};
+ghost use Rattle.std.specs.Prelude.{map, if◌then◌else◌};
 ghost use Rattle.std.specs.List.{AllByRecursion};
 ghost use Rattle.design_circuit.specs.Circuit.{job_in};
 ghost use Rattle.design_circuit.specs.Fits.{place_at};

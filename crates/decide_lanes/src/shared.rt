@@ -11,7 +11,8 @@ ghost use Rattle.wave_proved.specs.Contents.{job, next_number};
 ghost use Rattle.wave_proved.specs.Token.{HasNext, HoldsWithoutLog};
 ghost use Rattle.decide_lane_nodes.specs.Made.{AreSourcesIn};
 ghost use Rattle.decide_lanes.specs.Shown.{IsShownNext};
-ghost use Rattle.decide_lanes.specs.Shared.{AreListable, ListsAll, IsListIn, IsNextIn, IsOtherNext, IsSharedIn, IsSharedOf, IsSharedOfAny, KeepsShared};
+ghost use Rattle.decide_lanes.specs.Shared.{AreListable, ListsAll, IsListIn, IsNextIn, IsOtherNext, IsSharedIn};
+ghost use Rattle.decide_lanes.specs.Shared.{IsSharedOf, IsSharedOfAny, KeepsShared};
 
 use crate::shown::{Shown, settled_if_few};
 use base_lists::{Items, Memory};
@@ -53,8 +54,8 @@ impl Shared {
         }
     }
 
-    /// What tables show of the next place, which has these sources and this node of the graph; nothing where its sources
-    /// aren't few.
+    /// What tables show of the next place, which has these sources and this node of the graph; nothing where its
+    /// sources aren't few.
     pub fn show(
         &mut self,
         alloc: Global,

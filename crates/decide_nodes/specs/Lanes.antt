@@ -1,5 +1,6 @@
 -- The bits of 256 lanes, which hold the bits of 256 fillings at once, in four parts of 64.
-use Rattle.std.specs.Prelude.{◌≡◌, ℕ, ◌-◌, ◌/◌, ◌%◌, ◌^◌, ◌<◌, ◌==◌, Bool, false, true, List, [], map, slice_index, slice_index_or, take, if◌then◌else◌}
+use Rattle.std.specs.Prelude.{◌≡◌, ℕ, ◌-◌, ◌/◌, ◌%◌, ◌^◌, ◌<◌, ◌==◌, Bool, false, true, List, [], map, slice_index}
+use Rattle.std.specs.Prelude.{slice_index_or, take, if◌then◌else◌}
 use Rattle.std.specs.Int.{bit_at}
 use Rattle.decide_nodes.specs.declared.node.Node.{Node}
 use Rattle.decide_nodes.specs.Nodes.{by_sources, node_bits, root_bit}
@@ -35,7 +36,8 @@ root_in_lane nodes given lane = root_bit (by_sources nodes (lane_of given lane))
 abbrev pub IsLaneTable : List Node → List (List ℕ) → List (List ℕ) → ℕ → Type 0
 IsLaneTable nodes given lane_table n =
     (lane : ℕ) → lane < 256
-    → map (λ lane_bits. in_lane lane_bits lane) (take n lane_table) ≡ node_bits (by_sources nodes (lane_of given lane)) nodes n
+    → map (λ lane_bits. in_lane lane_bits lane) (take n lane_table)
+    ≡ node_bits (by_sources nodes (lane_of given lane)) nodes n
 
 -- What callers see of room for lanes: for how many nodes it is.
 pub record ConeLanesView : Type 0 where

@@ -1,5 +1,6 @@
 -- Nodes by position, and their bits.
-use Rattle.std.specs.Prelude.{◌≡◌, ℕ, zero, suc, ◌+◌, ◌-◌, ◌<◌, ◌≤◌, ◌^◌, ◌==◌, ◌&&◌, Bool, false, List, [], ◌∷◌, ◌++◌, filter, length, map, slice_index_or, take, if◌then◌else◌}
+use Rattle.std.specs.Prelude.{◌≡◌, ℕ, zero, suc, ◌+◌, ◌-◌, ◌<◌, ◌≤◌, ◌^◌, ◌==◌, ◌&&◌, Bool, false, List, [], ◌∷◌, ◌++◌}
+use Rattle.std.specs.Prelude.{filter, length, map, slice_index_or, take, if◌then◌else◌}
 use Rattle.std.specs.Int as int
 use Rattle.std.specs.List.{AllByRecursion, list_any}
 use Rattle.design_cell.specs.declared.value.Value.{Value}

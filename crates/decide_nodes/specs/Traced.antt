@@ -1,5 +1,6 @@
 -- When nodes are the cone of a place of a wave, and what their bits then are.
-use Rattle.std.specs.Prelude.{◌≡◌, ℕ, ◌+◌, ◌<◌, ◌≤◌, ◌^◌, Bool, true, false, List, length, map, slice_index, slice_index_or}
+use Rattle.std.specs.Prelude.{◌≡◌, ℕ, ◌+◌, ◌<◌, ◌≤◌, ◌^◌, Bool, true, false, List, length, map, slice_index}
+use Rattle.std.specs.Prelude.{slice_index_or}
 use Rattle.std.specs.List.{AllByRecursion}
 use Rattle.design_cell.specs.declared.value.Value.{Value}
 use Rattle.design_cell.specs.declared.value.Value.TheVariants.{X}
@@ -19,7 +20,8 @@ use Rattle.law_model.specs.Line.{IsEnumerated, IsOfSources}
 use Rattle.law_model.specs.Node.{HasCarrier, IsBody, NodeBody, carried, ruled}
 use Rattle.wave_proved.specs.Contents.{Contents, IsWave, class_in, job, next_number}
 use Rattle.decide_nodes.specs.declared.node.Node.{Node}
-use Rattle.decide_nodes.specs.Nodes.{AreNodes, body_at, by_sources, chosen, is_listed, nothing, number_bits, place_of_node, root_bit, source_at, sources_of}
+use Rattle.decide_nodes.specs.Nodes.{AreNodes, body_at, by_sources, chosen, is_listed, nothing, number_bits}
+use Rattle.decide_nodes.specs.Nodes.{place_of_node, root_bit, source_at, sources_of}
 
 -- The places of the cone of a place of a wave, in place order, by their numbers.
 abbrev pub cone_in : Contents → ℕ → List ℕ

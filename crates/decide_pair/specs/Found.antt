@@ -1,5 +1,6 @@
 -- Fillings by number that give the root another bit than the empty one, and those of them with the least ones.
-use Rattle.std.specs.Prelude.{◌≡◌, ℕ, ◌<◌, ◌≤◌, ◌^◌, Bool, false, Option, None, Some, List, MatchOption, count_ones, length, nat_le, nat_lt, not, if◌then◌else◌}
+use Rattle.std.specs.Prelude.{◌≡◌, ℕ, ◌<◌, ◌≤◌, ◌^◌, Bool, false, Option, None, Some, List, MatchOption, count_ones}
+use Rattle.std.specs.Prelude.{length, nat_le, nat_lt, not, if◌then◌else◌}
 use Rattle.law_model.specs.declared.line.Body.{Body}
 use Rattle.decide_nodes.specs.declared.node.Node.{Node}
 use Rattle.decide_nodes.specs.Nodes.{by_sources, chosen, nothing, number_bits, root_bit, sources_of}

@@ -26,8 +26,8 @@ pub fn has_few_sources(wave: &Wave<'_>, cone: &Cone) -> bool
     cone.sources().len() <= wave.limits().enumerated as usize
 }
 
-/// Decides the next place: every filling gives one bit, or the empty one gives one bit and another filling, which lists as
-/// few sources as any, gives the other. Takes 32 bytes a node, and a filling.
+/// Decides the next place: every filling gives one bit, or the empty one gives one bit and another filling, which lists
+/// as few sources as any, gives the other. Takes 32 bytes a node, and a filling.
 pub fn decide(alloc: Global, wave: &Wave<'_>, cone: &Cone) -> Result<Verdict, Memory>
     requires cone { IsNextCone wave.now cone.now.nodes }
     requires few { length (sources_of cone.now.nodes) ≤ wave.now.limits.enumerated }

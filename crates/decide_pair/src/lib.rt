@@ -1,8 +1,8 @@
-//! Fillings that are tried at the next place of a wave: some of them for a pair, whose worlds give 0 and 1 there, or all of
-//! those of few sources, 256 at once, which decide it.
+//! Fillings that are tried at the next place of a wave: some of them for a pair, whose worlds give 0 and 1 there, or
+//! all of those of few sources, 256 at once, which decide it.
 //!
-//! Start at specs/Pairs.antt, then at `try_in`, which a walk calls; `check_pair` and `try_lanes` look at fillings that are
-//! given. Then specs/Blocks.antt, and `decide`.
+//! Start at specs/Pairs.antt, then at `try_in`, which a walk calls; `check_pair` and `try_lanes` look at fillings that
+//! are given. Then specs/Blocks.antt, and `decide`.
 #![tactic(auto)]
 
 mod blocks;

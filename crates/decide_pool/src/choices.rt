@@ -9,8 +9,8 @@ use design_cell::Value;
 use std::alloc::Global;
 use std::collections::HashMap;
 
-/// Where the choices of a table stand: those that force 1 from the start on, and from the middle on to the end those that
-/// force 0.
+/// Where the choices of a table stand: those that force 1 from the start on, and from the middle on to the end those
+/// that force 0.
 #[derive(Clone, Copy, Debug)]
 pub(crate) struct Span {
     start: u32,
@@ -46,7 +46,8 @@ impl Span {
     }
 }
 
-/// Tables by number. If two tables have the same code, the first one is kept. Takes some 40 bytes a table, and 4 a choice.
+/// Tables by number. If two tables have the same code, the first one is kept. Takes some 40 bytes a table, and 4 a
+/// choice.
 #[derive(Drop)]
 pub(crate) struct Tables {
     numbers: HashMap<u64, u32>,

@@ -1,4 +1,5 @@
-//! The bits of a node in all lanes, from those of the nodes that it reads: as a sum of products, by its minimal choices.
+//! The bits of a node in all lanes, from those of the nodes that it reads: as a sum of products, by its minimal
+//! choices.
 
 ghost use Rattle.std.specs.Prelude.{◌≡◌};
 ghost use Rattle.std.specs.List.{list_any};

@@ -38,8 +38,8 @@ impl Marks {
 }
 
 impl Pool {
-    /// Sources that have 1 in a lane and give the node of a place its bit there, where all others have 0. Takes 4 bytes for
-    /// each.
+    /// Sources that have 1 in a lane and give the node of a place its bit there, where all others have 0. Takes 4 bytes
+    /// for each.
     pub(crate) fn ones_in(
         &mut self,
         alloc: Global,
@@ -81,8 +81,8 @@ impl Pool {
         Ok(())
     }
 
-    /// Meets what gives the node of a place its bit in a lane: what a choice chooses, or else all that it reads; whether it
-    /// has 1 by no choice, so by what it is given.
+    /// Meets what gives the node of a place its bit in a lane: what a choice chooses, or else all that it reads;
+    /// whether it has 1 by no choice, so by what it is given.
     fn justify(&mut self, place: u32, lane: PoolLane) -> Result<bool, Memory> {
         let entry = self.entry(place);
         let bit = self.bits_of(place).in_lane(lane);

@@ -16,9 +16,9 @@ use std::alloc::Global;
 use std::collections::HashMap;
 
 /// Lanes over the nodes of a graph. It is to be used on one graph that grows. Takes 122 bytes for each node that was
-/// asked for or that such a node rests on, 4 for each node that it reads and 64 for each source, up to 64 megabytes; and
-/// some 40 for each table and 4 for each of its minimal choices. At a limit all is forgotten, and made anew as it is
-/// asked for.
+/// asked for or that such a node rests on, 4 for each node that it reads and 64 for each source, up to 64 megabytes;
+/// and some 40 for each table and 4 for each of its minimal choices. At a limit all is forgotten, and made anew as it
+/// is asked for.
 #[derive(Drop)]
 pub struct Pool {
     pub(crate) tables: Tables,
@@ -63,9 +63,9 @@ impl Pool {
         }
     }
 
-    /// Sources with 1 that give a node a bit where all others have 0, if the node has that bit in some lane. Linear in the
-    /// nodes that it rests on and that weren't evaluated since a filling was taken. Takes 4 bytes for each source that is
-    /// listed.
+    /// Sources with 1 that give a node a bit where all others have 0, if the node has that bit in some lane. Linear in
+    /// the nodes that it rests on and that weren't evaluated since a filling was taken. Takes 4 bytes for each source
+    /// that is listed.
     pub fn filling(
         &mut self,
         alloc: Global,
@@ -86,8 +86,8 @@ impl Pool {
         }
     }
 
-    /// A filling that gives a node a bit comes in, by the sources with 1: it is laid over one lane and its variations over
-    /// 64, for the sources that the node rests on. Linear in the nodes that it rests on.
+    /// A filling that gives a node a bit comes in, by the sources with 1: it is laid over one lane and its variations
+    /// over 64, for the sources that the node rests on. Linear in the nodes that it rests on.
     pub fn take(
         &mut self,
         alloc: Global,

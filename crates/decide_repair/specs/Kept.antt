@@ -1,5 +1,6 @@
 -- Queries that are kept with their answers.
-use Rattle.std.specs.Prelude.{◌≡◌, ℕ, ◌+◌, ◌-◌, ◌*◌, ◌%◌, ◌^◌, ◌<◌, ◌≤◌, ◌==◌, List, ℤ, Option, None, Some, length, min, unsigned_abs, if◌then◌else◌}
+use Rattle.std.specs.Prelude.{◌≡◌, ℕ, ◌+◌, ◌-◌, ◌*◌, ◌%◌, ◌^◌, ◌<◌, ◌≤◌, ◌==◌, List, ℤ, Option, None, Some, length, min}
+use Rattle.std.specs.Prelude.{unsigned_abs, if◌then◌else◌}
 use Rattle.std.specs.Int as int
 use Rattle.std.specs.Int.Bits.{bit_xor}
 use Rattle.std.specs.Bool.{nat_eq}

@@ -1,6 +1,6 @@
-//! Random fillings of a cone's sources, beside those of the lanes, which find most of the remaining unknown places at the
-//! cost of a few passes over the cone. They are fixed functions of the place and the pass, so that each run gives the same
-//! bytes. No contract rests on which they are.
+//! Random fillings of a cone's sources, beside those of the lanes, which find most of the remaining unknown places at
+//! the cost of a few passes over the cone. They are fixed functions of the place and the pass, so that each run gives
+//! the same bytes. No contract rests on which they are.
 
 ghost use Rattle.std.specs.Prelude.{IfOk, IfSome};
 ghost use Rattle.decide_nodes.specs.Traced.{IsNextCone};

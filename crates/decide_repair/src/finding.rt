@@ -1,5 +1,5 @@
-//! What the next place, a Line place, has under all fillings: the ways in which its verdict is found, in the order in which
-//! they are tried.
+//! What the next place, a Line place, has under all fillings: the ways in which its verdict is found, in the order in
+//! which they are tried.
 
 ghost use Rattle.std.specs.Prelude.{IfOk, IfSome, OnOk};
 ghost use Rattle.law_along.specs.Accepted.{AcceptsLine};
@@ -20,7 +20,8 @@ use decide_pair::{decide, has_few_sources};
 use std::alloc::Global;
 use wave_proved::{Verdict, Wave};
 
-/// The verdict of the next place. Tables come before a guess, since that reads a node again for each place, and tables once.
+/// The verdict of the next place. Tables come before a guess, since that reads a node again for each place, and tables
+/// once.
 pub fn find(alloc: Global, wave: &Wave<'_>, aids: &mut Aids) -> Result<Verdict, Memory>
     requires class { IsLineNext wave.now }
     requires along { GoesAlong (start_of wave.now) wave.now }

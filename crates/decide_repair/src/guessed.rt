@@ -92,8 +92,8 @@ pub fn wanted(lanes: &Lanes) -> Option<NodeBit> {
     Some(NodeBit { node, bit: !bit })
 }
 
-/// What a filling shows of the next place, in which some nodes of the graph have 1: two fillings, if it gives that place
-/// another bit than the empty one.
+/// What a filling shows of the next place, in which some nodes of the graph have 1: two fillings, if it gives that
+/// place another bit than the empty one.
 #[tactic(auto, using(crate::proofs::Searching::pair_accepted))]
 pub fn find_by_filling(
     alloc: Global,
@@ -113,8 +113,8 @@ pub fn find_by_filling(
     try_lanes(alloc, wave, &cone, given.as_slice())
 }
 
-/// What clauses over nodes of the graph show of the next place, with the empty one after them: its bit, if they refute its
-/// query.
+/// What clauses over nodes of the graph show of the next place, with the empty one after them: its bit, if they refute
+/// its query.
 fn find_by_clauses(
     alloc: Global,
     wave: &Wave<'_>,

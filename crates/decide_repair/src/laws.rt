@@ -2,8 +2,8 @@
 
 ghost use Rattle.decide_repair.specs.Objections as spec;
 
-/// What an objection tells is exact; two objections of one job and history, whose lines have no undecided body, tell the
-/// same, whatever their limits are; and a finished wave is the one for every history.
+/// What an objection tells is exact; two objections of one job and history, whose lines have no undecided body, tell
+/// the same, whatever their limits are; and a finished wave is the one for every history.
 pub fn objections_agree()
     ensures objects { spec.ObjectionsObject }
     ensures exact { spec.ObjectionsAreExact }

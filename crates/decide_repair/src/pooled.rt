@@ -13,8 +13,8 @@ use decide_pool::Pool;
 use std::alloc::Global;
 use wave_proved::{Verdict, Wave};
 
-/// What a lane of the pool shows of the next place: none where no lane gives it another bit than the empty filling does, or
-/// the lane is wrong.
+/// What a lane of the pool shows of the next place: none where no lane gives it another bit than the empty filling
+/// does, or the lane is wrong.
 pub fn find_pooled(
     alloc: Global,
     wave: &Wave<'_>,

@@ -3,8 +3,9 @@
 //! for a list.
 //!
 //! A question walks down to nodes that have tables, by a heap, makes what is missing from there up, and looks for a
-//! number whose filling gives the node another bit than the empty one: there is one, or every filling gives it that bit.
-//! What isn't used for long makes room. Nothing promises that the node gets a table. Start at specs/Tables.antt, then at
+//! number whose filling gives the node another bit than the empty one: there is one, or every filling gives it that
+//! bit. What isn't used for long makes room. Nothing promises that the node gets a table. Start at specs/Tables.antt,
+//! then at
 //! `SourceTables`.
 #![tactic(auto)]
 

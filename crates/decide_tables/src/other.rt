@@ -1,5 +1,5 @@
-//! How the bits of a node under the fillings of a list compare with its bit under the empty one: a filling that gives it
-//! another bit, one that lists the fewest, or none does.
+//! How the bits of a node under the fillings of a list compare with its bit under the empty one: a filling that gives
+//! it another bit, one that lists the fewest, or none does.
 
 ghost use Rattle.std.specs.Prelude.{◌<◌, ◌≤◌, IfOk, MatchOption, length};
 ghost use Rattle.decide_tables.specs.Other.{AreAll, IsAll, IsLeastOtherAt, IsLeastOtherBelow, IsShownBy};

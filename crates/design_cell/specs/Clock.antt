@@ -1,5 +1,6 @@
 -- Which pins of a sequential primitive are clock pins (profile).
-use Rattle.std.specs.Prelude.{◌≡◌, ◌<◌, ℕ, length, slice_index_or, zero, suc, ◌+◌, ◌==◌, ◌&&◌, ◌^◌, Bool, true, false, cond, List, [], ◌∷◌, ◌++◌, not}
+use Rattle.std.specs.Prelude.{◌≡◌, ◌<◌, ℕ, length, slice_index_or, zero, suc, ◌+◌, ◌==◌, ◌&&◌, ◌^◌, Bool, true, false}
+use Rattle.std.specs.Prelude.{cond, List, [], ◌∷◌, ◌++◌, not}
 use Rattle.std.specs.Int.{bit_at}
 use Rattle.std.specs.List.{list_any}
 use Rattle.design_cell.specs.declared.value.Value.{Value}
@@ -40,12 +41,14 @@ is_known_other Z q = false
 
 -- The pin's change matches no level row and gives a known value other than the state.
 abbrev pub acts : Table → List Value → ℕ → Value → Value → Bool
-acts table pins pin old q = not (list_any (level_at table pins pin old q) table.rows) && is_known_other (change table pins pin old q) q
+acts table pins pin old q =
+    not (list_any (level_at table pins pin old q) table.rows) && is_known_other (change table pins pin old q) q
 
 -- The pin's change to its value of the choice, from the other one of 0 and 1, acts.
 unfoldable pub acts_at : Table → ℕ → ℕ → ℕ → Bool
 acts_at table dead pin choice =
-    acts table (pins_of table.inputs dead choice) pin (bit_value (not (chosen choice pin))) (bit_value (chosen choice table.inputs))
+    acts table (pins_of table.inputs dead choice) pin (bit_value (not (chosen choice pin)))
+    (bit_value (chosen choice table.inputs))
 
 -- A pin is a clock pin where it is live and its change acts for some choice of 0 or 1 for every live pin and the state.
 unfoldable pub is_clock : Table → ℕ → ℕ → Bool

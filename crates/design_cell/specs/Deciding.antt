@@ -1,5 +1,6 @@
 -- Which row of a table decides, the rows being numbered from 1.
-use Rattle.std.specs.Prelude.{◌≡◌, ◌⊎◌, ℕ, ◌+◌, ◌<◌, Bool, false, Option, None, Some, List, [], ◌∷◌, ◌++◌, length, slice_index_or}
+use Rattle.std.specs.Prelude.{◌≡◌, ◌⊎◌, ℕ, ◌+◌, ◌<◌, Bool, false, Option, None, Some, List, [], ◌∷◌, ◌++◌, length}
+use Rattle.std.specs.Prelude.{slice_index_or}
 use Rattle.design_cell.specs.declared.value.Value.{Value}
 use Rattle.design_cell.specs.declared.value.Value.TheVariants.{X}
 use Rattle.design_cell.specs.declared.row.RawRow.{RawRow}
@@ -39,7 +40,8 @@ numbered None = None
 numbered (Some k) = Some (k + 1)
 
 -- The row that decides as the last of some pins changes, after some that changed before and the others one by one.
-pub record DecidesLast (table : Table) (old new : List Value) (before changed : List ℕ) (q : Value) (row : Option ℕ) : Type 0 where
+pub record DecidesLast (table : Table) (old new : List Value) (before changed : List ℕ) (q : Value)
+    (row : Option ℕ) : Type 0 where
   pub earlier : List ℕ
   pub pin : ℕ
   pub changed_ : changed ≡ earlier ++ pin ∷ []

@@ -1,6 +1,7 @@
--- Cases of a row by their digits: the columns are read as digits 0, 1 and 2, the lowest first. No contract of a public call
--- names these.
-use Rattle.std.specs.Prelude.{◌≡◌, ℕ, ◌+◌, ◌*◌, ◌/◌, ◌%◌, ◌<◌, ◌≤◌, ◌==◌, ◌&&◌, ◌||◌, Bool, false, cond, List, slice_index, slice_index_or}
+-- Cases of a row by their digits: the columns are read as digits 0, 1 and 2, the lowest first. No contract of a public
+-- call names these.
+use Rattle.std.specs.Prelude.{◌≡◌, ℕ, ◌+◌, ◌*◌, ◌/◌, ◌%◌, ◌<◌, ◌≤◌, ◌==◌, ◌&&◌, ◌||◌, Bool, false, cond, List}
+use Rattle.std.specs.Prelude.{slice_index, slice_index_or}
 use Rattle.std.specs.Int.{bit_at}
 use lib.Dec.{ltb}
 use Rattle.design_cell.specs.Index.{flag}

@@ -1,5 +1,5 @@
--- At which bit values on the pins of a sequential primitive hold its registers, whatever state they are in: an active set
--- or reset, or an open latch.
+-- At which bit values on the pins of a sequential primitive hold its registers, whatever state they are in: an active
+-- set or reset, or an open latch.
 use Rattle.std.specs.Prelude.{◌≡◌, ℕ, ◌<◌, Bool, true, List, length}
 use Rattle.design_cell.specs.declared.value.Value.{Value}
 use Rattle.design_cell.specs.declared.value.Value.TheVariants.{Zero, One, X, Z}

@@ -1,6 +1,7 @@
 -- An index of the rows: a word of bits for each column and pair of values, one bit a row. No contract of a public call
 -- names it.
-use Rattle.std.specs.Prelude.{◌≡◌, ℕ, ◌+◌, ◌*◌, ◌/◌, ◌%◌, ◌<◌, ◌≤◌, ◌==◌, Bool, true, false, cond, Option, Some, None, List, [], length, slice_index, slice_index_or, ◌^◌}
+use Rattle.std.specs.Prelude.{◌≡◌, ℕ, ◌+◌, ◌*◌, ◌/◌, ◌%◌, ◌<◌, ◌≤◌, ◌==◌, Bool, true, false, cond, Option, Some, None}
+use Rattle.std.specs.Prelude.{List, [], length, slice_index, slice_index_or, ◌^◌}
 use Rattle.std.specs.Int.{bit_at}
 use Rattle.design_cell.specs.declared.value.Value.{Value}
 use Rattle.design_cell.specs.declared.value.Value.TheVariants.{Zero, One, X, Z}
@@ -30,11 +31,13 @@ IsMask test word = (i : ℕ) → i < 64 → bit_at word i ≡ flag (test i)
 
 -- the word of a place in a block: 9 times the column, 3 times the old value's code, and the new one's
 abbrev pub IsCell : List RawRow → ℕ → ℕ → ℕ → Type 0
-IsCell rows base p word = IsMask (λ i. fits (symbol_at (row_at rows (base + i)) (p / 9)) (value_of (p % 9 / 3)) (value_of (p % 3))) word
+IsCell rows base p word =
+    IsMask (λ i. fits (symbol_at (row_at rows (base + i)) (p / 9)) (value_of (p % 9 / 3)) (value_of (p % 3))) word
 
 -- the word of outputs of a place in a block: 3 times the state's code and that of the output
 abbrev pub IsOutputCell : List RawRow → ℕ → ℕ → ℕ → Type 0
-IsOutputCell rows base p word = IsMask (λ i. code (output_of (row_at rows (base + i)).output (value_of (p / 3))) == p % 3) word
+IsOutputCell rows base p word =
+    IsMask (λ i. code (output_of (row_at rows (base + i)).output (value_of (p / 3))) == p % 3) word
 
 pub record IsBlock (rows : List RawRow) (base : ℕ) (block : Block) : Type 0 where
   pub cells : (p : ℕ) → p < 99 → IsCell rows base p (slice_index block.masks p)
@@ -80,7 +83,8 @@ FindsFirst blocks test found = (rows : List RawRow) → IsIndexed rows blocks �
 abbrev pub GoesOn : ℕ → Option ℕ → ℕ → Option ℕ → Type 0
 GoesOn base found word next =
     (rows : List RawRow) (test : RawRow → Bool) → test nowhere ≡ false →
-    IsFirstBelow test rows base found → IsMask (λ i. test (row_at rows (base + i))) word → IsFirstBelow test rows (base + 64) next
+    IsFirstBelow test rows base found → IsMask (λ i. test (row_at rows (base + i))) word
+    → IsFirstBelow test rows (base + 64) next
 
 -- the rows, the level rows and the edge rows that match after a change
 abbrev pub matching : Option Changed → List Value → Value → RawRow → Bool

@@ -11,7 +11,8 @@ meets_output taken seen p = not (bit_and (slice_index seen p) taken.low == 0)
 -- a case is marked for one of the two other outputs
 unfoldable pub meets_word : Taken → List ℕ → ℕ → ℕ → Bool
 meets_word taken seen high middle =
-    meets_output taken seen (place high middle ((taken.output + 1) % 3)) || meets_output taken seen (place high middle ((taken.output + 2) % 3))
+    meets_output taken seen (place high middle ((taken.output + 1) % 3))
+    || meets_output taken seen (place high middle ((taken.output + 2) % 3))
 
 unfoldable pub meets_middle : Taken → List ℕ → ℕ → ℕ → Bool
 meets_middle taken seen high middle = has taken.middle middle && meets_word taken seen high middle

@@ -1,5 +1,6 @@
 -- What a register of a sequential primitive keeps after its pins changed (profile).
-use Rattle.std.specs.Prelude.{◌≡◌, ℕ, zero, suc, ◌<◌, ◌==◌, ◌&&◌, ◌++◌, Bool, true, false, cond, List, [], ◌∷◌, slice_index_or, slice_set, not}
+use Rattle.std.specs.Prelude.{◌≡◌, ℕ, zero, suc, ◌<◌, ◌==◌, ◌&&◌, ◌++◌, Bool, true, false, cond, List, [], ◌∷◌}
+use Rattle.std.specs.Prelude.{slice_index_or, slice_set, not}
 use Rattle.std.specs.Int.{bit_at}
 use Rattle.design_cell.specs.declared.value.Value.{Value}
 use Rattle.design_cell.specs.declared.value.Value.TheVariants.{X}
@@ -30,7 +31,8 @@ changed_group clock clocks old new n = pins_with (λ pin. is_in_group clock cloc
 
 -- The changed pins: the clock pins first, and then the others, each group in port order.
 abbrev pub changed_pins : ℕ → List Value → List Value → ℕ → List ℕ
-changed_pins clocks old new inputs = changed_group true clocks old new inputs ++ changed_group false clocks old new inputs
+changed_pins clocks old new inputs =
+    changed_group true clocks old new inputs ++ changed_group false clocks old new inputs
 
 -- the pins where those of a list are new and the others old
 abbrev pub pins_after : List Value → List Value → List ℕ → List Value

@@ -7,7 +7,8 @@ use Rattle.design_cell.specs.Table.{Table}
 use Rattle.design_cell.specs.Next.{changed_group, pins_after, state_after}
 
 -- the pins, the state and its row where the pins of two lists have changed, those of the first one before the pass
-pub record IsPass (table : Table) (old new : List Value) (earlier turned : List ℕ) (from : Changing) (pins : List Value) (now : Changing) : Type 0 where
+pub record IsPass (table : Table) (old new : List Value) (earlier turned : List ℕ) (from : Changing) (pins : List Value)
+    (now : Changing) : Type 0 where
   pub pins_ : pins ≡ pins_after old new (earlier ++ turned)
   pub state_ : now.state ≡ state_after table old new earlier turned from.state
   pub row_ : IsLastOf table old new earlier turned from.state from.row now.row

@@ -1,11 +1,13 @@
 -- Which tables are refused, and why (IEEE 1364-2005, clause 8).
-use Rattle.std.specs.Prelude.{◌≡◌, ◌≢◌, ℕ, ◌+◌, ◌<◌, ◌≤◌, ◌==◌, ◌&&◌, ◌||◌, Bool, true, false, cond, Option, Some, None, List, length, not, count_by, Result, Err, MatchResult}
+use Rattle.std.specs.Prelude.{◌≡◌, ◌≢◌, ℕ, ◌+◌, ◌<◌, ◌≤◌, ◌==◌, ◌&&◌, ◌||◌, Bool, true, false, cond, Option, Some, None}
+use Rattle.std.specs.Prelude.{List, length, not, count_by, Result, Err, MatchResult}
 use Rattle.std.specs.List.{list_all}
 use Rattle.design_cell.specs.declared.symbol.Symbol.{Symbol}
 use Rattle.design_cell.specs.declared.symbol.Symbol.TheVariants.{Single, Change}
 use Rattle.design_cell.specs.declared.row.RawRow.{RawRow}
 use Rattle.design_cell.specs.declared.refusal.UdpErr.{UdpErr}
-use Rattle.design_cell.specs.declared.refusal.UdpErr.TheVariants.{TooManyInputs, RowLength, BadSymbol, TwoEdges, Conflict, Memory}
+use Rattle.design_cell.specs.declared.refusal.UdpErr.TheVariants.{TooManyInputs, RowLength, BadSymbol, TwoEdges}
+use Rattle.design_cell.specs.declared.refusal.UdpErr.TheVariants.{Conflict, Memory}
 use Rattle.design_cell.specs.Symbol.{is_edge, is_edge_letter, is_level, is_level_letter}
 use Rattle.design_cell.specs.Row.{row_at}
 use Rattle.design_cell.specs.Conflict.{NoConflict, IsFirstConflict}
@@ -20,7 +22,8 @@ has_state (Some symbol) = true
 
 -- A row has an entry for each input, and a state exactly where the primitive is sequential.
 unfoldable pub has_length : Bool → ℕ → RawRow → Bool
-has_length sequential inputs row = (length row.entries == inputs) && cond sequential (has_state row.state) (not (has_state row.state))
+has_length sequential inputs row =
+    (length row.entries == inputs) && cond sequential (has_state row.state) (not (has_state row.state))
 
 -- An entry is a level letter, and in a sequential primitive also an edge letter or a change between level letters.
 abbrev pub is_entry : Bool → Symbol → Bool
@@ -38,7 +41,8 @@ is_output sequential (Single c) = c == 48 || c == 49 || c == 120 || c == 88 || s
 is_output sequential (Change a b) = false
 
 unfoldable pub has_symbols : Bool → RawRow → Bool
-has_symbols sequential row = list_all (is_entry sequential) row.entries && is_state row.state && is_output sequential row.output
+has_symbols sequential row =
+    list_all (is_entry sequential) row.entries && is_state row.state && is_output sequential row.output
 
 -- A row has at most one edge.
 unfoldable pub has_one_edge : RawRow → Bool
@@ -74,17 +78,22 @@ pub record IsLegal (sequential : Bool) (inputs : ℕ) (rows : List RawRow) : Typ
   pub rows_ : AreRows sequential inputs rows
   pub apart : NoConflict inputs rows
 
--- The refusal of a table is the first in this order, rows ascending: the kind counts before the row, so that all rows have
--- the right length before a symbol is refused. Rows are counted from 1. Memory may be wanting for a legal table only.
+-- The refusal of a table is the first in this order, rows ascending: the kind counts before the row, so that all rows
+-- have the right length before a symbol is refused. Rows are counted from 1. Memory may be wanting for a legal table
+-- only.
 abbrev pub IsRefusal : Bool → ℕ → List RawRow → UdpErr → Type 0
 IsRefusal sequential inputs rows TooManyInputs = input_limit sequential < inputs
-IsRefusal sequential inputs rows (RowLength row) = (inputs ≤ input_limit sequential) × IsFirstBadRow (has_length sequential inputs) rows row
+IsRefusal sequential inputs rows (RowLength row) =
+    (inputs ≤ input_limit sequential) × IsFirstBadRow (has_length sequential inputs) rows row
 IsRefusal sequential inputs rows (BadSymbol row) =
-    (inputs ≤ input_limit sequential) × AllRows (has_length sequential inputs) rows × IsFirstBadRow (has_symbols sequential) rows row
+    (inputs ≤ input_limit sequential) × AllRows (has_length sequential inputs) rows
+    × IsFirstBadRow (has_symbols sequential) rows row
 IsRefusal sequential inputs rows (TwoEdges row) =
-    (inputs ≤ input_limit sequential) × AllRows (has_length sequential inputs) rows × AllRows (has_symbols sequential) rows × IsFirstBadRow has_one_edge rows row
+    (inputs ≤ input_limit sequential) × AllRows (has_length sequential inputs) rows
+    × AllRows (has_symbols sequential) rows × IsFirstBadRow has_one_edge rows row
 IsRefusal sequential inputs rows (Conflict first second) =
-    (inputs ≤ input_limit sequential) × AreRows sequential inputs rows × (i : ℕ) × (j : ℕ) × (first ≡ i + 1) × (second ≡ j + 1) × IsFirstConflict inputs rows i j
+    (inputs ≤ input_limit sequential) × AreRows sequential inputs rows × (i : ℕ) × (j : ℕ) × (first ≡ i + 1)
+    × (second ≡ j + 1) × IsFirstConflict inputs rows i j
 IsRefusal sequential inputs rows Memory = IsLegal sequential inputs rows
 
 -- A refusal of the table is the answer, but for want of memory.

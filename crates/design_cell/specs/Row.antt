@@ -1,5 +1,6 @@
 -- Which rows of a primitive's table match a case (IEEE 1364-2005, clause 8).
-use Rattle.std.specs.Prelude.{ℕ, zero, suc, ◌+◌, ◌==◌, ◌&&◌, Bool, true, cond, Option, Some, None, List, [], slice_index_or}
+use Rattle.std.specs.Prelude.{ℕ, zero, suc, ◌+◌, ◌==◌, ◌&&◌, Bool, true, cond, Option, Some, None, List, []}
+use Rattle.std.specs.Prelude.{slice_index_or}
 use Rattle.std.specs.List.{list_any}
 use Rattle.design_cell.specs.declared.value.Value.{Value}
 use Rattle.design_cell.specs.declared.symbol.Symbol.{Symbol}

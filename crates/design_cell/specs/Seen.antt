@@ -1,5 +1,6 @@
 -- What the words of a sweep say of the rows behind. No contract of a public call names these.
-use Rattle.std.specs.Prelude.{◌≡◌, ℕ, ◌+◌, ◌*◌, ◌/◌, ◌%◌, ◌<◌, ◌≤◌, ◌^◌, Bool, true, false, Option, List, length, slice_index_or}
+use Rattle.std.specs.Prelude.{◌≡◌, ℕ, ◌+◌, ◌*◌, ◌/◌, ◌%◌, ◌<◌, ◌≤◌, ◌^◌, Bool, true, false, Option, List, length}
+use Rattle.std.specs.Prelude.{slice_index_or}
 use Rattle.design_cell.specs.declared.row.RawRow.{RawRow}
 use Rattle.design_cell.specs.declared.sweep.Sweep.{Sweep}
 use Rattle.design_cell.specs.declared.taken.Taken.{Taken}
@@ -42,7 +43,8 @@ OwnedFrom inputs sweep rows start p b =
 -- The bits are those of the rows from one on.
 pub record IsSeen (inputs : ℕ) (sweep : Sweep) (rows : List RawRow) (start : ℕ) (seen : List ℕ) : Type 0 where
   pub sound : (p b : ℕ) → p < 3 * word_count inputs → marked seen p b ≡ true → OwnedFrom inputs sweep rows start p b
-  pub complete : (j p b : ℕ) → start ≤ j → j < length rows → Owns inputs sweep (row_at rows j) p b → marked seen p b ≡ true
+  pub complete : (j p b : ℕ) → start ≤ j → j < length rows → Owns inputs sweep (row_at rows j) p b → marked seen p b
+      ≡ true
 
 -- Whether the cases that a row takes are met, and their marks.
 abbrev pub IsLooked : ℕ → Sweep → RawRow → List ℕ → List ℕ → Bool → Type 0
@@ -56,7 +58,8 @@ pub record Looks (inputs : ℕ) (sweep : Sweep) (row : RawRow) (old new : List �
   pub present : takes_part inputs sweep row ≡ true → IsLooked inputs sweep row old new hit
 
 -- The words and the first row are those of the rows from one on.
-pub record IsSwept (inputs : ℕ) (sweep : Sweep) (rows : List RawRow) (start : ℕ) (seen : List ℕ) (first : Option ℕ) : Type 0 where
+pub record IsSwept (inputs : ℕ) (sweep : Sweep) (rows : List RawRow) (start : ℕ) (seen : List ℕ)
+    (first : Option ℕ) : Type 0 where
   pub room : length seen ≡ 6561
   pub seen_ : IsSeen inputs sweep rows start seen
   pub first_ : FirstToClash inputs sweep rows start first

@@ -1,5 +1,7 @@
--- How the first row in conflict is found: the cases that rows take, by sweeps. No contract of a public call names these.
-use Rattle.std.specs.Prelude.{◌≡◌, ℕ, ◌+◌, ◌-◌, ◌*◌, ◌/◌, ◌%◌, ◌<◌, ◌≤◌, ◌==◌, ◌&&◌, Bool, true, false, cond, not, Option, Some, None, List, length, min}
+-- How the first row in conflict is found: the cases that rows take, by sweeps. No contract of a public call names
+-- these.
+use Rattle.std.specs.Prelude.{◌≡◌, ℕ, ◌+◌, ◌-◌, ◌*◌, ◌/◌, ◌%◌, ◌<◌, ◌≤◌, ◌==◌, ◌&&◌, Bool, true, false, cond, not}
+use Rattle.std.specs.Prelude.{Option, Some, None, List, length, min}
 use lib.Dec.{ltb}
 use Rattle.design_cell.specs.declared.value.Value.{Value}
 use Rattle.design_cell.specs.declared.value.Value.TheVariants.{Zero}
@@ -12,7 +14,8 @@ use Rattle.design_cell.specs.Row.{symbol_at, is_edge_row, row_at, before}
 use Rattle.design_cell.specs.Index.{code, value_of}
 
 abbrev pub changed_of : ℕ → Option Changed
-changed_of number = cond (number == 0) None (Some (record { pin = (number - 1) / 3; old = value_of ((number - 1) % 3) }))
+changed_of number =
+    cond (number == 0) None (Some (record { pin = (number - 1) / 3; old = value_of ((number - 1) % 3) }))
 
 abbrev pub sweep_of : ℕ → Sweep
 sweep_of number = record { changed = changed_of (number / 3); state = value_of (number % 3) }
@@ -51,7 +54,8 @@ pub record IsStateless (inputs : ℕ) (row : RawRow) : Type 0 where
   pub fixed : (q : Value) → output_of row.output q ≡ output_of row.output Zero
 
 abbrev pub AreStateless : Bool → ℕ → List RawRow → Type 0
-AreStateless sequential inputs rows = (k : ℕ) → k < length rows → sequential ≡ false → IsStateless inputs (row_at rows k)
+AreStateless sequential inputs rows =
+    (k : ℕ) → k < length rows → sequential ≡ false → IsStateless inputs (row_at rows k)
 
 -- The rows differ in one of the first sweeps.
 abbrev pub Differ : ℕ → List RawRow → ℕ → ℕ → ℕ → Type 0

@@ -21,8 +21,8 @@ rises c = c == 42 || c == 112 || c == 80
 abbrev pub falls : ℕ → Bool
 falls c = c == 42 || c == 110 || c == 78
 
--- An edge letter stands for changes: 'r' for (01) and 'f' for (10) beside those of 'p', 'n' and '*'; no letter where old and
--- new are equal (profile).
+-- An edge letter stands for changes: 'r' for (01) and 'f' for (10) beside those of 'p', 'n' and '*'; no letter where
+-- old and new are equal (profile).
 abbrev pub changes : ℕ → Value → Value → Bool
 changes c Zero Zero = false
 changes c Zero One = rises c || c == 114 || c == 82
@@ -61,8 +61,8 @@ abbrev pub is_level : Symbol → Bool
 is_level (Single c) = is_level_letter c
 is_level (Change a b) = false
 
--- A symbol fits a column that goes from an old value to a new one: an edge letter by the change, a level letter by the new
--- value, and (vw) where v stands for the old value, w for the new one, and the two differ.
+-- A symbol fits a column that goes from an old value to a new one: an edge letter by the change, a level letter by the
+-- new value, and (vw) where v stands for the old value, w for the new one, and the two differ.
 unfoldable pub fits : Symbol → Value → Value → Bool
 fits (Single c) old new = cond (is_edge_letter c) (changes c old new) (stands c new)
 fits (Change a b) old new = stands a old && stands b new && differ old new

@@ -7,7 +7,8 @@ use Rattle.design_cell.specs.declared.row.RawRow.{RawRow}
 use Rattle.design_cell.specs.Symbol.{output_of}
 use Rattle.design_cell.specs.Row.{columns, before, matches, is_edge_row}
 
--- A primitive: whether it is sequential, how many inputs it has, its rows, and the state that a register of it starts with.
+-- A primitive: whether it is sequential, how many inputs it has, its rows, and the state that a register of it starts
+-- with.
 pub record Table : Type 0 where
   pub sequential : Bool
   pub inputs : ℕ
@@ -23,8 +24,8 @@ level_matches inputs old new row = not (is_edge_row row) && matches inputs old n
 abbrev pub edge_matches : ℕ → (ℕ → Value) → (ℕ → Value) → RawRow → Bool
 edge_matches inputs old new row = is_edge_row row && matches inputs old new row
 
--- The output of a row that passes a test, else another value. It is that of the first one, which in a legal table is that
--- of any (`IsLook`, `IsChange`).
+-- The output of a row that passes a test, else another value. It is that of the first one, which in a legal table is
+-- that of any (`IsLook`, `IsChange`).
 abbrev pub pick : (RawRow → Bool) → Value → Value → List RawRow → Value
 pick test q other [] = other
 pick test q other (row ∷ rows) = cond (test row) (output_of row.output q) (pick test q other rows)
@@ -53,13 +54,17 @@ level_at table pins pin old q = level_matches table.inputs (columns_before pins 
 abbrev pub edge_at : Table → List Value → ℕ → Value → Value → RawRow → Bool
 edge_at table pins pin old q = edge_matches table.inputs (columns_before pins pin old q) (columns pins q)
 
--- The state of a sequential primitive, after a pin went from an old value to its value among the pins, is the output of a
--- matching level row, else of a matching edge row, else x.
+-- The state of a sequential primitive, after a pin went from an old value to its value among the pins, is the output of
+-- a matching level row, else of a matching edge row, else x.
 unfoldable pub change : Table → List Value → ℕ → Value → Value → Value
-change table pins pin old q = pick (level_at table pins pin old q) q (pick (edge_at table pins pin old q) q X table.rows) table.rows
+change table pins pin old q =
+    pick (level_at table pins pin old q) q (pick (edge_at table pins pin old q) q X table.rows) table.rows
 
--- The rows are an unordered list: the value is the output of any matching level row, else of any matching edge row, else x.
+-- The rows are an unordered list: the value is the output of any matching level row, else of any matching edge row,
+-- else x.
 pub record IsChange (table : Table) (pins : List Value) (pin : ℕ) (old q value : Value) : Type 0 where
   pub level : IsOutput (level_at table pins pin old q) q table.rows value
-  pub edge : list_any (level_at table pins pin old q) table.rows ≡ false → IsOutput (edge_at table pins pin old q) q table.rows value
-  pub none : list_any (level_at table pins pin old q) table.rows ≡ false → list_any (edge_at table pins pin old q) table.rows ≡ false → value ≡ X
+  pub edge : list_any (level_at table pins pin old q) table.rows ≡ false
+      → IsOutput (edge_at table pins pin old q) q table.rows value
+  pub none : list_any (level_at table pins pin old q) table.rows ≡ false
+      → list_any (edge_at table pins pin old q) table.rows ≡ false → value ≡ X

@@ -11,7 +11,8 @@ use Rattle.design_cell.specs.Meeting.{takes}
 
 -- the pairs of values that a row's inputs take, nine a column
 abbrev pub ArePairs : ℕ → RawRow → List Bool → Type 0
-ArePairs inputs row pairs = (p : ℕ) → p < 9 * inputs → slice_index_or pairs p false ≡ takes (symbol_at row (p / 9)) (p % 9)
+ArePairs inputs row pairs =
+    (p : ℕ) → p < 9 * inputs → slice_index_or pairs p false ≡ takes (symbol_at row (p / 9)) (p % 9)
 
 -- whether a state's symbol takes 0, 1 and x
 abbrev pub AreStates : Symbol → List Bool → Type 0

@@ -8,7 +8,8 @@ use Rattle.design_cell.specs.declared.row.RawRow.{RawRow}
 use Rattle.design_cell.specs.Table.{Table}
 use Rattle.design_cell.specs.Hold.{hold}
 
--- The row for entries, a state and an output. The letters: 0 (48), 1 (49), - (45), ? (63), * (42), r (114), n (110), x (120).
+-- The row for entries, a state and an output. The letters: 0 (48), 1 (49), - (45), ? (63), * (42), r (114), n (110), x
+-- (120).
 abbrev pub row : List Symbol → ℕ → ℕ → RawRow
 row entries state output = record { entries = entries; state = Some (Single state); output = Single output }
 

@@ -1,6 +1,6 @@
 //! Rows in conflict: two rows of one kind that match one case and give different outputs there. The rows are swept from
-//! the last to the first: once for a combinational primitive, else once for each state, with no pin changed and with each
-//! pin changed from each value. A row looks at the words of the cases that it takes alone, at most 2,187 for each
+//! the last to the first: once for a combinational primitive, else once for each state, with no pin changed and with
+//! each pin changed from each value. A row looks at the words of the cases that it takes alone, at most 2,187 for each
 //! output, so the steps are linear in the rows.
 
 ghost use Rattle.std.specs.Prelude.{◌≡◌, ◌+◌, ◌*◌, ◌<◌, ◌≤◌, ℕ, length, Some};

@@ -12,8 +12,8 @@ use crate::row::{Changed, RawRow};
 use crate::value::Value;
 use std::alloc::{AllocError, Global};
 
-/// The words of 64 rows: that of column c and the values with codes old and new is number 9 * c + 3 * old + new, that of the
-/// output with a code at the state with a code is number 3 * state + output.
+/// The words of 64 rows: that of column c and the values with codes old and new is number 9 * c + 3 * old + new, that
+/// of the output with a code at the state with a code is number 3 * state + output.
 #[derive(Clone, Copy, Debug)]
 pub struct Block {
     pub masks: [u64; 99],

@@ -5,8 +5,8 @@ ghost use Rattle.design_cell.specs.declared.refusal.UdpErr.TheVariants.{Memory};
 
 use std::alloc::AllocError;
 
-/// Why a table is refused: the first in this order, rows ascending. The kind of the refusal counts before the row: all rows
-/// have the right length before a symbol is refused. Rows are counted from 1.
+/// Why a table is refused: the first in this order, rows ascending. The kind of the refusal counts before the row: all
+/// rows have the right length before a symbol is refused. Rows are counted from 1.
 #[derive(Clone, Copy, Debug, PartialEq, Eq, Hash)]
 pub enum UdpErr {
     /// A sequential primitive has more than 9 inputs, or a combinational one more than 10.
@@ -17,7 +17,8 @@ pub enum UdpErr {
     BadSymbol { row: usize },
     /// The row has two edges.
     TwoEdges { row: usize },
-    /// The rows match one case and give different outputs there: the least first row, and of these the least second one.
+    /// The rows match one case and give different outputs there: the least first row, and of these the least second
+    /// one.
     Conflict { first: usize, second: usize },
     /// There was no memory.
     Memory,

@@ -3,7 +3,8 @@
 ghost use Rattle.std.specs.Prelude.{◌≡◌, ◌+◌, ◌<◌, ◌≤◌, length, count_by};
 ghost use Rattle.std.specs.List.{list_all};
 ghost use Rattle.design_cell.specs.Symbol.{is_edge};
-ghost use Rattle.design_cell.specs.Refusal.{input_limit, has_state, has_length, is_entry, is_state, is_output, has_symbols, has_one_edge, Checks, Judges};
+ghost use Rattle.design_cell.specs.Refusal.{input_limit, has_state, has_length, is_entry, is_state, is_output};
+ghost use Rattle.design_cell.specs.Refusal.{has_symbols, has_one_edge, Checks, Judges};
 
 use crate::conflict::check_conflicts;
 use crate::refusal::UdpErr;

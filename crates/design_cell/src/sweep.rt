@@ -1,5 +1,5 @@
-//! One sweep over the rows: the cases in which one pin has changed from one value, or none has, at one state. For each of
-//! these cases and each output a bit says whether a row behind takes the case and gives the output.
+//! One sweep over the rows: the cases in which one pin has changed from one value, or none has, at one state. For each
+//! of these cases and each output a bit says whether a row behind takes the case and gives the output.
 
 ghost use Rattle.std.specs.Prelude.{◌≡◌, ◌<◌, ◌≤◌, ℕ, length, slice_index, cond, Some, IsTrue, ◌+◌};
 ghost use Rattle.design_cell.specs.Sweep.{sweep_of, changed_of, accepts, takes_part, is_turned, FirstToClash};
@@ -43,8 +43,8 @@ impl Sweep {
         first
     }
 
-    /// The first row from one on, where the first one behind it is known. The row's own cases are marked; a row that repeats
-    /// the one behind it adds nothing, and is the first where that one was.
+    /// The first row from one on, where the first one behind it is known. The row's own cases are marked; a row that
+    /// repeats the one behind it adds nothing, and is the first where that one was.
     fn step(
         self,
         rows: &[RawRow],

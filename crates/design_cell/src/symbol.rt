@@ -1,7 +1,8 @@
 //! Symbols of a primitive's table (IEEE 1364-2005, clause 8).
 
 ghost use Rattle.std.specs.Prelude.{◌≡◌};
-ghost use Rattle.design_cell.specs.Symbol.{stands, rises, falls, changes, fits, is_edge, is_edge_letter, is_level, is_level_letter, output_of};
+ghost use Rattle.design_cell.specs.Symbol.{stands, rises, falls, changes, fits, is_edge, is_edge_letter, is_level};
+ghost use Rattle.design_cell.specs.Symbol.{is_level_letter, output_of};
 ghost use Rattle.design_cell.specs.declared.value.Value.TheVariants.{X as x_value, Z as z_value};
 
 use crate::value::Value;

@@ -1,5 +1,5 @@
-//! The cases of a sweep that a row takes, by their digits: the first three columns pick a bit of a word, the next three and
-//! the last four pick the word. Each word stands three times, once for each output.
+//! The cases of a sweep that a row takes, by their digits: the first three columns pick a bit of a word, the next three
+//! and the last four pick the word. Each word stands three times, once for each output.
 
 ghost use Rattle.std.specs.Prelude.{◌≡◌, ◌<◌, ◌≤◌, ◌==◌, length};
 ghost use Rattle.design_cell.specs.Digits.{digit, triple, four, has, IsTriple, middle_end, high_end, word_count, place};

@@ -1,6 +1,7 @@
 //! User-defined primitives: tables that meet IEEE 1364-2005, clause 8.
 
-ghost use Rattle.std.specs.Prelude.{◌≡◌, ◌↔◌, ◌+◌, ◌<◌, ◌≤◌, ◌==◌, ◌&&◌, true, false, length, slice_index_or, slice_set, take, Some, IfOk, IfErr, IfSome, IsTrue};
+ghost use Rattle.std.specs.Prelude.{◌≡◌, ◌↔◌, ◌+◌, ◌<◌, ◌≤◌, ◌==◌, ◌&&◌, true, false, length, slice_index_or};
+ghost use Rattle.std.specs.Prelude.{slice_set, take, Some, IfOk, IfErr, IfSome, IsTrue};
 ghost use Rattle.std.specs.Int.{bit_at};
 ghost use Rattle.design_cell.specs.Table.{table_of, look, change, IsLook, IsChange};
 ghost use Rattle.design_cell.specs.Next.{has_changed, is_in_group, AreUnchanged, next};
@@ -52,8 +53,8 @@ impl Model for Udp {
 }
 
 impl Udp {
-    /// The primitive of these rows, or the first refusal in the order of `UdpErr`. Memory is taken, and may be wanting, for
-    /// legal rows only: a copy of the rows, and 872 bytes for each 64 of them.
+    /// The primitive of these rows, or the first refusal in the order of `UdpErr`. Memory is taken, and may be wanting,
+    /// for legal rows only: a copy of the rows, and 872 bytes for each 64 of them.
     pub fn build(
         alloc: Global,
         sequential: bool,
@@ -183,8 +184,8 @@ impl Udp {
         }
     }
 
-    /// The state of a register after its pins went from old values to new ones: the clock pins first, in port order, and then
-    /// the others. Bit i of `clocks` stands for pin i.
+    /// The state of a register after its pins went from old values to new ones: the clock pins first, in port order,
+    /// and then the others. Bit i of `clocks` stands for pin i.
     pub fn next(&self, clocks: u16, old: &[Value], new: &[Value], q: Value) -> Value
         requires kind { self.now.sequential ≡ true }
         requires old { length old.now ≡ self.now.inputs }
@@ -195,8 +196,8 @@ impl Udp {
         self.next_by(clocks, old, new, q).state
     }
 
-    /// The row that gave the state at the last of the changes that `next` makes, the first row being 1; none exactly where
-    /// no pin changed or no row matched there.
+    /// The row that gave the state at the last of the changes that `next` makes, the first row being 1; none exactly
+    /// where no pin changed or no row matched there.
     pub fn last_row(&self, clocks: u16, old: &[Value], new: &[Value], q: Value) -> Option<usize>
         requires kind { self.now.sequential ≡ true }
         requires old { length old.now ≡ self.now.inputs }
@@ -273,8 +274,8 @@ impl Udp {
         self.changed(pins, pin, old[pin], q)
     }
 
-    /// The bit at which the pins hold a register whatever its state is: where at the state 0 and at the state 1 a level row
-    /// matches them and gives it. Else it is x.
+    /// The bit at which the pins hold a register whatever its state is: where at the state 0 and at the state 1 a level
+    /// row matches them and gives it. Else it is x.
     #[tactic(auto, unfolding(crate::specs::Hold::hold))]
     pub fn hold(&self, pins: &[Value]) -> Value
         requires pins { length pins.now ≡ self.now.inputs }
@@ -298,8 +299,9 @@ impl Udp {
         self.output(search(&self.blocks, None, pins, q).level, q)
     }
 
-    /// Whether a pin is a clock pin: whether, for some 0 or 1 on every pin that is not dead and on the state, a change of it
-    /// between 0 and 1 matches no level row and gives a known value other than the state. Bit i of `dead` stands for pin i.
+    /// Whether a pin is a clock pin: whether, for some 0 or 1 on every pin that is not dead and on the state, a change
+    /// of it between 0 and 1 matches no level row and gives a known value other than the state. Bit i of `dead` stands
+    /// for pin i.
     pub fn is_clock(&self, dead: u16, pin: usize) -> bool
         requires kind { self.now.sequential ≡ true }
         requires pin { pin < self.now.inputs }

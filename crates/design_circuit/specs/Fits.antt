@@ -1,5 +1,6 @@
 -- When a job fits, and where its fillings are read.
-use Rattle.std.specs.Prelude.{◌≡◌, ℕ, ◌+◌, ◌*◌, ◌%◌, ◌/◌, ◌<◌, ◌≤◌, ◌^◌, ◌==◌, Bool, true, false, ◌&&◌, List, [], ◌∷◌, length, slice_index, count_by, not, nat_lt}
+use Rattle.std.specs.Prelude.{◌≡◌, ℕ, ◌+◌, ◌*◌, ◌%◌, ◌/◌, ◌<◌, ◌≤◌, ◌^◌, ◌==◌, Bool, true, false, ◌&&◌, List, [], ◌∷◌}
+use Rattle.std.specs.Prelude.{length, slice_index, count_by, not, nat_lt}
 use Rattle.std.specs.Int.{bit_at}
 use Rattle.std.specs.List.{AllByRecursion, list_any}
 use Rattle.design_cell.specs.Value.{is_unknown}
@@ -51,7 +52,8 @@ pub record FitsRegister (udps : List Primitive) (width : ℕ) (latching : Latchi
   pub primitive : FitsPrimitive udps true latching.udp (length latching.pins)
   pub live : count_by (λ pin. not (is_dead pin)) latching.pins ≤ 6
   pub nets : AllByRecursion (λ net. net < width) (net_pins latching.pins)
-  pub clocks : (pin : ℕ) → pin < 16 → (bit_at latching.clocks pin == 1) ≡ is_clock_pin (primitive_of udps latching.udp) latching.pins pin
+  pub clocks : (pin : ℕ) → pin < 16 → (bit_at latching.clocks pin == 1)
+      ≡ is_clock_pin (primitive_of udps latching.udp) latching.pins pin
   pub start : latching.start ≡ Z → ⊥
 
 -- A cell has as many pins as its table takes, and a register fits.
@@ -72,12 +74,13 @@ pub record StandsBefore (j : Job) (position net : ℕ) : Type 0 where
 abbrev pub Standing : Job → ℕ → List ℕ → Type 0
 Standing j position nets = AllByRecursion (StandsBefore j position) nets
 
--- The order lists each net behind its arguments, each driver fits, no register starts at z, a moment has 1 to 16 rounds,
--- and there are at most 2^20 nets and 2^40 places.
+-- The order lists each net behind its arguments, each driver fits, no register starts at z, a moment has 1 to 16
+-- rounds, and there are at most 2^20 nets and 2^40 places.
 pub record Fits (j : Job) : Type 0 where
   pub ordering : IsOrdering j.order
   pub all : length j.order ≡ j.width
-  pub arguments : (p : ℕ) → p < j.width → AllByRecursion (StandsBefore j p) (arguments_of_driver (j.driver (slice_index j.order p)))
+  pub arguments : (p : ℕ) → p < j.width → AllByRecursion (StandsBefore j p)
+      (arguments_of_driver (j.driver (slice_index j.order p)))
   pub pins : (net : ℕ) → net < j.width → FitsDriver j.udps j.width (j.driver net)
   pub start : (net : ℕ) → net < j.width → j.start net ≡ Z → ⊥
   pub some_round : 0 < j.rounds
@@ -98,8 +101,8 @@ chooses_of j step net (Cell (Gate gate) pins) = list_any is_dead pins
 chooses_of j step net (Cell (Udp number) pins) = true
 chooses_of j step net (Register latching) = true
 
--- Where a world may read its filling: at round 0 of an input that isn't recorded known and of a net without a driver, at
--- a gate with a dead pin, and at any primitive. At any other place the rule gives 0 or 1.
+-- Where a world may read its filling: at round 0 of an input that isn't recorded known and of a net without a driver,
+-- at a gate with a dead pin, and at any primitive. At any other place the rule gives 0 or 1.
 abbrev pub may_read_filling : Job → ℕ → Bool
 may_read_filling j place = chooses_of j (step_of j place) (net_of j place) (j.driver (net_of j place))
 

@@ -28,7 +28,8 @@ pub record ShowsPlace (circuit : Circuit) (history : HistoryView) (place : ℕ) 
 -- A history is the replay under forces.
 pub record IsReplayUnder (j : Job) (forced : ℕ → Option Value) (history : HistoryView) : Type 0 where
   pub places : HasPlaces j history
-  pub held : (place : ℕ) → place < places_of j → held_of j history place ≡ slice_index_or (replay_under j forced (places_of j)) place blank
+  pub held : (place : ℕ) → place < places_of j → held_of j history place
+      ≡ slice_index_or (replay_under j forced (places_of j)) place blank
 
 abbrev pub IsReplay : Job → HistoryView → Type 0
 IsReplay j history = IsReplayUnder j (λ place. None) history

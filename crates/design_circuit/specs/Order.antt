@@ -1,5 +1,6 @@
 -- The order of the nets within a step.
-use Rattle.std.specs.Prelude.{◌≡◌, ℕ, ◌+◌, ◌<◌, ◌≤◌, ◌^◌, ◌==◌, List, [], ◌∷◌, length, take, slice_index, if◌then◌else◌, Contains}
+use Rattle.std.specs.Prelude.{◌≡◌, ℕ, ◌+◌, ◌<◌, ◌≤◌, ◌^◌, ◌==◌, List, [], ◌∷◌, length, take, slice_index, if◌then◌else◌}
+use Rattle.std.specs.Prelude.{Contains}
 use Rattle.std.specs.List.{AllByRecursion}
 use Rattle.design_circuit.specs.declared.design.Pin.{Pin}
 use Rattle.design_circuit.specs.declared.design.Pin.TheVariants.{Net, Bit, Dead}
@@ -53,7 +54,8 @@ pub record IsOrder (driver : ℕ → Driver) (width : ℕ) (nets : List ℕ) : T
 pub record IsLoop (driver : ℕ → Driver) (width : ℕ) (nets : List ℕ) : Type 0 where
   pub some : 0 < length nets
   pub within : (p : ℕ) → p < length nets → slice_index nets p < width
-  pub closed : (p : ℕ) → p < length nets → (argument : ℕ) × Contains (arguments_of_driver (driver (slice_index nets p))) argument × Contains nets argument
+  pub closed : (p : ℕ) → p < length nets → (argument : ℕ)
+      × Contains (arguments_of_driver (driver (slice_index nets p))) argument × Contains nets argument
 
 -- The second list has for each net where it stands in the first.
 pub record IsIndexed (nets positions : List ℕ) : Type 0 where

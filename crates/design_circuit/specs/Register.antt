@@ -55,7 +55,8 @@ new_pins j values step pins = pins_at j values (step - 1) pins
 -- What it keeps then: what its primitive makes of the pins that it looks back at, and of what it kept one step before.
 abbrev pub updated : Job → (ℕ → Value) → Value → ℕ → Latching → Value
 updated j values kept step latching =
-    next (primitive_of j.udps latching.udp) latching.clocks (old_pins j values step latching.pins) (new_pins j values step latching.pins) kept
+    next (primitive_of j.udps latching.udp) latching.clocks (old_pins j values step latching.pins)
+    (new_pins j values step latching.pins) kept
 
 -- The bit at which its pins one step back hold it whatever its state is, else x.
 abbrev pub hold_at : Job → (ℕ → Value) → ℕ → Latching → Value
@@ -63,13 +64,15 @@ hold_at j values step latching = hold (primitive_of j.udps latching.udp) (new_pi
 
 -- One of the clock pins is x or z.
 abbrev pub has_unknown_clock : ℕ → List Value → Bool
-has_unknown_clock clocks values = any_below (length values) (λ pin. (bit_at clocks pin == 1) && is_unknown (slice_index_or values pin X))
+has_unknown_clock clocks values =
+    any_below (length values) (λ pin. (bit_at clocks pin == 1) && is_unknown (slice_index_or values pin X))
 
 -- A clock pin isn't certain where the register looks back at it. So where registers start cold, no clock pin is certain
 -- before step 0, a constant one among them.
 abbrev pub has_uncertain_clock : Job → (ℕ → Value) → ℕ → Latching → Bool
 has_uncertain_clock j certain step latching =
-    has_unknown_clock latching.clocks (old_pins j certain step latching.pins) || has_unknown_clock latching.clocks (new_pins j certain step latching.pins)
+    has_unknown_clock latching.clocks (old_pins j certain step latching.pins)
+    || has_unknown_clock latching.clocks (new_pins j certain step latching.pins)
 
 -- The same, and where levels hold registers also where it looked back one step before (at step 2, before step 0).
 abbrev pub also_before : Levels → Bool → Bool

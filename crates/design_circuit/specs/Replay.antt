@@ -1,5 +1,6 @@
 -- The replay: what a simulator of four values shows at each place.
-use Rattle.std.specs.Prelude.{ℕ, zero, suc, ◌+◌, ◌-◌, ◌/◌, ◌==◌, Option, None, List, [], ◌∷◌, ◌++◌, slice_index_or, unwrap_or, if◌then◌else◌}
+use Rattle.std.specs.Prelude.{ℕ, zero, suc, ◌+◌, ◌-◌, ◌/◌, ◌==◌, Option, None, List, [], ◌∷◌, ◌++◌, slice_index_or}
+use Rattle.std.specs.Prelude.{unwrap_or, if◌then◌else◌}
 use Rattle.design_cell.specs.declared.value.Value.{Value}
 use Rattle.design_cell.specs.declared.value.Value.TheVariants.{X, Z}
 use Rattle.design_cell.specs.Value.{bit_value}
@@ -29,7 +30,8 @@ table_of udps (Udp number) pins = look (primitive_of udps number) pins
 -- What a register keeps at a step: its start at step 0, later what it makes of the values shown and of what it kept.
 abbrev pub register_kept : Job → (ℕ → Held) → ℕ → ℕ → Latching → Value
 register_kept j earlier step net latching =
-    if step == 0 then j.start net else updated j (λ place. (earlier place).shown) (earlier (at j (step - 1) net)).kept step latching
+    if step == 0 then j.start net else updated j (λ place. (earlier place).shown)
+    (earlier (at j (step - 1) net)).kept step latching
 
 -- What a driver gives at a step, from what earlier places have: an input its recorded value of the moment, no driver z,
 -- a copy its argument's value, a cell its table's, a register what it keeps.
@@ -38,7 +40,8 @@ driven j earlier step net Input = j.recorded (step / j.rounds) net
 driven j earlier step net Undriven = Z
 driven j earlier step net (Constant bit) = bit_value bit
 driven j earlier step net (Copy argument) = (earlier (at j step argument)).shown
-driven j earlier step net (Cell table pins) = table_of j.udps table (pins_at j (λ place. (earlier place).shown) step pins)
+driven j earlier step net (Cell table pins) =
+    table_of j.udps table (pins_at j (λ place. (earlier place).shown) step pins)
 driven j earlier step net (Register latching) = register_kept j earlier step net latching
 
 -- What a driver keeps at a step: no driver but a register keeps anything.
@@ -80,7 +83,8 @@ replay_under j forced (suc n) =
 abbrev pub replay : Job → ℕ → List Held
 replay j n = replay_under j (λ place. None) n
 
--- The value that the replay shows at a place, and the one that it keeps there, which depend on the places up to it alone.
+-- The value that the replay shows at a place, and the one that it keeps there, which depend on the places up to it
+-- alone.
 abbrev pub shown_at : Job → ℕ → Value
 shown_at j place = (slice_index_or (replay j (place + 1)) place blank).shown
 

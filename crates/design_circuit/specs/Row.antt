@@ -34,8 +34,10 @@ pub record AreWritten (history : HistoryView) (step : ℕ) (changes : List Chang
   pub inside : AreInWidth history.nets changes
   pub others : (net : ℕ) → HasPlace history (net_place step net) → IsUnwritten changes net
       → held_in history (net_place step net) ≡ held_in history (net_place (step - 1) net)
-  pub follows : (bytes : List ℕ) → AreBytesAt history (step - 1) bytes → AreBytesAt history step (row_with bytes changes)
+  pub follows : (bytes : List ℕ) → AreBytesAt history (step - 1) bytes
+      → AreBytesAt history step (row_with bytes changes)
 
 -- Every place of a step is blank.
 abbrev pub IsBlankAt : HistoryView → ℕ → Type 0
-IsBlankAt history step = (net : ℕ) → HasPlace history (net_place step net) → held_in history (net_place step net) ≡ blank
+IsBlankAt history step =
+    (net : ℕ) → HasPlace history (net_place step net) → held_in history (net_place step net) ≡ blank

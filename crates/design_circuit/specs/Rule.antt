@@ -40,8 +40,8 @@ abbrev pub remade : Job → (ℕ → Value) → Value → ℕ → Latching → V
 remade j values kept step latching =
     held_or j.levels (hold_at j values step latching) (updated j values kept step latching)
 
--- A register is at its start at step 0. Later, where a clock pin isn't certain, it makes what it can of the certain values;
--- else what it makes of the bits.
+-- A register is at its start at step 0. Later, where a clock pin isn't certain, it makes what it can of the certain
+-- values; else what it makes of the bits.
 abbrev pub register_rule : Job → (ℕ → Value) → (ℕ → Bool) → ℕ → ℕ → Latching → Value
 register_rule j certain bits step net latching =
     if step == 0 then j.start net
@@ -89,7 +89,8 @@ register_arguments j certain step net latching =
     else old_places j step latching.pins ++ (places_at j (step - 1) latching.pins ++ at j (step - 1) net ∷ [])
 
 abbrev pub arguments_of : Job → (ℕ → Value) → ℕ → ℕ → Driver → List ℕ
-arguments_of j certain step net Input = if is_unknown (j.recorded (step / j.rounds) net) then born_arguments j step net else []
+arguments_of j certain step net Input =
+    if is_unknown (j.recorded (step / j.rounds) net) then born_arguments j step net else []
 arguments_of j certain step net Undriven = born_arguments j step net
 arguments_of j certain step net (Constant bit) = []
 arguments_of j certain step net (Copy argument) = at j step argument ∷ []

@@ -21,12 +21,14 @@ IsSettledAt j step net Undriven = Unit {0}
 IsSettledAt j step net (Constant bit) = Unit {0}
 IsSettledAt j step net (Copy argument) = Unit {0}
 IsSettledAt j step net (Cell table pins) = Unit {0}
-IsSettledAt j step net (Register latching) = updated j (shown_at j) (kept_at j (at j step net)) (step + 1) latching ≡ kept_at j (at j step net)
+IsSettledAt j step net (Register latching) =
+    updated j (shown_at j) (kept_at j (at j step net)) (step + 1) latching ≡ kept_at j (at j step net)
 
 -- A moment is settled where each register is at its last step.
 abbrev pub IsSettled : Job → ℕ → Type 0
 IsSettled j moment = (net : ℕ) → net < j.width → IsSettledAt j (last_step j moment) net (j.driver net)
 
--- The bits of a variable agree in a moment where its nets show these values at the last step, all four values told apart.
+-- The bits of a variable agree in a moment where its nets show these values at the last step, all four values told
+-- apart.
 abbrev pub AgreesIn : Job → ℕ → List ℕ → List Value → Type 0
 AgreesIn j moment nets values = map (λ net. shown_at j (at j (last_step j moment) net)) nets ≡ values

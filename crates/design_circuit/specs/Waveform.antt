@@ -70,12 +70,15 @@ IsExactAt j waveform place = ExactBy j waveform place (written_at waveform place
 abbrev pub IsExact : Job → List Written → Type 0
 IsExact j waveform = (place : ℕ) → place < length waveform → IsExactAt j waveform place
 
--- What a history shows stands in a waveform: a place that the history knows has its value, an uncertain place shows what
--- the history shows, and no unknown place is known to it.
+-- What a history shows stands in a waveform: a place that the history knows has its value, an uncertain place shows
+-- what the history shows, and no unknown place is known to it.
 pub record Shows (shown : ℕ → Value) (waveform : List Written) : Type 0 where
-  pub known : (place : ℕ) → place < length waveform → IsKnown (shown place) → (written_at waveform place).value ≡ shown place
-  pub uncertain : (place : ℕ) → place < length waveform → ((written_at waveform place).mark ≡ Certain → ⊥) → (written_at waveform place).value ≡ shown place
-  pub open_ : (place : ℕ) → place < length waveform → (written_at waveform place).mark ≡ Unknown → IsKnown (shown place) → ⊥
+  pub known : (place : ℕ) → place < length waveform → IsKnown (shown place) → (written_at waveform place).value
+      ≡ shown place
+  pub uncertain : (place : ℕ) → place < length waveform → ((written_at waveform place).mark ≡ Certain → ⊥)
+      → (written_at waveform place).value ≡ shown place
+  pub open_ : (place : ℕ) → place < length waveform → (written_at waveform place).mark ≡ Unknown → IsKnown (shown place)
+      → ⊥
 
 abbrev pub ShowsReplay : Job → List Written → Type 0
 ShowsReplay j waveform = Shows (shown_at j) waveform

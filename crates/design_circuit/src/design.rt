@@ -108,9 +108,9 @@ impl Design {
         }
     }
 
-    /// The name of a net as it is written: the instances below the top that lead to it and its own name, joined by dots,
-    /// each escaped one with its backslash and its space, and the index of a vector's bit in brackets (IEEE 1364-2005,
-    /// clause 3). Takes a byte for each that is written.
+    /// The name of a net as it is written: the instances below the top that lead to it and its own name, joined by
+    /// dots, each escaped one with its backslash and its space, and the index of a vector's bit in brackets (IEEE
+    /// 1364-2005, clause 3). Takes a byte for each that is written.
     pub fn written_name(&self, alloc: Global, net: u32) -> Result<Vec<u8>, Memory>
         requires { net < length self.now.nets }
         ensures { IfOk result (λ text. text.items ≡ written_name (name_in self.now net)) }

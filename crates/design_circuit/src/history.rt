@@ -3,7 +3,8 @@
 ghost use Rattle.std.specs.Prelude.{◌≡◌, ℕ, List, ◌*◌, ◌<◌, ◌≤◌, ◌^◌, IfNone, IfOk, IfSome, IsFalse, length};
 ghost use Rattle.design_circuit.specs.Handed.{IsBlank};
 ghost use Rattle.design_circuit.specs.Job.{job_of};
-ghost use Rattle.design_circuit.specs.History.{AreRows, HasPlace, blank_history, held_in, held_of_byte, history_by, net_place};
+ghost use Rattle.design_circuit.specs.History.{AreRows, HasPlace, blank_history, held_in, held_of_byte, history_by};
+ghost use Rattle.design_circuit.specs.History.{net_place};
 ghost use Rattle.design_circuit.specs.Row.{AreWritten, IsBlankAt};
 
 use crate::design::Design;

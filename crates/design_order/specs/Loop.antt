@@ -1,5 +1,6 @@
 -- When the nets of a design can't be ordered, and which loop of them is told.
-use Rattle.std.specs.Prelude.{◌≡◌, ℕ, ◌+◌, ◌-◌, ◌<◌, ◌==◌, Option, Some, List, length, take, drop, find, not, slice_index, Contains}
+use Rattle.std.specs.Prelude.{◌≡◌, ℕ, ◌+◌, ◌-◌, ◌<◌, ◌==◌, Option, Some, List, length, take, drop, find, not}
+use Rattle.std.specs.Prelude.{slice_index, Contains}
 use Rattle.std.specs.List.{list_any}
 pub use Rattle.design_circuit.specs.Order.{IsLoop}
 use Rattle.design_circuit.specs.Order.{arguments_of_driver, IsNext}
@@ -15,7 +16,8 @@ IsListing driver width listed = (p : ℕ) → p < length listed → IsNext drive
 
 -- the first argument of a net, in pin order, that isn't listed
 abbrev pub first_unlisted : (ℕ → Driver) → List ℕ → ℕ → Option ℕ
-first_unlisted driver listed net = find (λ argument. not (list_any (λ other. other == argument) listed)) (arguments_of_driver (driver net))
+first_unlisted driver listed net =
+    find (λ argument. not (list_any (λ other. other == argument) listed)) (arguments_of_driver (driver net))
 
 -- The net is the least that isn't listed.
 pub record IsLeastUnlisted (width : ℕ) (listed : List ℕ) (net : ℕ) : Type 0 where
@@ -27,11 +29,12 @@ pub record IsLeastUnlisted (width : ℕ) (listed : List ℕ) (net : ℕ) : Type 
 pub record IsWalk (driver : ℕ → Driver) (width : ℕ) (listed walk : List ℕ) : Type 0 where
   pub some : 0 < length walk
   pub start : IsLeastUnlisted width listed (slice_index walk 0)
-  pub step : (p : ℕ) → p + 1 < length walk → first_unlisted driver listed (slice_index walk p) ≡ Some (slice_index walk (p + 1))
+  pub step : (p : ℕ) → p + 1 < length walk → first_unlisted driver listed (slice_index walk p)
+      ≡ Some (slice_index walk (p + 1))
   pub once : (p q : ℕ) → p < q → q < length walk → slice_index walk p ≡ slice_index walk q → ⊥
 
--- The loop that is told: list the nets as long as one can come next; walk until a net comes again; the loop is the walk from
--- where it came first.
+-- The loop that is told: list the nets as long as one can come next; walk until a net comes again; the loop is the walk
+-- from where it came first.
 pub record IsToldLoop (driver : ℕ → Driver) (width : ℕ) (nets : List ℕ) : Type 0 where
   pub listed : List ℕ
   pub listing : IsListing driver width listed

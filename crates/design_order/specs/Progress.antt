@@ -1,5 +1,6 @@
 -- How far the listing of the nets has come. No contract of a public call names it.
-use Rattle.std.specs.Prelude.{◌≡◌, ℕ, ◌<◌, ◌&&◌, Bool, true, false, Option, List, [], ◌∷◌, length, find, not, slice_index_or, Contains, is_some, ◌⊎◌}
+use Rattle.std.specs.Prelude.{◌≡◌, ℕ, ◌<◌, ◌&&◌, Bool, true, false, Option, List, [], ◌∷◌, length, find, not}
+use Rattle.std.specs.Prelude.{slice_index_or, Contains, is_some, ◌⊎◌}
 use Rattle.std.specs.List.{count_by}
 use Rattle.design_circuit.specs.Order.{arguments_of_driver}
 use Rattle.design_circuit.specs.declared.design.Driver.{Driver}
@@ -23,7 +24,8 @@ first_open flags nets = find (λ net. not (flag_at flags net)) nets
 
 -- A net can come next where it isn't listed and its arguments all are.
 unfoldable pub can_come : (ℕ → Driver) → List Bool → ℕ → Bool
-can_come driver flags net = not (flag_at flags net) && not (is_some (first_open flags (arguments_of_driver (driver net))))
+can_come driver flags net =
+    not (flag_at flags net) && not (is_some (first_open flags (arguments_of_driver (driver net))))
 
 -- the nets listed so far, and their flags
 pub record IsListed (driver : ℕ → Driver) (width : ℕ) (listed : List ℕ) (flags : List Bool) : Type 0 where
@@ -42,7 +44,8 @@ abbrev pub IsComplete : (ℕ → Driver) → ℕ → List Bool → (ℕ → Bool
 IsComplete driver width flags ready = (net : ℕ) → net < width → can_come driver flags net ≡ true → ready net ≡ true
 
 -- between two steps the set has exactly the nets that can come next
-pub record IsProgress (driver : ℕ → Driver) (width : ℕ) (listed : List ℕ) (flags : List Bool) (ready : ℕ → Bool) : Type 0 where
+pub record IsProgress (driver : ℕ → Driver) (width : ℕ) (listed : List ℕ) (flags : List Bool)
+    (ready : ℕ → Bool) : Type 0 where
   pub listed_ : IsListed driver width listed flags
   pub sound : IsSound driver width flags ready
   pub complete : IsComplete driver width flags ready

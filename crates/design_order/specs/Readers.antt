@@ -32,12 +32,15 @@ IsTableOf width readers = IsReaderLinks width readers.heads.items readers.links.
 -- Each of the first nets stands among the readers of each of its arguments.
 abbrev pub AreReaders : (ℕ → Driver) → ℕ → Readers → Type 0
 AreReaders driver end readers =
-    (net argument : ℕ) → net < end → Contains (arguments_of_driver (driver net)) argument → InChain readers.links.items (head_at readers.heads.items argument) net
+    (net argument : ℕ) → net < end → Contains (arguments_of_driver (driver net)) argument
+    → InChain readers.links.items (head_at readers.heads.items argument) net
 
 -- A net is a reader of some nets more, and who read before reads still.
-pub record Adds (heads : List (Option ℕ)) (links : List Link) (new_heads : List (Option ℕ)) (new_links : List Link) (arguments : List ℕ) (net : ℕ) : Type 0 where
+pub record Adds (heads : List (Option ℕ)) (links : List Link) (new_heads : List (Option ℕ)) (new_links : List Link)
+    (arguments : List ℕ) (net : ℕ) : Type 0 where
   pub table : IsReaderLinks (length heads) new_heads new_links
-  pub keeps : (argument reader : ℕ) → InChain links (head_at heads argument) reader → InChain new_links (head_at new_heads argument) reader
+  pub keeps : (argument reader : ℕ) → InChain links (head_at heads argument) reader
+      → InChain new_links (head_at new_heads argument) reader
   pub added : (argument : ℕ) → Contains arguments argument → InChain new_links (head_at new_heads argument) net
 
 abbrev pub AddsTo : Readers → Readers → List ℕ → ℕ → Type 0

@@ -1,7 +1,7 @@
 //! The order of a design's nets, in which each net stands behind its arguments, or a loop of nets where there is none.
 //!
-//! The least net whose arguments are all listed comes next (Kahn's method with an ordered set): n log n for n nets with few
-//! pins each. Start at `order`.
+//! The least net whose arguments are all listed comes next (Kahn's method with an ordered set): n log n for n nets with
+//! few pins each. Start at `order`.
 #![tactic(auto)]
 
 mod arguments;

@@ -14,8 +14,8 @@ use base_lists::Items;
 use design_circuit::{Design, Order as NetOrder};
 use std::alloc::Global;
 
-/// The order of a design's nets: again and again the least net that isn't listed and whose arguments all are comes next.
-/// Takes some 60 bytes for each net and up to 48 for each argument, of which the order keeps eight for each net.
+/// The order of a design's nets: again and again the least net that isn't listed and whose arguments all are comes
+/// next. Takes some 60 bytes for each net and up to 48 for each argument, of which the order keeps eight for each net.
 pub fn order(alloc: Global, design: &Design) -> Result<NetOrder, OrderErr>
     requires { FitsDesign design.now }
     ensures order { IfOk result (λ order. IsOrder (driver_in design.now) (length design.now.nets) order) }

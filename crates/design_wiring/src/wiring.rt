@@ -38,8 +38,8 @@ pub struct Head {
     pub end: u32,
 }
 
-/// For each position of an order the kind of driver and the pins that it reads, each net named by its position. Contracts
-/// see the list of these.
+/// For each position of an order the kind of driver and the pins that it reads, each net named by its position.
+/// Contracts see the list of these.
 #[derive(Debug, Drop)]
 pub struct Wiring {
     heads: Vec<Head>,

@@ -1,5 +1,6 @@
 -- The bits of an expression (IEEE 1364-2005, clauses 3.5, 4.2 and 5.1).
-use Rattle.std.specs.Prelude.{ℕ, ◌+◌, ◌-◌, ◌&&◌, nat_le, Option, Some, None, List, [], ◌∷◌, ◌++◌, Ok, Err, if◌then◌else◌}
+use Rattle.std.specs.Prelude.{ℕ, ◌+◌, ◌-◌, ◌&&◌, nat_le, Option, Some, None, List, [], ◌∷◌, ◌++◌, Ok, Err}
+use Rattle.std.specs.Prelude.{if◌then◌else◌}
 use Rattle.netlist_grammar.specs.Trees.{Range, whole_part, expr_of}
 use Rattle.netlist_grammar.specs.declared.tree.Word.{Word}
 use Rattle.netlist_grammar.specs.declared.tree.Part.{Part}

@@ -1,5 +1,6 @@
 -- The items of a module that do something at each of its instances.
-use Rattle.std.specs.Prelude.{◌≡◌, ℕ, ◌+◌, Bool, true, false, not, ◌&&◌, nat_lt, nat_le, is_some, Option, Some, None, List, [], ◌∷◌, max, Ok, if◌then◌else◌}
+use Rattle.std.specs.Prelude.{◌≡◌, ℕ, ◌+◌, Bool, true, false, not, ◌&&◌, nat_lt, nat_le, is_some, Option, Some, None}
+use Rattle.std.specs.Prelude.{List, [], ◌∷◌, max, Ok, if◌then◌else◌}
 use Rattle.netlist_grammar.specs.declared.tree.Word.{Word}
 use Rattle.netlist_grammar.specs.declared.tree.InstanceItem.{InstanceItem}
 use Rattle.netlist_grammar.specs.declared.tree.Item.{Item}

@@ -16,8 +16,8 @@ pub record AreTables (source : Source) (tables : List Table) : Type 0 where
   pub inputs : (k : ℕ) → k < length tables
       → (primitive_of tables k).inputs ≤ input_limit (primitive_of tables k).sequential
 
--- The modules are those of the text, in their order; the levels are theirs; the busy items are those of the modules; and
--- the tables are those of the primitives.
+-- The modules are those of the text, in their order; the levels are theirs; the busy items are those of the modules;
+-- and the tables are those of the primitives.
 pub record Holds (source : Source) (tables : List Table) (modules : List Module) (levels : List ℕ) (busy : List Busy)
     : Type 0 where
   pub modules_ : modules ≡ source.modules

@@ -1,5 +1,6 @@
 -- Modules that make no net: an instance of one is passed over.
-use Rattle.std.specs.Prelude.{◌≡◌, ◌≢◌, ℕ, ◌+◌, ◌<◌, ◌≤◌, Bool, true, false, not, ◌&&◌, nat_lt, nat_le, is_some, Option, Some, None, List, [], ◌∷◌, ◌++◌, length, slice_get, slice_index_or, Result, IfOk, IsTrue}
+use Rattle.std.specs.Prelude.{◌≡◌, ◌≢◌, ℕ, ◌+◌, ◌<◌, ◌≤◌, Bool, true, false, not, ◌&&◌, nat_lt, nat_le, is_some, Option}
+use Rattle.std.specs.Prelude.{Some, None, List, [], ◌∷◌, ◌++◌, length, slice_get, slice_index_or, Result, IfOk, IsTrue}
 use Rattle.std.specs.List.{list_all}
 use Rattle.netlist_grammar.specs.declared.tree.Word.{Word}
 use Rattle.netlist_grammar.specs.declared.tree.NetKind.{NetKind}

@@ -32,8 +32,8 @@ const MOST_MODULES: usize = 32;
 
 /// The design of a text's tree, with the module named `top` as its top, or the first reason why there is none: first
 /// the names of all definitions, then the primitives, then the top. Takes some 300 bytes for each net two instances
-/// below the top, 64 more for each instance further down, and for each definition the memory of its name, its level, its
-/// ports, the names that it declares and two references for each of its items.
+/// below the top, 64 more for each instance further down, and for each definition the memory of its name, its level,
+/// its ports, the names that it declares and two references for each of its items.
 #[tactic(auto, using(crate::proofs::Answering::answer_by, crate::proofs::Answering::fits))]
 pub fn elaborate(alloc: Global, source: &Source, top: &str) -> Result<Design, ElabErr>
     requires whole { IsWhole source.now }

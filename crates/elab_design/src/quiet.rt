@@ -28,8 +28,8 @@ pub fn is_quiet(
     }
 }
 
-/// Whether each item declares a `reg`, or is an instance that connects nothing, of a module of a lower level, with a name
-/// of its own.
+/// Whether each item declares a `reg`, or is an instance that connects nothing, of a module of a lower level, with a
+/// name of its own.
 fn are_quiet(
     alloc: Global,
     definitions: &Definitions<'_>,

@@ -1,5 +1,6 @@
 -- Gates, pullups and pulldowns (IEEE 1364-2005, clauses 7.2, 7.3 and 7.8).
-use Rattle.std.specs.Prelude.{ℕ, ◌-◌, Bool, true, false, ◌&&◌, nat_le, List, [], ◌∷◌, length, take, drop, Ok, Err, if◌then◌else◌}
+use Rattle.std.specs.Prelude.{ℕ, ◌-◌, Bool, true, false, ◌&&◌, nat_le, List, [], ◌∷◌, length, take, drop, Ok, Err}
+use Rattle.std.specs.Prelude.{if◌then◌else◌}
 use Rattle.design_cell.specs.declared.gate.Gate.{Gate}
 use Rattle.design_cell.specs.declared.gate.Gate.TheVariants as kind
 use Rattle.netlist_grammar.specs.declared.tree.Expr.{Expr}

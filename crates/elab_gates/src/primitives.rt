@@ -19,8 +19,8 @@ use smallvec::SmallVec;
 /// The most live pins of a register.
 const MOST_LIVE: usize = 6;
 
-/// An instance of the primitive at a position: its output takes it. Takes memory for the driver, for the implicit wires,
-/// and for clock pins that come for the first time.
+/// An instance of the primitive at a position: its output takes it. Takes memory for the driver, for the implicit
+/// wires, and for clock pins that come for the first time.
 pub fn add_udp<'t>(
     here: &mut Here<'t>,
     clocks: &mut Clocks<'_>,

@@ -17,8 +17,8 @@ use netlist_grammar::{Connections, InstanceItem, Word};
 use std::alloc::{AllocError, Global};
 use std::mem;
 
-/// Opens the module of an instance, the child, and connects its ports. Goes into the child, and answers the names outside.
-/// Takes memory for its nets, for its path, and for the parts of the connections.
+/// Opens the module of an instance, the child, and connects its ports. Goes into the child, and answers the names
+/// outside. Takes memory for its nets, for its path, and for the parts of the connections.
 pub fn join<'t>(
     here: &mut Here<'t>,
     child: &'t Declarations<'t>,

@@ -1,5 +1,6 @@
 -- The declarations and the ports of a module (IEEE 1364-2005, clauses 4 and 12.3).
-use Rattle.std.specs.Prelude.{ℕ, ◌==◌, Bool, true, false, not, ◌&&◌, ◌||◌, Option, Some, None, List, [], ◌∷◌, ◌++◌, Ok, Err, if◌then◌else◌}
+use Rattle.std.specs.Prelude.{ℕ, ◌==◌, Bool, true, false, not, ◌&&◌, ◌||◌, Option, Some, None, List, [], ◌∷◌, ◌++◌, Ok}
+use Rattle.std.specs.Prelude.{Err, if◌then◌else◌}
 use Rattle.netlist_grammar.specs.Trees.{Range}
 use Rattle.netlist_grammar.specs.declared.tree.Word.{Word}
 use Rattle.netlist_grammar.specs.declared.tree.NetKind.{NetKind}
@@ -46,7 +47,8 @@ declared_again None d here = after (introduced d.what d.range d.name here) (λ m
 -- A direction is for a port.
 abbrev pub declared : List Word → Declare → Here → Outcome Here
 declared ports d here =
-    if is_directed d.what && not (is_among ports d.name.text) then Err (PortMismatch d.name.at) else declared_again (entry_of here.scope d.name.text) d here
+    if is_directed d.what && not (is_among ports d.name.text) then Err (PortMismatch d.name.at) else declared_again
+    (entry_of here.scope d.name.text) d here
 
 -- The declarations in text order.
 abbrev pub all_declared : List Word → List Item → Here → Outcome Here
@@ -61,7 +63,8 @@ has_direction None = false
 -- A port is named once and has a direction; these names come before.
 abbrev pub port_checked : Scope → List (List ℕ) → Word → Outcome (List (List ℕ))
 port_checked scope seen p =
-    if has seen p.text || not (has_direction (entry_of scope p.text)) then Err (PortMismatch p.at) else Ok (seen ++ p.text ∷ [])
+    if has seen p.text || not (has_direction (entry_of scope p.text)) then Err (PortMismatch p.at) else Ok
+    (seen ++ p.text ∷ [])
 
 abbrev pub ports_checked : Scope → List (List ℕ) → List Word → Outcome Scope
 ports_checked scope seen [] = Ok scope

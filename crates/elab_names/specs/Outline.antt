@@ -1,5 +1,6 @@
 -- What the declarations of a module come to, worked out once for all of its instances.
-use Rattle.std.specs.Prelude.{◌≡◌, ℕ, ◌+◌, ◌≤◌, ◌^◌, Bool, true, false, nat_le, not, ◌&&◌, Option, Some, None, is_some, List, [], ◌∷◌, ◌++◌, length, bytes_eq, Ok, if◌then◌else◌}
+use Rattle.std.specs.Prelude.{◌≡◌, ℕ, ◌+◌, ◌≤◌, ◌^◌, Bool, true, false, nat_le, not, ◌&&◌, Option, Some, None, is_some}
+use Rattle.std.specs.Prelude.{List, [], ◌∷◌, ◌++◌, length, bytes_eq, Ok, if◌then◌else◌}
 use Rattle.std.specs.Borrow.{Bor}
 use Rattle.std.specs.Map.{lookup}
 use Rattle.design_circuit.specs.declared.name.NamePart.{NamePart}

@@ -25,4 +25,5 @@ with_name name e s = record s { names = s.names ++ (name, e) ∷ [] }
 
 -- A module names each of its instances once.
 abbrev pub named_instance : Word → Scope → Outcome Scope
-named_instance w s = if has s.instances w.text then Err (BadName w.at) else Ok (record s { instances = s.instances ++ w.text ∷ [] })
+named_instance w s =
+    if has s.instances w.text then Err (BadName w.at) else Ok (record s { instances = s.instances ++ w.text ∷ [] })

@@ -81,8 +81,8 @@ impl<'t> Declarations<'t> {
         self.left.as_slice()
     }
 
-    /// Opens the module behind these instances: makes the nets that it declares, and answers its names. Takes memory for the
-    /// nets, and for names only where a declaration or a port is refused.
+    /// Opens the module behind these instances: makes the nets that it declares, and answers its names. Takes memory
+    /// for the nets, and for names only where a declaration or a port is refused.
     #[tactic(auto, using(crate::proofs::Outlining::counted))]
     pub fn open(
         &'t self,

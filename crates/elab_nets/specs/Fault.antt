@@ -5,7 +5,9 @@ use Rattle.design_cell.specs.declared.refusal.UdpErr.TheVariants as udp
 use Rattle.elab_nets.specs.declared.fault.ElabErr.{ElabErr}
 use Rattle.elab_nets.specs.declared.fault.ElabErr.TheVariants as refusal
 use Rattle.elab_nets.specs.declared.fault.ElabFault.{ElabFault}
-use Rattle.elab_nets.specs.declared.fault.ElabFault.TheVariants.{NoModule, TwoModules, SelfInstance, TooDeep, PortMismatch, Width, BadName, TwoDrivers, TooManyNets, TooManyLive, Udp}
+use Rattle.elab_nets.specs.declared.fault.ElabFault.TheVariants.{NoModule, TwoModules, SelfInstance, TooDeep}
+use Rattle.elab_nets.specs.declared.fault.ElabFault.TheVariants.{PortMismatch, Width, BadName, TwoDrivers, TooManyNets}
+use Rattle.elab_nets.specs.declared.fault.ElabFault.TheVariants.{TooManyLive, Udp}
 
 -- What is wrong with the tree. Want of memory says nothing about it.
 abbrev pub fault_in : ElabErr → Option ElabFault
@@ -47,7 +49,8 @@ udp_words udp.TooManyInputs = codes "too many inputs"
 udp_words (udp.RowLength row) = codes "row " ++ (decimal row ++ codes " length")
 udp_words (udp.BadSymbol row) = codes "row " ++ (decimal row ++ codes " symbol")
 udp_words (udp.TwoEdges row) = codes "row " ++ (decimal row ++ codes " two edges")
-udp_words (udp.Conflict first second) = codes "rows " ++ (decimal first ++ (codes " and " ++ (decimal second ++ codes " conflict")))
+udp_words (udp.Conflict first second) =
+    codes "rows " ++ (decimal first ++ (codes " and " ++ (decimal second ++ codes " conflict")))
 udp_words udp.Memory = codes "memory"
 
 -- the words of a refusal, without the byte or the name

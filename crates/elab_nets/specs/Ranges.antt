@@ -1,5 +1,6 @@
 -- The bits of a declared range, from its left index to its right one (IEEE 1364-2005, clause 4.3).
-use Rattle.std.specs.Prelude.{ℕ, zero, suc, ◌+◌, ◌-◌, Bool, ◌&&◌, ◌||◌, nat_le, Option, Some, None, List, [], ◌∷◌, ◌++◌, if◌then◌else◌}
+use Rattle.std.specs.Prelude.{ℕ, zero, suc, ◌+◌, ◌-◌, Bool, ◌&&◌, ◌||◌, nat_le, Option, Some, None, List, [], ◌∷◌, ◌++◌}
+use Rattle.std.specs.Prelude.{if◌then◌else◌}
 
 -- f 0, f 1 and so on, n of them
 abbrev pub upto : {A : Type 0} → (ℕ → A) → ℕ → List A

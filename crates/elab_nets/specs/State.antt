@@ -1,5 +1,6 @@
 -- What has been made so far: nets with their names and drivers.
-use Rattle.std.specs.Prelude.{ℕ, ◌+◌, ◌^◌, Bool, true, false, nat_le, Option, Some, None, is_some, List, [], ◌∷◌, ◌++◌, length, Ok, Err, if◌then◌else◌, slice_index_or, slice_set, unwrap_or, map}
+use Rattle.std.specs.Prelude.{ℕ, ◌+◌, ◌^◌, Bool, true, false, nat_le, Option, Some, None, is_some, List, [], ◌∷◌, ◌++◌}
+use Rattle.std.specs.Prelude.{length, Ok, Err, if◌then◌else◌, slice_index_or, slice_set, unwrap_or, map}
 use Rattle.std.specs.List.{zip}
 use Rattle.design_cell.specs.Table.{Table}
 use Rattle.netlist_grammar.specs.Trees.{Range}
@@ -29,8 +30,8 @@ abbrev pub net_count : NetKind → Range → ℕ
 net_count kind.Reg range = 0
 net_count _ range = width_of range
 
--- An input has a driver from the start: the world outside at the top, below it the connection, which may be empty. So has
--- a supply net (IEEE 1364-2005, clause 4.6.7).
+-- An input has a driver from the start: the world outside at the top, below it the connection, which may be empty. So
+-- has a supply net (IEEE 1364-2005, clause 4.6.7).
 abbrev pub first_driver : List NamePart → NetKind → Option Driver
 first_driver [] kind.Input = Some Input
 first_driver (_ ∷ _) kind.Input = Some Undriven
@@ -55,7 +56,8 @@ with_nets prefix what range w s = record {
 -- The nets of a name take the next free numbers, which are below 2^20.
 unfoldable pub made : List NamePart → NetKind → Range → Word → State → Outcome (ℕ × State)
 made prefix what range w s =
-    if nat_le (length s.names + net_count what range) (2 ^ 20) then Ok (length s.names, with_nets prefix what range w s) else Err (TooManyNets w.at)
+    if nat_le (length s.names + net_count what range) (2 ^ 20) then Ok
+    (length s.names, with_nets prefix what range w s) else Err (TooManyNets w.at)
 
 -- A number that is no net counts as driven.
 abbrev pub has_driver : State → ℕ → Bool

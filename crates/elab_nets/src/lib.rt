@@ -1,4 +1,5 @@
-//! What elaboration stands on: why a tree has no design, the bits of a range, and the nets that are being made. Start at `Nets`.
+//! What elaboration stands on: why a tree has no design, the bits of a range, and the nets that are being made. Start
+//! at `Nets`.
 #![tactic(auto)]
 
 mod fault;

@@ -24,8 +24,8 @@ pub struct NetDeclaration<'t> {
     pub name: &'t Word,
 }
 
-/// The name of each net, and its driver where it has one: at most 2^20 of them. Takes 81 bytes for each, its name and its
-/// pins apart.
+/// The name of each net, and its driver where it has one: at most 2^20 of them. Takes 81 bytes for each, its name and
+/// its pins apart.
 #[derive(Drop)]
 pub struct Nets {
     nets: Vec<Net>,
@@ -59,8 +59,8 @@ impl Nets {
         }
     }
 
-    /// Makes the nets of a declaration, and answers the number of the first. `prefix` are the instances that lead to its
-    /// module.
+    /// Makes the nets of a declaration, and answers the number of the first. `prefix` are the instances that lead to
+    /// its module.
     #[tactic(auto, unfolding(crate::specs::State::made))]
     pub fn make(
         &mut self,

@@ -1,5 +1,6 @@
 -- The tables of a text's primitives, or the first refusal (IEEE 1364-2005, clause 8).
-use Rattle.std.specs.Prelude.{◌≡◌, ◌≢◌, ◌⊎◌, ℕ, ◌-◌, true, false, List, [], ◌∷◌, length, slice_get, Some, Result, Ok, Err}
+use Rattle.std.specs.Prelude.{◌≡◌, ◌≢◌, ◌⊎◌, ℕ, ◌-◌, true, false, List, [], ◌∷◌, length, slice_get, Some, Result, Ok}
+use Rattle.std.specs.Prelude.{Err}
 use Rattle.design_cell.specs.declared.value.Value.{Value}
 use Rattle.design_cell.specs.declared.value.Value.TheVariants.{X, Z}
 use Rattle.design_cell.specs.declared.refusal.UdpErr.{UdpErr}
@@ -66,7 +67,8 @@ refusal_of at udp.Memory = Memory
 refusal_of at fault = Udp at fault
 
 -- What the primitives give is the answer, unless memory runs out.
-pub record IsAnswer {B : Type 0} (ps : List Primitive) (result : Result B ElabErr) (seen : B → List Table) : Type 0 where
+pub record IsAnswer {B : Type 0} (ps : List Primitive) (result : Result B ElabErr)
+    (seen : B → List Table) : Type 0 where
   pub told : (outcome : Outcome (List Table)) → AreBuilt ps outcome → Gives outcome result seen
 
 -- Each primitive has its table, whose start isn't z.

@@ -1,5 +1,6 @@
 -- The definitions of a text: modules and primitives, which share their names (IEEE 1364-2005, clauses 8.1 and 12).
-use Rattle.std.specs.Prelude.{◌≡◌, ◌<◌, ℕ, Bool, false, nat_lt, Option, Some, None, List, [], ◌∷◌, ◌++◌, map, length, position, bytes_eq, option_copied, Ok, Err, is_some, if◌then◌else◌}
+use Rattle.std.specs.Prelude.{◌≡◌, ◌<◌, ℕ, Bool, false, nat_lt, Option, Some, None, List, [], ◌∷◌, ◌++◌, map, length}
+use Rattle.std.specs.Prelude.{position, bytes_eq, option_copied, Ok, Err, is_some, if◌then◌else◌}
 use Rattle.std.specs.Borrow.{Bor}
 use Rattle.std.specs.Map.{lookup}
 use Rattle.std.specs.Option.{option_or, option_map}

@@ -1,5 +1,6 @@
 -- What holds wherever elaboration stands: the nets so far fit a design, and a module's names are those of its nets.
-use Rattle.std.specs.Prelude.{◌≡◌, ℕ, ◌+◌, ◌<◌, ◌≤◌, ◌^◌, true, List, [], ◌∷◌, ◌++◌, Option, Some, None, is_some, length, map, slice_index_or}
+use Rattle.std.specs.Prelude.{◌≡◌, ℕ, ◌+◌, ◌<◌, ◌≤◌, ◌^◌, true, List, [], ◌∷◌, ◌++◌, Option, Some, None, is_some}
+use Rattle.std.specs.Prelude.{length, map, slice_index_or}
 use Rattle.std.specs.List.{AllByRecursion, list_all}
 use Rattle.design_cell.specs.Table.{Table}
 use Rattle.design_circuit.specs.Design.{FitsName, is_part, no_name, spelling_of}

@@ -14,7 +14,8 @@ use Rattle.netlist_grammar.specs.declared.tree.Item.TheVariants as item
 use Rattle.netlist_grammar.specs.declared.tree.Module.{Module}
 use Rattle.netlist_grammar.specs.declared.tree.Primitive.{Primitive}
 use Rattle.netlist_grammar.specs.declared.tree.Source.{Source}
-use Rattle.netlist_grammar.specs.Trees.{whole_part, bit_part, literal_part, expr_of, declares, gate_of, row_of, instance_of, connection_of, named_of}
+use Rattle.netlist_grammar.specs.Trees.{whole_part, bit_part, literal_part, expr_of, declares, gate_of, row_of}
+use Rattle.netlist_grammar.specs.Trees.{instance_of, connection_of, named_of}
 use Rattle.design_circuit.specs.Design.{Spelling, spelling_of}
 use Rattle.design_circuit.specs.declared.design.Design.{Design}
 use Rattle.design_circuit.specs.declared.design.Net.{Net}

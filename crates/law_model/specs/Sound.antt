@@ -39,7 +39,8 @@ pub record HasLicence (j : Job) (limits : Limits) (waveform : List Written) (lin
   pub line : body_at j lines (root_of j (certain waveform) place).place ≡ Some (Budget log)
   pub holds : IsLicence j limits waveform (root_of j (certain waveform) place).place log
 
--- A place is sound where its two stated fillings give both bits if it is unknown, and it has its licence if it is undecided.
+-- A place is sound where its two stated fillings give both bits if it is unknown, and it has its licence if it is
+-- undecided.
 abbrev pub SoundBy : Job → Limits → List Written → List ALine → ℕ → Mark → Value → Type 0
 SoundBy j limits waveform lines place mark value =
     MarkHolds j waveform place (GivesBoth j waveform place (stated j (certain waveform) lines place))

@@ -52,8 +52,8 @@ pub fn bodies_give()
     ensures before { spec.BodyBeforeLaw }
 {}
 
-/// A waveform that is built place by place is sound and is what its lines yield, from nothing on and after each place that
-/// is written as its class and its line say and isn't optimistic. Where it is, its lines yield it all the same.
+/// A waveform that is built place by place is sound and is what its lines yield, from nothing on and after each place
+/// that is written as its class and its line say and isn't optimistic. Where it is, its lines yield it all the same.
 pub fn waveforms_stay_sound()
     ensures start { spec.StartLaw }
     ensures growth { spec.GrowthLaw }

@@ -53,7 +53,8 @@ pub record IsRepeated (j : Job) (limits : Limits) (shown : ℕ → Value) (wavef
 -- So a run can be written.
 abbrev pub RunLaw : Type 0
 RunLaw = (j : Job) (limits : Limits) (shown : ℕ → Value) (waveform : List Written) (lines : List ALine) (many : ℕ)
-    → Fits j → Holds j limits shown waveform lines → IsRun j shown waveform many → IsRepeated j limits shown waveform lines many
+    → Fits j → Holds j limits shown waveform lines → IsRun j shown waveform many
+    → IsRepeated j limits shown waveform lines many
 
 -- Where the next place is written, whatever it has, a place ahead that was quiet as far as the waveform told is quiet
 -- as far as it tells now, where the net of what is written keeps, or its driver doesn't read that.

@@ -30,8 +30,8 @@ abbrev pub CutLaw : Type 0
 CutLaw = InSound (λ j waveform. (given : ℕ → Bool) (place : ℕ) → InReach j waveform place
     → IsCutDown j waveform given place)
 
--- A source of a place that isn't carried is a source of one of its essential arguments, or the place itself, which is one
--- where its rule gives x for some assignment.
+-- A source of a place that isn't carried is a source of one of its essential arguments, or the place itself, which is
+-- one where its rule gives x for some assignment.
 abbrev pub UnionLaw : Type 0
 UnionLaw = (j : Job) (certain : ℕ → Value) (place k : ℕ) → Fits j → place < places_of j
     → is_carried (class_of j certain place) ≡ false

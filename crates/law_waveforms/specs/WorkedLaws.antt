@@ -1,5 +1,5 @@
--- The words of these laws worked by hand on the multiplexer with both data 1 and an unknown select (places: d0, d1, s, ns,
--- a, b, y), and on one register.
+-- The words of these laws worked by hand on the multiplexer with both data 1 and an unknown select (places: d0, d1, s,
+-- ns, a, b, y), and on one register.
 use Rattle.std.specs.Prelude.{◌≡◌, true, List, [], ◌∷◌}
 use Rattle.design_cell.specs.declared.value.Value.{Value}
 use Rattle.design_cell.specs.declared.value.Value.TheVariants.{Zero, One, X, Z}

@@ -1,7 +1,8 @@
 -- The rules of items (IEEE 1364-2005, annexes A.2 to A.4 and A.7).
 use Rattle.std.specs.Prelude.{◌≡◌, ℕ, List, [], ◌∷◌, ◌++◌, map, true, false, Some, None}
 use Rattle.netlist_grammar.specs.Lexemes.{gate, named as named_lexeme, TokenAt, token_at, is_left_out}
-use Rattle.netlist_grammar.specs.Trees.{Range, declares, declare_of, gate_of, instance_of, connection_of, no_connection, named_of, takes_value}
+use Rattle.netlist_grammar.specs.Trees.{Range, declares, declare_of, gate_of, instance_of, connection_of, no_connection}
+use Rattle.netlist_grammar.specs.Trees.{named_of, takes_value}
 use Rattle.netlist_grammar.specs.Rules.{quote, name, OneName, Listed, Until, Attribute, MayDelay, MayRange, WireRange}
 use Rattle.netlist_grammar.specs.Expressions.{Expression}
 use Rattle.netlist_grammar.specs.declared.fixed.Fixed.{Fixed}
@@ -40,7 +41,8 @@ pub data NetName (what : NetKind) (r : Range) : List TokenAt → List TokenAt �
 pub data OneGate (kind : GateKind) (at : ℕ) : List TokenAt → List TokenAt → Item → Type 0 where
   plain : {p q : ℕ} {ts rest : List TokenAt} {es : List Expr} → Listed Expression ts (quote q fixed.Close ∷ rest) es
       → OneGate kind at (quote p fixed.Open ∷ ts) rest (gate_of kind at es)
-  named : {p q : ℕ} {w : Word} {ts rest : List TokenAt} {es : List Expr} → Listed Expression ts (quote q fixed.Close ∷ rest) es
+  named : {p q : ℕ} {w : Word} {ts rest : List TokenAt} {es : List Expr}
+      → Listed Expression ts (quote q fixed.Close ∷ rest) es
       → OneGate kind at (name w ∷ quote p fixed.Open ∷ ts) rest (gate_of kind at es)
 
 -- [ expr ]
@@ -50,7 +52,8 @@ pub data MayConnect : List TokenAt → List TokenAt → Connection → Type 0 wh
 
 -- '.' name '(' [ expr ] ')'
 pub data OneNamed : List TokenAt → List TokenAt → NamedConnection → Type 0 where
-  none : {p q r : ℕ} {w : Word} {ts : List TokenAt} → OneNamed (quote p fixed.Dot ∷ name w ∷ quote q fixed.Open ∷ quote r fixed.Close ∷ ts) ts (named_of w None)
+  none : {p q r : ℕ} {w : Word} {ts : List TokenAt}
+      → OneNamed (quote p fixed.Dot ∷ name w ∷ quote q fixed.Open ∷ quote r fixed.Close ∷ ts) ts (named_of w None)
   some : {p q r : ℕ} {w : Word} {ts rest : List TokenAt} {e : Expr} → Expression ts (quote r fixed.Close ∷ rest) e
       → OneNamed (quote p fixed.Dot ∷ name w ∷ quote q fixed.Open ∷ ts) rest (named_of w (Some e))
 
@@ -58,17 +61,20 @@ pub data OneNamed : List TokenAt → List TokenAt → NamedConnection → Type 0
 -- not an empty one.
 pub data Connecting : List TokenAt → List TokenAt → Connections → Type 0 where
   nothing : {ts : List TokenAt} → Connecting ts ts (Positional [])
-  one : {ts rest : List TokenAt} {e : Expr} → Expression ts rest e → Connecting ts rest (Positional (connection_of e ∷ []))
+  one : {ts rest : List TokenAt} {e : Expr} → Expression ts rest e
+      → Connecting ts rest (Positional (connection_of e ∷ []))
   several : {p : ℕ} {ts mid rest : List TokenAt} {c : Connection} {cs : List Connection}
       → MayConnect ts (quote p fixed.Comma ∷ mid) c → Listed MayConnect mid rest cs
       → Connecting ts rest (Positional (c ∷ cs))
-  named : {ts rest : List TokenAt} {cs : List NamedConnection} → Listed OneNamed ts rest cs → Connecting ts rest (Named cs)
+  named : {ts rest : List TokenAt} {cs : List NamedConnection} → Listed OneNamed ts rest cs
+      → Connecting ts rest (Named cs)
 
 -- [ name ] '(' [ conns ] ')'
 pub data OneInstance (d : Word) : List TokenAt → List TokenAt → Item → Type 0 where
   plain : {p q : ℕ} {ts rest : List TokenAt} {cs : Connections} → Connecting ts (quote q fixed.Close ∷ rest) cs
       → OneInstance d (quote p fixed.Open ∷ ts) rest (instance_of d None cs)
-  named : {p q : ℕ} {w : Word} {ts rest : List TokenAt} {cs : Connections} → Connecting ts (quote q fixed.Close ∷ rest) cs
+  named : {p q : ℕ} {w : Word} {ts rest : List TokenAt} {cs : Connections}
+      → Connecting ts (quote q fixed.Close ∷ rest) cs
       → OneInstance d (name w ∷ quote p fixed.Open ∷ ts) rest (instance_of d (Some w) cs)
 
 -- expr '=' expr
@@ -83,7 +89,8 @@ pub data OneAssign : List TokenAt → List TokenAt → Item → Type 0 where
 -- |  'specify' tokens 'endspecify'
 pub data OneItem : List TokenAt → List TokenAt → List Item → Type 0 where
   attribute : {ts rest : List TokenAt} → Attribute ts rest → OneItem ts rest []
-  directed : {p q : ℕ} {f : Fixed} {what : NetKind} {r : Range} {ts mid rest : List TokenAt} {ws : List Word} → Direction f what → WireRange None ts mid r
+  directed : {p q : ℕ} {f : Fixed} {what : NetKind} {r : Range} {ts mid rest : List TokenAt} {ws : List Word}
+      → Direction f what → WireRange None ts mid r
       → Listed OneName mid (quote q fixed.Semi ∷ rest) ws → OneItem (quote p f ∷ ts) rest (map (declares what r) ws)
   nets : {p q : ℕ} {f : Fixed} {what : NetKind} {r : Range} {ts mid from rest : List TokenAt} {is : List Item}
       → Net f what → MayRange ts mid r → MayDelay mid from
@@ -93,13 +100,16 @@ pub data OneItem : List TokenAt → List TokenAt → List Item → Type 0 where
   gates : {p q : ℕ} {kind : GateKind} {ts mid rest : List TokenAt} {is : List Item} → MayDelay ts mid
       → Listed (OneGate kind p) mid (quote q fixed.Semi ∷ rest) is
       → OneItem (token_at p (gate kind) ∷ ts) rest is
-  instances : {q : ℕ} {d : Word} {ts mid rest : List TokenAt} {is : List Item} → is_left_out (named_lexeme d.text d.escaped) ≡ false → MayDelay ts mid
+  instances : {q : ℕ} {d : Word} {ts mid rest : List TokenAt} {is : List Item}
+      → is_left_out (named_lexeme d.text d.escaped) ≡ false → MayDelay ts mid
       → Listed (OneInstance d) mid (quote q fixed.Semi ∷ rest) is → OneItem (name d ∷ ts) rest is
   assigns : {p q : ℕ} {ts mid rest : List TokenAt} {is : List Item} → MayDelay ts mid
       → Listed OneAssign mid (quote q fixed.Semi ∷ rest) is → OneItem (quote p fixed.Assign ∷ ts) rest is
-  specify : {p : ℕ} {ts rest : List TokenAt} → Until fixed.Endspecify ts rest → OneItem (quote p fixed.Specify ∷ ts) rest []
+  specify : {p : ℕ} {ts rest : List TokenAt} → Until fixed.Endspecify ts rest
+      → OneItem (quote p fixed.Specify ∷ ts) rest []
 
 -- { item }
 pub data Items : List TokenAt → List TokenAt → List Item → Type 0 where
   none : {ts : List TokenAt} → Items ts ts []
-  more : {ts mid rest : List TokenAt} {is js : List Item} → OneItem ts mid is → Items mid rest js → Items ts rest (is ++ js)
+  more : {ts mid rest : List TokenAt} {is js : List Item} → OneItem ts mid is → Items mid rest js
+      → Items ts rest (is ++ js)

@@ -1,5 +1,6 @@
 -- The tokens of a text as the grammar tells them apart (IEEE 1364-2005, annex A).
-use Rattle.std.specs.Prelude.{ℕ, List, [], ◌∷◌, map, length, drop, Bool, true, false, ◌==◌, if◌then◌else◌, Option, Some, None, slice_range}
+use Rattle.std.specs.Prelude.{ℕ, List, [], ◌∷◌, map, length, drop, Bool, true, false, ◌==◌, if◌then◌else◌, Option, Some}
+use Rattle.std.specs.Prelude.{None, slice_range}
 use Rattle.std.specs.List.{list_any}
 use Rattle.std.specs.Str.{bytes_eq}
 use lib.Chars.{codes}
@@ -72,7 +73,8 @@ keyword_table =
 -- The keywords that begin items which the profile leaves out. `initial`, which the grammar quotes, is one more.
 abbrev pub left_out : List (List ℕ)
 left_out =
-    codes "inout" ∷ codes "always" ∷ codes "parameter" ∷ codes "localparam" ∷ codes "defparam" ∷ codes "generate" ∷ codes "genvar"
+    codes "inout" ∷ codes "always" ∷ codes "parameter" ∷ codes "localparam" ∷ codes "defparam" ∷ codes "generate"
+    ∷ codes "genvar"
     ∷ codes "function" ∷ codes "task" ∷ codes "event" ∷ codes "integer" ∷ codes "real" ∷ codes "realtime" ∷ codes "time"
     ∷ codes "wand" ∷ codes "wor" ∷ codes "triand" ∷ codes "trior" ∷ codes "tri0" ∷ codes "tri1" ∷ codes "trireg"
     ∷ codes "bufif0" ∷ codes "bufif1" ∷ codes "notif0" ∷ codes "notif1" ∷ codes "nmos" ∷ codes "pmos" ∷ codes "cmos"

@@ -264,11 +264,13 @@ net_name_step u what r t = on_name t (λ w. after_net u what r w) (refused t)
 
 -- [ name ] '('
 abbrev pub gate_name_step : Under → GateKind → ℕ → TokenAt → Next
-gate_name_step u kind at t = on fixed.Open t (expr_start (terminal u kind at [])) (on_name t (λ w. gate_open u kind at) (refused t))
+gate_name_step u kind at t =
+    on fixed.Open t (expr_start (terminal u kind at [])) (on_name t (λ w. gate_open u kind at) (refused t))
 
 -- [ name ] '('
 abbrev pub instance_name_step : Under → Word → TokenAt → Next
-instance_name_step u d t = on fixed.Open t (connections u d None) (on_name t (λ w. instance_open u d (Some w)) (refused t))
+instance_name_step u d t =
+    on fixed.Open t (connections u d None) (on_name t (λ w. instance_open u d (Some w)) (refused t))
 
 -- the start of a part
 abbrev pub expr_step : Context → ℕ → ℕ → List Part → TokenAt → Next
@@ -303,12 +305,14 @@ after_whole (connected u d n cs) e t =
     on fixed.Comma t (connection u d n (cs ++ connection_of e ∷ []))
     (on fixed.Close t (after_instance (with_item u (instance_of d n (Positional (cs ++ connection_of e ∷ [])))) d)
     (refused t))
-after_whole (connected_to u d n cs p) e t = on fixed.Close t (after_connection u d n (cs ++ named_of p (Some e) ∷ [])) (refused t)
+after_whole (connected_to u d n cs p) e t =
+    on fixed.Close t (after_connection u d n (cs ++ named_of p (Some e) ∷ [])) (refused t)
 
 -- after a part, inside a number of braces
 abbrev pub after_expr : Context → ℕ → ℕ → List Part → TokenAt → Next
 after_expr k at zero ps t = after_whole k (expr_of at ps) t
-after_expr k at (suc d) ps t = on fixed.Comma t (expr k at (suc d) ps) (on fixed.BraceClose t (after_part k at d ps) (refused t))
+after_expr k at (suc d) ps t =
+    on fixed.Comma t (expr k at (suc d) ps) (on fixed.BraceClose t (after_part k at d ps) (refused t))
 
 -- the first token of a row
 abbrev pub row_step : Within → TokenAt → Next → Next
@@ -347,7 +351,8 @@ step (port_wire u what r) t =
     (on_name t (λ w. after_declared_port (with_port u what r w) what r)
     (refused t))
 step (port_name u what r) t = on_name t (λ w. after_declared_port (with_port u what r w) what r) (refused t)
-step (after_declared_port u what r) t = on fixed.Comma t (declared_port u what r) (on fixed.Close t (head_end u) (refused t))
+step (after_declared_port u what r) t =
+    on fixed.Comma t (declared_port u what r) (on fixed.Close t (head_end u) (refused t))
 step (declared_port u what r) t =
     on fixed.Input t (port_direction u net.Input None)
     (on fixed.Output t (port_direction u net.Output None)
@@ -429,26 +434,30 @@ step (after_instance u d) t = on fixed.Comma t (instance_name u d) (on fixed.Sem
 step (assign u) t = on fixed.Hash t (delay (assign_delay u)) (expr_step (left u) t.at 0 [] t)
 step (expr_start k) t = expr_step k t.at 0 [] t
 step (expr k at d ps) t = expr_step k at d ps t
-step (after_part_name k at d ps w) t = on fixed.SquareOpen t (select k at d ps w) (after_expr k at d (ps ++ whole_part w ∷ []) t)
+step (after_part_name k at d ps w) t =
+    on fixed.SquareOpen t (select k at d ps w) (after_expr k at d (ps ++ whole_part w ∷ []) t)
 step (select k at d ps w) t = on_int t (λ n. after_index k at d ps w n) (refused t)
 step (after_index k at d ps w n) t =
     on fixed.SquareClose t (after_part k at d (ps ++ bit_part w n ∷ []))
     (on fixed.Colon t (select_end k at d ps w n)
     (refused t))
 step (select_end k at d ps w n) t = on_int t (λ m. select_close k at d ps w n m) (refused t)
-step (select_close k at d ps w n m) t = on fixed.SquareClose t (after_part k at d (ps ++ slice_part w n m ∷ [])) (refused t)
+step (select_close k at d ps w n m) t =
+    on fixed.SquareClose t (after_part k at d (ps ++ slice_part w n m ∷ [])) (refused t)
 step (after_part k at d ps) t = after_expr k at d ps t
 step (in_specify u) t = on fixed.Endspecify t (in_items u) (Ok (in_specify u))
 step (primitive_name b) t = on_name t (λ w. primitive_open b w) (refused t)
 step (primitive_open b n) t = on fixed.Open t (first_pin b n) (refused t)
 step (first_pin b n) t = on fixed.Output t (output_pin b n) (on_name t (λ w. after_pin b n (w ∷ [])) (refused t))
 step (pin b n ps) t = on_name t (λ w. after_pin b n (ps ++ w ∷ [])) (refused t)
-step (after_pin b n ps) t = on fixed.Comma t (pin b n ps) (on fixed.Close t (primitive_head_end (within b n ps [] [])) (refused t))
+step (after_pin b n ps) t =
+    on fixed.Comma t (pin b n ps) (on fixed.Close t (primitive_head_end (within b n ps [] [])) (refused t))
 step (output_pin b n) t =
     on fixed.Reg t (output_name b n)
     (on_name t (λ w. after_output (with_pin (within b n [] [] []) Output w) w)
     (refused t))
-step (output_name b n) t = on_name t (λ w. after_output (with_declare (with_pin (within b n [] [] []) Output w) Reg w) w) (refused t)
+step (output_name b n) t =
+    on_name t (λ w. after_output (with_declare (with_pin (within b n [] [] []) Output w) Reg w) w) (refused t)
 step (after_output p w) t = on fixed.Equals t (output_bit p w) (on fixed.Comma t (first_input p) (refused t))
 step (output_bit p w) t = on_bit t (λ v. output_comma (with_declare p (Initial v) w)) (refused t)
 step (output_comma p) t = on fixed.Comma t (first_input p) (refused t)
@@ -483,7 +492,8 @@ step (in_row p es) t =
     (on fixed.Open t (change_first (entry p es))
     (on fixed.Colon t (after_entries p es)
     (refused t)))
-step (change_first k) t = on_few_bytes (symbols_of t.what) (λ v. change_second k v) (λ v w. change_close k v w) (refused t)
+step (change_first k) t =
+    on_few_bytes (symbols_of t.what) (λ v. change_second k v) (λ v w. change_close k v w) (refused t)
 step (change_second k v) t = on_symbol t (λ w. change_close k v w) (refused t)
 step (change_close k v w) t = on fixed.Close t (after_symbol k (Change v w)) (refused t)
 step (row_state p es) t =

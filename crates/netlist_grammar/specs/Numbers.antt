@@ -10,7 +10,8 @@ use Rattle.netlist_grammar.specs.Bytes.{is_digit, is_digit_of, number_from, are_
 
 -- An int is digits, at most 2^31 - 1.
 unfoldable pub int_of : List ℕ → Option ℕ
-int_of text = if are_digits text && nat_lt (number_from 10 0 text) 2147483648 then Some (number_from 10 0 text) else None
+int_of text =
+    if are_digits text && nat_lt (number_from 10 0 text) 2147483648 then Some (number_from 10 0 text) else None
 
 -- A bit is one of five spellings.
 unfoldable pub bit_of : List ℕ → Option Value
@@ -43,7 +44,8 @@ ends is (b ∷ c ∷ cs) = ends is (c ∷ cs)
 -- Digits of the base with `_` between: it begins and ends with a digit, and each byte is a digit or `_`.
 unfoldable pub are_spaced_digits : ℕ → List ℕ → Bool
 are_spaced_digits base text =
-    begins (is_digit_of base) text && ends (is_digit_of base) text && list_all (λ b. is_digit_of base b || (b == 95)) text
+    begins (is_digit_of base) text && ends (is_digit_of base) text
+    && list_all (λ b. is_digit_of base b || (b == 95)) text
 
 -- their number
 abbrev pub spaced_number : ℕ → List ℕ → ℕ
@@ -53,7 +55,8 @@ spaced_number base text = number_from base 0 (filter (λ b. not (b == 95)) text)
 abbrev pub literal_in : ℕ → List ℕ → Option ℕ → Option (ℕ × ℕ)
 literal_in size digits None = None
 literal_in size digits (Some base) =
-    if are_spaced_digits base digits && nat_lt (spaced_number base digits) (2 ^ size) then Some (size, spaced_number base digits) else None
+    if are_spaced_digits base digits && nat_lt (spaced_number base digits) (2 ^ size) then Some
+    (size, spaced_number base digits) else None
 
 -- a literal by its size, and what stands after the size
 abbrev pub literal_behind : List ℕ → List ℕ → Option (ℕ × ℕ)

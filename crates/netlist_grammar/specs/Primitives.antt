@@ -22,7 +22,8 @@ pub data MayStart (w : Word) : List TokenAt → List TokenAt → List PrimDeclar
 
 -- [ 'reg' ] name [ '=' bit ]
 pub data OutputPin : List TokenAt → List TokenAt → Word → List PrimDeclare → Type 0 where
-  plain : {w : Word} {ts rest : List TokenAt} {ds : List PrimDeclare} → MayStart w ts rest ds → OutputPin (name w ∷ ts) rest w (prim_declare Output w ∷ ds)
+  plain : {w : Word} {ts rest : List TokenAt} {ds : List PrimDeclare} → MayStart w ts rest ds
+      → OutputPin (name w ∷ ts) rest w (prim_declare Output w ∷ ds)
   reg : {p : ℕ} {w : Word} {ts rest : List TokenAt} {ds : List PrimDeclare} → MayStart w ts rest ds
       → OutputPin (quote p fixed.Reg ∷ name w ∷ ts) rest w (prim_declare Output w ∷ prim_declare Reg w ∷ ds)
 
@@ -47,19 +48,24 @@ pub data Pins : List TokenAt → List TokenAt → List Word → List PrimDeclare
 
 -- 'output' [ 'reg' ] name ';'  |  'reg' name ';'  |  'input' name { ',' name } ';'  |  'initial' name '=' bit ';'
 pub data PinDeclare : List TokenAt → List TokenAt → List PrimDeclare → Type 0 where
-  output : {p q : ℕ} {w : Word} {ts : List TokenAt} → PinDeclare (quote p fixed.Output ∷ name w ∷ quote q fixed.Semi ∷ ts) ts (prim_declare Output w ∷ [])
+  output : {p q : ℕ} {w : Word} {ts : List TokenAt}
+      → PinDeclare (quote p fixed.Output ∷ name w ∷ quote q fixed.Semi ∷ ts) ts (prim_declare Output w ∷ [])
   output_reg : {p q r : ℕ} {w : Word} {ts : List TokenAt}
-      → PinDeclare (quote p fixed.Output ∷ quote q fixed.Reg ∷ name w ∷ quote r fixed.Semi ∷ ts) ts (prim_declare Output w ∷ prim_declare Reg w ∷ [])
-  reg : {p q : ℕ} {w : Word} {ts : List TokenAt} → PinDeclare (quote p fixed.Reg ∷ name w ∷ quote q fixed.Semi ∷ ts) ts (prim_declare Reg w ∷ [])
+      → PinDeclare (quote p fixed.Output ∷ quote q fixed.Reg ∷ name w ∷ quote r fixed.Semi ∷ ts) ts
+      (prim_declare Output w ∷ prim_declare Reg w ∷ [])
+  reg : {p q : ℕ} {w : Word} {ts : List TokenAt}
+      → PinDeclare (quote p fixed.Reg ∷ name w ∷ quote q fixed.Semi ∷ ts) ts (prim_declare Reg w ∷ [])
   inputs : {p q : ℕ} {ts rest : List TokenAt} {ws : List Word} → Listed OneName ts (quote q fixed.Semi ∷ rest) ws
       → PinDeclare (quote p fixed.Input ∷ ts) rest (map (prim_declare Input) ws)
   initial : {p q r s : ℕ} {w : Word} {v : Value} {ds : List ℕ} {ts : List TokenAt} → bit_of ds ≡ Some v
-      → PinDeclare (quote p fixed.Initial ∷ name w ∷ quote q fixed.Equals ∷ digits r ds ∷ quote s fixed.Semi ∷ ts) ts (prim_declare (Initial v) w ∷ [])
+      → PinDeclare (quote p fixed.Initial ∷ name w ∷ quote q fixed.Equals ∷ digits r ds ∷ quote s fixed.Semi ∷ ts) ts
+      (prim_declare (Initial v) w ∷ [])
 
 -- { pdecl }
 pub data PinDeclares : List TokenAt → List TokenAt → List PrimDeclare → Type 0 where
   none : {ts : List TokenAt} → PinDeclares ts ts []
-  more : {ts mid rest : List TokenAt} {ds es : List PrimDeclare} → PinDeclare ts mid ds → PinDeclares mid rest es → PinDeclares ts rest (ds ++ es)
+  more : {ts mid rest : List TokenAt} {ds es : List PrimDeclare} → PinDeclare ts mid ds → PinDeclares mid rest es
+      → PinDeclares ts rest (ds ++ es)
 
 -- '(' two symbols, in one or two tokens, ')'
 pub data OneChange : List TokenAt → List TokenAt → Symbol → Type 0 where
@@ -75,13 +81,15 @@ pub data OneSymbol : List TokenAt → List TokenAt → Symbol → Type 0 where
 
 -- the symbols of one token, each byte a symbol by itself, or a change
 pub data Entry : List TokenAt → List TokenAt → List Symbol → Type 0 where
-  bytes : {b : ℕ} {bs : List ℕ} {t : TokenAt} {ts : List TokenAt} → symbols_of t.what ≡ b ∷ bs → Entry (t ∷ ts) ts (singles (b ∷ bs))
+  bytes : {b : ℕ} {bs : List ℕ} {t : TokenAt} {ts : List TokenAt} → symbols_of t.what ≡ b ∷ bs
+      → Entry (t ∷ ts) ts (singles (b ∷ bs))
   change : {ts rest : List TokenAt} {s : Symbol} → OneChange ts rest s → Entry ts rest (s ∷ [])
 
 -- symbol { symbol }
 pub data Entries : List TokenAt → List TokenAt → List Symbol → Type 0 where
   last : {ts rest : List TokenAt} {es : List Symbol} → Entry ts rest es → Entries ts rest es
-  next : {ts mid rest : List TokenAt} {es fs : List Symbol} → Entry ts mid es → Entries mid rest fs → Entries ts rest (es ++ fs)
+  next : {ts mid rest : List TokenAt} {es fs : List Symbol} → Entry ts mid es → Entries mid rest fs
+      → Entries ts rest (es ++ fs)
 
 -- symbol { symbol } ':' [ symbol ':' ] symbol ';', with the middle part exactly in a sequential primitive
 pub data Row : Bool → List TokenAt → List TokenAt → RawRow → Type 0 where
@@ -95,11 +103,14 @@ pub data Row : Bool → List TokenAt → List TokenAt → RawRow → Type 0 wher
 -- row { row }
 pub data Rows (sequential : Bool) : List TokenAt → List TokenAt → List RawRow → Type 0 where
   last : {ts rest : List TokenAt} {r : RawRow} → Row sequential ts rest r → Rows sequential ts rest (r ∷ [])
-  next : {ts mid rest : List TokenAt} {r : RawRow} {rs : List RawRow} → Row sequential ts mid r → Rows sequential mid rest rs → Rows sequential ts rest (r ∷ rs)
+  next : {ts mid rest : List TokenAt} {r : RawRow} {rs : List RawRow} → Row sequential ts mid r
+      → Rows sequential mid rest rs → Rows sequential ts rest (r ∷ rs)
 
 -- 'primitive' name '(' pports ')' ';' { pdecl } 'table' row { row } 'endtable' 'endprimitive'
 pub data OnePrimitive : List TokenAt → List TokenAt → Primitive → Type 0 where
-  primitive : {p q r s t u v : ℕ} {n : Word} {ts mid from rest : List TokenAt} {ws : List Word} {ds es : List PrimDeclare} {rs : List RawRow}
+  primitive : {p q r s t u v : ℕ} {n : Word} {ts mid from rest : List TokenAt} {ws : List Word} {ds es : List
+      PrimDeclare} {rs : List RawRow}
       → Pins ts (quote r fixed.Close ∷ quote s fixed.Semi ∷ mid) ws ds → PinDeclares mid (quote t fixed.Table ∷ from) es
       → Rows (is_sequential (ds ++ es)) from (quote u fixed.Endtable ∷ quote v fixed.Endprimitive ∷ rest) rs
-      → OnePrimitive (quote p fixed.Primitive ∷ name n ∷ quote q fixed.Open ∷ ts) rest (record { name = n; ports = ws; declarations = ds ++ es; rows = rs })
+      → OnePrimitive (quote p fixed.Primitive ∷ name n ∷ quote q fixed.Open ∷ ts) rest
+      (record { name = n; ports = ws; declarations = ds ++ es; rows = rs })

@@ -61,7 +61,8 @@ abbrev pub gate_of : GateKind → ℕ → List Expr → Item
 gate_of kind at terminals = item.Gate (record { kind = kind; at = at; terminals = terminals })
 
 abbrev pub instance_of : Word → Option Word → Connections → Item
-instance_of definition name connections = item.Instance (record { definition = definition; name = name; connections = connections })
+instance_of definition name connections =
+    item.Instance (record { definition = definition; name = name; connections = connections })
 
 abbrev pub connection_of : Expr → Connection
 connection_of e = record { at = e.at; value = Some e }

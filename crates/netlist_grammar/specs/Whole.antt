@@ -1,5 +1,6 @@
 -- What each tree of a text has, whatever the text.
-use Rattle.std.specs.Prelude.{◌≡◌, ℕ, List, ◌&&◌, if◌then◌else◌, ◌<◌, ◌≤◌, ◌^◌, length, All, Bool, IsTrue, is_some, Option, Some, None, IfSome}
+use Rattle.std.specs.Prelude.{◌≡◌, ℕ, List, ◌&&◌, if◌then◌else◌, ◌<◌, ◌≤◌, ◌^◌, length, All, Bool, IsTrue, is_some}
+use Rattle.std.specs.Prelude.{Option, Some, None, IfSome}
 use Rattle.std.specs.List.{list_all}
 use Rattle.netlist_tokens.specs.Byte.{begins, is_letter, is_name_byte, is_printable}
 use Rattle.design_cell.specs.declared.row.RawRow.{RawRow}
@@ -27,7 +28,8 @@ use Rattle.netlist_grammar.specs.declared.tree.Source.{Source}
 -- (IEEE 1364-2005, clause 3.7).
 abbrev pub is_name : List ℕ → Bool → Bool
 is_name text escaped =
-    if escaped then begins is_printable text && list_all is_printable text else begins is_letter text && list_all is_name_byte text
+    if escaped then begins is_printable text && list_all is_printable text else begins is_letter text
+    && list_all is_name_byte text
 
 abbrev pub IsName : Word → Type 0
 IsName w = IsTrue (is_name w.text w.escaped)

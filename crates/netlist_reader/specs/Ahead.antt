@@ -11,7 +11,8 @@ is_stop (broken e) = true
 is_stop _ = false
 
 abbrev pub ahead : TokenAt → TokenStream → TokenStream
-ahead here w = cond (is_stop here.what) (record { tokens = []; stop = here }) (record { tokens = here ∷ w.tokens; stop = w.stop })
+ahead here w =
+    cond (is_stop here.what) (record { tokens = []; stop = here }) (record { tokens = here ∷ w.tokens; stop = w.stop })
 
 -- each token has bytes, and lies within a text of that size
 abbrev pub LieWithin : ℕ → List Token → Type 0

@@ -10,7 +10,8 @@ use Rattle.netlist_grammar.specs.declared.tree.GateKind.TheVariants.{Logic, Pull
 
 abbrev pub head_keywords : List (List ℕ × Lexeme)
 head_keywords =
-    (codes "module", quoted fixed.Module) ∷ (codes "endmodule", quoted fixed.Endmodule) ∷ (codes "input", quoted fixed.Input) ∷ (codes "output", quoted fixed.Output) ∷ []
+    (codes "module", quoted fixed.Module) ∷ (codes "endmodule", quoted fixed.Endmodule)
+    ∷ (codes "input", quoted fixed.Input) ∷ (codes "output", quoted fixed.Output) ∷ []
 
 abbrev pub item_keywords : List (List ℕ × Lexeme)
 item_keywords =
@@ -42,17 +43,22 @@ abbrev pub is_among : List (List ℕ) → List ℕ → Bool
 is_among keywords text = list_any (λ keyword. bytes_eq text keyword) keywords
 
 abbrev pub general : List (List ℕ)
-general = codes "inout" ∷ codes "always" ∷ codes "parameter" ∷ codes "localparam" ∷ codes "defparam" ∷ codes "generate" ∷ codes "genvar" ∷ []
+general = codes "inout" ∷ codes "always" ∷ codes "parameter" ∷ codes "localparam" ∷ codes "defparam" ∷ codes "generate"
+    ∷ codes "genvar" ∷ []
 
 abbrev pub behavioral : List (List ℕ)
-behavioral = codes "function" ∷ codes "task" ∷ codes "event" ∷ codes "integer" ∷ codes "real" ∷ codes "realtime" ∷ codes "time" ∷ []
+behavioral = codes "function" ∷ codes "task" ∷ codes "event" ∷ codes "integer" ∷ codes "real" ∷ codes "realtime"
+    ∷ codes "time" ∷ []
 
 abbrev pub wired_nets : List (List ℕ)
-wired_nets = codes "wand" ∷ codes "wor" ∷ codes "triand" ∷ codes "trior" ∷ codes "tri0" ∷ codes "tri1" ∷ codes "trireg" ∷ []
+wired_nets =
+    codes "wand" ∷ codes "wor" ∷ codes "triand" ∷ codes "trior" ∷ codes "tri0" ∷ codes "tri1" ∷ codes "trireg" ∷ []
 
 abbrev pub switches : List (List ℕ)
 switches =
-    codes "bufif0" ∷ codes "bufif1" ∷ codes "notif0" ∷ codes "notif1" ∷ codes "nmos" ∷ codes "pmos" ∷ codes "cmos" ∷ codes "rnmos" ∷ codes "rpmos" ∷ codes "rcmos" ∷ []
+    codes "bufif0" ∷ codes "bufif1" ∷ codes "notif0" ∷ codes "notif1" ∷ codes "nmos" ∷ codes "pmos" ∷ codes "cmos"
+    ∷ codes "rnmos" ∷ codes "rpmos" ∷ codes "rcmos" ∷ []
 
 abbrev pub pass_switches : List (List ℕ)
-pass_switches = codes "tran" ∷ codes "tranif0" ∷ codes "tranif1" ∷ codes "rtran" ∷ codes "rtranif0" ∷ codes "rtranif1" ∷ []
+pass_switches =
+    codes "tran" ∷ codes "tranif0" ∷ codes "tranif1" ∷ codes "rtran" ∷ codes "rtranif0" ∷ codes "rtranif1" ∷ []

@@ -1,6 +1,7 @@
 -- What the reader's methods do to the tokens that are left, and what the functions above them do as runs of the
 -- machine.
-use Rattle.std.specs.Prelude.{Vec, ◌≡◌, ◌≢◌, ℕ, ◌<◌, length, List, [], ◌∷◌, Bool, true, false, Option, Some, None, option_to_list, Result, Ok, Err}
+use Rattle.std.specs.Prelude.{Vec, ◌≡◌, ◌≢◌, ℕ, ◌<◌, length, List, [], ◌∷◌, Bool, true, false, Option, Some, None}
+use Rattle.std.specs.Prelude.{option_to_list, Result, Ok, Err}
 use Rattle.std.specs.Borrow.{Bor}
 use Rattle.netlist_grammar.specs.Lexemes.{Lexeme, quoted, named, ending, TokenAt, token_at, TokenStream, is_fixed}
 use Rattle.netlist_grammar.specs.Lexemes.{named_word, symbols_of, head, before, fault_of}
@@ -58,7 +59,8 @@ ExpectsAs of old (Err e) new = (of (head old) ≡ None) × (e ≡ fault_of (head
 abbrev pub GoesOn : Fixed → TokenStream → Result Bool ParseErr → TokenStream → Type 0
 GoesOn closing old (Ok true) new = old ≡ before (token_at (head old).at (quoted fixed.Comma)) new
 GoesOn closing old (Ok false) new = old ≡ before (token_at (head old).at (quoted closing)) new
-GoesOn closing old (Err e) new = (is_fixed fixed.Comma (head old).what ≡ false) × (is_fixed closing (head old).what ≡ false) × (e ≡ fault_of (head old))
+GoesOn closing old (Err e) new = (is_fixed fixed.Comma (head old).what ≡ false)
+    × (is_fixed closing (head old).what ≡ false) × (e ≡ fault_of (head old))
 
 -- the symbols of a token, the first one and those after it
 abbrev pub TakesSymbols : TokenStream → Option (ℕ × Bor (List ℕ)) → TokenStream → Type 0
@@ -73,7 +75,8 @@ TakesSymbol old None new = (new ≡ old) × ((f : ℕ → State) (o : Next) → 
 -- the symbols of a token that has one or two
 abbrev pub ExpectsFew : TokenStream → Result (ℕ × Option ℕ) ParseErr → TokenStream → Type 0
 ExpectsFew old (Ok p) new = (old ≡ before (head old) new) × (symbols_of (head old).what ≡ p.0 ∷ option_to_list p.1)
-ExpectsFew old (Err e) new = ((f : ℕ → State) (g : ℕ → ℕ → State) (o : Next) → on_few_bytes (symbols_of (head old).what) f g o ≡ o) × (e ≡ fault_of (head old))
+ExpectsFew old (Err e) new = ((f : ℕ → State) (g : ℕ → ℕ → State) (o : Next)
+    → on_few_bytes (symbols_of (head old).what) f g o ≡ o) × (e ≡ fault_of (head old))
 
 -- any token is taken
 abbrev pub Skips : {X : Type 0} → TokenStream → Result X ParseErr → TokenStream → Type 0
@@ -96,27 +99,33 @@ ReadsTokens s old (Err e) next new = RefusesNetlist (goes s old) e
 abbrev pub ReadsItems : {X : Type 0} → (Under → State) → Vec Item Global → TokenStream → Result X ParseErr
     → (X → Under → State) → Vec Item Global → TokenStream → Type 0
 ReadsItems from items old result to more new =
-    (b : Source) (n : Word) (ps : List Word) → ReadsTokens (from (under b n ps items.items)) old result (λ x. to x (under b n ps more.items)) new
+    (b : Source) (n : Word) (ps : List Word) → ReadsTokens (from (under b n ps items.items)) old result
+    (λ x. to x (under b n ps more.items)) new
 
 -- The same of a primitive under way and its declarations.
 abbrev pub ReadsPins : {X : Type 0} → (Within → State) → Vec PrimDeclare Global → TokenStream → Result X ParseErr
     → (Within → State) → Vec PrimDeclare Global → TokenStream → Type 0
 ReadsPins from pins old result to more new =
-    (b : Source) (n : Word) (ps : List Word) → ReadsTokens (from (within b n ps pins.items [])) old result (λ _. to (within b n ps more.items [])) new
+    (b : Source) (n : Word) (ps : List Word) → ReadsTokens (from (within b n ps pins.items [])) old result
+    (λ _. to (within b n ps more.items [])) new
 
 -- From a state after the name of a module, what was read is its head.
 abbrev pub ReadsHead : (Source → Word → State) → TokenStream → Result Head ParseErr → TokenStream → Type 0
-ReadsHead from old result new = (b : Source) (n : Word) → ReadsTokens (from b n) old result (λ h. head_end (under b n h.ports.items h.items.items)) new
+ReadsHead from old result new = (b : Source) (n : Word)
+    → ReadsTokens (from b n) old result (λ h. head_end (under b n h.ports.items h.items.items)) new
 
 -- From a state after the name of a primitive, what was read are its ports and what the port list declares.
 abbrev pub ReadsPortList : (Source → Word → State) → TokenStream → Result Pins ParseErr → TokenStream → Type 0
 ReadsPortList from old result new =
-    (b : Source) (n : Word) → ReadsTokens (from b n) old result (λ p. primitive_head_end (within b n p.ports.items p.declarations.items [])) new
+    (b : Source) (n : Word) → ReadsTokens (from b n) old result
+    (λ p. primitive_head_end (within b n p.ports.items p.declarations.items [])) new
 
 -- From a state of an instance under way, what was read are its connections.
-abbrev pub ReadsConnections : (Under → Word → Option Word → State) → TokenStream → Result Connections ParseErr → TokenStream → Type 0
+abbrev pub ReadsConnections : (Under → Word → Option Word → State) → TokenStream → Result Connections ParseErr
+    → TokenStream → Type 0
 ReadsConnections from old result new =
-    (u : Under) (d : Word) (n : Option Word) → ReadsTokens (from u d n) old result (λ cs. after_instance (with_item u (instance_of d n cs)) d) new
+    (u : Under) (d : Word) (n : Option Word) → ReadsTokens (from u d n) old result
+    (λ cs. after_instance (with_item u (instance_of d n cs)) d) new
 
 abbrev pub Shortens : {X : Type 0} → TokenStream → Result X ParseErr → TokenStream → Type 0
 Shortens old (Ok x) new = length new.tokens < length old.tokens
@@ -138,7 +147,8 @@ pub record BeginsNone (what : Lexeme) : Type 0 where
 
 -- no ')', and no direction
 abbrev pub BeginsNoPort : Lexeme → Type 0
-BeginsNoPort what = (is_fixed fixed.Close what ≡ false) × (is_fixed fixed.Input what ≡ false) × (is_fixed fixed.Output what ≡ false)
+BeginsNoPort what =
+    (is_fixed fixed.Close what ≡ false) × (is_fixed fixed.Input what ≡ false) × (is_fixed fixed.Output what ≡ false)
 
 abbrev pub BeginsNoDirection : Lexeme → Type 0
 BeginsNoDirection what = (is_fixed fixed.Input what ≡ false) × (is_fixed fixed.Output what ≡ false)

@@ -3,7 +3,8 @@ use Rattle.std.specs.Prelude.{◌≡◌, ℕ, List, [], ◌∷◌, Option, Some,
 use Rattle.std.specs.Borrow.{Bor}
 use Rattle.netlist_grammar.specs.Lexemes as spec
 use Rattle.netlist_reader.specs.declared.lexeme.Lexeme.{Lexeme}
-use Rattle.netlist_reader.specs.declared.lexeme.Lexeme.TheVariants.{Quoted, Gate, Named, Number, Mark, Quotation, Ending, Broken}
+use Rattle.netlist_reader.specs.declared.lexeme.Lexeme.TheVariants.{Quoted, Gate, Named, Number, Mark, Quotation}
+use Rattle.netlist_reader.specs.declared.lexeme.Lexeme.TheVariants.{Ending, Broken}
 use Rattle.netlist_reader.specs.declared.lexeme.TokenAt.{TokenAt}
 use Rattle.netlist_reader.specs.declared.lexeme.Name.{Name}
 use Rattle.netlist_grammar.specs.declared.tree.Word.{Word}

@@ -10,4 +10,5 @@ size_in text quote =
 
 -- the number that digits of a base give, with `_` between, where it is below 2^128
 abbrev pub narrow_number : ℕ → List ℕ → Option ℕ
-narrow_number base text = if are_spaced_digits base text && nat_lt (spaced_number base text) (2 ^ 128) then Some (spaced_number base text) else None
+narrow_number base text = if are_spaced_digits base text
+    && nat_lt (spaced_number base text) (2 ^ 128) then Some (spaced_number base text) else None

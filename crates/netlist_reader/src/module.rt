@@ -7,7 +7,8 @@ ghost use Rattle.netlist_grammar.specs.Machine.{State as spec};
 ghost use Rattle.netlist_grammar.specs.Trees.{Under, closed, joined, one_module};
 ghost use Rattle.netlist_grammar.specs.declared.fixed.Fixed.TheVariants as fixed;
 ghost use Rattle.netlist_grammar.specs.declared.tree.Source.{Source as source};
-ghost use Rattle.netlist_reader.specs.Reads.{ReadsTokens, ReadsItems, Shortens, BeginsNone, BeginsNoDirection, BeginsNoNet};
+ghost use Rattle.netlist_reader.specs.Reads.{ReadsTokens, ReadsItems, Shortens, BeginsNone, BeginsNoDirection};
+ghost use Rattle.netlist_reader.specs.Reads.{BeginsNoNet};
 
 use crate::cell::{assigns, gates, instances};
 use crate::declaration::{directed, names, nets};

@@ -68,9 +68,12 @@ impl<'a> Reader<'a> {
     ghost use Rattle.std.specs.Bool.{OnTrue};
     ghost use Rattle.netlist_tokens.specs.Left.{Left as left};
     ghost use Rattle.netlist_tokens.specs.Tokens.{Tokens};
-    ghost use Rattle.netlist_grammar.specs.Lexemes.{tokens_of, head, gate_kind_of, int_at, bit_at, literal_at, is_left_out};
+    ghost use Rattle.netlist_grammar.specs.Lexemes.{tokens_of, head, gate_kind_of, int_at, bit_at, literal_at};
+    ghost use Rattle.netlist_grammar.specs.Lexemes.{is_left_out};
     ghost use Rattle.netlist_reader.specs.Shown.{shown_token};
-    ghost use Rattle.netlist_reader.specs.Reads.{TakesFixed, ExpectsFixed, TakesName, ExpectsName, ExpectsWord, TakesAs, ExpectsAs, GoesOn, TakesSymbols, TakesSymbol, ExpectsFew, Skips, Ends};
+    ghost use Rattle.netlist_reader.specs.Reads.{TakesFixed, ExpectsFixed, TakesName, ExpectsName, ExpectsWord};
+    ghost use Rattle.netlist_reader.specs.Reads.{TakesAs, ExpectsAs, GoesOn, TakesSymbols, TakesSymbol, ExpectsFew};
+    ghost use Rattle.netlist_reader.specs.Reads.{Skips, Ends};
 
     pub fn new(text: &'a [u8]) -> Reader<'a>
         ensures told { (told : left) × Tokens 0 text.now told }

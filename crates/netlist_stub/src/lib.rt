@@ -2,7 +2,8 @@
 //! and ranges, so that a behavioural model can stand in a netlist. Start at `stub`, and at specs/Stubs.antt, which says
 //! what a text comes to.
 //!
-//! What a text defines, with the tokens that declare, is netlist_stub_read's. It goes on by these files: `known.rt` with
+//! What a text defines, with the tokens that declare, is netlist_stub_read's. It goes on by these files: `known.rt`
+//! with
 //! `heading.rt`, `sum.rt` and `listed.rt` (what they declare), `text.rt` and `stubs.rt` (what is written).
 #![tactic(auto)]
 

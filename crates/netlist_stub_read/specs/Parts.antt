@@ -5,7 +5,8 @@ use Rattle.std.specs.Prelude.{ℕ, ◌+◌, ◌-◌, ◌^◌, ◌==◌, List, []
 use Rattle.std.specs.Prelude.{codes, min, Option, Some, None}
 use Rattle.netlist_trim.specs.Shown.{Shown, seen}
 use Rattle.netlist_trim.specs.Definition.{is}
-use Rattle.netlist_stub_read.specs.Words.{word_of, is_direction, is_parameter, opens_routine, closes_routine, opens_block}
+use Rattle.netlist_stub_read.specs.Words.{word_of, is_direction, is_parameter, opens_routine, closes_routine}
+use Rattle.netlist_stub_read.specs.Words.{opens_block}
 use Rattle.netlist_stub_read.specs.Words.{opens_bracket, closes_bracket}
 use Rattle.netlist_stub_read.specs.declared.word.Word.{Word}
 use Rattle.netlist_stub_read.specs.declared.word.Word.TheVariants as word

@@ -3,7 +3,8 @@ use Rattle.std.specs.Prelude.{Bool, ◌||◌, if◌then◌else◌, codes}
 use Rattle.netlist_trim.specs.Shown.{Shown}
 use Rattle.netlist_trim.specs.Definition.{is, is_name}
 use Rattle.netlist_stub_read.specs.declared.word.Word.{Word}
-use Rattle.netlist_stub_read.specs.declared.word.Word.TheVariants.{Direction, Parameter, Real, Integer, Plain, Bracket, Name}
+use Rattle.netlist_stub_read.specs.declared.word.Word.TheVariants.{Direction, Parameter, Real, Integer, Plain, Bracket}
+use Rattle.netlist_stub_read.specs.declared.word.Word.TheVariants.{Name}
 use Rattle.netlist_stub_read.specs.declared.word.Word.TheVariants.{Other}
 
 -- a direction of a port

@@ -17,12 +17,15 @@ is_close (b ∷ bs) = (b == star) && begins (λ c. c == slash) bs
 -- to the first `*/`, and after it
 pub data Closes : ℕ → List ℕ → ℕ → List ℕ → Type 0 where
   here : {at : ℕ} {rest : List ℕ} → Closes at (star ∷ slash ∷ rest) (at + 2) rest
-  later : {at to b : ℕ} {bs rest : List ℕ} → is_close (b ∷ bs) ≡ false → Closes (at + 1) bs to rest → Closes at (b ∷ bs) to rest
+  later : {at to b : ℕ} {bs rest : List ℕ} → is_close (b ∷ bs) ≡ false → Closes (at + 1) bs to rest
+      → Closes at (b ∷ bs) to rest
 
 -- after the byte `before`, to the next `"` on this line that has no backslash directly before it, and after it
 pub data Unquotes : ℕ → ℕ → List ℕ → ℕ → List ℕ → Type 0 where
-  here : {before at : ℕ} {rest : List ℕ} → (before == backslash) ≡ false → Unquotes before at (quote ∷ rest) (at + 1) rest
-  later : {before at to b : ℕ} {bs rest : List ℕ} → (b == newline) ≡ false → ((b == quote) && not (before == backslash)) ≡ false → Unquotes b (at + 1) bs to rest → Unquotes before at (b ∷ bs) to rest
+  here : {before at : ℕ} {rest : List ℕ} → (before == backslash) ≡ false
+      → Unquotes before at (quote ∷ rest) (at + 1) rest
+  later : {before at to b : ℕ} {bs rest : List ℕ} → (b == newline) ≡ false → ((b == quote) && not (before == backslash))
+      ≡ false → Unquotes b (at + 1) bs to rest → Unquotes before at (b ∷ bs) to rest
 
 -- the Name of these bytes
 pub record IsName (word : List ℕ) (at : ℕ) (bs : List ℕ) (to : ℕ) (rest : List ℕ) : Type 0 where

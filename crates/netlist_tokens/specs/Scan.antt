@@ -1,5 +1,6 @@
 -- The tokens of a text by calculation: one blank, directive or token after another.
-use Rattle.std.specs.Prelude.{◌≡◌, ℕ, zero, suc, ◌+◌, ◌-◌, List, [], ◌∷◌, length, take, Bool, false, not, if◌then◌else◌, ◌==◌, ◌&&◌, codes, Option, Some, None}
+use Rattle.std.specs.Prelude.{◌≡◌, ℕ, zero, suc, ◌+◌, ◌-◌, List, [], ◌∷◌, length, take, Bool, false, not, if◌then◌else◌}
+use Rattle.std.specs.Prelude.{◌==◌, ◌&&◌, codes, Option, Some, None}
 use Rattle.std.specs.Borrow.{Bor}
 use Rattle.std.specs.Str.{bytes_eq}
 use Rattle.netlist_tokens.specs.declared.bytes.Class.{Class}
@@ -9,7 +10,8 @@ use Rattle.netlist_tokens.specs.declared.token.Kind.{Kind}
 use Rattle.netlist_tokens.specs.declared.token.Kind.TheVariants.{Name, Escaped, Number, Text, Mark}
 use Rattle.netlist_tokens.specs.declared.token.LexErr.{LexErr}
 use Rattle.netlist_tokens.specs.declared.token.LexErr.TheVariants.{BadByte, OpenComment, OpenText, Directive}
-use Rattle.netlist_tokens.specs.Byte.{newline, quote, star, slash, backslash, backquote, is_white, is_letter, is_digit, is_name_byte, is_number_byte, is_printable, is_in_line, begins}
+use Rattle.netlist_tokens.specs.Byte.{newline, quote, star, slash, backslash, backquote, is_white, is_letter, is_digit}
+use Rattle.netlist_tokens.specs.Byte.{is_name_byte, is_number_byte, is_printable, is_in_line, begins}
 use Rattle.netlist_tokens.specs.Left.{Left, token, ended, refused, first}
 use Rattle.netlist_tokens.specs.Tokens.{takes_line, stands_alone}
 
@@ -40,7 +42,8 @@ after p at (b ∷ bs) = if p b then after p (at + 1) bs else rest at (b ∷ bs)
 -- after the first `*/`, where a star may stand before
 abbrev pub after_close : Bool → ℕ → List ℕ → Option Rest
 after_close starred at [] = None
-after_close starred at (b ∷ bs) = if starred && (b == slash) then Some (rest (at + 1) bs) else after_close (b == star) (at + 1) bs
+after_close starred at (b ∷ bs) =
+    if starred && (b == slash) then Some (rest (at + 1) bs) else after_close (b == star) (at + 1) bs
 
 -- after the `"` that closes a text, where a byte stands before
 abbrev pub after_quote : ℕ → ℕ → List ℕ → Option Rest

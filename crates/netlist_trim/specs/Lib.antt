@@ -1,5 +1,5 @@
--- Definitions of netlist_trim: the tokens of a text with their bytes, what it defines, what a top needs of that, and what is
--- kept.
+-- Definitions of netlist_trim: the tokens of a text with their bytes, what it defines, what a top needs of that, and
+-- what is kept.
 pub mod Shown
 pub mod Definition
 pub mod Reads

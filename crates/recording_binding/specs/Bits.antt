@@ -1,5 +1,6 @@
 -- The bits of a variable whose name some nets have.
-use Rattle.std.specs.Prelude.{◌≡◌, ◌<◌, ℕ, ◌-◌, ◌==◌, Bool, true, false, ◌&&◌, List, [], ◌∷◌, Option, None, Some, length, take, slice_index, if◌then◌else◌}
+use Rattle.std.specs.Prelude.{◌≡◌, ◌<◌, ℕ, ◌-◌, ◌==◌, Bool, true, false, ◌&&◌, List, [], ◌∷◌, Option, None, Some}
+use Rattle.std.specs.Prelude.{length, take, slice_index, if◌then◌else◌}
 use Rattle.design_circuit.specs.declared.design.Design.{Design}
 use Rattle.recording_binding.specs.Naming.{index_of}
 use Rattle.recording_binding.specs.declared.bits.Matched.{Matched}
@@ -32,7 +33,8 @@ whole_of nets width = bits_if (length nets == width) nets
 
 -- A variable with the range [m:l] has those from the net of index m to the net of index l, as many as it is wide.
 abbrev pub part_of : Design → List ℕ → ℕ → ℕ → ℕ → Matched
-part_of design nets m l width = bits_if (ends_at design l width (take width (from_index design m nets))) (take width (from_index design m nets))
+part_of design nets m l width =
+    bits_if (ends_at design l width (take width (from_index design m nets))) (take width (from_index design m nets))
 
 abbrev pub bits_of : Design → List ℕ → Option (ℕ × ℕ) → ℕ → Matched
 bits_of design nets None width = whole_of nets width
@@ -45,4 +47,5 @@ matched_by design (net ∷ nets) range width = bits_of design (net ∷ nets) ran
 
 -- No two of these nets have one index.
 pub record AreApart (design : Design) (nets : List ℕ) : Type 0 where
-  pub apart : (i j index : ℕ) → i < length nets → j < length nets → has_index design index (slice_index nets i) ≡ true → has_index design index (slice_index nets j) ≡ true → i ≡ j
+  pub apart : (i j index : ℕ) → i < length nets → j < length nets → has_index design index (slice_index nets i) ≡ true
+      → has_index design index (slice_index nets j) ≡ true → i ≡ j

@@ -36,4 +36,5 @@ pub record IsBitOf (design : Design) (moments : ℕ) (bit : BoundBit) : Type 0 w
 abbrev pub left_of : BoundBits → List BoundBit
 left_of walk =
     bits_from walk.moment walk.variable walk.bit walk.nets.now
-    ++ (moment_bits walk.moment (drop walk.begun walk.bound.now) ++ moments_bits walk.bound.now (walk.moment + 1) walk.more)
+    ++ (moment_bits walk.moment (drop walk.begun walk.bound.now)
+    ++ moments_bits walk.bound.now (walk.moment + 1) walk.more)

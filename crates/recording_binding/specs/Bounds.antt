@@ -1,5 +1,6 @@
 -- The variables of a recording that are bound.
-use Rattle.std.specs.Prelude.{◌≡◌, ℕ, zero, suc, ◌-◌, ◌<◌, Bool, true, false, List, [], ◌∷◌, ◌++◌, Option, None, Some, length, slice_get, slice_index}
+use Rattle.std.specs.Prelude.{◌≡◌, ℕ, zero, suc, ◌-◌, ◌<◌, Bool, true, false, List, [], ◌∷◌, ◌++◌, Option, None, Some}
+use Rattle.std.specs.Prelude.{length, slice_get, slice_index}
 use Rattle.design_circuit.specs.declared.design.Design.{Design}
 use Rattle.recording_reader.specs.Bytes.{both_of}
 use Rattle.recording_reader.specs.Recording.{Recording, path_at, width_at}
@@ -12,11 +13,13 @@ use Rattle.recording_binding.specs.declared.bits.Matched.TheVariants.{Nothing, D
 
 -- the index of the first and of the last bit; none for a scalar net
 abbrev pub ends_of : Design → List ℕ → Option (ℕ × ℕ)
-ends_of design bits = both_of (index_of design (slice_index bits 0)) (index_of design (slice_index bits (length bits - 1)))
+ends_of design bits =
+    both_of (index_of design (slice_index bits 0)) (index_of design (slice_index bits (length bits - 1)))
 
 -- A bound variable has its bits, its whole scope path as recorded, and the range of its bits.
 abbrev pub bound_of : Design → Recording → ℕ → Variable → List ℕ → Bound
-bound_of design recording number v bits = record { variable = number; bits = bits; path = path_at recording.scopes v.scope; range = ends_of design bits }
+bound_of design recording number v bits =
+    record { variable = number; bits = bits; path = path_at recording.scopes v.scope; range = ends_of design bits }
 
 abbrev pub bound_by : Design → Recording → ℕ → Variable → Matched → List Bound
 bound_by design recording number v Nothing = []
@@ -31,7 +34,8 @@ bound_in design scope recording number (Some v) = bound_by design recording numb
 -- those among the first so many variables, in the recording's order
 abbrev pub bound_below : Design → Texts → Recording → ℕ → List Bound
 bound_below design scope recording zero = []
-bound_below design scope recording (suc number) = bound_below design scope recording number ++ bound_in design scope recording number (slice_get recording.variables number)
+bound_below design scope recording (suc number) = bound_below design scope recording number
+    ++ bound_in design scope recording number (slice_get recording.variables number)
 
 -- The variables that matched, in the recording's order, each once.
 abbrev pub bounds_of : Design → Texts → Recording → List Bound

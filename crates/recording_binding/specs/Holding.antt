@@ -1,5 +1,6 @@
 -- Which bound variable gives the value of a net.
-use Rattle.std.specs.Prelude.{◌≡◌, ◌<◌, ◌≤◌, ◌^◌, ◌==◌, ℕ, List, [], ◌∷◌, Option, None, Some, All, length, option_map, slice_index_or, if◌then◌else◌}
+use Rattle.std.specs.Prelude.{◌≡◌, ◌<◌, ◌≤◌, ◌^◌, ◌==◌, ℕ, List, [], ◌∷◌, Option, None, Some, All, length, option_map}
+use Rattle.std.specs.Prelude.{slice_index_or, if◌then◌else◌}
 use Rattle.std.specs.List.{position_from}
 use Rattle.design_circuit.specs.Job.{driver_in}
 use Rattle.design_circuit.specs.declared.design.Design.{Design}
@@ -10,7 +11,8 @@ use Rattle.recording_binding.specs.declared.inputs.Holder.{Holder}
 
 -- the bit of a variable that is this net
 abbrev pub holder_in : ℕ → List ℕ → ℕ → Option Holder
-holder_in variable bits net = option_map (λ bit. record { variable = variable; bit = bit }) (position_from (λ own. own == net) 0 bits)
+holder_in variable bits net =
+    option_map (λ bit. record { variable = variable; bit = bit }) (position_from (λ own. own == net) 0 bits)
 
 abbrev pub or_next : Option Holder → Option Holder → Option Holder
 or_next None next = next
@@ -56,8 +58,10 @@ pub record IsHolder (recording : Recording) (holder : Holder) : Type 0 where
 
 -- A net is given to a holder, and nets that are held already stay.
 abbrev pub GivesNet : List (Option Holder) → List (Option Holder) → ℕ → Holder → Type 0
-GivesNet old new own holder = (net : ℕ) → slice_index_or new net None ≡ or_next (slice_index_or old net None) (given_at own holder net)
+GivesNet old new own holder =
+    (net : ℕ) → slice_index_or new net None ≡ or_next (slice_index_or old net None) (given_at own holder net)
 
 -- The bits of a variable are given to it, and nets that are held already stay.
 abbrev pub GivesBits : List (Option Holder) → List (Option Holder) → ℕ → List ℕ → Type 0
-GivesBits old new variable bits = (net : ℕ) → slice_index_or new net None ≡ or_next (slice_index_or old net None) (holder_in variable bits net)
+GivesBits old new variable bits =
+    (net : ℕ) → slice_index_or new net None ≡ or_next (slice_index_or old net None) (holder_in variable bits net)

@@ -25,8 +25,8 @@ holder_at (Copy argument) own copied = own
 holder_at (Cell table pins) own copied = own
 holder_at (Register latching) own copied = own
 
--- What holds a net: the first bound variable that has it. Where nets without a driver are as recorded, such a net is held
--- also by one that has a net that copies it.
+-- What holds a net: the first bound variable that has it. Where nets without a driver are as recorded, such a net is
+-- held also by one that has a net that copies it.
 abbrev pub holder_by : UndrivenRule → Design → List Bound → ℕ → Option Holder
 holder_by Released design bound net = holder_of bound net
 holder_by Recorded design bound net =

@@ -1,5 +1,6 @@
 -- Names as keys: each text with a space behind it, which no text of a net has.
-use Rattle.std.specs.Prelude.{◌≡◌, ℕ, zero, suc, ◌<◌, ◌≤◌, ◌==◌, Bool, true, ◌&&◌, not, List, [], ◌∷◌, ◌++◌, Option, Some, None, length, bytes_eq, if◌then◌else◌, Vec}
+use Rattle.std.specs.Prelude.{◌≡◌, ℕ, zero, suc, ◌<◌, ◌≤◌, ◌==◌, Bool, true, ◌&&◌, not, List, [], ◌∷◌, ◌++◌, Option}
+use Rattle.std.specs.Prelude.{Some, None, length, bytes_eq, if◌then◌else◌, Vec}
 use Rattle.std.specs.List.{list_all}
 use Rattle.std.specs.declared.alloc.Global.{Global}
 use Rattle.std.specs.Map.{lookup}
@@ -27,7 +28,8 @@ pub record IsKey (names : Texts) (key : List ℕ) : Type 0 where
 -- the nets whose names have a key, among the first so many nets
 abbrev pub keyed_below : Design → List ℕ → ℕ → List ℕ
 keyed_below design key zero = []
-keyed_below design key (suc net) = keyed_below design key net ++ (if bytes_eq key (key_of (texts_of design net)) then net ∷ [] else [])
+keyed_below design key (suc net) =
+    keyed_below design key net ++ (if bytes_eq key (key_of (texts_of design net)) then net ∷ [] else [])
 
 -- what a map has: keys with their nets
 abbrev pub Entries : Type 0

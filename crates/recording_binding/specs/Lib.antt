@@ -1,4 +1,5 @@
--- Definitions of recording_binding: which variables of a recording name which nets, what keeps them from being bound, and the stimulus.
+-- Definitions of recording_binding: which variables of a recording name which nets, what keeps them from being bound,
+-- and the stimulus.
 pub mod Binding
 pub mod Bits
 pub mod BoundBits

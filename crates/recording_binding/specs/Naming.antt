@@ -1,5 +1,6 @@
 -- The nets of a name.
-use Rattle.std.specs.Prelude.{ℕ, zero, suc, Bool, true, false, ◌&&◌, List, [], ◌∷◌, ◌++◌, Option, length, bytes_eq, if◌then◌else◌}
+use Rattle.std.specs.Prelude.{ℕ, zero, suc, Bool, true, false, ◌&&◌, List, [], ◌∷◌, ◌++◌, Option, length, bytes_eq}
+use Rattle.std.specs.Prelude.{if◌then◌else◌}
 use Rattle.design_circuit.specs.Design.{name_in, spelling_of}
 use Rattle.design_circuit.specs.declared.design.Design.{Design}
 
@@ -25,9 +26,10 @@ names_eq (a ∷ as') (b ∷ bs) = bytes_eq a b && names_eq as' bs
 -- the nets of a name among the first so many nets
 abbrev pub named_below : Design → Texts → ℕ → List ℕ
 named_below design name zero = []
-named_below design name (suc net) = named_below design name net ++ (if names_eq (texts_of design net) name then net ∷ [] else [])
+named_below design name (suc net) =
+    named_below design name net ++ (if names_eq (texts_of design net) name then net ∷ [] else [])
 
--- The nets of a name are those with its texts, in number order: those of a vector from its left bit to its right one. A name
--- that no net has is no name of the design.
+-- The nets of a name are those with its texts, in number order: those of a vector from its left bit to its right one. A
+-- name that no net has is no name of the design.
 abbrev pub nets_of : Design → Texts → List ℕ
 nets_of design name = named_below design name (length design.nets)

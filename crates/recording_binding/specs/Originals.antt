@@ -9,7 +9,8 @@ use Rattle.recording_binding.specs.declared.binding.Bound.{Bound}
 -- A net copies another over so many nets between.
 abbrev pub CopiesOver : Design → ℕ → ℕ → ℕ → Type 0
 CopiesOver design zero net other = driver_in design net ≡ Copy other
-CopiesOver design (suc between) net other = (next : ℕ) × (driver_in design net ≡ Copy next) × CopiesOver design between next other
+CopiesOver design (suc between) net other =
+    (next : ℕ) × (driver_in design net ≡ Copy next) × CopiesOver design between next other
 
 -- A net copies another where it is a Copy of it, or of a net that copies it.
 abbrev pub Copies : Design → ℕ → ℕ → Type 0
@@ -32,8 +33,8 @@ abbrev pub copied_after : Design → ℕ → ℕ → ℕ
 copied_after design zero net = net
 copied_after design (suc more) net = copied_after design more (copied_of design net)
 
--- The original of a net is the one that it copies in the end, and itself where it copies none. In a design with an order
--- it is reached after as many Copies as there are nets.
+-- The original of a net is the one that it copies in the end, and itself where it copies none. In a design with an
+-- order it is reached after as many Copies as there are nets.
 abbrev pub original_of : Design → ℕ → ℕ
 original_of design net = copied_after design (length design.nets) net
 
@@ -53,7 +54,8 @@ listed_original originals net (Register latching) = net
 
 -- A bound variable with the originals of its bits.
 abbrev pub with_originals : Design → Bound → Bound
-with_originals design b = record { variable = b.variable; bits = map (original_of design) b.bits; path = b.path; range = b.range }
+with_originals design b =
+    record { variable = b.variable; bits = map (original_of design) b.bits; path = b.path; range = b.range }
 
 -- a net, or one that copies it
 abbrev pub IsOrCopies : Design → ℕ → ℕ → Type 0

@@ -10,11 +10,13 @@ use Rattle.recording_binding.specs.Holding.{IsUnbound}
 use Rattle.recording_binding.specs.declared.binding.Binding.{Binding}
 use Rattle.recording_binding.specs.declared.binding.Bound.{Bound}
 use Rattle.recording_binding.specs.declared.refusal.BindErr.{BindErr}
-use Rattle.recording_binding.specs.declared.refusal.BindErr.TheVariants.{NoScope, RangeDiffers, MissingInput, TooLarge, Memory}
+use Rattle.recording_binding.specs.declared.refusal.BindErr.TheVariants.{NoScope, RangeDiffers, MissingInput, TooLarge}
+use Rattle.recording_binding.specs.declared.refusal.BindErr.TheVariants.{Memory}
 
 -- No variable with a lower number differs.
 abbrev pub NoneDiffers : Design → Texts → Recording → ℕ → Type 0
-NoneDiffers design scope recording count = (number : ℕ) → number < count → differs_at design scope recording number ≡ false
+NoneDiffers design scope recording count =
+    (number : ℕ) → number < count → differs_at design scope recording number ≡ false
 
 abbrev pub AllBound : Design → List Bound → ℕ → Type 0
 AllBound design bound count = (net : ℕ) → net < count → IsUnbound design bound net → ⊥
@@ -39,7 +41,8 @@ pub record IsBinding (design : Design) (recording : Recording) (scope : Texts) (
 
 -- The refusal is that this variable differs.
 abbrev pub RefusesAt : Design → Texts → Recording → ℕ → Variable → BindErr → Type 0
-RefusesAt design scope recording number v e = (e ≡ RangeDiffers number) × (differs_in design scope recording (Some v) ≡ true)
+RefusesAt design scope recording number v e =
+    (e ≡ RangeDiffers number) × (differs_in design scope recording (Some v) ≡ true)
 
 -- The first variable that differs.
 pub record IsFirst (design : Design) (scope : Texts) (recording : Recording) (variable : ℕ) : Type 0 where

@@ -33,7 +33,8 @@ pub record IsIdle (design : Design) (names : Texts) : Type 0 where
   pub below : IsBelow names
   pub nothing : BindsNothing design (map bare names)
 
--- What is kept of a scope says where its path stands, but that a scope with nothing to be bound may be kept as one apart.
+-- What is kept of a scope says where its path stands, but that a scope with nothing to be bound may be kept as one
+-- apart.
 abbrev pub Keeps : Design → Texts → Standing → ScopeKey → Type 0
 Keeps design scope Apart kept.Apart = Unit {0}
 Keeps design scope Apart (kept.Above depth) = ⊥
@@ -46,13 +47,16 @@ Keeps design scope (Within names) (kept.Above depth) = ⊥
 Keeps design scope (Within names) (kept.Within key) = IsKey (map bare names) key
 
 -- Something is kept of each of the first so many scopes.
-pub record KeepsAll (design : Design) (scope : Texts) (paths : List Texts) (keys : List ScopeKey) (count : ℕ) : Type 0 where
+pub record KeepsAll (design : Design) (scope : Texts) (paths : List Texts) (keys : List ScopeKey)
+    (count : ℕ) : Type 0 where
   pub as_many : length keys ≡ count
-  pub each : (number : ℕ) (d : ScopeKey) → number < count → Keeps design scope (standing_of scope (path_at paths number)) (slice_index_or keys number d)
+  pub each : (number : ℕ) (d : ScopeKey) → number < count
+      → Keeps design scope (standing_of scope (path_at paths number)) (slice_index_or keys number d)
 
 -- The design fits, the recording's first scope has no names, and something is kept of each of its scopes.
 abbrev pub KeepsRecording : Design → Texts → Recording → List ScopeKey → Type 0
-KeepsRecording design scope recording keys = FitsDesign design × (path_at recording.scopes 0 ≡ []) × KeepsAll design scope recording.scopes keys (length recording.scopes)
+KeepsRecording design scope recording keys = FitsDesign design × (path_at recording.scopes 0 ≡ [])
+    × KeepsAll design scope recording.scopes keys (length recording.scopes)
 
 -- what is kept of the scope path itself
 abbrev pub is_top : ScopeKey → Bool

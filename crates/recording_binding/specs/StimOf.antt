@@ -1,5 +1,6 @@
 -- The stimulus of a recording whose variables are bound.
-use Rattle.std.specs.Prelude.{◌≡◌, ℕ, ◌<◌, List, [], ◌++◌, ◌∷◌, ◌==◌, zero, suc, if◌then◌else◌, Option, None, Some, length, slice_index_or}
+use Rattle.std.specs.Prelude.{◌≡◌, ℕ, ◌<◌, List, [], ◌++◌, ◌∷◌, ◌==◌, zero, suc, if◌then◌else◌, Option, None, Some}
+use Rattle.std.specs.Prelude.{length, slice_index_or}
 use Rattle.design_cell.specs.Value.{read}
 use Rattle.design_cell.specs.declared.value.Value.{Value}
 use Rattle.design_cell.specs.declared.value.Value.TheVariants.{X}
@@ -33,8 +34,8 @@ input_by recording moment otherwise holder (Register latching) = otherwise
 abbrev pub input_value : Design → Recording → (ℕ → Option Holder) → ℕ → ℕ → Value
 input_value design recording holder moment net = input_by recording moment X (holder net) (driver_in design net)
 
--- A register that starts cold starts as the design says; one that is recorded starts with its value at moment 0, z as x, and as
--- the design says where no variable holds it.
+-- A register that starts cold starts as the design says; one that is recorded starts with its value at moment 0, z as
+-- x, and as the design says where no variable holds it.
 abbrev pub start_by : Recording → Option Holder → Value → StartRule → Value
 start_by recording holder own Cold = own
 start_by recording None own Recorded = own
@@ -56,18 +57,22 @@ pub record IsRow (design : Design) (value : ℕ → Value) (row : List Value) : 
   pub long : length row ≡ length design.nets
   pub values : (net : ℕ) → net < length design.nets → slice_index_or row net X ≡ value net
 
--- The moments are the recording's, each with a row of values of the inputs by what holds each net, and no row is beside them.
-pub record IsStimOf (design : Design) (recording : Recording) (holder : ℕ → Option Holder) (rounds : ℕ) (rules : RegisterRules) (stim : Stim) : Type 0 where
+-- The moments are the recording's, each with a row of values of the inputs by what holds each net, and no row is beside
+-- them.
+pub record IsStimOf (design : Design) (recording : Recording) (holder : ℕ → Option Holder) (rounds : ℕ)
+    (rules : RegisterRules) (stim : Stim) : Type 0 where
   pub times : stim.times ≡ recording.times
   pub as_many : stim.rounds ≡ rounds
   pub ruled : stim.rules ≡ rules
   pub many : length stim.inputs ≡ length recording.times
-  pub rows : (moment : ℕ) → moment < length recording.times → IsRow design (input_value design recording holder moment) (slice_index_or stim.inputs moment [])
+  pub rows : (moment : ℕ) → moment < length recording.times
+      → IsRow design (input_value design recording holder moment) (slice_index_or stim.inputs moment [])
   pub starts : IsRow design (start_value design recording holder rules.start) stim.starts
 
 -- What each net is held by is a bit of a variable of the recording.
 pub record AreHolders (recording : Recording) (holders : List (Option Holder)) : Type 0 where
-  pub each : (net : ℕ) (holder : Holder) → net < length holders → slice_index_or holders net None ≡ Some holder → IsHolder recording holder
+  pub each : (net : ℕ) (holder : Holder) → net < length holders → slice_index_or holders net None ≡ Some holder
+      → IsHolder recording holder
 
 -- the same values, by a list of what holds each net
 abbrev pub value_by : Design → Recording → List (Option Holder) → ℕ → ℕ → Value
@@ -91,7 +96,8 @@ input_at net (Some holder) driver = input_held net holder driver
 -- the inputs that a variable holds, among the first so many nets
 abbrev pub inputs_below : Design → List (Option Holder) → ℕ → List Held
 inputs_below design holders zero = []
-inputs_below design holders (suc net) = inputs_below design holders net ++ input_at net (slice_index_or holders net None) (driver_in design net)
+inputs_below design holders (suc net) =
+    inputs_below design holders net ++ input_at net (slice_index_or holders net None) (driver_in design net)
 
 abbrev pub inputs_of : Design → List (Option Holder) → List Held
 inputs_of design holders = inputs_below design holders (length design.nets)
@@ -100,7 +106,8 @@ inputs_of design holders = inputs_below design holders (length design.nets)
 abbrev pub set_from : Recording → ℕ → List Held → ℕ → Value → Value
 set_from recording moment [] net old = old
 set_from recording moment (input ∷ inputs) net old =
-    set_from recording moment inputs net (if input.net == net then value_at recording input.holder.variable input.holder.bit moment else old)
+    set_from recording moment inputs net
+    (if input.net == net then value_at recording input.holder.variable input.holder.bit moment else old)
 
 -- inputs of a design, held by bits of variables of the recording
 pub record FitsHolder (recording : Recording) (nets : ℕ) (input : Held) : Type 0 where
@@ -108,13 +115,17 @@ pub record FitsHolder (recording : Recording) (nets : ℕ) (input : Held) : Type
   pub holder : IsHolder recording input.holder
 
 -- A row has x at each net that isn't an input, or that no variable holds.
-pub record HasOthers (design : Design) (recording : Recording) (holders : List (Option Holder)) (row : List Value) : Type 0 where
-  pub each : (moment net : ℕ) → input_by recording moment (slice_index_or row net X) (slice_index_or holders net None) (driver_in design net) ≡ value_by design recording holders moment net
+pub record HasOthers (design : Design) (recording : Recording) (holders : List (Option Holder))
+    (row : List Value) : Type 0 where
+  pub each : (moment net : ℕ) → input_by recording moment (slice_index_or row net X) (slice_index_or holders net None)
+      (driver_in design net) ≡ value_by design recording holders moment net
 
 -- These inputs have their values in a moment, and any other net has what it had.
 abbrev pub Sets : Recording → ℕ → List Held → List Value → List Value → Type 0
-Sets recording moment inputs old new = (net : ℕ) → slice_index_or new net X ≡ set_from recording moment inputs net (slice_index_or old net X)
+Sets recording moment inputs old new =
+    (net : ℕ) → slice_index_or new net X ≡ set_from recording moment inputs net (slice_index_or old net X)
 
 -- a row for each moment
 abbrev pub AreRows : Design → Recording → List (Option Holder) → List (List Value) → Type 0
-AreRows design recording holders rows = (moment : ℕ) → moment < length recording.times → IsRow design (value_by design recording holders moment) (slice_index_or rows moment [])
+AreRows design recording holders rows = (moment : ℕ) → moment < length recording.times
+    → IsRow design (value_by design recording holders moment) (slice_index_or rows moment [])

@@ -23,8 +23,8 @@ under design recording scope = record { design = design; recording = recording; 
 abbrev pub has_scope : Texts → List Texts → Bool
 has_scope scope paths = list_any (names_eq scope) paths
 
--- Where a path stands to a scope path: above it, with the names that are left of that; at or below it, with its names below; or
--- neither.
+-- Where a path stands to a scope path: above it, with the names that are left of that; at or below it, with its names
+-- below; or neither.
 pub data Standing : Type 0 where
   Apart : Standing
   Above : Texts → Standing
@@ -54,9 +54,11 @@ or_else Nothing next = next
 or_else Differs next = Differs
 or_else (Bits bits) next = Bits bits
 
--- The reference as recorded comes first. Where no net has that name, the reference without its range is tried, with the range.
+-- The reference as recorded comes first. Where no net has that name, the reference without its range is tried, with the
+-- range.
 abbrev pub told_below : Design → Texts → Variable → Matched
-told_below design names v = or_else (as_recorded design names v) (tried design names (without_range v.direct v.reference) v.range v.width)
+told_below design names v =
+    or_else (as_recorded design names v) (tried design names (without_range v.direct v.reference) v.range v.width)
 
 -- A variable of a scope that isn't at or below the scope path tells nothing.
 abbrev pub matched_in : Design → Standing → Variable → Matched

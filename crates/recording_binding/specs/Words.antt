@@ -1,7 +1,8 @@
 -- The words of a refusal.
 use Rattle.std.specs.Prelude.{ℕ, List, ◌++◌, codes, decimal}
 use Rattle.recording_binding.specs.declared.refusal.BindErr.{BindErr}
-use Rattle.recording_binding.specs.declared.refusal.BindErr.TheVariants.{NoScope, RangeDiffers, MissingInput, TooLarge, Memory}
+use Rattle.recording_binding.specs.declared.refusal.BindErr.TheVariants.{NoScope, RangeDiffers, MissingInput, TooLarge}
+use Rattle.recording_binding.specs.declared.refusal.BindErr.TheVariants.{Memory}
 
 abbrev pub text_of : BindErr → List ℕ
 text_of NoScope = codes "no scope"

@@ -20,8 +20,8 @@ use base_lists::Memory;
 use design_circuit::{Design, Driver, Order};
 use std::alloc::Global;
 
-/// For each net of a design what holds it by a rule. Takes 12 bytes for each net, and where nets without a driver are as
-/// recorded 16 more while it runs.
+/// For each net of a design what holds it by a rule. Takes 12 bytes for each net, and where nets without a driver are
+/// as recorded 16 more while it runs.
 pub fn holders_by(
     alloc: Global,
     design: &Design,

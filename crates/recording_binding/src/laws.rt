@@ -1,4 +1,5 @@
-//! The laws of bound bits, of copies, of the designs of jobs and of stimuli, each the contract of a function that does nothing.
+//! The laws of bound bits, of copies, of the designs of jobs and of stimuli, each the contract of a function that does
+//! nothing.
 
 ghost use Rattle.recording_binding.specs.Laws as spec;
 

@@ -1,5 +1,5 @@
-//! Variables of a recording, bound to the nets of a design, and the stimulus that a recording gives; nets without a driver
-//! as inputs where they are recorded. Start at `bind`, `holders_by`, `with_inputs` and `stim_of`.
+//! Variables of a recording, bound to the nets of a design, and the stimulus that a recording gives; nets without a
+//! driver as inputs where they are recorded. Start at `bind`, `holders_by`, `with_inputs` and `stim_of`.
 #![tactic(auto)]
 
 mod binder;

@@ -8,8 +8,8 @@ use base_lists::Memory;
 use std::alloc::{AllocError, AllocFailed};
 use std::fmt;
 
-/// What keeps the variables of a recording from being bound: the first cause, in this order. Its `Display` has the words, without
-/// the name that follows some.
+/// What keeps the variables of a recording from being bound: the first cause, in this order. Its `Display` has the
+/// words, without the name that follows some.
 #[derive(Clone, Copy, Debug, PartialEq, Eq)]
 pub enum BindErr {
     /// No scope of the recording has the scope path.

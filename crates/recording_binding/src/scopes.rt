@@ -27,8 +27,8 @@ pub enum ScopeKey {
     Within(Bytes),
 }
 
-/// What is kept of each scope. Takes 32 bytes for each, and for one in which variables may be bound its key, which is no longer
-/// than the longest of a net.
+/// What is kept of each scope. Takes 32 bytes for each, and for one in which variables may be bound its key, which is
+/// no longer than the longest of a net.
 pub fn keys_of(
     alloc: Global,
     names: &Names<'_>,

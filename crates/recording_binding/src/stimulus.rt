@@ -1,6 +1,7 @@
 //! The stimulus of a recording, by what holds each net.
 
-ghost use Rattle.std.specs.Prelude.{◌≡◌, ◌≢◌, ◌<◌, ◌≤◌, ◌^◌, ◌++◌, ℕ, [], ◌∷◌, All, OnOk, IfOk, IfSome, length, slice_index_or};
+ghost use Rattle.std.specs.Prelude.{◌≡◌, ◌≢◌, ◌<◌, ◌≤◌, ◌^◌, ◌++◌, ℕ, [], ◌∷◌, All, OnOk, IfOk, IfSome, length};
+ghost use Rattle.std.specs.Prelude.{slice_index_or};
 ghost use Rattle.design_cell.specs.declared.value.Value.TheVariants.{X};
 ghost use Rattle.design_circuit.specs.Design.{FitsDesign};
 ghost use Rattle.design_circuit.specs.Job.{driver_in};

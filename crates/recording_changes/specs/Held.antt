@@ -1,5 +1,6 @@
 -- What a code holds in a moment (IEEE 1364-2005, clause 18).
-use Rattle.std.specs.Prelude.{ℕ, ◌-◌, List, [], ◌∷◌, ◌++◌, length, if◌then◌else◌, nat_le, ◌==◌, ◌||◌, slice_index, slice_index_or, slice_set, replicate, map}
+use Rattle.std.specs.Prelude.{ℕ, ◌-◌, List, [], ◌∷◌, ◌++◌, length, if◌then◌else◌, nat_le, ◌==◌, ◌||◌, slice_index}
+use Rattle.std.specs.Prelude.{slice_index_or, slice_set, replicate, map}
 use Rattle.design_cell.specs.declared.value.Value.{Value}
 use Rattle.design_cell.specs.declared.value.Value.TheVariants.{Zero, One, X, Z}
 
@@ -31,7 +32,8 @@ extended width digits = replicate (width - length digits) (fill_of (slice_index 
 
 -- The value that a digit stands for.
 abbrev pub digit_value : ℕ → Value
-digit_value digit = if digit == 48 then Zero else if digit == 49 then One else if (digit == 120) || (digit == 88) then X else Z
+digit_value digit =
+    if digit == 48 then Zero else if digit == 49 then One else if (digit == 120) || (digit == 88) then X else Z
 
 -- Before any change a code is x in every bit.
 abbrev pub unknown : List ℕ

@@ -14,5 +14,6 @@ pub record IsLastChange (moment : ℕ) (changes : List Change) (c : Change) : Ty
 
 -- The value of a bit in a moment is that of the last change in it or before, and x before any change.
 pub record IsLastValue (changes : List Change) (width bit moment : ℕ) (value : Value) : Type 0 where
-  pub last : (c : Change) → IsLastChange moment changes c → value ≡ digit_value (slice_index (extended width c.digits) bit)
+  pub last : (c : Change) → IsLastChange moment changes c → value
+      ≡ digit_value (slice_index (extended width c.digits) bit)
   pub before_any : All (λ (d : Change). moment < d.moment) changes → value ≡ X

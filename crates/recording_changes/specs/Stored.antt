@@ -34,4 +34,5 @@ comes_up_to moment entry = nat_le entry.moment moment
 -- The first entries, a given number of them, come in the moment or before it, and no other does.
 abbrev pub ComeUpTo : ℕ → List Entry → ℕ → Type 0
 ComeUpTo moment entries count =
-    IsPartitionPoint (λ (e : Entry). comes_up_to moment e ≡ true) (λ (e : Entry). comes_up_to moment e ≡ false) entries count
+    IsPartitionPoint (λ (e : Entry). comes_up_to moment e ≡ true)
+    (λ (e : Entry). comes_up_to moment e ≡ false) entries count

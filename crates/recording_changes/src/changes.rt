@@ -1,8 +1,10 @@
 //! The changes of all codes.
 
-ghost use Rattle.std.specs.Prelude.{◌≡◌, ℕ, ◌+◌, ◌<◌, ◌≤◌, ◌^◌, [], ◌∷◌, ◌++◌, List, length, IfOk, OnOk, OnErr, slice_index, slice_index_or};
+ghost use Rattle.std.specs.Prelude.{◌≡◌, ℕ, ◌+◌, ◌<◌, ◌≤◌, ◌^◌, [], ◌∷◌, ◌++◌, List, length, IfOk, OnOk, OnErr};
+ghost use Rattle.std.specs.Prelude.{slice_index, slice_index_or};
 ghost use Rattle.recording_changes.specs.Last.{IsLastValue};
-ghost use Rattle.recording_changes.specs.Held.{bit_value, change, digit_value, extended, fill_of, held, moments_of, track_of, unknown, with_last};
+ghost use Rattle.recording_changes.specs.Held.{bit_value, change, digit_value, extended, fill_of, held, moments_of};
+ghost use Rattle.recording_changes.specs.Held.{track_of, unknown, with_last};
 
 use crate::digits::Digits;
 use crate::track::{Entry, Track};

@@ -1,6 +1,7 @@
 //! Texts one after the other, by number.
 
-ghost use Rattle.std.specs.Prelude.{◌≡◌, ℕ, ◌+◌, ◌-◌, ◌<◌, ◌≤◌, ◌^◌, [], ◌∷◌, ◌++◌, List, length, OnOk, OnErr, IfOk, slice_index, slice_index_or, slice_range};
+ghost use Rattle.std.specs.Prelude.{◌≡◌, ℕ, ◌+◌, ◌-◌, ◌<◌, ◌≤◌, ◌^◌, [], ◌∷◌, ◌++◌, List, length, OnOk, OnErr, IfOk};
+ghost use Rattle.std.specs.Prelude.{slice_index, slice_index_or, slice_range};
 
 use base_lists::Memory;
 use std::alloc::Global;

@@ -1,5 +1,6 @@
 -- How codes are stored: short ones in a table, the others in a map.
-use Rattle.std.specs.Prelude.{◌≡◌, ℕ, zero, suc, ◌+◌, ◌-◌, ◌*◌, List, [], ◌∷◌, length, Bool, cond, ◌&&◌, nat_le, Option, Some, None, bytes_eq, slice_index}
+use Rattle.std.specs.Prelude.{◌≡◌, ℕ, zero, suc, ◌+◌, ◌-◌, ◌*◌, List, [], ◌∷◌, length, Bool, cond, ◌&&◌, nat_le, Option}
+use Rattle.std.specs.Prelude.{Some, None, bytes_eq, slice_index}
 use Rattle.std.specs.List.{list_all}
 use Rattle.std.specs.Map.{lookup}
 use Rattle.recording_codes.specs.Code.{Code}
@@ -15,7 +16,8 @@ is_short t = nat_le 1 (length t) && nat_le (length t) 4 && nat_le (slice_index t
 
 -- its place in the table: its bytes are digits in base 95, the least first, and no byte is 0
 abbrev pub slot_of : List ℕ → ℕ
-slot_of t = (slice_index t 0 - 32) + 95 * ((slice_index t 1 - 32) + 95 * ((slice_index t 2 - 32) + 95 * (slice_index t 3 - 32)))
+slot_of t =
+    (slice_index t 0 - 32) + 95 * ((slice_index t 1 - 32) + 95 * ((slice_index t 2 - 32) + 95 * (slice_index t 3 - 32)))
 
 -- a slot has the number of its code and one more, or 0
 abbrev pub slot_number : ℕ → Option ℕ
@@ -24,7 +26,8 @@ slot_number (suc n) = Some n
 
 -- the number of a code, by the table and the map
 abbrev pub stored_number : List ℕ → List (Bor (List ℕ) × ℕ) → List ℕ → Option ℕ
-stored_number slots others t = cond (is_short t) (slot_number (slice_index slots (slot_of t))) (lookup (λ (k : Bor (List ℕ)). bytes_eq t k.now) others)
+stored_number slots others t = cond (is_short t) (slot_number (slice_index slots (slot_of t)))
+    (lookup (λ (k : Bor (List ℕ)). bytes_eq t k.now) others)
 
 -- the number of a code, where the first of the list has this number
 abbrev pub number_from : ℕ → List Code → List ℕ → Option ℕ

@@ -1,6 +1,7 @@
 -- The moments of a recording, and the value of a bit in each, by what its text says (IEEE 1364-2005, clause 18). A
 -- moment is told by its time.
-use Rattle.std.specs.Prelude.{◌≡◌, ℕ, ◌<◌, ◌↔◌, List, [], ◌∷◌, bytes_eq, length, slice_index, slice_index_or, if◌then◌else◌}
+use Rattle.std.specs.Prelude.{◌≡◌, ℕ, ◌<◌, ◌↔◌, List, [], ◌∷◌, bytes_eq, length, slice_index, slice_index_or}
+use Rattle.std.specs.Prelude.{if◌then◌else◌}
 use Rattle.std.specs.List.{Contains}
 use Rattle.std.specs.List.Sorted.{IsStrictlyIncreasing}
 use Rattle.recording_reader.specs.Recording.{Recording, value_at, width_at}

@@ -1,5 +1,7 @@
 -- Tests of a word's bytes: codes, ranges, timescales.
-use Rattle.std.specs.Prelude.{ℕ, ◌+◌, ◌-◌, List, [], ◌∷◌, length, take, drop, Bool, cond, ◌==◌, ◌||◌, ◌&&◌, nat_le, nat_lt, Option, Some, None, option_map, position, bytes_eq, codes, slice_index, slice_range}
+use Rattle.std.specs.Prelude.{ℕ, ◌+◌, ◌-◌, List, [], ◌∷◌, length, take, drop, Bool, cond, ◌==◌, ◌||◌, ◌&&◌, nat_le}
+use Rattle.std.specs.Prelude.{nat_lt, Option, Some, None, option_map, position, bytes_eq, codes, slice_index}
+use Rattle.std.specs.Prelude.{slice_range}
 use Rattle.std.specs.List.{list_all}
 use Rattle.base_scan.specs.Numbers.{number_within}
 
@@ -63,7 +65,8 @@ abbrev pub is_power : List ℕ → Bool
 is_power t = bytes_eq t (codes "1") || bytes_eq t (codes "10") || bytes_eq t (codes "100")
 
 abbrev pub is_unit : List ℕ → Bool
-is_unit t = bytes_eq t (codes "s") || bytes_eq t (codes "ms") || bytes_eq t (codes "us") || bytes_eq t (codes "ns") || bytes_eq t (codes "ps") || bytes_eq t (codes "fs")
+is_unit t = bytes_eq t (codes "s") || bytes_eq t (codes "ms") || bytes_eq t (codes "us") || bytes_eq t (codes "ns")
+    || bytes_eq t (codes "ps") || bytes_eq t (codes "fs")
 
 abbrev pub is_cut_scale : List ℕ → ℕ → Bool
 is_cut_scale t k = is_power (take k t) && is_unit (drop k t)

@@ -1,5 +1,6 @@
 -- What the changes say.
-use Rattle.std.specs.Prelude.{◌≡◌, ℕ, ◌-◌, List, [], ◌∷◌, ◌++◌, length, map, cond, ◌==◌, ◌<◌, ◌≤◌, ◌^◌, nat_le, nat_lt, Option, Some, None, Result, Ok, Err, slice_index, replicate}
+use Rattle.std.specs.Prelude.{◌≡◌, ℕ, ◌-◌, List, [], ◌∷◌, ◌++◌, length, map, cond, ◌==◌, ◌<◌, ◌≤◌, ◌^◌, nat_le, nat_lt}
+use Rattle.std.specs.Prelude.{Option, Some, None, Result, Ok, Err, slice_index, replicate}
 use Rattle.std.specs.List.Sorted.{IsStrictlyIncreasing}
 use Rattle.recording_changes.specs.Held.{Change, History, change, track_of, with_change}
 use Rattle.recording_reader.specs.Bytes.{is_code, rest_of, front_of}
@@ -31,7 +32,12 @@ with_moment b = record b { times = times_or b.times }
 
 -- A change is in the last moment, or in the first where there is none yet.
 abbrev pub changed : Body → ℕ → List ℕ → Body
-changed b number digits = record { declared = b.declared; times = times_or b.times; tracks = with_change b.tracks number (change (length b.times - 1) digits) }
+changed b number digits = record {
+  declared = b.declared;
+  times = times_or b.times;
+  tracks = with_change b.tracks number
+      (change (length b.times - 1) digits);
+}
 
 abbrev pub last_time : Body → ℕ
 last_time b = slice_index b.times (length b.times - 1)

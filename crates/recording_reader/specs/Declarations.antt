@@ -1,5 +1,6 @@
 -- What is declared: scopes, codes and variables.
-use Rattle.std.specs.Prelude.{◌≡◌, ℕ, ◌-◌, List, [], ◌∷◌, ◌++◌, length, take, drop, Bool, true, false, cond, ◌==◌, Option, Some, None, slice_index, slice_get}
+use Rattle.std.specs.Prelude.{◌≡◌, ℕ, ◌-◌, List, [], ◌∷◌, ◌++◌, length, take, drop, Bool, true, false, cond, ◌==◌}
+use Rattle.std.specs.Prelude.{Option, Some, None, slice_index, slice_get}
 use Rattle.recording_reader.specs.Bytes.{range_of, last_bracket}
 use Rattle.recording_codes.specs.Code.{Code, code, with_kind_at}
 use Rattle.recording_reader.specs.Recording.{Path, path_at, paths_of}
@@ -44,7 +45,11 @@ with_scale h scale = record h { timescale = Some scale }
 
 -- `$scope`: a scope of this name within the present one is entered.
 abbrev pub with_scope : Declarations → List ℕ → Declarations
-with_scope h name = record h { scopes = h.scopes ++ (path_at h.scopes (scope_of h) ++ name ∷ []) ∷ []; entered = h.entered ++ length h.scopes ∷ [] }
+with_scope h name = record h {
+  scopes = h.scopes ++ (path_at h.scopes (scope_of h) ++ name ∷ [])
+      ∷ [];
+  entered = h.entered ++ length h.scopes ∷ [];
+}
 
 -- `$upscope`: the present scope is left.
 abbrev pub left_scope : Declarations → Declarations
@@ -78,7 +83,8 @@ abbrev pub recorded_name : List ℕ → RecordedName
 recorded_name t = name_at (range_of (drop (last_bracket t) t)) (last_bracket t) t
 
 abbrev pub variable : ℕ → RecordedName → ℕ → Variable
-variable scope n width = record { scope = scope; reference = n.reference; range = n.range; direct = n.direct; width = width }
+variable scope n width =
+    record { scope = scope; reference = n.reference; range = n.range; direct = n.direct; width = width }
 
 -- A variable after the others, and the number of its code.
 abbrev pub with_listed : Declarations → Variable → ℕ → Declarations
@@ -91,8 +97,10 @@ with_variable h skipped number width n =
 
 -- A variable that is listed after those of the old declarations stands in the innermost scope that was open.
 abbrev pub StandsInnermost : Declarations → Declarations → Type 0
-StandsInnermost old new = (v : Variable) → slice_get new.variables (length old.variables) ≡ Some v → path_at new.scopes v.scope ≡ open_path old
+StandsInnermost old new = (v : Variable) → slice_get new.variables (length old.variables) ≡ Some v
+    → path_at new.scopes v.scope ≡ open_path old
 
 -- After `$upscope` the scope is open that was so where the one that is left was entered.
 abbrev pub Returns : Declarations → Declarations → Type 0
-Returns old new = (outer : Declarations) (scope : ℕ) → old.entered ≡ outer.entered ++ scope ∷ [] → scope_of new ≡ scope_of outer
+Returns old new =
+    (outer : Declarations) (scope : ℕ) → old.entered ≡ outer.entered ++ scope ∷ [] → scope_of new ≡ scope_of outer

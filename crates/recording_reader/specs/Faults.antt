@@ -18,7 +18,8 @@ Says text r = run beginning (words_of text) (length text) ≡ Ok r
 
 -- A text that says a recording is read, or refused only when out of memory.
 abbrev pub IsRead : List ℕ → Result Recording VcdErr → Type 0
-IsRead text result = (r : Recording) → Says text r → MatchResult result (λ recording. recording ≡ r) (λ refusal. refusal ≡ Memory)
+IsRead text result =
+    (r : Recording) → Says text r → MatchResult result (λ recording. recording ≡ r) (λ refusal. refusal ≡ Memory)
 
 abbrev pub reach_on : Next → (State → Next) → Next
 reach_on (Ok s) next = next s

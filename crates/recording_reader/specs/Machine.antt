@@ -1,13 +1,16 @@
 -- The grammar of recordings (IEEE 1364-2005, clause 18), defined by a machine that reads word by word: a text is of the
 -- grammar where the machine reads it to its end, and no other relation defines it. A state has what was read so far,
 -- and says what may stand next.
-use Rattle.std.specs.Prelude.{ℕ, List, [], ◌∷◌, ◌++◌, length, Bool, true, false, cond, ◌==◌, ◌&&◌, nat_le, nat_lt, Option, Some, None, Result, Ok, Err}
-use Rattle.recording_reader.specs.Bytes.{is_end, is_code, are_values, time_of, range_of, is_power, is_unit, is_scale, is_skipped, rest_of}
+use Rattle.std.specs.Prelude.{ℕ, List, [], ◌∷◌, ◌++◌, length, Bool, true, false, cond, ◌==◌, ◌&&◌, nat_le, nat_lt}
+use Rattle.std.specs.Prelude.{Option, Some, None, Result, Ok, Err}
+use Rattle.recording_reader.specs.Bytes.{is_end, is_code, are_values, time_of, range_of, is_power, is_unit, is_scale}
+use Rattle.recording_reader.specs.Bytes.{is_skipped, rest_of}
 use Rattle.base_scan.specs.Numbers.{number_from}
 use Rattle.base_scan.specs.Bytes.{are_digits}
 use Rattle.recording_reader.specs.Changes.{Body, start, time_on, scalar_in, vector_in, real_in, recording_of}
 use Rattle.recording_codes.specs.Code.{find}
-use Rattle.recording_reader.specs.Declarations.{Declarations, name, recorded_name, with_scale, with_scope, left_scope, with_code, with_kind, with_variable}
+use Rattle.recording_reader.specs.Declarations.{Declarations, name, recorded_name, with_scale, with_scope, left_scope}
+use Rattle.recording_reader.specs.Declarations.{with_code, with_kind, with_variable}
 use Rattle.recording_reader.specs.Kinds.{kind_of}
 use Rattle.recording_reader.specs.Recording.{Recording}
 use Rattle.recording_reader.specs.Words.{Word}
@@ -85,7 +88,8 @@ width_on h var skipped t =
 -- none.
 abbrev pub code_on : Option Found → Declarations → ℕ → Bool → ℕ → List ℕ → Next
 code_on None h var skipped width t = Ok (var_reference (with_code h t width skipped) skipped (length h.codes) width)
-code_on (Some found) h var skipped width t = cond (found.width == width) (Ok (var_reference (with_kind h found.number skipped) skipped found.number width)) (Err (Width var))
+code_on (Some found) h var skipped width t = cond (found.width == width)
+    (Ok (var_reference (with_kind h found.number skipped) skipped found.number width)) (Err (Width var))
 
 abbrev pub range_on : Option (ℕ × ℕ) → Declarations → Bool → ℕ → ℕ → List ℕ → ℕ → Next
 range_on None h skipped number width reference at = Err (Syntax at)
@@ -126,10 +130,12 @@ step (scope_end h name) t = needs (is_end t.text) t (declaring (with_scope h nam
 step (upscope_end h) t = needs (is_end t.text) t (declaring h)
 step (var_kind h var) t = Ok (var_width h var (is_skipped t.text))
 step (var_width h var skipped) t = width_on h var skipped t
-step (var_code h var skipped width) t = cond (is_code t.text) (code_on (find h.codes t.text) h var skipped width t.text) (Err (Syntax t.at))
+step (var_code h var skipped width) t =
+    cond (is_code t.text) (code_on (find h.codes t.text) h var skipped width t.text) (Err (Syntax t.at))
 step (var_reference h skipped number width) t = but_end t (var_range h skipped number width t.text)
 step (var_range h skipped number width reference) t = behind_on h skipped number width reference t
-step (var_end h skipped number width reference range) t = needs (is_end t.text) t (declaring (with_variable h skipped number width (name reference (Some range) false)))
+step (var_end h skipped number width reference range) t =
+    needs (is_end t.text) t (declaring (with_variable h skipped number width (name reference (Some range) false)))
 step (definitions_end h) t = needs (is_end t.text) t (body (start h) false)
 step (body b dump) t = body_on (kind_of t.text) b dump t
 step (body_note b) t = Ok (cond (is_end t.text) (body b false) (body_note b))

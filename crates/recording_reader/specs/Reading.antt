@@ -4,7 +4,8 @@ use Rattle.recording_reader.specs.Bytes.{are_values, rest_of}
 use Rattle.recording_reader.specs.Declarations.{Declarations, name, with_variable}
 use Rattle.recording_reader.specs.Changes.{Body, start}
 use Rattle.recording_reader.specs.Machine.{State, Next, needs, run, then_run}
-use Rattle.recording_reader.specs.Machine.State.{body, declaring, definitions_end, var_code, var_end, var_range, var_reference, var_width, vector}
+use Rattle.recording_reader.specs.Machine.State.{body, declaring, definitions_end, var_code, var_end, var_range}
+use Rattle.recording_reader.specs.Machine.State.{var_reference, var_width, vector}
 use Rattle.recording_reader.specs.Naming.{shown_name}
 use Rattle.recording_reader.specs.Recording.{Recording}
 use Rattle.recording_reader.specs.Words.{Left, Word, word}
@@ -64,28 +65,35 @@ ReadsEnd old result new = (h : Declarations) → ReadsWords (definitions_end h) 
 -- In any declarations, the width of a variable is read, or refused.
 abbrev pub ReadsWidth : Left → Result ℕ VcdErr → Left → Type 0
 ReadsWidth old result new =
-    (h : Declarations) (var : ℕ) (skipped : Bool) → ReadsWords (var_width h var skipped) old result (λ width. var_code h var skipped width) new
+    (h : Declarations) (var : ℕ) (skipped : Bool)
+    → ReadsWords (var_width h var skipped) old result (λ width. var_code h var skipped width) new
 
 -- So is its name, with which the variable is declared.
 abbrev pub ReadsName : Left → Result RecordedName VcdErr → Left → Type 0
 ReadsName old result new =
-    (h : Declarations) (skipped : Bool) (number width : ℕ) → ReadsWords (var_reference h skipped number width) old result (λ n. declaring (with_variable h skipped number width (shown_name n))) new
+    (h : Declarations) (skipped : Bool) (number width : ℕ)
+    → ReadsWords (var_reference h skipped number width) old result
+    (λ n. declaring (with_variable h skipped number width (shown_name n))) new
 
 -- In its name, the reference is read, or refused.
 abbrev pub ReadsReference : Left → Result (Bor (List ℕ)) VcdErr → Left → Type 0
 ReadsReference old result new =
-    (h : Declarations) (skipped : Bool) (number width : ℕ) → ReadsWords (var_reference h skipped number width) old result (λ t. var_range h skipped number width t.now) new
+    (h : Declarations) (skipped : Bool) (number width : ℕ)
+    → ReadsWords (var_reference h skipped number width) old result (λ t. var_range h skipped number width t.now) new
 
 -- After a range in a word of its own, the end of the variable is read, or refused.
 abbrev pub ReadsVariableEnd : Left → Result Unit VcdErr → Left → Type 0
 ReadsVariableEnd old result new =
     (h : Declarations) (skipped : Bool) (number width : ℕ) (reference : List ℕ) (range : ℕ × ℕ)
-    → ReadsWords (var_end h skipped number width reference range) old result (λ _. declaring (with_variable h skipped number width (name reference (Some range) false))) new
+    → ReadsWords (var_end h skipped number width reference range) old result
+    (λ _. declaring (with_variable h skipped number width (name reference (Some range) false))) new
 
 -- Digits were read, whose word this is, and with the code in the next one they changed the body, in a dump or outside.
 abbrev pub ReadsVector : Word → Body → Left → Result Unit VcdErr → Body → Left → Type 0
 ReadsVector t before old result after new =
-    (dump : Bool) → ReadsOn (needs (are_values (rest_of t.text)) t (vector before dump t.at (rest_of t.text))) old result (λ _. body after dump) new
+    (dump : Bool)
+    → ReadsOn (needs (are_values (rest_of t.text)) t (vector before dump t.at (rest_of t.text))) old result
+    (λ _. body after dump) new
 
 -- On Ok fewer words are left.
 abbrev pub Shortens : {X : Type 0} → Left → Result X VcdErr → Left → Type 0

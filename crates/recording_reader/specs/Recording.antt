@@ -1,5 +1,6 @@
 -- A recording: what a text says.
-use Rattle.std.specs.Prelude.{◌≡◌, ℕ, ◌-◌, ◌<◌, ◌≤◌, ◌^◌, List, [], ◌∷◌, ◌++◌, length, Option, Some, None, map, slice_get, slice_index_or, All}
+use Rattle.std.specs.Prelude.{◌≡◌, ℕ, ◌-◌, ◌<◌, ◌≤◌, ◌^◌, List, [], ◌∷◌, ◌++◌, length, Option, Some, None, map}
+use Rattle.std.specs.Prelude.{slice_get, slice_index_or, All}
 use Rattle.std.specs.List.Sorted.{IsStrictlyIncreasing}
 use Rattle.design_cell.specs.declared.value.Value.{Value}
 use Rattle.recording_changes.specs.Held.{Change, History, bit_value, track_of}
@@ -38,7 +39,8 @@ value_at r variable bit moment = bit_value (slice_index_or r.changes variable []
 
 -- The value of a bit in a moment is that of the last change in it or before, and x before any change.
 abbrev pub IsValueAt : Recording → ℕ → ℕ → ℕ → Value → Type 0
-IsValueAt r variable bit moment value = IsLastValue (slice_index_or r.changes variable []) (width_at r variable) bit moment value
+IsValueAt r variable bit moment value =
+    IsLastValue (slice_index_or r.changes variable []) (width_at r variable) bit moment value
 
 -- A variable stands in one of a given number of scopes, and its width is 1 to 2^20.
 pub record IsVariable (scopes : ℕ) (v : Variable) : Type 0 where

@@ -24,12 +24,14 @@ is_aside _ = false
 -- words up to the first `$end`, and that one
 pub data UntilEnd : List Word → List Word → Type 0 where
   here : {end : Word} {words : List Word} → IsEnd end → UntilEnd (end ∷ words) words
-  further : {word : Word} {words rest : List Word} → is_end word.text ≡ false → UntilEnd words rest → UntilEnd (word ∷ words) rest
+  further : {word : Word} {words rest : List Word} → is_end word.text ≡ false → UntilEnd words rest
+      → UntilEnd (word ∷ words) rest
 
 -- [ range ] "$end"
 pub data RangeEnd : List Word → List Word → Type 0 where
   none : {end : Word} {words : List Word} → IsEnd end → RangeEnd (end ∷ words) words
-  some : {range end : Word} {words : List Word} → is_some (range_of range.text) ≡ true → IsEnd end → RangeEnd (range ∷ end ∷ words) words
+  some : {range end : Word} {words : List Word} → is_some (range_of range.text) ≡ true → IsEnd end
+      → RangeEnd (range ∷ end ∷ words) words
 
 -- "$var" kind width code reference [ range ] "$end", with this kind
 pub data VarOf (own : Word) : List Word → List Word → Type 0 where
@@ -40,10 +42,12 @@ pub data VarOf (own : Word) : List Word → List Word → Type 0 where
 -- scope that each variable stands in, but of those that are skipped by their kind.
 pub data Declares : Path → List Word → List Path → Type 0 where
   -- `$scope kind name $end`: a scope of this name is open within the one before.
-  scope : {path : Path} {word own name end : Word} {words : List Word} {paths : List Path} → IsOfKind word kind.Scope → IsEnd end
+  scope : {path : Path} {word own name end : Word} {words : List Word} {paths : List Path} → IsOfKind word kind.Scope
+      → IsEnd end
       → Declares (path ++ name.text ∷ []) words paths → Declares path (word ∷ own ∷ name ∷ end ∷ words) paths
   -- `$upscope $end`: the innermost open scope is left.
-  upscope : {path : Path} (name : List ℕ) {word end : Word} {words : List Word} {paths : List Path} → IsOfKind word kind.Upscope
+  upscope : {path : Path} (name : List ℕ) {word end : Word} {words : List Word} {paths : List Path}
+      → IsOfKind word kind.Upscope
       → IsEnd end → Declares path words paths → Declares (path ++ name ∷ []) (word ∷ end ∷ words) paths
   -- A variable stands in the innermost open scope.
   listed : {path : Path} {own : Word} {words rest : List Word} {paths : List Path} → VarOf own words rest
@@ -52,7 +56,8 @@ pub data Declares : Path → List Word → List Path → Type 0 where
       → is_skipped own.text ≡ true → Declares path rest paths → Declares path words paths
   aside : {path : Path} {word : Word} {words rest : List Word} {paths : List Path} → is_aside (kind_of word.text) ≡ true
       → UntilEnd words rest → Declares path rest paths → Declares path (word ∷ words) paths
-  definitions : {path : Path} {word : Word} {words : List Word} → IsOfKind word kind.Definitions → Declares path (word ∷ words) []
+  definitions : {path : Path} {word : Word} {words : List Word} → IsOfKind word kind.Definitions
+      → Declares path (word ∷ words) []
 
 abbrev pub paths_of_variables : List Path → List Variable → List Path
 paths_of_variables scopes variables = map (λ v. path_at scopes v.scope) variables

@@ -20,7 +20,8 @@ abbrev pub scan : Mode → ℕ → List ℕ → List Word
 scan between at [] = []
 scan (in_word start front) at [] = word start front ∷ []
 scan between at (b ∷ bs) = cond (is_white b) (scan between (at + 1) bs) (scan (in_word at (b ∷ [])) (at + 1) bs)
-scan (in_word start front) at (b ∷ bs) = cond (is_white b) (word start front ∷ scan between (at + 1) bs) (scan (in_word start (front ++ b ∷ [])) (at + 1) bs)
+scan (in_word start front) at (b ∷ bs) =
+    cond (is_white b) (word start front ∷ scan between (at + 1) bs) (scan (in_word start (front ++ b ∷ [])) (at + 1) bs)
 
 -- The words that are left to read, and the length of the whole text.
 pub record Left : Type 0 where

@@ -46,9 +46,11 @@ fn open_tracks(alloc: Global, count: usize) -> Result<Changes, Memory>
 }
 
 impl<'a> Body<'a> {
-    ghost use Rattle.std.specs.Prelude.{◌≡◌, ◌≤◌, ◌+◌, ◌<◌, ◌^◌, ℕ, Bool, false, List, [], ◌∷◌, length, IfOk, IfSome, OnOk, replicate};
+    ghost use Rattle.std.specs.Prelude.{◌≡◌, ◌≤◌, ◌+◌, ◌<◌, ◌^◌, ℕ, Bool, false, List, [], ◌∷◌, length, IfOk, IfSome};
+    ghost use Rattle.std.specs.Prelude.{OnOk, replicate};
     ghost use Rattle.recording_reader.specs.Bytes.{time_of, rest_of};
-    ghost use Rattle.recording_reader.specs.Changes.{start, time_on, scalar_in, vector_in, real_in, changed, recorded_so_far, with_moment, undeclared};
+    ghost use Rattle.recording_reader.specs.Changes.{start, time_on, scalar_in, vector_in, real_in, changed};
+    ghost use Rattle.recording_reader.specs.Changes.{recorded_so_far, with_moment, undeclared};
     ghost use Rattle.recording_codes.specs.Code.{find};
     ghost use Rattle.recording_reader.specs.Reading.{Gives, Does};
     ghost use Rattle.recording_reader.specs.Words.{word};

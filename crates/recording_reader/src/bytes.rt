@@ -2,7 +2,8 @@
 
 ghost use Rattle.std.specs.Prelude.{◌≡◌, take, drop};
 ghost use Rattle.std.specs.List.{list_all};
-ghost use Rattle.recording_reader.specs.Bytes.{is_end, is_code_byte, is_code, is_value, are_values, is_power, is_unit, is_cut_scale, is_scale, is_skipped, rest_of, front_of};
+ghost use Rattle.recording_reader.specs.Bytes.{is_end, is_code_byte, is_code, is_value, are_values, is_power, is_unit};
+ghost use Rattle.recording_reader.specs.Bytes.{is_cut_scale, is_scale, is_skipped, rest_of, front_of};
 
 use base_scan::is_word;
 

@@ -37,9 +37,12 @@ impl<'a> Model for Declarations<'a> {
 }
 
 impl<'a> Declarations<'a> {
-    ghost use Rattle.std.specs.Prelude.{◌≡◌, ◌+◌, ◌<◌, ◌≤◌, ◌^◌, ◌==◌, [], ◌∷◌, ◌++◌, nat_lt, length, IfOk, OnOk, OnErr, IfSome, None, Some, Ok, cond};
+    ghost use Rattle.std.specs.Prelude.{◌≡◌, ◌+◌, ◌<◌, ◌≤◌, ◌^◌, ◌==◌, [], ◌∷◌, ◌++◌, nat_lt, length, IfOk, OnOk};
+    ghost use Rattle.std.specs.Prelude.{OnErr, IfSome, None, Some, Ok, cond};
     ghost use Rattle.recording_codes.specs.Code.{find};
-    ghost use Rattle.recording_reader.specs.Declarations.{StandsInnermost, Returns, nothing, scope_of, open_path, with_scale, with_scope, left_scope, with_code, with_kind, with_listed, with_variable};
+    ghost use Rattle.recording_reader.specs.Declarations.{StandsInnermost, Returns, nothing, scope_of, open_path};
+    ghost use Rattle.recording_reader.specs.Declarations.{with_scale, with_scope, left_scope, with_code, with_kind};
+    ghost use Rattle.recording_reader.specs.Declarations.{with_listed, with_variable};
     ghost use Rattle.recording_reader.specs.Naming.{shown_name};
     ghost use Rattle.recording_reader.specs.Reading.{Does};
     ghost use Rattle.recording_reader.specs.Recording.{IsVariable};

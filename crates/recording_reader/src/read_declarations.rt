@@ -4,8 +4,10 @@ ghost use Rattle.std.specs.Prelude.{◌≡◌, ◌<◌, ◌≤◌, ◌^◌, ◌+
 ghost use Rattle.recording_reader.specs.Changes.{Body, start};
 ghost use Rattle.recording_reader.specs.Declarations.{Declarations, with_scale, with_scope};
 ghost use Rattle.recording_reader.specs.Machine.{upscope_on};
-ghost use Rattle.recording_reader.specs.Machine.State.{note, scale, scope_kind, scope_name, scope_end, scale_end, upscope_end, var_kind, body, body_note, declaring};
-ghost use Rattle.recording_reader.specs.Reading.{ReadsWords, ReadsCode, ReadsEnd, ReadsName, ReadsOn, ReadsOne, ReadsReference, ReadsVariableEnd, ReadsWidth, Shortens};
+ghost use Rattle.recording_reader.specs.Machine.State.{note, scale, scope_kind, scope_name, scope_end, scale_end};
+ghost use Rattle.recording_reader.specs.Machine.State.{upscope_end, var_kind, body, body_note, declaring};
+ghost use Rattle.recording_reader.specs.Reading.{ReadsWords, ReadsCode, ReadsEnd, ReadsName, ReadsOn, ReadsOne};
+ghost use Rattle.recording_reader.specs.Reading.{ReadsReference, ReadsVariableEnd, ReadsWidth, Shortens};
 
 use crate::bytes::{is_code, is_end, is_power, is_scale, is_skipped, is_unit};
 use crate::declarations::Declarations;

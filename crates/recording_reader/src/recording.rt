@@ -33,10 +33,12 @@ impl Model for Recording {
 }
 
 impl Recording {
-    ghost use Rattle.std.specs.Prelude.{◌≡◌, ◌+◌, ◌<◌, ◌≤◌, ◌^◌, [], ◌∷◌, ◌++◌, length, option_map, slice_index, slice_index_or};
+    ghost use Rattle.std.specs.Prelude.{◌≡◌, ◌+◌, ◌<◌, ◌≤◌, ◌^◌, [], ◌∷◌, ◌++◌, length, option_map, slice_index};
+    ghost use Rattle.std.specs.Prelude.{slice_index_or};
     ghost use Rattle.recording_changes.specs.Held.{moments_of};
     ghost use Rattle.recording_reader.specs.Changes.{recorded};
-    ghost use Rattle.recording_reader.specs.Recording.{IsRecording, IsValueAt, IsScopeWithin, path_at, last_name, value_at, width_at};
+    ghost use Rattle.recording_reader.specs.Recording.{IsRecording, IsValueAt, IsScopeWithin, path_at, last_name};
+    ghost use Rattle.recording_reader.specs.Recording.{value_at, width_at};
     ghost use Rattle.recording_reader.specs.Trees.{AreTimes};
 
     /// The recording of these declarations, times and changes.

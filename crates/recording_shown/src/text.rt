@@ -16,9 +16,9 @@ use wave_proved::Wave;
 /// The text of a recording with what a finished wave shows: its variables, and at each moment the values at its last
 /// round.
 ///
-/// Takes what `text_of_rows` of recording_writer does, and 4 bytes for each net. Takes time linear in the text, in the places that
-/// the wave wrote anew and in the bits of the variables that have such a one in a moment, and two binary searches for
-/// each step; with more than 2^20 bound variables, it is linear in all bits at each moment.
+/// Takes what `text_of_rows` of recording_writer does, and 4 bytes for each net. Takes time linear in the text, in the
+/// places that the wave wrote anew and in the bits of the variables that have such a one in a moment, and two binary
+/// searches for each step; with more than 2^20 bound variables, it is linear in all bits at each moment.
 pub fn wave_text(alloc: Global, wave: &Wave<'_>, binding: &Binding) -> Result<Vec<u8>, Memory>
     requires finished { IsFinished wave.now }
     requires binding { FitsBinding wave.now.design binding.now }

@@ -1,5 +1,6 @@
 -- The scopes and variables of a recording's text (IEEE 1364-2005, clause 18).
-use Rattle.std.specs.Prelude.{ℕ, ◌+◌, ◌==◌, List, [], ◌∷◌, ◌++◌, Option, Some, None, bytes_eq, codes, decimal, drop, length, slice_index, if◌then◌else◌}
+use Rattle.std.specs.Prelude.{ℕ, ◌+◌, ◌==◌, List, [], ◌∷◌, ◌++◌, Option, Some, None, bytes_eq, codes, decimal, drop}
+use Rattle.std.specs.Prelude.{length, slice_index, if◌then◌else◌}
 use Rattle.std.specs.List.{flat_map}
 use Rattle.design_circuit.specs.Design.{name_in}
 use Rattle.design_circuit.specs.declared.design.Design.{Design}
@@ -40,16 +41,19 @@ own_name (part ∷ next ∷ parts) = own_name (next ∷ parts)
 -- A range behind a name: `[m:l]`, and `[i]` for one bit of a vector.
 abbrev pub range_text : Option (ℕ × ℕ) → List ℕ
 range_text None = []
-range_text (Some range) = codes " [" ++ decimal range.0 ++ (if range.0 == range.1 then [] else codes ":" ++ decimal range.1) ++ codes "]"
+range_text (Some range) =
+    codes " [" ++ decimal range.0 ++ (if range.0 == range.1 then [] else codes ":" ++ decimal range.1) ++ codes "]"
 
 -- a variable has the own name of the net of its first bit
 abbrev pub bound_name : Design → Bound → List ℕ
 bound_name design b = own_name (name_in design (slice_index b.bits 0)).parts
 
 abbrev pub variable_line : Design → ℕ → Bound → List ℕ
-variable_line design number b = line (codes "$var wire " ++ decimal (length b.bits) ++ codes " " ++ code_of number ++ codes " " ++ bound_name design b ++ range_text b.range ++ codes " $end")
+variable_line design number b = line (codes "$var wire " ++ decimal (length b.bits) ++ codes " " ++ code_of number
+    ++ codes " " ++ bound_name design b ++ range_text b.range ++ codes " $end")
 
 -- The variables from one on, each behind the way to its scope from the present one; at the end every scope is left.
 abbrev pub declaration_lines : Design → Path → ℕ → List Bound → List ℕ
 declaration_lines design present number [] = flat_map upscope_line present
-declaration_lines design present number (b ∷ bs) = way present b.path ++ variable_line design number b ++ declaration_lines design b.path (number + 1) bs
+declaration_lines design present number (b ∷ bs) =
+    way present b.path ++ variable_line design number b ++ declaration_lines design b.path (number + 1) bs

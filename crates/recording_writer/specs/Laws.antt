@@ -20,5 +20,6 @@ ShowTheSame design stim first second = (moment net : ℕ) → moment < length st
 
 -- They have one text.
 abbrev pub TextsAreOne : Type 0
-TextsAreOne = (design : Design) (binding : Binding) (stim : Stim) (first second : HistoryView) → FitsBinding design binding
+TextsAreOne =
+    (design : Design) (binding : Binding) (stim : Stim) (first second : HistoryView) → FitsBinding design binding
     → ShowTheSame design stim first second → vcd_text design binding stim first ≡ vcd_text design binding stim second

@@ -1,5 +1,6 @@
 -- The moments of a recording's text (IEEE 1364-2005, clause 18).
-use Rattle.std.specs.Prelude.{ℕ, zero, suc, ◌+◌, ◌==◌, List, [], ◌∷◌, ◌++◌, Bool, codes, decimal, length, map, if◌then◌else◌}
+use Rattle.std.specs.Prelude.{ℕ, zero, suc, ◌+◌, ◌==◌, List, [], ◌∷◌, ◌++◌, Bool, codes, decimal, length, map}
+use Rattle.std.specs.Prelude.{if◌then◌else◌}
 use Rattle.std.specs.List.{list_all}
 use Rattle.design_cell.specs.Value.{letter_of}
 use Rattle.design_circuit.specs.History.{HistoryView, held_in}
@@ -15,15 +16,18 @@ letter_at history step net = letter_of (held_in history (record { step = step; n
 abbrev pub letters : HistoryView → ℕ → List ℕ → List ℕ
 letters history step nets = map (letter_at history step) nets
 
--- The value of a variable whose bits are these nets: a bit and the code; a wider one is `b`, all bits, a space and the code.
+-- The value of a variable whose bits are these nets: a bit and the code; a wider one is `b`, all bits, a space and the
+-- code.
 abbrev pub value_line : HistoryView → ℕ → ℕ → List ℕ → List ℕ
 value_line history step number nets =
-    line (if length nets == 1 then letters history step nets ++ code_of number else codes "b" ++ letters history step nets ++ codes " " ++ code_of number)
+    line (if length nets == 1 then letters history step nets ++ code_of number else codes "b"
+    ++ letters history step nets ++ codes " " ++ code_of number)
 
 -- the values of the variables from one on
 abbrev pub value_lines : HistoryView → ℕ → ℕ → List Bound → List ℕ
 value_lines history step number [] = []
-value_lines history step number (b ∷ bs) = value_line history step number b.bits ++ value_lines history step (number + 1) bs
+value_lines history step number (b ∷ bs) =
+    value_line history step number b.bits ++ value_lines history step (number + 1) bs
 
 -- Whether each of these nets shows the same at two steps.
 abbrev pub are_same : HistoryView → ℕ → ℕ → List ℕ → Bool
@@ -31,7 +35,8 @@ are_same history step before nets = list_all (λ net. letter_at history step net
 
 -- The value of a variable whose bits are these nets, where it is another than at a step before.
 abbrev pub change_line : HistoryView → ℕ → ℕ → ℕ → List ℕ → List ℕ
-change_line history step before number nets = if are_same history step before nets then [] else value_line history step number nets
+change_line history step before number nets =
+    if are_same history step before nets then [] else value_line history step number nets
 
 -- the values of those variables from one on that show another value than at a step before
 abbrev pub changed_lines : HistoryView → ℕ → ℕ → ℕ → List Bound → List ℕ
@@ -56,4 +61,5 @@ moment_lines history rounds bound (suc moment) time =
 -- the moments from one on
 abbrev pub lines_from : HistoryView → ℕ → List Bound → ℕ → List ℕ → List ℕ
 lines_from history rounds bound moment [] = []
-lines_from history rounds bound moment (time ∷ times) = moment_lines history rounds bound moment time ++ lines_from history rounds bound (moment + 1) times
+lines_from history rounds bound moment (time ∷ times) =
+    moment_lines history rounds bound moment time ++ lines_from history rounds bound (moment + 1) times

@@ -24,12 +24,16 @@ pub record AreReadersOf (nets : ℕ) (binding : Binding) (readers : BitReaders) 
 
 -- Each net has at a step the letter that it has at an earlier one, or its readers are due.
 abbrev pub KeepLetters : HistoryView → ReadersView → ℕ → ℕ → List ℕ → Type 0
-KeepLetters history readers earlier step due = (reader net : ℕ) → net < history.nets → Contains (readers_of readers net) reader → is_due due reader ≡ false → letter_at history step net ≡ letter_at history earlier net
+KeepLetters history readers earlier step due = (reader net : ℕ) → net < history.nets
+    → Contains (readers_of readers net) reader → is_due due reader ≡ false → letter_at history step net
+    ≡ letter_at history earlier net
 
 -- The same of the last rounds of a moment and of the one before.
 abbrev pub KeepLettersIn : HistoryView → ReadersView → ℕ → ℕ → List ℕ → Type 0
-KeepLettersIn history readers rounds moment due = KeepLetters history readers (last_round rounds (moment - 1)) (last_round rounds moment) due
+KeepLettersIn history readers rounds moment due =
+    KeepLetters history readers (last_round rounds (moment - 1)) (last_round rounds moment) due
 
 -- Each of some variables is due, or shows the same at two steps.
 abbrev pub SameUnlessDue : HistoryView → List Bound → ℕ → ℕ → List ℕ → Type 0
-SameUnlessDue history bound step before due = (number : ℕ) → number < length bound → is_due due number ≡ false → are_same history step before (slice_index_or bound number no_variable).bits ≡ true
+SameUnlessDue history bound step before due = (number : ℕ) → number < length bound → is_due due number ≡ false
+    → are_same history step before (slice_index_or bound number no_variable).bits ≡ true

@@ -15,7 +15,8 @@ timescale_line (Some scale) = line (codes "$timescale " ++ scale ++ codes " $end
 -- Version, timescale, scopes and variables, then moment by moment.
 unfoldable pub vcd_text : Design → Binding → Stim → HistoryView → List ℕ
 vcd_text design binding stim history =
-    line (codes "$version xrepair $end") ++ timescale_line binding.timescale ++ declaration_lines design [] 0 binding.bound
+    line (codes "$version xrepair $end") ++ timescale_line binding.timescale
+    ++ declaration_lines design [] 0 binding.bound
     ++ line (codes "$enddefinitions $end") ++ lines_from history stim.rounds binding.bound 0 stim.times
 
 -- A history has a place for each net of a design at each step of a stimulus, at most 2^40 of them.

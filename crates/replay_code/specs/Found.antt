@@ -1,5 +1,6 @@
 -- A net found by its name.
-use Rattle.std.specs.Prelude.{◌≡◌, ℕ, ◌<◌, true, false, Option, None, Some, List, map, length, slice_index, Contains, Vec}
+use Rattle.std.specs.Prelude.{◌≡◌, ℕ, ◌<◌, true, false, Option, None, Some, List, map, length, slice_index, Contains}
+use Rattle.std.specs.Prelude.{Vec}
 use Rattle.std.specs.declared.alloc.Global.{Global}
 use Rattle.std.specs.Borrow.{Bor}
 use Rattle.design_circuit.specs.declared.design.Design.{Design}
@@ -26,5 +27,6 @@ IsKeyOf texts (Some key) = IsKey texts key
 
 -- One of these nets, with this index; or none has it.
 abbrev pub IsFoundNet : Design → List ℕ → Option ℕ → Option ℕ → Type 0
-IsFoundNet design nets index None = (k : ℕ) → k < length nets → same_index (index_of design (slice_index nets k)) index ≡ false
+IsFoundNet design nets index None =
+    (k : ℕ) → k < length nets → same_index (index_of design (slice_index nets k)) index ≡ false
 IsFoundNet design nets index (Some net) = Contains nets net × (same_index (index_of design net) index ≡ true)

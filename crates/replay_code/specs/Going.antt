@@ -1,5 +1,6 @@
 -- Reading as the code does it.
-use Rattle.std.specs.Prelude.{◌≡◌, ℕ, ◌+◌, ◌*◌, ◌<◌, ◌≤◌, Bool, Option, None, Some, Result, Ok, Err, List, [], Vec, length, slice_index, if◌then◌else◌}
+use Rattle.std.specs.Prelude.{◌≡◌, ℕ, ◌+◌, ◌*◌, ◌<◌, ◌≤◌, Bool, Option, None, Some, Result, Ok, Err, List, [], Vec}
+use Rattle.std.specs.Prelude.{length, slice_index, if◌then◌else◌}
 use Rattle.std.specs.List.Sorted.{IsStrictlyIncreasing}
 use Rattle.std.specs.declared.alloc.Global.{Global}
 use Rattle.design_circuit.specs.Design.{FitsDesign}
@@ -47,7 +48,8 @@ HasMoment stim time (Some moment) = IsMoment stim time moment
 -- No event stands behind the present step, and before the first moment there is none.
 abbrev pub IsUpTo : ℕ → ℕ → Option ℕ → List Event → Type 0
 IsUpTo rounds round None events = events ≡ []
-IsUpTo rounds round (Some moment) events = (i : ℕ) → i < length events → (event_at events i).step ≤ moment * rounds + round
+IsUpTo rounds round (Some moment) events =
+    (i : ℕ) → i < length events → (event_at events i).step ≤ moment * rounds + round
 
 -- The moment is that of the time, the round one of the moment; the events stand at steps that don't fall, up to the
 -- present one, and at nets of the design.

@@ -26,7 +26,8 @@ IsMark c mark t = is_mark c.text t mark ≡ true
 
 -- name { "." name }
 pub data Names (c : Code) : List Token → List Token → Texts → Type 0 where
-  one : {t : Token} {ts : List Token} {name : List ℕ} → token_name c.text t ≡ Some name → Names c (t ∷ ts) ts (name ∷ [])
+  one : {t : Token} {ts : List Token} {name : List ℕ} → token_name c.text t ≡ Some name
+      → Names c (t ∷ ts) ts (name ∷ [])
   more : {t dot : Token} {ts rest : List Token} {name : List ℕ} {names : Texts} → token_name c.text t ≡ Some name
       → IsMark c (codes ".") dot → Names c ts rest names → Names c (t ∷ dot ∷ ts) rest (name ∷ names)
 

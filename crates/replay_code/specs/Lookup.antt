@@ -1,5 +1,5 @@
--- The net that a path in code names: behind the scope's names its own, and its index. Names compare by their bytes, escaped
--- or not alike (IEEE 1364-2005, clauses 3.7.1 and 12.5).
+-- The net that a path in code names: behind the scope's names its own, and its index. Names compare by their bytes,
+-- escaped or not alike (IEEE 1364-2005, clauses 3.7.1 and 12.5).
 use Rattle.std.specs.Prelude.{ℕ, Bool, true, false, ◌==◌, ◌&&◌, Option, None, Some, [], ◌∷◌, bytes_eq, if◌then◌else◌}
 use Rattle.std.specs.List.{position}
 use Rattle.design_circuit.specs.Design.{spelling_of}

@@ -1,7 +1,8 @@
 -- Reading code token by token: a state says what may stand next, a step what comes of it. What the machine reads to the
--- end is what the grammar of specs/Grammar.antt says (law `GrammarIsRead`); of a text that it doesn't say, the machine has
--- the first fault.
-use Rattle.std.specs.Prelude.{ℕ, ◌+◌, ◌*◌, ◌^◌, ◌==◌, Bool, true, false, Option, None, Some, Result, Ok, Err, List, [], ◌∷◌, ◌++◌, codes, length, nat_lt, if◌then◌else◌}
+-- end is what the grammar of specs/Grammar.antt says (law `GrammarIsRead`); of a text that it doesn't say, the machine
+-- has the first fault.
+use Rattle.std.specs.Prelude.{ℕ, ◌+◌, ◌*◌, ◌^◌, ◌==◌, Bool, true, false, Option, None, Some, Result, Ok, Err, List, []}
+use Rattle.std.specs.Prelude.{◌∷◌, ◌++◌, codes, length, nat_lt, if◌then◌else◌}
 use Rattle.design_cell.specs.declared.value.Value.{Value}
 use Rattle.design_circuit.specs.declared.force.Event.{Event}
 use Rattle.recording_binding.specs.Naming.{Texts}
@@ -14,11 +15,13 @@ use Rattle.replay_code.specs.Words.{is_mark, is_word, token_name, number_of, val
 use Rattle.replay_code.specs.declared.fault.CodeFault.{CodeFault}
 use Rattle.replay_code.specs.declared.fault.CodeFault.TheVariants.{Syntax, NoNet, NoMoment, RoundPast, ReleaseUnforced}
 use Rattle.replay_code.specs.declared.state.State.{State}
-use Rattle.replay_code.specs.declared.state.State.TheVariants.{Module, Title, Semicolon, Initial, Begin, Body, Wait, WaitEnd, NameNext, AfterName, Index, IndexEnd, PathEnd, Bit, StatementEnd, Tail, Done}
+use Rattle.replay_code.specs.declared.state.State.TheVariants.{Module, Title, Semicolon, Initial, Begin, Body, Wait}
+use Rattle.replay_code.specs.declared.state.State.TheVariants.{WaitEnd, NameNext, AfterName, Index, IndexEnd, PathEnd}
+use Rattle.replay_code.specs.declared.state.State.TheVariants.{Bit, StatementEnd, Tail, Done}
 
--- What was read so far: the time; the moment at that time, if there is one, and the round; of the statement in hand whether
--- it forces or releases, the place of its first name, the names, and the index behind them; and the events of the
--- statements, in the order in which these stand.
+-- What was read so far: the time; the moment at that time, if there is one, and the round; of the statement in hand
+-- whether it forces or releases, the place of its first name, the names, and the index behind them; and the events of
+-- the statements, in the order in which these stand.
 pub record Progress : Type 0 where
   pub code : Code
   pub time : ℕ
@@ -47,7 +50,8 @@ on false there otherwise = otherwise
 -- `#0;` moves to the next round of the moment.
 abbrev pub round_on : Progress → ℕ → Option ℕ → Result Next CodeFault
 round_on p at None = Err (NoMoment at)
-round_on p at (Some moment) = if p.round + 1 == p.code.stim.rounds then Err (RoundPast at) else next WaitEnd (record p { round = p.round + 1 })
+round_on p at (Some moment) =
+    if p.round + 1 == p.code.stim.rounds then Err (RoundPast at) else next WaitEnd (record p { round = p.round + 1 })
 
 -- `#d;` moves d time units on, to round 0.
 abbrev pub time_on : Progress → ℕ → ℕ → Option ℕ → Result Next CodeFault
@@ -55,7 +59,8 @@ time_on p at time None = Err (NoMoment at)
 time_on p at time (Some moment) = next WaitEnd (record p { time = time; moment = Some moment; round = 0 })
 
 abbrev pub waited : Progress → ℕ → ℕ → Result Next CodeFault
-waited p at d = if d == 0 then round_on p at p.moment else time_on p at (p.time + d) (moment_by p.code.stim (p.time + d))
+waited p at d =
+    if d == 0 then round_on p at p.moment else time_on p at (p.time + d) (moment_by p.code.stim (p.time + d))
 
 abbrev pub wait_by : Progress → ℕ → Token → Option ℕ → Result Next CodeFault
 wait_by p at t None = refused t
@@ -99,18 +104,23 @@ net_named p = net_below p.code.design (below p.code.scope p.texts) p.index
 
 -- An event stands at the present step.
 abbrev pub with_event : Progress → ℕ → ℕ → Option Value → Progress
-with_event p moment net value = record p { events = p.events ++ record { step = moment * p.code.stim.rounds + p.round; net = net; value = value } ∷ [] }
+with_event p moment net value = record p {
+  events = p.events
+      ++ record { step = moment * p.code.stim.rounds + p.round; net = net; value = value } ∷ [];
+}
 
 abbrev pub release_by : Progress → Token → ℕ → ℕ → Option Value → Result Next CodeFault
 release_by p t moment net None = Err (ReleaseUnforced p.at)
-release_by p t moment net (Some value) = on (is_mark p.code.text t (codes ";")) (next Body (with_event p moment net None)) (refused t)
+release_by p t moment net (Some value) =
+    on (is_mark p.code.text t (codes ";")) (next Body (with_event p moment net None)) (refused t)
 
 -- Behind the names: `=` and a value where the statement forces, else its end.
 abbrev pub target_by : Progress → Token → Option ℕ → Option ℕ → Result Next CodeFault
 target_by p t None net = Err (NoMoment p.at)
 target_by p t (Some moment) None = Err (NoNet p.at)
 target_by p t (Some moment) (Some net) =
-    on p.forces (on (is_mark p.code.text t (codes "=")) (next (Bit net) p) (refused t)) (release_by p t moment net (forced_now p.events net))
+    on p.forces (on (is_mark p.code.text t (codes "=")) (next (Bit net) p) (refused t))
+    (release_by p t moment net (forced_now p.events net))
 
 abbrev pub target : Progress → Token → Result Next CodeFault
 target p t = target_by p t p.moment (net_named p)
@@ -181,4 +191,14 @@ run state p (t ∷ ts) stop = then_run (step state p t) (λ n. run n.state n.pro
 
 -- Before the first token the time is 0.
 abbrev pub begun : Code → Progress
-begun code = record { code = code; time = 0; moment = moment_at code.stim 0; round = 0; forces = false; at = 0; texts = []; index = None; events = [] }
+begun code = record {
+  code = code;
+  time = 0;
+  moment = moment_at code.stim 0;
+  round = 0;
+  forces = false;
+  at = 0;
+  texts = [];
+  index = None;
+  events = [];
+}

@@ -1,5 +1,6 @@
 -- The words of a code text: its tokens with their bytes (IEEE 1364-2005, clause 3).
-use Rattle.std.specs.Prelude.{◌≡◌, ℕ, ◌&&◌, Bool, true, false, Option, None, Some, List, [], ◌∷◌, bytes_eq, codes, length, nat_le, slice_range, if◌then◌else◌}
+use Rattle.std.specs.Prelude.{◌≡◌, ℕ, ◌&&◌, Bool, true, false, Option, None, Some, List, [], ◌∷◌, bytes_eq, codes}
+use Rattle.std.specs.Prelude.{length, nat_le, slice_range, if◌then◌else◌}
 use Rattle.std.specs.Borrow.{Bor}
 use Rattle.design_cell.specs.declared.value.Value.{Value}
 use Rattle.design_cell.specs.declared.value.Value.TheVariants.{Zero, One, X, Z}
@@ -62,7 +63,8 @@ digits_of text t = if is_number_kind t.kind && all_digits (spelled text t) then 
 
 -- that number, of any number of digits
 abbrev pub number_of : List ℕ → Token → Option ℕ
-number_of text t = if is_number_kind t.kind && all_digits (spelled text t) then Some (number_from 0 (spelled text t)) else None
+number_of text t =
+    if is_number_kind t.kind && all_digits (spelled text t) then Some (number_from 0 (spelled text t)) else None
 
 -- what the code has of a name or of digits: their bytes
 abbrev pub IsName : Option (List ℕ) → Option (Bor (List ℕ)) → Type 0

@@ -1,5 +1,6 @@
 -- The text of code that forces nets, event by event (IEEE 1364-2005, clause 9.3.2).
-use Rattle.std.specs.Prelude.{ℕ, zero, suc, ◌-◌, ◌==◌, Option, None, Some, List, [], ◌∷◌, ◌++◌, codes, decimal, if◌then◌else◌}
+use Rattle.std.specs.Prelude.{ℕ, zero, suc, ◌-◌, ◌==◌, Option, None, Some, List, [], ◌∷◌, ◌++◌, codes, decimal}
+use Rattle.std.specs.Prelude.{if◌then◌else◌}
 use Rattle.base_lists.specs.Text.{line}
 use Rattle.design_cell.specs.declared.value.Value.{Value}
 use Rattle.design_cell.specs.Value.{letter_of}
@@ -21,7 +22,8 @@ round_lines (suc n) = wait_line 0 ++ round_lines n
 -- The waits that lead from one clock to another, and none other.
 abbrev pub wait_lines : Clock → Clock → List ℕ
 wait_lines from to =
-    if from.time == to.time then round_lines (to.round - from.round) else wait_line (to.time - from.time) ++ round_lines to.round
+    if from.time == to.time then round_lines (to.round - from.round) else wait_line (to.time - from.time)
+    ++ round_lines to.round
 
 abbrev pub value_end : Value → List ℕ
 value_end value = codes " = 1'b" ++ letter_of value ∷ codes ";\n"

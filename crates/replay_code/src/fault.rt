@@ -5,8 +5,8 @@ ghost use Rattle.replay_code.specs.Fault.{fault_at, fault_words};
 
 use std::fmt;
 
-/// Why a code is refused. `at` is a byte, counted from 0; at the end it is the length of the text. Its `Display` has the
-/// words.
+/// Why a code is refused. `at` is a byte, counted from 0; at the end it is the length of the text. Its `Display` has
+/// the words.
 #[derive(Clone, Copy, Debug, PartialEq, Eq)]
 pub enum CodeFault {
     /// A token with which no text of the grammar goes on, or the text's end.

@@ -1,9 +1,9 @@
 //! The text of code that forces nets (IEEE 1364-2005, clause 9.3.2), written by `write_code` and read by `read_code`.
 //! Start at specs/Written.antt, then at specs/Grammar.antt and Says.antt.
 //!
-//! A text is read in two halves: `tokens` runs the machine of specs/Machine.antt, one function a state in `machine`, and
-//! has the events of the statements; replay_forces makes of these the changes, place by place. That the machine reads just
-//! what the grammar says is a law (`grammar_is_read`).
+//! A text is read in two halves: `tokens` runs the machine of specs/Machine.antt, one function a state in `machine`,
+//! and has the events of the statements; replay_forces makes of these the changes, place by place. That the machine
+//! reads just what the grammar says is a law (`grammar_is_read`).
 #![tactic(auto)]
 
 mod bytes;

@@ -5,8 +5,8 @@ ghost use Rattle.replay_code.specs.Laws.{HasSmallTimes};
 
 use design_circuit::Stim;
 
-/// The times are numbers of 64 bits, of which a proof knows once each is read. That is all that it does, in time linear in
-/// the moments.
+/// The times are numbers of 64 bits, of which a proof knows once each is read. That is all that it does, in time linear
+/// in the moments.
 pub fn read_times(stim: &Stim)
     ensures { HasSmallTimes stim.now }
 {

@@ -1,8 +1,10 @@
 //! A set of positions, a bit each, and a bit above for each word of bits that may have any.
 
-ghost use Rattle.std.specs.Prelude.{◌≡◌, ℕ, ◌+◌, ◌*◌, ◌/◌, ◌%◌, ◌<◌, ◌≤◌, ◌^◌, ◌==◌, ◌||◌, true, false, All, IfOk, length, slice_index};
+ghost use Rattle.std.specs.Prelude.{◌≡◌, ℕ, ◌+◌, ◌*◌, ◌/◌, ◌%◌, ◌<◌, ◌≤◌, ◌^◌, ◌==◌, ◌||◌, true, false, All, IfOk};
+ghost use Rattle.std.specs.Prelude.{length, slice_index};
 ghost use Rattle.std.specs.Int.{bit_at};
-ghost use Rattle.replay_due.specs.Due.{AreAllDue, AreCleared, Covers, GainsAll, HasRoom, HasRoomFor, KeepsOthers, NoneBetween, is_due};
+ghost use Rattle.replay_due.specs.Due.{AreAllDue, AreCleared, Covers, GainsAll, HasRoom, HasRoomFor, KeepsOthers};
+ghost use Rattle.replay_due.specs.Due.{NoneBetween, is_due};
 
 use base_lists::Memory;
 use std::alloc::Global;

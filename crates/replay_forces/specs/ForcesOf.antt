@@ -1,5 +1,6 @@
 -- The forces of values: those under which the replay shows them, and no more.
-use Rattle.std.specs.Prelude.{◌≡◌, ℕ, zero, suc, ◌<◌, Option, None, Some, List, [], ◌∷◌, ◌++◌, slice_index_or, if◌then◌else◌}
+use Rattle.std.specs.Prelude.{◌≡◌, ℕ, zero, suc, ◌<◌, Option, None, Some, List, [], ◌∷◌, ◌++◌, slice_index_or}
+use Rattle.std.specs.Prelude.{if◌then◌else◌}
 use Rattle.design_cell.specs.declared.value.Value.{Value}
 use Rattle.design_circuit.specs.Force.{forced_by}
 use Rattle.design_circuit.specs.Job.{Job, step_of, net_of, places_of}

@@ -1,6 +1,7 @@
 -- Changes as they are made, place by place, from what each net has one step before. No contract of a public call names
 -- these.
-use Rattle.std.specs.Prelude.{◌≡◌, ℕ, ◌+◌, ◌*◌, ◌%◌, ◌<◌, ◌≤◌, false, Option, None, List, length, slice_index, slice_index_or}
+use Rattle.std.specs.Prelude.{◌≡◌, ℕ, ◌+◌, ◌*◌, ◌%◌, ◌<◌, ◌≤◌, false, Option, None, List, length, slice_index}
+use Rattle.std.specs.Prelude.{slice_index_or}
 use Rattle.design_cell.specs.declared.value.Value.{Value}
 use Rattle.design_cell.specs.declared.value.Value.TheVariants.{X}
 use Rattle.design_circuit.specs.Force.{forced_by}

@@ -22,8 +22,8 @@ use replay_due::Due;
 use replay_fans::{Fans, Waiting, mark_inputs};
 use std::alloc::Global;
 
-/// The forces under which the replay of a circuit shows these values, and no more: those of the places, which stay as they
-/// are. Takes the events, and some 30 bytes for each net and each pin.
+/// The forces under which the replay of a circuit shows these values, and no more: those of the places, which stay as
+/// they are. Takes the events, and some 30 bytes for each net and each pin.
 pub fn forces_of_values<S: Moving>(
     alloc: Global,
     circuit: &Circuit<'_>,

@@ -11,8 +11,8 @@ use wave_proved::Anew;
 pub trait Moving: Source {
     ghost job: { Self → AJob };
 
-    /// The places of a step behind the first at which the value may be another than that of their nets a step before, in
-    /// place order.
+    /// The places of a step behind the first at which the value may be another than that of their nets a step before,
+    /// in place order.
     fn moves_at(&self, step: usize) -> &[Anew]
         requires later { 0 < step }
         requires has { (place : ℕ) → place < (step + 1) * (job self.now).width → Self.has self.now place }

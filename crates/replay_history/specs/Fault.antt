@@ -1,5 +1,6 @@
 -- The faults of a recording beside the replay of its inputs: by moment, unsettled registers before values that differ.
-use Rattle.std.specs.Prelude.{◌≡◌, ◌⊎◌, ℕ, ◌+◌, ◌<◌, Err, None, Result, [], All, IsOk, length, slice_index, slice_index_or}
+use Rattle.std.specs.Prelude.{◌≡◌, ◌⊎◌, ℕ, ◌+◌, ◌<◌, Err, None, Result, [], All, IsOk, length, slice_index}
+use Rattle.std.specs.Prelude.{slice_index_or}
 use Rattle.design_cell.specs.declared.value.Value.{Value}
 use Rattle.design_cell.specs.declared.value.Value.TheVariants.{X}
 use Rattle.design_circuit.specs.Job.{Job, at}
@@ -60,17 +61,20 @@ pub record Unsettles (j : Job) (moment net : ℕ) (driver : Driver) (kept next :
 -- It is the first in the order that isn't.
 pub record IsFirstUnsettled (j : Job) (moment net : ℕ) (kept next : Value) : Type 0 where
   pub within : net < j.width
-  pub before : (other : ℕ) → other < j.width → position_of j.order other < position_of j.order net → IsSettledAt j (last_step j moment) other (j.driver other)
+  pub before : (other : ℕ) → other < j.width → position_of j.order other < position_of j.order net
+      → IsSettledAt j (last_step j moment) other (j.driver other)
   pub unsettles : Unsettles j moment net (j.driver net) kept next
 
 -- The bit doesn't agree, with the value recorded and the one replayed.
-pub record BitDiffers (j : Job) (recording : Recording) (moment : ℕ) (b : Bound) (bit : ℕ) (recorded replayed : Value) : Type 0 where
+pub record BitDiffers (j : Job) (recording : Recording) (moment : ℕ) (b : Bound) (bit : ℕ)
+    (recorded replayed : Value) : Type 0 where
   pub recorded_is : recorded ≡ value_at recording b.variable bit moment
   pub replayed_is : replayed ≡ shown_bit j moment b bit
   pub differs : BitAgrees j recording moment b bit → ⊥
 
 -- It is the first of the variable's that doesn't.
-pub record IsFirstBit (j : Job) (recording : Recording) (moment : ℕ) (b : Bound) (bit : ℕ) (recorded replayed : Value) : Type 0 where
+pub record IsFirstBit (j : Job) (recording : Recording) (moment : ℕ) (b : Bound) (bit : ℕ)
+    (recorded replayed : Value) : Type 0 where
   pub within : bit < length b.bits
   pub before : (other : ℕ) → other < bit → BitAgrees j recording moment b other
   pub differs : BitDiffers j recording moment b bit recorded replayed
@@ -82,7 +86,8 @@ abbrev pub bound_at : Binding → ℕ → Bound
 bound_at binding place = slice_index_or binding.bound place no_variable
 
 -- In a moment the variable is the first bound one that doesn't agree, and the bit its first.
-pub record IsFirstDisagreement (j : Job) (recording : Recording) (binding : Binding) (moment variable bit : ℕ) (recorded replayed : Value) : Type 0 where
+pub record IsFirstDisagreement (j : Job) (recording : Recording) (binding : Binding) (moment variable bit : ℕ)
+    (recorded replayed : Value) : Type 0 where
   pub place : ℕ
   pub within : place < length binding.bound
   pub before : (other : ℕ) → other < place → VariableAgrees j recording moment (bound_at binding other)
@@ -93,7 +98,8 @@ pub record IsFirstDisagreement (j : Job) (recording : Recording) (binding : Bind
 -- settled.
 abbrev pub IsFault : Job → Recording → Binding → Differ → Type 0
 IsFault j recording binding (Unsettled net moment kept next) = IsFirstUnsettled j moment net kept next
-IsFault j recording binding (Disagrees variable bit moment recorded replayed) = IsSettled j moment × IsFirstDisagreement j recording binding moment variable bit recorded replayed
+IsFault j recording binding (Disagrees variable bit moment recorded replayed) =
+    IsSettled j moment × IsFirstDisagreement j recording binding moment variable bit recorded replayed
 
 abbrev pub moment_of : Differ → ℕ
 moment_of (Unsettled net moment kept next) = moment
@@ -112,7 +118,8 @@ pub record IsFaultIn (j : Job) (recording : Recording) (binding : Binding) (mome
 
 -- The fault is that the net isn't settled in the moment.
 abbrev pub IsUnsettledAt : Job → ℕ → ℕ → Driver → Differ → Type 0
-IsUnsettledAt j moment net driver (Unsettled other when kept next) = (other ≡ net) × (when ≡ moment) × Unsettles j moment net driver kept next
+IsUnsettledAt j moment net driver (Unsettled other when kept next) =
+    (other ≡ net) × (when ≡ moment) × Unsettles j moment net driver kept next
 IsUnsettledAt j moment net driver (Disagrees variable bit when recorded replayed) = ⊥
 
 -- The fault is the first net that isn't.
@@ -123,17 +130,20 @@ IsUnsettledIn j moment (Disagrees variable bit when recorded replayed) = ⊥
 -- The fault is that the bit doesn't agree in the moment.
 abbrev pub IsBitFault : Job → Recording → ℕ → Bound → ℕ → Differ → Type 0
 IsBitFault j recording moment b bit (Unsettled net when kept next) = ⊥
-IsBitFault j recording moment b bit (Disagrees variable other when recorded replayed) = (variable ≡ b.variable) × (other ≡ bit) × (when ≡ moment) × BitDiffers j recording moment b bit recorded replayed
+IsBitFault j recording moment b bit (Disagrees variable other when recorded replayed) =
+    (variable ≡ b.variable) × (other ≡ bit) × (when ≡ moment) × BitDiffers j recording moment b bit recorded replayed
 
 -- The fault is the first bit that doesn't.
 abbrev pub IsVariableFault : Job → Recording → ℕ → Bound → Differ → Type 0
 IsVariableFault j recording moment b (Unsettled net when kept next) = ⊥
-IsVariableFault j recording moment b (Disagrees variable bit when recorded replayed) = (variable ≡ b.variable) × (when ≡ moment) × IsFirstBit j recording moment b bit recorded replayed
+IsVariableFault j recording moment b (Disagrees variable bit when recorded replayed) =
+    (variable ≡ b.variable) × (when ≡ moment) × IsFirstBit j recording moment b bit recorded replayed
 
 -- The fault is that of the first variable that doesn't agree.
 abbrev pub IsDisagreementIn : Job → Recording → Binding → ℕ → Differ → Type 0
 IsDisagreementIn j recording binding moment (Unsettled net when kept next) = ⊥
-IsDisagreementIn j recording binding moment (Disagrees variable bit when recorded replayed) = (when ≡ moment) × IsFirstDisagreement j recording binding moment variable bit recorded replayed
+IsDisagreementIn j recording binding moment (Disagrees variable bit when recorded replayed) =
+    (when ≡ moment) × IsFirstDisagreement j recording binding moment variable bit recorded replayed
 
 -- An error that is a fault is of this kind.
 abbrev pub IfDiffers : (Differ → Type 0) → DifferErr → Type 0
@@ -146,4 +156,5 @@ TellsFaultless j recording binding result = IsFaultless j recording binding → 
 
 -- The answer is each first fault that there is, unless memory ran out.
 abbrev pub TellsFirst : Job → Recording → Binding → Result (Unit {0}) DifferErr → Type 0
-TellsFirst j recording binding result = (differ : Differ) → IsFirstFault j recording binding differ → (result ≡ Err (Differs differ)) ⊎ (result ≡ Err Memory)
+TellsFirst j recording binding result = (differ : Differ) → IsFirstFault j recording binding differ
+    → (result ≡ Err (Differs differ)) ⊎ (result ≡ Err Memory)

@@ -1,5 +1,6 @@
 -- To which values nets are forced at a step.
-use Rattle.std.specs.Prelude.{◌≡◌, ℕ, ◌<◌, ◌≤◌, ◌==◌, ◌&&◌, Bool, Option, None, List, find, length, reverse, take, nat_le, nat_lt, slice_index_or}
+use Rattle.std.specs.Prelude.{◌≡◌, ℕ, ◌<◌, ◌≤◌, ◌==◌, ◌&&◌, Bool, Option, None, List, find, length, reverse, take}
+use Rattle.std.specs.Prelude.{nat_le, nat_lt, slice_index_or}
 use Rattle.std.specs.Prelude.{option_and_then}
 use Rattle.design_cell.specs.declared.value.Value.{Value}
 use Rattle.design_circuit.specs.Force.{forced_at}
@@ -7,7 +8,8 @@ use Rattle.design_circuit.specs.declared.force.Event.{Event}
 
 -- The value of the last event of a net, none where that is a release or there is no event.
 abbrev pub last_forced : List Event → ℕ → Option Value
-last_forced events net = option_and_then (λ (event : Event). event.value) (find (λ (event : Event). event.net == net) (reverse events))
+last_forced events net =
+    option_and_then (λ (event : Event). event.value) (find (λ (event : Event). event.net == net) (reverse events))
 
 abbrev pub no_event : Event
 no_event = record { step = 0; net = 0; value = None }
@@ -42,4 +44,5 @@ NoEventOf events from to net = (i : ℕ) → from ≤ i → i < to → (event_at
 
 -- The values have for each net the same, but for the nets of these events.
 abbrev pub ChangesOnlyBy : List Event → ℕ → ℕ → List (Option Value) → List (Option Value) → Type 0
-ChangesOnlyBy events from to old new = (net : ℕ) → NoEventOf events from to net → slice_index_or new net None ≡ slice_index_or old net None
+ChangesOnlyBy events from to old new =
+    (net : ℕ) → NoEventOf events from to net → slice_index_or new net None ≡ slice_index_or old net None

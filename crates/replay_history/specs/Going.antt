@@ -41,7 +41,8 @@ FilledAfter s history = IsFilled (job_at s) (forced_in s) ((s.number + 1) * (job
 -- Each place of the step but that of a position has what it had.
 abbrev pub KeepsOthers : Step → ℕ → HistoryView → HistoryView → Type 0
 KeepsOthers s position old new = (p : ℕ) → p < (job_at s).width → (p ≡ position → ⊥)
-    → held_of (job_at s) new (s.number * (job_at s).width + p) ≡ held_of (job_at s) old (s.number * (job_at s).width + p)
+    → held_of (job_at s) new (s.number * (job_at s).width + p)
+    ≡ held_of (job_at s) old (s.number * (job_at s).width + p)
 
 -- The step is gone over up to a position.
 abbrev pub SweptTo : Step → ℕ → HistoryView → Type 0

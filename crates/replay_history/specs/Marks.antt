@@ -8,4 +8,5 @@ use Rattle.replay_history.specs.Forced.{event_at}
 
 -- The positions of the events from one on, up to another, are due.
 abbrev pub AreEventsDue : Job → List Event → ℕ → ℕ → List ℕ → Type 0
-AreEventsDue j events from to due = (i : ℕ) → from ≤ i → i < to → is_due due (position_of j.order (event_at events i).net) ≡ true
+AreEventsDue j events from to due =
+    (i : ℕ) → from ≤ i → i < to → is_due due (position_of j.order (event_at events i).net) ≡ true

@@ -10,7 +10,8 @@ use Rattle.replay_history.specs.Filled.{replayed}
 
 -- A net shows at a step what it showed one step before.
 abbrev pub IsStillAt : Job → (ℕ → Option Value) → ℕ → ℕ → Type 0
-IsStillAt j forced step net = (replayed j forced (at j step net)).shown ≡ (replayed j forced (at j (step - 1) net)).shown
+IsStillAt j forced step net =
+    (replayed j forced (at j step net)).shown ≡ (replayed j forced (at j (step - 1) net)).shown
 
 -- It shows and keeps what it did.
 abbrev pub Stays : Job → (ℕ → Option Value) → ℕ → ℕ → Type 0
@@ -18,7 +19,8 @@ Stays j forced step net = replayed j forced (at j step net) ≡ replayed j force
 
 -- Those of the nets that stand before a position of the order are still.
 abbrev pub AreStillBefore : Job → (ℕ → Option Value) → ℕ → ℕ → List ℕ → Type 0
-AreStillBefore j forced step position nets = AllByRecursion (λ net. position_of j.order net < position → IsStillAt j forced step net) nets
+AreStillBefore j forced step position nets =
+    AllByRecursion (λ net. position_of j.order net < position → IsStillAt j forced step net) nets
 
 -- A net is forced at a step as one step before.
 abbrev pub IsForcedSame : Job → (ℕ → Option Value) → ℕ → ℕ → Type 0
@@ -40,4 +42,5 @@ LooksSame j forced step Undriven = Unit {0}
 LooksSame j forced step (Constant bit) = Unit {0}
 LooksSame j forced step (Copy argument) = Unit {0}
 LooksSame j forced step (Cell table pins) = Unit {0}
-LooksSame j forced step (Register latching) = (1 < step) × AllByRecursion (IsStillAt j forced (step - 1)) (net_pins latching.pins)
+LooksSame j forced step (Register latching) =
+    (1 < step) × AllByRecursion (IsStillAt j forced (step - 1)) (net_pins latching.pins)

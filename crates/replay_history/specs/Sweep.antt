@@ -21,18 +21,21 @@ pub record Rests (j : Job) (forced : ℕ → Option Value) (step position net : 
 -- The step has the replay up to a position, and from there on what the step before has.
 pub record IsSwept (j : Job) (forced : ℕ → Option Value) (step position : ℕ) (history : HistoryView) : Type 0 where
   pub filled : IsFilled j forced (step * j.width + position) history
-  pub behind : (p : ℕ) → position ≤ p → p < j.width → held_of j history (step * j.width + p) ≡ replayed j forced ((step - 1) * j.width + p)
+  pub behind : (p : ℕ) → position ≤ p → p < j.width → held_of j history (step * j.width + p)
+      ≡ replayed j forced ((step - 1) * j.width + p)
 
 -- From a position on, each net is due or rests.
 pub record AreDue (j : Job) (forced : ℕ → Option Value) (step position : ℕ) (due : List ℕ) : Type 0 where
   pub room : HasRoomFor due j.width
-  pub rests : (p : ℕ) → position ≤ p → p < j.width → is_due due p ≡ false → Rests j forced step position (slice_index j.order p)
+  pub rests : (p : ℕ) → position ≤ p → p < j.width → is_due due p ≡ false
+      → Rests j forced step position (slice_index j.order p)
 
 -- Each register is due one step later, or of the nets that it looks back at those that stand before the position are
 -- still.
 pub record AreAhead (j : Job) (forced : ℕ → Option Value) (step position : ℕ) (ahead : List ℕ) : Type 0 where
   pub room : HasRoomFor ahead j.width
-  pub still : (p : ℕ) → p < j.width → is_due ahead p ≡ false → AreStillBefore j forced step position (looked_at (driver_on j p))
+  pub still : (p : ℕ) → p < j.width → is_due ahead p ≡ false
+      → AreStillBefore j forced step position (looked_at (driver_on j p))
 
 -- Before a step each register is due, or looks back at nets that were still.
 pub record AreAwaited (j : Job) (forced : ℕ → Option Value) (step : ℕ) (due : List ℕ) : Type 0 where

@@ -5,7 +5,8 @@ ghost use Rattle.replay_fans.specs.Marks.{OnlyMore};
 ghost use Rattle.base_ledger.specs.Change.{AreInWidth};
 ghost use Rattle.replay_history.specs.Follower.{IsUpTo};
 ghost use Rattle.replay_history.specs.Sides.{AreSides, job_beside};
-ghost use Rattle.replay_history.specs.Watched.{AreAtRest, AreDueTo, AreRecordedAsBefore, FitsWatchers, IsNumberDue, ShowSame, ShowSameIn};
+ghost use Rattle.replay_history.specs.Watched.{AreAtRest, AreDueTo, AreRecordedAsBefore, FitsWatchers, IsNumberDue};
+ghost use Rattle.replay_history.specs.Watched.{ShowSame, ShowSameIn};
 ghost use Rattle.replay_due.specs.Due.{HasRoom, HasRoomFor};
 ghost use Rattle.replay_due.specs.Readers.{IsReaderTable};
 

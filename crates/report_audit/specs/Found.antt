@@ -1,5 +1,6 @@
 -- What an audit tells.
-use Rattle.std.specs.Prelude.{◌≡◌, ◌↔◌, ℕ, zero, suc, ◌+◌, Bool, true, List, [], ◌∷◌, ◌++◌, IfSome, IsSome, if◌then◌else◌}
+use Rattle.std.specs.Prelude.{◌≡◌, ◌↔◌, ℕ, zero, suc, ◌+◌, Bool, true, List, [], ◌∷◌, ◌++◌, IfSome, IsSome}
+use Rattle.std.specs.Prelude.{if◌then◌else◌}
 use Rattle.design_circuit.specs.declared.place.Place.{Place}
 use Rattle.design_circuit.specs.Filling.{IsPlace}
 use Rattle.design_circuit.specs.Fits.{IsPlain, place_at}
@@ -27,7 +28,8 @@ pub record IsFoundPlace (c : Contents) (replay : HistoryView) (place : Place) (f
 -- Each of some places is told, in order, and nothing else is.
 abbrev pub AreFound : Contents → HistoryView → List Place → List Found → Type 0
 AreFound c replay [] [] = Unit {0}
-AreFound c replay (place ∷ places) (found ∷ others) = IsFoundPlace c replay place found × AreFound c replay places others
+AreFound c replay (place ∷ places) (found ∷ others) =
+    IsFoundPlace c replay place found × AreFound c replay places others
 AreFound c replay [] (found ∷ others) = ⊥
 AreFound c replay (place ∷ places) [] = ⊥
 

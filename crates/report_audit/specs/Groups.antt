@@ -1,5 +1,6 @@
 -- How many origins each row of each primitive gave.
-use Rattle.std.specs.Prelude.{◌≡◌, ◌⊎◌, ℕ, ◌<◌, ◌==◌, ◌&&◌, Bool, true, false, Option, None, Some, List, All, count_by, length, nat_lt, sum_by}
+use Rattle.std.specs.Prelude.{◌≡◌, ◌⊎◌, ℕ, ◌<◌, ◌==◌, ◌&&◌, Bool, true, false, Option, None, Some, List, All, count_by}
+use Rattle.std.specs.Prelude.{length, nat_lt, sum_by}
 use Rattle.std.specs.List.{AllAdjacentBelow}
 use Rattle.design_circuit.specs.declared.design.Driver.{Driver}
 use Rattle.design_circuit.specs.declared.design.Driver.TheVariants.{Input, Undriven, Constant, Copy, Cell, Register}

@@ -1,6 +1,7 @@
 -- Which places an audit lists, which stay open, and where a wrong value has its origin. The wave is that of the blank
 -- history, and the history beside it is the replay.
-use Rattle.std.specs.Prelude.{ℕ, ◌-◌, ◌==◌, ◌&&◌, ◌||◌, Bool, false, not, Option, None, Some, List, [], ◌∷◌, ◌++◌, map, if◌then◌else◌}
+use Rattle.std.specs.Prelude.{ℕ, ◌-◌, ◌==◌, ◌&&◌, ◌||◌, Bool, false, not, Option, None, Some, List, [], ◌∷◌, ◌++◌, map}
+use Rattle.std.specs.Prelude.{if◌then◌else◌}
 use Rattle.std.specs.List.{list_any}
 use Rattle.design_cell.specs.declared.value.Value.{Value}
 use Rattle.design_cell.specs.Value.{is_unknown}

@@ -1,5 +1,6 @@
 -- The ends of the places of a step, one beside the other. No contract of a public call names these.
-use Rattle.std.specs.Prelude.{◌≡◌, ℕ, ◌+◌, ◌-◌, ◌*◌, ◌<◌, ◌⊎◌, Bool, true, false, List, count_by, length, slice_index_or}
+use Rattle.std.specs.Prelude.{◌≡◌, ℕ, ◌+◌, ◌-◌, ◌*◌, ◌<◌, ◌⊎◌, Bool, true, false, List, count_by, length}
+use Rattle.std.specs.Prelude.{slice_index_or}
 use Rattle.design_cell.specs.declared.value.Value.{Value}
 use Rattle.design_cell.specs.declared.value.Value.TheVariants.{Zero, One, X, Z}
 use Rattle.design_circuit.specs.Waveform.{written_at}

@@ -1,5 +1,6 @@
 -- The lines of the bits moment by moment, by the nets of the bits. No contract of a public call names these.
-use Rattle.std.specs.Prelude.{◌≡◌, ℕ, zero, suc, ◌+◌, ◌-◌, ◌*◌, ◌<◌, ◌≤◌, ◌^◌, ◌⊎◌, Bool, false, List, [], ◌++◌, All, Contains, length, slice_index}
+use Rattle.std.specs.Prelude.{◌≡◌, ℕ, zero, suc, ◌+◌, ◌-◌, ◌*◌, ◌<◌, ◌≤◌, ◌^◌, ◌⊎◌, Bool, false, List, [], ◌++◌, All}
+use Rattle.std.specs.Prelude.{Contains, length, slice_index}
 use Rattle.std.specs.List.{flat_map}
 use Rattle.design_cell.specs.Value.{is_unknown}
 use Rattle.design_circuit.specs.History.{net_place}

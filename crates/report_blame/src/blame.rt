@@ -26,12 +26,12 @@ pub struct Blame {
 /// A source and a filling to blame for each bound bit that is unknown at its moment's last round, and the table of the
 /// sources. No clause says which of several sources is named.
 ///
-/// The root of each of these bits is looked up in lanes, which follow the wave in the order of the report, and each root
-/// is answered once. A cone is made only where the two fillings of a place list more than one place, and gives one value
-/// more than their number has binary digits.
+/// The root of each of these bits is looked up in lanes, which follow the wave in the order of the report, and each
+/// root is answered once. A cone is made only where the two fillings of a place list more than one place, and gives one
+/// value more than their number has binary digits.
 ///
-/// Takes what lanes take, a filling for each bit and one for each root that bits have in common, 8 bytes for each bit and
-/// 32 for each source, a byte for each net, and for a time the memory of a cone.
+/// Takes what lanes take, a filling for each bit and one for each root that bits have in common, 8 bytes for each bit
+/// and 32 for each source, a byte for each net, and for a time the memory of a cone.
 pub fn blame_of(alloc: Global, wave: &Wave<'_>, bound: &Binding) -> Result<Blame, Memory>
     requires finished { IsFinished wave.now }
     requires binding { FitsBinding wave.now.design bound.now }

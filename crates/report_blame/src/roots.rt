@@ -70,8 +70,8 @@ fn root_in(wave: &Wave<'_>, lanes: &Lanes, place: Place) -> Root
     }
 }
 
-/// The cone of a Line place: that of its node, or where there is none, or the graph isn't kept, traced. Takes the memory
-/// of the cone, and of the search in the graph or of a trace.
+/// The cone of a Line place: that of its node, or where there is none, or the graph isn't kept, traced. Takes the
+/// memory of the cone, and of the search in the graph or of a trace.
 pub fn cone_of(
     alloc: Global,
     wave: &Wave<'_>,

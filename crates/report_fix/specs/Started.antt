@@ -1,5 +1,6 @@
 -- A stimulus whose registers start with given bits.
-use Rattle.std.specs.Prelude.{◌≡◌, ◌⊎◌, ℕ, zero, suc, ◌+◌, ◌<◌, Bool, true, false, Option, None, Some, List, [], length, map, take, slice_index_or, slice_set}
+use Rattle.std.specs.Prelude.{◌≡◌, ◌⊎◌, ℕ, zero, suc, ◌+◌, ◌<◌, Bool, true, false, Option, None, Some, List, [], length}
+use Rattle.std.specs.Prelude.{map, take, slice_index_or, slice_set}
 use Rattle.design_cell.specs.declared.value.Value.{Value}
 use Rattle.design_cell.specs.declared.value.Value.TheVariants.{Zero, One, X, Z}
 use Rattle.design_cell.specs.Value.{IsKnown, bit_value}
@@ -47,7 +48,8 @@ abbrev pub AreFine : Design → List Value → List Piece → ℕ → Type 0
 AreFine design starts pieces n = (k : ℕ) → k < n → fault_at design starts pieces k ≡ None
 
 -- The first piece at fault, and why.
-pub record IsFirstFault (design : Design) (starts : List Value) (pieces : List Piece) (fault : StartFault) : Type 0 where
+pub record IsFirstFault (design : Design) (starts : List Value) (pieces : List Piece)
+    (fault : StartFault) : Type 0 where
   pub at : ℕ
   pub within : at < length pieces
   pub is : fault_at design starts pieces at ≡ Some fault

@@ -58,8 +58,8 @@ audit_text c listed groups unsure =
 
 -- The text is of the listed places of a wave of the blank history beside the replay, of the groups of their origins and
 -- of the number of open places. Each origin is driven by a primitive. Where nothing is undecided, each list of lines
--- without an undecided body that meets an optimistic place for the replay meets its first one at the first listed place,
--- and there is such a list exactly where one is listed.
+-- without an undecided body that meets an optimistic place for the replay meets its first one at the first listed
+-- place, and there is such a list exactly where one is listed.
 pub record TellsAudit (c : Contents) (replay : HistoryView) (text : List ℕ) : Type 0 where
   pub listed : List Found
   pub groups : List Group

@@ -1,5 +1,6 @@
 -- The first fault of a text that stands for nothing.
-use Rattle.std.specs.Prelude.{◌≡◌, ◌≢◌, ℕ, ℤ, ◌+◌, ◌<◌, ◌≤◌, ◌==◌, nat_abs, List, [], ◌∷◌, ◌++◌, Bool, true, false, not, if◌then◌else◌, Option, Some, None, codes, filter, length}
+use Rattle.std.specs.Prelude.{◌≡◌, ◌≢◌, ℕ, ℤ, ◌+◌, ◌<◌, ◌≤◌, ◌==◌, nat_abs, List, [], ◌∷◌, ◌++◌, Bool, true, false, not}
+use Rattle.std.specs.Prelude.{if◌then◌else◌, Option, Some, None, codes, filter, length}
 use Rattle.std.specs.List.{AllByRecursion}
 use Rattle.sat_dimacs.specs.declared.fault.DimacsFault.{DimacsFault}
 use Rattle.sat_dimacs.specs.declared.fault.DimacsFault.TheVariants.{Syntax, Range, Count}

@@ -1,5 +1,6 @@
 -- Which texts stand for a formula, and which for a log (the format of the DIMACS satisfiability challenge).
-use Rattle.std.specs.Prelude.{◌≡◌, ◌≢◌, ℕ, ℤ, pos, ◌+◌, ◌≤◌, nat_abs, List, [], ◌∷◌, ◌++◌, Bool, true, false, ◌||◌, codes, length}
+use Rattle.std.specs.Prelude.{◌≡◌, ◌≢◌, ℕ, ℤ, pos, ◌+◌, ◌≤◌, nat_abs, List, [], ◌∷◌, ◌++◌, Bool, true, false, ◌||◌}
+use Rattle.std.specs.Prelude.{codes, length}
 use Rattle.std.specs.List.{AllByRecursion, AllZip, flat_map, list_all}
 use Rattle.base_scan.specs.declared.gap.Gap.TheVariants.{Blank}
 use Rattle.sat_dimacs.specs.declared.kind.Kind.TheVariants.{OfCnf, OfLog}

@@ -1,5 +1,6 @@
 -- What a text comes to, line by line and word by word: the clauses, or the first fault.
-use Rattle.std.specs.Prelude.{ℕ, ℤ, pos, neg_ℤ, ◌+◌, ◌++◌, ◌&&◌, ◌==◌, nat_le, nat_lt, List, [], ◌∷◌, Bool, true, false, cond, codes, length, Option, Some, None, Result, Ok, Err}
+use Rattle.std.specs.Prelude.{ℕ, ℤ, pos, neg_ℤ, ◌+◌, ◌++◌, ◌&&◌, ◌==◌, nat_le, nat_lt, List, [], ◌∷◌, Bool, true, false}
+use Rattle.std.specs.Prelude.{cond, codes, length, Option, Some, None, Result, Ok, Err}
 use Rattle.std.specs.Ordering.{int_eq}
 use Rattle.sat_dimacs.specs.declared.fault.DimacsFault.{DimacsFault}
 use Rattle.sat_dimacs.specs.declared.fault.DimacsFault.TheVariants.{Syntax, Range, Count}

@@ -8,7 +8,8 @@ use Rattle.sat_proof.specs.declared.index.Index.{Index}
 -- The chain from `head` has an entry of clause n. Entry e is written e + 1, and 0 is the end.
 pub data Reaches (nexts owners : List ℕ) (n : ℕ) : ℕ → Type 0 where
   here : (head e : ℕ) → head ≡ e + 1 → slice_index_or owners e 0 ≡ n → Reaches nexts owners n head
-  further : (head e : ℕ) → head ≡ e + 1 → Reaches nexts owners n (slice_index_or nexts e 0) → Reaches nexts owners n head
+  further : (head e : ℕ) → head ≡ e + 1 → Reaches nexts owners n (slice_index_or nexts e 0)
+      → Reaches nexts owners n head
 
 abbrev pub head_of : Index → ℕ → ℕ
 head_of x code = slice_index_or x.heads.items code 0
@@ -34,7 +35,8 @@ Serves x clauses = x.on ≡ true → IsIndexed x clauses
 
 -- what served some clauses serves them with one more, whose number is the next
 abbrev pub ServesMore : Index → Index → ℕ → List ℤ → Type 0
-ServesMore old new owner c = (clauses : List (List ℤ)) → owner ≡ length clauses → Serves old clauses → Serves new (clauses ++ c ∷ [])
+ServesMore old new owner c =
+    (clauses : List (List ℤ)) → owner ≡ length clauses → Serves old clauses → Serves new (clauses ++ c ∷ [])
 
 -- one more entry at the head of a code's chain
 pub record IsLink (old new : Index) (code owner : ℕ) : Type 0 where

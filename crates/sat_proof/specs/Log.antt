@@ -30,7 +30,8 @@ AreSameSet c d = All (Contains d) c × All (Contains c) d
 abbrev pub HasNoComplements : List ℤ → Type 0
 HasNoComplements clause = All (λ l. Contains clause (neg_ℤ l) → ⊥) clause
 
--- A clause of a log is fresh where it isn't empty, is no tautology, equals no earlier clause as a set, follows and is tight.
+-- A clause of a log is fresh where it isn't empty, is no tautology, equals no earlier clause as a set, follows and is
+-- tight.
 pub record IsFresh (clauses : List (List ℤ)) (clause : List ℤ) : Type 0 where
   pub filled : 0 < length clause
   pub no_tautology : HasNoComplements clause
@@ -46,10 +47,11 @@ IsFreshAt query log k = IsFresh (before query log k) (clause_at log k)
 abbrev pub AreFresh : List (List ℤ) → List (List ℤ) → Type 0
 AreFresh query log = (k : ℕ) → k < length log → IsFreshAt query log k
 
--- Of `count` lines, numbered from 1, this is the first that breaks the rules; or each line keeps them, the end breaks its own,
--- and this is the line after the last.
+-- Of `count` lines, numbered from 1, this is the first that breaks the rules; or each line keeps them, the end breaks
+-- its own, and this is the line after the last.
 pub data IsFirstBad (Keeps : ℕ → Type 0) (count : ℕ) (End : Type 0) (line : ℕ) : Type 0 where
-  inside : (k : ℕ) → line ≡ k + 1 → k < count → ((j : ℕ) → j < k → Keeps j) → (Keeps k → ⊥) → IsFirstBad Keeps count End line
+  inside : (k : ℕ) → line ≡ k + 1 → k < count → ((j : ℕ) → j < k → Keeps j) → (Keeps k → ⊥)
+      → IsFirstBad Keeps count End line
   ending : line ≡ count + 1 → ((j : ℕ) → j < count → Keeps j) → (End → ⊥) → IsFirstBad Keeps count End line
 
 -- the first line at which the log doesn't refute

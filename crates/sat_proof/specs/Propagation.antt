@@ -8,13 +8,15 @@ use Rattle.sat_proof.specs.Status.{IsOnlyOpen, literal_at}
 use Rattle.sat_proof.specs.Trail.{held, HasSince, IsPush, StaysOver}
 use Rattle.sat_proof.specs.declared.trail.Trail.{Trail}
 
--- The marks grow, and stay within each quiet set that has the old ones; there no new one is in it together with its complement.
+-- The marks grow, and stay within each quiet set that has the old ones; there no new one is in it together with its
+-- complement.
 pub record IsGrowth (old new : List Bool) (clauses : List (List ℤ)) : Type 0 where
   pub sized : length new ≡ length old
   pub consistent : IsConsistent new
   pub grows : IsMarkedWithin old (is_false new)
   pub within : (f : ℤ → Bool) → All (IsQuiet f) clauses → IsMarkedWithin old f → IsMarkedWithin new f
-  pub forced : (f : ℤ → Bool) → All (IsQuiet f) clauses → IsMarkedWithin old f → (l : ℤ) → is_false new l ≡ true → is_false old l ≡ false
+  pub forced : (f : ℤ → Bool) → All (IsQuiet f) clauses → IsMarkedWithin old f → (l : ℤ) → is_false new l ≡ true
+      → is_false old l ≡ false
       → f (neg_ℤ l) ≡ true → ⊥
 
 -- no quiet set has the marks
@@ -41,9 +43,11 @@ DoClash old literals = (l : ℤ) × Contains literals l × ((is_false old (neg_�
 -- a look at a clause left the trail alone, since the clause is quiet, or added the complement of its only open literal
 abbrev pub IsVisit : Trail → Trail → List ℤ → Type 0
 IsVisit old new clause = ((new ≡ old) × IsQuiet (held old) clause)
-    ⊎ ((k : ℕ) × IsOnlyOpen old.marks.items clause (length clause) k × IsPush old new (code_of (neg_ℤ (literal_at clause k))))
+    ⊎ ((k : ℕ) × IsOnlyOpen old.marks.items clause (length clause) k
+    × IsPush old new (code_of (neg_ℤ (literal_at clause k))))
 
--- Propagation is under way: each clause is quiet unless it still waits to be looked at, or one of its literals came at place
+-- Propagation is under way: each clause is quiet unless it still waits to be looked at, or one of its literals came at
+-- place
 -- `from` or later.
 pub record IsRunning (old now : Trail) (clauses : List (List ℤ)) (from : ℕ) (Waits : ℕ → Type 0) : Type 0 where
   pub growth : IsGrowth old.marks.items now.marks.items clauses

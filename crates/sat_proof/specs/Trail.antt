@@ -36,7 +36,8 @@ pub record IsOver (base : List Bool) (b : ℕ) (t : Trail) : Type 0 where
   pub kept : (k : ℕ) → slice_index_or base k false ≡ true → slice_index_or t.marks.items k false ≡ true
   pub traced : (k : ℕ) → slice_index_or t.marks.items k false ≡ true
       → (slice_index_or base k false ≡ true) ⊎ ((j : ℕ) × (b ≤ j) × (j < t.len) × (code_at t j ≡ k))
-  pub «new» : (j : ℕ) → b ≤ j → j < t.len → (code_at t j < length t.marks.items) × (slice_index_or base (code_at t j) false ≡ false)
+  pub «new» : (j : ℕ) → b ≤ j → j < t.len → (code_at t j < length t.marks.items)
+      × (slice_index_or base (code_at t j) false ≡ false)
 
 -- what the old trail was over, the new one is over
 abbrev pub StaysOver : Trail → Trail → Type 0

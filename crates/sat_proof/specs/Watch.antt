@@ -1,6 +1,7 @@
 -- Watches: two literals of each clause that isn't true already. An entry is one of the two, those of clause n are 2n
 -- and 2n + 1, and each literal has a chain of the entries that watch it. Entry e is written e + 1, and 0 is the end.
-use Rattle.std.specs.Prelude.{◌≡◌, ◌≢◌, ◌≤◌, ◌<◌, ◌+◌, ◌-◌, ◌*◌, ◌++◌, ◌⊎◌, ◌∷◌, [], ℕ, true, List, length, slice_set, ℤ, pos}
+use Rattle.std.specs.Prelude.{◌≡◌, ◌≢◌, ◌≤◌, ◌<◌, ◌+◌, ◌-◌, ◌*◌, ◌++◌, ◌⊎◌, ◌∷◌, [], ℕ, true, List, length, slice_set}
+use Rattle.std.specs.Prelude.{ℤ, pos}
 use Rattle.std.specs.List.{Contains, slice_index_or, sum_by}
 use Rattle.sat_proof.specs.Code.{code_of, HasRoom}
 use Rattle.sat_proof.specs.Log.{clause_at}
@@ -14,7 +15,8 @@ pub data Leads (nexts : List ℕ) (e : ℕ) : ℕ → Type 0 where
 -- the chain from `head` ends after `count` entries, all below `bound`
 pub data Ends (nexts : List ℕ) (bound : ℕ) : ℕ → ℕ → Type 0 where
   none : (head count : ℕ) → head ≡ 0 → count ≡ 0 → Ends nexts bound head count
-  more : (head count d k : ℕ) → head ≡ d + 1 → count ≡ k + 1 → d < bound → Ends nexts bound (slice_index_or nexts d 0) k → Ends nexts bound head count
+  more : (head count d k : ℕ) → head ≡ d + 1 → count ≡ k + 1 → d < bound → Ends nexts bound (slice_index_or nexts d 0) k
+      → Ends nexts bound head count
 
 abbrev pub head_of : Watch → ℕ → ℕ
 head_of x code = slice_index_or x.heads.items code 0
@@ -34,10 +36,12 @@ linked x = sum_by (λ n. n) x.counts.items
 pub record IsChained (x : Watch) (at left : ℕ) : Type 0 where
   pub ends : (code : ℕ) → Ends x.nexts.items x.used (head_of x code) (count_of x code)
   pub rest : Ends x.nexts.items x.used at left
-  pub home : (code e : ℕ) → Leads x.nexts.items e (head_of x code) → (code_of (watched x e) ≡ code) × (watched x e ≢ pos 0)
+  pub home : (code e : ℕ) → Leads x.nexts.items e (head_of x code) → (code_of (watched x e) ≡ code)
+      × (watched x e ≢ pos 0)
   pub loose : (e : ℕ) → Leads x.nexts.items e at → watched x e ≢ pos 0
   pub apart : (code e : ℕ) → Leads x.nexts.items e (head_of x code) → Leads x.nexts.items e at → ⊥
-  pub all : (e : ℕ) → e < x.used → watched x e ≢ pos 0 → Leads x.nexts.items e (head_of x (code_of (watched x e))) ⊎ Leads x.nexts.items e at
+  pub all : (e : ℕ) → e < x.used → watched x e ≢ pos 0 → Leads x.nexts.items e (head_of x (code_of (watched x e)))
+      ⊎ Leads x.nexts.items e at
   pub total : linked x + left ≤ x.used
   pub room : (e : ℕ) → e < x.used → watched x e ≢ pos 0 → HasRoom (length x.heads.items) (watched x e)
 
@@ -56,7 +60,8 @@ pub record IsPair (clause : List ℤ) (a b : ℤ) : Type 0 where
 
 -- the two entries of clause n watch two of its literals, or none
 abbrev pub IsPaired : Watch → List (List ℤ) → ℕ → Type 0
-IsPaired x clauses n = ((watched x (2 * n) ≡ pos 0) × (watched x (2 * n + 1) ≡ pos 0)) ⊎ IsPair (clause_at clauses n) (watched x (2 * n)) (watched x (2 * n + 1))
+IsPaired x clauses n = ((watched x (2 * n) ≡ pos 0) × (watched x (2 * n + 1) ≡ pos 0))
+    ⊎ IsPair (clause_at clauses n) (watched x (2 * n)) (watched x (2 * n + 1))
 
 -- the watches of these clauses, with a loose chain
 pub record IsLaced (x : Watch) (clauses : List (List ℤ)) (at left : ℕ) : Type 0 where
@@ -67,7 +72,8 @@ pub record IsLaced (x : Watch) (clauses : List (List ℤ)) (at left : ℕ) : Typ
 -- entry e stands at the head of its literal's chain
 pub record IsLink (old new : Watch) (e : ℕ) : Type 0 where
   pub heads : new.heads.items ≡ slice_set old.heads.items (code_of (watched old e)) (e + 1)
-  pub counts : new.counts.items ≡ slice_set old.counts.items (code_of (watched old e)) (count_of old (code_of (watched old e)) + 1)
+  pub counts : new.counts.items ≡ slice_set old.counts.items (code_of (watched old e))
+      (count_of old (code_of (watched old e)) + 1)
   pub nexts : new.nexts.items ≡ slice_set old.nexts.items e (head_of old (code_of (watched old e)))
   pub literals : new.literals.items ≡ old.literals.items
   pub used : new.used ≡ old.used

@@ -11,7 +11,8 @@ impl Propagator {
     ghost use Rattle.sat_proof.specs.Trail.{HasMarks, StaysOver, held};
     ghost use Rattle.sat_proof.specs.Watch.{IsChained};
 
-    /// Takes in a clause: makes its last literal true where the others are false, or watches two that are open; whether all are false.
+    /// Takes in a clause: makes its last literal true where the others are false, or watches two that are open; whether
+    /// all are false.
     pub(crate) fn add_clause(&mut self, literals: &[i32]) -> bool
         requires room { HasMarks self.old.trail literals.now }
         requires chained { self.old.watch.on ≡ true → IsChained self.old.watch 0 0 }

@@ -1,5 +1,5 @@
-//! What a formula's clauses and a log's first ones propagate with nothing assumed: the trail on which every question about the
-//! next clause is asked. Each clause that is taken in costs its own propagation.
+//! What a formula's clauses and a log's first ones propagate with nothing assumed: the trail on which every question
+//! about the next clause is asked. Each clause that is taken in costs its own propagation.
 
 ghost use Rattle.std.specs.Prelude.{◌≡◌, ◌<◌, ◌+◌, ◌++◌, [], true, false, length};
 ghost use Rattle.std.specs.List.{All};

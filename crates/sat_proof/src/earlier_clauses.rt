@@ -1,5 +1,5 @@
-//! The earlier clauses of a log: the index of the clauses that hold a literal, and marks for a clause that is looked for among
-//! them.
+//! The earlier clauses of a log: the index of the clauses that hold a literal, and marks for a clause that is looked
+//! for among them.
 
 ghost use Rattle.std.specs.Prelude.{◌≡◌, ◌<◌, ◌+◌, [], length, IfOk};
 
@@ -21,7 +21,8 @@ impl EarlierClauses {
     ghost use Rattle.sat_proof.specs.Log.{before};
     ghost use Rattle.sat_proof.specs.Trail.{HaveMarks};
 
-    /// Room for as many codes, and in the index as many literals. Takes 25 bytes for each code, and 16 for each literal.
+    /// Room for as many codes, and in the index as many literals. Takes 25 bytes for each code, and 16 for each
+    /// literal.
     pub(crate) fn new(
         alloc: Global,
         codes: usize,

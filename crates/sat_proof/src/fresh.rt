@@ -1,4 +1,5 @@
-//! Whether a clause of a log is fresh: new among the earlier clauses, which the index finds by its rarest literal, and tight.
+//! Whether a clause of a log is fresh: new among the earlier clauses, which the index finds by its rarest literal, and
+//! tight.
 
 ghost use Rattle.std.specs.Prelude.{◌≡◌, ◌↔◌, ◌<◌, ◌≤◌, true, false, length, IsTrue};
 ghost use Rattle.std.specs.List.{All};
@@ -53,8 +54,8 @@ impl Propagator {
     }
 }
 
-/// Whether the clause is no tautology, and no clause equals it as a set. A clause that lies within it is taken for one that
-/// equals it: over such a one no clause is tight.
+/// Whether the clause is no tautology, and no clause equals it as a set. A clause that lies within it is taken for one
+/// that equals it: over such a one no clause is tight.
 fn is_new(seen: &mut Trail, index: &Index, clauses: &Premises<'_>, literals: &[i32]) -> bool
     requires empty { IsEmpty seen.old }
     requires filled { 0 < length literals.now }
@@ -88,8 +89,8 @@ fn marks_new(seen: &mut Trail, index: &Index, clauses: &Premises<'_>, literals: 
     !finds_covered(&seen.marks, index, clauses, literals)
 }
 
-/// Whether all literals of some clause are marked. Not every clause is looked at: one that doesn't hold all these literals may
-/// be passed over.
+/// Whether all literals of some clause are marked. Not every clause is looked at: one that doesn't hold all these
+/// literals may be passed over.
 fn finds_covered(marks: &[bool], index: &Index, clauses: &Premises<'_>, literals: &[i32]) -> bool
     requires filled { 0 < length literals.now }
     requires clauses { HaveRoom (length marks.now) (all_in clauses.now) }

@@ -102,7 +102,8 @@ impl Propagator {
         }
     }
 
-    /// The place of the first clause that isn't fresh. Over clauses that conflict none is, since each shorter one follows too.
+    /// The place of the first clause that isn't fresh. Over clauses that conflict none is, since each shorter one
+    /// follows too.
     fn first_stale(
         &mut self,
         earlier: &mut EarlierClauses,

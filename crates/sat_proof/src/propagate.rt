@@ -1,5 +1,5 @@
-//! Unit propagation with two watched literals: each literal that became false is read once, and the clauses that watch it are
-//! looked at. Linear in their literals. Premises come in two parts, a formula's and a log's.
+//! Unit propagation with two watched literals: each literal that became false is read once, and the clauses that watch
+//! it are looked at. Linear in their literals. Premises come in two parts, a formula's and a log's.
 
 ghost use Rattle.std.specs.Prelude.{◌≡◌, ◌≢◌, ◌<◌, ◌*◌, ◌/◌, ℕ, true, false, pos, length};
 
@@ -16,7 +16,8 @@ impl Propagator {
     ghost use Rattle.sat_proof.specs.Trail.{HaveMarks, StaysOver, held};
     ghost use Rattle.sat_proof.specs.Watch.{IsLaced, IsPaired, watched};
 
-    /// Propagates until nothing changes; whether a clause became false. With the watches off, by passes over all clauses.
+    /// Propagates until nothing changes; whether a clause became false. With the watches off, by passes over all
+    /// clauses.
     pub fn propagate(&mut self, clauses: &Premises<'_>) -> bool
         requires { CanPropagate self.old (all_in clauses.now) }
         ensures conflict { result ≡ true → AreRefuted self.old.trail.marks.items (all_in clauses.now) }

@@ -1,4 +1,5 @@
-//! Unit propagation without watches, by passes over all clauses until one changes nothing: the rounds times all literals.
+//! Unit propagation without watches, by passes over all clauses until one changes nothing: the rounds times all
+//! literals.
 
 ghost use Rattle.std.specs.Prelude.{◌≡◌, true, false};
 ghost use Rattle.std.specs.List.{All};
@@ -32,7 +33,8 @@ pub(crate) fn sweep(trail: &mut Trail, clauses: &Premises<'_>) -> bool
     }
 }
 
-/// Looks at each clause once; whether one is false. Each clause is then quiet unless one of its literals came during the pass.
+/// Looks at each clause once; whether one is false. Each clause is then quiet unless one of its literals came during
+/// the pass.
 pub(crate) fn pass_once(trail: &mut Trail, clauses: &Premises<'_>) -> bool
     requires { HaveMarks trail.old (all_in clauses.now) }
     ensures conflict { result ≡ true → AreRefuted trail.old.marks.items (all_in clauses.now) }

@@ -27,7 +27,8 @@ pub struct Watch {
 
 impl Watch {
     ghost use Rattle.sat_proof.specs.Guard.{GoesOnServing};
-    ghost use Rattle.sat_proof.specs.Watch.{IsWider, IsChained, IsLaced, IsLink, IsDetached, IsMoved, IsStaged, IsAddedIfOn, AreTwins, watched, count_of, head_of};
+    ghost use Rattle.sat_proof.specs.Watch.{IsWider, IsChained, IsLaced, IsLink, IsDetached, IsMoved, IsStaged};
+    ghost use Rattle.sat_proof.specs.Watch.{IsAddedIfOn, AreTwins, watched, count_of, head_of};
 
     /// Room for as many codes and clauses. Takes 16 bytes for each code, and 24 for each clause.
     pub fn new(alloc: Global, codes: usize, clauses: usize) -> Result<Watch, AllocError>

@@ -1,5 +1,5 @@
-//! A clause one of whose two watched literals became false: it watches another literal, or the other watched one becomes true, or
-//! it is false. Linear in the clause.
+//! A clause one of whose two watched literals became false: it watches another literal, or the other watched one
+//! becomes true, or it is false. Linear in the clause.
 
 ghost use Rattle.std.specs.Prelude.{◌≡◌, ◌<◌, ◌↔◌, true, false, length, IsTrue};
 ghost use Rattle.std.specs.List.{All};
@@ -14,8 +14,8 @@ use crate::clause_status::{Value, is_marked, value_at};
 use crate::trail::Trail;
 use crate::watch::Watch;
 
-/// The other watched literal is true; the literal at a place isn't false, and is to be watched; only the other watched literal
-/// isn't false; all literals are.
+/// The other watched literal is true; the literal at a place isn't false, and is to be watched; only the other watched
+/// literal isn't false; all literals are.
 pub(crate) enum Action {
     Rests,
     Moves(usize),

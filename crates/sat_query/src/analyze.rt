@@ -1,13 +1,14 @@
-//! The analysis of a conflict: the first unique implication point, from the clauses that forced the literals of the last level,
-//! back from the one that is false; then local minimisation. Linear in the trail and in the clauses that it meets.
+//! The analysis of a conflict: the first unique implication point, from the clauses that forced the literals of the
+//! last level, back from the one that is false; then local minimisation. Linear in the trail and in the clauses that it
+//! meets.
 
 use crate::solver::Solver;
 use base_lists::Memory;
 use sat_watches::Literal;
 
 impl Solver {
-    /// Learns a clause from a conflict, goes back to where it forces its first literal, and makes that true; whether there is
-    /// such a clause.
+    /// Learns a clause from a conflict, goes back to where it forces its first literal, and makes that true; whether
+    /// there is such a clause.
     pub(crate) fn learn(&mut self, conflict: u32) -> Result<bool, Memory> {
         self.seen.forget();
         self.seen.push(Literal::none())?;
@@ -24,8 +25,8 @@ impl Solver {
         self.trail.assign(self.seen.literal(0), Some(clause))
     }
 
-    /// Puts the first unique implication point of the last level in the first place of the clause, and the literals of earlier
-    /// levels after it; whether there is one.
+    /// Puts the first unique implication point of the last level in the first place of the clause, and the literals of
+    /// earlier levels after it; whether there is one.
     fn find_point(&mut self, conflict: u32) -> Result<bool, Memory> {
         let mut open = self.meet_clause(conflict)?;
         'places: for place in (0..self.trail.len()).rev() {

@@ -16,8 +16,8 @@ use std::alloc::Global;
 /// A guess ends after so many conflicts, or as many as the limit says, if these are fewer.
 const MOST_CONFLICTS: u32 = 5_000;
 
-/// A search that makes guesses. It keeps the bits that variables had last: so the next formula is best one over the same
-/// variables. Takes some 80 bytes for each variable, 32 for each clause and 4 for each literal.
+/// A search that makes guesses. It keeps the bits that variables had last: so the next formula is best one over the
+/// same variables. Takes some 80 bytes for each variable, 32 for each clause and 4 for each literal.
 #[derive(Drop)]
 pub struct Decider {
     solver: Solver,
@@ -31,8 +31,8 @@ impl Decider {
         }
     }
 
-    /// A model of a formula, or a log that refutes it, or a fresh log of `limit` clauses. Takes memory as `solve` does, and
-    /// what the decider keeps.
+    /// A model of a formula, or a log that refutes it, or a fresh log of `limit` clauses. Takes memory as `solve` does,
+    /// and what the decider keeps.
     pub fn decide(&mut self, alloc: Global, formula: &Cnf, limit: u32) -> Result<Outcome, Memory>
         requires some { 0 < limit }
         ensures outcome { IfOk result (IsOutcome formula.now.clauses formula.now.vars limit) }

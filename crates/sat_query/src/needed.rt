@@ -10,8 +10,8 @@ use sat_watches::{Literal, set_item};
 use std::alloc::Global;
 
 impl Solver {
-    /// The log of what a clause needs that is false. Takes some 24 bytes a clause, 4 a literal, and a byte for each clause that
-    /// was learned.
+    /// The log of what a clause needs that is false. Takes some 24 bytes a clause, 4 a literal, and a byte for each
+    /// clause that was learned.
     pub(crate) fn log_of_conflict(&mut self, alloc: Global, conflict: u32) -> Result<Log, Memory> {
         self.seen.forget();
         let mut marks = vec![in alloc; false; self.origins.len()]?;

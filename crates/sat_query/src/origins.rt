@@ -4,8 +4,8 @@ use base_lists::Memory;
 use sat_watches::{item_at, narrow};
 use std::alloc::Global;
 
-/// For each learned clause, by how many came before, the numbers of the learned clauses that it was made from, one after the
-/// other. Takes 4 bytes for each of both.
+/// For each learned clause, by how many came before, the numbers of the learned clauses that it was made from, one
+/// after the other. Takes 4 bytes for each of both.
 #[derive(Drop)]
 pub(crate) struct Origins {
     numbers: Vec<u32>,

@@ -26,7 +26,8 @@ impl Solver {
         Ok(None)
     }
 
-    /// Visits the clauses that watch a literal which is false. Once there is a conflict, the others stay where they are.
+    /// Visits the clauses that watch a literal which is false. Once there is a conflict, the others stay where they
+    /// are.
     fn visit_watches(&mut self, falsified: Literal) -> Result<Option<u32>, Memory> {
         let mut conflict = None;
         let mut next = self.watches.take(falsified);

@@ -18,8 +18,8 @@ const FIRST_STEP: u64 = 1024;
 /// No heap is deeper.
 const DEPTH: usize = 64;
 
-/// For each variable its score and its place in the heap, if it is there. The heap has the highest score on top, and of equal
-/// ones the lowest variable. Takes 20 bytes a variable.
+/// For each variable its score and its place in the heap, if it is there. The heap has the highest score on top, and of
+/// equal ones the lowest variable. Takes 20 bytes a variable.
 #[derive(Drop)]
 pub(crate) struct Scores {
     scores: Vec<u64>,

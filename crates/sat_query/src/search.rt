@@ -8,8 +8,8 @@ use sat_proof::{Cnf, Log, Model};
 use sat_watches::narrow;
 use std::alloc::Global;
 
-/// What a search comes to: a model, a log that refutes, or nothing in as many conflicts as were allowed. Nothing of it is
-/// promised.
+/// What a search comes to: a model, a log that refutes, or nothing in as many conflicts as were allowed. Nothing of it
+/// is promised.
 #[derive(Debug, Drop)]
 pub(crate) enum Guess {
     Model(Model),

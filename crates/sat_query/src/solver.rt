@@ -12,8 +12,8 @@ use std::alloc::Global;
 /// So many clauses are learned, at most, before all are forgotten with the next formula.
 const MOST_LEARNED: usize = 65_536;
 
-/// The state of a search. The first clauses are the formula's, of two literals or more; the others are learned from these and
-/// from the literal of the formula's last clause. The first decisions are the other unit clauses.
+/// The state of a search. The first clauses are the formula's, of two literals or more; the others are learned from
+/// these and from the literal of the formula's last clause. The first decisions are the other unit clauses.
 #[derive(Drop)]
 pub(crate) struct Solver {
     pub(crate) clauses: Clauses,
@@ -54,8 +54,9 @@ impl Solver {
         }
     }
 
-    /// Begins with a formula. Where it has as many variables as the one before, as many clauses of two literals or more, and
-    /// the same last one, then it is taken for the same but for its other unit clauses, and what was learned stays.
+    /// Begins with a formula. Where it has as many variables as the one before, as many clauses of two literals or
+    /// more, and the same last one, then it is taken for the same but for its other unit clauses, and what was learned
+    /// stays.
     pub(crate) fn start(&mut self, formula: &Cnf) -> Result<(), Memory> {
         let clauses = formula.clauses.as_slice();
         let last = last_of(clauses);

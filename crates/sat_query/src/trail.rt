@@ -4,8 +4,8 @@ use base_lists::Memory;
 use sat_watches::{Literal, item_at, narrow, set_item};
 use std::alloc::Global;
 
-/// Which literals are true; for each variable how many decisions came before its bit, and the clause that forced it; and the true
-/// literals in order, of which the first ones are read. Takes 20 bytes a variable, and 4 a level.
+/// Which literals are true; for each variable how many decisions came before its bit, and the clause that forced it;
+/// and the true literals in order, of which the first ones are read. Takes 20 bytes a variable, and 4 a level.
 #[derive(Drop)]
 pub(crate) struct Trail {
     truths: Vec<bool>,

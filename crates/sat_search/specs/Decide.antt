@@ -25,7 +25,8 @@ AreValued marks count = (n : ℕ) → n < count → HasValue marks n
 
 -- the values that the marks give to a given number of variables
 abbrev pub AreValues : List Bool → ℕ → List Bool → Type 0
-AreValues marks vars values = (n : ℕ) → n < vars → slice_index_or values n false ≡ slice_index_or marks (2 * n + 3) false
+AreValues marks vars values =
+    (n : ℕ) → n < vars → slice_index_or values n false ≡ slice_index_or marks (2 * n + 3) false
 
 -- n is the first variable from `from` on that has no value
 pub record IsNext (marks : List Bool) (from vars n : ℕ) : Type 0 where

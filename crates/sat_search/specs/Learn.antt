@@ -31,8 +31,8 @@ IsFoundConflict clauses kept rest (Rest k) = (k < length rest) × IsMet clauses 
 abbrev pub IsExtended : List ℤ → List ℤ → List ℤ → Type 0
 IsExtended old rest new = (more : List ℤ) × (new ≡ old ++ more) × All (Contains rest) more
 
--- A closed set without a conflict in which the rest is false, and the literal l isn't true: propagation before the last decision.
--- No clause of the list lies within l and the rest.
+-- A closed set without a conflict in which the rest is false, and the literal l isn't true: propagation before the last
+-- decision. No clause of the list lies within l and the rest.
 pub record IsAsserting (clauses : List (List ℤ)) (l : ℤ) (rest : List ℤ) (f : ℤ → Bool) : Type 0 where
   pub quiet : All (IsQuiet f) clauses
   pub apart : (m : ℤ) → f m ≡ true → f (neg_ℤ m) ≡ true → ⊥

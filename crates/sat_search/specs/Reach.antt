@@ -15,8 +15,8 @@ pub record IsSettled (p : Propagator) (clauses : List (List ℤ)) : Type 0 where
   pub read : p.trail.read ≡ p.trail.len
   pub watches : Watches p.watch p.trail.marks.items clauses
 
--- The marks have the literals of a clause, and otherwise only what these and the clauses propagate: each quiet set that has the
--- clause's literals has all of them, and the complement of none that isn't the clause's.
+-- The marks have the literals of a clause, and otherwise only what these and the clauses propagate: each quiet set that
+-- has the clause's literals has all of them, and the complement of none that isn't the clause's.
 pub record IsFrom (marks : List Bool) (clauses : List (List ℤ)) (clause : List ℤ) : Type 0 where
   pub assumed : IsFalse (is_false marks) clause
   pub forced : (f : ℤ → Bool) → All (IsQuiet f) clauses → IsFalse f clause → (l : ℤ) → is_false marks l ≡ true
@@ -24,7 +24,8 @@ pub record IsFrom (marks : List Bool) (clauses : List (List ℤ)) (clause : List
 
 -- a clause that the marks have, the later ones have with more literals
 abbrev pub GoesOnFrom : Trail → Trail → List (List ℤ) → List ℤ → Type 0
-GoesOnFrom old new clauses more = (c : List ℤ) → IsFrom old.marks.items clauses c → IsFrom new.marks.items clauses (c ++ more)
+GoesOnFrom old new clauses more =
+    (c : List ℤ) → IsFrom old.marks.items clauses c → IsFrom new.marks.items clauses (c ++ more)
 
 -- a clause that the marks stand for follows with one literal more
 abbrev pub FollowsWith : List Bool → List (List ℤ) → ℤ → Type 0

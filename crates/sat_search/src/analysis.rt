@@ -1,6 +1,6 @@
-//! The analysis of a conflict: the first unique implication point, from the clauses that forced the literals of the last level, back
-//! from the false clause. Linear in the trail and in the clauses that watch a literal which it meets. No reasons are kept: the clause
-//! that forced a literal watches it, and its other literals came earlier.
+//! The analysis of a conflict: the first unique implication point, from the clauses that forced the literals of the
+//! last level, back from the false clause. Linear in the trail and in the clauses that watch a literal which it meets.
+//! No reasons are kept: the clause that forced a literal watches it, and its other literals came earlier.
 
 use crate::found_conflict::FoundConflict;
 use crate::reads::{flag_at, number_at, set_flag, set_number};
@@ -76,8 +76,8 @@ impl Analysis {
         }
     }
 
-    /// A clause that watches the literal of code `watched` and whose literals are false before place `before`, but for the complement
-    /// of the literal of code `forced`. In a conflict the watched literal is false itself.
+    /// A clause that watches the literal of code `watched` and whose literals are false before place `before`, but for
+    /// the complement of the literal of code `forced`. In a conflict the watched literal is false itself.
     fn clause_of(
         &self,
         conflict: &FoundConflict<'_>,

@@ -1,6 +1,7 @@
 //! Deciding variables until all have a value or there is a conflict.
 
-ghost use Rattle.std.specs.Prelude.{◌≡◌, ◌≤◌, ◌<◌, ◌+◌, ◌*◌, ◌++◌, ◌∷◌, [], ℕ, ℤ, true, false, length, neg_ℤ, IfOk, IfSome, IfNone, OnOk};
+ghost use Rattle.std.specs.Prelude.{◌≡◌, ◌≤◌, ◌<◌, ◌+◌, ◌*◌, ◌++◌, ◌∷◌, [], ℕ, ℤ, true, false, length, neg_ℤ, IfOk};
+ghost use Rattle.std.specs.Prelude.{IfSome, IfNone, OnOk};
 ghost use Rattle.sat_proof.specs.Premises.{all_in};
 ghost use Rattle.sat_proof.specs.Code.{is_false};
 ghost use Rattle.sat_proof.specs.Propagator.{IsAtBase, LeadsBack};
@@ -16,8 +17,8 @@ use sat_proof::premises::Premises;
 use sat_proof::propagator::Propagator;
 use std::alloc::AllocError;
 
-/// Decides open variables, the lowest first or as the hints say, each to the value that it had last; whether there is a conflict. The trail is
-/// then that before the last decision. A decision is kept as the literal that it makes false.
+/// Decides open variables, the lowest first or as the hints say, each to the value that it had last; whether there is a
+/// conflict. The trail is then that before the last decision. A decision is kept as the literal that it makes false.
 pub(crate) fn descend(
     propagator: &mut Propagator,
     clauses: &Premises<'_>,

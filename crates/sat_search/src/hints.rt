@@ -1,5 +1,5 @@
-//! Hints: which variable to decide, to which value, and which clause to learn from a conflict. Nothing here is promised. What a
-//! hint says is tested before it counts, so a wrong one costs time alone.
+//! Hints: which variable to decide, to which value, and which clause to learn from a conflict. Nothing here is
+//! promised. What a hint says is tested before it counts, so a wrong one costs time alone.
 
 use crate::analysis::Analysis;
 use crate::found_conflict::FoundConflict;

@@ -15,7 +15,8 @@ use sat_proof::premises::Premises;
 use sat_proof::propagator::Propagator;
 use std::alloc::{AllocError, Global};
 
-/// A fresh clause, with the trail as it was; or none, where each variable has a value on the trail and no clause is false.
+/// A fresh clause, with the trail as it was; or none, where each variable has a value on the trail and no clause is
+/// false.
 pub(crate) fn round(
     alloc: Global,
     propagator: &mut Propagator,

@@ -1,5 +1,5 @@
-//! Scores of variables, which grow as conflicts meet them and count newer conflicts more, in a heap: a change takes the logarithm of
-//! the number of variables.
+//! Scores of variables, which grow as conflicts meet them and count newer conflicts more, in a heap: a change takes the
+//! logarithm of the number of variables.
 
 use crate::reads::{flag_at, number_at, set_number};
 use sat_proof::trail::Trail;
@@ -16,8 +16,8 @@ const SCALE: u64 = 1073741824;
 /// No heap is deeper.
 const DEPTH: usize = 64;
 
-/// For each variable its score and the number of its place in the heap, from 1, 0 if it isn't there. The heap has the highest score
-/// on top.
+/// For each variable its score and the number of its place in the heap, from 1, 0 if it isn't there. The heap has the
+/// highest score on top.
 #[derive(Drop)]
 pub(crate) struct Scores {
     scores: Vec<u64>,

@@ -20,8 +20,8 @@ pub(crate) enum Found {
     Rest(usize),
 }
 
-/// Leaves literals of the rest out as long as the clause of both parts follows, and moves those that are needed to the first part;
-/// whether the clause followed. Takes one propagation for each literal that is needed.
+/// Leaves literals of the rest out as long as the clause of both parts follows, and moves those that are needed to the
+/// first part; whether the clause followed. Takes one propagation for each literal that is needed.
 pub(crate) fn tighten(
     propagator: &mut Propagator,
     clauses: &Premises<'_>,

@@ -1,6 +1,6 @@
-//! What searches that learn clauses are made of: literals, the watches of clauses, and what the analysis of a conflict met.
-//! Promised is no more than that each call ends and stays in its lists: what is past the end of one reads as nothing, and
-//! isn't written.
+//! What searches that learn clauses are made of: literals, the watches of clauses, and what the analysis of a conflict
+//! met. Promised is no more than that each call ends and stays in its lists: what is past the end of one reads as
+//! nothing, and isn't written.
 //!
 //! Start at `Literal`, `Watches` and `Seen`.
 #![tactic(auto)]

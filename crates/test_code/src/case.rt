@@ -13,7 +13,8 @@ pub enum Given {
     Events(Vec<u8>),
 }
 
-/// The netlist of a case, the times of the moments, how many rounds each has, the scope in front of names, and the code.
+/// The netlist of a case, the times of the moments, how many rounds each has, the scope in front of names, and the
+/// code.
 #[derive(Drop)]
 pub struct Texts<'a> {
     pub netlist: Vec<u8>,

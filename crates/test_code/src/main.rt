@@ -1,6 +1,7 @@
 //! Code that forces nets, read and written: a netlist with moments, and beneath it what must come.
 //!
-//! A case is a section. What stands before the first title holds for all that have nothing else: `< netlist`, whose top is
+//! A case is a section. What stands before the first title holds for all that have nothing else: `< netlist`, whose top
+//! is
 //! `top` and whose inputs are x, and `times 0 10`, the moments; `rounds 2` and `scope tb.u0` stand for 4 and `tb.dut`.
 //!
 //! ```text

@@ -14,9 +14,9 @@
 //! > line 2: range
 //! ```
 //!
-//! In `proved.txt` a case is a section: `< cnf`, `< log`, and `> proved`, what the log is worth. In `drawn.txt` a case is
-//! a line: so many formulas are drawn of so many clauses over so many variables, put into a text with white space and
-//! comments of all kinds, read, and written; what must come is how many are written as they were drawn.
+//! In `proved.txt` a case is a section: `< cnf`, `< log`, and `> proved`, what the log is worth. In `drawn.txt` a case
+//! is a line: so many formulas are drawn of so many clauses over so many variables, put into a text with white space
+//! and comments of all kinds, read, and written; what must come is how many are written as they were drawn.
 //!
 //! ```text
 //! drawn 100 20 5 -> 100

@@ -1,7 +1,8 @@
 //! Logs that are checked, formulas that are solved, and families of small formulas against all their assignments.
 //!
-//! A case is a line: a call, ` -> `, and what must come. Its numbers are those of DIMACS, where a clause ends with 0, over twelve
-//! variables; a name that ends in `.cnf` or `.log` stands for the numbers of that file, and `none` for no number.
+//! A case is a line: a call, ` -> `, and what must come. Its numbers are those of DIMACS, where a clause ends with 0,
+//! over twelve variables; a name that ends in `.cnf` or `.log` stands for the numbers of that file, and `none` for no
+//! number.
 //!
 //! ```text
 //! check 1 2 0 -1 0 -2 0 | 0 -> refuted

@@ -1,6 +1,7 @@
 //! Scripts: a line for each call, with what it must answer.
 //!
-//! Setting up are `pieces 1 3`, `put NAME "TEXT"`, `long NAME COUNT`, `fail CALL CALL ..`, `fail sink CALL ..`. Calls are
+//! Setting up are `pieces 1 3`, `put NAME "TEXT"`, `long NAME COUNT`, `fail CALL CALL ..`, `fail sink CALL ..`. Calls
+//! are
 //! `open NAME`, `read BYTES`, `create NAME`, `close`, `put_file NAME`, `discard`, `get NAME`, `written NAME`, `faults`,
 //! `read_all LIMIT NAME`, `write_all NAME "TEXT"`, `print_all "TEXT"`, `deliver ONE TWO REPORT` (the texts of the files
 //! `one` and `two`, and what is printed), `printed` and `sink faults`, each with ` -> ANSWER` after it.

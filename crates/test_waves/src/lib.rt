@@ -1,5 +1,5 @@
-//! What no contract says and no case of the programs test_* shows, of designs, their jobs, waves and cones: each public call
-//! that takes memory comes to its answer where there is memory. `test_calls` has what stands below.
+//! What no contract says and no case of the programs test_* shows, of designs, their jobs, waves and cones: each public
+//! call that takes memory comes to its answer where there is memory. `test_calls` has what stands below.
 #![tactic(auto)]
 
 #[cfg(test)]

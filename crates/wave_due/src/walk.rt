@@ -4,7 +4,8 @@
 //! pin that a register looks back at one step before; an input is recorded otherwise; its own place a step before isn't
 //! calm; or the history shows something else. Any other place is written as its net's place a step before.
 
-ghost use Rattle.std.specs.Prelude.{◌≡◌, ℕ, ◌*◌, ◌+◌, ◌%◌, ◌<◌, ◌≤◌, ◌++◌, ◌∷◌, [], true, false, IfOk, IsTrue, OnErr, OnOk, length};
+ghost use Rattle.std.specs.Prelude.{◌≡◌, ℕ, ◌*◌, ◌+◌, ◌%◌, ◌<◌, ◌≤◌, ◌++◌, ◌∷◌, [], true, false, IfOk, IsTrue, OnErr};
+ghost use Rattle.std.specs.Prelude.{OnOk, length};
 ghost use Rattle.design_circuit.specs.Circuit.{job_in};
 ghost use Rattle.design_circuit.specs.Handed.{HasPlaces, shown_of};
 ghost use Rattle.design_circuit.specs.Fits.{place_at};

@@ -20,8 +20,9 @@ use std::alloc::Global;
 use wave_proved::{Verdict, Wave};
 
 impl Lanes {
-    /// The verdict of the next place, which was looked at, where two lanes give it 0 and 1 and its sources are kept: the empty
-    /// filling, and what the filling of a lane lists of the sources. Takes 8 bytes for each place that it lists.
+    /// The verdict of the next place, which was looked at, where two lanes give it 0 and 1 and its sources are kept:
+    /// the empty filling, and what the filling of a lane lists of the sources. Takes 8 bytes for each place that it
+    /// lists.
     pub fn find(&self, alloc: Global, wave: &Wave<'_>) -> Result<Option<Verdict>, Memory>
         requires right { IsRightOf wave.now self.now }
         requires looked { IsLookedAt wave.now self.now }
@@ -34,10 +35,10 @@ impl Lanes {
         }
     }
 
-    /// What is shown of the next place, which was looked at, by an earlier one that rests on the same by the same table,
-    /// without x, and was asked for too: its fillings, or its bit, where the sources are kept and few, or else that
-    /// place. Takes 8 bytes for each place that the fillings list, and some 32 bytes so that later places find this one,
-    /// 64 megabytes at most.
+    /// What is shown of the next place, which was looked at, by an earlier one that rests on the same by the same
+    /// table, without x, and was asked for too: its fillings, or its bit, where the sources are kept and few, or else
+    /// that place. Takes 8 bytes for each place that the fillings list, and some 32 bytes so that later places find
+    /// this one, 64 megabytes at most.
     pub fn find_equal(&mut self, alloc: Global, wave: &Wave<'_>) -> Result<Shown, Memory>
         requires right { IsRightOf wave.now self.old }
         requires looked { IsLookedAt wave.now self.old }
@@ -87,8 +88,8 @@ impl Lanes {
         shown_as(alloc, wave, place, self.nodes.sources(node))
     }
 
-    /// What tables show of the next place, which was looked at, where its sources are kept and at most 16: a filling that
-    /// gives another bit than the empty one, or that every filling gives one bit, where they are few.
+    /// What tables show of the next place, which was looked at, where its sources are kept and at most 16: a filling
+    /// that gives another bit than the empty one, or that every filling gives one bit, where they are few.
     pub fn find_shared(&mut self, alloc: Global, wave: &Wave<'_>) -> Result<Shown, Memory>
         requires right { IsRightOf wave.now self.old }
         requires looked { IsLookedAt wave.now self.old }
@@ -105,8 +106,8 @@ impl Lanes {
         }
     }
 
-    /// The cone of the next place, which was looked at, as long as the graph is kept: what is reached in it from its node.
-    /// Takes what the nodes of the cone take, and at most 4 bytes a node of the graph.
+    /// The cone of the next place, which was looked at, as long as the graph is kept: what is reached in it from its
+    /// node. Takes what the nodes of the cone take, and at most 4 bytes a node of the graph.
     pub fn cone(&mut self, alloc: Global, wave: &Wave<'_>) -> Result<Option<Cone>, Memory>
         requires right { IsRightOf wave.now self.old }
         requires looked { IsLookedAt wave.now self.old }
@@ -136,8 +137,8 @@ impl Lanes {
         cone_of(alloc, &self.graph, node - 1, &mut self.positions)
     }
 
-    /// What the filling of a lane lists of the sources of the next place, which was looked at, where they are kept. Takes 8
-    /// bytes for each place that it lists.
+    /// What the filling of a lane lists of the sources of the next place, which was looked at, where they are kept.
+    /// Takes 8 bytes for each place that it lists.
     pub fn filling(
         &self,
         alloc: Global,
@@ -155,8 +156,9 @@ impl Lanes {
         }
     }
 
-    /// The bit of the next place, which was looked at, in the world of a filling, where that lists of its sources what the
-    /// filling of a lane does, and no other place, and they are kept; else none. Takes 8 bytes for each place that it lists.
+    /// The bit of the next place, which was looked at, in the world of a filling, where that lists of its sources what
+    /// the filling of a lane does, and no other place, and they are kept; else none. Takes 8 bytes for each place that
+    /// it lists.
     pub fn bit(
         &self,
         alloc: Global,

@@ -8,8 +8,8 @@ use std::alloc::Global;
 use std::process::Abort;
 use std::test::Fail;
 
-/// Whether a row of the symbol matches the steps 00 01 0x 10 11 1x x0 x1 xx, a `1` for each that it matches. z is as good
-/// as x.
+/// Whether a row of the symbol matches the steps 00 01 0x 10 11 1x x0 x1 xx, a `1` for each that it matches. z is as
+/// good as x.
 fn check_steps(rt: &impl Abort, alloc: Global, symbol: Symbol, want: [u8; 9]) -> Result<(), Fail> {
     let row = row_of(alloc, &[symbol], Some(b'?'), b'1')?;
     let table = Udp::build(alloc, true, 1, &[row], Value::Zero)?;
