@@ -13,7 +13,7 @@ use decide_pair::{BadPair, check_pair};
 use design_circuit::Place;
 use law_model::{Class, Limits};
 use std::alloc::Global;
-use wave_proved::{Pair, Wave};
+use wave_proved::{Verdict, Wave};
 
 /// Puts the two fillings of a place.
 pub fn put_pair(
@@ -98,8 +98,8 @@ fn refusal_of(alloc: Global, wave: Wave<'_>) -> &'static str
     requires { IsLineNext wave }
 {
     match empty_pair(alloc, &wave) {
-        Ok(pair) => {
-            let _ = wave.abandon_pair(pair);
+        Ok(verdict) => {
+            let _ = wave.write(verdict);
             "is a pair"
         }
         Err(BadPair::NotZero) => "not zero",
@@ -108,14 +108,14 @@ fn refusal_of(alloc: Global, wave: Wave<'_>) -> &'static str
     }
 }
 
-fn empty_pair(alloc: Global, wave: &Wave<'_>) -> Result<Pair, BadPair>
+fn empty_pair(alloc: Global, wave: &Wave<'_>) -> Result<Verdict, BadPair>
     requires { IsLineNext wave.now }
 {
     let cone = trace(alloc, wave)?;
     checked_pair(alloc, wave, &cone)
 }
 
-fn checked_pair(alloc: Global, wave: &Wave<'_>, cone: &Cone) -> Result<Pair, BadPair>
+fn checked_pair(alloc: Global, wave: &Wave<'_>, cone: &Cone) -> Result<Verdict, BadPair>
     requires { IsNextCone wave.now cone.now.nodes }
 {
     let zero = Items::from_vec(Vec::new(alloc));
