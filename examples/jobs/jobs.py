@@ -137,6 +137,8 @@ DESIGNS = {
                   "if (n < 8) ins = {4'd4, n[2:0], n[2:0], n[2:0], 3'd0}; if (n > 8 && n < 300) ins[11] = 0; end"),
     "lockstep": ("ck, [6:0] a, [6:0] b", f"ck = 0; a = 0; b = 0; for (n = 0; n < 500; n = n + 1) begin {CYCLE} a = $random; b = $random; "
                  "if (n > 40 && n < 50) a = 7'bx; if (n > 42 && n < 47) b = 7'bx; end"),
+    "lockstep8": ("ck, [7:0] a, [7:0] b", f"ck = 0; a = 0; b = 0; for (n = 0; n < 500; n = n + 1) begin {CYCLE} a = $random; b = $random; "
+                  "if (n > 40 && n < 50) a = 8'bx; if (n > 42 && n < 47) b = 8'bx; end"),
     "cipher": ("ck, [63:0] d, [63:0] k", f"ck = 0; d = 0; k = 0; for (n = 0; n < 90; n = n + 1) begin {CYCLE} "
                "d = {$random, $random}; k = {$random, $random}; if (n > 10 && n < 18) d[7:0] = 8'bx; if (n > 40 && n < 50) k[3:0] = 4'bx; end"),
     "accumulators": ("ck, rn, en, [15:0] a, [15:0] b", f"ck = 0; rn = 0; en = 0; a = 0; b = 0; #5 rn = 1; for (n = 0; n < 60; n = n + 1) begin {CYCLE} "
