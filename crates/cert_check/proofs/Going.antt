@@ -15,7 +15,6 @@ use Rattle.law_model.specs.declared.line.Line.{Line as ALine}
 use Rattle.wave_proved.specs.Advance.{GoesOn, IsPlain}
 use Rattle.wave_proved.specs.Contents.{Contents, IsFinished, IsWave, class_or_done, job, next_number, next_seen}
 use Rattle.wave_proved.specs.Token.{HasNext, IsLineNext, with_line, written_by_line}
-use Rattle.cert_check.specs.Standing.{StaysRight}
 use Rattle.cert_check.specs.Step.{IsSpent}
 use Rattle.cert_check.specs.declared.refusal.CheckErr.{CheckErr}
 
@@ -77,8 +76,8 @@ right_spent c line cones (Ok d) wave right spent =
 right_spent c line cones (Err e) wave right spent = tt
 
 -- and of one that went on.
-pub right_on : (a b : Contents) → IsWave a → GoesOn a b → StaysRight a b
-right_on a b wave goes cones right = cones_go goes cones wave right
+pub right_on : (a b : Contents) (cones : Cones) → IsWave a → GoesOn a b → AreRightOf a cones → AreRightOf b cones
+right_on a b cones wave goes right = cones_go goes cones wave right
 
 -- The class of the next place, as callers see it, tells whether there is one.
 line_class : (j : Job) (class : ClassByNumber) → class_seen j class ≡ seen.Line → class ≡ Line

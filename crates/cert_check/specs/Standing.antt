@@ -6,7 +6,7 @@ use Rattle.law_model.specs.declared.turn.TurnLine.{TurnLine}
 use Rattle.wave_proved.specs.Advance.{IsPlain}
 use Rattle.wave_proved.specs.Contents.{Contents, IsFinished, IsWave, job, next_seen, shown_in}
 use Rattle.wave_proved.specs.Token.{IsLineNext, LineAgrees, with_line}
-use Rattle.cert_turns.specs.OfCone.{AreRightOf, Cones}
+use Rattle.cert_turns.specs.OfCone.{AreRightOf}
 use Rattle.cert_turns.specs.View.{ConditionView}
 use Rattle.cert_turns.specs.Conditions.{IsConditionAt, gives_bit}
 use Rattle.cert_turns.specs.TurnLines.{turn_lines}
@@ -19,6 +19,7 @@ use Rattle.cert_writer.specs.declared.cert.Form.TheVariants.{Turns}
 use Rattle.cert_check.specs.Entries.{AreConditionsFor, AreTurnedIn, entries_of, lines_in}
 use Rattle.cert_check.specs.Walk.{IsFirstCertFault, due_line, with_turns}
 use Rattle.cert_check.specs.declared.refusal.CheckErr.{CheckErr}
+use Rattle.cert_check.specs.declared.walked.Course.{Course}
 use Rattle.cert_check.specs.declared.walked.Walked.{Walked}
 
 -- Between lines of Line places: a wave came along some lines, which are its own with the turns of its conditions.
@@ -58,15 +59,21 @@ StandsAt form start done c conditions None = IsBetween form start done c conditi
 StandsAt form start done c conditions (Some condition) = (form ≡ Turns) × IsAmid start done c conditions condition
 
 abbrev pub Stands : Form → Contents → List Entry → Walked → Type 0
-Stands form start done walked = StandsAt form start done walked.wave walked.conditions.items walked.under_way
+Stands form start done walked =
+    StandsAt form start done walked.course.wave walked.course.conditions.items walked.under_way
+
+-- What helps to find cones is right of the wave.
+abbrev pub IsRight : Course → Type 0
+IsRight course = AreRightOf course.wave course.cones
 
 -- It waits for a line: the next place is a Line place or there is none, or a turn is due.
 abbrev pub Waits : Contents → Option ConditionView → Type 0
 Waits c None = IsPlain (next_seen c) → ⊥
 Waits c (Some condition) = 0 < condition.due
 
-abbrev pub IsWaiting : Walked → Type 0
-IsWaiting walked = Waits walked.wave walked.under_way
+pub record IsWaiting (walked : Walked) : Type 0 where
+  pub waits : Waits walked.course.wave walked.under_way
+  pub right : IsRight walked.course
 
 -- A line is taken, from wherever the walk came there; or it is the first that the walk can't take.
 abbrev pub Takes : Form → Contents → List ConditionView → Option ConditionView → Entry → Walked → Type 0
@@ -104,10 +111,6 @@ ComesAmid c conditions condition next = (start : Contents) (done : List Entry)
 abbrev pub EndsAmid : Contents → List ConditionView → ConditionView → CheckErr → Type 0
 EndsAmid c conditions condition e = (start : Contents) (done rest : List Entry)
     → IsAmid start done c conditions condition → IsFirstCertFault Turns start (done ++ rest) e
-
--- What helps to find cones stays right.
-abbrev pub StaysRight : Contents → Contents → Type 0
-StaysRight c d = (cones : Cones) → AreRightOf c cones → AreRightOf d cones
 
 -- It went along all lines and to the end.
 pub record IsDone (form : Form) (start : Contents) (entries : List Entry) (c : Contents)

@@ -10,7 +10,7 @@ ghost use Rattle.law_along.specs.Accepted.{AcceptsLine, NamesNext};
 ghost use Rattle.cert_turns.specs.Conditions as turns;
 ghost use Rattle.cert_writer.specs.declared.cert.Entry.TheVariants.{Line as ALine};
 ghost use Rattle.cert_writer.specs.declared.cert.Form.TheVariants.{Turns};
-ghost use Rattle.cert_check.specs.Standing.{ComesFrom, EndsFrom, IsWaiting, StaysRight, StopsAt, Takes};
+ghost use Rattle.cert_check.specs.Standing.{ComesFrom, EndsFrom, IsRight, IsWaiting, StopsAt, Takes};
 ghost use Rattle.cert_check.specs.Step.{IsSpent, IsTold, IsVerdictOf, RefusesBody, Stops};
 
 use crate::bodies::{body_verdict, fault_of};
@@ -19,9 +19,9 @@ use crate::refusal::{CertFault, CheckErr};
 use crate::told::do_tell;
 use crate::turned::begin_turns;
 use crate::walk::missing;
-use crate::walked::Walked;
+use crate::walked::{Course, Walked};
 use base_lists::Memory;
-use cert_turns::{Condition, Cone, Cones};
+use cert_turns::{Cone, Cones};
 use cert_writer::Form;
 use design_circuit::count_places;
 use law_model::{Body, Line};
@@ -32,25 +32,24 @@ use wave_proved::{Verdict, Wave};
 pub fn take_line<'a>(
     alloc: Global,
     form: Form,
-    wave: Wave<'a>,
-    conditions: Vec<Condition>,
-    cones: &mut Cones,
+    course: Course<'a>,
     line: Line,
     number: usize,
 ) -> Result<Walked<'a>, CheckErr>
-    requires stops { IsPlain (next_seen wave) → ⊥ }
-    requires right { AreRightOf wave cones.old }
-    ensures ok { IfOk result (Takes form wave.entry conditions.items ANone (ALine line)) }
+    requires stops { IsPlain (next_seen course.wave) → ⊥ }
+    requires right { IsRight course }
+    ensures ok { let old = course.entry in
+        IfOk result (Takes form old.wave old.conditions.items ANone (ALine line)) }
     ensures waits { IfOk result IsWaiting }
-    ensures right { IfOk result (λ next. AreRightOf next.wave cones.new) }
-    ensures err { IfErr result (StopsAt form number wave.entry conditions.items ANone (ALine line)) }
+    ensures err { let old = course.entry in
+        IfErr result (StopsAt form number old.wave old.conditions.items ANone (ALine line)) }
 {
-    if wave.count() >= count_places(&wave.circuit()) {
+    if course.wave.count() >= count_places(&course.wave.circuit()) {
         return Err(CheckErr::Refused(CertFault::Stray { line: number }));
     }
-    match due_of(&wave, &line) {
-        Due::Here => take_next(alloc, form, wave, conditions, cones, line, number),
-        Due::Later => Err(missing(&wave)),
+    match due_of(&course.wave, &line) {
+        Due::Here => take_next(alloc, form, course, line, number),
+        Due::Later => Err(missing(&course.wave)),
         Due::Astray => Err(CheckErr::Refused(CertFault::Stray { line: number })),
     }
 }
@@ -60,30 +59,39 @@ pub fn take_line<'a>(
 fn take_next<'a>(
     alloc: Global,
     form: Form,
-    wave: Wave<'a>,
-    conditions: Vec<Condition>,
-    cones: &mut Cones,
+    course: Course<'a>,
     line: Line,
     number: usize,
 ) -> Result<Walked<'a>, CheckErr>
-    requires wave { IsWave wave }
-    requires class { IsLineNext wave }
-    requires names { NamesNext wave line }
-    requires right { AreRightOf wave cones.old }
-    ensures ok { IfOk result (Takes form wave.entry conditions.items ANone (ALine line)) }
+    requires wave { IsWave course.wave }
+    requires class { IsLineNext course.wave }
+    requires names { NamesNext course.wave line }
+    requires right { IsRight course }
+    ensures ok { let old = course.entry in
+        IfOk result (Takes form old.wave old.conditions.items ANone (ALine line)) }
     ensures waits { IfOk result IsWaiting }
-    ensures right { IfOk result (λ next. AreRightOf next.wave cones.new) }
-    ensures err { IfErr result (StopsAt form number wave.entry conditions.items ANone (ALine line)) }
+    ensures err { let old = course.entry in
+        IfErr result (StopsAt form number old.wave old.conditions.items ANone (ALine line)) }
 {
     let turned = has_turns(form, &line.body);
     let place = line.place;
-    match spend_line(alloc, wave, cones, line, number) {
+    let Course {
+        wave,
+        conditions,
+        mut cones,
+    } = course;
+    match spend_line(alloc, wave, &mut cones, line, number) {
         Ok(spent) => {
             spent.recall();
+            let next = Course {
+                wave: spent,
+                conditions,
+                cones,
+            };
             if turned {
-                begin_turns(alloc, spent, conditions, cones, place)
+                begin_turns(alloc, next, place)
             } else {
-                walk_on(spent, conditions)
+                walk_on(next)
             }
         }
         Err(refusal) => Err(refusal),
@@ -111,17 +119,25 @@ pub fn gives_bit(body: &Body) -> bool
 }
 
 /// Writes the places up to the next Line place, whose classes say what they are.
-pub fn walk_on<'a>(wave: Wave<'a>, conditions: Vec<Condition>) -> Result<Walked<'a>, CheckErr>
-    ensures ok { IfOk result (ComesFrom wave.entry conditions.items) }
+pub fn walk_on<'a>(course: Course<'a>) -> Result<Walked<'a>, CheckErr>
+    requires { IsRight course }
+    ensures ok { IfOk result (ComesFrom course.entry.wave course.entry.conditions.items) }
     ensures waits { IfOk result IsWaiting }
-    ensures right { IfOk result (λ next. StaysRight wave.entry next.wave) }
-    ensures err { IfErr result (EndsFrom wave.entry conditions.items) }
+    ensures err { IfErr result (EndsFrom course.entry.wave course.entry.conditions.items) }
 {
+    let Course {
+        wave,
+        conditions,
+        cones,
+    } = course;
     wave.recall();
     let next = wave.advance_to_line()?;
     Ok(Walked {
-        wave: next,
-        conditions,
+        course: Course {
+            wave: next,
+            conditions,
+            cones,
+        },
         under_way: None,
     })
 }

@@ -1,22 +1,21 @@
 //! The walk along the lines of a certificate.
 
 ghost use Rattle.std.specs.Prelude.{◌≡◌, [], IfErr, IfOk, None as ANone};
-ghost use Rattle.cert_turns.specs.OfCone.{AreRightOf};
 ghost use Rattle.design_circuit.specs.Fits.{place_at};
 ghost use Rattle.wave_proved.specs.Advance.{IsPlain};
 ghost use Rattle.wave_proved.specs.Contents.{Contents, job, next_number, next_seen};
 ghost use Rattle.wave_proved.specs.Token.{HasNext};
 ghost use Rattle.cert_check.specs.declared.refusal.CertFault.TheVariants.{Missing};
 ghost use Rattle.cert_check.specs.declared.refusal.CheckErr.TheVariants.{Refused};
-ghost use Rattle.cert_check.specs.Standing.{EndsShort, EndsWell, Finishes, IsDone, IsWaiting, Lacks, Stands, StopsAt};
-ghost use Rattle.cert_check.specs.Standing.{Takes};
+ghost use Rattle.cert_check.specs.Standing.{EndsShort, EndsWell, Finishes, IsDone, IsRight, IsWaiting, Lacks, Stands};
+ghost use Rattle.cert_check.specs.Standing.{StopsAt, Takes};
 ghost use Rattle.cert_check.specs.Walk.{IsFirstCertFault};
 
 use crate::check::Checked;
 use crate::lines::{take_line, walk_on};
 use crate::refusal::{CertFault, CheckErr};
 use crate::turned::take_turned;
-use crate::walked::Walked;
+use crate::walked::{Course, Walked};
 use base_lists::Items;
 use cert_turns::{Condition, Cones};
 use cert_writer::{Entry, Form};
@@ -37,10 +36,17 @@ pub fn walk<'a>(
 {
     wave.recall();
     match Cones::new(alloc) {
-        Ok(mut cones) => match walk_on(wave, Vec::new(alloc)) {
-            Ok(begun) => take_entries(alloc, form, begun, &mut cones, entries),
-            Err(refusal) => Err(refusal),
-        },
+        Ok(cones) => {
+            let course = Course {
+                wave,
+                conditions: Vec::new(alloc),
+                cones,
+            };
+            match walk_on(course) {
+                Ok(begun) => take_entries(alloc, form, begun, entries),
+                Err(refusal) => Err(refusal),
+            }
+        }
         Err(_) => Err(CheckErr::Memory),
     }
 }
@@ -50,11 +56,9 @@ fn take_entries<'a>(
     alloc: Global,
     form: Form,
     begun: Walked<'a>,
-    cones: &mut Cones,
     entries: Vec<Entry>,
 ) -> Result<Checked<'a>, CheckErr>
-    requires waits { IsWaiting begun }
-    requires right { AreRightOf begun.wave cones.old }
+    requires { IsWaiting begun }
     ensures done { IfOk result (λ checked. (start : Contents) → Stands form start [] begun.entry
         → IsDone form start entries.items checked.wave checked.conditions) }
     ensures stops { IfErr result (λ e. (start : Contents) → Stands form start [] begun.entry
@@ -64,7 +68,7 @@ fn take_entries<'a>(
     let mut walked = begun;
     let mut number: usize = 3;
     'entries: for entry in entries {
-        match take_entry(alloc, form, walked, cones, entry, number) {
+        match take_entry(alloc, form, walked, entry, number) {
             Ok(next) => walked = next,
             Err(refusal) => return Err(refusal),
         }
@@ -78,27 +82,20 @@ fn take_entry<'a>(
     alloc: Global,
     form: Form,
     walked: Walked<'a>,
-    cones: &mut Cones,
     entry: Entry,
     number: usize,
 ) -> Result<Walked<'a>, CheckErr>
-    requires waits { IsWaiting walked }
-    requires right { AreRightOf walked.wave cones.old }
+    requires { IsWaiting walked }
     ensures ok { let old = walked.entry in
-        IfOk result (Takes form old.wave old.conditions.items old.under_way entry) }
+        IfOk result (Takes form old.course.wave old.course.conditions.items old.under_way entry) }
     ensures waits { IfOk result IsWaiting }
-    ensures right { IfOk result (λ next. AreRightOf next.wave cones.new) }
     ensures err { let old = walked.entry in
-        IfErr result (StopsAt form number old.wave old.conditions.items old.under_way entry) }
+        IfErr result (StopsAt form number old.course.wave old.course.conditions.items old.under_way entry) }
 {
-    let Walked {
-        wave,
-        conditions,
-        under_way,
-    } = walked;
+    let Walked { course, under_way } = walked;
     match under_way {
-        Some(condition) => take_turned(alloc, wave, conditions, condition, entry, number),
-        None => take_unturned(alloc, form, wave, conditions, cones, entry, number),
+        Some(condition) => take_turned(alloc, course, condition, entry, number),
+        None => take_unturned(alloc, form, course, entry, number),
     }
 }
 
@@ -106,21 +103,19 @@ fn take_entry<'a>(
 fn take_unturned<'a>(
     alloc: Global,
     form: Form,
-    wave: Wave<'a>,
-    conditions: Vec<Condition>,
-    cones: &mut Cones,
+    course: Course<'a>,
     entry: Entry,
     number: usize,
 ) -> Result<Walked<'a>, CheckErr>
-    requires stops { IsPlain (next_seen wave) → ⊥ }
-    requires right { AreRightOf wave cones.old }
-    ensures ok { IfOk result (Takes form wave.entry conditions.items ANone entry) }
+    requires stops { IsPlain (next_seen course.wave) → ⊥ }
+    requires right { IsRight course }
+    ensures ok { let old = course.entry in IfOk result (Takes form old.wave old.conditions.items ANone entry) }
     ensures waits { IfOk result IsWaiting }
-    ensures right { IfOk result (λ next. AreRightOf next.wave cones.new) }
-    ensures err { IfErr result (StopsAt form number wave.entry conditions.items ANone entry) }
+    ensures err { let old = course.entry in
+        IfErr result (StopsAt form number old.wave old.conditions.items ANone entry) }
 {
     match entry {
-        Entry::Line(line) => take_line(alloc, form, wave, conditions, cones, line, number),
+        Entry::Line(line) => take_line(alloc, form, course, line, number),
         Entry::Turn(_) => Err(CheckErr::Refused(CertFault::Stray { line: number })),
     }
 }
@@ -131,14 +126,10 @@ fn finish<'a>(walked: Walked<'a>, number: usize) -> Result<Checked<'a>, CheckErr
     ensures ok { IfOk result (λ checked. Finishes walked.entry checked.wave checked.conditions) }
     ensures err { IfErr result (Lacks number walked.entry) }
 {
-    let Walked {
-        wave,
-        conditions,
-        under_way,
-    } = walked;
+    let Walked { course, under_way } = walked;
     match under_way {
         Some(_) => Err(CheckErr::Refused(CertFault::BadTurn { line: number })),
-        None => end(wave, conditions),
+        None => end(course.wave, course.conditions),
     }
 }
 

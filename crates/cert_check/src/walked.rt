@@ -1,13 +1,19 @@
 //! Where a walk along the lines of a certificate stands.
 
-use cert_turns::Condition;
+use cert_turns::{Condition, Cones};
 use wave_proved::Wave;
 
-/// The wave so far, the conditions of its certain places, none in form 1, and that of the last place while turns of it
-/// are due.
+/// The wave so far, the conditions of its certain places, none in form 1, and what helps to find cones of it.
 #[derive(Drop)]
-pub struct Walked<'a> {
+pub struct Course<'a> {
     pub wave: Wave<'a>,
     pub conditions: Vec<Condition>,
+    pub cones: Cones,
+}
+
+/// A course that waits for a line, and the condition of its last place while turns of that are due.
+#[derive(Drop)]
+pub struct Walked<'a> {
+    pub course: Course<'a>,
     pub under_way: Option<Condition>,
 }

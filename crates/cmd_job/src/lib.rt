@@ -16,6 +16,7 @@ mod netlist_refusal;
 mod recorded;
 mod recording_refusal;
 mod rules;
+mod settings;
 
 pub use circuit::circuit_of;
 pub use compare::replay_and_compare;
@@ -27,3 +28,4 @@ pub use netlist_refusal::{NetlistErr, NetlistRefusal};
 pub use recorded::{PLACES, Recorded, read_recording};
 pub use recording_refusal::{RecordingErr, RecordingRefusal};
 pub use rules::Rules;
+pub use settings::Settings;

@@ -126,54 +126,74 @@ pub fn put_compare_line(
             name,
             recorded,
             replayed,
-        } => put_disagreement(alloc, text, *time, name.as_slice(), *recorded, *replayed),
+        } => {
+            let at = TimedName {
+                time: *time,
+                name: name.as_slice(),
+            };
+            put_disagreement(alloc, text, at, *recorded, *replayed)
+        }
         CompareRefusal::Unsettled {
             time,
             name,
             kept,
             next,
-        } => put_unsettled(alloc, text, *time, name.as_slice(), *kept, *next),
+        } => {
+            let at = TimedName {
+                time: *time,
+                name: name.as_slice(),
+            };
+            put_unsettled(alloc, text, at, *kept, *next)
+        }
     }
+}
+
+/// The name of a net, with the time of a moment.
+#[derive(Clone, Copy)]
+struct TimedName<'a> {
+    time: u64,
+    name: &'a [u8],
 }
 
 fn put_disagreement(
     alloc: Global,
     text: &mut Vec<u8>,
-    time: u64,
-    name: &[u8],
+    at: TimedName<'_>,
     recorded: Value,
     replayed: Value,
 ) -> Result<(), AllocError>
-    ensures { OnOk result (text.new.items ≡ text.old.items ++ spec.disagrees_line time name.now recorded replayed) }
+    ensures { let spot = at.entry in OnOk result (text.new.items
+        ≡ text.old.items ++ spec.disagrees_line spot.time spot.name.now recorded replayed) }
 {
     put(text, b"refused: disagrees #")?;
-    put_spot(alloc, text, time, name)?;
+    put_spot(alloc, text, at)?;
     put_values(text, b" recorded ", recorded, b" replayed ", replayed)
 }
 
 fn put_unsettled(
     alloc: Global,
     text: &mut Vec<u8>,
-    time: u64,
-    name: &[u8],
+    at: TimedName<'_>,
     kept: Value,
     next: Value,
 ) -> Result<(), AllocError>
-    ensures { OnOk result (text.new.items ≡ text.old.items ++ spec.unsettled_line time name.now kept next) }
+    ensures { let spot = at.entry in OnOk result (text.new.items
+        ≡ text.old.items ++ spec.unsettled_line spot.time spot.name.now kept next) }
 {
     put(text, b"refused: unsettled #")?;
-    put_spot(alloc, text, time, name)?;
+    put_spot(alloc, text, at)?;
     put_values(text, b" kept ", kept, b" next ", next)?;
     Ok(())
 }
 
 /// Puts a time and a name.
-fn put_spot(alloc: Global, text: &mut Vec<u8>, time: u64, name: &[u8]) -> Result<(), AllocError>
-    ensures { OnOk result (text.new.items ≡ text.old.items ++ spec.spot_text time name.now) }
+fn put_spot(alloc: Global, text: &mut Vec<u8>, at: TimedName<'_>) -> Result<(), AllocError>
+    ensures { let spot = at.entry in
+        OnOk result (text.new.items ≡ text.old.items ++ spec.spot_text spot.time spot.name.now) }
 {
-    put_number(alloc, text, time)?;
+    put_number(alloc, text, at.time)?;
     put(text, b" ")?;
-    put(text, name)
+    put(text, at.name)
 }
 
 /// Puts two words, each with a value.

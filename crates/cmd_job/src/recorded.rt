@@ -1,6 +1,6 @@
 //! The recording of a job.
 
-ghost use Rattle.std.specs.Prelude.{◌≡◌, ◌<◌, ◌≤◌, ◌^◌, IfOk, IfErr, length};
+ghost use Rattle.std.specs.Prelude.{◌≡◌, ◌≤◌, ◌^◌, IfOk, IfErr, length};
 ghost use Rattle.design_circuit.specs.Design.{FitsDesign};
 ghost use Rattle.cmd_job.specs.Netlist.{FitsNetlist};
 ghost use Rattle.cmd_job.specs.Recorded as spec;
@@ -8,7 +8,7 @@ ghost use Rattle.cmd_job.specs.Recorded as spec;
 use crate::names::{joined, name_of, variable_name};
 use crate::netlist::Netlist;
 use crate::recording_refusal::{RecordingErr, RecordingRefusal};
-use crate::rules::Rules;
+use crate::settings::Settings;
 use base_lists::{Items, Memory};
 use design_circuit::{Bytes, Design, Stim};
 use recording_binding::{
@@ -36,69 +36,58 @@ pub fn read_recording(
     alloc: Global,
     netlist: &mut Netlist,
     text: &[u8],
-    scope: &[Bytes],
-    rounds: u32,
-    most: u64,
-    rules: Rules,
+    settings: Settings<'_>,
 ) -> Result<Recorded, RecordingErr>
     requires size { length text.now ≤ 2 ^ 28 }
     requires fits { FitsNetlist netlist.old }
-    requires some { 0 < length scope.now }
-    requires round { 1 ≤ rounds }
-    requires rounds { rounds ≤ 16 }
-    requires most { most ≤ 2 ^ 40 }
-    ensures recorded { IfOk result (spec.IsRecorded text.now netlist.old.design scope.now rounds most rules) }
+    ensures recorded { let s = settings.entry in
+        IfOk result (spec.IsRecorded text.now netlist.old.design s.scope.now s.rounds s.most s.rules) }
     ensures netlist { IfOk result (λ r.
-        netlist.new ≡ spec.job_netlist rules.undriven netlist.old r.binding.bound) }
-    ensures refused { IfErr result (spec.IfRecordingRefused
-        (spec.IsRefusedRecording text.now netlist.old.design scope.now rounds most)) }
-    ensures exact { spec.IsRecordingAnswer text.now netlist.old.design scope.now rounds most rules result }
+        netlist.new ≡ spec.job_netlist settings.entry.rules.undriven netlist.old r.binding.bound) }
+    ensures refused { let s = settings.entry in IfErr result (spec.IfRecordingRefused
+        (spec.IsRefusedRecording text.now netlist.old.design s.scope.now s.rounds s.most)) }
+    ensures exact { let s = settings.entry in
+        spec.IsRecordingAnswer text.now netlist.old.design s.scope.now s.rounds s.most s.rules result }
     ensures fits { IfOk result (spec.FitsRecorded netlist.new.design) }
     ensures fits_netlist { IfOk result (λ _. FitsNetlist netlist.new) }
 {
-    find_recording(alloc, netlist, text, scope, rounds, most, rules)
+    find_recording(alloc, netlist, text, settings)
 }
 
 fn find_recording(
     alloc: Global,
     netlist: &mut Netlist,
     text: &[u8],
-    scope: &[Bytes],
-    rounds: u32,
-    most: u64,
-    rules: Rules,
+    settings: Settings<'_>,
 ) -> Result<Recorded, RecordingErr>
     requires size { length text.now ≤ 2 ^ 28 }
     requires fits { FitsNetlist netlist.old }
-    requires some { 0 < length scope.now }
-    requires round { 1 ≤ rounds }
-    requires rounds { rounds ≤ 16 }
-    requires most { most ≤ 2 ^ 40 }
-    ensures recorded { IfOk result (spec.IsRecorded text.now netlist.old.design scope.now rounds most rules) }
+    ensures recorded { let s = settings.entry in
+        IfOk result (spec.IsRecorded text.now netlist.old.design s.scope.now s.rounds s.most s.rules) }
     ensures netlist { IfOk result (λ r.
-        netlist.new ≡ spec.job_netlist rules.undriven netlist.old r.binding.bound) }
-    ensures refused { IfErr result (spec.IfRecordingRefused
-        (spec.IsRefusedRecording text.now netlist.old.design scope.now rounds most)) }
+        netlist.new ≡ spec.job_netlist settings.entry.rules.undriven netlist.old r.binding.bound) }
+    ensures refused { let s = settings.entry in IfErr result (spec.IfRecordingRefused
+        (spec.IsRefusedRecording text.now netlist.old.design s.scope.now s.rounds s.most)) }
     ensures fits { IfOk result (spec.FitsRecorded netlist.new.design) }
     ensures fits_netlist { IfOk result (λ _. FitsNetlist netlist.new) }
 {
     let recording = read_vcd(alloc, text)?;
-    let binding = bind_variables(alloc, &netlist.design, &recording, scope, rounds, most)?;
+    let binding = bind_variables(alloc, &netlist.design, &recording, settings)?;
     let holders = holders_by(
         alloc,
         &netlist.design,
         &netlist.order,
         &binding,
-        rules.undriven,
+        settings.rules.undriven,
     )?;
-    give_inputs(alloc, netlist, holders.as_slice(), rules.undriven);
+    give_inputs(alloc, netlist, holders.as_slice(), settings.rules.undriven);
     let stim = stim_of(
         alloc,
         &netlist.design,
         &recording,
         holders.as_slice(),
-        rounds,
-        rules.registers,
+        settings.rounds,
+        settings.rules.registers,
     )?;
     Ok(Recorded {
         recording,
@@ -134,18 +123,20 @@ fn bind_variables(
     alloc: Global,
     design: &Design,
     recording: &Recording,
-    scope: &[Bytes],
-    rounds: u32,
-    most: u64,
+    settings: Settings<'_>,
 ) -> Result<Binding, RecordingErr>
-    requires fits { FitsDesign design.now }
-    requires some { 0 < length scope.now }
-    requires round { 1 ≤ rounds }
-    requires rounds { rounds ≤ 16 }
-    ensures bound { IfOk result (spec.IsBoundTo design.now recording.now scope.now rounds most) }
-    ensures refused { IfErr result (spec.IfRecordingRefused
-        (spec.IsUnbound design.now recording.now scope.now rounds most)) }
+    requires { FitsDesign design.now }
+    ensures bound { let s = settings.entry in
+        IfOk result (spec.IsBoundTo design.now recording.now s.scope.now s.rounds s.most) }
+    ensures refused { let s = settings.entry in
+        IfErr result (spec.IfRecordingRefused (spec.IsUnbound design.now recording.now s.scope.now s.rounds s.most)) }
 {
+    let Settings {
+        scope,
+        rounds,
+        most,
+        ..
+    } = settings;
     match bind(alloc, design, recording, scope, rounds, most) {
         Ok(binding) => Ok(binding),
         Err(cause) => Err(RecordingErr::Refused(report_cause(

@@ -12,8 +12,8 @@ ghost use Rattle.cmd_phases.specs.Phases.{compare_cause, itself, netlist_cause, 
 use crate::cause::Refused;
 use base_run::Refusal;
 use cmd_job::{
-    CompareErr, Netlist, NetlistErr, Recorded, RecordingErr, Rules, read_netlist, read_recording,
-    replay_and_compare,
+    CompareErr, Netlist, NetlistErr, Recorded, RecordingErr, Rules, Settings, read_netlist,
+    read_recording, replay_and_compare,
 };
 use design_circuit::{Bytes, History};
 use std::alloc::Global;
@@ -64,7 +64,13 @@ pub fn recorded_in(
     ensures fits { IfOk result (FitsRecorded netlist.new.design) }
     ensures fits_netlist { IfOk result (λ _. FitsNetlist netlist.new) }
 {
-    match read_recording(alloc, netlist, text, scope, rounds, most, rules) {
+    let settings = Settings {
+        scope,
+        rounds,
+        most,
+        rules,
+    };
+    match read_recording(alloc, netlist, text, settings) {
         Ok(recorded) => Ok(recorded),
         Err(RecordingErr::Refused(cause)) => Err(Refusal::Text {
             cause: Refused::Recording(cause),

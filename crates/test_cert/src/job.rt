@@ -10,7 +10,8 @@ use crate::checked::{put_checked, put_own};
 use base_lists::{Memory, put};
 use cert_check::{Cert, CheckErr, Checked, Form, check_cert};
 use cmd_job::{
-    Netlist, PLACES, Recorded, Rules, circuit_of, read_netlist, read_recording, replay_and_compare,
+    Netlist, PLACES, Recorded, Rules, Settings, circuit_of, read_netlist, read_recording,
+    replay_and_compare,
 };
 use decide_repair::{RepairErr, repair};
 use design_circuit::{Bytes, History, Levels, RegisterRules, StartRule};
@@ -121,7 +122,13 @@ fn recorded_of(
         undriven: UndrivenRule::Released,
     };
     let scope = slice::from_ref(&scope);
-    Ok(read_recording(alloc, netlist, text, scope, rounds, PLACES, rules).ok())
+    let settings = Settings {
+        scope,
+        rounds,
+        most: PLACES,
+        rules,
+    };
+    Ok(read_recording(alloc, netlist, text, settings).ok())
 }
 
 fn put_recorded(

@@ -12,7 +12,7 @@ use crate::scoped::Scoped;
 use crate::texts::{compare_texts, read_lines};
 use crate::words::{names_of, text_of};
 use base_lists::Memory;
-use cmd_job::{Netlist, PLACES, Recorded, Rules, read_netlist, read_recording};
+use cmd_job::{Netlist, PLACES, Recorded, Rules, Settings, read_netlist, read_recording};
 use design_circuit::{Bytes, Levels, RegisterRules, StartRule};
 use recording_binding::UndrivenRule;
 use std::alloc::Global;
@@ -58,22 +58,19 @@ fn recorded_of(
     }
     let scope = [Bytes::from_vec(Vec::from_slice(alloc, b"dut")?)];
     let rounds = texts.rounds.clamp(1, 16);
-    Ok(read_recording(
-        alloc,
-        netlist,
-        text.as_slice(),
-        &scope,
+    let settings = Settings {
+        scope: &scope,
         rounds,
-        PLACES,
-        Rules {
+        most: PLACES,
+        rules: Rules {
             registers: RegisterRules {
                 start: StartRule::Cold,
                 levels: Levels::Change,
             },
             undriven: UndrivenRule::Released,
         },
-    )
-    .ok())
+    };
+    Ok(read_recording(alloc, netlist, text.as_slice(), settings).ok())
 }
 
 fn compare_part(

@@ -9,7 +9,7 @@ use crate::repaired::compare_facts;
 use crate::replayed::compare_rows;
 use crate::words::{is_word, text_of};
 use base_lists::Memory;
-use cmd_job::{Netlist, PLACES, Recorded, Rules, read_netlist, read_recording};
+use cmd_job::{Netlist, PLACES, Recorded, Rules, Settings, read_netlist, read_recording};
 use design_circuit::Bytes;
 use recording_binding::UndrivenRule;
 use std::alloc::Global;
@@ -103,7 +103,13 @@ fn recorded_of(
         undriven: UndrivenRule::Released,
     };
     let scope = slice::from_ref(&scope);
-    Ok(read_recording(alloc, netlist, text, scope, rounds, PLACES, rules).ok())
+    let settings = Settings {
+        scope,
+        rounds,
+        most: PLACES,
+        rules,
+    };
+    Ok(read_recording(alloc, netlist, text, settings).ok())
 }
 
 fn run_recorded(

@@ -8,8 +8,8 @@ ghost use Rattle.wave_proved.specs.Contents.{IsFinished};
 
 use base_lists::Items;
 use cmd_job::{
-    CompareRefusal, Netlist, PLACES, Recorded, Rules, circuit_of, put_compare_line, read_netlist,
-    read_recording, replay_and_compare,
+    CompareRefusal, Netlist, PLACES, Recorded, Rules, Settings, circuit_of, put_compare_line,
+    read_netlist, read_recording, replay_and_compare,
 };
 use decide_repair::repair;
 use design_cell::Value;
@@ -110,21 +110,19 @@ fn recorded_in(alloc: Global, netlist: &mut Netlist, recording: &[u8]) -> Result
     ensures recorded { IfOk result (FitsRecorded netlist.new.design) }
 {
     let scope = [Bytes::from_vec(b"t".to_vec(alloc)?)];
-    let recorded = read_recording(
-        alloc,
-        netlist,
-        recording,
-        &scope,
-        1,
-        PLACES,
-        Rules {
+    let settings = Settings {
+        scope: &scope,
+        rounds: 1,
+        most: PLACES,
+        rules: Rules {
             registers: RegisterRules {
                 start: StartRule::Cold,
                 levels: Levels::Change,
             },
             undriven: UndrivenRule::Released,
         },
-    )?;
+    };
+    let recorded = read_recording(alloc, netlist, recording, settings)?;
     Ok(recorded)
 }
 

@@ -13,7 +13,6 @@ entries-preserved c =
     record {
       stands = λ start begun. c.in-Ok.ensures.ok start c.entries.yielded (c.entries.invariant.stands start begun);
       waits = c.in-Ok.ensures.waits;
-      right = c.in-Ok.ensures.right;
       number = omega (arith, long, number);
     }
 
