@@ -1,5 +1,5 @@
 -- Rows of what each net has one step before, and the changes made with them.
-use Rattle.std.proofs.Common.{◌≡◌, ◌≢◌, ℕ, zero, suc, ◌+◌, ◌-◌, ◌*◌, ◌/◌, ◌%◌, ◌<◌, ◌≤◌, Option, List, [], ◌∷◌, ◌++◌, length, set, slice_index_or, refl, sym, ap, ◌∙◌, arith, subst, add-one, add-zero, append-nil, min, ⊎_elim, length-set, get_or-set_same, get_or-set_other, replicate, nat_lt}
+use Rattle.std.proofs.Common.{◌≡◌, ◌≢◌, ℕ, zero, suc, ◌+◌, ◌-◌, ◌*◌, ◌/◌, ◌%◌, ◌<◌, ◌≤◌, Option, List, [], ◌∷◌, ◌++◌, length, set, slice_index_or, sym, ap, ◌∙◌, arith, subst, add-one, add-zero, append-nil, min, ⊎_elim, length-set, get_or-set_same, get_or-set_other, replicate, nat_lt}
 use Rattle.std.proofs.lemmas.Bool.{cases_eq, cases_lt, cond-true, cond-false, lt-ltb, le-ltb}
 use Rattle.std.proofs.lemmas.List.{get_or-replicate, length-replicate}
 use Rattle.std.proofs.lemmas.Nat.{div-add-mod', mod-mul-add}
@@ -51,12 +51,6 @@ first_row j early has = record {
 -- A row has at the position of its place what the net has one step before.
 pub row_at : {A : Type 0} (j : Job) (early : A) (has : ℕ → A) (n position : ℕ) (row : List A) → 0 < j.width → position ≡ n % j.width → IsRow j early has n row → slice_index_or row position early ≡ one_before j early has n
 row_at j early has n position row some position_is is = ap (λ p. slice_index_or row p early) position_is ∙ is.before n (omega arith) (omega (arith, some))
-
--- What a list has at a place that it has is the same whatever it has beyond its end.
-pub any_default : {A : Type 0} (xs : List A) (p : ℕ) (d e : A) → p < length xs → slice_index_or xs p d ≡ slice_index_or xs p e
-any_default [] p d e less = absurd (omega (arith, less))
-any_default (x ∷ xs) zero d e less = refl
-any_default (x ∷ xs) (suc p) d e less = any_default xs p d e (omega (arith, less))
 
 -- One place more is in the row.
 pub row_more : {A : Type 0} (j : Job) (early : A) (has : ℕ → A) (n position : ℕ) (row : List A) (here : A) → 0 < j.width → position ≡ n % j.width → here ≡ has n → IsRow j early has n row → IsRow j early has (n + 1) (set row position here)

@@ -3,5 +3,6 @@ pub mod Changes
 pub mod ForcesOf
 pub mod Laws
 pub mod Made
+pub mod Step
 pub mod Still
 pub mod Waves

@@ -12,6 +12,7 @@ use Rattle.replay_history.specs.Forced.{NoEventOf}
 use Rattle.replay_due.specs.Due.{HasRoomFor, is_due}
 use Rattle.replay_forces.specs.Changes.{changes, forced_before, one_before}
 use Rattle.replay_forces.specs.ForcesOf.{forcing, given_of}
+use Rattle.replay_forces.specs.declared.given.MadeForces.{MadeForces}
 use Rattle.replay_forces.specs.declared.statements.Changes.{Changes}
 
 -- A row has, at the position of each place from one on and for as many places as there are nets, what its net has one
@@ -40,6 +41,10 @@ RestUnlessDue j early has forced step due = (p : ℕ) → p < j.width → is_due
 -- The forces of values, of which the row has what drivers give.
 abbrev pub AreForcesTo : Job → (ℕ → Value) → ℕ → List Value → List Event → Type 0
 AreForcesTo j values n row events = IsMade j X (given_of j values) (forcing j values) n row events
+
+-- The same of what is made so far.
+abbrev pub HasForcesTo : Job → (ℕ → Value) → ℕ → MadeForces → Type 0
+HasForcesTo j values n made = AreForcesTo j values n made.row.items made.events.items
 
 -- Each place of a step is due, or its driver gives what it gave one step before and it is forced as there.
 abbrev pub GivenUnlessDue : Job → (ℕ → Value) → ℕ → List ℕ → Type 0

@@ -8,7 +8,7 @@ ghost use Rattle.design_circuit.specs.Circuit.{job_in};
 ghost use Rattle.design_circuit.specs.Job.{places_of};
 ghost use Rattle.replay_forces.specs.Changes.{forced_before};
 ghost use Rattle.replay_forces.specs.ForcesOf as spec;
-ghost use Rattle.replay_forces.specs.Made.{AreForcesTo};
+ghost use Rattle.replay_forces.specs.Made.{HasForcesTo};
 
 use crate::changes::push_change;
 use base_lists::Memory;
@@ -16,27 +16,38 @@ use design_cell::Value;
 use design_circuit::{Circuit, Event, Source, driven_value, driver_at, spot_of, width_of};
 use replay_history::is_same;
 
+/// What is made so far.
+#[derive(Debug, Drop)]
+pub struct MadeForces {
+    /// What the driver of the net at each position gave last.
+    pub row: Vec<Value>,
+    pub events: Vec<Event>,
+}
+
 /// One place more.
 pub fn put_place<S: Source>(
     circuit: &Circuit<'_>,
     values: &S,
     place: usize,
-    row: &mut [Value],
-    events: &mut Vec<Event>,
+    made: &mut MadeForces,
 ) -> Result<(), Memory>
     requires place { place < places_of (job_in circuit.now) }
     requires has { (k : ℕ) → k < place + 1 → S.has values.now k }
-    requires made { AreForcesTo (job_in circuit.now) (S.reads values.now) place row.old events.old.items }
-    ensures { OnOk result
-        (AreForcesTo (job_in circuit.now) (S.reads values.now) (place + 1) row.new events.new.items) }
+    requires made { HasForcesTo (job_in circuit.now) (S.reads values.now) place made.old }
+    ensures { OnOk result (HasForcesTo (job_in circuit.now) (S.reads values.now) (place + 1) made.new) }
 {
     let spot = spot_of(circuit, place);
-    let was = row[spot.position];
+    let was = made.row[spot.position];
     let driver = driver_at(circuit, spot.net);
     let given = driven_value(circuit, values, place, spot, driver, was);
     let before = force_before(circuit, values, place, was);
-    row[spot.position] = given;
-    push_change(events, spot, before, needed(given, values.value(place)))
+    made.row[spot.position] = given;
+    push_change(
+        &mut made.events,
+        spot,
+        before,
+        needed(given, values.value(place)),
+    )
 }
 
 /// To what the net of a place was forced one step before, where its driver gave this then.

@@ -8,6 +8,7 @@ mod given;
 mod laws;
 mod moves;
 mod statements;
+mod step;
 mod steps;
 mod values;
 mod wave;

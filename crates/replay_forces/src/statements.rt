@@ -3,13 +3,16 @@
 //! Step by step: the statements of a step are taken, the nets that they name become due, and of these, in the order of
 //! the design, the ones have an event that are forced otherwise than one step before.
 
-ghost use Rattle.std.specs.Prelude.{◌≡◌, ◌+◌, ◌*◌, ◌<◌, ◌≤◌, IfOk, None, OnOk, length, replicate};
+ghost use Rattle.std.specs.Prelude.{◌≡◌, ◌<◌, ◌≤◌, IfOk, None, OnOk, length, replicate};
 ghost use Rattle.design_circuit.specs.Circuit.{job_in};
 ghost use Rattle.replay_forces.specs.Changes.{changes_by};
-ghost use Rattle.replay_forces.specs.Made.{AreChangesTo, HasChangesTo, RestButFor, StatedUnlessDue};
-ghost use Rattle.replay_history.specs.Forced.{AreOrdered, HasForced};
+ghost use Rattle.replay_forces.specs.Made.{HasChangesTo};
+ghost use Rattle.replay_forces.specs.Step as at;
+ghost use Rattle.replay_forces.specs.Step.{IsForcedAt, stated_job};
+ghost use Rattle.replay_history.specs.Forced.{AreOrdered};
 
 use crate::changes::push_change;
+use crate::step::StatedStep;
 use base_lists::Memory;
 use design_cell::Value;
 use design_circuit::{Circuit, Event, Forces, Spot, width_of};
@@ -64,93 +67,74 @@ fn put_steps(
 {
     let mut taken = 0;
     let steps = circuit.stim.times.as_slice().len() * circuit.stim.rounds as usize;
-    'steps: for step in 0..steps {
+    'steps: for number in 0..steps {
         let from = taken;
-        taken = take_events(statements, from, step as u32, forced);
-        put_step(circuit, statements, from, taken, step, forced, changes)?;
+        taken = take_events(statements, from, number as u32, forced);
+        let step = StatedStep {
+            circuit,
+            number,
+            statements,
+            forced: &*forced,
+        };
+        put_step(&step, from, taken, changes)?;
     }
     Ok(())
 }
 
 /// The events of a step, at which the statements from one on, up to another, are new.
 fn put_step(
-    circuit: &Circuit<'_>,
-    statements: &[Event],
+    step: &StatedStep<'_, '_>,
     from: usize,
     to: usize,
-    step: usize,
-    forced: &[Option<Value>],
     changes: &mut Changes,
 ) -> Result<(), Memory>
-    requires ordered { AreOrdered (job_in circuit.now).width statements.now }
-    requires range { to ≤ length statements.now }
-    requires step { step < (job_in circuit.now).moments * (job_in circuit.now).rounds }
-    requires forced { HasForced (job_in circuit.now).width statements.now step forced.now }
-    requires rest { RestButFor (job_in circuit.now) statements.now from to step }
-    requires changes { HasChangesTo (job_in circuit.now) statements.now (step * (job_in circuit.now).width)
-        changes.old }
-    ensures { OnOk result
-        (HasChangesTo (job_in circuit.now) statements.now ((step + 1) * (job_in circuit.now).width) changes.new) }
+    requires ordered { AreOrdered (stated_job step.now).width step.now.statements.now }
+    requires range { to ≤ length step.now.statements.now }
+    requires forced { IsForcedAt step.now }
+    requires rest { at.RestsButFor step.now from to }
+    requires changes { at.HasChangesBefore step.now changes.old }
+    ensures { OnOk result (at.HasChangesAfter step.now changes.new) }
 {
     if from < to {
-        mark_events(circuit, statements, from, to, &mut changes.due);
-        put_due(circuit, statements, step, forced, changes)?;
+        mark_events(step.circuit, step.statements, from, to, &mut changes.due);
+        put_due(step, changes)?;
         changes.due.clear();
     }
     Ok(())
 }
 
 /// The events of a step whose places rest unless they are due.
-fn put_due(
-    circuit: &Circuit<'_>,
-    statements: &[Event],
-    step: usize,
-    forced: &[Option<Value>],
-    changes: &mut Changes,
-) -> Result<(), Memory>
-    requires step { step < (job_in circuit.now).moments * (job_in circuit.now).rounds }
-    requires forced { HasForced (job_in circuit.now).width statements.now step forced.now }
-    requires rest { StatedUnlessDue (job_in circuit.now) statements.now step changes.old.due }
-    requires made { AreChangesTo (job_in circuit.now) statements.now (step * (job_in circuit.now).width)
-        changes.old.row.items changes.old.events.items }
-    ensures made { OnOk result (AreChangesTo (job_in circuit.now) statements.now
-        ((step + 1) * (job_in circuit.now).width) changes.new.row.items changes.new.events.items) }
+fn put_due(step: &StatedStep<'_, '_>, changes: &mut Changes) -> Result<(), Memory>
+    requires forced { IsForcedAt step.now }
+    requires rest { at.RestsUnlessDue step.now changes.old.due }
+    requires made { at.MadeBefore step.now changes.old }
+    ensures made { OnOk result (at.MadeAfter step.now changes.new) }
     ensures due { changes.new.due ≡ changes.old.due }
 {
-    let nets = width_of(circuit);
+    let nets = width_of(step.circuit);
     let mut position = changes.due.first_from(0);
     'positions: while position < nets {
-        put_net(circuit, statements, step, position, forced, changes)?;
+        put_net(step, position, changes)?;
         position = changes.due.first_from(position + 1);
     }
     Ok(())
 }
 
 /// The event of the place at a position of a step.
-fn put_net(
-    circuit: &Circuit<'_>,
-    statements: &[Event],
-    step: usize,
-    position: usize,
-    forced: &[Option<Value>],
-    changes: &mut Changes,
-) -> Result<(), Memory>
-    requires step { step < (job_in circuit.now).moments * (job_in circuit.now).rounds }
-    requires position { position < (job_in circuit.now).width }
-    requires forced { HasForced (job_in circuit.now).width statements.now step forced.now }
-    requires made { AreChangesTo (job_in circuit.now) statements.now (step * (job_in circuit.now).width + position)
-        changes.old.row.items changes.old.events.items }
-    ensures made { OnOk result (AreChangesTo (job_in circuit.now) statements.now
-        (step * (job_in circuit.now).width + position + 1) changes.new.row.items changes.new.events.items) }
+fn put_net(step: &StatedStep<'_, '_>, position: usize, changes: &mut Changes) -> Result<(), Memory>
+    requires position { position < (stated_job step.now).width }
+    requires forced { IsForcedAt step.now }
+    requires made { at.MadeTo step.now position changes.old }
+    ensures made { OnOk result (at.MadeWith step.now position changes.new) }
     ensures due { changes.new.due ≡ changes.old.due }
 {
-    let net = circuit.order.net(position as u32) as usize;
+    let net = step.circuit.order.net(position as u32) as usize;
     let spot = Spot {
-        step,
+        step: step.number,
         position,
         net,
     };
     let was = changes.row[position];
-    changes.row[position] = forced[net];
-    push_change(&mut changes.events, spot, was, forced[net])
+    changes.row[position] = step.forced[net];
+    push_change(&mut changes.events, spot, was, step.forced[net])
 }

@@ -10,7 +10,7 @@ use Rattle.design_circuit.specs.declared.place.Place.{Place}
 use Rattle.design_circuit.proofs.Handed.{handed_places, has_place, number_within}
 use Rattle.design_circuit.proofs.Numbers.{is_place_at, number_of_place_at}
 use Rattle.design_circuit.proofs.Reaching.{step_small}
-use Rattle.report_bits.specs.Finished.{HasMoments}
+use Rattle.report_bits.specs.Finished.{HasStep}
 use Rattle.wave_proved.specs.Contents.{Contents, IsFinished, IsWave, IsWritten, job}
 
 -- A place is written, and the history has it.
@@ -63,9 +63,10 @@ whole_there c wave finished moment less =
     let turned = mul_comm steps j.width in
     omega (arith, most, turned, finished)
 
--- In a finished wave each net's place at the last step of each moment is there.
-pub moments_there : (c : Contents) → IsWave c → IsFinished c → HasMoments c
-moments_there c wave finished = λ moment less. record {
+-- In a finished wave each net's place at the last step of a moment is there.
+pub moment_there : (c : Contents) → IsWave c → IsFinished c → (moment : ℕ) → moment < length c.stim.times
+    → HasStep c (last_step (job c) moment)
+moment_there c wave finished moment less = record {
   written = λ net within. (net_there c wave finished moment net less within).written;
   history = λ net within. (net_there c wave finished moment net less within).history;
   whole = whole_there c wave finished moment less;

@@ -1,20 +1,15 @@
 -- Steps of which a wave has places, and rows of it and of its history at them.
 use Rattle.std.specs.Prelude.{ℕ, ◌≡◌, ◌+◌, ◌-◌, ◌*◌, ◌<◌, ◌≤◌, length}
 use Rattle.design_circuit.specs.History.{HasPlace, HistoryView, held_in, net_place}
-use Rattle.design_circuit.specs.Settled.{last_step}
-use Rattle.report_bits.specs.declared.bits.Reader.{Reader}
+use Rattle.report_bits.specs.declared.bits.BitWriter.{BitWriter}
 use Rattle.report_bits.specs.declared.rows.Rows.{Rows}
-use Rattle.wave_proved.specs.Contents.{Contents, IsWritten, job}
+use Rattle.wave_proved.specs.Contents.{Contents, IsWritten}
 
 -- Each net's place at a step is written, and the history has it.
 pub record HasStep (c : Contents) (step : ℕ) : Type 0 where
   pub written : (net : ℕ) → net < length c.design.nets → IsWritten c (record { step = step; net = net })
   pub history : (net : ℕ) → net < length c.design.nets → HasPlace c.history (record { step = step; net = net })
   pub whole : (step + 1) * length c.design.nets ≤ length c.written
-
--- That holds of the last step of each moment.
-abbrev pub HasMoments : Contents → Type 0
-HasMoments c = (moment : ℕ) → moment < length c.stim.times → HasStep c (last_step (job c) moment)
 
 -- Rows are those of a wave and of its history.
 pub record AreRowsOf (c : Contents) (rows : Rows) : Type 0 where
@@ -28,10 +23,10 @@ pub record AreRowsAt (c : Contents) (step : ℕ) (rows : Rows) : Type 0 where
   pub written : rows.wave.step ≡ step
 
 -- What the lines of bits are made from belongs to a wave.
-pub record IsReaderOf (c : Contents) (reader : Reader) : Type 0 where
-  pub here : AreRowsOf c reader.here
-  pub before : AreRowsOf c reader.before
-  pub names : reader.names ≡ c.design
+pub record IsWriterOf (c : Contents) (writer : BitWriter) : Type 0 where
+  pub here : AreRowsOf c writer.here
+  pub before : AreRowsOf c writer.before
+  pub names : writer.names ≡ c.design
 
 -- Each net has at a step of a history what it has a step before.
 abbrev pub IsStillAt : HistoryView → ℕ → Type 0

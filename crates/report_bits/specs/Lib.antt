@@ -4,6 +4,7 @@ pub mod Counts
 pub mod Ends
 pub mod Finished
 pub mod Head
+pub mod Lines
 pub mod Marked
 pub mod Names
 pub mod Report

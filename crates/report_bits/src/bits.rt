@@ -1,17 +1,16 @@
 //! The lines of the recorded bits that are x or z.
 
-ghost use Rattle.std.specs.Prelude.{◌≡◌, ◌<◌, ◌++◌, true, OnOk, IfOk, length};
+ghost use Rattle.std.specs.Prelude.{◌≡◌, ◌<◌, ◌++◌, [], true, OnOk, IfOk, length};
 ghost use Rattle.design_cell.specs.Value.{is_unknown};
-ghost use Rattle.design_circuit.specs.Settled.{last_step};
 ghost use Rattle.recording_binding.specs.Binding.{FitsBinding};
-ghost use Rattle.recording_binding.specs.BoundBits.{IsBitOf};
-ghost use Rattle.wave_proved.specs.Contents.{IsFinished, job};
+ghost use Rattle.wave_proved.specs.Contents.{IsFinished};
 ghost use Rattle.report_bits.specs.Bits as spec;
-ghost use Rattle.report_bits.specs.Finished.{HasMoments, IsReaderOf};
+ghost use Rattle.report_bits.specs.Finished.{IsWriterOf};
+ghost use Rattle.report_bits.specs.Lines as view;
 ghost use Rattle.report_bits.specs.Marked.{is_unknown_at};
 ghost use Rattle.report_bits.specs.Told.{told_result, told_text};
 
-use crate::lines::ReportLines;
+use crate::lines::{ReportLines, WaveLines};
 use crate::marked::put_moments;
 use crate::names::Names;
 use crate::nets::BitNets;
@@ -24,9 +23,11 @@ use recording_binding::{Binding, BoundBit, BoundBits};
 use std::alloc::Global;
 use wave_proved::Wave;
 
-/// What the lines are made from: what stands at the moment under way and at the one before, and the names of nets.
+/// The lines that are put so far, and what they are made from: what stands at the moment under way and at the one
+/// before, and the names of nets.
 #[derive(Debug, Drop)]
-pub struct Reader<'w, 'a> {
+pub struct BitWriter<'w, 'a> {
+    pub text: Vec<u8>,
     pub here: Rows<'w, 'a>,
     pub before: Rows<'w, 'a>,
     pub names: Names<'a>,
@@ -49,32 +50,44 @@ pub fn bit_lines(
     requires binding { FitsBinding wave.now.design bound.now }
     ensures { IfOk result (λ text. text.items ≡ spec.bit_lines wave.now bound.now lines) }
 {
-    let mut text = Vec::new(alloc);
-    let mut reader = new_reader(alloc, wave)?;
-    put_bits(alloc, &mut text, wave, lines, &mut reader, bound)?;
-    Ok(text)
+    let mut writer = new_writer(alloc, wave)?;
+    put_bits(alloc, &mut writer, &WaveLines { wave, lines }, bound)?;
+    Ok(writer.text)
+}
+
+/// No line yet, and what the lines are made from.
+fn new_writer<'w, 'a>(alloc: Global, wave: &'w Wave<'a>) -> Result<BitWriter<'w, 'a>, Memory>
+    ensures wave { IfOk result (IsWriterOf wave.now) }
+    ensures none { IfOk result (λ writer. writer.text.items ≡ []) }
+{
+    let here = first_rows(alloc, wave)?;
+    let before = first_rows(alloc, wave)?;
+    let names = Names::of(alloc, wave.design())?;
+    Ok(BitWriter {
+        text: Vec::new(alloc),
+        here,
+        before,
+        names,
+    })
 }
 
 /// The lines: by what is written in each moment, or by all bits of each where there are too many.
 fn put_bits<'w, 'a>(
     alloc: Global,
-    text: &mut Vec<u8>,
-    wave: &'w Wave<'a>,
-    lines: ReportLines,
-    reader: &mut Reader<'w, 'a>,
+    writer: &mut BitWriter<'w, 'a>,
+    from: &WaveLines<'w, 'a>,
     bound: &Binding,
 ) -> Result<(), Memory>
-    requires finished { IsFinished wave.now }
-    requires binding { FitsBinding wave.now.design bound.now }
-    requires reader { IsReaderOf wave.now reader.old }
-    ensures { OnOk result (text.new.items ≡ text.old.items ++ spec.bit_lines wave.now bound.now lines) }
+    requires binding { FitsBinding from.now.wave.now.design bound.now }
+    requires writer { IsWriterOf from.now.wave.now writer.old }
+    ensures { OnOk result (writer.new.text.items ≡ writer.old.text.items ++ view.lines_of_bits from.now bound.now) }
 {
     // With it comes the fact that there are few nets.
-    wave.recall();
-    let found = BitNets::of(alloc, wave.design(), bound)?;
+    from.wave.recall();
+    let found = BitNets::of(alloc, from.wave.design(), bound)?;
     match found {
-        Some(bits) => put_moments(alloc, text, wave, lines, reader, &bits),
-        None => put_all(alloc, text, wave, lines, reader, bound),
+        Some(bits) => put_moments(alloc, writer, from, &bits),
+        None => put_all(alloc, writer, from, bound),
     }
 }
 
@@ -82,88 +95,63 @@ fn put_bits<'w, 'a>(
 #[tactic(auto, unfolding(crate::specs::Bits::bit_lines))]
 fn put_all<'w, 'a>(
     alloc: Global,
-    text: &mut Vec<u8>,
-    wave: &'w Wave<'a>,
-    lines: ReportLines,
-    reader: &mut Reader<'w, 'a>,
+    writer: &mut BitWriter<'w, 'a>,
+    from: &WaveLines<'w, 'a>,
     bound: &Binding,
 ) -> Result<(), Memory>
-    requires finished { IsFinished wave.now }
-    requires binding { FitsBinding wave.now.design bound.now }
-    requires reader { IsReaderOf wave.now reader.old }
-    ensures { OnOk result (text.new.items ≡ text.old.items ++ spec.bit_lines wave.now bound.now lines) }
+    requires binding { FitsBinding from.now.wave.now.design bound.now }
+    requires writer { IsWriterOf from.now.wave.now writer.old }
+    ensures { OnOk result (writer.new.text.items ≡ writer.old.text.items ++ view.lines_of_bits from.now bound.now) }
 {
-    // With it comes the fact that the history has the places of the wave.
-    wave.recall();
-    let mut bits = BoundBits::new(wave.stim(), bound.bound.as_slice());
+    let mut bits = BoundBits::new(from.wave.stim(), bound.bound.as_slice());
     'bits: while let Some(bit) = bits.next() {
-        put_bit(alloc, text, wave, lines, reader, bit)?;
+        put_bit(alloc, writer, from, bit)?;
     }
     Ok(())
-}
-
-/// What the lines are made from, before the first.
-fn new_reader<'w, 'a>(alloc: Global, wave: &'w Wave<'a>) -> Result<Reader<'w, 'a>, Memory>
-    ensures { IfOk result (IsReaderOf wave.now) }
-{
-    let here = first_rows(alloc, wave)?;
-    let before = first_rows(alloc, wave)?;
-    let names = Names::of(alloc, wave.design())?;
-    Ok(Reader {
-        here,
-        before,
-        names,
-    })
 }
 
 /// The line of a bit, where x or z is recorded and it is told. Gives whether x or z is.
 pub fn put_bit<'w, 'a>(
     alloc: Global,
-    text: &mut Vec<u8>,
-    wave: &'w Wave<'a>,
-    lines: ReportLines,
-    reader: &mut Reader<'w, 'a>,
+    writer: &mut BitWriter<'w, 'a>,
+    from: &WaveLines<'w, 'a>,
     bit: BoundBit,
 ) -> Result<bool, Memory>
-    requires moments { HasMoments wave.now }
-    requires bit { IsBitOf wave.now.design (length wave.now.stim.times) bit }
-    requires reader { IsReaderOf wave.now reader.old }
+    requires bit { view.IsBitIn from.now bit }
+    requires writer { IsWriterOf from.now.wave.now writer.old }
     ensures unknown { IfOk result
-        (λ unknown. unknown ≡ is_unknown_at wave.now (last_step (job wave.now) bit.moment) bit.net) }
-    ensures text { OnOk result (text.new.items ≡ text.old.items ++ spec.bound_line wave.now lines bit) }
-    ensures reader { OnOk result (IsReaderOf wave.now reader.new) }
+        (λ unknown. unknown ≡ is_unknown_at from.now.wave.now (view.step_in from.now bit.moment) bit.net) }
+    ensures text { OnOk result (writer.new.text.items ≡ writer.old.text.items ++ view.line_of_bit from.now bit) }
+    ensures writer { OnOk result (IsWriterOf from.now.wave.now writer.new) }
 {
-    let step = last_step(wave, bit.moment);
-    bring(alloc, &mut reader.here.replayed, step)?;
-    if reader.here.replayed.shown(bit.net).is_known() {
+    let step = last_step(from, bit.moment);
+    bring(alloc, &mut writer.here.replayed, step)?;
+    if writer.here.replayed.shown(bit.net).is_known() {
         return Ok(false);
     }
-    put_unknown(alloc, text, wave, lines, reader, bit)?;
+    put_unknown(alloc, writer, from, bit)?;
     Ok(true)
 }
 
 /// The line of a bit of which x or z is recorded, where it is told.
 fn put_unknown<'w, 'a>(
     alloc: Global,
-    text: &mut Vec<u8>,
-    wave: &'w Wave<'a>,
-    lines: ReportLines,
-    reader: &mut Reader<'w, 'a>,
+    writer: &mut BitWriter<'w, 'a>,
+    from: &WaveLines<'w, 'a>,
     bit: BoundBit,
 ) -> Result<(), Memory>
-    requires moments { HasMoments wave.now }
-    requires bit { IsBitOf wave.now.design (length wave.now.stim.times) bit }
-    requires unknown { is_unknown (spec.recorded_in wave.now (spec.place_in wave.now bit.moment bit.net)) ≡ true }
-    requires reader { IsReaderOf wave.now reader.old }
-    ensures text { OnOk result (text.new.items ≡ text.old.items ++ spec.bound_line wave.now lines bit) }
-    ensures reader { OnOk result (IsReaderOf wave.now reader.new) }
+    requires bit { view.IsBitIn from.now bit }
+    requires unknown { is_unknown (spec.recorded_in from.now.wave.now (view.told_place from.now bit)) ≡ true }
+    requires writer { IsWriterOf from.now.wave.now writer.old }
+    ensures text { OnOk result (writer.new.text.items ≡ writer.old.text.items ++ view.line_of_bit from.now bit) }
+    ensures writer { OnOk result (IsWriterOf from.now.wave.now writer.new) }
 {
-    let step = last_step(wave, bit.moment);
-    bring_rows(alloc, wave, &mut reader.here, step)?;
-    let told = told_in(wave, &reader.here, step, bit.net);
-    if is_told(alloc, wave, lines, &mut reader.before, bit, told)? {
-        let time = wave.stim().times.as_slice()[bit.moment as usize];
-        put_told(alloc, text, &mut reader.names, time, told)?;
+    let step = last_step(from, bit.moment);
+    bring_rows(alloc, from.wave, &mut writer.here, step)?;
+    let told = told_in(from.wave, &writer.here, step, bit.net);
+    if is_told(alloc, from, &mut writer.before, bit, told)? {
+        let time = from.wave.stim().times.as_slice()[bit.moment as usize];
+        put_told(alloc, &mut writer.text, &mut writer.names, time, told)?;
     }
     Ok(())
 }

@@ -8,8 +8,8 @@ use Rattle.replay_forces.proofs.moves.mark_moves.Given as goal
 abbrev pub invariant-moves : goal.invariant-moves
 invariant-moves g l = record {
   more : OnlyMore l.initial.waiting.due l.waiting.due;
-  due : AreMarkedTo (job_in l.circuit) (g.S.Source.reads l.values) (watched (job_in l.circuit)) l.step
-      (anew_behind (job_in l.circuit) l.step l.moves l.anew-index) l.waiting.due;
-  ahead : AreMarkedTo (job_in l.circuit) (g.S.Source.reads l.values) (looked_on (job_in l.circuit)) l.step
-      (anew_behind (job_in l.circuit) l.step l.moves l.anew-index) l.waiting.ahead;
+  due : AreMarkedTo (job_in l.step.circuit.now) (g.S.Source.reads l.values) (watched (job_in l.step.circuit.now)) l.step.number
+      (anew_behind (job_in l.step.circuit.now) l.step.number l.moves l.anew-index) l.waiting.due;
+  ahead : AreMarkedTo (job_in l.step.circuit.now) (g.S.Source.reads l.values) (looked_on (job_in l.step.circuit.now)) l.step.number
+      (anew_behind (job_in l.step.circuit.now) l.step.number l.moves l.anew-index) l.waiting.ahead;
 }

@@ -6,7 +6,7 @@ use Rattle.replay_forces.proofs.statements.put_due.Given as goal
 
 abbrev pub invariant-positions : goal.invariant-positions
 invariant-positions l = record {
-  made : AreChangesTo (job_in l.circuit) l.statements (l.step * (job_in l.circuit).width + min l.position (job_in l.circuit).width) l.changes.row.items l.changes.events.items;
+  made : AreChangesTo (job_in l.step.circuit.now) l.step.statements.now (l.step.number * (job_in l.step.circuit.now).width + min l.position (job_in l.step.circuit.now).width) l.changes.row.items l.changes.events.items;
   due : l.changes.due ≡ l.initial.changes.due;
 }
 

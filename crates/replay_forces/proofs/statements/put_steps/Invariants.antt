@@ -8,7 +8,7 @@ use Rattle.replay_forces.proofs.statements.put_steps.Given as goal
 
 abbrev pub invariant-steps : goal.invariant-steps
 invariant-steps l = record {
-  taken : HasTaken (job_in l.circuit).width l.statements l.step l.taken l.forced;
-  were : WereForced (job_in l.circuit) l.statements l.step l.forced;
-  changes : HasChangesTo (job_in l.circuit) l.statements (l.step * (job_in l.circuit).width) l.changes;
+  taken : HasTaken (job_in l.circuit).width l.statements l.number l.taken l.forced;
+  were : WereForced (job_in l.circuit) l.statements l.number l.forced;
+  changes : HasChangesTo (job_in l.circuit) l.statements (l.number * (job_in l.circuit).width) l.changes;
 }

@@ -11,14 +11,14 @@ use Rattle.replay_forces.proofs.steps.put_steps.Goals as goal
 pub put_step-requires-clause-due : goal.put_step-requires-clause-due
 put_step-requires-clause-due g c =
     let reads = c.go_to.ensures.reads ∙ c.steps.invariant.reads in
-    subst (λ (v : ℕ → Value). AreAwaited (job_in c.args.circuit.now) v c.steps.step c.steps.waiting.due) (sym reads)
+    subst (λ (v : ℕ → Value). AreAwaited (job_in c.args.circuit.now) v c.steps.number c.steps.waiting.due) (sym reads)
     c.steps.invariant.due
 
 pub put_step-requires-clause-made : goal.put_step-requires-clause-made
 put_step-requires-clause-made g c =
     let j = job_in c.args.circuit.now in
     let reads = c.go_to.ensures.reads ∙ c.steps.invariant.reads in
-    subst (λ (v : ℕ → Value). AreForcesTo j v (c.steps.step * j.width) c.steps.row c.steps.events.items) (sym reads)
+    subst (λ (v : ℕ → Value). AreForcesTo j v (c.steps.number * j.width) c.steps.made.row.items c.steps.made.events.items) (sym reads)
     c.steps.invariant.made
 
 pub steps-preserved : goal.steps-preserved
@@ -29,11 +29,11 @@ steps-preserved g c =
       job = c.go_to.ensures.job ∙ c.steps.invariant.job;
       reads = reads;
       has = λ place less. c.go_to.ensures.has place (c.steps.invariant.has place less);
-      due = subst (λ (v : ℕ → Value). AreAwaited j v (c.steps.step + 1) c.put_step.new.waiting.due) reads
+      due = subst (λ (v : ℕ → Value). AreAwaited j v (c.steps.number + 1) c.put_step.new.waiting.due) reads
           c.in_ok-put_step.ensures.due;
       ahead = c.in_ok-put_step.ensures.ahead;
-      made = subst (λ (v : ℕ → Value). AreForcesTo j v ((c.steps.step + 1) * j.width) c.put_step.new.row
-          c.put_step.new.events.items) reads c.in_ok-put_step.ensures.made;
+      made = subst (λ (v : ℕ → Value). AreForcesTo j v ((c.steps.number + 1) * j.width) c.put_step.new.made.row.items
+          c.put_step.new.made.events.items) reads c.in_ok-put_step.ensures.made;
     }
 
 pub steps-init : goal.steps-init
@@ -45,8 +45,8 @@ steps-init g c = record {
   ahead = c.requires.ahead;
   made =
       let none : 0 ≡ 0 * (job_in c.args.circuit.now).width = omega arith in
-      subst (λ n. AreForcesTo (job_in c.args.circuit.now) (g.S.Source.reads c.args.values.now) n c.args.row.now
-      c.args.events.now.items) none c.requires.made;
+      subst (λ n. AreForcesTo (job_in c.args.circuit.now) (g.S.Source.reads c.args.values.now) n c.args.made.now.row.items
+      c.args.made.now.events.items) none c.requires.made;
 }
 
 pub go_to-requires-clause-has : goal.go_to-requires-clause-has
@@ -56,8 +56,8 @@ go_to-requires-clause-has g c = λ place less.
     let count : length c.as_slice.result.now * j.rounds ≡ j.moments * j.rounds =
     ap (λ (ts : List ℕ). length ts * j.rounds) c.as_slice.ensures in
     let test = c.steps-test.true in
-    let end = c.steps.auto.step-end in
-    c.steps.invariant.has place (step_places j c.steps.step (g.S.Moving.job c.steps.values).width place width
+    let end = c.steps.auto.number-end in
+    c.steps.invariant.has place (step_places j c.steps.number (g.S.Moving.job c.steps.values).width place width
     (omega (arith, test, end, count)) less))
 
 pub returns : goal.returns
@@ -66,10 +66,10 @@ returns g c =
     let count : length c.as_slice.result.now * j.rounds ≡ j.moments * j.rounds =
     ap (λ (ts : List ℕ). length ts * j.rounds) c.as_slice.ensures in
     let test = c.steps-test.false in
-    let end = c.steps.auto.step-end in
-    let all : c.steps.step * j.width ≡ places_of j = last c.steps.step (j.moments * j.rounds) j.width
+    let end = c.steps.auto.number-end in
+    let all : c.steps.number * j.width ≡ places_of j = last c.steps.number (j.moments * j.rounds) j.width
     (omega (arith, test, end, count)) in
-    subst (λ n. AreForcesTo j (g.S.Source.reads c.args.values.now) n c.steps.row c.steps.events.items) all
+    subst (λ n. AreForcesTo j (g.S.Source.reads c.args.values.now) n c.steps.made.row.items c.steps.made.events.items) all
     c.steps.invariant.made
   where
     commuted : (n w : ℕ) → n * w ≡ w * n

@@ -12,8 +12,8 @@ invariant-steps g l = record {
   job : g.S.Moving.job l.values ≡ job_in l.circuit;
   reads : g.S.Source.reads l.values ≡ g.S.Source.reads l.initial.values;
   has : (place : ℕ) → place < places_of (job_in l.circuit) → g.S.Source.has l.values place;
-  due : AreAwaited (job_in l.circuit) (g.S.Source.reads l.initial.values) l.step l.waiting.due;
+  due : AreAwaited (job_in l.circuit) (g.S.Source.reads l.initial.values) l.number l.waiting.due;
   ahead : HasRoomFor l.waiting.ahead (job_in l.circuit).width;
-  made : AreForcesTo (job_in l.circuit) (g.S.Source.reads l.initial.values) (l.step * (job_in l.circuit).width) l.row
-      l.events.items;
+  made : AreForcesTo (job_in l.circuit) (g.S.Source.reads l.initial.values) (l.number * (job_in l.circuit).width) l.made.row.items
+      l.made.events.items;
 }

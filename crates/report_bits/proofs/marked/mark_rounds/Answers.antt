@@ -8,12 +8,12 @@ use Rattle.report_bits.proofs.marked.mark_rounds.Goals as goal
 
 pub returns-in-All-clause-quiet : goal.returns-in-All-clause-quiet
 returns-in-All-clause-quiet c = λ yes.
-    quiet_known c.args.wave.now c.args.lines c.args.moment c.args.bits.now.nets.items c.mark_unknown.new.due
-    (c.mark_unknown.ensures.known yes)
+    quiet_known c.args.from.now.wave.now c.args.from.now.lines c.args.moment c.args.bits.now.nets.items
+    c.mark_unknown.new.due (c.mark_unknown.ensures.known yes)
 
 pub returns-in-Changes-clause-quiet : goal.returns-in-Changes-clause-quiet
 returns-in-Changes-clause-quiet c = λ yes.
-    subst (λ (l : ReportLines). QuietUnlessDue c.args.wave.now l c.args.moment c.args.bits.now.nets.items
+    subst (λ (l : ReportLines). QuietUnlessDue c.args.from.now.wave.now l c.args.moment c.args.bits.now.nets.items
     c.mark_told.new.due) (sym c.in-Changes.is)
-    (quiet_same c.args.wave.now c.args.moment c.args.bits.now.nets.items c.mark_told.new.due c.requires.later
+    (quiet_same c.args.from.now.wave.now c.args.moment c.args.bits.now.nets.items c.mark_told.new.due c.requires.later
     (c.mark_told.ensures.same yes))
