@@ -1,9 +1,10 @@
 //! The fillings that show a place unknown.
 
+ghost use Rattle.std.specs.Bool.{OnTrue};
+ghost use Rattle.std.specs.Prelude.{IfOk};
 ghost use Rattle.decide_nodes.specs.Traced.{IsNextCone};
 ghost use Rattle.wave_proved.specs.Contents.{IsWritten};
-ghost use Rattle.wave_proved.specs.Token.{IsLineNext};
-ghost use Rattle.std.specs.Bool.{OnTrue};
+ghost use Rattle.wave_proved.specs.Token.{IsLineNext, LineHolds};
 
 use crate::places::put_places;
 use crate::words::put;
@@ -110,6 +111,7 @@ fn refusal_of(alloc: Global, wave: Wave<'_>) -> &'static str
 
 fn empty_pair(alloc: Global, wave: &Wave<'_>) -> Result<Verdict, BadPair>
     requires { IsLineNext wave.now }
+    ensures { IfOk result (LineHolds wave.now) }
 {
     let cone = trace(alloc, wave)?;
     checked_pair(alloc, wave, &cone)
@@ -117,6 +119,7 @@ fn empty_pair(alloc: Global, wave: &Wave<'_>) -> Result<Verdict, BadPair>
 
 fn checked_pair(alloc: Global, wave: &Wave<'_>, cone: &Cone) -> Result<Verdict, BadPair>
     requires { IsNextCone wave.now cone.now.nodes }
+    ensures { IfOk result (LineHolds wave.now) }
 {
     let zero = Items::from_vec(Vec::new(alloc));
     let one = Items::from_vec(Vec::new(alloc));

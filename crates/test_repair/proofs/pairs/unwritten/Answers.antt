@@ -4,4 +4,4 @@ use Rattle.test_repair.proofs.pairs.unwritten.Goals as goal
 
 pub new-requires-clause-handed : goal.new-requires-clause-handed
 new-requires-clause-handed c =
-    handed_again c.args.wave.now c.circuit-circuit.ensures.wave _ c.circuit-circuit.ensures.job _ c.replayed.ensures
+    handed_again c.args.wave.now c.circuit.ensures.wave _ c.circuit.ensures.job _ c.replayed.ensures
