@@ -24,12 +24,12 @@ use Rattle.decide_pair.specs.Pairs.{next_bit}
 use Rattle.wave_proved.specs.Contents.{Contents, job, next_number}
 use Rattle.law_model.specs.declared.line.Line.{Line as ALine}
 use Rattle.wave_proved.specs.Advance.{IfObjects, Objects, Reports}
-use Rattle.wave_proved.specs.Token.{HoldsNext, IsLineNext, LineContradicts, LineHolds, written_by_line}
+use Rattle.wave_proved.specs.Token.{HoldsBare, IsLineNext, LineContradicts, LineHolds, written_by_line}
 use Rattle.wave_proved.specs.declared.advance.AdvanceErr.{AdvanceErr}
 use Rattle.wave_proved.specs.declared.advance.AdvanceErr.TheVariants as stopped
 use Rattle.law_along.specs.Accepted.{AcceptsLine, BodyFits, LogFits, NamesNext, variables_next}
 use Rattle.cert_writer.specs.declared.cert.Entry.TheVariants.{Line}
-use Rattle.cert_check.specs.Step.{IsSpent, IsTold, IsVerdictOf, RefusesBody, Stops, faults, next_line, no_memory}
+use Rattle.cert_check.specs.Step.{IsSpent, IsVerdictOf, RefusesBody, Stops, faults, next_line, no_memory}
 use Rattle.cert_check.specs.Walk.{IsCertFault, body_fault, line_objects, refused}
 use Rattle.cert_check.specs.Words.{stopped_by}
 use Rattle.cert_check.specs.declared.refusal.CertFault.{CertFault}
@@ -155,18 +155,12 @@ verdict_made c made body holds is fits = record {
   accepts = record { line_holds = holds; fits = subst (BodyFits c) (sym is) fits };
 }
 
--- Two fillings that lanes tell to be a pair are accepted.
-pub told_holds : (c : Contents) (body : Body) → IsTold c body → HoldsNext c body
-told_holds c (Enumerated bit) told = absurd told
-told_holds c (Refuted bit log) told = absurd told
-told_holds c (Pair zero one) told = told
-told_holds c (Undecided log) told = absurd told
-
-pub told_fits : (c : Contents) (body : Body) → IsTold c body → BodyFits c body
-told_fits c (Enumerated bit) told = tt
-told_fits c (Refuted bit log) told = absurd told
-told_fits c (Pair zero one) told = tt
-told_fits c (Undecided log) told = absurd told
+-- A body without a log that holds is accepted.
+pub bare_fits : (c : Contents) (body : Body) → HoldsBare c body → BodyFits c body
+bare_fits c (Enumerated bit) bare = tt
+bare_fits c (Refuted bit log) bare = absurd bare.no_log
+bare_fits c (Pair zero one) bare = tt
+bare_fits c (Undecided log) bare = absurd bare.no_log
 
 -- A place is found otherwise, or there is no memory.
 pub write_stops : (c : Contents) (spent : ALine) (number : ℕ) (err : AdvanceErr) → IsLineNext c → AcceptsLine c spent
