@@ -5,7 +5,7 @@ ghost use Rattle.sat_proof.specs.Log.{Fit};
 ghost use Rattle.sat_query.specs.Decided.{IsDecided};
 ghost use Rattle.sat_search.specs.Outcome.{IsOutcome};
 
-use crate::core::Core;
+use crate::cores::Core;
 use crate::logs::{checker_for, fits};
 use crate::models::is_model;
 use crate::search::Guess;

@@ -14,7 +14,7 @@
 mod analyze;
 mod clauses;
 pub mod copies;
-mod core;
+mod cores;
 mod decide;
 pub mod logs;
 pub mod models;

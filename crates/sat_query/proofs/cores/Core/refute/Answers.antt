@@ -3,7 +3,7 @@ use Rattle.std.proofs.Common.{sym, subst, ◌∙◌}
 use Rattle.sat_proof.specs.Log.{Refutes}
 use Rattle.sat_query.proofs.Cores.{refutes_more}
 use Rattle.sat_query.specs.Core.{AreAmong}
-use Rattle.sat_query.proofs.core.Core.refute.Goals as goal
+use Rattle.sat_query.proofs.cores.Core.refute.Goals as goal
 
 pub from_log-requires : goal.from_log-requires
 from_log-requires c =
