@@ -6,6 +6,7 @@ mod BitNets
 mod Changing
 mod Counting
 mod Ending
+pub mod FinishedBits
 mod Reach
 mod SameLines
 pub mod Steps

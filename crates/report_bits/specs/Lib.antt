@@ -1,5 +1,6 @@
 -- Definitions of the report of a repair.
 pub mod Bits
+pub mod BoundPlaces
 pub mod Counts
 pub mod Ends
 pub mod Finished

@@ -11,7 +11,8 @@ use Rattle.design_circuit.proofs.PlaceNumbers.{place_back}
 use Rattle.recording_binding.specs.declared.bound_bits.BoundBit.{BoundBit}
 use Rattle.report_bits.specs.Counts.{is_unknown_mark}
 use Rattle.wave_proved.specs.Contents.{Contents, IsWave, job, shown_in, written_of}
-use Rattle.report_blame.specs.Blamed.{HasBit, bit_place, is_unknown_bit}
+use Rattle.report_bits.specs.BoundPlaces.{HasBit, bit_place}
+use Rattle.report_blame.specs.Blamed.{is_unknown_bit}
 
 not_unknown : (mark : Mark) → (mark ≡ Unknown → ⊥) → is_unknown_mark mark ≡ false
 not_unknown Certain other = refl

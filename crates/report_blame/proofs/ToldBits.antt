@@ -1,18 +1,12 @@
--- Bits that are told behind others, and that a finished wave has each bit.
-use Rattle.std.proofs.Common.{◌≡◌, ℕ, ◌*◌, ◌<◌, Bool, true, false, cond, List, [], ◌∷◌, ◌++◌, length, sym, ap, ◌∙◌, subst, arith, append_assoc, append-nil, All}
+-- Bits that are told behind others.
+use Rattle.std.proofs.Common.{◌≡◌, ◌*◌, ◌<◌, Bool, true, false, cond, List, [], ◌∷◌, ◌++◌, sym, ap, ◌∙◌, subst, append_assoc, append-nil, All}
 use Rattle.std.proofs.lemmas.List.Elements.{All-cons, All-nil}
 use Rattle.std.specs.List.{filter}
 use Rattle.design_circuit.specs.Filling.{IsPlace}
-use Rattle.design_circuit.specs.Fits.{Fits}
-use Rattle.design_circuit.specs.Job.{Job}
-use Rattle.design_circuit.specs.Settled.{last_step}
-use Rattle.design_circuit.proofs.Handed.{number_within}
-use Rattle.design_circuit.proofs.Reaching.{step_small}
-use Rattle.recording_binding.specs.BoundBits.{IsBitOf}
 use Rattle.recording_binding.specs.declared.binding.Bound.{Bound}
 use Rattle.recording_binding.specs.declared.bound_bits.BoundBit.{BoundBit}
-use Rattle.wave_proved.specs.Contents.{Contents, IsFinished, IsWave, job}
-use Rattle.report_blame.specs.Blamed.{AddsBit, AddsIf, AreBlamed, HasBit, IsBlamed, bit_place, is_unknown_bit, unknown_bits}
+use Rattle.wave_proved.specs.Contents.{Contents, job}
+use Rattle.report_blame.specs.Blamed.{AddsBit, AddsIf, AreBlamed, IsBlamed, is_unknown_bit, unknown_bits}
 use Rattle.report_blame.specs.declared.bits.Blamed.{Blamed}
 
 -- Some are told, and the others of all unknown bits are among those that are left.
@@ -20,21 +14,6 @@ pub record AreToldBefore (c : Contents) (bound : List Bound) (told : List Blamed
   pub bits : List BoundBit
   pub are : AreBlamed c bits told
   pub whole : bits ++ filter (is_unknown_bit c) left ≡ unknown_bits c bound
-
-last_within : (j : Job) → Fits j → (moment : ℕ) → moment < j.moments → last_step j moment < j.moments * j.rounds
-last_within j fits moment less =
-    let room = step_small j.rounds moment j.moments less in
-    let some = fits.some_round in
-    omega (arith, room, some)
-
-pub bit_there : (c : Contents) → IsWave c → IsFinished c → (bit : BoundBit)
-    → IsBitOf c.design (length c.stim.times) bit → HasBit c bit
-bit_there c wave finished bit is =
-    let j = job c in
-    let fits = wave.fits.fits_job in
-    let place : IsPlace j (bit_place c bit) = record { step = last_within j fits bit.moment is.moment; net = is.net } in
-    let low = number_within j fits (bit_place c bit) place in
-    record { moment = is.moment; written = record { within = place; written = omega (arith, finished, low) } }
 
 one_added : (c : Contents) (bits : List BoundBit) (told : List Blamed) (bit : BoundBit) (blamed : Blamed)
     → AreBlamed c bits told → IsBlamed c bit blamed → AreBlamed c (bits ++ bit ∷ []) (told ++ blamed ∷ [])

@@ -1,26 +1,17 @@
 -- What is told of the unknown bits.
 use Rattle.std.specs.Prelude.{◌≡◌, ℕ, ◌<◌, Bool, true, false, List, [], ◌∷◌, ◌++◌, length}
 use Rattle.std.specs.List.{filter}
-use Rattle.design_circuit.specs.declared.place.Place.{Place}
 use Rattle.design_circuit.specs.Job.{number_of}
 use Rattle.design_circuit.specs.Row.{RowView}
 use Rattle.design_circuit.specs.Settled.{last_step}
 use Rattle.recording_binding.specs.BoundBits.{bound_bits}
 use Rattle.recording_binding.specs.declared.binding.Bound.{Bound}
 use Rattle.recording_binding.specs.declared.bound_bits.BoundBit.{BoundBit}
+use Rattle.report_bits.specs.BoundPlaces.{bit_place}
 use Rattle.report_bits.specs.Counts.{is_unknown_mark}
-use Rattle.wave_proved.specs.Contents.{Contents, IsWritten, job, written_of}
+use Rattle.wave_proved.specs.Contents.{Contents, job, written_of}
 use Rattle.report_blame.specs.ToBlame.{IsToBlame}
 use Rattle.report_blame.specs.declared.bits.Blamed.{Blamed}
-
--- The place of a bound bit at the last round of its moment.
-abbrev pub bit_place : Contents → BoundBit → Place
-bit_place c bit = record { step = last_step (job c) bit.moment; net = bit.net }
-
--- A bit is of one of the moments, and its place is written.
-pub record HasBit (c : Contents) (bit : BoundBit) : Type 0 where
-  pub moment : bit.moment < length c.stim.times
-  pub written : IsWritten c (bit_place c bit)
 
 -- A row is that of the history at the last round of a moment.
 pub record IsShownRow (c : Contents) (moment : ℕ) (row : RowView) : Type 0 where

@@ -4,7 +4,8 @@ ghost use Rattle.std.specs.Prelude.{◌≡◌, ◌+◌, ◌-◌, ◌*◌, ◌<�
 ghost use Rattle.design_circuit.specs.Job.{number_of};
 ghost use Rattle.recording_binding.specs.Binding.{FitsBinding};
 ghost use Rattle.wave_proved.specs.Contents.{IsFinished, job};
-ghost use Rattle.report_blame.specs.Blamed.{AddsBit, AreBlamed, HasBit, IsShownRow, bit_place, is_unknown_bit};
+ghost use Rattle.report_bits.specs.BoundPlaces.{HasBit, bit_place};
+ghost use Rattle.report_blame.specs.Blamed.{AddsBit, AreBlamed, IsShownRow, is_unknown_bit};
 ghost use Rattle.report_blame.specs.Blamed.{unknown_bits};
 ghost use Rattle.report_blame.specs.Causes.{AreCauses};
 

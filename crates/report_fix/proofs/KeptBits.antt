@@ -24,8 +24,10 @@ use Rattle.law_model.specs.declared.limits.Limits.{Limits}
 use Rattle.report_bits.specs.Counts.{is_certain}
 use Rattle.wave_proved.specs.Contents.{Contents, IsWave, job, shown_in}
 use Rattle.report_fix.specs.Started.{start_in}
-use Rattle.report_fix.specs.Gained.{AreBeside, OnlyChooses, all_bits, bit_place, bit_written, is_lost, item_in, lost_items}
-use Rattle.report_fix.proofs.FinishedBits.{bit_beside, bit_there}
+use Rattle.report_bits.specs.BoundPlaces.{bit_place}
+use Rattle.report_fix.specs.Gained.{AreBeside, OnlyChooses, all_bits, bit_written, is_lost, item_in, lost_items}
+use Rattle.report_bits.proofs.FinishedBits.{bit_there}
+use Rattle.report_fix.proofs.FinishedBits.{bit_beside}
 
 -- A certain place of a sound waveform is 0 or 1.
 sound_known : (j : Job) (limits : Limits) (waveform : List Written) (lines : List ALine) (place : ℕ) (mark : Mark)

@@ -2,11 +2,9 @@
 use Rattle.std.specs.Prelude.{◌≡◌, ◌<◌, ◌&&◌, not, Bool, List, length, map}
 use Rattle.std.specs.List.{filter}
 use Rattle.design_cell.specs.Value.{is_one}
-use Rattle.design_circuit.specs.declared.place.Place.{Place}
 use Rattle.design_circuit.specs.declared.stim.StartRule.TheVariants.{Recorded}
 use Rattle.design_circuit.specs.declared.waveform.Mark.{Mark}
 use Rattle.design_circuit.specs.declared.waveform.Written.{Written}
-use Rattle.design_circuit.specs.Settled.{last_step}
 use Rattle.law_waveforms.specs.Starts.{AreClocksCertain}
 use Rattle.recording_binding.specs.BoundBits.{bound_bits}
 use Rattle.recording_binding.specs.declared.binding.Binding.{Binding}
@@ -14,8 +12,9 @@ use Rattle.recording_binding.specs.declared.binding.Bound.{Bound}
 use Rattle.recording_binding.specs.declared.bound_bits.BoundBit.{BoundBit}
 use Rattle.law_model.specs.Cone.{are_alike}
 use Rattle.law_model.specs.Sound.{IsDecided}
+use Rattle.report_bits.specs.BoundPlaces.{bit_place}
 use Rattle.report_bits.specs.Counts.{is_certain}
-use Rattle.wave_proved.specs.Contents.{Contents, IsFinished, IsWritten, job, written_of}
+use Rattle.wave_proved.specs.Contents.{Contents, IsFinished, job, written_of}
 use Rattle.report_fix.specs.Started.{SetsUnknown}
 use Rattle.report_fix.specs.declared.items.Item.{Item}
 
@@ -28,10 +27,7 @@ abbrev pub turns_open : Written → Written → Bool
 turns_open before after =
     is_certain before.mark && not (is_certain after.mark && are_alike before.value after.value)
 
--- The place of a bound bit at the last round of its moment, and what a wave has there.
-abbrev pub bit_place : Contents → BoundBit → Place
-bit_place c bit = record { step = last_step (job c) bit.moment; net = bit.net }
-
+-- What a wave has at the place of a bound bit.
 abbrev pub bit_written : Contents → BoundBit → Written
 bit_written c bit = written_of c (bit_place c bit)
 
@@ -79,8 +75,3 @@ pub record OnlyChooses (before after : Contents) : Type 0 where
   pub sets : SetsUnknown before.design before.stim after.stim
   pub clocks : AreClocksCertain (job before) before.written
   pub decided : IsDecided after.written
-
--- A bit is of one of the moments, and its place is written.
-pub record HasBit (c : Contents) (bit : BoundBit) : Type 0 where
-  pub moment : bit.moment < length c.stim.times
-  pub written : IsWritten c (bit_place c bit)

@@ -9,7 +9,8 @@ use Rattle.recording_binding.specs.declared.binding.Binding.{Binding}
 use Rattle.recording_binding.specs.declared.bound_bits.BoundBit.{BoundBit}
 use Rattle.recording_binding.proofs.BoundBitLemmas.{bits_within}
 use Rattle.wave_proved.specs.Contents.{Contents, job}
-use Rattle.report_blame.specs.Blamed.{AreBlamed, bit_place, is_unknown_bit, unknown_bits}
+use Rattle.report_bits.specs.BoundPlaces.{bit_place}
+use Rattle.report_blame.specs.Blamed.{AreBlamed, is_unknown_bit, unknown_bits}
 use Rattle.report_blame.specs.declared.bits.Blamed.{Blamed}
 use Rattle.report_listing.specs.Blame.{HasPlaces}
 

@@ -9,7 +9,8 @@ use Rattle.recording_binding.specs.declared.bound_bits.BoundBit.{BoundBit}
 use Rattle.recording_binding.proofs.BoundBitLemmas.{bits_within}
 use Rattle.report_blame.specs.Blamed.{AddsBit, AddsIf, is_unknown_bit}
 use Rattle.report_blame.specs.declared.bits.Blamed.{Blamed}
-use Rattle.report_blame.proofs.ToldBits.{AreToldBefore, bit_there, told_more}
+use Rattle.report_bits.proofs.FinishedBits.{bit_there}
+use Rattle.report_blame.proofs.ToldBits.{AreToldBefore, told_more}
 use Rattle.report_blame.proofs.bits.blame_bits.Goals as goal
 
 pub bits-init : goal.bits-init

@@ -7,7 +7,8 @@ use Rattle.recording_binding.specs.declared.binding.Bound.{Bound}
 use Rattle.recording_binding.specs.declared.bound_bits.BoundBit.{BoundBit}
 use Rattle.recording_binding.proofs.BoundBitLemmas.{bits_within}
 use Rattle.report_fix.specs.Gained.{is_gained, is_lost, item_in, lost_items}
-use Rattle.report_fix.proofs.FinishedBits.{bit_beside, bit_there}
+use Rattle.report_bits.proofs.FinishedBits.{bit_there}
+use Rattle.report_fix.proofs.FinishedBits.{bit_beside}
 use Rattle.report_fix.proofs.KeptBits.{nothing_lost}
 use Rattle.report_fix.proofs.MoreItems.{items_more}
 use Rattle.report_fix.proofs.items.gained.Goals as goal
